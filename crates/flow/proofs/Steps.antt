@@ -1,0 +1,56 @@
+-- What one instruction adds to the pass over a program.
+use Rattle.std.proofs.Common.{◌≡◌, ℕ, ◌+◌, Bool, true, false, cond, not, [], ◌∷◌, length, Option, Some, None, refl, sym, ap, ◌∙◌}
+use Rattle.std.specs.Prelude.{◌&&◌, nat_eq, find}
+use Rattle.std.specs.Option.{option_or}
+use Rattle.std.proofs.lemmas.List.Folds.{find-append}
+use Rattle.insn.specs.declared.instruction.Form.{Form}
+use Rattle.insn.specs.declared.instruction.Form.TheVariants.{Imm64, MapRef, Ja, Alu, Store, Branch}
+use Rattle.insn.specs.declared.instruction.Source.TheVariants.{Reg, Imm}
+use Rattle.insn.specs.Encoding.{slots}
+use Rattle.insn.specs.Layout.{slot_count, falls_through, Fall}
+use Rattle.flow.specs.declared.rules.StructureRule.{StructureRule}
+use Rattle.flow.specs.declared.rules.StructureRule.TheVariants.{RunsOffTheEnd, Unreachable}
+use Rattle.flow.specs.Faults.{leads_to, is_broken, rules_of_jumps, first_rule}
+use Rattle.flow.proofs.Jumps.{edge_tested}
+
+-- as many slots as bytes are written in
+pub widths : (i : Form) → length (slots i) ≡ slot_count i
+widths (Imm64 dst value) = refl
+widths (MapRef dst index) = refl
+widths (Alu w64 op dst (Imm imm)) = refl
+widths (Alu w64 op dst (Reg src)) = refl
+widths (Store size dst off (Imm imm)) = refl
+widths (Store size dst off (Reg src)) = refl
+widths (Branch w64 cond dst (Imm imm) off) = refl
+widths (Branch w64 cond dst (Reg src) off) = refl
+widths (Ja true by) = refl
+widths (Ja false by) = refl
+widths i = refl
+
+pub fall_leads : (i : Form) (s : ℕ) → falls_through i ≡ true → leads_to (Some i) s (s + slot_count i) ≡ true
+fall_leads i s h = edge_tested i s (s + slot_count i) Fall (h, refl)
+
+-- ---- the first rule that an instruction breaks
+
+module _ (n : ℕ) (halves : ℕ → Bool) (reached : Bool) (i : Form) (s : ℕ) where
+  abbrev pub jump_rule : Option StructureRule
+  jump_rule = find (is_broken n halves reached i s) rules_of_jumps
+
+  abbrev pub other_rule : Option StructureRule
+  other_rule = cond (falls_through i && nat_eq (s + slot_count i) n) (Some RunsOffTheEnd) (cond (not reached) (Some Unreachable) None)
+
+  by_parts : first_rule n halves reached i s ≡ option_or jump_rule other_rule
+  unfolding first_rule
+  by_parts = find-append (is_broken n halves reached i s) rules_of_jumps (RunsOffTheEnd ∷ Unreachable ∷ [])
+
+  pub jump_breaks : (v : StructureRule) → Some v ≡ jump_rule → Some v ≡ first_rule n halves reached i s
+  jump_breaks v h = ap (λ o. option_or o other_rule) h ∙ sym by_parts
+
+  jump_passes : None ≡ jump_rule → other_rule ≡ first_rule n halves reached i s
+  jump_passes h = ap (λ o. option_or o other_rule) h ∙ sym by_parts
+
+  pub end_breaks : None ≡ jump_rule → (falls_through i && nat_eq (s + slot_count i) n) ≡ true → Some RunsOffTheEnd ≡ first_rule n halves reached i s
+  end_breaks h ends = ap (λ b. cond b (Some RunsOffTheEnd) (cond (not reached) (Some Unreachable) None)) (sym ends) ∙ jump_passes h
+
+  pub end_passes : None ≡ jump_rule → (falls_through i && nat_eq (s + slot_count i) n) ≡ false → cond (not reached) (Some Unreachable) None ≡ first_rule n halves reached i s
+  end_passes h ends = ap (λ b. cond b (Some RunsOffTheEnd) (cond (not reached) (Some Unreachable) None)) (sym ends) ∙ jump_passes h

@@ -1,0 +1,3 @@
+pub mod Structure
+pub mod Faults
+pub mod SlotSets

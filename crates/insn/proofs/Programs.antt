@@ -1,0 +1,180 @@
+-- The function that reads a program from slots, and the relations that it answers.
+use Rattle.std.proofs.Common.{◌≡◌, ℕ, ◌+◌, ◌<◌, ◌≤◌, true, false, List, [], ◌∷◌, ◌++◌, length, drop, Some, refl, sym, ap, ◌∙◌, arith, subst, append_assoc, length-append, length-drop}
+use Rattle.std.specs.Prelude.{Result, Ok, Err}
+use Rattle.std.specs.List.{AllByRecursion}
+use Rattle.std.proofs.lemmas.List.{append-nil, drop-drop}
+use Rattle.std.proofs.Math.Seq.{drop-append_seam, drop-length}
+use Rattle.insn.specs.declared.instruction.Fields.{Fields}
+use Rattle.insn.specs.declared.instruction.Form.{Form}
+use Rattle.insn.specs.declared.instruction.Form.TheVariants.{Alu, Exit}
+use Rattle.insn.specs.declared.instruction.Operation.TheVariants.{Add, Mov}
+use Rattle.insn.specs.declared.instruction.Source.TheVariants.{Reg, Imm}
+use Rattle.insn.specs.declared.decoding.DecodeFault.{DecodeFault}
+use Rattle.insn.specs.declared.decoding.DecodeError.{DecodeError}
+use Rattle.insn.specs.Encoding.{slots, program_slots, IsInstruction}
+use Rattle.insn.specs.Layout.{slot_count, slot_contents, layout, size}
+use Rattle.insn.specs.Refusal.{is_wide, first_fault, FaultAt}
+use Rattle.insn.specs.Decoded.{front, with_first, in_order, program_from}
+use Rattle.insn.proofs.Slots.{FieldsFit, count_is, all_drop}
+use Rattle.insn.proofs.Fronts.{front_of, front_begins, front_fails}
+
+abbrev pub Answer : Type 0
+Answer = Result (List Form) DecodeError
+
+-- ---- one instruction
+
+narrow_step : (i : Form) (f : Fields) (rest : List Fields) (at : ℕ) → slots i ≡ f ∷ [] → is_wide f ≡ false → slot_count i ≡ 1 → IsInstruction i → program_from at false (slots i ++ rest) ≡ with_first i (program_from (at + slot_count i) false rest)
+unfolding program_from
+narrow_step i f rest at s w n h =
+    let e : front (f ∷ rest) ≡ Ok i = ap (λ x. front (x ++ rest)) (sym s) ∙ front_of i rest h in
+    ap (λ x. program_from at false (x ++ rest)) s
+    ∙ ap (λ r. in_order at r (program_from (at + 1) (is_wide f) rest)) e
+    ∙ ap (λ b. with_first i (program_from (at + 1) b rest)) w
+    ∙ ap (λ k. with_first i (program_from (at + k) false rest)) (sym n)
+
+-- one slot, and no opcode of a wide instruction
+narrow : (i : Form) → IsInstruction i → (f : Fields) × (slots i ≡ f ∷ []) × (is_wide f ≡ false) × (slot_count i ≡ 1)
+narrow (Alu true Add dst (Imm imm)) h = (_, refl, refl, refl)
+narrow (Alu true Add dst (Reg src)) h = (_, refl, refl, refl)
+narrow (Alu true Mov dst (Imm imm)) h = (_, refl, refl, refl)
+narrow (Alu true Mov dst (Reg src)) h = (_, refl, refl, refl)
+narrow Exit h = (_, refl, refl, refl)
+narrow i h = absurd h.1
+
+pub step : (i : Form) (rest : List Fields) (at : ℕ) → IsInstruction i → program_from at false (slots i ++ rest) ≡ with_first i (program_from (at + slot_count i) false rest)
+step i rest at h = let n = narrow i h in narrow_step i n.0 rest at n.1 n.2 n.3 h
+
+-- ---- several instructions
+
+abbrev pub with_all : List Form → Answer → Answer
+with_all [] r = r
+with_all (i ∷ p) r = with_first i (with_all p r)
+
+pub all_ok : (p q : List Form) → with_all p (Ok q) ≡ Ok (p ++ q)
+all_ok [] q = refl
+all_ok (i ∷ p) q = ap (with_first i) (all_ok p q)
+
+pub all_err : (p : List Form) (e : DecodeError) → with_all p (Err e) ≡ Err e
+all_err [] e = refl
+all_err (i ∷ p) e = ap (with_first i) (all_err p e)
+
+pub all_push : (p : List Form) (i : Form) (r : Answer) → with_all p (with_first i r) ≡ with_all (p ++ i ∷ []) r
+all_push [] i r = refl
+all_push (j ∷ p) i r = ap (with_first j) (all_push p i r)
+
+size_more : (i : Form) (p : List Form) → size (i ∷ p) ≡ slot_count i + size p
+size_more i p = length-append (slot_contents i) (layout p)
+
+pub steps : (p : List Form) (rest : List Fields) (at : ℕ) → AllByRecursion IsInstruction p → program_from at false (program_slots p ++ rest) ≡ with_all p (program_from (at + size p) false rest)
+steps [] rest at h = let e : at ≡ at + 0 = omega arith in ap (λ k. program_from k false rest) e
+steps (i ∷ p) rest at h =
+    let e : at + slot_count i + size p ≡ at + size (i ∷ p) = omega (arith, size_more i p) in
+    ap (program_from at false) (append_assoc (slots i) (program_slots p) rest)
+    ∙ step i (program_slots p ++ rest) at h.0
+    ∙ ap (with_first i) (steps p rest (at + slot_count i) h.1 ∙ ap (λ k. with_all p (program_from k false rest)) e)
+
+pub reads_program : (p : List Form) → AllByRecursion IsInstruction p → program_from 0 false (program_slots p) ≡ Ok p
+unfolding program_from
+reads_program p h =
+    ap (program_from 0 false) (sym (append-nil (program_slots p))) ∙ steps p [] 0 h ∙ all_ok p [] ∙ ap Ok (append-nil p)
+
+-- slots that begin with no instruction are refused there
+refused_here : (all : List Fields) (at : ℕ) (why : DecodeFault) → first_fault all ≡ Some why → program_from at false all ≡ Err (record { slot = at; why = why })
+unfolding program_from
+refused_here [] at why e = cc
+refused_here (f ∷ rest) at why e = rw e refl
+
+pub refuses_fault : (all : List Fields) (e : DecodeError) → FaultAt all e.slot e.why → program_from 0 false all ≡ Err e
+refuses_fault all e fault =
+    ap (program_from 0 false) fault.joined
+    ∙ steps fault.before fault.rest 0 fault.each
+    ∙ ap (with_all fault.before) (refused_here fault.rest (0 + size fault.before) e.why fault.first)
+    ∙ all_err fault.before _
+    ∙ (λ i. Err (record { slot = (place ∙ sym fault.place) i; why = e.why }))
+  where
+    place : 0 + size fault.before ≡ size fault.before
+    place = omega arith
+
+-- ---- what an answer says
+
+-- the same as `FaultAt`, counted from a slot on
+pub record FaultFrom (all : List Fields) (at : ℕ) (e : DecodeError) : Type 0 where
+  pub before : List Form
+  pub each : AllByRecursion IsInstruction before
+  pub rest : List Fields
+  pub joined : all ≡ program_slots before ++ rest
+  pub place : e.slot ≡ at + size before
+  pub first : first_fault rest ≡ Some e.why
+
+abbrev pub Explained : ℕ → List Fields → Answer → Type 0
+Explained at all (Ok p) = AllByRecursion IsInstruction p × (all ≡ program_slots p)
+Explained at all (Err e) = FaultFrom all at e
+
+extended : (i : Form) (at : ℕ) (all rest : List Fields) (r : Answer) → IsInstruction i → all ≡ slots i ++ rest → Explained (at + slot_count i) rest r → Explained at all (with_first i r)
+extended i at all rest (Ok p) h s x = ((h, x.0), s ∙ ap (λ y. slots i ++ y) x.1)
+extended i at all rest (Err e) h s x = record {
+  before = i ∷ x.before;
+  each = (h, x.each);
+  rest = x.rest;
+  joined = s ∙ ap (λ y. slots i ++ y) x.joined ∙ sym (append_assoc (slots i) (program_slots x.before) x.rest);
+  place = omega (arith, x.place, size_more i x.before);
+  first = x.first;
+}
+
+pub explained : (at : ℕ) (all : List Fields) → AllByRecursion FieldsFit all → Explained at all (program_from at false all)
+unfolding program_from
+explained at [] h = (tt, refl)
+explained at (f ∷ rest) h = by (front (f ∷ rest)) refl (explained (at + 1) rest h.1)
+  where
+    by : (r : Result Form DecodeFault) → front (f ∷ rest) ≡ r → Explained (at + 1) rest (program_from (at + 1) false rest) → Explained at (f ∷ rest) (in_order at (front (f ∷ rest)) (program_from (at + 1) (is_wide f) rest))
+    by (Err why) e x = subst (λ r. Explained at (f ∷ rest) (in_order at r (program_from (at + 1) (is_wide f) rest))) (sym e) (record { before = []; each = tt; rest = f ∷ rest; joined = refl; place = omega arith; first = front_fails (f ∷ rest) why e })
+    by (Ok i) e x =
+        let begins = front_begins f rest i h.0 e in
+        let n = narrow i begins.0 in
+        let same : n.0 ≡ f = cc in
+        let wide : is_wide f ≡ false = ap is_wide (sym same) ∙ n.2 in
+        let joined : f ∷ rest ≡ slots i ++ rest = ap (λ y. y ++ rest) (sym begins.1) in
+        let count : at + 1 ≡ at + slot_count i = omega (arith, n.3) in
+        let more = extended i at (f ∷ rest) rest (program_from (at + 1) false rest) begins.0 joined (subst (λ k. Explained k rest (program_from (at + 1) false rest)) count x) in
+        subst (λ b. Explained at (f ∷ rest) (in_order at (front (f ∷ rest)) (program_from (at + 1) b rest))) (sym wide)
+        (subst (λ r. Explained at (f ∷ rest) (in_order at r (program_from (at + 1) false rest))) (sym e) more)
+
+-- ---- the next instruction of a loop
+
+pub record GoesOn (all : List Fields) (at : ℕ) (i : Form) : Type 0 where
+  pub read : program_from at false (drop at all) ≡ with_first i (program_from (at + slot_count i) false (drop (at + slot_count i) all))
+  pub within : at + slot_count i ≤ length all
+
+pub goes_on : (all : List Fields) (at : ℕ) (i : Form) → AllByRecursion FieldsFit all → at < length all → front (drop at all) ≡ Ok i → GoesOn all at i
+goes_on all at i fit lt e = by (drop at all) refl
+  where
+    by : (there : List Fields) → drop at all ≡ there → GoesOn all at i
+    by [] s = absurd (omega (arith, ap length s, length-drop at all))
+    by (f ∷ rest) s =
+        let begins = front_begins f rest i (subst (AllByRecursion FieldsFit) s (all_drop FieldsFit at all fit)).0 (ap front (sym s) ∙ e) in
+        let joined : drop at all ≡ slots i ++ rest = s ∙ ap (λ y. y ++ rest) (sym begins.1) in
+        let behind : drop (at + slot_count i) all ≡ rest = sym (drop-drop (slot_count i) at all) ∙ ap (drop (slot_count i)) joined ∙ ap (λ k. drop k (slots i ++ rest)) (sym (count_is i)) ∙ drop-append_seam (slots i) rest in
+        record {
+          read = ap (program_from at false) joined ∙ step i rest at begins.0 ∙ ap (λ x. with_first i (program_from (at + slot_count i) false x)) (sym behind);
+          within = omega (arith, ap length joined, length-append (slots i) rest, count_is i, length-drop at all);
+        }
+
+pub stops : (all : List Fields) (at : ℕ) (why : DecodeFault) → at < length all → front (drop at all) ≡ Err why → program_from at false (drop at all) ≡ Err (record { slot = at; why = why })
+stops all at why lt e = refused_here (drop at all) at why (front_fails (drop at all) why e)
+
+pub read_more : (p q : List Form) (i : Form) (all : List Fields) (at n : ℕ) (whole : Answer) → whole ≡ with_all p (program_from at false (drop at all)) → GoesOn all at i → q ≡ p ++ i ∷ [] → n ≡ slot_count i → whole ≡ with_all q (program_from (at + n) false (drop (at + n) all))
+read_more p q i all at n whole h more e width =
+    h
+    ∙ ap (with_all p) more.read
+    ∙ all_push p i (program_from (at + slot_count i) false (drop (at + slot_count i) all))
+    ∙ ap (λ x. with_all x (program_from (at + slot_count i) false (drop (at + slot_count i) all))) (sym e)
+    ∙ ap (λ k. with_all q (program_from (at + k) false (drop (at + k) all))) (sym width)
+
+pub read_all : (p : List Form) (all : List Fields) (at : ℕ) (whole : Answer) → whole ≡ with_all p (program_from at false (drop at all)) → at ≡ length all → whole ≡ Ok p
+unfolding program_from
+read_all p all at whole h e =
+    h
+    ∙ ap (λ k. with_all p (program_from at false (drop k all))) e
+    ∙ ap (λ x. with_all p (program_from at false x)) (drop-length all)
+    ∙ all_ok p []
+    ∙ ap Ok (append-nil p)

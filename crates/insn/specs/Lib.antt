@@ -1,0 +1,5 @@
+pub mod Encoding
+pub mod Sizes
+pub mod Layout
+pub mod Refusal
+pub mod Decoded

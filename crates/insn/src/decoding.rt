@@ -1,0 +1,163 @@
+// Programs out of bytes, whole.
+
+ghost use Rattle.std.specs.Prelude.{◌≡◌, ℕ, ◌%◌, ◌≤◌, ◌++◌, ◌⊎◌, ◌∷◌, [], List, false, Ok, length, IfOk, IfErr, OnOk, MatchResult};
+ghost use Rattle.insn.specs.declared.instruction.Form.{Form};
+ghost use Rattle.insn.specs.declared.decoding.DecodeFault.TheVariants.{NoMemory};
+ghost use Rattle.insn.specs.Refusal.{slots_in, length_fault, fault_number, Decodes, Refuses, IsNoMemory, IsOnly};
+ghost use Rattle.insn.specs.Decoded.{decoded, program_from, DecodeFails, ReadsWhatIsSpelled, ReadsWhatIsRefused};
+
+use crate::instruction::Insn;
+use crate::reading::instruction;
+use std::alloc::Global;
+use thiserror::Error;
+
+/// Why bytes are no program. Each has its number, from 0 to 9.
+#[derive(Clone, Copy, PartialEq, Eq, Debug, Error)]
+pub enum DecodeFault {
+    /// Memory ran out.
+    #[error("D0: memory ran out")]
+    NoMemory,
+    /// A slot has 8 bytes (RFC 9669, section 3.1).
+    #[error("D1: the number of bytes is not a multiple of 8")]
+    NotWholeSlots,
+    /// A program has an instruction.
+    #[error("D2: there are no bytes")]
+    Empty,
+    /// A program has at most 4,096 slots.
+    #[error("D3: there are more than 4096 slots")]
+    TooLong,
+    /// The opcode is none that is built (RFC 9669, sections 4 and 5).
+    #[error("D4: the opcode is unknown")]
+    UnknownOpcode,
+    /// There are the registers 0 to 10 (RFC 9669, section 3.1); a field that is not in use is held to it too.
+    #[error("D5: a register number is above 10")]
+    RegisterAbove10,
+    /// A field in use has a value without a meaning (RFC 9669, sections 4 and 5).
+    #[error("D6: a field has a value that is not defined")]
+    UndefinedValue,
+    /// A field that is not in use is zero (RFC 9669, section 3.1).
+    #[error("D7: an unused field is not zero")]
+    UnusedFieldSet,
+    /// A wide instruction has a second slot (RFC 9669, section 3.2).
+    #[error("D8: a wide instruction has no second slot")]
+    CutOff,
+    /// In a second slot all is zero but next_imm, and that too after a reference to a map (RFC 9669, section 3.2).
+    #[error("D9: a field of a second slot is not zero")]
+    BadSecondHalf,
+}
+
+impl DecodeFault {
+    /// The number, from 0 to 9, that a refusal shows after its letter D.
+    pub fn number(self) -> u8
+        ensures { result ≡ fault_number self }
+    {
+        match self {
+            DecodeFault::NoMemory => 0,
+            DecodeFault::NotWholeSlots => 1,
+            DecodeFault::Empty => 2,
+            DecodeFault::TooLong => 3,
+            DecodeFault::UnknownOpcode => 4,
+            DecodeFault::RegisterAbove10 => 5,
+            DecodeFault::UndefinedValue => 6,
+            DecodeFault::UnusedFieldSet => 7,
+            DecodeFault::CutOff => 8,
+            DecodeFault::BadSecondHalf => 9,
+        }
+    }
+}
+
+/// The first refusal, and the slot at which it stands, from 0: the first slot of the instruction, and 0 where the
+/// number of bytes is wrong or memory ran out.
+#[derive(Clone, Copy, PartialEq, Eq, Debug, Error)]
+#[error("slot {slot}: {why}")]
+pub struct DecodeError {
+    pub slot: u32,
+    pub why: DecodeFault,
+}
+
+/// The program that the bytes spell (RFC 9669, section 3), or the first thing that keeps them from spelling one: their
+/// number, else at the lowest slot at which no instruction begins the fault with the lowest number. Any bytes may be
+/// asked; those of a program of 1 to 4,096 slots are answered unless memory runs out, which is `NoMemory`.
+pub fn decode(alloc: Global, bytes: &[u8]) -> Result<Vec<Insn>, DecodeError>
+    // What is answered is spelled by the bytes.
+    ensures found { IfOk result (λ p. Decodes bytes.now p.items) }
+    // What the bytes spell is answered, unless memory runs out.
+    ensures only { (p : List Form) → Decodes bytes.now p → IsOnly result p }
+    // A refusal is the first one, unless memory ran out.
+    ensures first { IfErr result (λ e. IsNoMemory e ⊎ Refuses bytes.now e) }
+    // The same, by the function that callers cite.
+    ensures reading { MatchResult result
+        (λ v. decoded bytes.now ≡ Ok v.items)
+        (λ e. DecodeFails e (decoded bytes.now)) }
+{
+    match fault_of_length(bytes.len()) {
+        Some(why) => Err(DecodeError { slot: 0, why }),
+        None => read_slots(alloc, bytes),
+    }
+}
+
+// What is wrong with so many bytes.
+fn fault_of_length(count: usize) -> Option<DecodeFault>
+    ensures { result ≡ length_fault count }
+{
+    if count % 8 != 0 {
+        Some(DecodeFault::NotWholeSlots)
+    } else if count == 0 {
+        Some(DecodeFault::Empty)
+    } else if count > 32768 {
+        Some(DecodeFault::TooLong)
+    } else {
+        None
+    }
+}
+
+// The program in the slots of the bytes, or the first refusal there.
+fn read_slots(alloc: Global, bytes: &[u8]) -> Result<Vec<Insn>, DecodeError>
+    requires whole { length bytes.now % 8 ≡ 0 }
+    requires few { length bytes.now ≤ 32768 }
+    ensures { MatchResult result
+        (λ v. program_from 0 false (slots_in bytes.now) ≡ Ok v.items)
+        (λ e. DecodeFails e (program_from 0 false (slots_in bytes.now))) }
+{
+    let mut program = Vec::new(alloc);
+    let mut slot = 0;
+    while 8 * slot < bytes.len() {
+        match instruction(bytes, slot) {
+            Ok(insn) => {
+                push(&mut program, insn)?;
+                slot += insn.slot_count();
+            }
+            Err(why) => {
+                return Err(DecodeError {
+                    slot: slot as u32,
+                    why,
+                });
+            }
+        }
+    }
+    Ok(program)
+}
+
+// Adds an instruction.
+fn push(program: &mut Vec<Insn>, insn: Insn) -> Result<(), DecodeError>
+    ensures added { OnOk result (program.new.items ≡ program.old.items ++ insn ∷ []) }
+    ensures refused { IfErr result IsNoMemory }
+{
+    match program.push(insn) {
+        Ok(()) => Ok(()),
+        Err(_) => Err(DecodeError {
+            slot: 0,
+            why: DecodeFault::NoMemory,
+        }),
+    }
+}
+
+/// The function `decoded`, which tells what `decode` answers, reads as a program exactly what bytes spell.
+pub fn decoded_is_spelled()
+    ensures { ReadsWhatIsSpelled }
+{}
+
+/// The function `decoded` reads as a refusal exactly the first one.
+pub fn decoded_is_refused()
+    ensures { ReadsWhatIsRefused }
+{}

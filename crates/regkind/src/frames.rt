@@ -1,0 +1,192 @@
+// Kinds of registers, frames, and what two frames have in common.
+
+ghost use Rattle.std.specs.Prelude.{◌≡◌, ℕ, ◌+◌, ◌<◌, ◌≤◌, ◌↔◌, ◌⊎◌, IsTrue, true, slice_index_or, length};
+ghost use Rattle.std.specs.Int.RustNames.{bit_and};
+ghost use Rattle.regkind.specs.declared.frames.Kind.{Kind};
+ghost use Rattle.regkind.specs.declared.frames.Kind.TheVariants.{Unreadable};
+ghost use Rattle.regkind.specs.Frames.{Covers, CoversKind, CoversCell, IsFrame, kind, mark, all_marked, with_kind, with_marks, entry_frame};
+ghost use Rattle.regkind.specs.Frames as frames;
+
+use std::marker::Model;
+
+/// What is known of a register's value.
+///
+/// Offsets are in bytes; a map is named by its place in the store's list.
+#[derive(Clone, Copy, PartialEq, Eq, Debug)]
+pub enum Kind {
+    /// Nothing: the register may not be read.
+    Unreadable,
+    /// A number of 64 bits.
+    Scalar,
+    /// A pointer into the stack, at this distance from the stack's end.
+    Stack(i16),
+    /// A pointer into the argument, at this distance from its start.
+    Arg(i16),
+    /// A pointer to a map.
+    Map(u8),
+    /// A pointer into a value of a map, at this distance from the value's start.
+    Value(u8, i16),
+    /// What a lookup in a map answers: zero, or a pointer to the start of a value.
+    ValueOrNull(u8),
+}
+
+/// What is known before an instruction: each register's kind, and which bytes of the stack are initialised.
+///
+/// A frame weighs 108 bytes: 11 kinds of 4 bytes, and 64 cells, each with the marks of 8 bytes of the stack.
+#[derive(Clone, Copy, PartialEq, Eq, Debug)]
+pub struct Frame {
+    kinds: [Kind; 11],
+    // bit b of cell c is the mark of byte 8 c + b, counted from the stack's lower end
+    cells: [u8; 64],
+}
+
+impl Model for Frame {
+    ghost use Rattle.regkind.specs.Frames.{Frame};
+
+    ghost Value = { Frame };
+
+    ghost view = { λ f. record { kinds = f.kinds; cells = f.cells } };
+
+    ghost inverse = { λ f. record { kinds = f.kinds; cells = f.cells } };
+}
+
+impl Frame {
+    /// At the entry of a program: R1 points to the argument and R10 to the end of the stack.
+    pub fn entry() -> Self
+        ensures known { result ≡ entry_frame }
+        ensures frame { IsFrame result }
+    {
+        let mut kinds = [Kind::Unreadable; 11];
+        kinds[1] = Kind::Arg(0);
+        kinds[10] = Kind::Stack(0);
+        Frame {
+            kinds,
+            cells: [0; 64],
+        }
+    }
+
+    /// The kind of a register.
+    pub fn kind(&self, register: u8) -> Kind
+        requires register { register < 11 }
+        ensures kind { result ≡ kind self.now register }
+    {
+        self.kinds[register as usize]
+    }
+
+    /// Another kind for a register.
+    pub fn set_kind(&mut self, register: u8, kind: Kind)
+        requires register { register < 11 }
+        ensures changed { self.new ≡ with_kind self.old register kind }
+    {
+        self.kinds[register as usize] = kind;
+    }
+
+    /// Marks `count` bytes of the stack from byte `at` on, counted from its lower end, as initialised.
+    pub fn mark(&mut self, at: usize, count: usize)
+        requires within { at + count ≤ 512 }
+        ensures changed { self.new ≡ with_marks self.old at count }
+        ensures each { (k : ℕ) → k < 512 → (mark self.new k ≡ true) ↔ ((mark self.old k ≡ true) ⊎ ((at ≤ k) × (k < at + count))) }
+    {
+        for k in 0..count {
+            let byte = at + k;
+            self.cells[byte / 8] |= 1 << (byte % 8);
+        }
+    }
+
+    /// Whether `count` bytes of the stack from byte `at` on, counted from its lower end, are initialised.
+    pub fn are_marked(&self, at: usize, count: usize) -> bool
+        requires within { at + count ≤ 512 }
+        ensures marked { result ≡ all_marked self.now at count }
+        ensures each { IsTrue result ↔ ((k : ℕ) → at ≤ k → k < at + count → mark self.now k ≡ true) }
+    {
+        for k in 0..count {
+            let byte = at + k;
+            if self.cells[byte / 8] >> (byte % 8) & 1 == 0 {
+                return false;
+            }
+        }
+        true
+    }
+}
+
+/// What two frames have in common: kinds that differ are unreadable, and a byte is marked where both mark it.
+pub fn join(x: &Frame, y: &Frame) -> Frame
+    ensures frame { IsFrame result }
+    ensures meet { (a : frames.Frame) → Covers a result ↔ (Covers a x.now × Covers a y.now) }
+{
+    let kinds = common_kinds(&x.kinds, &y.kinds);
+    let cells = common_marks(&x.cells, &y.cells);
+    Frame { kinds, cells }
+}
+
+fn common_kinds(x: &[Kind; 11], y: &[Kind; 11]) -> [Kind; 11]
+    ensures len { length result ≡ 11 }
+    ensures meet { (r : ℕ) → r < 11 → (a : Kind)
+        → CoversKind a (slice_index_or result r Unreadable)
+        ↔ (CoversKind a (slice_index_or x.now r Unreadable) × CoversKind a (slice_index_or y.now r Unreadable)) }
+{
+    let mut both = [Kind::Unreadable; 11];
+    for r in 0..11 {
+        both[r] = common(x[r], y[r]);
+    }
+    both
+}
+
+fn common_marks(x: &[u8; 64], y: &[u8; 64]) -> [u8; 64]
+    ensures len { length result ≡ 64 }
+    ensures meet { (c : ℕ) → c < 64 → slice_index_or result c 0 ≡ bit_and (slice_index_or x.now c 0) (slice_index_or y.now c 0) }
+{
+    let mut both = [0; 64];
+    for c in 0..64 {
+        both[c] = x[c] & y[c];
+    }
+    both
+}
+
+// The kind itself, where the two are equal.
+fn common(x: Kind, y: Kind) -> Kind
+    ensures { (a : Kind) → CoversKind a result ↔ (CoversKind a x × CoversKind a y) }
+{
+    if x == y { x } else { Kind::Unreadable }
+}
+
+/// The first frame says nothing that the second doesn't.
+pub fn covers(a: &Frame, b: &Frame) -> bool
+    ensures covered { IsTrue result ↔ Covers a.now b.now }
+{
+    covers_kinds(&a.kinds, &b.kinds) && covers_marks(&a.cells, &b.cells)
+}
+
+fn covers_kinds(a: &[Kind; 11], b: &[Kind; 11]) -> bool
+    ensures { IsTrue result ↔ ((r : ℕ) → r < 11 → CoversKind (slice_index_or a.now r Unreadable) (slice_index_or b.now r Unreadable)) }
+{
+    for r in 0..11 {
+        if !covers_kind(a[r], b[r]) {
+            return false;
+        }
+    }
+    true
+}
+
+fn covers_kind(a: Kind, b: Kind) -> bool
+    ensures { IsTrue result ↔ CoversKind a b }
+{
+    a == Kind::Unreadable || a == b
+}
+
+fn covers_marks(a: &[u8; 64], b: &[u8; 64]) -> bool
+    ensures { IsTrue result ↔ ((c : ℕ) → c < 64 → CoversCell (slice_index_or a.now c 0) (slice_index_or b.now c 0)) }
+{
+    for c in 0..64 {
+        if !covers_cell(a[c], b[c]) {
+            return false;
+        }
+    }
+    true
+}
+
+fn covers_cell(a: u8, b: u8) -> bool
+    ensures { IsTrue result ↔ CoversCell a b }
+{
+    a & b == a
+}

@@ -1,0 +1,8 @@
+//! What a verifier knows of the registers and of the stack before an instruction.
+#![tactic(auto)]
+
+mod frames;
+#[cfg(test)]
+mod tests;
+
+pub use frames::{Frame, Kind, covers, join};
