@@ -1,6 +1,8 @@
 -- What one instruction adds to the pass over a program.
-use Rattle.std.proofs.Common.{◌≡◌, ℕ, ◌+◌, Bool, true, false, cond, not, [], ◌∷◌, length, Option, Some, None, refl, sym, ap, ◌∙◌}
-use Rattle.std.specs.Prelude.{◌&&◌, nat_eq, find}
+use Rattle.std.proofs.Common.{◌≡◌, ℕ, ◌+◌, Bool, true, false, cond, not, [], ◌∷◌, length, Option, Some, None, refl, sym, ap, ◌∙◌, arith}
+use Rattle.std.specs.Prelude.{◌&&◌, nat_eq, find, ℤ, pos, negsuc, ◌≤ℤ◌, nat_abs}
+use Rattle.std.proofs.lemmas.Bool.{or_right, eq-eqb}
+use Rattle.std.proofs.lemmas.Int.{ints}
 use Rattle.std.specs.Option.{option_or}
 use Rattle.std.proofs.lemmas.List.Folds.{find-append}
 use Rattle.insn.specs.declared.instruction.Form.{Form}
@@ -10,7 +12,7 @@ use Rattle.insn.specs.Encoding.{slots}
 use Rattle.insn.specs.Layout.{slot_count, falls_through, Fall}
 use Rattle.flow.specs.declared.rules.StructureRule.{StructureRule}
 use Rattle.flow.specs.declared.rules.StructureRule.TheVariants.{RunsOffTheEnd, Unreachable}
-use Rattle.flow.specs.Faults.{leads_to, is_broken, rules_of_jumps, first_rule}
+use Rattle.flow.specs.Faults.{leads_to, jump_is, is_slot, jump_target, is_broken, rules_of_jumps, first_rule}
 use Rattle.flow.proofs.Jumps.{edge_tested}
 
 -- as many slots as bytes are written in
@@ -29,6 +31,14 @@ widths i = refl
 
 pub fall_leads : (i : Form) (s : ℕ) → falls_through i ≡ true → leads_to (Some i) s (s + slot_count i) ≡ true
 fall_leads i s h = edge_tested i s (s + slot_count i) Fall (h, refl)
+
+pub jump_leads : (i : Form) (s t : ℕ) → jump_is (is_slot t) (jump_target i s) ≡ true → leads_to (Some i) s t ≡ true
+jump_leads i s t h = or_right _ _ h
+
+-- a target that isn't below 0 is a slot
+pub own_slot : (o : Option ℤ) (z w : ℤ) → o ≡ Some z → w ≡ z → pos 0 ≤ℤ w → jump_is (is_slot (nat_abs w)) o ≡ true
+own_slot o z (negsuc k) e same h = absurd (omega (arith, ints, h))
+own_slot o z (pos t) e same h = ap (jump_is (is_slot t)) e ∙ ap (is_slot t) (sym same) ∙ eq-eqb t t refl
 
 -- ---- the first rule that an instruction breaks
 

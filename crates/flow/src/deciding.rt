@@ -81,31 +81,35 @@ fn check_each(program: &[Insn], end: usize) -> Result<(), Broken>
     reached.insert(0);
     let mut slot = 0;
     for insn in program {
-        if let Some(rule) = broken_rule(insn, slot, end, &halves, reached.contains(slot)) {
+        let form = insn.form();
+        let next = slot + insn.slot_count();
+        if let Some(rule) = broken_rule(form, slot, next, end, &halves, reached.contains(slot)) {
             return Err(broken(slot, rule));
         }
-        insert_targets(&mut reached, insn, slot);
-        slot += insn.slot_count();
+        insert_targets(&mut reached, form, slot, next);
+        slot = next;
     }
     Ok(())
 }
 
-// The first rule that the instruction at this slot breaks.
+// The first rule that the instruction at this slot breaks; the next one stands at `next`.
 fn broken_rule(
-    insn: &Insn,
+    form: Form,
     slot: usize,
+    next: usize,
     end: usize,
     halves: &SlotSet,
     is_reached: bool,
 ) -> Option<StructureRule>
+    requires next { next ≡ slot + slot_count form }
     requires within { slot < end }
     requires few { end ≤ 4096 }
-    ensures { result ≡ first_rule end (has_slot halves.now) is_reached insn.now slot }
+    ensures { result ≡ first_rule end (has_slot halves.now) is_reached form slot }
 {
-    if let Some(rule) = broken_by_jump(insn.form(), slot, end, halves) {
+    if let Some(rule) = broken_by_jump(form, slot, end, halves) {
         return Some(rule);
     }
-    if runs_off(insn, slot, end) {
+    if runs_off(form, next, end) {
         return Some(StructureRule::RunsOffTheEnd);
     }
     if !is_reached {
@@ -115,12 +119,10 @@ fn broken_rule(
 }
 
 // Whether the next instruction follows it, and there is none.
-#[tactic(auto, using(crate::proofs::Steps::widths))]
-fn runs_off(insn: &Insn, slot: usize, end: usize) -> bool
-    requires { slot < 4096 }
-    ensures { result ≡ (falls_through insn.now && nat_eq (slot + slot_count insn.now) end) }
+fn runs_off(form: Form, next: usize, end: usize) -> bool
+    ensures { result ≡ (falls_through form && nat_eq next end) }
 {
-    is_followed(insn.form()) && slot + insn.slot_count() == end
+    is_followed(form) && next == end
 }
 
 // The first rule that its jump breaks.

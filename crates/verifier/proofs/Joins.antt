@@ -1,0 +1,225 @@
+-- The joined frames, as they are computed, are what comes in at each slot.
+use Rattle.std.proofs.Common.{◌≡◌, ◌≢◌, ℕ, zero, suc, ◌+◌, ◌<◌, Bool, true, false, cond, List, [], ◌∷◌, ◌++◌, length, Option, Some, None, refl, sym, ap, ◌∙◌, inl, inr, ⊎_elim, arith, subst, length-append}
+use Rattle.std.specs.Prelude.{pos, slice_get, option_and_then, ◌==◌}
+use Rattle.std.proofs.lemmas.Bool.{false≢true, and_parts, and_from, cases_lt, cases_eq, eqb-true, eq-eqb}
+use Rattle.insn.specs.declared.instruction.Form.{Form}
+use Rattle.insn.specs.Layout.{Edge, Fall, Jump, LeadsTo, slot_count, instruction_at, falls_through}
+use Rattle.regkind.specs.Frames.{Frame, Covers, IsFrame, entry_frame}
+use Rattle.regkind.proofs.Laws.{covers_refl, covers_trans, IsFrame-entry}
+use Rattle.flow.specs.Structure.{IsStructured, StandsAt, Reached}
+use Rattle.flow.specs.Structure as flow
+use Rattle.flow.specs.Faults.{is_slot}
+use Rattle.flow.specs.declared.rules.StructureRule.TheVariants.{Unreachable}
+use Rattle.flow.proofs.Forward.{leads_on}
+use Rattle.flow.proofs.Jumps.{jump_found, jump_tested, slot_is}
+use Rattle.verifier.specs.FrameAfter.{frame_after}
+use Rattle.verifier.specs.Typing.{Frames, IsJoin, Leads}
+use Rattle.verifier.specs.Joined.{common, and_in_common, leads, along, out_of, coming_in, frame_in, joined_frames, joined_frame}
+use Rattle.verifier.proofs.Monotone.{after_frame}
+use Rattle.verifier.proofs.Progress.{Below, With, same_form}
+use Rattle.verifier.proofs.Common.{common_frame, common_covers}
+
+-- ---- edges
+
+leads_is : (i : Form) (s : ℕ) (e : Edge) (t : ℕ) → leads i s e t ≡ true → LeadsTo i s e (pos t)
+leads_is i s Fall t h = let b = and_parts (falls_through i) ((s + slot_count i) == t) h in (b.0, ap pos (sym (eqb-true (s + slot_count i) t b.1)))
+leads_is i s Jump t h = let f = jump_found (is_slot t) i s h in subst (LeadsTo i s Jump) (slot_is t f.0 f.2) f.1
+
+slot_self : (t : ℕ) → is_slot t (pos t) ≡ true
+slot_self t = eq-eqb t t refl
+
+is_leads : (i : Form) (s : ℕ) (e : Edge) (t : ℕ) → LeadsTo i s e (pos t) → leads i s e t ≡ true
+is_leads i s Fall t h = let same : t ≡ s + slot_count i = let a = h.1 in cc in and_from (falls_through i) ((s + slot_count i) == t) h.0 (eq-eqb (s + slot_count i) t (sym same))
+is_leads i s Jump t h = jump_tested (is_slot t) i s (pos t) h (slot_self t)
+
+-- ---- what comes in at a slot along the edges seen so far
+
+pub record Says (p : List Form) (J : Frames) (Seen : ℕ → Edge → Type 0) (t : ℕ) (f : Frame) : Type 0 where
+  pub frame : IsFrame f
+  pub entry : t ≡ 0 → Covers f entry_frame
+  pub edges : (i : Form) (s : ℕ) (e : Edge) → Leads p i s e t → Seen s e → Covers f (frame_after i (J s) e)
+  pub greatest : (a : Frame) → (t ≡ 0 → Covers a entry_frame) → ((i : Form) (s : ℕ) (e : Edge) → Leads p i s e t → Seen s e → Covers a (frame_after i (J s) e)) → Covers a f
+
+abbrev pub ComesIn : List Form → Frames → (ℕ → Edge → Type 0) → ℕ → Option Frame → Type 0
+ComesIn p J Seen t (Some f) = Says p J Seen t f
+ComesIn p J Seen t None = (t ≢ 0) × ((i : Form) (s : ℕ) (e : Edge) → Leads p i s e t → Seen s e → ⊥)
+
+resaid : (p : List Form) (J : Frames) (Seen Seen' : ℕ → Edge → Type 0) (t : ℕ) (o : Option Frame) → ((i : Form) (s : ℕ) (e : Edge) → Leads p i s e t → Seen' s e → Seen s e) → ((i : Form) (s : ℕ) (e : Edge) → Leads p i s e t → Seen s e → Seen' s e) → ComesIn p J Seen t o → ComesIn p J Seen' t o
+resaid p J Seen Seen' t None from to c = (c.0, λ i s e h seen. c.1 i s e h (from i s e h seen))
+resaid p J Seen Seen' t (Some f) from to c = record {
+  frame = c.frame;
+  entry = c.entry;
+  edges = λ i s e h seen. c.edges i s e h (from i s e h seen);
+  greatest = λ a h0 h1. c.greatest a h0 (λ i s e h seen. h1 i s e h (to i s e h seen));
+}
+
+module _ (p : List Form) (J : Frames) (Seen : ℕ → Edge → Type 0) (t : ℕ) (i : Form) (s : ℕ) (stands : StandsAt p i s) (frame : IsFrame (J s)) (d : Edge) where
+  -- an edge of this instruction
+  this : (a : Frame) (x : Form) (u : ℕ) (e : Edge) → Leads p x u e t → (u ≡ s) × (e ≡ d) → Covers a (frame_after i (J s) d) → Covers a (frame_after x (J u) e)
+  this a x u e h new c =
+      let form : i ≡ x = sym (same_form p x i u s h.0 stands new.0) in
+      subst (λ e'. Covers a (frame_after x (J u) e')) (sym new.1)
+      (subst (λ u'. Covers a (frame_after x (J u') d)) (sym new.0) (subst (λ y. Covers a (frame_after y (J s) d)) form c))
+
+  -- it leads there
+  goes_in : (o : Option Frame) → LeadsTo i s d (pos t) → ComesIn p J Seen t o → ComesIn p J (With Seen s d) t (and_in_common o (frame_after i (J s) d))
+  goes_in None leads c = record {
+    frame = after_frame i (J s) d frame;
+    entry = λ z. absurd (c.0 z);
+    edges = edges;
+    greatest = λ a h0 h1. h1 i s d (stands, leads) (inr (refl, refl));
+  }
+    where
+      edges : (x : Form) (u : ℕ) (e : Edge) → Leads p x u e t → With Seen s d u e → Covers (frame_after i (J s) d) (frame_after x (J u) e)
+      edges x u e h (inl seen) = absurd (c.1 x u e h seen)
+      edges x u e h (inr new) = this (frame_after i (J s) d) x u e h new (covers_refl (frame_after i (J s) d))
+  goes_in (Some g) leads c = record {
+    frame = common_frame g (frame_after i (J s) d);
+    entry = λ z. covers_trans _ _ _ both.0 (c.entry z);
+    edges = edges;
+    greatest = λ a h0 h1. (common_covers g (frame_after i (J s) d) a).1 (c.greatest a h0 (λ x u e h seen. h1 x u e h (inl seen)), h1 i s d (stands, leads) (inr (refl, refl)));
+  }
+    where
+      both : Covers (common g (frame_after i (J s) d)) g × Covers (common g (frame_after i (J s) d)) (frame_after i (J s) d)
+      both = (common_covers g (frame_after i (J s) d) (common g (frame_after i (J s) d))).0 (covers_refl (common g (frame_after i (J s) d)))
+
+      edges : (x : Form) (u : ℕ) (e : Edge) → Leads p x u e t → With Seen s d u e → Covers (common g (frame_after i (J s) d)) (frame_after x (J u) e)
+      edges x u e h (inl seen) = covers_trans _ _ _ both.0 (c.edges x u e h seen)
+      edges x u e h (inr new) = this (common g (frame_after i (J s) d)) x u e h new both.1
+
+  goes_past : (o : Option Frame) → (LeadsTo i s d (pos t) → ⊥) → ComesIn p J Seen t o → ComesIn p J (With Seen s d) t o
+  goes_past o none c = resaid p J Seen (With Seen s d) t o from (λ x u e h seen. inl seen) c
+    where
+      from : (x : Form) (u : ℕ) (e : Edge) → Leads p x u e t → With Seen s d u e → Seen u e
+      from x u e h (inl seen) = seen
+      from x u e h (inr new) =
+          let form = same_form p x i u s h.0 stands new.0 in
+          absurd (none (subst (λ y. LeadsTo y s d (pos t)) form (subst (λ u'. LeadsTo x u' d (pos t)) new.0 (subst (λ e'. LeadsTo x u e' (pos t)) new.1 h.1))))
+
+  pub along_edge : (o : Option Frame) → ComesIn p J Seen t o → ComesIn p J (With Seen s d) t (along d i s (J s) t o)
+  along_edge o c = by (leads i s d t) refl
+    where
+      by : (b : Bool) → leads i s d t ≡ b → ComesIn p J (With Seen s d) t (along d i s (J s) t o)
+      by true e = subst (λ b. ComesIn p J (With Seen s d) t (cond b (and_in_common o (frame_after i (J s) d)) o)) (sym e) (goes_in o (leads_is i s d t e) c)
+      by false e = subst (λ b. ComesIn p J (With Seen s d) t (cond b (and_in_common o (frame_after i (J s) d)) o)) (sym e) (goes_past o (λ h. false≢true (sym e ∙ is_leads i s d t h)) c)
+
+-- ---- all lower slots
+
+two_edges : (s : ℕ) (u : ℕ) (e : Edge) → u < suc s → With (With (Below s) s Fall) s Jump u e
+two_edges s u e lt = ⊎_elim (λ below. inl (inl below)) (λ ge. at_edge e (omega arith)) (cases_lt u s)
+  where
+    at_edge : (e : Edge) → u ≡ s → With (With (Below s) s Fall) s Jump u e
+    at_edge Fall eq = inl (inr (eq, refl))
+    at_edge Jump eq = inr (eq, refl)
+
+edges_two : (s : ℕ) (u : ℕ) (e : Edge) → With (With (Below s) s Fall) s Jump u e → u < suc s
+edges_two s u e (inl (inl h)) = omega arith
+edges_two s u e (inl (inr h)) = omega (arith, h.0)
+edges_two s u e (inr h) = omega (arith, h.0)
+
+-- the slot s is given its frame, if an instruction stands there
+abbrev Given : List Form → Frames → (ℕ → Option Frame) → ℕ → Type 0
+Given p J G s = (i : Form) → StandsAt p i s → (G s ≡ Some (J s)) × IsFrame (J s)
+
+module _ (p : List Form) (J : Frames) (G : ℕ → Option Frame) (t : ℕ) where
+  next_slot : (s : ℕ) (o : Option Frame) → Given p J G s → ComesIn p J (Below s) t o → ComesIn p J (Below (suc s)) t (out_of (instruction_at p s) s (G s) t o)
+  next_slot s o given c = by (instruction_at p s) refl
+    where
+      by : (x : Option Form) → instruction_at p s ≡ x → ComesIn p J (Below (suc s)) t (out_of (instruction_at p s) s (G s) t o)
+      by None e = subst (λ x. ComesIn p J (Below (suc s)) t (out_of x s (G s) t o)) (sym e) (resaid p J (Below s) (Below (suc s)) t o from (λ x u d h lt. omega arith) c)
+        where
+          from : (x : Form) (u : ℕ) (d : Edge) → Leads p x u d t → u < suc s → u < s
+          from x u d h lt = ⊎_elim (λ below. below) (λ ge. let eq : u ≡ s = omega arith in let st = subst (λ y. StandsAt p x y) eq h.0 in absurd (let b : ⊥ = cc in b)) (cases_lt u s)
+      by (Some i) e =
+          let g = given i e in
+          let one = along_edge p J (Below s) t i s e g.1 Fall o c in
+          let two = along_edge p J (With (Below s) s Fall) t i s e g.1 Jump (along Fall i s (J s) t o) one in
+          let done = resaid p J (With (With (Below s) s Fall) s Jump) (Below (suc s)) t (along Jump i s (J s) t (along Fall i s (J s) t o)) (λ x u d h lt. two_edges s u d lt) (λ x u d h seen. edges_two s u d seen) two in
+          subst (λ x. ComesIn p J (Below (suc s)) t (out_of x s (G s) t o)) (sym e) (subst (λ f. ComesIn p J (Below (suc s)) t (out_of (Some i) s f t o)) (sym g.0) done)
+
+  pub comes_from : (n : ℕ) → ((s : ℕ) → s < n → Given p J G s) → ComesIn p J (Below n) t (coming_in p G n t)
+  unfolding coming_in
+  comes_from zero given = first t
+    where
+      first : (u : ℕ) → ComesIn p J (Below 0) u (coming_in p G 0 u)
+      first zero = record { frame = IsFrame-entry; entry = λ z. covers_refl entry_frame; edges = λ i s d h lt. absurd (omega arith); greatest = λ a h k. h refl }
+      first (suc u) = (λ z. absurd (omega arith), λ i s d h lt. absurd (omega arith))
+  comes_from (suc s) given = next_slot s (coming_in p G s t) (given s (omega arith)) (comes_from s (λ u lt. given u (omega arith)))
+
+-- ---- the list of frames
+
+get_left : {A : Type 0} (xs ys : List A) (k : ℕ) → k < length xs → slice_get (xs ++ ys) k ≡ slice_get xs k
+get_left [] ys k lt = absurd (omega arith)
+get_left (x ∷ xs) ys zero lt = refl
+get_left (x ∷ xs) ys (suc k) lt = get_left xs ys k (omega arith)
+
+get_last : {A : Type 0} (xs : List A) (y : A) (k : ℕ) → k ≡ length xs → slice_get (xs ++ y ∷ []) k ≡ Some y
+get_last [] y zero e = refl
+get_last [] y (suc k) e = absurd (omega arith)
+get_last (x ∷ xs) y zero e = absurd (omega arith)
+get_last (x ∷ xs) y (suc k) e = get_last xs y k (omega arith)
+
+how_many : (p : List Form) (n : ℕ) → length (joined_frames p n) ≡ n
+unfolding joined_frames
+how_many p zero = refl
+how_many p (suc t) = omega (arith, length-append (joined_frames p t) (coming_in p (frame_in (joined_frames p t)) t t ∷ []), how_many p t)
+
+stays : (p : List Form) (n s : ℕ) → s < n → frame_in (joined_frames p n) s ≡ joined_frame p s
+unfolding joined_frames
+stays p zero s lt = absurd (omega arith)
+stays p (suc t) s lt = ⊎_elim
+    (λ e. ap (λ n. frame_in (joined_frames p (suc n)) s) (sym e))
+    (λ ne. ap (option_and_then (λ o. o)) (get_left (joined_frames p t) _ s (omega (arith, how_many p t))) ∙ stays p t s (omega arith))
+    (cases_eq s t)
+
+here : (p : List Form) (t : ℕ) → joined_frame p t ≡ coming_in p (frame_in (joined_frames p t)) t t
+unfolding joined_frames
+here p t = ap (option_and_then (λ o. o)) (get_last (joined_frames p t) _ t (sym (how_many p t)))
+
+-- ---- structured programs
+
+abbrev pub or_entry_frame : Option Frame → Frame
+or_entry_frame (Some f) = f
+or_entry_frame None = entry_frame
+
+abbrev pub joined_at : List Form → ℕ → Frame
+joined_at p t = or_entry_frame (joined_frame p t)
+
+module _ (p : List Form) (structured : IsStructured p) where
+  -- an instruction that stands somewhere is reached, so something comes in there
+  comes : (t : ℕ) (i : Form) → StandsAt p i t → ComesIn p (joined_at p) (Below t) t None → ⊥
+  comes t i stands c = structured.each i t tt stands Unreachable (λ r. unreached t r refl)
+    where
+      unreached : (u : ℕ) → Reached p u → u ≡ t → ⊥
+      unreached u flow.Reached.first e = c.0 (sym e)
+      unreached u (flow.Reached.next {s = s} {i = x} d r st leads lt) e = c.1 x s d (st, subst (λ y. LeadsTo x s d (pos y)) e leads) (omega arith)
+
+  given_by : (t : ℕ) → ComesIn p (joined_at p) (Below t) t (joined_frame p t) → (i : Form) → StandsAt p i t → (joined_frame p t ≡ Some (joined_at p t)) × IsFrame (joined_at p t)
+  given_by t c i stands = by (joined_frame p t) refl c
+    where
+      by : (o : Option Frame) → joined_frame p t ≡ o → ComesIn p (joined_at p) (Below t) t (joined_frame p t) → (joined_frame p t ≡ Some (joined_at p t)) × IsFrame (joined_at p t)
+      by None e c = absurd (comes t i stands (subst (ComesIn p (joined_at p) (Below t) t) e c))
+      by (Some f) e c =
+          let is : joined_at p t ≡ f = ap or_entry_frame e in
+          (e ∙ ap Some (sym is), subst IsFrame (sym is) (subst (ComesIn p (joined_at p) (Below t) t) e c).frame)
+
+  pub joins : (n t : ℕ) → t < n → ComesIn p (joined_at p) (Below t) t (joined_frame p t)
+  joins zero t lt = absurd (omega arith)
+  joins (suc n) t lt =
+      subst (ComesIn p (joined_at p) (Below t) t) (sym (here p t))
+      (comes_from p (joined_at p) (frame_in (joined_frames p t)) t t (λ s below i stands.
+      let g = given_by s (joins n s (omega arith)) i stands in
+      (stays p t s below ∙ g.0, g.1)))
+
+  pub has_joined : (i : Form) (t : ℕ) → StandsAt p i t → (joined_frame p t ≡ Some (joined_at p t)) × IsFrame (joined_at p t)
+  has_joined i t stands = given_by t (joins (suc t) t (omega arith)) i stands
+
+  pub is_join : (i : Form) (t : ℕ) → StandsAt p i t → IsJoin p (joined_at p) t
+  is_join i t stands =
+      let says = subst (ComesIn p (joined_at p) (Below t) t) (has_joined i t stands).0 (joins (suc t) t (omega arith)) in
+      record {
+        frame = says.frame;
+        entry = says.entry;
+        edges = λ x s e h. let on = leads_on p x s t e structured h.0 h.1 in says.edges x s e h on;
+        greatest = λ a h0 h1. says.greatest a h0 (λ x s e h lt. h1 x s e h);
+      }

@@ -1,0 +1,14 @@
+pub mod Lists
+pub mod Slots
+pub mod Broken
+pub mod Ranges
+pub mod Immediates
+pub mod Monotone
+pub mod Progress
+pub mod Coming
+pub mod Steps
+pub mod Pass
+pub mod Untypable
+pub mod Common
+pub mod Joins
+pub mod VerdictLaws

@@ -1,0 +1,264 @@
+-- The computed verdict is none exactly for the typable programs, and else the refusal that is to be named.
+use Rattle.std.proofs.Common.{◌≡◌, ℕ, zero, suc, ◌<◌, ◌≤◌, Bool, true, false, cond, List, [], ◌∷◌, Option, Some, None, refl, sym, ap, ◌∙◌, inl, inr, ⊎_elim, arith, subst}
+use Rattle.std.specs.Prelude.{◌↔◌, find}
+use Rattle.std.specs.Option.{option_map}
+use Rattle.std.specs.List.{AllByRecursion, list_all}
+use Rattle.std.proofs.lemmas.Bool.{cases_lt, cases_eq, false≢true, and_parts}
+use Rattle.insn.specs.declared.instruction.Form.{Form}
+use Rattle.insn.specs.Encoding.{IsInstruction}
+use Rattle.insn.specs.Layout.{size, instruction_at}
+use Rattle.insn.proofs.Places.{first_of}
+use Rattle.regkind.specs.Frames.{Frame, Covers, IsFrame, entry_frame}
+use Rattle.regkind.proofs.Laws.{covers_antisymmetric, IsFrame-entry}
+use Rattle.flow.specs.Structure.{IsStructured, StandsAt}
+use Rattle.flow.specs.declared.rules.StructureRule.{StructureRule}
+use Rattle.flow.specs.Faults.{Fault, structure_fault}
+use Rattle.flow.proofs.Forward.{leads_on, target_stands}
+use Rattle.flow.proofs.Lowest.{structured_from_fault, broken_from_fault, broken_is_not_structured, only_one_broken, fault_iff}
+use Rattle.flow.specs.declared.rules.StructureRule.TheVariants as structure
+use Rattle.verifier.specs.declared.refusal.VerifyFault.{VerifyFault}
+use Rattle.verifier.specs.declared.refusal.Refused.{Refused}
+use Rattle.verifier.specs.Signature.{Signature}
+use Rattle.verifier.specs.declared.refusal.VerifyFault.TheVariants.{NoMemory}
+use Rattle.verifier.specs.Rules.{first_broken, breaks, rules_in_order}
+use Rattle.verifier.specs.FrameAfter.{frame_after}
+use Rattle.verifier.specs.Typing.{Frames, IsTypable, IsJoin, FirstBrokenKind, Refuses, RefusedByStructure, RefusedByKinds, structure_reason, IsNoMemory}
+use Rattle.verifier.specs.Joined.{joined_frame}
+use Rattle.verifier.specs.Verdict.{refused, refusal_of, or_else, lowest_refusal, after_structure, verdict, fails_by, VerifyFails}
+use Rattle.verifier.proofs.Progress.{same_form}
+use Rattle.verifier.proofs.Slots.{stands_inside}
+use Rattle.verifier.proofs.Joins.{joined_at, has_joined, is_join, joins, ComesIn, or_entry_frame}
+use Rattle.verifier.proofs.Untypable.{untypable}
+
+-- ---- the lowest refusal
+
+none_below : (p : List Form) (l : Signature) (n s : ℕ) → lowest_refusal p l n ≡ None → s < n → refusal_of l (instruction_at p s) (joined_frame p s) s ≡ None
+unfolding lowest_refusal
+none_below p l zero s e lt = absurd (omega arith)
+none_below p l (suc k) s e lt =
+    let parts = both_none (lowest_refusal p l k) (refusal_of l (instruction_at p k) (joined_frame p k) k) e in
+    ⊎_elim
+    (λ eq. subst (λ x. refusal_of l (instruction_at p x) (joined_frame p x) x ≡ None) (sym eq) parts.1)
+    (λ ne. none_below p l k s parts.0 (omega arith))
+    (cases_eq s k)
+  where
+    both_none : (a b : Option Refused) → or_else a b ≡ None → (a ≡ None) × (b ≡ None)
+    both_none None b e = (refl, e)
+    both_none (Some x) b e = cc
+
+-- one is found, and none before it
+record Lowest (p : List Form) (l : Signature) (e : Refused) : Type 0 where
+  here : refusal_of l (instruction_at p e.slot) (joined_frame p e.slot) e.slot ≡ Some e
+  before : lowest_refusal p l e.slot ≡ None
+
+slot_of : (l : Signature) (o : Option Form) (f : Option Frame) (s : ℕ) (e : Refused) → refusal_of l o f s ≡ Some e → e.slot ≡ s
+slot_of l None f s e h = cc
+slot_of l (Some i) None s e h = cc
+slot_of l (Some i) (Some f) s e h = by (first_broken l i f) h
+  where
+    by : (o : Option VerifyFault) → option_map (refused s) o ≡ Some e → e.slot ≡ s
+    by None h = cc
+    by (Some v) h = let same : refused s v ≡ e = cc in ap (λ x. x.slot) (sym same)
+
+found_lowest : (p : List Form) (l : Signature) (n : ℕ) (e : Refused) → lowest_refusal p l n ≡ Some e → Lowest p l e
+unfolding lowest_refusal
+found_lowest p l zero e h = cc
+found_lowest p l (suc k) e h = by (lowest_refusal p l k) refl h (λ x. found_lowest p l k e x)
+  where
+    by : (o : Option Refused) → lowest_refusal p l k ≡ o → or_else o (refusal_of l (instruction_at p k) (joined_frame p k) k) ≡ Some e → (lowest_refusal p l k ≡ Some e → Lowest p l e) → Lowest p l e
+    by (Some x) eq h rest = rest (eq ∙ h)
+    by None eq h rest =
+        let same : e.slot ≡ k = slot_of l (instruction_at p k) (joined_frame p k) k e h in
+        record { here = subst (λ x. refusal_of l (instruction_at p x) (joined_frame p x) x ≡ Some e) (sym same) h; before = ap (lowest_refusal p l) same ∙ eq }
+
+-- ---- structured programs
+
+fine_at : (l : Signature) (i : Form) (o : Option Form) (f : Option Frame) (g : Frame) (s : ℕ) → o ≡ Some i → f ≡ Some g → refusal_of l o f s ≡ None → first_broken l i g ≡ None
+fine_at l i o f g s eo ef h = by (first_broken l i g) (sym (ap (λ x. refusal_of l x f s) eo ∙ ap (λ x. refusal_of l (Some i) x s) ef) ∙ h)
+  where
+    by : (v : Option VerifyFault) → option_map (refused s) v ≡ None → v ≡ None
+    by None h = refl
+    by (Some v) h = cc
+
+module _ (p : List Form) (l : Signature) (structured : IsStructured p) where
+  fine : (n : ℕ) → lowest_refusal p l n ≡ None → (i : Form) (s : ℕ) → StandsAt p i s → s < n → first_broken l i (joined_at p s) ≡ None
+  fine n e i s stands lt = fine_at l i (instruction_at p s) (joined_frame p s) (joined_at p s) s stands (has_joined p structured i s stands).0 (none_below p l n s e lt)
+
+  all_frames : (s : ℕ) (o : Option Frame) → joined_frame p s ≡ o → IsFrame (or_entry_frame o)
+  all_frames s None e = IsFrame-entry
+  all_frames s (Some f) e = (subst (ComesIn p (joined_at p) (Rattle.verifier.proofs.Progress.Below s) s) e (joins p structured (suc s) s (omega arith))).frame
+
+  first_entry : Covers (joined_at p 0) entry_frame
+  first_entry = ⊎_elim
+      (λ z. let some = structured.size_good.some in absurd (omega arith))
+      (λ h. (is_join p structured h.0 0 h.1).entry refl)
+      (first_of p)
+
+  pub typing : lowest_refusal p l (size p) ≡ None → IsTypable p l
+  typing e = (
+    structured,
+    (
+      joined_at p,
+      record {
+        frames = λ s. all_frames s (joined_frame p s) refl;
+        entry = first_entry;
+        each = λ i s stands. fine (size p) e i s stands (stands_inside p i s stands);
+        edges = λ i s t d leads. let there = target_stands p i s t d structured leads.0 leads.1 in (is_join p structured there.0 t there.1).edges i s d leads;
+      },
+    ),
+  )
+
+  pub refusal : (e : Refused) → lowest_refusal p l (size p) ≡ Some e → RefusedByKinds p l e
+  refusal e h = let low = found_lowest p l (size p) e h in by (instruction_at p e.slot) refl low.here low.before
+    where
+      by : (o : Option Form) → instruction_at p e.slot ≡ o → refusal_of l (instruction_at p e.slot) (joined_frame p e.slot) e.slot ≡ Some e → lowest_refusal p l e.slot ≡ None → RefusedByKinds p l e
+      by None eq here before = let h = sym (ap (λ o. refusal_of l o (joined_frame p e.slot) e.slot) eq) ∙ here in cc
+      by (Some i) eq here before =
+          let h = sym (ap (λ o. refusal_of l o (joined_frame p e.slot) e.slot) eq) ∙ here in
+          let g = sym (ap (λ f. refusal_of l (Some i) f e.slot) (has_joined p structured i e.slot eq).0) ∙ h in (
+            structured,
+            record {
+              frames = joined_at p;
+              joined = λ x t st le. is_join p structured x t st;
+              before = λ x t st lt. fine e.slot before x t st lt;
+              instruction = i;
+              stands = eq;
+              broken = why (first_broken l i (joined_at p e.slot)) refl g;
+            },
+          )
+        where
+          why : (o : Option VerifyFault) → first_broken l i (joined_at p e.slot) ≡ o → option_map (refused e.slot) o ≡ Some e → first_broken l i (joined_at p e.slot) ≡ Some e.why
+          why None eq h = cc
+          why (Some v) eq h = let same : refused e.slot v ≡ e = cc in eq ∙ ap (λ x. Some x.why) same
+
+-- ---- what the verdict says
+
+pub accepts : (p : List Form) (l : Signature) → verdict p l ≡ None → IsTypable p l
+unfolding verdict
+accepts p l h = by (structure_fault p) refl h
+  where
+    by : (o : Option Fault) → structure_fault p ≡ o → after_structure o (lowest_refusal p l (size p)) ≡ None → IsTypable p l
+    by None e h = typing p l (structured_from_fault p e) h
+    by (Some f) e h = cc
+
+pub refuses : (p : List Form) (l : Signature) (e : Refused) → verdict p l ≡ Some e → Refuses p l e
+unfolding verdict
+refuses p l e h = by (structure_fault p) refl h
+  where
+    by : (o : Option Fault) → structure_fault p ≡ o → after_structure o (lowest_refusal p l (size p)) ≡ Some e → Refuses p l e
+    by None eq h = inr (refusal p l (structured_from_fault p eq) e h)
+    by (Some f) eq h =
+        let same : refused f.slot (structure_reason f.rule) ≡ e = cc in
+        inl (subst (RefusedByStructure p) same (f.rule, broken_from_fault p f eq, refl))
+
+-- ---- it is the only one
+
+-- a refused program has no typing
+pub never_both : (p : List Form) (l : Signature) (e : Refused) → AllByRecursion IsInstruction p → Refuses p l e → IsTypable p l → ⊥
+never_both p l e all (inl h) typable = broken_is_not_structured p e.slot h.0 h.1 typable.0
+never_both p l e all (inr h) typable = untypable p l e.slot e.why all h.1 typable
+
+-- joined frames are the same, however they are had
+module _ (p : List Form) (structured : IsStructured p) (last : ℕ) (J K : Frames) (first : (i : Form) (t : ℕ) → StandsAt p i t → t ≤ last → IsJoin p J t) (second : (i : Form) (t : ℕ) → StandsAt p i t → t ≤ last → IsJoin p K t) where
+  pub same_joins : (n t : ℕ) (x : Form) → StandsAt p x t → t < n → t ≤ last → J t ≡ K t
+  same_joins zero t x here lt le = absurd (omega arith)
+  same_joins (suc n) t x here lt le =
+      let j = first x t here le in
+      let k = second x t here le in
+      covers_antisymmetric (J t) (K t) j.frame k.frame
+      (k.greatest (J t) j.entry (λ i s e leads. let on = leads_on p i s t e structured leads.0 leads.1 in subst (λ g. Covers (J t) (frame_after i g e)) (same_joins n s i leads.0 (omega arith) (omega arith)) (j.edges i s e leads)))
+      (j.greatest (K t) k.entry (λ i s e leads. let on = leads_on p i s t e structured leads.0 leads.1 in subst (λ g. Covers (K t) (frame_after i g e)) (sym (same_joins n s i leads.0 (omega arith) (omega arith))) (k.edges i s e leads)))
+
+lower : (p : List Form) (l : Signature) (s t : ℕ) (v w : VerifyFault) → IsStructured p → FirstBrokenKind p l s v → FirstBrokenKind p l t w → s < t → ⊥
+lower p l s t v w structured a b lt =
+    let same = same_joins p structured s a.frames b.frames (λ i u st le. a.joined i u st le) (λ i u st le. b.joined i u st (omega arith)) (suc s) s a.instruction a.stands (omega arith) (omega arith) in
+    let none = b.before a.instruction s a.stands lt in
+    let some = sym (ap (first_broken l a.instruction) same) ∙ a.broken in
+    cc
+
+same_why : (p : List Form) (l : Signature) (s t : ℕ) (v w : VerifyFault) → IsStructured p → FirstBrokenKind p l s v → FirstBrokenKind p l t w → s ≡ t → v ≡ w
+same_why p l s t v w structured a b e =
+    let same = same_joins p structured s a.frames b.frames (λ i u st le. a.joined i u st le) (λ i u st le. b.joined i u st (omega arith)) (suc s) s a.instruction a.stands (omega arith) (omega arith) in
+    let form = same_form p a.instruction b.instruction s t a.stands b.stands e in
+    let one : first_broken l b.instruction (b.frames t) ≡ Some v =
+    sym (ap (λ i. first_broken l i (b.frames t)) form) ∙ sym (ap (λ u. first_broken l a.instruction (b.frames u)) e) ∙ sym (ap (first_broken l a.instruction) same) ∙ a.broken in
+    let two = b.broken in
+    cc
+
+same_refused : (a b : Refused) → a.slot ≡ b.slot → a.why ≡ b.why → a ≡ b
+same_refused a b e h = ap (λ x. refused x a.why) e ∙ ap (refused b.slot) h
+
+same_kinds : (p : List Form) (l : Signature) (a b : Refused) → RefusedByKinds p l a → RefusedByKinds p l b → a ≡ b
+same_kinds p l a b h k = ⊎_elim
+    (λ (lt : a.slot < b.slot). absurd (lower p l a.slot b.slot a.why b.why h.0 h.1 k.1 lt))
+    (λ (ge : b.slot ≤ a.slot). ⊎_elim
+    (λ (lt : b.slot < a.slot). absurd (lower p l b.slot a.slot b.why a.why h.0 k.1 h.1 lt))
+    (λ (le : a.slot ≤ b.slot). let e : a.slot ≡ b.slot = omega arith in same_refused a b e (same_why p l a.slot b.slot a.why b.why h.0 h.1 k.1 e))
+    (cases_lt b.slot a.slot))
+    (cases_lt a.slot b.slot)
+
+pub one_refusal : (p : List Form) (l : Signature) (a b : Refused) → Refuses p l a → Refuses p l b → a ≡ b
+one_refusal p l a b (inl h) (inl k) = let same = only_one_broken p a.slot b.slot h.0 k.0 h.1 k.1 in same_refused a b same.0 (h.2 ∙ ap structure_reason same.1 ∙ sym k.2)
+one_refusal p l a b (inl h) (inr k) = absurd (broken_is_not_structured p a.slot h.0 h.1 k.0)
+one_refusal p l a b (inr h) (inl k) = absurd (broken_is_not_structured p b.slot k.0 k.1 h.0)
+one_refusal p l a b (inr h) (inr k) = same_kinds p l a b h k
+
+-- ---- the laws
+
+pub accepted_iff : (p : List Form) (l : Signature) → AllByRecursion IsInstruction p → (verdict p l ≡ None) ↔ IsTypable p l
+accepted_iff p l all = (accepts p l, λ typable. by (verdict p l) refl typable)
+  where
+    by : (o : Option Refused) → verdict p l ≡ o → IsTypable p l → verdict p l ≡ None
+    by None e typable = e
+    by (Some e) eq typable = absurd (never_both p l e all (refuses p l e eq) typable)
+
+pub refused_iff : (p : List Form) (l : Signature) (e : Refused) → AllByRecursion IsInstruction p → (verdict p l ≡ Some e) ↔ Refuses p l e
+refused_iff p l e all = (refuses p l e, λ h. by (verdict p l) refl h)
+  where
+    by : (o : Option Refused) → verdict p l ≡ o → Refuses p l e → verdict p l ≡ Some e
+    by None eq h = absurd (never_both p l e all h (accepts p l eq))
+    by (Some x) eq h = eq ∙ ap Some (one_refusal p l x e (refuses p l x eq) h)
+
+-- ---- the verdict, by what the code finds
+
+pub by_structure : (p : List Form) (l : Signature) (e : Refused) → RefusedByStructure p e → verdict p l ≡ Some e
+unfolding verdict
+by_structure p l e h =
+    let found = (fault_iff p e.slot h.0).1 h.1 in
+    ap (λ o. after_structure o (lowest_refusal p l (size p))) found ∙ ap (λ v. Some (refused e.slot v)) (sym h.2)
+
+-- the rules name no want of memory
+abbrev is_rule : VerifyFault → Bool
+is_rule NoMemory = false
+is_rule v = true
+
+find_passes : (Q test : VerifyFault → Bool) (xs : List VerifyFault) (v : VerifyFault) → list_all Q xs ≡ true → find test xs ≡ Some v → Q v ≡ true
+find_passes Q test [] v all h = cc
+find_passes Q test (x ∷ xs) v all h = let parts = and_parts (Q x) (list_all Q xs) all in by (test x) parts.0 h (find_passes Q test xs v parts.1)
+  where
+    by : (b : Bool) → Q x ≡ true → cond b (Some x) (find test xs) ≡ Some v → (find test xs ≡ Some v → Q v ≡ true) → Q v ≡ true
+    by true q h rest = let same : x ≡ v = cc in subst (λ y. Q y ≡ true) same q
+    by false q h rest = rest h
+
+kind_rule : (p : List Form) (l : Signature) (e : Refused) → RefusedByKinds p l e → is_rule e.why ≡ true
+kind_rule p l e h = find_passes is_rule (λ v. breaks v l h.1.instruction (h.1.frames e.slot)) rules_in_order e.why refl h.1.broken
+
+structure_rule : (rule : StructureRule) → is_rule (structure_reason rule) ≡ true
+structure_rule structure.TargetOutside = refl
+structure_rule structure.TargetNotForward = refl
+structure_rule structure.TargetInsideWide = refl
+structure_rule structure.RunsOffTheEnd = refl
+structure_rule structure.Unreachable = refl
+
+fails_from : (why : VerifyFault) (e : Refused) (read : Option Refused) → is_rule why ≡ true → read ≡ Some e → fails_by why e read
+fails_from NoMemory e read h k = absurd (false≢true h)
+fails_from why e read h k = k
+
+pub fails_by_memory : (p : List Form) (l : Signature) (e : Refused) → IsNoMemory e → VerifyFails e (verdict p l)
+fails_by_memory p l e h = subst (λ x. VerifyFails x (verdict p l)) (sym h) refl
+
+pub fails_by_structure : (p : List Form) (l : Signature) (e : Refused) → RefusedByStructure p e → VerifyFails e (verdict p l)
+fails_by_structure p l e h = fails_from e.why e (verdict p l) (ap is_rule h.2 ∙ structure_rule h.0) (by_structure p l e h)
+
+pub fails_by_kinds : (p : List Form) (l : Signature) (e : Refused) → AllByRecursion IsInstruction p → RefusedByKinds p l e → VerifyFails e (verdict p l)
+fails_by_kinds p l e all h = fails_from e.why e (verdict p l) (kind_rule p l e h) ((refused_iff p l e all).1 (inr h))

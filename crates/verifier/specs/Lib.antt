@@ -1,0 +1,12 @@
+pub mod Numbers
+pub mod Signature
+pub mod Kinds
+pub mod Operands
+pub mod Regions
+pub mod Rules
+pub mod FrameAfter
+pub mod Typing
+pub mod Accepted
+pub mod Joined
+pub mod Verdict
+pub mod Pass

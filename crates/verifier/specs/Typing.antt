@@ -1,0 +1,73 @@
+-- Which programs are typable, and how one that isn't is refused.
+use Rattle.std.specs.Prelude.{◌≡◌, ℕ, ◌<◌, ◌≤◌, ◌⊎◌, pos, List, Some, None}
+use Rattle.insn.specs.declared.instruction.Form.{Form}
+use Rattle.insn.specs.Layout.{Edge, LeadsTo}
+use Rattle.regkind.specs.Frames.{Frame, Covers, IsFrame, entry_frame}
+use Rattle.flow.specs.Structure.{IsStructured, StandsAt, FirstBroken}
+use Rattle.flow.specs.declared.rules.StructureRule.{StructureRule}
+use Rattle.flow.specs.declared.rules.StructureRule.TheVariants as structure
+use Rattle.verifier.specs.declared.refusal.VerifyFault.{VerifyFault}
+use Rattle.verifier.specs.declared.refusal.VerifyFault.TheVariants.{NoMemory, TargetOutside, TargetNotForward, TargetInsideWide, RunsOffTheEnd, Unreachable}
+use Rattle.verifier.specs.declared.refusal.Refused.{Refused}
+use Rattle.verifier.specs.Signature.{Signature}
+use Rattle.verifier.specs.Rules.{first_broken}
+use Rattle.verifier.specs.FrameAfter.{frame_after}
+
+-- a frame for each slot
+abbrev pub Frames : Type 0
+Frames = ℕ → Frame
+
+-- instruction i at slot s leads to slot t, by this edge
+abbrev pub Leads : List Form → Form → ℕ → Edge → ℕ → Type 0
+Leads p i s e t = StandsAt p i s × LeadsTo i s e (pos t)
+
+-- under these frames no instruction breaks a rule, and each frame says no more than what comes in along any edge
+pub record IsTyping (p : List Form) (l : Signature) (F : Frames) : Type 0 where
+  pub frames : (s : ℕ) → IsFrame (F s)
+  pub entry : Covers (F 0) entry_frame
+  pub each : (i : Form) (s : ℕ) → StandsAt p i s → first_broken l i (F s) ≡ None
+  pub edges : (i : Form) (s t : ℕ) (e : Edge) → Leads p i s e t → Covers (F t) (frame_after i (F s) e)
+
+-- the structure is good, and there is some typing
+abbrev pub IsTypable : List Form → Signature → Type 0
+IsTypable p l = IsStructured p × ((F : Frames) × IsTyping p l F)
+
+-- ---- refusals
+
+-- the frame at slot t says just what all that comes in there has in common: the entry, where t is 0, and each edge
+pub record IsJoin (p : List Form) (J : Frames) (t : ℕ) : Type 0 where
+  pub frame : IsFrame (J t)
+  pub entry : t ≡ 0 → Covers (J t) entry_frame
+  pub edges : (i : Form) (s : ℕ) (e : Edge) → Leads p i s e t → Covers (J t) (frame_after i (J s) e)
+  pub greatest : (a : Frame) → (t ≡ 0 → Covers a entry_frame) → ((i : Form) (s : ℕ) (e : Edge) → Leads p i s e t → Covers a (frame_after i (J s) e)) → Covers a (J t)
+
+-- under the joined frames, this is the first rule of kinds that is broken: at the lowest slot, and there the lowest
+pub record FirstBrokenKind (p : List Form) (l : Signature) (s : ℕ) (why : VerifyFault) : Type 0 where
+  pub frames : Frames
+  pub joined : (i : Form) (t : ℕ) → StandsAt p i t → t ≤ s → IsJoin p frames t
+  pub before : (i : Form) (t : ℕ) → StandsAt p i t → t < s → first_broken l i (frames t) ≡ None
+  pub instruction : Form
+  pub stands : StandsAt p instruction s
+  pub broken : first_broken l instruction (frames s) ≡ Some why
+
+-- a rule of structure as the reason of a refusal
+abbrev pub structure_reason : StructureRule → VerifyFault
+structure_reason structure.TargetOutside = TargetOutside
+structure_reason structure.TargetNotForward = TargetNotForward
+structure_reason structure.TargetInsideWide = TargetInsideWide
+structure_reason structure.RunsOffTheEnd = RunsOffTheEnd
+structure_reason structure.Unreachable = Unreachable
+
+-- the structure is decided for the whole program first, then kinds
+abbrev pub RefusedByStructure : List Form → Refused → Type 0
+RefusedByStructure p e = (rule : StructureRule) × FirstBroken p e.slot rule × (e.why ≡ structure_reason rule)
+
+abbrev pub RefusedByKinds : List Form → Signature → Refused → Type 0
+RefusedByKinds p l e = IsStructured p × FirstBrokenKind p l e.slot e.why
+
+abbrev pub Refuses : List Form → Signature → Refused → Type 0
+Refuses p l e = RefusedByStructure p e ⊎ RefusedByKinds p l e
+
+-- want of memory, which names no slot
+abbrev pub IsNoMemory : Refused → Type 0
+IsNoMemory e = e ≡ record { slot = 0; why = NoMemory }
