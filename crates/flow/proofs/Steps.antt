@@ -1,33 +1,16 @@
 -- What one instruction adds to the pass over a program.
-use Rattle.std.proofs.Common.{◌≡◌, ℕ, ◌+◌, Bool, true, false, cond, not, [], ◌∷◌, length, Option, Some, None, refl, sym, ap, ◌∙◌, arith}
+use Rattle.std.proofs.Common.{◌≡◌, ℕ, ◌+◌, Bool, true, false, cond, not, [], ◌∷◌, Option, Some, None, refl, sym, ap, ◌∙◌, arith}
 use Rattle.std.specs.Prelude.{◌&&◌, nat_eq, find, ℤ, pos, negsuc, ◌≤ℤ◌, nat_abs}
 use Rattle.std.proofs.lemmas.Bool.{or_right, eq-eqb}
 use Rattle.std.proofs.lemmas.Int.{ints}
 use Rattle.std.specs.Option.{option_or}
 use Rattle.std.proofs.lemmas.List.Folds.{find-append}
 use Rattle.insn.specs.declared.instruction.Form.{Form}
-use Rattle.insn.specs.declared.instruction.Form.TheVariants.{Imm64, MapRef, Ja, Alu, Store, Branch}
-use Rattle.insn.specs.declared.instruction.Source.TheVariants.{Reg, Imm}
-use Rattle.insn.specs.Encoding.{slots}
 use Rattle.insn.specs.Layout.{slot_count, falls_through, Fall}
 use Rattle.flow.specs.declared.rules.StructureRule.{StructureRule}
 use Rattle.flow.specs.declared.rules.StructureRule.TheVariants.{RunsOffTheEnd, Unreachable}
 use Rattle.flow.specs.Faults.{leads_to, jump_is, is_slot, jump_target, is_broken, rules_of_jumps, first_rule}
 use Rattle.flow.proofs.Jumps.{edge_tested}
-
--- as many slots as bytes are written in
-pub widths : (i : Form) → length (slots i) ≡ slot_count i
-widths (Imm64 dst value) = refl
-widths (MapRef dst index) = refl
-widths (Alu w64 op dst (Imm imm)) = refl
-widths (Alu w64 op dst (Reg src)) = refl
-widths (Store size dst off (Imm imm)) = refl
-widths (Store size dst off (Reg src)) = refl
-widths (Branch w64 cond dst (Imm imm) off) = refl
-widths (Branch w64 cond dst (Reg src) off) = refl
-widths (Ja true by) = refl
-widths (Ja false by) = refl
-widths i = refl
 
 pub fall_leads : (i : Form) (s : ℕ) → falls_through i ≡ true → leads_to (Some i) s (s + slot_count i) ≡ true
 fall_leads i s h = edge_tested i s (s + slot_count i) Fall (h, refl)

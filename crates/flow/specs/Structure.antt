@@ -33,7 +33,7 @@ Breaks TargetNotForward p i s = (t : ℤ) × LeadsTo i s Jump t × (pos 0 ≤ℤ
 Breaks TargetInsideWide p i s = (t : ℕ) × LeadsTo i s Jump (pos t) × (s < t) × (slice_get (layout p) t ≡ Some None)
 -- i is the last instruction, and is followed by the next one
 Breaks RunsOffTheEnd p i s = (falls_through i ≡ true) × (s + slot_count i ≡ size p)
--- nothing leads to i
+-- i is not reached
 Breaks Unreachable p i s = Reached p s → ⊥
 
 -- a program has an instruction, and at most 4,096 slots

@@ -1,4 +1,7 @@
 pub mod Slots
+pub mod Rows
+pub mod Opcodes
+pub mod Spelled
 pub mod Fronts
 pub mod Fit
 pub mod Programs

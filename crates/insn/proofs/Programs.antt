@@ -1,14 +1,11 @@
 -- The function that reads a program from slots, and the relations that it answers.
-use Rattle.std.proofs.Common.{◌≡◌, ℕ, ◌+◌, ◌<◌, ◌≤◌, true, false, List, [], ◌∷◌, ◌++◌, length, drop, Some, refl, sym, ap, ◌∙◌, arith, subst, append_assoc, length-append, length-drop}
-use Rattle.std.specs.Prelude.{Result, Ok, Err}
+use Rattle.std.proofs.Common.{◌≡◌, ℕ, ◌+◌, ◌<◌, ◌≤◌, false, List, [], ◌∷◌, ◌++◌, length, drop, Some, refl, sym, ap, ◌∙◌, inl, inr, arith, subst, append_assoc, length-append, length-drop}
+use Rattle.std.specs.Prelude.{Result, Ok, Err, ◌⊎◌}
 use Rattle.std.specs.List.{AllByRecursion}
 use Rattle.std.proofs.lemmas.List.{append-nil, drop-drop}
 use Rattle.std.proofs.Math.Seq.{drop-append_seam, drop-length}
 use Rattle.insn.specs.declared.instruction.Fields.{Fields}
 use Rattle.insn.specs.declared.instruction.Form.{Form}
-use Rattle.insn.specs.declared.instruction.Form.TheVariants.{Alu, Exit}
-use Rattle.insn.specs.declared.instruction.Operation.TheVariants.{Add, Mov}
-use Rattle.insn.specs.declared.instruction.Source.TheVariants.{Reg, Imm}
 use Rattle.insn.specs.declared.decoding.DecodeFault.{DecodeFault}
 use Rattle.insn.specs.declared.decoding.DecodeError.{DecodeError}
 use Rattle.insn.specs.Encoding.{slots, program_slots, IsInstruction}
@@ -16,33 +13,39 @@ use Rattle.insn.specs.Layout.{slot_count, slot_contents, layout, size}
 use Rattle.insn.specs.Refusal.{is_wide, first_fault, FaultAt}
 use Rattle.insn.specs.Decoded.{front, with_first, in_order, program_from}
 use Rattle.insn.proofs.Slots.{FieldsFit, count_is, all_drop}
-use Rattle.insn.proofs.Fronts.{front_of, front_begins, front_fails}
+use Rattle.insn.proofs.Spelled.{Narrow, Wide, spelled}
+use Rattle.insn.proofs.Fronts.{Begins, front_of, front_begins, front_fails}
 
 abbrev pub Answer : Type 0
 Answer = Result (List Form) DecodeError
 
 -- ---- one instruction
 
-narrow_step : (i : Form) (f : Fields) (rest : List Fields) (at : ℕ) → slots i ≡ f ∷ [] → is_wide f ≡ false → slot_count i ≡ 1 → IsInstruction i → program_from at false (slots i ++ rest) ≡ with_first i (program_from (at + slot_count i) false rest)
+narrow_step : (i : Form) (n : Narrow i) (rest : List Fields) (at : ℕ) → front (slots i ++ rest) ≡ Ok i → program_from at false (slots i ++ rest) ≡ with_first i (program_from (at + slot_count i) false rest)
 unfolding program_from
-narrow_step i f rest at s w n h =
-    let e : front (f ∷ rest) ≡ Ok i = ap (λ x. front (x ++ rest)) (sym s) ∙ front_of i rest h in
-    ap (λ x. program_from at false (x ++ rest)) s
-    ∙ ap (λ r. in_order at r (program_from (at + 1) (is_wide f) rest)) e
-    ∙ ap (λ b. with_first i (program_from (at + 1) b rest)) w
-    ∙ ap (λ k. with_first i (program_from (at + k) false rest)) (sym n)
+narrow_step i n rest at h =
+    let e : front (n.fields ∷ rest) ≡ Ok i = ap (λ x. front (x ++ rest)) (sym n.spelled) ∙ h in
+    ap (λ x. program_from at false (x ++ rest)) n.spelled
+    ∙ ap (λ r. in_order at r (program_from (at + 1) (is_wide n.fields) rest)) e
+    ∙ ap (λ b. with_first i (program_from (at + 1) b rest)) n.narrow
+    ∙ ap (λ k. with_first i (program_from (at + k) false rest)) (sym n.count)
 
--- one slot, and no opcode of a wide instruction
-narrow : (i : Form) → IsInstruction i → (f : Fields) × (slots i ≡ f ∷ []) × (is_wide f ≡ false) × (slot_count i ≡ 1)
-narrow (Alu true Add dst (Imm imm)) h = (_, refl, refl, refl)
-narrow (Alu true Add dst (Reg src)) h = (_, refl, refl, refl)
-narrow (Alu true Mov dst (Imm imm)) h = (_, refl, refl, refl)
-narrow (Alu true Mov dst (Reg src)) h = (_, refl, refl, refl)
-narrow Exit h = (_, refl, refl, refl)
-narrow i h = absurd h.1
+wide_step : (i : Form) (w : Wide i) (rest : List Fields) (at : ℕ) → front (slots i ++ rest) ≡ Ok i → program_from at false (slots i ++ rest) ≡ with_first i (program_from (at + slot_count i) false rest)
+unfolding program_from
+wide_step i w rest at h =
+    let e : front (w.first ∷ w.second ∷ rest) ≡ Ok i = ap (λ x. front (x ++ rest)) (sym w.spelled) ∙ h in
+    let count : at + 1 + 1 ≡ at + slot_count i = omega (arith, w.count) in
+    ap (λ x. program_from at false (x ++ rest)) w.spelled
+    ∙ ap (λ r. in_order at r (program_from (at + 1) (is_wide w.first) (w.second ∷ rest))) e
+    ∙ ap (λ b. with_first i (program_from (at + 1) b (w.second ∷ rest))) w.wide
+    ∙ ap (λ k. with_first i (program_from k false rest)) count
 
 pub step : (i : Form) (rest : List Fields) (at : ℕ) → IsInstruction i → program_from at false (slots i ++ rest) ≡ with_first i (program_from (at + slot_count i) false rest)
-step i rest at h = let n = narrow i h in narrow_step i n.0 rest at n.1 n.2 n.3 h
+step i rest at h = by (spelled i h)
+  where
+    by : Narrow i ⊎ Wide i → program_from at false (slots i ++ rest) ≡ with_first i (program_from (at + slot_count i) false rest)
+    by (inl n) = narrow_step i n rest at (front_of i rest h)
+    by (inr w) = wide_step i w rest at (front_of i rest h)
 
 -- ---- several instructions
 
@@ -121,23 +124,52 @@ extended i at all rest (Err e) h s x = record {
   first = x.first;
 }
 
-pub explained : (at : ℕ) (all : List Fields) → AllByRecursion FieldsFit all → Explained at all (program_from at false all)
-unfolding program_from
-explained at [] h = (tt, refl)
-explained at (f ∷ rest) h = by (front (f ∷ rest)) refl (explained (at + 1) rest h.1)
+-- what is left behind the first of these slots, and behind the second
+abbrev Behind : ℕ → List Fields → Type 0
+Behind at rest = Explained at rest (program_from at false rest)
+
+abbrev BehindTwo : ℕ → List Fields → Type 0
+BehindTwo at rest = (g : Fields) (behind : List Fields) → rest ≡ g ∷ behind → Behind (at + 1) behind
+
+stepped : (at : ℕ) (all : List Fields) (i : Form) (b : Begins all i) → Behind (at + slot_count i) b.rest → Explained at all (program_from at false all)
+stepped at all i b x =
+    subst (Explained at all) (sym (ap (program_from at false) b.joined ∙ step i b.rest at b.built)) (extended i at all b.rest (program_from (at + slot_count i) false b.rest) b.built b.joined x)
+
+shorter : (at : ℕ) (f : Fields) (rest : List Fields) (i : Form) (b : Begins (f ∷ rest) i) → Behind (at + 1) rest → BehindTwo (at + 1) rest → Behind (at + slot_count i) b.rest
+shorter at f rest i b x y = by (spelled i b.built)
   where
-    by : (r : Result Form DecodeFault) → front (f ∷ rest) ≡ r → Explained (at + 1) rest (program_from (at + 1) false rest) → Explained at (f ∷ rest) (in_order at (front (f ∷ rest)) (program_from (at + 1) (is_wide f) rest))
-    by (Err why) e x = subst (λ r. Explained at (f ∷ rest) (in_order at r (program_from (at + 1) (is_wide f) rest))) (sym e) (record { before = []; each = tt; rest = f ∷ rest; joined = refl; place = omega arith; first = front_fails (f ∷ rest) why e })
-    by (Ok i) e x =
-        let begins = front_begins f rest i h.0 e in
-        let n = narrow i begins.0 in
-        let same : n.0 ≡ f = cc in
-        let wide : is_wide f ≡ false = ap is_wide (sym same) ∙ n.2 in
-        let joined : f ∷ rest ≡ slots i ++ rest = ap (λ y. y ++ rest) (sym begins.1) in
-        let count : at + 1 ≡ at + slot_count i = omega (arith, n.3) in
-        let more = extended i at (f ∷ rest) rest (program_from (at + 1) false rest) begins.0 joined (subst (λ k. Explained k rest (program_from (at + 1) false rest)) count x) in
-        subst (λ b. Explained at (f ∷ rest) (in_order at (front (f ∷ rest)) (program_from (at + 1) b rest))) (sym wide)
-        (subst (λ r. Explained at (f ∷ rest) (in_order at r (program_from (at + 1) false rest))) (sym e) more)
+    by : Narrow i ⊎ Wide i → Behind (at + slot_count i) b.rest
+    by (inl n) =
+        let e : f ∷ rest ≡ n.fields ∷ b.rest = b.joined ∙ ap (λ z. z ++ b.rest) n.spelled in
+        let same : rest ≡ b.rest = cc in
+        let count : at + 1 ≡ at + slot_count i = omega (arith, n.count) in
+        subst (λ z. Behind (at + slot_count i) z) same (subst (λ k. Behind k rest) count x)
+    by (inr w) =
+        let e : f ∷ rest ≡ w.first ∷ w.second ∷ b.rest = b.joined ∙ ap (λ z. z ++ b.rest) w.spelled in
+        let same : rest ≡ w.second ∷ b.rest = cc in
+        let count : at + 1 + 1 ≡ at + slot_count i = omega (arith, w.count) in
+        subst (λ k. Behind k b.rest) count (y w.second b.rest same)
+
+explained_first : (at : ℕ) (f : Fields) (rest : List Fields) → FieldsFit f → Behind (at + 1) rest → BehindTwo (at + 1) rest → Behind at (f ∷ rest)
+explained_first at f rest fit x y = by (front (f ∷ rest)) refl
+  where
+    by : (r : Result Form DecodeFault) → front (f ∷ rest) ≡ r → Behind at (f ∷ rest)
+    by (Err why) e =
+        let broken = front_fails (f ∷ rest) why e in
+        subst (Explained at (f ∷ rest)) (sym (refused_here (f ∷ rest) at why broken)) (record { before = []; each = tt; rest = f ∷ rest; joined = refl; place = omega arith; first = broken })
+    by (Ok i) e = let b = front_begins f rest i fit e in stepped at (f ∷ rest) i b (shorter at f rest i b x y)
+
+-- there is no slot left
+explained_end : (at : ℕ) → Behind at []
+unfolding program_from
+explained_end at = (tt, refl)
+
+pub explained : (at : ℕ) (all : List Fields) → AllByRecursion FieldsFit all → Explained at all (program_from at false all)
+explained at [] h = explained_end at
+explained at (f ∷ []) h = explained_first at f [] h.0 (explained_end (at + 1)) (λ g behind e. cc)
+explained at (f ∷ g ∷ rest) h =
+    explained_first at f (g ∷ rest) h.0 (explained (at + 1) (g ∷ rest) h.1)
+    (λ k behind e. let same : rest ≡ behind = cc in subst (Behind (at + 1 + 1)) same (explained (at + 1 + 1) rest h.1.1))
 
 -- ---- the next instruction of a loop
 
@@ -151,12 +183,12 @@ goes_on all at i fit lt e = by (drop at all) refl
     by : (there : List Fields) → drop at all ≡ there → GoesOn all at i
     by [] s = absurd (omega (arith, ap length s, length-drop at all))
     by (f ∷ rest) s =
-        let begins = front_begins f rest i (subst (AllByRecursion FieldsFit) s (all_drop FieldsFit at all fit)).0 (ap front (sym s) ∙ e) in
-        let joined : drop at all ≡ slots i ++ rest = s ∙ ap (λ y. y ++ rest) (sym begins.1) in
-        let behind : drop (at + slot_count i) all ≡ rest = sym (drop-drop (slot_count i) at all) ∙ ap (drop (slot_count i)) joined ∙ ap (λ k. drop k (slots i ++ rest)) (sym (count_is i)) ∙ drop-append_seam (slots i) rest in
+        let b = front_begins f rest i (subst (AllByRecursion FieldsFit) s (all_drop FieldsFit at all fit)).0 (ap front (sym s) ∙ e) in
+        let joined : drop at all ≡ slots i ++ b.rest = s ∙ b.joined in
+        let behind : drop (at + slot_count i) all ≡ b.rest = sym (drop-drop (slot_count i) at all) ∙ ap (drop (slot_count i)) joined ∙ ap (λ k. drop k (slots i ++ b.rest)) (sym (count_is i)) ∙ drop-append_seam (slots i) b.rest in
         record {
-          read = ap (program_from at false) joined ∙ step i rest at begins.0 ∙ ap (λ x. with_first i (program_from (at + slot_count i) false x)) (sym behind);
-          within = omega (arith, ap length joined, length-append (slots i) rest, count_is i, length-drop at all);
+          read = ap (program_from at false) joined ∙ step i b.rest at b.built ∙ ap (λ x. with_first i (program_from (at + slot_count i) false x)) (sym behind);
+          within = omega (arith, ap length joined, length-append (slots i) b.rest, count_is i, length-drop at all);
         }
 
 pub stops : (all : List Fields) (at : ℕ) (why : DecodeFault) → at < length all → front (drop at all) ≡ Err why → program_from at false (drop at all) ≡ Err (record { slot = at; why = why })

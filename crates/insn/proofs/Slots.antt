@@ -2,6 +2,7 @@
 use Rattle.std.proofs.Common.{◌≡◌, ℕ, zero, suc, ◌+◌, ◌*◌, ◌/◌, ◌%◌, ◌^◌, ◌<◌, ◌≤◌, List, [], ◌∷◌, ◌++◌, length, get_or, drop, refl, sym, ap, ◌∙◌, arith, drop-cons, length-append, subst}
 use Rattle.std.specs.Prelude.{ℤ, pos, negsuc, FitsSigned}
 use Rattle.std.specs.List.{flat_map, AllByRecursion}
+use Rattle.std.proofs.Math.Seq.{drop-length}
 use Rattle.std.specs.Int.{w16, w32, cast_unsigned, cast_signed, to_le_bytes, from_le_bytes}
 use Rattle.std.proofs.lemmas.Int.{of_z-to_z, to_z-of_z, ints}
 use Rattle.std.proofs.lemmas.Nat.{le_bytes_2, le_bytes_4, from_le_bytes-to_le_bytes_2, from_le_bytes-to_le_bytes_4}
@@ -178,3 +179,14 @@ slot_read bs at y z h b e f =
 pub slot_fits : (bs : List ℕ) (n : ℕ) (f : Fields) (rest : List Fields) → AreBytes bs → slots_in (drop n bs) ≡ f ∷ rest → FieldsFit f
 slot_fits bs n f rest h e =
     (subst (AllByRecursion FieldsFit) e (slots_fit (drop n bs) (all_drop (λ b. b < 256) n bs h))).0
+
+pub two_slots : (bs : List ℕ) (at : ℕ) (f g : Fields) (rest : List Fields) → slots_in (drop (8 * at) bs) ≡ f ∷ slots_in (drop (8 * at + 8) bs) → slots_in (drop (8 * (at + 1)) bs) ≡ g ∷ rest → slots_in (drop (8 * at) bs) ≡ f ∷ g ∷ rest
+two_slots bs at f g rest a b =
+    let e : 8 * at + 8 ≡ 8 * (at + 1) = omega arith in
+    a ∙ ap (λ k. f ∷ slots_in (drop k bs)) e ∙ ap (λ x. f ∷ x) b
+
+-- the last slot of whole slots
+pub last_slot : (bs : List ℕ) (at : ℕ) (f : Fields) → length bs % 8 ≡ 0 → 8 * at + 8 ≤ length bs → length bs < 8 * at + 16 → slots_in (drop (8 * at) bs) ≡ f ∷ slots_in (drop (8 * at + 8) bs) → slots_in (drop (8 * at) bs) ≡ f ∷ []
+last_slot bs at f whole within short a =
+    let e : 8 * at + 8 ≡ length bs = omega arith in
+    a ∙ ap (λ k. f ∷ slots_in (drop k bs)) e ∙ ap (λ x. f ∷ slots_in x) (drop-length bs)

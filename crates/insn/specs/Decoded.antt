@@ -1,11 +1,13 @@
 -- What bytes decode to, as a function. Two laws, on `decoded_is_spelled` and `decoded_is_refused`, say that it is the
 -- relations `Decodes` and `Refuses`.
-use Rattle.std.specs.Prelude.{◌≡◌, ◌↔◌, ℕ, ◌+◌, Bool, true, false, ◌==◌, List, [], ◌∷◌, length, Option, Some, None, find, Result, Ok, Err}
+use Rattle.std.specs.Prelude.{◌≡◌, ◌↔◌, ℕ, ◌+◌, Bool, true, false, ◌==◌, List, [], ◌∷◌, length, Option, Some, None, find, Result, Ok, Err, if◌then◌else◌}
 use Rattle.insn.specs.declared.instruction.Source.TheVariants.{Reg, Imm}
 use Rattle.insn.specs.declared.instruction.Operation.TheVariants.{Add, Mov}
+use Rattle.insn.specs.declared.instruction.Size.TheVariants.{Word, Half, Byte, Double}
+use Rattle.insn.specs.declared.instruction.Condition.TheVariants.{Jeq, Jne}
 use Rattle.insn.specs.declared.instruction.Fields.{Fields}
 use Rattle.insn.specs.declared.instruction.Form.{Form}
-use Rattle.insn.specs.declared.instruction.Form.TheVariants.{Alu, Exit}
+use Rattle.insn.specs.declared.instruction.Form.TheVariants.{Alu, Load, Store, MapRef, Ja, Branch, Call, Exit}
 use Rattle.insn.specs.declared.decoding.DecodeFault.{DecodeFault}
 use Rattle.insn.specs.declared.decoding.DecodeFault.TheVariants.{NoMemory}
 use Rattle.insn.specs.declared.decoding.DecodeError.{DecodeError}
@@ -19,13 +21,29 @@ pub record Reading : Type 0 where
 abbrev pub reading : ℕ → (Fields → Form) → Reading
 reading opcode form = record { opcode = opcode; form = form }
 
--- RFC 9669, sections 4.1 and 4.3: the instructions of one slot that are built, but EXIT
+-- RFC 9669, sections 4.1, 4.3, 5.1: the instructions of one slot that are built, but EXIT
 abbrev pub readings : List Reading
 readings =
     reading 0x07 (λ f. Alu true Add f.dst (Imm f.imm))
     ∷ reading 0x0f (λ f. Alu true Add f.dst (Reg f.src))
     ∷ reading 0xb7 (λ f. Alu true Mov f.dst (Imm f.imm))
     ∷ reading 0xbf (λ f. Alu true Mov f.dst (Reg f.src))
+    ∷ reading 0x61 (λ f. Load Word false f.dst f.src f.offset)
+    ∷ reading 0x69 (λ f. Load Half false f.dst f.src f.offset)
+    ∷ reading 0x71 (λ f. Load Byte false f.dst f.src f.offset)
+    ∷ reading 0x79 (λ f. Load Double false f.dst f.src f.offset)
+    ∷ reading 0x62 (λ f. Store Word f.dst f.offset (Imm f.imm))
+    ∷ reading 0x6a (λ f. Store Half f.dst f.offset (Imm f.imm))
+    ∷ reading 0x72 (λ f. Store Byte f.dst f.offset (Imm f.imm))
+    ∷ reading 0x7a (λ f. Store Double f.dst f.offset (Imm f.imm))
+    ∷ reading 0x63 (λ f. Store Word f.dst f.offset (Reg f.src))
+    ∷ reading 0x6b (λ f. Store Half f.dst f.offset (Reg f.src))
+    ∷ reading 0x73 (λ f. Store Byte f.dst f.offset (Reg f.src))
+    ∷ reading 0x7b (λ f. Store Double f.dst f.offset (Reg f.src))
+    ∷ reading 0x05 (λ f. Ja false f.offset)
+    ∷ reading 0x15 (λ f. Branch true Jeq f.dst (Imm f.imm) f.offset)
+    ∷ reading 0x55 (λ f. Branch true Jne f.dst (Imm f.imm) f.offset)
+    ∷ reading 0x85 (λ f. Call f.imm)
     ∷ []
 
 -- what a slot says by its reading, and EXIT where there is none
@@ -37,10 +55,15 @@ read_by None f = Exit
 abbrev pub narrow_form : Fields → Form
 narrow_form f = read_by (find (λ r. f.opcode == r.opcode) readings) f
 
+-- RFC 9669, section 5.4: the instruction of two slots, which is a reference to a map
+abbrev pub wide_form : Fields → Fields → Form
+wide_form f g = MapRef f.dst f.imm
+
 -- the instruction that slots begin with, where no rule is broken
 abbrev pub form_of : List Fields → Form
+form_of (f ∷ g ∷ rest) = if is_wide f then wide_form f g else narrow_form f
+form_of (f ∷ []) = narrow_form f
 form_of [] = Exit
-form_of (f ∷ rest) = narrow_form f
 
 -- the first fault, or else this form
 abbrev pub unless_fault : Option DecodeFault → Form → Result Form DecodeFault

@@ -34,7 +34,30 @@ row opcodes dst src offset imm = record { opcodes = opcodes; dst = dst; src = sr
 -- The opcodes that are built, and the values of fields that are built in part. This is the one place that says so: once
 -- every opcode is built, `built_opcodes` and its mention in `row_of` go, and no other text changes.
 abbrev pub built_opcodes : List ℕ
-built_opcodes = 0x07 ∷ 0x0f ∷ 0xb7 ∷ 0xbf ∷ 0x95 ∷ []
+built_opcodes =
+    0x07
+    ∷ 0x0f
+    ∷ 0xb7
+    ∷ 0xbf
+    ∷ 0x61
+    ∷ 0x69
+    ∷ 0x71
+    ∷ 0x79
+    ∷ 0x62
+    ∷ 0x6a
+    ∷ 0x72
+    ∷ 0x7a
+    ∷ 0x63
+    ∷ 0x6b
+    ∷ 0x73
+    ∷ 0x7b
+    ∷ 0x18
+    ∷ 0x05
+    ∷ 0x15
+    ∷ 0x55
+    ∷ 0x85
+    ∷ 0x95
+    ∷ []
 
 -- the offset of MOV from a register: 0; and 8, 16, or 32 at 64 bits alone, once MOVSX is built
 abbrev pub mov_offsets : List ℤ
@@ -42,6 +65,10 @@ mov_offsets = pos 0 ∷ []
 
 abbrev pub mov64_offsets : List ℤ
 mov64_offsets = pos 0 ∷ []
+
+-- the src of the wide opcode: 5, a reference to a map; and 0 once 64-bit immediates are built
+abbrev pub wide_sources : List ℤ
+wide_sources = pos 5 ∷ []
 
 -- every opcode of the profile, and the fields that it has in use
 abbrev pub table : List Row
@@ -66,7 +93,7 @@ table =
     ∷ row (0x62 ∷ 0x6a ∷ 0x72 ∷ 0x7a ∷ []) AnyValue Unused AnyValue AnyValue
     ∷ row (0x63 ∷ 0x6b ∷ 0x73 ∷ 0x7b ∷ []) AnyValue AnyValue AnyValue Unused
     -- RFC 9669, section 5.4: a 64-bit immediate where src is 0, and a map where it is 5
-    ∷ row (0x18 ∷ []) AnyValue (OneOf (pos 0 ∷ pos 5 ∷ [])) Unused AnyValue
+    ∷ row (0x18 ∷ []) AnyValue (OneOf wide_sources) Unused AnyValue
     -- RFC 9669, section 4.3: JA by the offset, and by imm
     ∷ row (0x05 ∷ []) Unused Unused AnyValue Unused
     ∷ row (0x06 ∷ []) Unused Unused Unused AnyValue
@@ -123,9 +150,16 @@ breaks CutOff (f ∷ []) = is_wide f
 breaks BadSecondHalf (f ∷ g ∷ rest) = is_wide f && is_bad_half f g
 breaks _ _ = false
 
--- the first such reason, by number
+-- the reasons that stand in the first slot, and those that stand in the second of a wide instruction, by number
+abbrev pub first_slot_faults : List DecodeFault
+first_slot_faults = UnknownOpcode ∷ RegisterAbove10 ∷ UndefinedValue ∷ UnusedFieldSet ∷ []
+
+abbrev pub second_slot_faults : List DecodeFault
+second_slot_faults = CutOff ∷ BadSecondHalf ∷ []
+
+-- the first reason, by number
 abbrev pub first_fault : List Fields → Option DecodeFault
-first_fault slots = find (λ d. breaks d slots) (UnknownOpcode ∷ RegisterAbove10 ∷ UndefinedValue ∷ UnusedFieldSet ∷ CutOff ∷ BadSecondHalf ∷ [])
+first_fault slots = find (λ d. breaks d slots) (first_slot_faults ++ second_slot_faults)
 
 -- the number that a refusal shows
 abbrev pub fault_number : DecodeFault → ℕ

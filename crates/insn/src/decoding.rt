@@ -71,7 +71,9 @@ impl DecodeFault {
 #[derive(Clone, Copy, PartialEq, Eq, Debug, Error)]
 #[error("slot {slot}: {why}")]
 pub struct DecodeError {
+    /// The slot, from 0.
     pub slot: u32,
+    /// What is wrong there.
     pub why: DecodeFault,
 }
 

@@ -5,9 +5,10 @@ ghost use Rattle.std.specs.List.{flat_map, AllByRecursion};
 ghost use Rattle.insn.specs.declared.instruction.Form.{Form};
 ghost use Rattle.insn.specs.Layout.{size};
 ghost use Rattle.insn.specs.Refusal.{Decodes};
-ghost use Rattle.insn.specs.Encoding.{slot, slot_with, slots, slot_bytes, program_bytes, IsInstruction};
+ghost use Rattle.insn.specs.Encoding.{slots, slot_bytes, program_bytes, HasEncoding, IsInstruction};
 
-use crate::instruction::{Fields, Form, Insn, Operation, Source};
+use crate::instruction::{Fields, Form, Insn};
+use crate::spelling::slots_of;
 use byteorder::{ByteOrder, LittleEndian};
 use std::alloc::{AllocError, Global};
 
@@ -33,50 +34,14 @@ pub fn encode_inverts_decode()
 
 // Adds the bytes of an instruction.
 fn push_form(bytes: &mut Vec<u8>, form: Form) -> Result<(), AllocError>
-    requires { IsInstruction form }
+    requires { HasEncoding form }
     ensures { OnOk result (bytes.new.items ≡ bytes.old.items ++ flat_map slot_bytes (slots form)) }
 {
-    push_slot(bytes, narrow_slot(form))
-}
-
-// The slot of an instruction that has one.
-fn narrow_slot(form: Form) -> Fields
-    requires { IsInstruction form }
-    ensures only { slots form ≡ result ∷ [] }
-    ensures fit { (result.dst < 16) × (result.src < 16) }
-{
-    match form {
-        Form::Alu {
-            op: Operation::Add,
-            dst,
-            src,
-            ..
-        } => slot_with(0x07, dst, src, 0),
-        Form::Alu { dst, src, .. } => slot_with(0xb7, dst, src, 0),
-        _ => slot(0x95, 0, 0, 0, 0),
-    }
-}
-
-fn slot(opcode: u8, dst: u8, src: u8, offset: i16, imm: i32) -> Fields
-    ensures { result ≡ slot opcode dst src offset imm }
-{
-    Fields {
-        opcode,
-        dst,
-        src,
-        offset,
-        imm,
-    }
-}
-
-// The slot with this second operand: an immediate, or a register, which adds 8 to the opcode.
-fn slot_with(opcode: u8, dst: u8, source: Source, offset: i16) -> Fields
-    requires { opcode < 248 }
-    ensures { result ≡ slot_with opcode dst source offset }
-{
-    match source {
-        Source::Reg(src) => slot(opcode + 8, dst, src, offset, 0),
-        Source::Imm(imm) => slot(opcode, dst, 0, offset, imm),
+    let (first, second) = slots_of(form);
+    push_slot(bytes, first)?;
+    match second {
+        Some(second) => push_slot(bytes, second),
+        None => Ok(()),
     }
 }
 

@@ -8,6 +8,7 @@ mod decoding;
 mod encoding;
 mod instruction;
 mod reading;
+mod spelling;
 #[cfg(test)]
 mod tests;
 

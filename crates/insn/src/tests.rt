@@ -1,9 +1,46 @@
-use crate::{DecodeError, DecodeFault, Form, Insn, Operation, Source, decode, encode};
-use std::alloc::Global;
+use crate::{Condition, DecodeError, DecodeFault, Form, Insn, Operation, Source, decode, encode};
+use std::alloc::{AllocError, Global};
 use std::test::Fail;
 
-// `mov64 r0, 5` and `exit`.
-const FIVE: [u8; 16] = [0xb7, 0, 0, 0, 5, 0, 0, 0, 0x95, 0, 0, 0, 0, 0, 0, 0];
+// `mov64 r0, 5` and `exit`; a slot is written as its bytes stand.
+const FIVE: [u64; 2] = [0xb700000005000000, 0x9500000000000000];
+
+// Counts up the value of a key in map 0, with a wide instruction in slots 1 and 2.
+const BUMP: [u64; 12] = [
+    0xbf12000000000000,
+    0x1851000000000000,
+    0x0000000000000000,
+    0x8500000001000000,
+    0x1500050000000000,
+    0x7906000000000000,
+    0x0706000001000000,
+    0x7b60000000000000,
+    0xbf60000000000000,
+    0x9500000000000000,
+    0xb7000000ffffffff,
+    0x9500000000000000,
+];
+
+// Reads the value of a key in map 0.
+const PEEK: [u64; 9] = [
+    0xbf12000000000000,
+    0x1851000000000000,
+    0x0000000000000000,
+    0x8500000001000000,
+    0x1500020000000000,
+    0x7900000000000000,
+    0x9500000000000000,
+    0xb7000000ffffffff,
+    0x9500000000000000,
+];
+
+fn bytes_of(alloc: Global, slots: &[u64]) -> Result<Vec<u8>, AllocError> {
+    let mut bytes = Vec::new(alloc);
+    for slot in slots {
+        bytes.extend_from_slice(&slot.to_be_bytes())?;
+    }
+    Ok(bytes)
+}
 
 // The slot and the number of a refusal; a program is slot 999, number 99.
 fn refusal(alloc: Global, bytes: &[u8]) -> (u32, u8) {
@@ -16,7 +53,8 @@ fn refusal(alloc: Global, bytes: &[u8]) -> (u32, u8) {
 #[test]
 fn reads_and_writes_five(rt: HostRuntime) -> Result<(), Fail> {
     let alloc = rt.alloc();
-    let program = decode(alloc, &FIVE)?;
+    let bytes = bytes_of(alloc, &FIVE)?;
+    let program = decode(alloc, &bytes)?;
     let mov = Form::Alu {
         w64: true,
         op: Operation::Mov,
@@ -26,10 +64,40 @@ fn reads_and_writes_five(rt: HostRuntime) -> Result<(), Fail> {
     assert_eq!(rt; program.len(), 2);
     assert_eq!(rt; program[0].form(), mov);
     assert_eq!(rt; program[1].form(), Form::Exit);
-    assert_eq!(rt; program[0].slot_count(), 1);
     assert_eq!(rt; Insn::new(mov), Some(program[0]));
-    let bytes = encode(alloc, &program)?;
-    assert_eq!(rt; bytes.as_slice(), &FIVE[..]);
+    Ok(())
+}
+
+#[test]
+fn writes_back_what_was_read(rt: HostRuntime) -> Result<(), Fail> {
+    let alloc = rt.alloc();
+    for (slots, count) in [(&FIVE[..], 2), (&BUMP[..], 11), (&PEEK[..], 8)] {
+        let bytes = bytes_of(alloc, slots)?;
+        let program = decode(alloc, &bytes)?;
+        assert_eq!(rt; program.len(), count);
+        assert!(rt; encode(alloc, &program)?.as_slice() == bytes.as_slice());
+    }
+    Ok(())
+}
+
+#[test]
+fn reads_a_wide_instruction_and_a_branch(rt: HostRuntime) -> Result<(), Fail> {
+    let alloc = rt.alloc();
+    let bytes = bytes_of(alloc, &BUMP)?;
+    let program = decode(alloc, &bytes)?;
+    assert_eq!(rt; program.len(), 11);
+    assert_eq!(rt; program[1].form(), Form::MapRef { dst: 1, index: 0 });
+    assert_eq!(rt; program[1].slot_count(), 2);
+    assert_eq!(rt; program[2].form(), Form::Call { id: 1 });
+    let branch = Form::Branch {
+        w64: true,
+        cond: Condition::Jeq,
+        dst: 0,
+        src: Source::Imm(0),
+        off: 5,
+    };
+    assert_eq!(rt; program[3].form(), branch);
+    assert_eq!(rt; program[3].slot_count(), 1);
     Ok(())
 }
 
@@ -38,14 +106,13 @@ fn reads_4096_slots(rt: HostRuntime) -> Result<(), Fail> {
     let alloc = rt.alloc();
     let mut bytes = Vec::new(alloc);
     for _ in 0..4095 {
-        bytes.extend_from_slice(&FIVE[..8])?;
+        bytes.extend_from_slice(&FIVE[0].to_be_bytes())?;
     }
-    bytes.extend_from_slice(&FIVE[8..])?;
+    bytes.extend_from_slice(&FIVE[1].to_be_bytes())?;
     let program = decode(alloc, &bytes)?;
     assert_eq!(rt; program.len(), 4096);
-    let again = encode(alloc, &program)?;
-    assert!(rt; again.as_slice() == bytes.as_slice());
-    bytes.extend_from_slice(&FIVE[8..])?;
+    assert!(rt; encode(alloc, &program)?.as_slice() == bytes.as_slice());
+    bytes.extend_from_slice(&FIVE[1].to_be_bytes())?;
     assert_eq!(rt; refusal(alloc, &bytes), (0, 3));
     Ok(())
 }
@@ -61,30 +128,41 @@ fn makes_instructions_that_have_bytes(rt: HostRuntime) {
     assert!(rt; Insn::new(add(10, Source::Reg(10))).is_some());
     assert!(rt; Insn::new(add(11, Source::Imm(0))).is_none());
     assert!(rt; Insn::new(add(0, Source::Reg(11))).is_none());
+    let ja = |by| Form::Ja { long: false, by };
+    assert!(rt; Insn::new(ja(-32768)).is_some());
+    assert!(rt; Insn::new(ja(32768)).is_none());
 }
 
 #[test]
-fn refuses_lengths(rt: HostRuntime) {
-    assert_eq!(rt; refusal(rt.alloc(), &[]), (0, 2));
-    assert_eq!(rt; refusal(rt.alloc(), &[0; 7]), (0, 1));
+fn refuses_lengths(rt: HostRuntime) -> Result<(), Fail> {
+    let alloc = rt.alloc();
+    assert_eq!(rt; refusal(alloc, &[]), (0, 2));
+    assert_eq!(rt; refusal(alloc, &[0; 7]), (0, 1));
+    // A program cut off within its wide instruction.
+    let bytes = bytes_of(alloc, &BUMP[..2])?;
+    assert_eq!(rt; refusal(alloc, &bytes), (1, 8));
+    Ok(())
 }
 
 #[test]
 fn refuses_the_first_slot_and_the_second(rt: HostRuntime) -> Result<(), Fail> {
     let alloc = rt.alloc();
-    // 0x18 is no opcode that is built: its second slot isn't asked for yet.
-    for (slot, number) in [
-        ([0x18, 0, 0, 0, 0, 0, 0, 0], 4),
-        ([0x0d, 0, 0, 0, 0, 0, 0, 0], 4),
-        ([0xb7, 0x0b, 0, 0, 0, 0, 0, 0], 5),
-        ([0x95, 0xb0, 0, 0, 0, 0, 0, 0], 5),
-        ([0xbf, 0, 0x08, 0, 0, 0, 0, 0], 6),
-        ([0x07, 0x01, 0x01, 0, 0, 0, 0, 0], 7),
+    for (slots, number) in [
+        ([0x0d00000000000000, FIVE[1]], 4),
+        ([0xb70b000000000000, FIVE[1]], 5),
+        ([0x95b0000000000000, FIVE[1]], 5),
+        ([0xbf00080000000000, FIVE[1]], 6),
+        // A 64-bit immediate is not built: src 0 of 0x18 is not defined yet.
+        ([0x1800000000000000, FIVE[1]], 6),
+        ([0x8510000001000000, FIVE[1]], 6),
+        ([0x0701010000000000, FIVE[1]], 7),
+        ([0x6110000001000000, FIVE[1]], 7),
+        ([0x1851000000000000, 0x0000000001000000], 9),
     ] {
-        assert_eq!(rt; refusal(alloc, &slot), (0, number));
-        let mut bytes = Vec::from_slice(alloc, &FIVE[..8])?;
-        bytes.extend_from_slice(&slot)?;
-        assert_eq!(rt; refusal(alloc, &bytes), (1, number));
+        let bytes = bytes_of(alloc, &slots)?;
+        assert_eq!(rt; refusal(alloc, &bytes), (0, number));
+        let behind = bytes_of(alloc, &[FIVE[0], slots[0], slots[1]])?;
+        assert_eq!(rt; refusal(alloc, &behind), (1, number));
     }
     Ok(())
 }

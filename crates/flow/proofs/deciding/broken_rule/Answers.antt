@@ -1,4 +1,4 @@
-use Rattle.std.proofs.Common.{◌≡◌, ◌&&◌, not, cond, Some, None, sym, ◌∙◌, ap}
+use Rattle.std.proofs.Common.{◌&&◌, not, cond, Some, None, sym, ◌∙◌, ap}
 use Rattle.std.specs.Prelude.{nat_eq}
 use Rattle.insn.specs.Layout.{falls_through}
 use Rattle.flow.specs.declared.rules.StructureRule.TheVariants.{Unreachable}

@@ -1,11 +1,9 @@
-use Rattle.std.proofs.Common.{◌≡◌, ℕ, ◌+◌, ◌<◌, ◌≤◌, length, get_or, take, true, false, Some, None, refl, sym, ap, ◌∙◌, subst, arith}
+use Rattle.std.proofs.Common.{◌≡◌, ◌+◌, get_or, Some, refl, sym, ap, ◌∙◌, subst, arith}
 use Rattle.std.specs.Prelude.{nat_eq, ◌||◌}
-use Rattle.insn.specs.Layout.{size, slot_count}
+use Rattle.insn.specs.Layout.{slot_count}
 use Rattle.flow.specs.Faults.{is_reached_from, reached_slots, leads_to, lowest_fault, fault}
-use Rattle.flow.specs.SlotSets.{has_slot}
-use Rattle.flow.proofs.Steps.{widths}
 use Rattle.flow.proofs.Forward.{width_some}
-use Rattle.flow.proofs.Positions.{Placed, placed, size_next}
+use Rattle.flow.proofs.Positions.{placed, size_next}
 use Rattle.flow.proofs.Pass.{as_found, lowest_next, reached_next, reached_here, fault_here, targets_within}
 use Rattle.flow.proofs.deciding.check_each.Goals as goal
 
@@ -65,13 +63,13 @@ overflow_add-next c =
     let i = c.form-form.result in
     let is = subst (λ j. j ≡ get_or p k j) (sym c.form-form.ensures.same) c.insn-item.is in
     let at = placed p k s i c.loop-insn-test.true is c.loop-insn.invariant.counted in
-    omega (arith, at.within, widths c.insn-item.result, ap slot_count c.form-form.ensures.same)
+    omega (arith, at.within, ap slot_count c.form-form.ensures.same)
 
 pub broken_rule-requires-clause-next : goal.broken_rule-requires-clause-next
-broken_rule-requires-clause-next c = omega (arith, widths c.insn-item.result, ap slot_count c.form-form.ensures.same)
+broken_rule-requires-clause-next c = omega (arith, ap slot_count c.form-form.ensures.same)
 
 pub insert_targets-requires-clause-next : goal.insert_targets-requires-clause-next
-insert_targets-requires-clause-next c = omega (arith, widths c.insn-item.result, ap slot_count c.form-form.ensures.same)
+insert_targets-requires-clause-next c = omega (arith, ap slot_count c.form-form.ensures.same)
 
 pub insert_targets-requires-clause-within : goal.insert_targets-requires-clause-within
 insert_targets-requires-clause-within c = λ t leads.
@@ -108,7 +106,7 @@ loop-insn-preserved c =
     let at = placed p k s i c.loop-insn-test.true is c.loop-insn.invariant.counted in
     let found = as_found p i s c.args.end c.second_halves-halves.result c.contains.result c.requires.sized c.second_halves-halves.ensures (c.contains.ensures ∙ c.loop-insn.invariant.reached s) in
     let none = sym found ∙ sym c.broken_rule.ensures ∙ c.in_default.is in
-    let next : s + c.slot_count.result ≡ s + slot_count i = omega (arith, widths c.insn-item.result, ap slot_count c.form-form.ensures.same) in
+    let next : s + c.slot_count.result ≡ s + slot_count i = omega (arith, ap slot_count c.form-form.ensures.same) in
     record {
       counted = omega (arith, next, size_next p k i c.loop-insn-test.true is);
       reached = λ t.
