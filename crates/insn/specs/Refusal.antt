@@ -92,7 +92,7 @@ table =
     -- RFC 9669, section 5.1: stores of an immediate, and of a register
     ∷ row (0x62 ∷ 0x6a ∷ 0x72 ∷ 0x7a ∷ []) AnyValue Unused AnyValue AnyValue
     ∷ row (0x63 ∷ 0x6b ∷ 0x73 ∷ 0x7b ∷ []) AnyValue AnyValue AnyValue Unused
-    -- RFC 9669, section 5.4: a 64-bit immediate where src is 0, and a map where it is 5
+    -- RFC 9669, section 5.4: a 64-bit immediate where src is 0, and map_by_idx, the map of an index, where it is 5
     ∷ row (0x18 ∷ []) AnyValue (OneOf wide_sources) Unused AnyValue
     -- RFC 9669, section 4.3: JA by the offset, and by imm
     ∷ row (0x05 ∷ []) Unused Unused AnyValue Unused

@@ -1,7 +1,6 @@
 pub mod Lists
 pub mod Slots
 pub mod Broken
-pub mod Ranges
 pub mod Immediates
 pub mod Monotone
 pub mod Progress

@@ -10,7 +10,7 @@ use Rattle.verifier.specs.declared.refusal.VerifyFault.TheVariants.{NoMemory}
 use Rattle.verifier.specs.declared.refusal.Refused.{Refused}
 use Rattle.verifier.specs.Signature.{Signature}
 use Rattle.verifier.specs.Rules.{first_broken}
-use Rattle.verifier.specs.Typing.{structure_reason}
+use Rattle.verifier.specs.Typing.{structure_reason, IsNoMemory}
 use Rattle.verifier.specs.Joined.{joined_frame}
 
 abbrev pub refused : ℕ → VerifyFault → Refused
@@ -42,7 +42,7 @@ verdict p l = after_structure (structure_fault p) (lowest_refusal p l (size p))
 
 -- want of memory says nothing of the program, and names no slot; any other refusal is the verdict
 abbrev pub fails_by : VerifyFault → Refused → Option Refused → Type 0
-fails_by NoMemory e read = e ≡ refused 0 NoMemory
+fails_by NoMemory e read = IsNoMemory e
 fails_by why e read = read ≡ Some e
 
 abbrev pub VerifyFails : Refused → Option Refused → Type 0

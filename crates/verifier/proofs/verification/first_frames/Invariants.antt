@@ -2,5 +2,5 @@ use Rattle.std.proofs.Common.{◌≡◌, None}
 use Rattle.std.specs.Prelude.{replicate}
 use Rattle.verifier.proofs.verification.first_frames.Given as goal
 
-abbrev pub invariant-loop-n : goal.invariant-loop-n
-invariant-loop-n l = l.frames.items ≡ replicate l.n None
+abbrev pub invariant-loop-slot : goal.invariant-loop-slot
+invariant-loop-slot l = l.frames.items ≡ replicate l._slot None

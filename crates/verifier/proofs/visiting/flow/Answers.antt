@@ -1,7 +1,7 @@
 use Rattle.std.proofs.Common.{◌<◌, length, arith, sym, subst, refl}
 use Rattle.std.proofs.lemmas.Option.{slice_get_read}
 use Rattle.verifier.specs.Pass.{Meets}
-use Rattle.verifier.proofs.verification.flow.Goals as goal
+use Rattle.verifier.proofs.visiting.flow.Goals as goal
 
 pub returns : goal.returns
 returns c =

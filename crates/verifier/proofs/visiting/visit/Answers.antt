@@ -2,7 +2,7 @@ use Rattle.std.proofs.Common.{arith, sym, ◌∙◌, inl, inr}
 use Rattle.insn.specs.Layout.{Fall}
 use Rattle.verifier.specs.FrameAfter.{frame_after}
 use Rattle.verifier.proofs.Steps.{read_here, same_frame, is_there, same_length}
-use Rattle.verifier.proofs.verification.visit.Goals as goal
+use Rattle.verifier.proofs.visiting.visit.Goals as goal
 
 pub follow-requires-clause-inside : goal.follow-requires-clause-inside
 follow-requires-clause-inside c = λ t leads. c.requires.inside t (inl leads)

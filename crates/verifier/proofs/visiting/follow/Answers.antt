@@ -4,7 +4,7 @@ use Rattle.verifier.specs.FrameAfter.{edge_of}
 use Rattle.verifier.specs.Pass.{FlowsInto}
 use Rattle.verifier.proofs.Monotone.{after_frame}
 use Rattle.verifier.proofs.Steps.{goes, goes_not}
-use Rattle.verifier.proofs.verification.follow.Goals as goal
+use Rattle.verifier.proofs.visiting.follow.Goals as goal
 
 pub flow-requires-clause-inside : goal.flow-requires-clause-inside
 flow-requires-clause-inside c = c.requires.inside c.in-Some.to ((c.target.ensures c.in-Some.to).0 c.in-Some.is)
