@@ -1,0 +1,99 @@
+// Arithmetic and conditions on the 64-bit words of registers (RFC 9669, sections 4.1 to 4.3). Where a `w64` is taken, true
+// stands for the classes ALU64 and JMP, and false for ALU and JMP32, which see the low 32 bits.
+
+ghost use Rattle.std.specs.Prelude.{◌≡◌, ◌%◌, ◌^◌, ◌⊎◌};
+ghost use Rattle.insn.specs.Encoding.{MayExtend};
+ghost use Rattle.machine.specs.Arithmetic.{bits_of, alu, negated, holds};
+ghost use Rattle.machine.specs.Conversions.{sign_extended, swapped};
+
+mod narrow;
+mod wide;
+
+use insn::{Condition, Operation, Order};
+
+/// The result of an arithmetic instruction on dst and the second operand. One of 32 bits has zeros above.
+pub fn alu(w64: bool, op: Operation, a: u64, b: u64) -> u64
+    ensures { result ≡ alu op (bits_of w64) a b }
+{
+    if w64 {
+        wide::alu(op, a, b)
+    } else {
+        u64::from(narrow::alu(op, low_word(a), low_word(b)))
+    }
+}
+
+/// Whether the condition of a jump holds of dst and the second operand.
+pub fn holds(w64: bool, condition: Condition, a: u64, b: u64) -> bool
+    ensures { result ≡ holds condition (bits_of w64) a b }
+{
+    if w64 {
+        wide::holds(condition, a, b)
+    } else {
+        narrow::holds(condition, low_word(a), low_word(b))
+    }
+}
+
+/// NEG: the low bits from zero. A result of 32 bits has zeros above.
+pub fn negate(w64: bool, a: u64) -> u64
+    ensures { result ≡ negated (bits_of w64) a }
+{
+    if w64 {
+        0u64.wrapping_sub(a)
+    } else {
+        u64::from(0u32.wrapping_sub(low_word(a)))
+    }
+}
+
+/// MOVSX: the low 8, 16 or 32 bits, sign-extended to 64, or to 32 with zeros above. The same is done to the bytes that a
+/// sign-extending load reads (RFC 9669, section 5.2).
+pub fn sign_extend(w64: bool, bits: u8, n: u64) -> u64
+    requires { MayExtend w64 bits }
+    ensures { result ≡ sign_extended (bits_of w64) bits n }
+{
+    let extended = match bits {
+        8 => i64::from(low_byte(n).cast_signed()),
+        16 => i64::from(low_half(n).cast_signed()),
+        _ => i64::from(low_word(n).cast_signed()),
+    };
+    if w64 {
+        extended.cast_unsigned()
+    } else {
+        extended.cast_unsigned() % 0x1_0000_0000
+    }
+}
+
+/// The swaps: the low 16, 32 or 64 bits, as they are to little-endian and else with their bytes reversed; zeros above.
+pub fn swap(order: Order, bits: u8, n: u64) -> u64
+    requires { ((bits ≡ 16) ⊎ (bits ≡ 32)) ⊎ (bits ≡ 64) }
+    ensures { result ≡ swapped order bits n }
+{
+    match (order, bits) {
+        (Order::Little, 16) => u64::from(low_half(n)),
+        (Order::Little, 32) => u64::from(low_word(n)),
+        (Order::Little, _) => n,
+        (_, 16) => u64::from(low_half(n).swap_bytes()),
+        (_, 32) => u64::from(low_word(n).swap_bytes()),
+        (_, _) => n.swap_bytes(),
+    }
+}
+
+fn low_byte(n: u64) -> u8
+    ensures { result ≡ n % 2 ^ 8 }
+{
+    (n % 0x100) as u8
+}
+
+fn low_half(n: u64) -> u16
+    ensures { result ≡ n % 2 ^ 16 }
+{
+    (n % 0x1_0000) as u16
+}
+
+fn low_word(n: u64) -> u32
+    ensures { result ≡ n % 2 ^ 32 }
+{
+    (n % 0x1_0000_0000) as u32
+}
+
+#[cfg(test)]
+mod tests;
