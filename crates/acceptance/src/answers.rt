@@ -83,9 +83,16 @@ fn straight_programs(rt: HostRuntime) -> Result<(), Fail> {
         ("0d00000000000000", decoder(4, 0)),
         ("b70b000000000000", decoder(5, 0)),
         ("070a000001000000 9500000000000000", verifier(7, 0)),
-        ("b700000005000000 9500000000000000 9500000000000000", verifier(5, 2)),
+        (
+            "b700000005000000 9500000000000000 9500000000000000",
+            verifier(5, 2),
+        ),
     ] {
-        assert_eq!(rt; answer_to(alloc, text.as_bytes(), 4, Mode::Update), want, "{text}");
+        assert_eq!(rt;
+            answer_to(alloc, text.as_bytes(), 4, Mode::Update),
+            want,
+            "{text}"
+        );
     }
     Ok(())
 }

@@ -1,5 +1,6 @@
 pub mod Encoding
 pub mod Sizes
+pub mod Moves
 pub mod Layout
 pub mod Refusal
 pub mod Decoded

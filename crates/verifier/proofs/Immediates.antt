@@ -8,7 +8,8 @@ use Rattle.insn.specs.declared.instruction.Operation.TheVariants.{Add, Sub, Mov}
 use Rattle.insn.specs.declared.instruction.Source.TheVariants.{Imm}
 use Rattle.regkind.specs.Frames.{Frame}
 use Rattle.verifier.specs.Signature.{Signature}
-use Rattle.verifier.specs.Operands.{distance, is_mov}
+use Rattle.verifier.specs.Operands.{is_mov}
+use Rattle.insn.specs.Moves.{distance}
 use Rattle.verifier.specs.Rules.{first_broken}
 
 -- a move breaks what the addition of its distance breaks

@@ -24,7 +24,8 @@ use Rattle.verifier.specs.declared.refusal.VerifyFault.{VerifyFault}
 use Rattle.verifier.specs.declared.refusal.VerifyFault.TheVariants.{UnreadableRegister, UndefinedOperation, OutOfRegion, UninitialisedStack, UncheckedNull, HelperArgument}
 use Rattle.verifier.specs.Signature.{Signature}
 use Rattle.verifier.specs.Kinds.{is_unreadable}
-use Rattle.verifier.specs.Operands.{known_helper, call_registers, reads, copied, distance, jumps_at_null}
+use Rattle.verifier.specs.Operands.{known_helper, call_registers, reads, copied, jumps_at_null}
+use Rattle.insn.specs.Moves.{distance}
 use Rattle.verifier.specs.Regions.{is_within, lies_in, is_outside, has_unmarked, is_unmarked, Access, access, stack_index, helper_reads}
 use Rattle.verifier.specs.Rules.{breaks, first_broken, rules_in_order, has_bad_argument}
 use Rattle.verifier.specs.FrameAfter.{frame_after, shifted, result_kind, after_store, after_test, after_call, without_arguments, forgotten, forgetting}

@@ -9,7 +9,8 @@ use Rattle.regkind.specs.declared.frames.Kind.{Kind}
 use Rattle.regkind.specs.declared.frames.Kind.TheVariants.{Unreadable, Scalar, Stack, Arg, Map, Value, ValueOrNull}
 use Rattle.regkind.specs.Frames.{Frame, kind, with_kind, with_marks}
 use Rattle.maps.specs.Values.{Helper, Lookup}
-use Rattle.verifier.specs.Operands.{known_helper, copied, distance, jumps_at_null}
+use Rattle.verifier.specs.Operands.{known_helper, copied, jumps_at_null}
+use Rattle.insn.specs.Moves.{distance}
 use Rattle.verifier.specs.Regions.{stack_index}
 
 -- ---- arithmetic

@@ -1,9 +1,9 @@
 -- The operands of an instruction: the registers that it reads and writes, and the pointers that it may take for numbers.
-use Rattle.std.specs.Prelude.{ℕ, zero, Bool, true, false, ◌==◌, if◌then◌else◌, ℤ, pos, negsuc, neg_ℤ, List, [], ◌∷◌, Option, Some, None}
+use Rattle.std.specs.Prelude.{ℕ, zero, Bool, true, false, ◌==◌, if◌then◌else◌, ℤ, pos, negsuc, List, [], ◌∷◌, Option, Some, None}
 use Rattle.insn.specs.declared.instruction.Source.{Source}
 use Rattle.insn.specs.declared.instruction.Source.TheVariants.{Reg, Imm}
 use Rattle.insn.specs.declared.instruction.Operation.{Operation}
-use Rattle.insn.specs.declared.instruction.Operation.TheVariants.{Add, Sub, Mov}
+use Rattle.insn.specs.declared.instruction.Operation.TheVariants.{Mov}
 use Rattle.insn.specs.declared.instruction.Condition.{Condition}
 use Rattle.insn.specs.declared.instruction.Condition.TheVariants.{Jeq, Jne}
 use Rattle.insn.specs.declared.instruction.Form.{Form}
@@ -65,12 +65,6 @@ writes i = None
 abbrev pub copied : Bool → Operation → Source → Option ℕ
 copied true Mov (Reg r) = Some r
 copied w64 op src = None
-
--- an ADD or SUB of 64 bits with an immediate moves a pointer: how far (RFC 9669, section 4.1)
-abbrev pub distance : Bool → Operation → Source → Option ℤ
-distance true Add (Imm imm) = Some imm
-distance true Sub (Imm imm) = Some (neg_ℤ imm)
-distance w64 op src = None
 
 -- a JEQ or JNE of class JMP with 0 tests for null: whether it jumps at null (RFC 9669, section 4.3)
 abbrev pub jumps_at_null : Bool → Condition → Source → Option Bool

@@ -13,7 +13,8 @@ use Rattle.verifier.specs.declared.refusal.VerifyFault.{VerifyFault}
 use Rattle.verifier.specs.declared.refusal.VerifyFault.TheVariants.{UnreadableRegister, FramePointerWritten, UndefinedOperation, OffsetOutOfRange, OutOfRegion, UninitialisedStack, ArgumentWritten, PointerStored, UncheckedNull, HelperArgument, UnknownHelperOrMap, PointerReply, WriteInReadMode}
 use Rattle.verifier.specs.Signature.{Signature}
 use Rattle.verifier.specs.Kinds.{is_unreadable, is_pointer, is_region_pointer, is_testable, is_scalar, is_map, is_no_base, is_arg, is_value, is_value_or_null}
-use Rattle.verifier.specs.Operands.{known_helper, source_registers, reads, writes, copied, distance, jumps_at_null}
+use Rattle.verifier.specs.Operands.{known_helper, source_registers, reads, writes, copied, jumps_at_null}
+use Rattle.insn.specs.Moves.{distance}
 use Rattle.verifier.specs.Regions.{is_within, memory_read, memory_written, is_outside, is_unmarked}
 
 -- ---- what the rules ask

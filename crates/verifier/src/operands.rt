@@ -1,7 +1,8 @@
 // Where an instruction may take a pointer for a number.
 
 ghost use Rattle.std.specs.Prelude.{◌≡◌, IfSome};
-ghost use Rattle.verifier.specs.Operands.{is_mov, copied, distance, jumps_at_null};
+ghost use Rattle.verifier.specs.Operands.{is_mov, copied, jumps_at_null};
+ghost use Rattle.insn.specs.Moves.{distance};
 ghost use Rattle.verifier.specs.Regions.{IsShort};
 
 use insn::{Condition, Operation, Source};

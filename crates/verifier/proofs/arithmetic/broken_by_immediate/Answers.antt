@@ -1,7 +1,8 @@
 use Rattle.std.proofs.Common.{◌≡◌, true, false, None, ◌∙◌, rules}
 use Rattle.insn.specs.declared.instruction.Source.TheVariants.{Imm}
 use Rattle.verifier.specs.Signature.{signature}
-use Rattle.verifier.specs.Operands.{distance, is_mov}
+use Rattle.verifier.specs.Operands.{is_mov}
+use Rattle.insn.specs.Moves.{distance}
 use Rattle.verifier.proofs.Immediates.{by_making, by_computing}
 use Rattle.verifier.proofs.arithmetic.broken_by_immediate.Goals as goal
 

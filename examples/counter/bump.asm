@@ -1,0 +1,11 @@
+mov64 r2, r1
+ldmap r1, 0
+call 1
+jeq r0, 0, +5
+ldxdw r6, [r0+0]
+add64 r6, 1
+stxdw [r0+0], r6
+mov64 r0, r6
+exit
+mov64 r0, -1
+exit
