@@ -1,0 +1,35 @@
+-- What a command did, from its status: what it wrote, over what the writer held.
+use Rattle.std.specs.Prelude.{◌≡◌, ℕ, List, Option, Result, Ok, Err, ◌⊎◌}
+use Rattle.std.specs.Io.KnownBytes.{Appends, Keeps}
+use Rattle.console.specs.declared.status.Status.{Status}
+use Rattle.console.specs.declared.status.Status.TheVariants as statuses
+use Rattle.console.specs.declared.status.Verdict.TheVariants as verdicts
+use Rattle.console.specs.declared.reading.Stop.{Stop}
+use Rattle.console.specs.declared.reading.Stop.TheVariants as stops
+use Rattle.console.specs.declared.report.Reply.{Reply}
+use Rattle.console.specs.Transfer.{AppendsBeginning}
+use Rattle.console.specs.Texts.{no_memory_line}
+use Rattle.console.specs.Status.{status_of}
+use Rattle.console.specs.Answer.{Answer, not_text}
+
+-- the answer is written and its verdict is the status; or memory ran out, or a read or a write failed
+abbrev pub Reports : Option (List ℕ) → Option (List ℕ) → Status → Answer → Type 0
+Reports old new statuses.Good a = (a.verdict ≡ verdicts.Good) × Appends old new a.text
+Reports old new statuses.Refused a = (a.verdict ≡ verdicts.Refused) × Appends old new a.text
+Reports old new statuses.NoMemory a = Appends old new no_memory_line
+Reports old new statuses.CannotRead a = Keeps old new
+Reports old new statuses.CannotWrite a = AppendsBeginning old new a.text ⊎ AppendsBeginning old new no_memory_line
+
+-- the text was written and this is the status, or the write broke off
+abbrev pub Sends : Option (List ℕ) → Option (List ℕ) → Status → List ℕ → Status → Type 0
+Sends old new got text wanted = ((got ≡ wanted) × Appends old new text) ⊎ ((got ≡ statuses.CannotWrite) × AppendsBeginning old new text)
+
+abbrev pub answer_of : Reply → Answer
+answer_of r = record { text = r.text.items; verdict = r.verdict }
+
+-- what is written where this was prepared
+abbrev pub Writes : Option (List ℕ) → Option (List ℕ) → Status → Result Reply Stop → Type 0
+Writes old new got (Ok r) = Sends old new got r.text.items (status_of r.verdict)
+Writes old new got (Err stops.NotText) = Sends old new got not_text.text statuses.Refused
+Writes old new got (Err stops.NoMemory) = Sends old new got no_memory_line statuses.NoMemory
+Writes old new got (Err stops.CannotRead) = (got ≡ statuses.CannotRead) × Keeps old new

@@ -1,0 +1,41 @@
+-- What the commands write.
+use Rattle.std.specs.Prelude.{ℕ, List, [], ◌++◌, length, codes, decimal, Option, Some, None}
+use Rattle.std.specs.List.{flat_map}
+use Rattle.insn.specs.Layout.{size}
+use Rattle.insn.specs.Refusal as decoding
+use Rattle.verifier.specs.Numbers as verifying
+use Rattle.loader.specs.declared.refusals.LoadFault.{LoadFault}
+use Rattle.loader.specs.declared.refusals.LoadFault.TheVariants as faults
+use Rattle.loader.specs.declared.refusals.LoadError.{LoadError}
+use Rattle.loader.specs.CatalogueView.{Entry}
+use Rattle.loader.specs.Refusal.{fault_number}
+
+-- a program that was accepted, its slots and its instructions
+abbrev pub program_line : Entry → List ℕ
+program_line e = e.name ++ (codes " ok " ++ (decimal (size e.checked.program) ++ (codes " " ++ (decimal (length e.checked.program) ++ codes "\n"))))
+
+abbrev pub line_if_any : Option Entry → List ℕ
+line_if_any None = []
+line_if_any (Some e) = program_line e
+
+abbrev pub programs_text : List Entry → List ℕ
+programs_text es = flat_map program_line es
+
+-- where the decoder or the verifier refuses: its own number, and the slot
+abbrev pub place_text : LoadFault → List ℕ
+place_text (faults.Decode e) = codes " D" ++ (decimal (decoding.fault_number e.why) ++ (codes " slot " ++ decimal e.slot))
+place_text (faults.Verify e) = codes " V" ++ (decimal (verifying.fault_number e.why) ++ (codes " slot " ++ decimal e.slot))
+place_text why = []
+
+abbrev pub fault_text : LoadFault → List ℕ
+fault_text why = codes "C" ++ (decimal (fault_number why) ++ place_text why)
+
+-- the line of a refused manifest
+abbrev pub refusal_text : LoadError → List ℕ
+refusal_text e = codes "line " ++ (decimal e.line ++ (codes ": " ++ (fault_text e.why ++ codes "\n")))
+
+abbrev pub not_text_line : List ℕ
+not_text_line = codes "not UTF-8\n"
+
+abbrev pub no_memory_line : List ℕ
+no_memory_line = codes "no memory\n"

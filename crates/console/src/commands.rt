@@ -1,0 +1,5 @@
+// One module for each command.
+
+mod checking;
+
+pub use checking::check;

@@ -1,0 +1,38 @@
+// What a command answers, written.
+
+ghost use Rattle.console.specs.Report.{Sends, Writes};
+
+use crate::reading::Stop;
+use crate::status::{Status, Verdict, status_of};
+use crate::texts::{no_memory, not_text};
+use crate::transfer::send;
+use std::io::Write;
+
+// What a command has to write, and how it then ends.
+#[derive(Drop)]
+pub(crate) struct Reply {
+    pub text: Vec<u8>,
+    pub verdict: Verdict,
+}
+
+// Writes a text, and ends so.
+fn write_text<W: Write>(writer: &mut W, text: &[u8], status: Status) -> Status
+    ensures { Sends (W.contents writer.old) (W.contents writer.new) result text.now status }
+{
+    match send(writer, text) {
+        Ok(()) => status,
+        Err(_) => Status::CannotWrite,
+    }
+}
+
+// Writes what a command answers, whole, after all is read.
+pub(crate) fn report<W: Write>(writer: &mut W, answer: Result<Reply, Stop>) -> Status
+    ensures { Writes (W.contents writer.old) (W.contents writer.new) result answer }
+{
+    match answer {
+        Ok(reply) => write_text(writer, &reply.text, status_of(reply.verdict)),
+        Err(Stop::NotText) => write_text(writer, not_text(), Status::Refused),
+        Err(Stop::NoMemory) => write_text(writer, no_memory(), Status::NoMemory),
+        Err(Stop::CannotRead) => Status::CannotRead,
+    }
+}

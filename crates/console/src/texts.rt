@@ -1,0 +1,97 @@
+// What the commands write.
+
+ghost use Rattle.std.specs.Prelude.{◌≡◌, ◌++◌, OnOk, IfOk, decimal, slice_get};
+ghost use Rattle.console.specs.Texts.{program_line, line_if_any, programs_text, fault_text, refusal_text, not_text_line, no_memory_line};
+
+use itoa::Buffer;
+use loader::{Catalogue, LoadError, LoadFault};
+use std::alloc::{AllocError, Global};
+use verifier::Accepted;
+
+// Some file is not UTF-8.
+pub(crate) fn not_text() -> &'static [u8]
+    ensures { result.now ≡ not_text_line }
+{
+    b"not UTF-8\n"
+}
+
+// Memory ran out.
+pub(crate) fn no_memory() -> &'static [u8]
+    ensures { result.now ≡ no_memory_line }
+{
+    b"no memory\n"
+}
+
+fn put_number(out: &mut Vec<u8>, n: u64) -> Result<(), AllocError>
+    ensures { OnOk result (out.new.items ≡ out.old.items ++ decimal n) }
+{
+    let mut digits = Buffer::new();
+    out.extend_from_slice(digits.format(n).as_bytes())
+}
+
+fn put_program(out: &mut Vec<u8>, name: &str, program: &Accepted) -> Result<(), AllocError>
+    ensures { OnOk result (out.new.items ≡ out.old.items ++ program_line (record { name = name.now; checked = program.now })) }
+{
+    out.extend_from_slice(name.as_bytes())?;
+    out.extend_from_slice(b" ok ")?;
+    put_number(out, program.slots() as u64)?;
+    out.extend_from_slice(b" ")?;
+    put_number(out, program.instructions() as u64)?;
+    out.extend_from_slice(b"\n")
+}
+
+// The line of program k.
+fn put_numbered(out: &mut Vec<u8>, catalogue: &Catalogue, k: u16) -> Result<(), AllocError>
+    ensures { OnOk result (out.new.items ≡ out.old.items ++ line_if_any (slice_get catalogue.now.programs k)) }
+{
+    match (catalogue.name(k), catalogue.program(k)) {
+        (Some(name), Some(program)) => put_program(out, name, program),
+        _ => Ok(()),
+    }
+}
+
+// A line for each program: its name, its slots and its instructions.
+pub(crate) fn programs_text(alloc: Global, catalogue: &Catalogue) -> Result<Vec<u8>, AllocError>
+    ensures { IfOk result (λ v. v.items ≡ programs_text catalogue.now.programs) }
+{
+    let mut out = Vec::new(alloc);
+    for k in 0..catalogue.len() {
+        put_numbered(&mut out, catalogue, k as u16)?;
+    }
+    Ok(out)
+}
+
+fn put_fault(out: &mut Vec<u8>, why: LoadFault) -> Result<(), AllocError>
+    ensures { OnOk result (out.new.items ≡ out.old.items ++ fault_text why) }
+{
+    out.extend_from_slice(b"C")?;
+    put_number(out, why.number() as u64)?;
+    match why {
+        LoadFault::Decode(e) => {
+            out.extend_from_slice(b" D")?;
+            put_number(out, e.why.number() as u64)?;
+            out.extend_from_slice(b" slot ")?;
+            put_number(out, e.slot as u64)
+        }
+        LoadFault::Verify(e) => {
+            out.extend_from_slice(b" V")?;
+            put_number(out, e.why.number() as u64)?;
+            out.extend_from_slice(b" slot ")?;
+            put_number(out, e.slot as u64)
+        }
+        _ => Ok(()),
+    }
+}
+
+// The line of a refused manifest.
+pub(crate) fn refusal_text(alloc: Global, e: LoadError) -> Result<Vec<u8>, AllocError>
+    ensures { IfOk result (λ v. v.items ≡ refusal_text e) }
+{
+    let mut out = Vec::new(alloc);
+    out.extend_from_slice(b"line ")?;
+    put_number(&mut out, e.line as u64)?;
+    out.extend_from_slice(b": ")?;
+    put_fault(&mut out, e.why)?;
+    out.extend_from_slice(b"\n")?;
+    Ok(out)
+}

@@ -1,0 +1,12 @@
+pub mod LineLemmas
+pub mod Numbers
+pub mod Numerals
+pub mod Fields
+pub mod Spelled
+pub mod Respelled
+pub mod ShapesFit
+pub mod Steps
+pub mod LoopLemmas
+pub mod Passed
+pub mod Offered
+pub mod Outcomes

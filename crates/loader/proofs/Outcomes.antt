@@ -1,0 +1,223 @@
+-- The outcome of a manifest, from its good lines and its first bad one.
+use Rattle.std.proofs.Common.{◌≡◌, ◌⊎◌, inl, inr, ℕ, ◌+◌, ◌-◌, ◌<◌, ◌≤◌, ◌^◌, min, Bool, true, false, cond, eqb, List, [], ◌∷◌, ◌++◌, length, Result, Ok, Err, refl, sym, ap, ap₂, subst, ◌∙◌, arith}
+use Rattle.std.proofs.lemmas.Bool.{ne_eqb, eqb-true, eqb-false, cases_lt}
+use Rattle.std.proofs.Math.Nat.{min-eq_left, min-eq_right, min-le_right}
+use Rattle.std.proofs.lemmas.List.{nil_from_length, append-nil}
+use Rattle.loader.specs.declared.refusals.LoadFault.{LoadFault}
+use Rattle.loader.specs.declared.refusals.LoadFault.TheVariants as faults
+use Rattle.loader.specs.declared.refusals.LoadError.{LoadError}
+use Rattle.loader.specs.Lines.{lines_of}
+use Rattle.loader.specs.CatalogueView.{CatalogueView}
+use Rattle.loader.specs.ProgramFiles.{Files}
+use Rattle.loader.specs.Loading.{Outcome, either, next_line, after_line, after_lines, nothing_yet, loaded}
+use Rattle.loader.specs.Offers.{line_after, IsFirstBad, HasNoMap, LoadedIsOffered, RefusedIsFirstBad}
+use Rattle.loader.proofs.Passed.{Passes, offers_from}
+use Rattle.loader.proofs.Offered.{offers_to}
+
+-- the number of the line behind these, from that of the first
+abbrev pub number_behind : ℕ → List (List ℕ) → ℕ
+number_behind n [] = n
+number_behind n (l ∷ ls) = number_behind (next_line n) ls
+
+abbrev last : ℕ
+last = 2 ^ 32 - 1
+
+pub numbered : (n : ℕ) (ls : List (List ℕ)) → n ≤ last → number_behind n ls ≡ min (n + length ls) last
+numbered n [] le = sym (min-eq_left (omega (arith, le))) ∙ ap (λ m. min m last) (omega arith)
+numbered n (l ∷ ls) le =
+    let rest : number_behind (next_line n) ls ≡ min (next_line n + length ls) last = numbered (next_line n) ls (min-le_right (n + 1) last) in
+    rest ∙ one_on n (length ls) (length (l ∷ ls)) (omega arith) (cases_lt n last) le
+  where
+    one_on : (n k m : ℕ) → m ≡ k + 1 → (n < last) ⊎ (last ≤ n) → n ≤ last → min (next_line n + k) last ≡ min (n + m) last
+    one_on n k m e (inl lt) le =
+        let next : next_line n ≡ n + 1 = min-eq_left (omega (arith, lt)) in
+        ap (λ x. min x last) (omega (arith, next, e))
+    one_on n k m e (inr ge) le =
+        let next : next_line n ≡ last = min-eq_right (omega (arith, ge)) in
+        let left : min (next_line n + k) last ≡ last = min-eq_right (omega (arith, next)) in
+        let right : min (n + m) last ≡ last = min-eq_right (omega (arith, ge)) in
+        left ∙ sym right
+
+pub through : (fs : Files) (before rest : List (List ℕ)) (n : ℕ) (v w : CatalogueView) → Passes fs before v w → after_lines fs n v (before ++ rest) ≡ after_lines fs (number_behind n before) w rest
+unfolding after_lines
+through fs [] rest n v w p = ap (λ x. after_lines fs n x rest) p
+through fs (l ∷ ls) rest n v w (u, step, p) = rw step (through fs ls rest (next_line n) u w p)
+
+-- ---- a good outcome
+
+end_ok : (n : ℕ) (v c : CatalogueView) (t : Bool) → t ≡ eqb (length v.shapes) 0 → cond {A = Outcome} t (Err (record { line = n; why = faults.BadLine })) (Ok v) ≡ Ok c → (eqb (length v.shapes) 0 ≡ false) × (v ≡ c)
+end_ok n v c true is e = absurd cc
+end_ok n v c false is e = (sym is, cc)
+
+first_ok : (fs : Files) (n : ℕ) (ls : List (List ℕ)) (c : CatalogueView) (r : Result CatalogueView LoadFault)
+    → either (λ why. Err (record { line = n; why = why })) (λ after. after_lines fs (next_line n) after ls) r ≡ Ok c → (w : CatalogueView) × (r ≡ Ok w) × (after_lines fs (next_line n) w ls ≡ Ok c)
+first_ok fs n ls c (Ok w) e = (w, refl, e)
+first_ok fs n ls c (Err why) e = absurd cc
+
+pub ok_from : (fs : Files) (ls : List (List ℕ)) (n : ℕ) (v c : CatalogueView) → after_lines fs n v ls ≡ Ok c → Passes fs ls v c × (0 < length c.shapes)
+unfolding after_lines
+ok_from fs [] n v c e =
+    let end = end_ok n v c (eqb (length v.shapes) 0) refl e in
+    (end.1, subst (λ x. 0 < length x.shapes) end.1 (omega (arith, eqb-false _ _ end.0)))
+ok_from fs (l ∷ ls) n v c e =
+    let first = first_ok fs n ls c (after_line fs v l) e in
+    let rest = ok_from fs ls (next_line n) first.0 c first.2 in
+    ((first.0, first.1, rest.0), rest.1)
+
+pub ok_to : (fs : Files) (ls : List (List ℕ)) (n : ℕ) (v c : CatalogueView) → Passes fs ls v c → 0 < length c.shapes → after_lines fs n v ls ≡ Ok c
+unfolding after_lines
+ok_to fs [] n v c p some =
+    let on : eqb (length v.shapes) 0 ≡ false = ne_eqb _ _ (λ z. absurd (omega (arith, z, ap (λ x. length x.shapes) p, some))) in
+    rw on (ap Ok p)
+ok_to fs (l ∷ ls) n v c (w, step, p) some = rw step (ok_to fs ls (next_line n) w c p some)
+
+pub loaded_is_offered : LoadedIsOffered
+unfolding loaded
+loaded_is_offered text files c = (
+  λ e. let p = ok_from files (lines_of text) 1 nothing_yet c e in (offers_from files (lines_of text) c p.0, p.1),
+  λ o. ok_to files (lines_of text) 1 nothing_yet c (offers_to files (lines_of text) c o.0) o.1,
+)
+
+-- ---- a refusal
+
+pub record BadAt (fs : Files) (ls : List (List ℕ)) (n : ℕ) (v : CatalogueView) (e : LoadError) : Type 0 where
+  pub before : List (List ℕ)
+  pub line : List ℕ
+  pub rest : List (List ℕ)
+  pub split : ls ≡ before ++ line ∷ rest
+  pub so_far : CatalogueView
+  pub good : Passes fs before v so_far
+  pub bad : after_line fs so_far line ≡ Err e.why
+  pub number : e.line ≡ number_behind n before
+
+pub record NoMapAt (fs : Files) (ls : List (List ℕ)) (n : ℕ) (v : CatalogueView) (e : LoadError) : Type 0 where
+  pub so_far : CatalogueView
+  pub good : Passes fs ls v so_far
+  pub none : so_far.shapes ≡ []
+  pub why : e.why ≡ faults.BadLine
+  pub number : e.line ≡ number_behind n ls
+
+abbrev pub RefusedAt : Files → List (List ℕ) → ℕ → CatalogueView → LoadError → Type 0
+RefusedAt fs ls n v e = BadAt fs ls n v e ⊎ NoMapAt fs ls n v e
+
+end_err : (fs : Files) (n : ℕ) (v : CatalogueView) (e : LoadError) (t : Bool) → t ≡ eqb (length v.shapes) 0 → cond {A = Outcome} t (Err (record { line = n; why = faults.BadLine })) (Ok v) ≡ Err e → NoMapAt fs [] n v e
+end_err fs n v e true is h = record { so_far = v; good = refl; none = nil_from_length v.shapes (eqb-true _ _ (sym is)); why = cc; number = cc }
+end_err fs n v e false is h = absurd cc
+
+later : (fs : Files) (l : List ℕ) (ls : List (List ℕ)) (n : ℕ) (v w : CatalogueView) (e : LoadError) → after_line fs v l ≡ Ok w → RefusedAt fs ls (next_line n) w e → RefusedAt fs (l ∷ ls) n v e
+later fs l ls n v w e step (inl b) =
+    inl
+    (record {
+      before = l ∷ b.before;
+      line = b.line;
+      rest = b.rest;
+      split = ap (λ x. l ∷ x) b.split;
+      so_far = b.so_far;
+      good = (w, step, b.good);
+      bad = b.bad;
+      number = b.number;
+    })
+later fs l ls n v w e step (inr b) =
+    inr
+    (record {
+      so_far = b.so_far;
+      good = (w, step, b.good);
+      none = b.none;
+      why = b.why;
+      number = b.number;
+    })
+
+first_err : (fs : Files) (l : List ℕ) (ls : List (List ℕ)) (n : ℕ) (v : CatalogueView) (e : LoadError) (r : Result CatalogueView LoadFault) → after_line fs v l ≡ r
+    → either (λ why. Err (record { line = n; why = why })) (λ after. after_lines fs (next_line n) after ls) r ≡ Err e
+    → ((w : CatalogueView) → after_lines fs (next_line n) w ls ≡ Err e → RefusedAt fs ls (next_line n) w e) → RefusedAt fs (l ∷ ls) n v e
+first_err fs l ls n v e (Ok w) is h more = later fs l ls n v w e is (more w h)
+first_err fs l ls n v e (Err why) is h more =
+    let same : why ≡ e.why = cc in
+    inl
+    (record {
+      before = [];
+      line = l;
+      rest = ls;
+      split = refl;
+      so_far = v;
+      good = refl;
+      bad = is ∙ ap Err same;
+      number = cc;
+    })
+
+pub err_from : (fs : Files) (ls : List (List ℕ)) (n : ℕ) (v : CatalogueView) (e : LoadError) → after_lines fs n v ls ≡ Err e → RefusedAt fs ls n v e
+unfolding after_lines
+err_from fs [] n v e h = inr (end_err fs n v e (eqb (length v.shapes) 0) refl h)
+err_from fs (l ∷ ls) n v e h = first_err fs l ls n v e (after_line fs v l) refl h (λ w g. err_from fs ls (next_line n) w e g)
+
+stops_at : (fs : Files) (n : ℕ) (v : CatalogueView) (line : List ℕ) (rest : List (List ℕ)) (why : LoadFault) → after_line fs v line ≡ Err why → after_lines fs n v (line ∷ rest) ≡ Err (record { line = n; why = why })
+unfolding after_lines
+stops_at fs n v line rest why bad = rw bad refl
+
+ends_at : (fs : Files) (n : ℕ) (v : CatalogueView) → v.shapes ≡ [] → after_lines fs n v [] ≡ Err (record { line = n; why = faults.BadLine })
+unfolding after_lines
+ends_at fs n v none = rw none refl
+
+pub err_to : (fs : Files) (ls : List (List ℕ)) (n : ℕ) (v : CatalogueView) (e : LoadError) → RefusedAt fs ls n v e → after_lines fs n v ls ≡ Err e
+err_to fs ls n v e (inl b) =
+    ap (after_lines fs n v) b.split ∙ through fs b.before (b.line ∷ b.rest) n v b.so_far b.good ∙ stops_at fs (number_behind n b.before) b.so_far b.line b.rest e.why b.bad
+    ∙ ap (λ m. Err (record { line = m; why = e.why })) (sym b.number)
+err_to fs ls n v e (inr b) =
+    ap (after_lines fs n v) (sym (append-nil ls)) ∙ through fs ls [] n v b.so_far b.good ∙ ends_at fs (number_behind n ls) b.so_far b.none
+    ∙ ap₂ (λ m w. Err (record { line = m; why = w })) (sym b.number) (sym b.why)
+
+behind_one : (ls : List (List ℕ)) → number_behind 1 ls ≡ line_after (length ls)
+behind_one ls = numbered 1 ls (omega arith) ∙ ap (λ m. min m last) (omega arith)
+
+shown : (fs : Files) (ls : List (List ℕ)) (e : LoadError) → RefusedAt fs ls 1 nothing_yet e → IsFirstBad fs ls e ⊎ HasNoMap fs ls e
+shown fs ls e (inl b) =
+    inl
+    (record {
+      before = b.before;
+      line = b.line;
+      rest = b.rest;
+      split = b.split;
+      so_far = b.so_far;
+      good = offers_from fs b.before b.so_far b.good;
+      bad = b.bad;
+      number = b.number ∙ behind_one b.before;
+    })
+shown fs ls e (inr b) =
+    inr
+    (record {
+      so_far = b.so_far;
+      good = offers_from fs ls b.so_far b.good;
+      none = b.none;
+      why = b.why;
+      number = b.number ∙ behind_one ls;
+    })
+
+meant : (fs : Files) (ls : List (List ℕ)) (e : LoadError) → IsFirstBad fs ls e ⊎ HasNoMap fs ls e → RefusedAt fs ls 1 nothing_yet e
+meant fs ls e (inl b) =
+    inl
+    (record {
+      before = b.before;
+      line = b.line;
+      rest = b.rest;
+      split = b.split;
+      so_far = b.so_far;
+      good = offers_to fs b.before b.so_far b.good;
+      bad = b.bad;
+      number = b.number ∙ sym (behind_one b.before);
+    })
+meant fs ls e (inr b) =
+    inr
+    (record {
+      so_far = b.so_far;
+      good = offers_to fs ls b.so_far b.good;
+      none = b.none;
+      why = b.why;
+      number = b.number ∙ sym (behind_one ls);
+    })
+
+pub refused_is_first_bad : RefusedIsFirstBad
+unfolding loaded
+refused_is_first_bad text files e = (
+  λ h. shown files (lines_of text) e (err_from files (lines_of text) 1 nothing_yet e h),
+  λ b. err_to files (lines_of text) 1 nothing_yet e (meant files (lines_of text) e b),
+)

@@ -1,0 +1,34 @@
+-- What a store's maps are, from the limits of each and of all together.
+use Rattle.std.proofs.Common.{◌≡◌, ◌<◌, Bool, true, false, leb, ltb, List, [], ◌∷◌, ◌++◌, length, Err, refl, arith, sum_by}
+use Rattle.std.specs.List.{All, AllByRecursion}
+use Rattle.std.proofs.lemmas.List.Elements.{All-push}
+use Rattle.std.proofs.lemmas.Bool.{leb-true, and_parts}
+use Rattle.std.proofs.lemmas.List.{length_push}
+use Rattle.maps.specs.declared.shapes.Shape.{Shape}
+use Rattle.maps.specs.Shapes.{room_of, IsShapeOk, AreShapesOk}
+use Rattle.loader.specs.declared.refusals.LoadFault.TheVariants as faults
+use Rattle.loader.specs.CatalogueView.{CatalogueView}
+use Rattle.loader.specs.Loading.{are_few, with_map}
+use Rattle.loader.specs.SoFar.{IsSoFar}
+
+-- maps within their limits are what a store may have, where there are some, and few
+pub shapes_are_ok : (ss : List Shape) → 0 < length ss → All IsShapeOk ss → are_few ss ≡ true → AreShapesOk ss
+shapes_are_ok ss some within few =
+    let both = and_parts (leb (length ss) 16) (leb (sum_by room_of ss) 16777216) few in
+    record { many = (omega (arith, some), leb-true _ _ both.0); each = within; room = leb-true _ _ both.1 }
+
+pub all_push : {X : Type 0} (P : X → Type 0) (xs : List X) (y : X) → AllByRecursion P xs → P y → AllByRecursion P (xs ++ y ∷ [])
+all_push P [] y h p = (p, tt)
+all_push P (x ∷ xs) y h p = (h.0, all_push P xs y h.1 p)
+
+by_bool : (b : Bool) → (b ≡ true → ⊥) → b ≡ false
+by_bool true h = absurd (h refl)
+by_bool false h = refl
+
+-- a map that goes past the limits
+pub too_many : (v : CatalogueView) (s : Shape) → ltb 0 (length v.programs) ≡ false → IsSoFar v → IsShapeOk s → (AreShapesOk (v.shapes ++ s ∷ []) → ⊥) → with_map v s ≡ Err faults.TooMany
+unfolding with_map
+too_many v s none so_far within bad =
+    let some : 0 < length (v.shapes ++ s ∷ []) = omega (arith, length_push v.shapes s) in
+    let off : are_few (v.shapes ++ s ∷ []) ≡ false = by_bool _ (λ few. bad (shapes_are_ok _ some (All-push IsShapeOk v.shapes s so_far.within within) few)) in
+    rw (none, off) refl

@@ -1,0 +1,103 @@
+-- What a line means is how it is spelled.
+use Rattle.std.proofs.Common.{◌≡◌, ◌⊎◌, inl, inr, ℕ, ◌≤◌, Bool, true, false, cond, eqb, ltb, leb, ◌&&◌, ◌||◌, List, [], ◌∷◌, ◌++◌, length, get_or, codes, bytes_eq, decimal, Some, None, refl, sym, ap, ap₂, subst, ◌∙◌, arith}
+use Rattle.std.proofs.lemmas.Bool.{ltb-false, leb-true, and_parts, or_cases, eqb-true}
+use Rattle.std.proofs.lemmas.Slice.Eq.{bytes_eq-Decides}
+use Rattle.maps.specs.declared.shapes.Shape.TheVariants.{Array}
+use Rattle.verifier.specs.declared.refusal.Mode.{Mode}
+use Rattle.verifier.specs.declared.refusal.Mode.TheVariants.{Update, Read}
+use Rattle.loader.specs.Lines.{split_at_space}
+use Rattle.loader.specs.Words.{number_of, number_within, is_name, is_path}
+use Rattle.loader.specs.Grammar.{Meaning, Comment, Map, Program, array_meaning, map_meaning, mode_of, program_meaning, words_meaning, line_meaning}
+use Rattle.loader.specs.Spelling.{IsFrom, mode_word, Spells}
+use Rattle.loader.proofs.Numerals.{numerals_are_decimals}
+use Rattle.loader.proofs.Fields.{steps, where_true, if_true, unless, split_from}
+
+within : (low high : ℕ) (t : List ℕ) (n : ℕ) → number_within low high t ≡ Some n → (t ≡ decimal n) × IsFrom low high n
+unfolding number_within
+within low high t n e =
+    let read = steps (number_of t) _ n e in
+    let parts = where_true (leb low read.0 && leb read.0 high) read.0 n read.2 in
+    let both = and_parts (leb low read.0) (leb read.0 high) parts.0 in
+    let dec = (numerals_are_decimals t read.0).0 read.1 in
+    (dec.0 ∙ ap decimal parts.1, (rw (← parts.1) (leb-true _ _ both.0), rw (← parts.1) (leb-true _ _ both.1)))
+
+array_from : (t : List ℕ) (x : Meaning) → array_meaning t ≡ Some x → Spells x (codes "map array " ++ t)
+unfolding array_meaning
+array_from t x e =
+    let value = steps (split_at_space t) _ x e in
+    let size = steps (number_within 1 256 value.0.0) _ x value.2 in
+    let entries = steps (number_within 1 65536 value.0.1) _ x size.2 in
+    let is : Map (Array size.0 entries.0) ≡ x = cc in
+    let v = within 1 256 value.0.0 size.0 size.1 in
+    let n = within 1 65536 value.0.1 entries.0 entries.1 in
+    let whole : t ≡ decimal size.0 ++ 32 ∷ decimal entries.0 = split_from t value.0 value.1 ∙ ap₂ (λ a b. a ++ 32 ∷ b) v.0 n.0 in
+    subst (λ y. Spells y (codes "map array " ++ t)) is (ap (λ u. codes "map array " ++ u) whole, v.1, n.1)
+
+word_is : (w : List ℕ) (word : List ℕ) → bytes_eq w word ≡ true → w ≡ word
+word_is w word e = (bytes_eq-Decides w word).0 e
+
+map_from : (t : List ℕ) (x : Meaning) → map_meaning t ≡ Some x → Spells x (codes "map " ++ t)
+unfolding map_meaning
+map_from t x e =
+    let kind = steps (split_at_space t) _ x e in
+    let is = if_true (bytes_eq kind.0.0 (codes "array")) (array_meaning kind.0.1) x kind.2 in
+    let whole : t ≡ codes "array" ++ 32 ∷ kind.0.1 = split_from t kind.0 kind.1 ∙ ap (λ w. w ++ 32 ∷ kind.0.1) (word_is _ _ is.0) in
+    subst (λ u. Spells x (codes "map " ++ u)) (sym whole) (array_from kind.0.1 x is.1)
+
+mode_from : (w : List ℕ) (m : Mode) → mode_of w ≡ Some m → w ≡ mode_word m
+mode_from w m e = by_word (bytes_eq w (codes "update")) (bytes_eq w (codes "read")) m e (word_is w (codes "update")) (word_is w (codes "read"))
+  where
+    by_word : (u r : Bool) (m : Mode) → cond u (Some Update) (cond r (Some Read) None) ≡ Some m → (u ≡ true → w ≡ codes "update") → (r ≡ true → w ≡ codes "read") → w ≡ mode_word m
+    by_word true r Update e f g = f refl
+    by_word true r Read e f g = absurd cc
+    by_word false true Update e f g = absurd cc
+    by_word false true Read e f g = g refl
+    by_word false false m e f g = absurd cc
+
+program_from : (t : List ℕ) (x : Meaning) → program_meaning t ≡ Some x → Spells x (codes "program " ++ t)
+unfolding program_meaning
+program_from t x e =
+    let name = steps (split_at_space t) _ x e in
+    let mode = steps (split_at_space name.0.1) _ x name.2 in
+    let len = steps (split_at_space mode.0.1) _ x mode.2 in
+    let m = steps (mode_of mode.0.0) _ x len.2 in
+    let n = steps (number_within 0 64 len.0.0) _ x m.2 in
+    let last = where_true (is_name name.0.0 && is_path len.0.1) (Program (record { name = name.0.0; mode = m.0; arg_len = n.0; file = len.0.1 })) x n.2 in
+    let good = and_parts (is_name name.0.0) (is_path len.0.1) last.0 in
+    let number = within 0 64 len.0.0 n.0 n.1 in
+    let third : mode.0.1 ≡ decimal n.0 ++ 32 ∷ len.0.1 = split_from mode.0.1 len.0 len.1 ∙ ap (λ w. w ++ 32 ∷ len.0.1) number.0 in
+    let second : name.0.1 ≡ mode_word m.0 ++ 32 ∷ (decimal n.0 ++ 32 ∷ len.0.1) = split_from name.0.1 mode.0 mode.1 ∙ ap₂ (λ a b. a ++ 32 ∷ b) (mode_from mode.0.0 m.0 m.1) third in
+    let whole : t ≡ name.0.0 ++ 32 ∷ (mode_word m.0 ++ 32 ∷ (decimal n.0 ++ 32 ∷ len.0.1)) = split_from t name.0 name.1 ∙ ap (λ b. name.0.0 ++ 32 ∷ b) second in
+    subst (λ y. Spells y (codes "program " ++ t)) last.1 (ap (λ u. codes "program " ++ u) whole, good.0, number.1.1, good.1)
+
+words_from : (t : List ℕ) (x : Meaning) → words_meaning t ≡ Some x → Spells x t
+unfolding words_meaning
+words_from t x e =
+    let first = steps (split_at_space t) _ x e in
+    by_word first.0.0 first.0.1 (bytes_eq first.0.0 (codes "map")) (bytes_eq first.0.0 (codes "program")) first.2 (word_is _ _) (word_is _ _) (split_from t first.0 first.1)
+  where
+    by_word : (w r : List ℕ) (m p : Bool) → cond m (map_meaning r) (cond p (program_meaning r) None) ≡ Some x → (m ≡ true → w ≡ codes "map") → (p ≡ true → w ≡ codes "program") → t ≡ w ++ 32 ∷ r → Spells x t
+    by_word w r true p e f g whole = subst (λ u. Spells x u) (sym (whole ∙ ap (λ u. u ++ 32 ∷ r) (f refl))) (map_from r x e)
+    by_word w r false true e f g whole = subst (λ u. Spells x u) (sym (whole ∙ ap (λ u. u ++ 32 ∷ r) (g refl))) (program_from r x e)
+    by_word w r false false e f g whole = absurd cc
+
+comment_from : (line : List ℕ) → (eqb (length line) 0 || eqb (get_or line 0 0) 35) ≡ true → Spells Comment line
+comment_from [] h = inl refl
+comment_from (c ∷ cs) h = inr (cs, ap (λ b. b ∷ cs) (is_hash (or_cases _ _ h)))
+  where
+    is_hash : ((eqb (length (c ∷ cs)) 0 ≡ true) ⊎ (eqb c 35 ≡ true)) → c ≡ 35
+    is_hash (inl e) = absurd (omega (arith, eqb-true _ _ e))
+    is_hash (inr e) = eqb-true _ _ e
+
+pub spelled : (line : List ℕ) (x : Meaning) → line_meaning line ≡ Some x → (length line ≤ 512) × Spells x line
+unfolding line_meaning
+spelled line x e =
+    let short = unless (ltb 512 (length line)) _ x e in
+    (ltb-false _ _ short.0, by_start (eqb (length line) 0 || eqb (get_or line 0 0) 35) short.1 (comment_from line))
+  where
+    by_start : (c : Bool) → cond c (Some Comment) (words_meaning line) ≡ Some x → (c ≡ true → Spells Comment line) → Spells x line
+    by_start true e f = subst (λ y. Spells y line) (inside e) (f refl)
+      where
+        inside : Some Comment ≡ Some x → Comment ≡ x
+        inside e = cc
+    by_start false e f = words_from line x e

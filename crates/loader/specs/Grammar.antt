@@ -1,0 +1,69 @@
+-- What one line of a manifest means.
+use Rattle.std.specs.Prelude.{ℕ, ◌&&◌, ◌||◌, List, length, Option, Some, None, nat_lt, ◌==◌, if◌then◌else◌, slice_index, codes, bytes_eq}
+use Rattle.maps.specs.declared.shapes.Shape.{Shape}
+use Rattle.maps.specs.declared.shapes.Shape.TheVariants as shapes
+use Rattle.verifier.specs.declared.refusal.Mode.{Mode}
+use Rattle.verifier.specs.declared.refusal.Mode.TheVariants as modes
+use Rattle.loader.specs.Lines.{split_at_space}
+use Rattle.loader.specs.Words.{◌>>=◌, number_within, is_name, is_path}
+
+-- a program: its name, whether it may change maps, how long its argument is, and where its bytes lie
+pub record ProgramLine : Type 0 where
+  pub name : List ℕ
+  pub mode : Mode
+  pub arg_len : ℕ
+  pub file : List ℕ
+
+-- a comment or an empty line, a map, or a program
+pub data Meaning : Type 0 where
+  Comment : Meaning
+  Map : Shape → Meaning
+  Program : ProgramLine → Meaning
+
+-- VALUE ENTRIES
+unfoldable pub array_meaning : List ℕ → Option Meaning
+array_meaning text = do
+  value ← split_at_space text
+  size ← number_within 1 256 value.0
+  entries ← number_within 1 65536 value.1
+  Some (Map (shapes.Array size entries))
+
+-- array VALUE ENTRIES; hash maps cannot be had yet
+unfoldable pub map_meaning : List ℕ → Option Meaning
+map_meaning text = do
+  kind ← split_at_space text
+  if bytes_eq kind.0 (codes "array") then array_meaning kind.1 else None
+
+abbrev pub mode_of : List ℕ → Option Mode
+mode_of text =
+    if bytes_eq text (codes "update") then Some modes.Update
+    else if bytes_eq text (codes "read") then Some modes.Read
+    else None
+
+-- NAME MODE ARGLEN FILE
+unfoldable pub program_meaning : List ℕ → Option Meaning
+program_meaning text = do
+  name ← split_at_space text
+  mode ← split_at_space name.1
+  len ← split_at_space mode.1
+  m ← mode_of mode.0
+  n ← number_within 0 64 len.0
+  if is_name name.0 && is_path len.1 then Some (Program (record { name = name.0; mode = m; arg_len = n; file = len.1 })) else None
+
+abbrev pub by_first_word : List ℕ → List ℕ → Option Meaning
+by_first_word first rest =
+    if bytes_eq first (codes "map") then map_meaning rest
+    else if bytes_eq first (codes "program") then program_meaning rest
+    else None
+
+unfoldable pub words_meaning : List ℕ → Option Meaning
+words_meaning line = do
+  w ← split_at_space line
+  by_first_word w.0 w.1
+
+-- a line over 512 bytes is bad whatever it holds; an empty line and one that begins with # say nothing
+unfoldable pub line_meaning : List ℕ → Option Meaning
+line_meaning line =
+    if nat_lt 512 (length line) then None
+    else if length line == 0 || slice_index line 0 == 35 then Some Comment
+    else words_meaning line

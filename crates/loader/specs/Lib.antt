@@ -1,0 +1,11 @@
+pub mod Lines
+pub mod Words
+pub mod Grammar
+pub mod Spelling
+pub mod LineShown
+pub mod CatalogueView
+pub mod ProgramFiles
+pub mod Loading
+pub mod Offers
+pub mod Refusal
+pub mod SoFar

@@ -1,0 +1,77 @@
+-- Line by line: the catalogue so far, and the first bad line.
+use Rattle.std.specs.Prelude.{ℕ, ◌+◌, ◌-◌, ◌^◌, min, Bool, ◌&&◌, ◌||◌, List, [], ◌∷◌, ◌++◌, length, Option, Some, None, Result, Ok, Err, nat_lt, nat_le, ◌==◌, if◌then◌else◌, sum_by, bytes_eq}
+use Rattle.std.specs.List.{list_any}
+use Rattle.maps.specs.declared.shapes.Shape.{Shape}
+use Rattle.maps.specs.Shapes.{room_of}
+use Rattle.loader.specs.declared.refusals.LoadFault.{LoadFault}
+use Rattle.loader.specs.declared.refusals.LoadFault.TheVariants as faults
+use Rattle.loader.specs.declared.refusals.LoadError.{LoadError}
+use Rattle.loader.specs.Lines.{lines_of}
+use Rattle.loader.specs.Grammar.{ProgramLine, Meaning, Comment, Map, Program, line_meaning}
+use Rattle.loader.specs.CatalogueView.{Entry, CatalogueView, names_of}
+use Rattle.loader.specs.ProgramFiles.{◌>>=◌, Files, entry_for}
+
+-- at most 16 maps, of at most 16,777,216 bytes together
+abbrev pub are_few : List Shape → Bool
+are_few shapes = nat_le (length shapes) 16 && nat_le (sum_by room_of shapes) 16777216
+
+-- with one more map: C1 behind a program, C5 where the maps are then too many or too large
+unfoldable pub with_map : CatalogueView → Shape → Result CatalogueView LoadFault
+with_map so_far shape =
+    if nat_lt 0 (length so_far.programs) then Err faults.BadLine
+    else if are_few (so_far.shapes ++ shape ∷ []) then Ok (record { shapes = so_far.shapes ++ shape ∷ []; programs = so_far.programs })
+    else Err faults.TooMany
+
+abbrev pub is_taken : List Entry → List ℕ → Bool
+is_taken entries name = list_any (λ n. bytes_eq n name) (names_of entries)
+
+-- C5 at a 257th program
+unfoldable pub with_entry : CatalogueView → Entry → Result CatalogueView LoadFault
+with_entry so_far entry =
+    if nat_lt (length so_far.programs) 256
+    then Ok (record { shapes = so_far.shapes; programs = so_far.programs ++ entry ∷ [] })
+    else Err faults.TooMany
+
+-- with one more program: C1 before any map or where its name is taken
+unfoldable pub with_program : Files → CatalogueView → ProgramLine → Result CatalogueView LoadFault
+with_program files so_far line =
+    if length so_far.shapes == 0 || is_taken so_far.programs line.name then Err faults.BadLine
+    else entry_for files so_far.shapes line >>= with_entry so_far
+
+abbrev pub after_meaning : Files → CatalogueView → Option Meaning → Result CatalogueView LoadFault
+after_meaning files so_far None = Err faults.BadLine
+after_meaning files so_far (Some Comment) = Ok so_far
+after_meaning files so_far (Some (Map shape)) = with_map so_far shape
+after_meaning files so_far (Some (Program line)) = with_program files so_far line
+
+-- the catalogue with one more line, or what is wrong with that line: of several faults the lowest number
+unfoldable pub after_line : Files → CatalogueView → List ℕ → Result CatalogueView LoadFault
+after_line files so_far line = after_meaning files so_far (line_meaning line)
+
+-- a line's number, from 1, as far as 32 bits go
+abbrev pub next_line : ℕ → ℕ
+next_line n = min (n + 1) (2 ^ 32 - 1)
+
+abbrev pub Outcome : Type 0
+Outcome = Result CatalogueView LoadError
+
+abbrev pub either : {Y : Type 0} → (LoadFault → Y) → (CatalogueView → Y) → Result CatalogueView LoadFault → Y
+either bad good (Ok so_far) = good so_far
+either bad good (Err why) = bad why
+
+-- a text without a map is bad at the line after its last
+abbrev pub at_the_end : ℕ → CatalogueView → Outcome
+at_the_end n so_far = if length so_far.shapes == 0 then Err (record { line = n; why = faults.BadLine }) else Ok so_far
+
+-- the catalogue that the lines from number n on leave, or the first bad line
+unfoldable pub after_lines : Files → ℕ → CatalogueView → List (List ℕ) → Outcome
+after_lines files n so_far [] = at_the_end n so_far
+after_lines files n so_far (l ∷ ls) =
+    either (λ why. Err (record { line = n; why = why })) (λ after. after_lines files (next_line n) after ls) (after_line files so_far l)
+
+abbrev pub nothing_yet : CatalogueView
+nothing_yet = record { shapes = []; programs = [] }
+
+-- the catalogue that a manifest says
+unfoldable pub loaded : List ℕ → Files → Outcome
+loaded text files = after_lines files 1 nothing_yet (lines_of text)

@@ -1,0 +1,119 @@
+// What one line of a manifest means.
+
+ghost use Rattle.std.specs.Prelude.{◌≡◌, IfSome, option_map};
+ghost use Rattle.loader.specs.Grammar.{mode_of, array_meaning, map_meaning, program_meaning, words_meaning, line_meaning};
+ghost use Rattle.loader.specs.LineShown.{meaning_of, LineFits};
+
+use crate::lines::split_at_space;
+use crate::words::{is_name, is_path, number_within};
+use maps::Shape;
+use verifier::Mode;
+
+// A program: its name, mode, argument length and file.
+#[derive(Clone, Copy, Debug, PartialEq, Eq)]
+pub(crate) struct ProgramLine<'a> {
+    pub name: &'a str,
+    pub mode: Mode,
+    pub arg_len: u8,
+    pub file: &'a str,
+}
+
+// What a line means.
+#[derive(Clone, Copy, Debug, PartialEq, Eq)]
+pub(crate) enum Line<'a> {
+    Comment,
+    Map(Shape),
+    Program(ProgramLine<'a>),
+}
+
+#[tactic(auto, unfolding(crate::specs::Grammar::array_meaning))]
+fn array_line(text: &str) -> Option<Line<'_>>
+    ensures meaning { option_map meaning_of result ≡ array_meaning text.now }
+    ensures fits { IfSome result LineFits }
+{
+    let (value, entries) = split_at_space(text)?;
+    let value = number_within(1, 256, value)?;
+    let entries = number_within(1, 65536, entries)?;
+    Some(Line::Map(Shape::Array {
+        value: value as u32,
+        entries: entries as u32,
+    }))
+}
+
+// Hash maps cannot be had yet: their one line more is `"hash"` here.
+#[tactic(auto, unfolding(crate::specs::Grammar::map_meaning))]
+fn map_line(text: &str) -> Option<Line<'_>>
+    ensures meaning { option_map meaning_of result ≡ map_meaning text.now }
+    ensures fits { IfSome result LineFits }
+{
+    let (kind, rest) = split_at_space(text)?;
+    if kind == "array" {
+        array_line(rest)
+    } else {
+        None
+    }
+}
+
+fn mode(text: &str) -> Option<Mode>
+    ensures mode { result ≡ mode_of text.now }
+{
+    if text == "update" {
+        Some(Mode::Update)
+    } else if text == "read" {
+        Some(Mode::Read)
+    } else {
+        None
+    }
+}
+
+#[tactic(auto, unfolding(crate::specs::Grammar::program_meaning))]
+fn program_line(text: &str) -> Option<Line<'_>>
+    ensures meaning { option_map meaning_of result ≡ program_meaning text.now }
+    ensures fits { IfSome result LineFits }
+{
+    let (name, rest) = split_at_space(text)?;
+    let (how, rest) = split_at_space(rest)?;
+    let (len, file) = split_at_space(rest)?;
+    let mode = mode(how)?;
+    let arg_len = number_within(0, 64, len)?;
+    if is_name(name) && is_path(file) {
+        Some(Line::Program(ProgramLine {
+            name,
+            mode,
+            arg_len: arg_len as u8,
+            file,
+        }))
+    } else {
+        None
+    }
+}
+
+#[tactic(auto, unfolding(crate::specs::Grammar::words_meaning))]
+fn words_line(text: &str) -> Option<Line<'_>>
+    ensures meaning { option_map meaning_of result ≡ words_meaning text.now }
+    ensures fits { IfSome result LineFits }
+{
+    let (first, rest) = split_at_space(text)?;
+    if first == "map" {
+        map_line(rest)
+    } else if first == "program" {
+        program_line(rest)
+    } else {
+        None
+    }
+}
+
+// What a line means; `None` where it is bad.
+#[tactic(auto, unfolding(crate::specs::Grammar::line_meaning))]
+pub(crate) fn read_line(line: &str) -> Option<Line<'_>>
+    ensures meaning { option_map meaning_of result ≡ line_meaning line.now }
+    ensures fits { IfSome result LineFits }
+{
+    if line.len() > 512 {
+        return None;
+    }
+    if line.is_empty() || line.as_bytes()[0] == b'#' {
+        return Some(Line::Comment);
+    }
+    words_line(line)
+}

@@ -1,0 +1,76 @@
+// The words of a line: numbers, names and paths.
+
+ghost use Rattle.std.specs.Prelude.{◌≡◌, ◌≤◌, true, length, IfSome};
+ghost use Rattle.std.specs.List.{list_all};
+ghost use Rattle.loader.specs.Words.{starts_plain, number_of, number_within, is_lower, is_name_byte, is_name, is_path_byte, is_path};
+ghost use Rattle.loader.specs.Spelling.{IsFrom};
+
+fn starts_plain(text: &[u8]) -> bool
+    ensures { result ≡ starts_plain text.now }
+{
+    !text.is_empty() && (text.len() == 1 || text[0] != b'0')
+}
+
+#[tactic(auto, unfolding(crate::specs::Words::number_of))]
+fn number(text: &str) -> Option<u64>
+    ensures { result ≡ number_of text.now }
+{
+    let bytes = text.as_bytes();
+    if !starts_plain(bytes) || bytes[0] == b'+' {
+        return None;
+    }
+    text.parse::<u64>().ok()
+}
+
+// A number within its limits, both included.
+#[tactic(auto, unfolding(crate::specs::Words::number_within))]
+pub(crate) fn number_within(low: u64, high: u64, text: &str) -> Option<u64>
+    ensures value { result ≡ number_within low high text.now }
+    ensures bounds { IfSome result (λ n. IsFrom low high n) }
+{
+    let n = number(text)?;
+    if low <= n && n <= high { Some(n) } else { None }
+}
+
+fn is_lower(c: u8) -> bool
+    ensures { result ≡ is_lower c }
+{
+    b'a' <= c && c <= b'z'
+}
+
+fn is_name_byte(c: u8) -> bool
+    ensures { result ≡ is_name_byte c }
+{
+    is_lower(c) || (b'0' <= c && c <= b'9') || c == b'_' || c == b'-'
+}
+
+fn are_name_bytes(bytes: &[u8]) -> bool
+    ensures { result ≡ list_all is_name_byte bytes.now }
+{
+    bytes.iter().all(|c| is_name_byte(*c))
+}
+
+// A program's name.
+#[tactic(auto, unfolding(crate::specs::Words::is_name))]
+pub(crate) fn is_name(text: &str) -> bool
+    ensures name { result ≡ is_name text.now }
+    ensures short { result ≡ true → length text.now ≤ 32 }
+{
+    let bytes = text.as_bytes();
+    !bytes.is_empty() && bytes.len() <= 32 && is_lower(bytes[0]) && are_name_bytes(bytes)
+}
+
+fn are_path_bytes(bytes: &[u8]) -> bool
+    ensures { result ≡ list_all is_path_byte bytes.now }
+{
+    bytes.iter().all(|c| b'!' <= *c && *c <= b'~')
+}
+
+// The path of a program file.
+#[tactic(auto, unfolding(crate::specs::Words::is_path))]
+pub(crate) fn is_path(text: &str) -> bool
+    ensures path { result ≡ is_path text.now }
+{
+    let bytes = text.as_bytes();
+    !bytes.is_empty() && bytes.len() <= 255 && are_path_bytes(bytes)
+}

@@ -1,0 +1,164 @@
+-- A put keeps the invariant: first the try at its own place, then the freeing of the word.
+use Rattle.std.proofs.Common.{◌≡◌, ◌≢◌, ℕ, ◌<◌, eqb, List, [], ◌∷◌, map, length, get_or, set, sym, refl, ap, ◌∙◌, subst, length-set, get_or-set_other, get_or-set_same, Option, Some, None}
+use mathlib.Core.Option as kernel
+use mathlib.Core.Option.{some-injective, some-ne-none}
+use lib.Seq.{set-get_or}
+use prog.Atomic.{either}
+use Rattle.atomic_table.specs.Table.{State, Me, Act, gives, step, stepped, Allows, Valid, carried_after, homes_after}
+use Rattle.atomic_table.proofs.Lists.{set_here, set_else, set_again, exchanged}
+use Rattle.ownlock.specs.declared.known.Known.{Known}
+use Rattle.ownlock.specs.Rules.{Rules, Laws}
+use Rattle.ownlock.specs.Seats.{At, place_of, without, left_with}
+use Rattle.ownlock.specs.Knowledge.{Possible, MayPut}
+use Rattle.ownlock.specs.Invariant.{emptied, SessionInvariant, LockInvariant, StepsAs, fronted, freed}
+use Rattle.ownlock.proofs.Keeps.{at_below, one_session, Goes, goes, mine_of, not_of_others}
+use Rattle.ownlock.proofs.Without.{was_held, still_held, not_held, apart_without, part_of}
+use Rattle.ownlock.proofs.Fronts.{bring, brings}
+
+module _ {P N V : Type 0} (R : Rules P N V) (laws : Laws R) (sessions : ℕ) where
+  abbrev K : Type 0
+  K = Known P N V
+
+  abbrev St : Type 0
+  St = State (Option V) (List K)
+
+  abbrev M : Type 0
+  M = Me (Option V) (List K)
+
+  abbrev Homes : Type 0
+  Homes = List (kernel.Option (Option V))
+
+  abbrev me : K → List (ℕ × Option V) → M
+  me k c = (k ∷ [], c)
+
+  module _ (s : St) (r : LockInvariant R sessions s) (id p : ℕ) (k : K) (at : At id (k ∷ []) s.views) (below : p < length s.homes)
+      (x y : V) (a : ℕ) (top : At a (p, x) k.held) (grown : P → P) (noting : N → N)
+      (may : (progress : P) (notes : List N) → Possible R k progress notes → R.Moves p k.session x progress k.note (grown progress) (noting k.note) × R.AgreesWith p (grown progress) (set notes k.session (noting k.note)) y) where
+    abbrev progress_after : P
+    progress_after = grown r.progress
+
+    abbrev note_after : N
+    note_after = noting k.note
+
+    abbrev notes_after : List N
+    notes_after = set r.notes k.session note_after
+
+    abbrev giver : K
+    giver = left_with k p progress_after note_after
+
+    was : SessionInvariant R r.progress r.notes s.homes r.holder k
+    was = mine_of R laws sessions s r id k at
+
+    moves : R.Moves p k.session x r.progress k.note progress_after note_after
+    moves = (may r.progress r.notes was.possible).0
+
+    old_agrees : R.AgreesWith p r.progress r.notes x
+    old_agrees = was.possible.3 a (p, x) top
+
+    other : (b : ℕ) (u : ℕ × V) → At b u giver.held → u.0 ≢ p
+    other = not_held p k.held was.apart
+
+    give_others : (q : ℕ) (z : V) → q ≢ p → R.AgreesWith q r.progress r.notes z → R.AgreesWith q progress_after notes_after z
+    give_others = laws.moves_others p k.session x r.progress progress_after k.note note_after r.notes r.accounts was.possible.1 old_agrees moves
+
+    give_accounts : R.Accounts progress_after notes_after
+    give_accounts = laws.moves_account p k.session x r.progress progress_after k.note note_after r.notes r.accounts was.possible.1 old_agrees moves
+
+    give_extends : R.Extends k.progress progress_after
+    give_extends = laws.extends_on k.progress r.progress progress_after was.possible.0.0 (laws.moves_extend p k.session x r.progress progress_after k.note note_after moves)
+
+    give_allowed : R.Allows progress_after k.session (map place_of giver.held)
+    give_allowed = laws.allows_on k.progress progress_after k.session (map place_of giver.held) give_extends
+        (laws.allows_part k.progress k.session (map place_of giver.held) (map place_of k.held) (part_of p k.held) was.allowed)
+
+    abbrev homes_given : Homes
+    homes_given = set s.homes p (kernel.some (Some y))
+
+    give_fits : SessionInvariant R progress_after notes_after homes_given r.holder giver
+    give_fits = record {
+      possible = (
+        (laws.extends_self progress_after, λ a u _ _. laws.same_self progress_after),
+        set_here r.notes k.session note_after (at_below r.notes k.session k.note was.possible.1),
+        give_accounts,
+        λ b u e. let back = was_held p k.held b u e in give_others u.0 u.1 (other b u e) (was.possible.3 back.0 u back.1),
+      );
+      allowed = give_allowed;
+      apart = apart_without p k.held was.apart;
+      out = λ b u e. let back = was_held p k.held b u e in let h = was.out back.0 u back.1 in (h.0, set_else s.homes p u.0 (kernel.some (Some y)) (other b u e) ∙ h.1);
+    }
+
+    gives_it : Goes R laws sessions s r id p k giver progress_after notes_after (set s.words p 0) homes_given r.holder
+    gives_it = record {
+      here = at;
+      session = refl;
+      accounts = give_accounts;
+      extends = laws.moves_extend p k.session x r.progress progress_after k.note note_after moves;
+      same = λ ne. laws.moves_same p k.session x r.progress progress_after k.note note_after ne moves;
+      others = give_others;
+      noted = λ i n ne h. set_else r.notes k.session i note_after ne ∙ h;
+      counted = length-set r.notes k.session note_after ∙ r.counted;
+      homes_else = λ q ne. set_else s.homes p q (kernel.some (Some y)) ne;
+      homes_long = length-set s.homes p (kernel.some (Some y));
+      words_else = λ q ne. get_or-set_other s.words p q 0 0 ne;
+      words_long = length-set s.words p 0;
+      holder_else = λ q _. refl;
+      not_theirs = not_of_others R laws sessions s r id p k at (was.out a (p, x) top).0;
+      mine = give_fits;
+      free_here = λ _ _. (y, set_here s.homes p (kernel.some (Some y)) below, (may r.progress r.notes was.possible).1);
+      busy_here = λ ne. absurd (ne (get_or-set_same s.words p 0 0 (subst (λ z. p < z) (sym r.wide) below)));
+      held_else = still_held p k.held;
+    }
+
+    gives_stand : (c : List (ℕ × Option V)) → LockInvariant R sessions (stepped s p 0 id ((p, Some y) ∷ c) (giver ∷ []) gives)
+    gives_stand c = goes R laws sessions s r id p k giver progress_after notes_after (set s.words p 0) homes_given r.holder gives_it
+
+  only_one : (k k2 : K) → (k ∷ []) ≡ (k2 ∷ []) → k ≡ k2
+  only_one k k2 e = ap (λ l. get_or l 0 k) e
+
+  frees_at : (slots id p : ℕ) (k : K) (y : V) (c : List (ℕ × Option V)) (grown : P → P) (noting : N → N) → p < slots → MayPut R grown noting k p y
+      → Allows (LockInvariant R sessions) slots id (me k ((p, Some y) ∷ c)) p (λ _. 0) (λ n. freed R grown noting (step slots p 0 0 kernel.none) (me k ((p, Some y) ∷ c)) 0)
+  frees_at slots id p k y c grown noting below (x, a, top, may) s r long at _ = (
+    giver s r id p k at inside x y a top grown noting may ∷ [],
+    gives,
+    tt,
+    gives_stand s r id p k at inside x y a top grown noting may c,
+    λ k2 sits. subst (λ (z : K). (progress : P) × ((notes : List N) × Possible R z progress notes) × (me (left_with k p (grown r.progress) (noting k.note)) c ≡ me (left_with z p (grown progress) (noting z.note)) c)) (only_one k k2 sits) (r.progress, (r.notes, (mine_of R laws sessions s r id k at).possible), refl),
+  )
+    where
+      inside : p < length s.homes
+      inside = subst (λ z. p < z) (sym long) below
+
+  -- the word of the place p goes to 0, and the value y is at home
+  pub frees : (slots id p : ℕ) (m : M) (k : K) (y : V) (c : List (ℕ × Option V)) (grown : P → P) (noting : N → N) → m ≡ (k ∷ [], (p, Some y) ∷ c) → p < slots → MayPut R grown noting k p y
+      → Allows (LockInvariant R sessions) slots id m p (λ _. 0) (λ n. freed R grown noting (step slots p 0 0 kernel.none) m 0)
+  frees slots id p m k y c grown noting is below may = subst (λ (z : M). Allows (LockInvariant R sessions) slots id z p (λ _. 0) (λ n. freed R grown noting (step slots p 0 0 kernel.none) z 0)) (sym is) (frees_at slots id p k y c grown noting below may)
+
+  -- a try at a held place fails, and brings its slot to the front
+  fronts_at : (slots id p : ℕ) (k : K) (x : V) (a : ℕ) → At a (p, x) k.held → p < slots
+      → Allows (LockInvariant R sessions) slots id (k ∷ [], map emptied k.held) p (λ n. either (eqb n 0) 1 n) (fronted R (step slots p 0 1 kernel.none) (k ∷ [], map emptied k.held))
+  fronts_at slots id p k x a top below s r long at _ =
+      exchanged (get_or s.words p 0) 0 1
+      (λ n. (w : List K) × (act : Act (Option V)) × Valid s.homes (map emptied k.held) act × LockInvariant R sessions (stepped s p n id (map emptied k.held) w act)
+      × fronted R (step slots p 0 1 kernel.none) (k ∷ [], map emptied k.held) (get_or s.words p 0) (w, carried_after (map emptied k.held) act))
+      (λ hit. absurd (taken hit))
+      (λ miss. (
+        k ∷ [],
+        bring p k.held,
+        moved.0,
+        subst (λ (z : List ℕ × Homes × List (List K)). LockInvariant R sessions record { words = z.0; homes = z.1; views = z.2 })
+            (λ i. (sym (set-get_or s.words p 0) i, sym moved.1 i, sym (set_again s.views id (k ∷ []) at) i)) r,
+        λ k2 sits. subst (λ (z : K). me k (carried_after (map emptied k.held) (bring p k.held)) ≡ me z ((p, None) ∷ map emptied (without p z.held))) (one_session (k ∷ [], map emptied k.held) k k2 refl sits) (λ i. (k ∷ [], moved.2 i)),
+      ))
+    where
+      fit : SessionInvariant R r.progress r.notes s.homes r.holder k
+      fit = mine_of R laws sessions s r id k at
+
+      moved : Valid s.homes (map emptied k.held) (bring p k.held) × (homes_after s.homes (map emptied k.held) (bring p k.held) ≡ s.homes) × (carried_after (map emptied k.held) (bring p k.held) ≡ (p, None) ∷ map emptied (without p k.held))
+      moved = brings p k.held a x top fit.apart s.homes (λ b u e. (fit.out b u e).1)
+
+      taken : get_or s.words p 0 ≡ 0 → ⊥
+      taken hit = let t = r.free p (subst (λ z. p < z) (sym long) below) hit in some-ne-none (Some t.0) (some-injective _ _ (sym t.1 ∙ (fit.out a (p, x) top).1))
+
+  pub fronts : (slots id p : ℕ) (m : M) (k : K) (x : V) (a : ℕ) → StepsAs m k → At a (p, x) k.held → p < slots
+      → Allows (LockInvariant R sessions) slots id m p (λ n. either (eqb n 0) 1 n) (fronted R (step slots p 0 1 kernel.none) m)
+  fronts slots id p m k x a sits top below = subst (λ (z : M). Allows (LockInvariant R sessions) slots id z p (λ n. either (eqb n 0) 1 n) (fronted R (step slots p 0 1 kernel.none) z)) (sym sits) (fronts_at slots id p k x a top below)

@@ -1,0 +1,160 @@
+-- Each step of a shelf keeps its rule.
+use Rattle.std.proofs.Common.{◌≡◌, ◌≢◌, ℕ, zero, suc, ◌<◌, List, [], ◌∷◌, length, get_or, set, sym, refl, ap, ◌∙◌, subst, ⊎_elim, arith, Option, Some}
+use mathlib.Core.Logic.{dite}
+use mathlib.Core.Option as kernel
+use mathlib.Core.Option.{some-injective, some-ne-none}
+use native.Mathlib.Decide.{ℕ_discrete}
+use lib.ListN.{get_elem?}
+use lib.Seq.{set-get_or}
+use Rattle.atomic_table.specs.Table.{State, Me, keeps, stepped}
+use Rattle.atomic_table.proofs.Lists.{at_set, set_here, set_else, set_again}
+use Rattle.ownlock.specs.declared.known.Known.{Known}
+use Rattle.ownlock.specs.Rules.{Rules, Laws, leader}
+use Rattle.ownlock.specs.Seats.{At}
+use Rattle.ownlock.specs.Invariant.{SessionInvariant, HeldBySome, LockInvariant, StepsAs}
+
+module _ {A : Type 0} where
+  pub at_below : (l : List A) (i : ℕ) (a : A) → At i a l → i < length l
+  at_below [] i a e = absurd (some-ne-none a (sym e))
+  at_below (x ∷ xs) zero a e = omega arith
+  at_below (x ∷ xs) (suc i) a e = let h = at_below xs i a e in omega arith
+
+  pub at_only : (x y : A) (i : ℕ) → At i y (x ∷ []) → (i ≡ 0) × (x ≡ y)
+  at_only x y zero e = (refl, some-injective x y e)
+  at_only x y (suc i) e = absurd (some-ne-none y (sym e))
+
+  pub at_one : (l : List A) (i : ℕ) (x y : A) → At i x l → At i y l → x ≡ y
+  at_one l i x y e f = some-injective x y (sym e ∙ f)
+
+-- a seat is one session at most
+pub one_session : {P N V : Type 0} (m : Me (Option V) (List (Known P N V))) (k k2 : Known P N V) → StepsAs m k → StepsAs m k2 → k ≡ k2
+one_session {P} {N} {V} m k k2 e f = ap (λ (z : Me (Option V) (List (Known P N V))). get_or z.0 0 k) (sym e ∙ f)
+
+module _ {P N V : Type 0} (R : Rules P N V) (laws : Laws R) (sessions : ℕ) where
+  abbrev K : Type 0
+  K = Known P N V
+
+  abbrev St : Type 0
+  St = State (Option V) (List K)
+
+  abbrev M : Type 0
+  M = Me (Option V) (List K)
+
+  abbrev Homes : Type 0
+  Homes = List (kernel.Option (Option V))
+
+  -- what a step of the session k at the place p owes
+  pub record Goes (s : St) (r : LockInvariant R sessions s) (id p : ℕ) (k k' : K) (progress : P) (notes : List N) (words : List ℕ) (homes : Homes) (holder : ℕ → ℕ) : Type 0 where
+    pub here : At id (k ∷ []) s.views
+    pub session : k'.session ≡ k.session
+    pub accounts : R.Accounts progress notes
+    pub extends : R.Extends r.progress progress
+    pub same : p ≢ leader → R.SameHistory r.progress progress
+    pub others : (q : ℕ) (y : V) → q ≢ p → R.AgreesWith q r.progress r.notes y → R.AgreesWith q progress notes y
+    pub noted : (i : ℕ) (n : N) → i ≢ k.session → At i n r.notes → At i n notes
+    pub counted : length notes ≡ sessions
+    pub homes_else : (q : ℕ) → q ≢ p → get_elem? homes q ≡ get_elem? s.homes q
+    pub homes_long : length homes ≡ length s.homes
+    pub words_else : (q : ℕ) → q ≢ p → get_or words q 0 ≡ get_or s.words q 0
+    pub words_long : length words ≡ length s.words
+    pub holder_else : (q : ℕ) → q ≢ p → holder q ≡ r.holder q
+    pub not_theirs : (j i : ℕ) (v : List K) (m : K) (a : ℕ) (u : ℕ × V) → j ≢ id → At j v s.views → At i m v → At a u m.held → u.0 ≢ p
+    pub mine : SessionInvariant R progress notes homes holder k'
+    pub free_here : p < length homes → get_or words p 0 ≡ 0 → (x : V) × At p (kernel.some (Some x)) homes × R.AgreesWith p progress notes x
+    pub busy_here : get_or words p 0 ≢ 0 → (a : ℕ) × (u : ℕ × V) × At a u k'.held × (u.0 ≡ p)
+    pub held_else : (a : ℕ) (u : ℕ × V) → At a u k.held → u.0 ≢ p → (b : ℕ) × At b u k'.held
+
+  module _ (s : St) (r : LockInvariant R sessions s) (id p : ℕ) (k k' : K) (progress : P) (notes : List N) (words : List ℕ) (homes : Homes) (holder : ℕ → ℕ) (g : Goes s r id p k k' progress notes words homes holder) where
+    abbrev after : List (List K)
+    after = set s.views id (k' ∷ [])
+
+    mine_at : At id (k' ∷ []) after
+    mine_at = set_here s.views id (k' ∷ []) (at_below s.views id (k ∷ []) g.here)
+
+    owned : r.owner k.session ≡ id
+    owned = (r.each id 0 (k ∷ []) k g.here refl).1
+
+    theirs : (j i : ℕ) (v : List K) (m : K) → j ≢ id → At j v s.views → At i m v → SessionInvariant R progress notes homes holder m
+    theirs j i v m other at_j at_i =
+        let known = r.each j i v m at_j at_i in
+        let fit = known.0 in
+        let apart : m.session ≢ k.session = λ e. other (sym known.1 ∙ (ap r.owner e ∙ owned)) in
+        record {
+          possible = (
+            (laws.extends_on _ _ _ fit.possible.0.0 g.extends, λ a u at_a lead. laws.same_on _ _ _ (fit.possible.0.1 a u at_a lead) (g.same (λ e. g.not_theirs j i v m a u other at_j at_i at_a (lead ∙ sym e)))),
+            g.noted m.session m.note apart fit.possible.1,
+            g.accounts,
+            λ a u at_a. g.others u.0 u.1 (g.not_theirs j i v m a u other at_j at_i at_a) (fit.possible.3 a u at_a),
+          );
+          allowed = fit.allowed;
+          apart = fit.apart;
+          out = λ a u at_a. let ne = g.not_theirs j i v m a u other at_j at_i at_a in let was = fit.out a u at_a in (g.holder_else u.0 ne ∙ was.0, g.homes_else u.0 ne ∙ was.1);
+        }
+
+    each_after : (j i : ℕ) (v : List K) (m : K) → At j v after → At i m v → SessionInvariant R progress notes homes holder m × (r.owner m.session ≡ j)
+    each_after j i v m at_j at_i = ⊎_elim
+        (λ (t : (j ≡ id) × ((k' ∷ []) ≡ v)).
+        let only = at_only k' m i (subst (λ (z : List K). At i m z) (sym t.1) at_i) in
+        (subst (λ (z : K). SessionInvariant R progress notes homes holder z) only.1 g.mine, ap (λ (z : K). r.owner z.session) (sym only.1) ∙ (ap r.owner g.session ∙ (owned ∙ sym t.0))))
+        (λ (t : (j ≢ id) × At j v s.views). (theirs j i v m t.0 t.1 at_i, (r.each j i v m t.1 at_i).1))
+        (at_set s.views id j (k' ∷ []) v at_j)
+
+    distinct_after : (j a b : ℕ) (v : List K) (x y : K) → At j v after → At a x v → At b y v → x.session ≡ y.session → a ≡ b
+    distinct_after j a b v x y at_j at_a at_b e = ⊎_elim
+        (λ (t : (j ≡ id) × ((k' ∷ []) ≡ v)).
+        let one = at_only k' x a (subst (λ (z : List K). At a x z) (sym t.1) at_a) in
+        let two = at_only k' y b (subst (λ (z : List K). At b y z) (sym t.1) at_b) in
+        one.0 ∙ sym two.0)
+        (λ (t : (j ≢ id) × At j v s.views). r.distinct j a b v x y t.1 at_a at_b e)
+        (at_set s.views id j (k' ∷ []) v at_j)
+
+    free_after : (q : ℕ) → q < length homes → get_or words q 0 ≡ 0 → (x : V) × At q (kernel.some (Some x)) homes × R.AgreesWith q progress notes x
+    free_after q below is = dite (ℕ_discrete q p)
+        (λ e. subst (λ z. (x : V) × At z (kernel.some (Some x)) homes × R.AgreesWith z progress notes x) (sym e) (g.free_here (subst (λ z. z < length homes) e below) (subst (λ z. get_or words z 0 ≡ 0) e is)))
+        (λ ne. let was = r.free q (subst (λ z. q < z) g.homes_long below) (sym (g.words_else q ne) ∙ is) in (was.0, g.homes_else q ne ∙ was.1, g.others q was.0 ne was.2))
+
+    still_held : (q : ℕ) → q ≢ p → HeldBySome R q s.views → HeldBySome R q after
+    still_held q ne (j, v, i, m, a, u, at_j, at_i, at_a, is) = dite (ℕ_discrete j id)
+        (λ e.
+        let view = at_one s.views id (k ∷ []) v g.here (subst (λ z. At z v s.views) e at_j) in
+        let only = at_only k m i (subst (λ (z : List K). At i m z) (sym view) at_i) in
+        let mine = subst (λ (z : K). At a u z.held) (sym only.1) at_a in
+        let kept = g.held_else a u mine (λ h. ne (sym is ∙ h)) in
+        (id, k' ∷ [], 0, k', kept.0, u, mine_at, refl, kept.1, is))
+        (λ other. (j, v, i, m, a, u, set_else s.views id j (k' ∷ []) other ∙ at_j, at_i, at_a, is))
+
+    busy_after : (q : ℕ) → q < length homes → get_or words q 0 ≢ 0 → HeldBySome R q after
+    busy_after q below is = dite (ℕ_discrete q p)
+        (λ e. let mine = g.busy_here (λ h. is (ap (λ z. get_or words z 0) e ∙ h)) in (id, k' ∷ [], 0, k', mine.0, mine.1, mine_at, refl, mine.2, mine.3 ∙ sym e))
+        (λ ne. still_held q ne (r.busy q (subst (λ z. q < z) g.homes_long below) (λ h. is (g.words_else q ne ∙ h))))
+
+    pub goes : LockInvariant R sessions record { words = words; homes = homes; views = after }
+    goes = record {
+      progress = progress;
+      notes = notes;
+      owner = r.owner;
+      holder = holder;
+      accounts = g.accounts;
+      counted = g.counted;
+      wide = g.words_long ∙ (r.wide ∙ sym g.homes_long);
+      free = free_after;
+      busy = busy_after;
+      each = each_after;
+      distinct = distinct_after;
+    }
+
+  -- the seat that is the session k
+  pub mine_of : (s : St) (r : LockInvariant R sessions s) (id : ℕ) (k : K) → At id (k ∷ []) s.views → SessionInvariant R r.progress r.notes s.homes r.holder k
+  mine_of s r id k at = (r.each id 0 (k ∷ []) k at refl).0
+
+  -- no other session holds what is held by the session k
+  pub not_of_others : (s : St) (r : LockInvariant R sessions s) (id p : ℕ) (k : K) → At id (k ∷ []) s.views → r.holder p ≡ k.session
+      → (j i : ℕ) (v : List K) (m : K) (a : ℕ) (u : ℕ × V) → j ≢ id → At j v s.views → At i m v → At a u m.held → u.0 ≢ p
+  not_of_others s r id p k at holds j i v m a u other at_j at_i at_a e =
+      let known = r.each j i v m at_j at_i in
+      let same : m.session ≡ k.session = sym (known.0.out a u at_a).0 ∙ (ap r.holder e ∙ holds) in
+      other (sym known.1 ∙ (ap r.owner same ∙ (r.each id 0 (k ∷ []) k at refl).1))
+
+  -- a step that changes nothing
+  pub unmoved : (s : St) (r : LockInvariant R sessions s) (id p : ℕ) (k : K) (c : List (ℕ × Option V)) → At id (k ∷ []) s.views → LockInvariant R sessions (stepped s p (get_or s.words p 0) id c (k ∷ []) keeps)
+  unmoved s r id p k c at = subst (λ (z : List ℕ × List (List K)). LockInvariant R sessions record { words = z.0; homes = s.homes; views = z.1 }) (λ i. (sym (set-get_or s.words p 0) i, sym (set_again s.views id (k ∷ []) at) i)) r

@@ -1,0 +1,11 @@
+pub mod Without
+pub mod Fronts
+pub mod Keeps
+pub mod Tries
+pub mod Frees
+pub mod Seats
+pub mod Ends
+pub mod Gather
+pub mod Unload
+pub mod Completed
+pub mod Laws

@@ -1,0 +1,78 @@
+-- What holds of the words, the slots and the seats between any two atomic steps, and what each step on a word tells.
+-- A place has one word, which is 0 while the place is free, and one slot.
+use Rattle.std.specs.Prelude.{◌≡◌, ◌≢◌, ℕ, ◌<◌, List, [], ◌∷◌, ◌++◌, map, length, slice_index, Option, Some, None}
+use mathlib.Core.Option as kernel
+use Rattle.atomic_table.specs.Table.{State, Me, Step, rest}
+use Rattle.ownlock.specs.declared.known.Known.{Known}
+use Rattle.ownlock.specs.Rules.{Rules}
+use Rattle.ownlock.specs.Seats.{At, View, place_of, without, left_with}
+use Rattle.ownlock.specs.Knowledge.{Possible, Acquired, AllAgree}
+
+-- the slot of a place that is held has no value
+abbrev pub emptied : {V : Type 0} → ℕ × V → ℕ × Option V
+emptied u = (u.0, None)
+
+module _ {P N V : Type 0} where
+  -- the seat of the table is the one session k, and the slots of the places that k holds are out with it
+  abbrev pub StepsAs : Me (Option V) (View P N V) → Known P N V → Type 0
+  StepsAs m k = m ≡ (k ∷ [], map emptied k.held)
+
+  -- the slots that are out with these sessions
+  abbrev pub out_of : View P N V → List (ℕ × Option V)
+  out_of [] = []
+  out_of (k ∷ ks) = map emptied k.held ++ out_of ks
+
+  -- the first session of a view, and the others
+  abbrev pub first_of : View P N V → View P N V
+  first_of [] = []
+  first_of (k ∷ ks) = k ∷ []
+
+  abbrev pub others_of : View P N V → View P N V
+  others_of [] = []
+  others_of (k ∷ ks) = ks
+
+module _ {P N V : Type 0} (R : Rules P N V) where
+  -- what one session knows is so: its knowledge is possible, it may hold what it holds, each place once, and their slots are out
+  pub record SessionInvariant (progress : P) (notes : List N) (homes : List (kernel.Option (Option V))) (holder : ℕ → ℕ) (k : Known P N V) : Type 0 where
+    pub possible : Possible R k progress notes
+    pub allowed : R.Allows k.progress k.session (map place_of k.held)
+    pub apart : (a b : ℕ) (u w : ℕ × V) → At a u k.held → At b w k.held → u.0 ≡ w.0 → a ≡ b
+    pub out : (a : ℕ) (u : ℕ × V) → At a u k.held → (holder u.0 ≡ k.session) × At u.0 kernel.none homes
+
+  -- some session of some seat holds the place
+  abbrev pub HeldBySome : ℕ → List (View P N V) → Type 0
+  HeldBySome p views = (j : ℕ) × (v : View P N V) × (i : ℕ) × (k : Known P N V) × (a : ℕ) × (u : ℕ × V) × At j v views × At i k v × At a u k.held × (u.0 ≡ p)
+
+  pub record LockInvariant (sessions : ℕ) (s : State (Option V) (View P N V)) : Type 0 where
+    -- the progress of all sessions, and the note of each
+    pub progress : P
+    pub notes : List N
+    -- which seat has which session, and which session holds which place
+    pub owner : ℕ → ℕ
+    pub holder : ℕ → ℕ
+    pub accounts : R.Accounts progress notes
+    pub counted : length notes ≡ sessions
+    pub wide : length s.words ≡ length s.homes
+    pub free : (p : ℕ) → p < length s.homes → slice_index s.words p ≡ 0 → (x : V) × At p (kernel.some (Some x)) s.homes × R.AgreesWith p progress notes x
+    pub busy : (p : ℕ) → p < length s.homes → slice_index s.words p ≢ 0 → HeldBySome p s.views
+    pub each : (j i : ℕ) (v : View P N V) (k : Known P N V) → At j v s.views → At i k v → SessionInvariant progress notes s.homes holder k × (owner k.session ≡ j)
+    pub distinct : (j a b : ℕ) (v : View P N V) (k m : Known P N V) → At j v s.views → At a k v → At b m v → k.session ≡ m.session → a ≡ b
+
+  -- a try at a place: where the word was 0, the seat has the value, and knows a progress that it agrees with
+  abbrev pub tried : Step (Option V) → Me (Option V) (View P N V) → ℕ → Me (Option V) (View P N V) → Type 0
+  tried st m r m' = (k : Known P N V) → StepsAs m k → (r ≢ 0 → m' ≡ m) × (r ≡ 0 → (after : Known P N V) × (x : V) × Acquired R st.word k after x × (m' ≡ (after ∷ [], (st.word, Some x) ∷ m.1)))
+
+  -- a try at a place that the seat holds fails, and the slot of that place is then the first of those that are out
+  abbrev pub fronted : Step (Option V) → Me (Option V) (View P N V) → ℕ → Me (Option V) (View P N V) → Type 0
+  fronted st m r m' = (k : Known P N V) → StepsAs m k → m' ≡ (k ∷ [], (st.word, None) ∷ map emptied (without st.word k.held))
+
+  -- the word of a held place goes to 0
+  abbrev pub freed : (P → P) → (N → N) → Step (Option V) → Me (Option V) (View P N V) → ℕ → Me (Option V) (View P N V) → Type 0
+  freed grown noted st m r m' = (k : Known P N V) → m.0 ≡ k ∷ [] → (progress : P) × ((notes : List N) × Possible R k progress notes) × (m' ≡ (left_with k st.word (grown progress) (noted k.note) ∷ [], rest m.1))
+
+  -- at the end: each value agrees with a progress that has grown from every session's, and with the notes of all
+  abbrev pub Closes : ℕ → View P N V → List (Option V) → Type 0
+  Closes sessions v slots =
+      (progress : P) × (notes : List N) × R.Accounts progress notes × (length notes ≡ sessions)
+      × ((i : ℕ) (k : Known P N V) → At i k v → R.Extends k.progress progress × At k.session k.note notes)
+      × AllAgree R progress notes slots

@@ -1,0 +1,48 @@
+-- What a session may rely on, what take tells it, and what it owes to put.
+use Rattle.std.specs.Prelude.{◌≡◌, ℕ, ◌<◌, List, [], ◌∷◌, map, length, slice_set, Option, Some}
+use Rattle.ownlock.specs.declared.known.Known.{Known}
+use Rattle.ownlock.specs.Rules.{Rules, leader}
+use Rattle.ownlock.specs.Seats.{At, ShelfId, SeatView, IsSession, IsNotHeld, place_of, holding}
+
+module _ {P N V : Type 0} (R : Rules P N V) where
+  -- the values that these places had when they were taken agree
+  abbrev pub HeldAgree : P → List N → List (ℕ × V) → Type 0
+  HeldAgree progress notes held = (i : ℕ) (u : ℕ × V) → At i u held → R.AgreesWith u.0 progress notes u.1
+
+  -- a progress that has grown from the one that the session knows, with the same history where the session holds the leader
+  abbrev pub Later : Known P N V → P → Type 0
+  Later k progress = R.Extends k.progress progress × ((i : ℕ) (u : ℕ × V) → At i u k.held → u.0 ≡ leader → R.SameHistory k.progress progress)
+
+  -- the progress and the notes of all, as the session k may find them
+  abbrev pub Possible : Known P N V → P → List N → Type 0
+  Possible k progress notes = Later k progress × At k.session k.note notes × R.Accounts progress notes × HeldAgree progress notes k.held
+
+  -- the session k may take the place
+  abbrev pub MayTake : ℕ → Known P N V → Type 0
+  MayTake p k = IsNotHeld p k.held × R.Allows k.progress k.session (p ∷ map place_of k.held)
+
+  -- the session k has become after, which holds the place with the value x, and knows a progress that x agrees with
+  abbrev pub Acquired : ℕ → Known P N V → Known P N V → V → Type 0
+  Acquired p k after x = (progress : P) × (after ≡ holding k progress p x) × Later k progress × ((notes : List N) × Possible after progress notes)
+
+  -- the session k may put y back to the place p, which it holds: wherever the others are by then, its move is allowed and y agrees
+  abbrev pub MayPut : (P → P) → (N → N) → Known P N V → ℕ → V → Type 0
+  MayPut grown noted k p y =
+      (x : V) × (a : ℕ) × At a (p, x) k.held
+      × ((progress : P) (notes : List N) → Possible k progress notes
+      → R.Moves p k.session x progress k.note (grown progress) (noted k.note) × R.AgreesWith p (grown progress) (slice_set notes k.session (noted k.note)) y)
+
+  -- the value of each place agrees with this progress and these notes
+  abbrev pub AllAgree : P → List N → List (Option V) → Type 0
+  AllAgree progress notes slots = (p : ℕ) → p < length slots → (x : V) × At p (Some x) slots × R.AgreesWith p progress notes x
+
+  -- at the end: each value agrees with one progress, which has grown from the one of each seat, and with the notes that the seats bring
+  abbrev pub Agreed : List (SeatView P N V) → List (Option V) → Type 0
+  Agreed seats slots =
+      (progress : P) × (notes : List N) × R.Accounts progress notes × (length notes ≡ length seats)
+      × ((a : ℕ) (s : SeatView P N V) (k : Known P N V) → At a s seats → IsSession s k → R.Extends k.progress progress × At k.session k.note notes)
+      × AllAgree progress notes slots
+
+-- each of these seats is of that shelf, is one session, and holds no place
+abbrev pub AllIdle : {P N V : Type 0} → ShelfId → List (SeatView P N V) → Type 0
+AllIdle {P} {N} {V} id seats = (a : ℕ) (s : SeatView P N V) → At a s seats → (s.shelf ≡ id) × ((k : Known P N V) × IsSession s k × (k.held ≡ []))

@@ -1,0 +1,6 @@
+pub mod Rules
+pub mod Seats
+pub mod Knowledge
+pub mod Invariant
+pub mod Between
+pub mod Held

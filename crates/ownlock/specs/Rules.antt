@@ -1,0 +1,62 @@
+-- What the values of a shelf have to do with the progress that all sessions see, and with the sessions' notes.
+use Rattle.std.specs.Prelude.{◌≡◌, ◌≢◌, ℕ, max, ◌⊎◌, List, [], ◌∷◌, slice_set}
+use mathlib.Core.Option.{some}
+use lib.ListN.{get_elem?}
+
+-- the place of the value that leads: nothing but its put adds to the history
+abbrev pub leader : ℕ
+leader = 0
+
+-- the places qs are some of the places ps, in their order
+abbrev pub IsPart : List ℕ → List ℕ → Type 0
+IsPart [] ps = Unit {0}
+IsPart (q ∷ qs) [] = ⊥
+IsPart (q ∷ qs) (p ∷ ps) = ((q ≡ p) × IsPart qs ps) ⊎ IsPart (q ∷ qs) ps
+
+-- P is the progress of all sessions, N the note of one, V a value of any kind
+pub record Rules (P N V : Type 0) : Type 1 where
+  -- the second progress has grown from the first
+  pub Extends : P → P → Type 0
+  -- both have one history
+  pub SameHistory : P → P → Type 0
+  -- the progress fits the notes of all sessions, where the i-th note is the i-th session's
+  pub Accounts : P → List N → Type 0
+  -- the value fits the progress and the notes, at that place
+  pub AgreesWith : ℕ → P → List N → V → Type 0
+  -- under that progress the session may hold these places at once, the one taken last first
+  pub Allows : P → ℕ → List ℕ → Type 0
+  -- the session that took the value at the place may go from the progress and its own note to another progress and note
+  pub Moves : ℕ → ℕ → V → P → N → P → N → Type 0
+  -- the completed tail, the progress with that completed tail, and whether the history has so many entries
+  pub completed : P → ℕ
+  pub with_completed : P → ℕ → P
+  pub HasLength : P → ℕ → Type 0
+
+-- What has to hold of the rules.
+pub record Laws {P N V : Type 0} (R : Rules P N V) : Type 0 where
+  pub extends_self : (l : P) → R.Extends l l
+  pub extends_on : (a b c : P) → R.Extends a b → R.Extends b c → R.Extends a c
+  pub same_self : (l : P) → R.SameHistory l l
+  pub same_on : (a b c : P) → R.SameHistory a b → R.SameHistory b c → R.SameHistory a c
+  pub allows_none : (l : P) (i : ℕ) → R.Allows l i []
+  pub allows_part : (l : P) (i : ℕ) (qs ps : List ℕ) → IsPart qs ps → R.Allows l i ps → R.Allows l i qs
+  pub allows_on : (a b : P) (i : ℕ) (ps : List ℕ) → R.Extends a b → R.Allows a i ps → R.Allows b i ps
+  pub moves_extend : (p i : ℕ) (x : V) (l l' : P) (n n' : N) → R.Moves p i x l n l' n' → R.Extends l l'
+  -- nothing but the leader's put adds to the history
+  pub moves_same : (p i : ℕ) (x : V) (l l' : P) (n n' : N) → p ≢ leader → R.Moves p i x l n l' n' → R.SameHistory l l'
+  -- a move keeps the account, and the agreement of each value of another place, on its shelf or as a session took it
+  pub moves_account : (p i : ℕ) (x : V) (l l' : P) (n n' : N) (ns : List N) → R.Accounts l ns → get_elem? ns i ≡ some n → R.AgreesWith p l ns x → R.Moves p i x l n l' n' → R.Accounts l' (slice_set ns i n')
+  pub moves_others : (p i : ℕ) (x : V) (l l' : P) (n n' : N) (ns : List N) → R.Accounts l ns → get_elem? ns i ≡ some n → R.AgreesWith p l ns x → R.Moves p i x l n l' n'
+      → (q : ℕ) (y : V) → q ≢ p → R.AgreesWith q l ns y → R.AgreesWith q l' (slice_set ns i n') y
+
+-- While the completed tail is a part of the leader's value: which values lead, the completed tail of one, and that the second value is the first with a tail raised to n.
+pub record CompletedLaws {P N V : Type 0} (R : Rules P N V) (Leads : V → Type 0) (completed_of : V → ℕ) (IsRaised : V → ℕ → V → Type 0) : Type 0 where
+  pub leader_leads : (l : P) (ns : List N) (x : V) → R.AgreesWith leader l ns x → Leads x
+  pub completed_is : (l : P) (ns : List N) (x : V) → R.AgreesWith leader l ns x → completed_of x ≡ R.completed l
+  pub with_completed_is : (l : P) (n : ℕ) → R.completed (R.with_completed l n) ≡ n
+  pub length_on : (a b : P) (n : ℕ) → R.Extends a b → R.HasLength a n → R.HasLength b n
+  -- who changes nothing may put a value back
+  pub stays : (p i : ℕ) (x : V) (l : P) (n : N) (ns : List N) → R.Accounts l ns → R.AgreesWith p l ns x → R.Moves p i x l n l n
+  -- who raises the leader's tail makes the completed tail the greater of the two
+  pub rises : (i : ℕ) (x y : V) (l : P) (m : N) (ns : List N) (n : ℕ) → R.Accounts l ns → R.AgreesWith leader l ns x → R.HasLength l n → IsRaised x n y
+      → R.Moves leader i x l m (R.with_completed l (max (R.completed l) n)) m × R.AgreesWith leader (R.with_completed l (max (R.completed l) n)) ns y

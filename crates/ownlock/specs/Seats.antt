@@ -1,0 +1,68 @@
+-- What a seat and a shelf are to their users: plain data.
+use Rattle.std.specs.Prelude.{◌≡◌, ◌≢◌, ℕ, suc, List, [], ◌∷◌, ◌==◌, if◌then◌else◌}
+use mathlib.Core.Option as kernel
+use lib.ListN.{get_elem?}
+use Rattle.atomic_table.specs.Seated.{TableId}
+use Rattle.ownlock.specs.declared.known.Known.{Known}
+
+-- x stands at i
+abbrev pub At : {A : Type 0} → ℕ → A → List A → Type 0
+At i x xs = get_elem? xs i ≡ kernel.some x
+
+-- which shelf it is; no two shelves have the same
+abbrev pub ShelfId : Type 0
+ShelfId = TableId
+
+-- what one or more sessions know
+abbrev pub View : Type 0 → Type 0 → Type 0 → Type 0
+View P N V = List (Known P N V)
+
+-- a seat is of one shelf, and has the knowledge of its sessions
+pub record SeatView (P N V : Type 0) : Type 0 where
+  pub shelf : ShelfId
+  pub sessions : View P N V
+
+-- a shelf has so many places, and was opened with that setup
+pub record ShelfView (A : Type 0) : Type 0 where
+  pub id : ShelfId
+  pub places : ℕ
+  pub setup : A
+
+abbrev pub place_of : {V : Type 0} → ℕ × V → ℕ
+place_of u = u.0
+
+module _ {V : Type 0} where
+  -- the held places but this one
+  abbrev pub without : ℕ → List (ℕ × V) → List (ℕ × V)
+  without p [] = []
+  without p (u ∷ us) = if u.0 == p then us else u ∷ without p us
+
+  -- the place is not among these
+  abbrev pub IsNotHeld : ℕ → List (ℕ × V) → Type 0
+  IsNotHeld p held = (a : ℕ) (u : ℕ × V) → At a u held → u.0 ≢ p
+
+module _ {P N V : Type 0} where
+  -- the seat is the one session k
+  abbrev pub IsSession : SeatView P N V → Known P N V → Type 0
+  IsSession s k = s.sessions ≡ k ∷ []
+
+  -- the session, once it has taken the place p with the value x
+  abbrev pub holding : Known P N V → P → ℕ → V → Known P N V
+  holding k progress p x = record { session = k.session; progress = progress; note = k.note; held = (p, x) ∷ k.held }
+
+  -- the session, once it has put the place p back
+  abbrev pub left_with : Known P N V → ℕ → P → N → Known P N V
+  left_with k p progress note = record { session = k.session; progress = progress; note = note; held = without p k.held }
+
+  -- the session, once it knows this progress
+  abbrev pub with_progress : Known P N V → P → Known P N V
+  with_progress k progress = record { session = k.session; progress = progress; note = k.note; held = k.held }
+
+  -- all sessions, from the i-th on, each with its note
+  abbrev pub all_sessions : P → ℕ → List N → View P N V
+  all_sessions progress i [] = []
+  all_sessions progress i (n ∷ ns) = record { session = i; progress = progress; note = n; held = [] } ∷ all_sessions progress (suc i) ns
+
+  -- no session of the view holds a place
+  abbrev pub HoldsNone : View P N V → Type 0
+  HoldsNone v = (i : ℕ) (k : Known P N V) → At i k v → k.held ≡ []

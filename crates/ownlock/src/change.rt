@@ -1,0 +1,16 @@
+// How a put changes the progress and the note of the session that puts.
+use std::marker::Brand;
+
+/// What a put does to the progress of all sessions and to the note of the session that puts. Pass `Brand`, and pick the two
+/// functions at the call.
+pub trait Change<P, N> {
+    ghost progress: { P → P };
+
+    ghost note: { N → N };
+}
+
+impl<P, N> Change<P, N> for Brand {
+    ghost progress = { λ l. l };
+
+    ghost note = { λ n. n };
+}

@@ -1,0 +1,69 @@
+// The rule of the table under a shelf, and what each step on a word tells.
+ghost use Rattle.std.specs.Prelude.{[], ◌++◌, length};
+ghost use Rattle.ownlock.specs.Seats.{all_sessions};
+ghost use Rattle.ownlock.specs.Invariant.{LockInvariant, tried, fronted, freed, first_of, others_of};
+
+use crate::change::Change;
+use crate::known::Known;
+use crate::shelved::Shelved;
+use atomic_table::{Join, Play, Seat, Shared, Split, TableRule};
+use std::collections::LinkedList;
+use std::marker::PhantomData;
+
+pub type View<V> = LinkedList<Known<<V as Shelved>::Progress, <V as Shelved>::SessionNote, V>>;
+
+// The seat and the steps of the table.
+pub type Pass<V> = Seat<Option<V>, View<V>>;
+
+pub type Steps<V> = Shared<Option<V>, View<V>, <V as Shelved>::Setup, LockRule<V>>;
+
+pub struct LockRule<V> {
+    marker: PhantomData<V>,
+}
+
+impl<V: Shelved> TableRule<Option<V>, View<V>, V::Setup> for LockRule<V> {
+    ghost holds = { λ setup. LockInvariant V.rules (length (V.first_notes setup)) };
+
+    ghost first = { λ setup. all_sessions (V.first_progress setup) 0 (V.first_notes setup) };
+}
+
+// A try at a place: a failed one, or a won one.
+pub struct Try;
+
+impl<V: Shelved> Play<Option<V>, View<V>> for Try {
+    ghost then = { tried V.rules };
+}
+
+// A try at a place that the seat itself holds, which fails.
+pub struct Front;
+
+impl<V: Shelved> Play<Option<V>, View<V>> for Front {
+    ghost then = { fronted V.rules };
+}
+
+// The word of a held place is freed.
+pub struct Free<M> {
+    marker: PhantomData<M>,
+}
+
+impl<V: Shelved, M: Change<V::Progress, V::SessionNote>> Play<Option<V>, View<V>> for Free<M> {
+    ghost then = { freed V.rules M.progress M.note };
+}
+
+// The first session goes to a seat of its own.
+pub struct SplitFirst;
+
+impl<V: Shelved> Split<View<V>> for SplitFirst {
+    ghost left = { others_of };
+
+    ghost right = { first_of };
+}
+
+// One seat takes in the sessions of another, which has none then.
+pub struct JoinViews;
+
+impl<V: Shelved> Join<View<V>> for JoinViews {
+    ghost both = { λ v w. v ++ w };
+
+    ghost spent = { [] };
+}

@@ -1,0 +1,228 @@
+// The shelf, and its calls.
+ghost use Rattle.std.specs.Prelude.{◌≡◌, ◌<◌, ◌≤◌, max, List, [], ◌∷◌, ◌++◌, length, replicate, vec_capacity, IfOk, IfErr};
+ghost use Rattle.std.specs.Mem.Slots.{slots_items, slots_len, IsFull};
+ghost use Rattle.ownlock.specs.Rules.{leader};
+ghost use Rattle.ownlock.specs.declared.known.Known.{Known};
+ghost use Rattle.ownlock.specs.Seats.{IsSession, left_with, with_progress, all_sessions, HoldsNone};
+ghost use Rattle.ownlock.specs.Knowledge.{Acquired, Possible, MayTake, MayPut, AllAgree, Agreed, AllIdle};
+ghost use Rattle.ownlock.specs.Invariant.{Closes};
+ghost use Rattle.ownlock.specs.Held.{held_place};
+
+use crate::change::Change;
+use crate::error::{NotOpened, OpenError};
+use crate::rule::{JoinViews, LockRule, SplitFirst, View};
+use crate::seat::Seat;
+use crate::shelved::Shelved;
+use crate::steps::{acquire, release};
+use atomic_table::{Closed, Refused, Table};
+use std::alloc::{AllocError, Global};
+use std::marker::{Brand, Model};
+use std::sync::Wait;
+
+/// The place of the value that leads: nothing but its put adds to the history, and the completed tail is a part of it.
+pub const LEADER: usize = 0;
+
+/// Numbered places, from 0 on. Each has a value, or a session holds it.
+#[derive(Drop)]
+pub struct Shelf<V: Shelved> {
+    table: Table<Option<V>, View<V>, <V as Shelved>::Setup, LockRule<V>, Global>,
+    room: Vec<Option<V>>,
+}
+
+impl<V: Shelved> Model for Shelf<V> {
+    ghost use Rattle.std.specs.Prelude.{◌≡◌, ◌<◌, ◌≤◌, [], vec_capacity};
+    ghost use Rattle.ownlock.specs.Seats.{ShelfView};
+
+    ghost Value = { ShelfView V.Setup };
+
+    ghost view = { λ a. record { id = a.table.shared.table_id; places = a.table.shared.table_id.slots; setup = a.table.shared.key } };
+
+    // Each place has one word and one slot, there is a place for the leader, and there is room for all values at the end.
+    ghost invariant = { λ a. (a.table.shared.table_id.words ≡ a.table.shared.table_id.slots) × (0 < a.table.shared.table_id.slots) × (a.room.items ≡ []) × (a.table.shared.table_id.slots ≤ vec_capacity a.room) };
+}
+
+/// The value of a place that a session holds. It has no `Drop`, so it ends in `put`.
+pub struct Held<V> {
+    pub value: V,
+    place: usize,
+}
+
+fn blank_words(alloc: Global, count: usize) -> Result<Vec<u64>, AllocError>
+    ensures { IfOk result (λ v. v.items ≡ replicate count 0) }
+{
+    Ok(vec![in alloc; 0; count]?)
+}
+
+fn not_opened<V>(values: Vec<Option<V>>) -> NotOpened<V>
+    ensures { result.values.items ≡ values.items }
+{
+    NotOpened {
+        error: OpenError::NoMemory,
+        values,
+    }
+}
+
+// The values of a closed table, in the order of their places.
+fn unload<V>(mut closed: Closed<Option<V>, Global>, mut room: Vec<Option<V>>) -> Vec<Option<V>>
+    requires full { IsFull closed.slots }
+    requires room { (room.items ≡ []) × (slots_len closed.slots ≤ vec_capacity room) }
+    ensures { result.items ≡ slots_items closed.slots }
+{
+    for place in 0..closed.slot_count() {
+        room.push_reserved(closed.take(place));
+    }
+    closed.free();
+    room
+}
+
+impl<V: Shelved> Shelf<V> {
+    /// A shelf with these values, the leader's first, and the seat of all sessions. Split that seat before a place is taken.
+    ///
+    /// # Errors
+    ///
+    /// K1 where there is no memory. The values come back.
+    pub fn open(
+        alloc: Global,
+        values: Vec<Option<V>>,
+        setup: &V::Setup,
+    ) -> Result<(Shelf<V>, Seat<V>), NotOpened<V>>
+        requires leads { 0 < length values.items }
+        requires accounts { V.rules.Accounts (V.first_progress setup.now) (V.first_notes setup.now) }
+        requires agree { AllAgree V.rules (V.first_progress setup.now) (V.first_notes setup.now) values.items }
+        ensures shelf { IfOk result (λ t. (t.0.places ≡ length values.items) × (t.0.setup ≡ setup.now)) }
+        ensures seat { IfOk result (λ t. (t.1.shelf ≡ t.0.id) × (t.1.sessions ≡ all_sessions (V.first_progress setup.now) 0 (V.first_notes setup.now))) }
+        ensures refused { IfErr result (λ r. r.values.items ≡ values.items) }
+    {
+        let places = values.len();
+        let Ok(words) = blank_words(alloc, places) else {
+            return Err(not_opened(values));
+        };
+        let Ok(room) = Vec::with_capacity(alloc, places) else {
+            return Err(not_opened(values));
+        };
+        match Table::new(alloc, words.as_slice(), values, setup) {
+            Ok((table, pass)) => Ok((Shelf { table, room }, Seat { pass })),
+            Err(Refused { slots }) => {
+                room.destroy_empty();
+                Err(not_opened(slots))
+            }
+        }
+    }
+
+    /// The first session of the seat, in a seat of its own. None of the seat's sessions holds a place.
+    pub fn split(&self, seat: &mut Seat<V>) -> Seat<V>
+        requires own { seat.old.shelf ≡ self.now.id }
+        requires some { (k : Known V.Progress V.SessionNote V) × (ks : List (Known V.Progress V.SessionNote V)) × (seat.old.sessions ≡ k ∷ ks) }
+        requires idle { HoldsNone seat.old.sessions }
+        ensures same { (seat.new.shelf ≡ seat.old.shelf) × (result.shelf ≡ seat.old.shelf) }
+        ensures apart { (k : Known V.Progress V.SessionNote V) (ks : List (Known V.Progress V.SessionNote V)) → seat.old.sessions ≡ k ∷ ks → (seat.new.sessions ≡ ks) × (result.sessions ≡ k ∷ []) }
+    {
+        let pass = self.table.shared.split_seat::<SplitFirst>(&mut seat.pass);
+        Seat { pass }
+    }
+
+    /// Waits until the place is free, and takes its value. The session doesn't hold the place, and may hold it beside those that
+    /// it holds.
+    pub fn take<R: Wait>(&self, rt: &R, seat: &mut Seat<V>, place: usize) -> Held<V>
+        requires own { seat.old.shelf ≡ self.now.id }
+        requires there { place < self.now.places }
+        requires may { (k : Known V.Progress V.SessionNote V) × IsSession seat.old k × MayTake V.rules place k }
+        ensures same { (seat.new.shelf ≡ seat.old.shelf) × (held_place result ≡ place) }
+        ensures taken { (k : Known V.Progress V.SessionNote V) → IsSession seat.old k → (after : Known V.Progress V.SessionNote V) × Acquired V.rules place k after result.value × IsSession seat.new after }
+    {
+        let value = acquire(rt, &self.table.shared, &mut seat.pass, place);
+        Held { value, place }
+    }
+
+    /// Puts back the value of a place, of those that the session holds whichever. The value agrees with every progress and all
+    /// notes that may stand by then, and the session may change its own note by a move that is allowed.
+    pub fn put<M: Change<V::Progress, V::SessionNote>>(&self, seat: &mut Seat<V>, held: Held<V>)
+        requires own { seat.old.shelf ≡ self.now.id }
+        requires there { held_place held < self.now.places }
+        requires may { (k : Known V.Progress V.SessionNote V) × IsSession seat.old k × MayPut V.rules M.progress M.note k (held_place held) held.value }
+        ensures same { seat.new.shelf ≡ seat.old.shelf }
+        ensures put { (k : Known V.Progress V.SessionNote V) → IsSession seat.old k → (progress : V.Progress) × ((notes : List V.SessionNote) × Possible V.rules k progress notes) × IsSession seat.new (left_with k (held_place held) (M.progress progress) (M.note k.note)) }
+    {
+        let Held { value, place } = held;
+        release::<V, M>(&self.table.shared, &mut seat.pass, place, value);
+    }
+
+    /// The completed tail, by way of the leader's place, which is taken for a moment.
+    pub fn done<R: Wait>(&self, rt: &R, seat: &mut Seat<V>) -> u64
+        requires own { seat.old.shelf ≡ self.now.id }
+        requires may { (k : Known V.Progress V.SessionNote V) × IsSession seat.old k × MayTake V.rules leader k }
+        ensures same { seat.new.shelf ≡ seat.old.shelf }
+        ensures read { (k : Known V.Progress V.SessionNote V) → IsSession seat.old k → (progress : V.Progress) × V.rules.Extends k.progress progress × (result ≡ V.rules.completed progress) × IsSession seat.new (with_progress k progress) }
+    {
+        let _ = &self.table;
+        let held = self.take(rt, seat, LEADER);
+        let done = held.value.done();
+        self.put::<Brand>(seat, held);
+        done
+    }
+
+    /// The completed tail becomes the greater of itself and `n`, which is a length of the history that the session knows. The
+    /// leader's place is taken for a moment.
+    pub fn raise<R: Wait>(&self, rt: &R, seat: &mut Seat<V>, n: u64)
+        requires own { seat.old.shelf ≡ self.now.id }
+        requires may { (k : Known V.Progress V.SessionNote V) × IsSession seat.old k × MayTake V.rules leader k × V.rules.HasLength k.progress n }
+        ensures same { seat.new.shelf ≡ seat.old.shelf }
+        ensures raised { (k : Known V.Progress V.SessionNote V) → IsSession seat.old k → (before after : V.Progress) × V.rules.Extends k.progress before × (after ≡ V.rules.with_completed before (max (V.rules.completed before) n)) × (V.rules.completed after ≡ max (V.rules.completed before) n) × V.rules.Extends k.progress after × IsSession seat.new (with_progress k after) }
+    {
+        let _ = &self.table;
+        let mut held = self.take(rt, seat, LEADER);
+        held.value.raise_done(n);
+        self.put::<Brand>(seat, held);
+    }
+
+    fn join(&self, seat: &mut Seat<V>, other: Seat<V>)
+        requires own { (seat.old.shelf ≡ self.now.id) × (other.shelf ≡ self.now.id) }
+        requires idle { HoldsNone seat.old.sessions × HoldsNone other.sessions }
+        ensures { (seat.new.shelf ≡ seat.old.shelf) × (seat.new.sessions ≡ seat.old.sessions ++ other.sessions) }
+    {
+        self.table
+            .shared
+            .join_seat::<JoinViews>(&mut seat.pass, other.into_pass());
+    }
+
+    // A shelf with no session is closed without a seat.
+    fn close_without(self) -> Vec<Option<V>>
+        requires none { length (V.first_notes self.setup) ≡ 0 }
+        ensures places { length result.items ≡ self.places }
+        ensures values { Closes V.rules 0 [] result.items }
+    {
+        let Shelf { table, room } = self;
+        unload(table.close(), room)
+    }
+
+    // The seat has every session.
+    fn close_with(self, seat: Seat<V>) -> Vec<Option<V>>
+        requires own { seat.shelf ≡ self.id }
+        requires all { length seat.sessions ≡ length (V.first_notes self.setup) }
+        requires idle { HoldsNone seat.sessions }
+        ensures places { length result.items ≡ self.places }
+        ensures values { Closes V.rules (length (V.first_notes self.setup)) seat.sessions result.items }
+    {
+        let Shelf { table, room } = self;
+        unload(table.close_with(seat.into_pass()), room)
+    }
+
+    /// Takes the shelf and all its seats, none of which holds a place, and gives the value of each place back. All agree with
+    /// one progress, which has grown from the one of each seat, and with the notes that the seats bring.
+    pub fn close(self, mut seats: Vec<Seat<V>>) -> Vec<Option<V>>
+        requires own { AllIdle self.id seats.items }
+        requires all { length seats.items ≡ length (V.first_notes self.setup) }
+        ensures places { length result.items ≡ self.places }
+        ensures values { Agreed V.rules seats.items result.items }
+    {
+        let Some(mut all) = seats.pop() else {
+            seats.destroy_empty();
+            return self.close_without();
+        };
+        while let Some(next) = seats.pop() {
+            self.join(&mut all, next);
+        }
+        seats.destroy_empty();
+        self.close_with(all)
+    }
+}

@@ -1,0 +1,4 @@
+pub mod Totals
+pub mod Puts
+pub mod Taken
+pub mod Listed

@@ -1,0 +1,77 @@
+// The leader is a list with its completed tail. The follower is a tail, and the wrapping sum of the numbers before it.
+use ownlock::shelved::Shelved;
+use std::collections::LinkedList;
+
+/// What all sessions see grow. It stands in contracts alone.
+pub struct Progress {
+    pub items: LinkedList<u64>,
+    pub completed: u64,
+}
+
+/// The leader: numbers in the order in which they were appended, and how many of them are completed.
+#[derive(Drop)]
+pub struct Numbers {
+    pub items: Vec<u64>,
+    pub completed: u64,
+}
+
+/// The follower: the sum, modulo 2^64, of the first `tail` numbers.
+#[derive(Drop)]
+pub struct RunningSum {
+    pub tail: u64,
+    pub sum: u64,
+}
+
+#[derive(Drop)]
+pub enum Value {
+    List(Numbers),
+    Sum(RunningSum),
+}
+
+impl Shelved for Value {
+    type Progress = Progress;
+
+    /// How many numbers the session appended.
+    type SessionNote = u64;
+
+    /// How many sessions there are.
+    type Setup = u64;
+
+    ghost use Rattle.std.specs.Prelude.{replicate};
+    ghost use Rattle.sums.specs.Sums.{sum_rules, empty_progress, IsList, completed_of, IsRaised};
+    ghost use Rattle.sums.specs.Laws.{sum_laws, sum_completed_laws};
+
+    ghost rules = { sum_rules };
+
+    ghost first_progress = { λ _. empty_progress };
+
+    ghost first_notes = { λ sessions. replicate sessions 0 };
+
+    ghost leads = { IsList };
+
+    ghost completed_of = { completed_of };
+
+    ghost is_raised = { IsRaised };
+
+    fn done(&self) -> u64 {
+        match self {
+            Value::List(list) => list.completed,
+            Value::Sum(_) => unreachable!(),
+        }
+    }
+
+    fn raise_done(&mut self, n: u64) {
+        match self {
+            Value::List(list) => {
+                if list.completed < n {
+                    list.completed = n;
+                }
+            }
+            Value::Sum(_) => unreachable!(),
+        }
+    }
+
+    ghost laws = { sum_laws };
+
+    ghost completed_laws = { sum_completed_laws };
+}
