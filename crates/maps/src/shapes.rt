@@ -1,7 +1,7 @@
 // The shapes of maps, and which of them are allowed.
 
 ghost use Rattle.std.specs.Prelude.{◌≡◌, ◌↔◌, ◌≤◌, IsTrue, IsOk, MatchResult, None, Some, All, length, sum_by};
-ghost use Rattle.maps.specs.Shapes.{IsShapeOk, AreShapesOk, room_of, fault_number, first_shape_fault};
+ghost use Rattle.maps.specs.Shapes.{value_size, IsShapeOk, AreShapesOk, room_of, fault_number, first_shape_fault};
 
 use thiserror::Error;
 
@@ -42,6 +42,18 @@ impl Shape {
                 value,
                 entries,
             } => entries * (key + value),
+        }
+    }
+}
+
+impl Shape {
+    /// The bytes of a value.
+    pub fn value_bytes(self) -> usize
+        ensures value { result ≡ value_size self }
+    {
+        match self {
+            Shape::Array { value, .. } => value as usize,
+            Shape::Hash { value, .. } => value as usize,
         }
     }
 }

@@ -1,3 +1,4 @@
+use crate::map_set::MapSet;
 use crate::shapes::{MapError, Shape, shapes_ok};
 use std::test::Fail;
 
@@ -82,4 +83,50 @@ fn tells_each_refusal(rt: HostRuntime) -> Result<(), Fail> {
         assert_eq!(rt; shown.as_str(), text);
     }
     Ok(())
+}
+
+const HASH: Shape = Shape::Hash {
+    key: 4,
+    value: 8,
+    entries: 1,
+};
+
+// An array of 16 values of 8 zeros has the indices 0 to 15, and a hash has no key yet.
+#[test]
+fn opens_arrays_of_zeros(rt: HostRuntime) {
+    let maps = MapSet::open(rt.alloc(), &[SMALL, HASH]).expect(&rt, "open");
+    let last = maps.lookup(0, &[15, 0, 0, 0]).expect(&rt, "last");
+    assert_eq!(rt; last.place(), 15);
+    assert!(&rt; maps.value(last) == [0; 8].as_slice());
+    assert!(&rt; maps.lookup(0, &[16, 0, 0, 0]).is_none());
+    assert!(&rt; maps.lookup(0, &[0, 1, 0, 0]).is_none());
+    assert!(&rt; maps.lookup(1, &[15, 0, 0, 0]).is_none());
+    assert_eq!(rt; maps.len(0), 16);
+    assert_eq!(rt; maps.len(1), 0);
+    assert!(&rt; maps.entry(0, 15) == last);
+}
+
+#[test]
+fn writes_one_value(rt: HostRuntime) {
+    let mut maps = MapSet::open(rt.alloc(), &[SMALL]).expect(&rt, "open");
+    let third = maps.lookup(0, &[3, 0, 0, 0]).expect(&rt, "third");
+    let fourth = maps.lookup(0, &[4, 0, 0, 0]).expect(&rt, "fourth");
+    maps.value_mut(third).fill(7);
+    assert!(&rt; maps.value(third) == [7; 8].as_slice());
+    assert!(&rt; maps.value(fourth) == [0; 8].as_slice());
+}
+
+#[test]
+fn copies_values(rt: HostRuntime) {
+    let mut maps = MapSet::open(rt.alloc(), &[SMALL]).expect(&rt, "open");
+    let mut copy = MapSet::open(rt.alloc(), &[SMALL]).expect(&rt, "copy");
+    let third = maps.lookup(0, &[3, 0, 0, 0]).expect(&rt, "third");
+    maps.value_mut(third).fill(7);
+    copy.copy_from(&maps);
+    assert!(&rt; copy.value(third) == [7; 8].as_slice());
+}
+
+#[test]
+fn refuses_shapes(rt: HostRuntime) {
+    assert!(&rt; MapSet::open(rt.alloc(), &[]).err() == Some(MapError::NoMapOrTooMany));
 }

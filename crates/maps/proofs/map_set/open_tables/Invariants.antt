@@ -1,0 +1,7 @@
+use Rattle.std.proofs.Common.{◌≡◌, take, map}
+use Rattle.maps.specs.MapSets.{opened_map}
+use Rattle.maps.specs.Blocks.{contents}
+use Rattle.maps.proofs.map_set.open_tables.Given as goal
+
+abbrev pub invariant-loop-shape : goal.invariant-loop-shape
+invariant-loop-shape l = contents l.tables.items ≡ map opened_map (take l.shape-index l.shapes)

@@ -1,0 +1,23 @@
+// Where a key and its value stand.
+
+ghost use Rattle.std.specs.Prelude.{◌≡◌};
+
+/// A map and a place in it. An entry is good until a key is put into its own map or taken out of it, or the map is
+/// copied over: until then its place keeps its key, also while other maps and any values change.
+#[derive(Clone, Copy, PartialEq, Eq, Debug)]
+pub struct Entry {
+    /// The number of the map.
+    pub map: u8,
+    /// The place in it, below the number of its entries.
+    pub place: u32,
+}
+
+impl Entry {
+    /// The place, below the number of the map's entries.
+    pub fn place(self) -> u32
+        ensures place { result ≡ self.place }
+    {
+        let Entry { place, .. } = self;
+        place
+    }
+}
