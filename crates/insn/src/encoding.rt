@@ -1,11 +1,11 @@
 // Programs into bytes.
 
-ghost use Rattle.std.specs.Prelude.{◌≡◌, ℕ, ◌<◌, ◌≤◌, ◌++◌, ◌∷◌, [], List, IfOk, OnOk};
+ghost use Rattle.std.specs.Prelude.{◌↔◌, ◌≡◌, ℕ, ◌<◌, ◌≤◌, ◌++◌, ◌∷◌, [], List, IfOk, OnOk};
 ghost use Rattle.std.specs.List.{flat_map, AllByRecursion};
 ghost use Rattle.insn.specs.declared.instruction.Form.{Form};
 ghost use Rattle.insn.specs.Layout.{size};
 ghost use Rattle.insn.specs.Refusal.{Decodes};
-ghost use Rattle.insn.specs.Encoding.{slots, slot_bytes, program_bytes, HasEncoding, IsInstruction};
+ghost use Rattle.insn.specs.Encoding.{Encodes, slots, slot_bytes, program_bytes, HasEncoding, IsInstruction};
 
 use crate::instruction::{Fields, Form, Insn};
 use crate::spelling::slots_of;
@@ -30,6 +30,11 @@ pub fn encode_inverts_decode()
     ensures back { (bytes : List ℕ) (p : List Form) → Decodes bytes p → program_bytes p ≡ bytes }
     ensures again { (p : List Form) → AllByRecursion IsInstruction p → 0 < size p → size p ≤ 4096
         → Decodes (program_bytes p) p }
+{}
+
+/// The bytes of one instruction are a program of that instruction alone, and nothing else is.
+pub fn one_instruction_is_a_program()
+    ensures { (i : Form) (bytes : List ℕ) → IsInstruction i → Encodes i bytes ↔ Decodes bytes (i ∷ []) }
 {}
 
 // Adds the bytes of an instruction.

@@ -13,7 +13,7 @@ mod spelling;
 mod tests;
 
 pub use decoding::{DecodeError, DecodeFault, decode, decoded_is_refused, decoded_is_spelled};
-pub use encoding::{encode, encode_inverts_decode};
+pub use encoding::{encode, encode_inverts_decode, one_instruction_is_a_program};
 pub use instruction::{
     Condition, Fields, Form, Insn, Operation, Order, Size, Source, size_counts_slots,
 };
