@@ -1,8 +1,10 @@
 // Laws of the definitions, each proved by the function of its name.
 
 mod arithmetic_laws;
+mod effects;
 mod examples;
 mod run_laws;
+mod soundness_laws;
 
 pub use arithmetic_laws::{
     arithmetic_shift_keeps_sign, bytes_spell_numbers, division_by_zero, division_is_euclidean,
@@ -10,8 +12,10 @@ pub use arithmetic_laws::{
     negation_subtracts, results_fit, shift_amounts_wrap, signed_division_truncates,
     subtraction_undoes_addition, swaps_undo_themselves,
 };
+pub use effects::{effects_are_runs, runs_are_effects, typable_programs_take_effect};
 pub use examples::{map_programs_run, programs_run, tables_hold};
 pub use run_laws::{
     exits_are_final, runs_are_unique, runs_keep_shapes, steps_are_unique, steps_keep_states,
     stores_are_loaded,
 };
+pub use soundness_laws::typable_programs_run;
