@@ -1,0 +1,7 @@
+pub mod Operations
+pub mod History
+pub mod Limits
+pub mod Logs
+pub mod CopyAnswers
+pub mod Codes
+pub mod Fields

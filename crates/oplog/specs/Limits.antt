@@ -1,0 +1,24 @@
+-- The sizes that a store may have.
+use Rattle.std.specs.Prelude.{ℕ, ◌≤◌}
+use Rattle.oplog.specs.declared.configuration.Config.{Config}
+use Rattle.oplog.specs.declared.configuration.OpenError.{OpenError}
+use Rattle.oplog.specs.declared.configuration.OpenError.TheVariants.{OutOfLimits, NoMemory}
+
+-- records that a log keeps at once
+abbrev pub IsWindow : ℕ → Type 0
+IsWindow n = (16 ≤ n) × (n ≤ 4096)
+
+-- records that a history may have
+abbrev pub IsLimit : ℕ → Type 0
+IsLimit n = (1 ≤ n) × (n ≤ 1000000)
+
+pub record IsConfig (c : Config) : Type 0 where
+  pub nodes : (1 ≤ c.nodes) × (c.nodes ≤ 8)
+  pub slots : (1 ≤ c.slots) × (c.slots ≤ 16)
+  pub window : IsWindow c.window
+  pub limit : IsLimit c.limit
+
+-- the number that a refusal shows after its letter O
+abbrev pub open_fault_number : OpenError → ℕ
+open_fault_number OutOfLimits = 1
+open_fault_number NoMemory = 2

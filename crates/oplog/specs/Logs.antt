@@ -1,0 +1,59 @@
+-- The log of operations, and the buffer that its records are copied into, as their users see them.
+use Rattle.std.specs.Prelude.{ℕ, ◌+◌, ◌-◌, ◌≤◌, List, [], length, drop}
+use Rattle.maps.specs.declared.shapes.Shape.{Shape}
+use Rattle.maps.specs.Maps.{Maps, shapes_of, HasShapes}
+use Rattle.maps.specs.MapSets.{opening_maps}
+use Rattle.oplog.specs.History.{History}
+use Rattle.oplog.specs.Limits.{IsWindow, IsLimit}
+
+-- a log: the records of the history that are kept, and the maps before the first of them
+pub record Log : Type 0 where
+  -- the index of the first record kept
+  pub base : ℕ
+  -- the maps before it
+  pub base_maps : Maps
+  -- the records from there on
+  pub records : History
+  -- the completed tail
+  pub done : ℕ
+  -- the window, in records; for now each record is kept, however many there are
+  pub window : ℕ
+  -- how many records the history may have
+  pub limit : ℕ
+
+-- the length of the history
+abbrev pub tail_of : Log → ℕ
+tail_of g = g.base + length g.records
+
+-- the records of the history from an index on, which is not below the base
+abbrev pub records_from : Log → ℕ → History
+records_from g index = drop (index - g.base) g.records
+
+-- how many records may still come
+abbrev pub room_left : Log → ℕ
+room_left g = g.limit - tail_of g
+
+-- what is true of every log
+pub record IsLog (g : Log) : Type 0 where
+  pub shapes : HasShapes (shapes_of g.base_maps) g.base_maps
+  pub completed : g.done ≤ tail_of g
+  pub within : tail_of g ≤ g.limit
+  pub window : IsWindow g.window
+  pub limit : IsLimit g.limit
+
+-- a new log: no record yet
+abbrev pub opened_log : List Shape → ℕ → ℕ → Log
+opened_log shapes window limit =
+    record { base = 0; base_maps = opening_maps shapes; records = []; done = 0; window = window; limit = limit }
+
+-- a buffer: records, and the index of the first in the history
+pub record HandView : Type 0 where
+  pub begin : ℕ
+  pub records : History
+  -- the window and the limit of the logs whose records it has room for
+  pub window : ℕ
+  pub limit : ℕ
+
+-- a new buffer: no record yet
+abbrev pub opened_hand : ℕ → ℕ → HandView
+opened_hand window limit = record { begin = 0; records = []; window = window; limit = limit }

@@ -1,0 +1,17 @@
+//! One log of operations that all replicas are fed from (Calciu et al., "Black-box Concurrent Data Structures for NUMA
+//! Architectures", ASPLOS 2017: Node Replication).
+#![tactic(auto)]
+
+mod answers;
+mod configuration;
+mod hand;
+mod log_state;
+mod records;
+#[cfg(test)]
+mod tests;
+
+pub use answers::{Appended, CopyAnswer, Ended};
+pub use configuration::{Config, OpenError};
+pub use hand::Hand;
+pub use log_state::LogState;
+pub use records::{Op, Record};

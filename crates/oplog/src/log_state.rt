@@ -1,0 +1,167 @@
+// The log.
+
+ghost use Rattle.std.specs.Prelude.{◌≡◌, ◌↔◌, ◌<◌, ◌≤◌, ◌-◌, ◌++◌, length, take, min, max, IfOk, IsErr, OnErr};
+ghost use Rattle.maps.specs.Shapes.{AreShapesOk};
+ghost use Rattle.maps.specs.Maps.{HasShapes, shapes_of};
+ghost use Rattle.maps.specs.MapSets.{maps_of};
+ghost use Rattle.oplog.specs.Limits.{IsWindow, IsLimit};
+ghost use Rattle.oplog.specs.Logs.{IsLog, tail_of, room_left, records_from, opened_log};
+ghost use Rattle.oplog.specs.CopyAnswers.{IfCopied, IfBelow};
+
+use crate::answers::{Appended, CopyAnswer, Ended};
+use crate::hand::Hand;
+use crate::records::Record;
+use maps::{MapSet, Shape};
+use std::alloc::{AllocError, Global};
+use std::marker::Model;
+
+/// The one history of operations that all replicas are fed from, and how far it is completed. All its room is taken when it
+/// is opened: no later call takes memory.
+#[derive(Drop)]
+pub struct LogState {
+    base: u64,
+    base_maps: MapSet,
+    records: Vec<Record>,
+    done: u64,
+    window: usize,
+    limit: usize,
+}
+
+impl Model for LogState {
+    ghost use Rattle.std.specs.Prelude.{◌+◌, ◌≤◌, vec_capacity};
+    ghost use Rattle.oplog.specs.Logs.{Log, IsLog};
+    ghost use Rattle.oplog.specs.Codes.{log_code};
+
+    ghost Value = { Log };
+
+    ghost coded = { log_code };
+
+    ghost use Rattle.oplog.specs.Fields.{log_of};
+
+    ghost view = { log_of };
+
+    // There is room for each record that may still come.
+    ghost invariant = { λ a. IsLog (log_of a) × (a.limit ≤ a.base + vec_capacity a.records) };
+}
+
+impl LogState {
+    /// A log without a record, over maps of these shapes as they are opened. It may have `limit` records.
+    ///
+    /// # Errors
+    ///
+    /// Want of memory.
+    pub fn open(
+        alloc: Global,
+        shapes: &[Shape],
+        window: usize,
+        limit: usize,
+    ) -> Result<LogState, AllocError>
+        requires shapes { AreShapesOk shapes.now }
+        requires window { IsWindow window }
+        requires limit { IsLimit limit }
+        ensures opened { IfOk result (λ g. g ≡ opened_log shapes.now window limit) }
+    {
+        let Ok(base_maps) = MapSet::open(alloc, shapes) else {
+            return Err(AllocError);
+        };
+        let records = Vec::with_capacity(alloc, limit)?;
+        Ok(LogState {
+            base: 0,
+            base_maps,
+            records,
+            done: 0,
+            window,
+            limit,
+        })
+    }
+
+    /// How many records may still be appended.
+    pub fn room(&self) -> usize
+        ensures room { result ≡ room_left self.now }
+    {
+        self.limit - self.tail() as usize
+    }
+
+    /// The index of the first record kept.
+    pub fn base(&self) -> u64
+        ensures base { result ≡ self.now.base }
+    {
+        self.base
+    }
+
+    /// The maps before the first record kept.
+    pub fn base_maps(&self) -> &MapSet
+        ensures maps { maps_of result.now ≡ self.now.base_maps }
+        ensures shapes { HasShapes (shapes_of self.now.base_maps) self.now.base_maps }
+    {
+        &self.base_maps
+    }
+
+    /// The length of the history.
+    pub fn tail(&self) -> u64
+        ensures tail { result ≡ tail_of self.now }
+        ensures log { IsLog self.now }
+    {
+        self.base + self.records.len() as u64
+    }
+
+    /// The completed tail: so many operations of the history are completed.
+    pub fn done(&self) -> u64
+        ensures done { result ≡ self.now.done }
+        ensures completed { result ≤ tail_of self.now }
+    {
+        self.done
+    }
+
+    /// Appends as many records of a batch, from its front, as the history may still have.
+    ///
+    /// # Errors
+    ///
+    /// L1 where it has as many as it may have.
+    pub fn append(&mut self, batch: &[Record]) -> Result<Appended, Ended>
+        ensures first { IfOk result (λ a. a.first ≡ tail_of self.old) }
+        ensures count { IfOk result (λ a. a.count ≡ min (length batch.now) (room_left self.old)) }
+        ensures records { IfOk result (λ a. self.new ≡ record self.old { records = self.old.records ++ take a.count batch.now }) }
+        ensures ended { IsErr result ↔ (tail_of self.old ≡ self.old.limit) }
+        ensures same { OnErr result (self.new ≡ self.old) }
+    {
+        let room = self.room();
+        if room == 0 {
+            return Err(Ended);
+        }
+        let first = self.tail();
+        let count = batch.len().min(room);
+        for record in &batch[..count] {
+            self.records.push_reserved(record.copy());
+        }
+        Ok(Appended { first, count })
+    }
+
+    /// Copies all records from an index on into a hand. The hand was opened for a log of this window and limit.
+    pub fn copy_from(&self, index: u64, hand: &mut Hand) -> CopyAnswer
+        requires index { index ≤ tail_of self.now }
+        requires window { hand.old.window ≡ self.now.window }
+        requires limit { hand.old.limit ≡ self.now.limit }
+        ensures kept { IfCopied result (self.now.base ≤ index) }
+        ensures copied { IfCopied result (hand.new ≡ record hand.old { begin = index; records = records_from self.now index }) }
+        ensures below { IfBelow result (λ base. (base ≡ self.now.base) × (index < base) × (hand.new ≡ hand.old)) }
+    {
+        if index < self.base {
+            return CopyAnswer::Below(self.base);
+        }
+        hand.clear(index);
+        let start = (index - self.base) as usize;
+        for record in &self.records[start..] {
+            hand.push(record.copy());
+        }
+        CopyAnswer::Copied
+    }
+
+    /// The completed tail becomes the greater of itself and `n`, which is a length of the history so far.
+    pub fn raise_done(&mut self, n: u64)
+        requires tail { n ≤ tail_of self.old }
+        ensures raised { self.new ≡ record self.old { done = max self.old.done n } }
+    {
+        self.done = self.done.max(n);
+    }
+}
