@@ -11,7 +11,7 @@ use Rattle.verifier.specs.Accepted.{Checked}
 use Rattle.loader.specs.Grammar.{ProgramLine, Meaning, Comment, Map, Program, line_meaning}
 use Rattle.maps.specs.Shapes.{IsShapeOk}
 use Rattle.std.proofs.lemmas.List.Elements.{All-push}
-use Rattle.loader.specs.CatalogueView.{Entry, CatalogueView, IsCatalogue, AreFor, names_of}
+use Rattle.loader.specs.CatalogueView.{Entry, CatalogueView, IsCatalogue, AreAccepted, AreFor, names_of}
 use Rattle.loader.specs.ProgramFiles.{◌>>=◌, Files, or_bad_line, file_named, bytes_of_hex, instructions_of, unless_refused, checked_program, entry_for}
 use Rattle.loader.specs.Loading.{are_few, is_taken, with_map, with_entry, with_program, after_meaning, after_line}
 use Rattle.loader.specs.SoFar.{IsSoFar}
@@ -151,11 +151,12 @@ stays fs v line w so_far e = by_meaning (line_meaning line) refl e
         let a = after_program fs v p w e in
         subst IsSoFar a.same (with_one_program fs v p w so_far a)
 
-pub is_catalogue : (v : CatalogueView) → IsSoFar v → 0 < length v.shapes → IsCatalogue v
-is_catalogue v so_far some =
+pub is_catalogue : (v : CatalogueView) → IsSoFar v → 0 < length v.shapes → AreAccepted v.programs → IsCatalogue v
+is_catalogue v so_far some checked =
     record {
       shapes = shapes_are_ok v.shapes some so_far.within so_far.few_maps;
       accepted = so_far.accepted;
+      checked = checked;
       distinct = so_far.distinct;
       few = so_far.few;
     }

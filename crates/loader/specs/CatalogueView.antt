@@ -3,7 +3,7 @@ use Rattle.std.specs.Prelude.{◌≡◌, ℕ, ◌≤◌, List, length, map, Opti
 use Rattle.std.specs.List.{All, IsDistinct, position_from}
 use Rattle.maps.specs.declared.shapes.Shape.{Shape}
 use Rattle.maps.specs.Shapes.{AreShapesOk}
-use Rattle.verifier.specs.Accepted.{Checked}
+use Rattle.verifier.specs.Accepted.{Checked, IsAccepted}
 
 -- an accepted program and its name
 pub record Entry : Type 0 where
@@ -22,10 +22,15 @@ names_of entries = map (λ e. e.name) entries
 abbrev pub AreFor : List Shape → List Entry → Type 0
 AreFor shapes entries = All (λ e. e.checked.shapes ≡ shapes) entries
 
--- a store may have these maps, each program was accepted for them, no name stands twice, and there are at most 256 programs
+-- each program was accepted
+abbrev pub AreAccepted : List Entry → Type 0
+AreAccepted entries = All (λ e. IsAccepted e.checked) entries
+
+-- a store may have these maps, each program was accepted, and for them, no name stands twice, and there are at most 256 programs
 pub record IsCatalogue (c : CatalogueView) : Type 0 where
   pub shapes : AreShapesOk c.shapes
   pub accepted : AreFor c.shapes c.programs
+  pub checked : AreAccepted c.programs
   pub distinct : IsDistinct bytes_eq (names_of c.programs)
   pub few : length c.programs ≤ 256
 

@@ -2,6 +2,7 @@
 
 ghost use Rattle.std.specs.Prelude.{◌≡◌, ◌≤◌, length, option_map, slice_get, IfSome};
 ghost use Rattle.maps.specs.Shapes.{AreShapesOk};
+ghost use Rattle.verifier.specs.Accepted.{IsAccepted};
 ghost use Rattle.loader.specs.CatalogueView.{IsCatalogue, number_named};
 
 use arrayvec::ArrayString;
@@ -41,6 +42,16 @@ impl NamedProgram {
         ensures { result.now ≡ self.now.checked }
     {
         &self.program
+    }
+
+    // The program was accepted.
+    pub(crate) fn see_accepted(&self)
+        ensures { IsAccepted self.now.checked }
+    {
+        let program = self.program();
+        let _instructions = program.program();
+        let _shapes = program.shapes();
+        let _length = program.arg_len();
     }
 }
 

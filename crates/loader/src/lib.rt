@@ -16,6 +16,7 @@ pub use catalogue::Catalogue;
 pub use laws::{
     each_line_is_its_spelling, loaded_is_offered, numbers_are_decimals, refused_is_first_bad,
 };
-pub use lines::named_files;
+pub use lines::{first_line, named_files, split_at_space};
 pub use loading::load_manifest;
 pub use refusals::{LoadError, LoadFault};
+pub use words::is_name;

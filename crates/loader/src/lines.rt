@@ -1,13 +1,14 @@
-// The lines of a manifest, and the files that they name.
+// The lines of a text, and the files that a manifest's lines name.
 
-ghost use Rattle.std.specs.Prelude.{◌≡◌, ◌<◌, length, [], ◌∷◌, ◌==◌, map, option_map, IfOk, IsUtf8};
+ghost use Rattle.std.specs.Prelude.{◌≡◌, ◌<◌, length, [], ◌∷◌, ◌==◌, map, option_map, IfOk, IfSome, IsUtf8};
 ghost use Rattle.std.specs.List.{after_last};
 ghost use Rattle.loader.specs.Lines.{lines_of, split_at_space, file_field, named_in};
 
 use std::alloc::{AllocError, Global};
 
-// The first line of a text, and what stands behind its line feed.
-pub(crate) fn first_line(text: &str) -> (&str, &str)
+/// The first line of a text that is not empty, and what stands behind its line feed. The last line
+/// may lack the feed.
+pub fn first_line(text: &str) -> (&str, &str)
     requires { 0 < length text.now }
     ensures line { lines_of text.now ≡ result.0.now ∷ lines_of result.1.now }
     ensures text { IsUtf8 result.1.now }
@@ -19,9 +20,10 @@ pub(crate) fn first_line(text: &str) -> (&str, &str)
     }
 }
 
-// What stands before the first space, and what stands behind it.
-pub(crate) fn split_at_space(text: &str) -> Option<(&str, &str)>
-    ensures { option_map (λ x. (x.0.now, x.1.now)) result ≡ split_at_space text.now }
+/// What stands before the first space, and what stands behind it.
+pub fn split_at_space(text: &str) -> Option<(&str, &str)>
+    ensures fields { option_map (λ x. (x.0.now, x.1.now)) result ≡ split_at_space text.now }
+    ensures shorter { IfSome result (λ x. length x.1.now < length text.now) }
 {
     text.split_once(' ')
 }

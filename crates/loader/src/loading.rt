@@ -5,6 +5,7 @@ ghost use Rattle.maps.specs.Shapes.{IsShapeOk};
 ghost use Rattle.loader.specs.ProgramFiles.{files_of};
 ghost use Rattle.loader.specs.LineShown.{program_of};
 ghost use Rattle.loader.specs.Loading.{is_taken, with_map, with_entry, with_program, after_line, loaded};
+ghost use Rattle.loader.specs.CatalogueView.{AreAccepted};
 ghost use Rattle.loader.specs.SoFar.{view_of, IsSoFar};
 ghost use Rattle.loader.specs.Refusal.{Gives, LoadFails};
 
@@ -105,6 +106,15 @@ fn take_line(
     }
 }
 
+// Each program was accepted. It looks at each, so that the caller knows; nothing else comes of it.
+fn see_accepted(programs: &[NamedProgram])
+    ensures accepted { AreAccepted programs.now }
+{
+    for program in programs {
+        program.see_accepted();
+    }
+}
+
 /// The catalogue that a manifest says, where each program's text is that of the first of `files` with
 /// its name; else the first bad line, and of its faults the one of lowest number.
 ///
@@ -137,5 +147,6 @@ pub fn load_manifest(
     if so_far.shapes.is_empty() {
         return Err(refusal_at(number, LoadFault::BadLine));
     }
+    see_accepted(&so_far.programs);
     Ok(Catalogue::new(so_far.shapes, so_far.programs))
 }

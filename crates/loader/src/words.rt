@@ -50,9 +50,9 @@ fn are_name_bytes(bytes: &[u8]) -> bool
     bytes.iter().all(|c| is_name_byte(*c))
 }
 
-// A program's name.
+/// Whether this is a name: 1 to 32 of `a-z`, `0-9`, `_` and `-`, the first a letter.
 #[tactic(auto, unfolding(crate::specs::Words::is_name))]
-pub(crate) fn is_name(text: &str) -> bool
+pub fn is_name(text: &str) -> bool
     ensures name { result ≡ is_name text.now }
     ensures short { result ≡ true → length text.now ≤ 32 }
 {

@@ -36,6 +36,7 @@ room_left g = g.limit - tail_of g
 -- what is true of every log
 pub record IsLog (g : Log) : Type 0 where
   pub shapes : HasShapes (shapes_of g.base_maps) g.base_maps
+  pub reclaimed : g.base ≤ g.done
   pub completed : g.done ≤ tail_of g
   pub within : tail_of g ≤ g.limit
   pub window : IsWindow g.window

@@ -105,7 +105,7 @@ impl LogState {
         self.base + self.records.len() as u64
     }
 
-    /// The completed tail: so many operations of the history are completed.
+    /// The completed tail: every update that was answered lies below it.
     pub fn done(&self) -> u64
         ensures done { result ≡ self.now.done }
         ensures completed { result ≤ tail_of self.now }

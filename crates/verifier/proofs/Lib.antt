@@ -11,3 +11,4 @@ pub mod Untypable
 pub mod Common
 pub mod Joins
 pub mod VerdictLaws
+pub mod PlacesLemmas

@@ -1,4 +1,5 @@
-use Rattle.std.proofs.Common.{◌∙◌, ◌<◌, length, refl, sym, rules, arith, tests}
+use Rattle.std.proofs.Common.{◌∙◌, ◌<◌, length, refl, sym, subst, rules, arith, tests}
+use Rattle.loader.specs.CatalogueView.{AreAccepted}
 use Rattle.loader.specs.Loading.{loaded}
 use Rattle.loader.specs.ProgramFiles.{files_of}
 use Rattle.loader.specs.SoFar.{view_of}
@@ -25,7 +26,7 @@ returns-then-is_empty c =
 pub new-requires-3 : goal.new-requires-3
 new-requires-3 c =
     let some : 0 < length c.loop-rest.so_far.shapes.items = grind (arith, tests, c.is_empty-2.ensures, c.if-is_empty.ensures) in
-    is_catalogue (view_of c.loop-rest.so_far) c.loop-rest.invariant.1 some
+    is_catalogue (view_of c.loop-rest.so_far) c.loop-rest.invariant.1 some (subst AreAccepted c.deref.ensures.value c.see_accepted.ensures.accepted)
 
 pub returns : goal.returns
 returns c = record { loaded = is_done (files_of c.args.files.now) c.loop-rest.number _ c.loop-rest.rest.now _ (search rules) (search rules) c.loop-rest.invariant.2 ∙ search rules }

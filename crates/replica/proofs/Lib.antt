@@ -1,0 +1,4 @@
+pub mod Outcomes
+pub mod Kept
+pub mod Afters
+pub mod Histories

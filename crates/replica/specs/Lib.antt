@@ -1,0 +1,4 @@
+pub mod StoreMeaning
+pub mod Views
+pub mod Replaying
+pub mod HistoryLaws

@@ -1,0 +1,17 @@
+-- Which outcomes are kept when records are replayed.
+use Rattle.std.specs.Prelude.{◌≡◌, ◌⊎◌, ℕ, ◌+◌, ◌<◌, ◌≤◌, length, take, Some, slice_get}
+use Rattle.maps.specs.Maps.{Maps}
+use Rattle.oplog.specs.declared.records.Record.{Record}
+use Rattle.oplog.specs.History.{History, after}
+use Rattle.loader.specs.CatalogueView.{CatalogueView}
+use Rattle.replica.specs.StoreMeaning.{effect_of, outcome_of, store_meaning}
+use Rattle.replica.specs.Views.{RepliesView}
+
+-- the records, the first at place begin, were replayed on these maps: of each at a place that is kept, the outcome on the maps after
+-- the records before it; at the other places what was kept before
+pub record KeepsOutcomes (c : CatalogueView) (maps : Maps) (begin : ℕ) (records : History) (old new : RepliesView) : Type 0 where
+  pub first : new.first ≡ old.first
+  pub count : length new.outcomes ≡ length old.outcomes
+  pub replayed : (k i : ℕ) (r : Record) → k < length old.outcomes → slice_get records i ≡ Some r → old.first + k ≡ begin + i
+      → slice_get new.outcomes k ≡ Some (Some (outcome_of (effect_of c r.op (after store_meaning c maps (take i records)))))
+  pub others : (k : ℕ) → (old.first + k < begin) ⊎ (begin + length records ≤ old.first + k) → slice_get new.outcomes k ≡ slice_get old.outcomes k

@@ -1,0 +1,28 @@
+-- A replica and the outcomes that are kept, as their users see them.
+use Rattle.std.specs.Prelude.{ℕ, ◌-◌, List, replicate, Option, Some, None, slice_set, nat_le, if◌then◌else◌, refl}
+use Rattle.std.specs.Coded.{Coded, code_by, coded×, coded_ℕ}
+use Rattle.maps.specs.Maps.{Maps}
+use Rattle.machine.specs.declared.running.Outcome.{Outcome}
+use Rattle.oplog.specs.Codes.{maps_code}
+
+-- how many records it has applied, and its maps
+pub record ReplicaView : Type 0 where
+  pub tail : ℕ
+  pub maps : Maps
+
+-- the outcomes of the records at the places from first on, one for each place; none where the record there was not replayed
+pub record RepliesView : Type 0 where
+  pub first : ℕ
+  pub outcomes : List (Option Outcome)
+
+abbrev pub no_replies : ℕ → ℕ → RepliesView
+no_replies first count = record { first = first; outcomes = replicate count None }
+
+-- the outcome of the record at a place, if that place is one of those kept
+abbrev pub with_outcome : RepliesView → ℕ → Outcome → RepliesView
+with_outcome kept place outcome =
+    record { first = kept.first; outcomes = if nat_le kept.first place then slice_set kept.outcomes (place - kept.first) (Some outcome) else kept.outcomes }
+
+-- a replica is told apart by its parts
+abbrev pub replica_code : Coded ReplicaView
+replica_code = code_by (ℕ × Maps) (coded× coded_ℕ maps_code) (λ r. (r.tail, r.maps)) (λ p. record { tail = p.0; maps = p.1 }) (λ _. refl)

@@ -1,0 +1,50 @@
+// Operations of the history, run on a node's maps.
+
+ghost use Rattle.std.specs.Prelude.{◌≡◌, ◌+◌, ◌<◌, ◌^◌, length};
+ghost use Rattle.maps.specs.Maps.{HasShapes};
+ghost use Rattle.maps.specs.MapSets.{maps_of};
+ghost use Rattle.oplog.specs.History.{after};
+ghost use Rattle.replica.specs.StoreMeaning.{store_meaning, effect_of, outcome_of, IsUpdate, AreUpdates};
+ghost use Rattle.replica.specs.Replaying.{KeepsOutcomes};
+
+use crate::replying::Replies;
+use loader::Catalogue;
+use machine::{Outcome, run};
+use maps::MapSet;
+use oplog::{Hand, Op};
+
+// Runs one operation.
+fn run_one(catalogue: &Catalogue, maps: &mut MapSet, op: &Op) -> Outcome
+    requires shapes { HasShapes catalogue.now.shapes (maps_of maps.old) }
+    requires update { IsUpdate catalogue.now op.now }
+    ensures outcome { result ≡ outcome_of (effect_of catalogue.now op.now (maps_of maps.old)) }
+    ensures maps { maps_of maps.new ≡ (effect_of catalogue.now op.now (maps_of maps.old)).maps }
+    ensures shapes { HasShapes catalogue.now.shapes (maps_of maps.new) }
+{
+    match catalogue.program(op.program()) {
+        Some(program) => run(program, maps, op.argument()),
+        None => unreachable!(),
+    }
+}
+
+// Runs the operations of the records in a hand, one after the other, and keeps what they answer.
+pub(crate) fn run_each(
+    catalogue: &Catalogue,
+    maps: &mut MapSet,
+    hand: &Hand,
+    replies: &mut Replies,
+)
+    requires shapes { HasShapes catalogue.now.shapes (maps_of maps.old) }
+    requires allowed { AreUpdates catalogue.now hand.now.records }
+    requires fits { hand.now.begin + length hand.now.records < 2 ^ 64 }
+    ensures maps { maps_of maps.new ≡ after store_meaning catalogue.now (maps_of maps.old) hand.now.records }
+    ensures shapes { HasShapes catalogue.now.shapes (maps_of maps.new) }
+    ensures kept { KeepsOutcomes catalogue.now (maps_of maps.old) hand.now.begin hand.now.records replies.old replies.new }
+{
+    let first = hand.begin();
+    for k in 0..hand.len() {
+        let record = hand.record(k);
+        let outcome = run_one(catalogue, maps, &record.op);
+        replies.keep(first + k as u64, outcome);
+    }
+}

@@ -1,0 +1,58 @@
+// Outcomes that are kept while records are replayed.
+
+ghost use Rattle.std.specs.Prelude.{◌≡◌, ◌<◌, ◌≤◌, Some, slice_get, length};
+ghost use Rattle.replica.specs.Views.{no_replies, with_outcome};
+
+use machine::Outcome;
+use std::marker::Model;
+
+/// The outcomes of the records at up to 16 places of the history, each from the time when its record is replayed.
+#[derive(Drop)]
+pub struct Replies {
+    first: u64,
+    count: usize,
+    outcomes: [Option<Outcome>; 16],
+}
+
+impl Model for Replies {
+    ghost use Rattle.std.specs.Prelude.{◌≤◌, take};
+    ghost use Rattle.replica.specs.Views.{RepliesView};
+
+    ghost Value = { RepliesView };
+
+    ghost view = { λ r. record { first = r.first; outcomes = take r.count r.outcomes } };
+
+    ghost invariant = { λ r. r.count ≤ 16 };
+}
+
+impl Replies {
+    /// Keeps the outcomes of `count` places from `first` on, at most 16. No record there was replayed yet.
+    pub fn new(first: u64, count: usize) -> Replies
+        requires few { count ≤ 16 }
+        ensures none { result ≡ no_replies first count }
+    {
+        Replies {
+            first,
+            count,
+            outcomes: [None; 16],
+        }
+    }
+
+    /// The outcome of the record at place `first + k`; `None` while it has not been replayed.
+    pub fn get(&self, k: usize) -> Option<Outcome>
+        requires within { k < length self.now.outcomes }
+        ensures outcome { slice_get self.now.outcomes k ≡ Some result }
+    {
+        let _count = self.count;
+        self.outcomes[k]
+    }
+
+    // The outcome of the record at this place of the history, if the place is one of those kept.
+    pub(crate) fn keep(&mut self, place: u64, outcome: Outcome)
+        ensures kept { self.new ≡ with_outcome self.old place outcome }
+    {
+        if self.first <= place && place - self.first < self.count as u64 {
+            self.outcomes[(place - self.first) as usize] = Some(outcome);
+        }
+    }
+}
