@@ -35,7 +35,7 @@ pub(crate) fn verifier(number: u8, slot: u32) -> Answer {
 }
 
 /// The bytes of hex text, in which spaces are skipped.
-fn bytes_of(alloc: Global, text: &[u8]) -> Option<Vec<u8>> {
+pub(crate) fn bytes_of(alloc: Global, text: &[u8]) -> Option<Vec<u8>> {
     let digits: Vec<u8> = text
         .iter()
         .copied()

@@ -6,7 +6,7 @@ use verifier::Mode;
 
 /// Adds 1 to the value under the key in the argument, and answers it; -1 where there is no such key. A slot and a space
 /// are 17 characters.
-const BUMP: &str =
+pub(crate) const BUMP: &str =
     "bf12000000000000 1851000000000000 0000000000000000 8500000001000000 1500050000000000 7906000000000000 0706000001000000 7b60000000000000 bf60000000000000 9500000000000000 b7000000ffffffff 9500000000000000 ";
 
 /// Answers the value under the key in the argument, -1 where there is none.

@@ -5,3 +5,5 @@
 mod answers;
 #[cfg(test)]
 mod counter;
+#[cfg(test)]
+mod runs;
