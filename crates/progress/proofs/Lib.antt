@@ -1,0 +1,15 @@
+pub mod Lists
+pub mod Parts
+pub mod Keeps
+pub mod Moved
+pub mod Appended
+pub mod Others
+pub mod Puts
+pub mod Finish
+pub mod Ended
+pub mod Kept
+pub mod Seen
+pub mod Alone
+pub mod AlonePuts
+pub mod StoreLaws
+pub mod Picked

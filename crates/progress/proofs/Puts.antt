@@ -1,0 +1,325 @@
+-- What is put back at a desk agrees.
+use Rattle.std.proofs.Common.{length-set, ◌≡◌, ◌≢◌, ℕ, zero, suc, ◌+◌, ◌*◌, ◌<◌, ◌≤◌, List, [], ◌∷◌, map, length, set, sym, refl, ap, ◌∙◌, subst, inr, ⊎_elim, arith, length-append, Some, None}
+use Rattle.std.proofs.lemmas.List.{length-map}
+use mathlib.Core.Option.{some-injective}
+use native.Mathlib.Decide.{ℕ_discrete}
+use Rattle.atomic_table.proofs.Lists.{at_set}
+use Rattle.oplog.specs.History.{Meaning, reply_at}
+use Rattle.oplog.specs.Operations.{Operation}
+use Rattle.oplog.specs.declared.configuration.Config.{Config}
+use Rattle.oplog.specs.declared.records.Record.{Record}
+use Rattle.ownlock.specs.Seats.{At}
+use Rattle.progress.proofs.Keeps.{some_one}
+use Rattle.progress.proofs.Lists.{at_below, at_none, at_one, one_node}
+use Rattle.progress.proofs.Moved.{some_none}
+use Rattle.progress.proofs.Others.{Undisturbed, same_progress, slot_stays}
+use Rattle.progress.proofs.Parts.{Alike, alike_on, alike_self, batch_back, batch_else, batch_here, note_else, note_here, posted_back, reply_front, same_batches}
+use Rattle.progress.specs.Accounts.{Accounts, Extends, HasNoRecord, IsInBatch, IsPlacedIn, IsSessionOf, session}
+use Rattle.progress.specs.Agreement.{Answers, DeskAgrees, IsUnclaimed, SlotAgrees, StageAgrees, desk_place}
+use Rattle.progress.specs.DeskSteps.{ClaimStep, CollectStep, DeskMayPut, DeskPuts, DeskStep, Gives, PostStep, ReplyStep, claimed_slot, claimed_stage, counted, replied_slot, replied_stage}
+use Rattle.progress.specs.Moves.{Claims, Collects, DeskMove, Posts, Replies, answered_with, posted_at, posted_from}
+use Rattle.progress.specs.Values.{Answer, Answered, Claimed, DeskValue, Empty, Ended, PlacedAt, Posted, SlotValue, Stage, TheDesk}
+use Rattle.progress.specs.declared.sessions.Claim.{Claim}
+use Rattle.progress.specs.declared.sessions.Pending.{Pending}
+use Rattle.progress.specs.declared.sessions.Progress.{Progress}
+use Rattle.progress.specs.declared.sessions.SessionNote.{SessionNote}
+
+abbrev IsStage : Stage → Stage → Type 0
+IsStage Empty Empty = Unit {0}
+IsStage (Posted op) (Posted op2) = Unit {0}
+IsStage Claimed Claimed = Unit {0}
+IsStage (Answered reply) (Answered reply2) = Unit {0}
+IsStage _ _ = ⊥
+
+at_there : {A : Type 0} (xs : List A) (i : ℕ) → i < length xs → (a : A) × At i a xs
+at_there [] i h = absurd (omega arith)
+at_there (x ∷ xs) zero h = (x, refl)
+at_there (x ∷ xs) (suc i) h = at_there xs i (omega arith)
+
+at_mapped : {A B : Type 0} (f : A → B) (xs : List A) (i : ℕ) (b : B) → At i b (map f xs) → (a : A) × At i a xs × (b ≡ f a)
+at_mapped f [] i b h = absurd (at_none i b h)
+at_mapped f (x ∷ xs) zero b h = (x, refl, sym (some-injective (f x) b h))
+at_mapped f (x ∷ xs) (suc i) b h = at_mapped f xs i b h
+
+-- a posted slot's request is among those that are claimed
+posted_on : (config : Config) (node s : ℕ) (xs : List SlotValue) (j : ℕ) (slot : SlotValue) (op : Operation) → At j slot xs → slot.stage ≡ Posted op → (k : ℕ) × (t : Claim) × At k t (posted_from config node s xs) × (t.request.author ≡ session config node (s + j))
+posted_on config node s [] j slot op h e = absurd (at_none j slot h)
+posted_on config node s (x ∷ xs) zero slot op h e =
+    subst (λ st. (k : ℕ) × (t : Claim) × At k t (posted_at config node s x.count st (posted_from config node (suc s) xs)) × (t.request.author ≡ session config node (s + 0))) (sym (ap (λ (z : SlotValue). z.stage) (some-injective x slot h) ∙ e))
+    (0, record { request = record { author = session config node s; seq = x.count; op = op }; place = None }, refl, ap (λ z. session config node z) (plus_zero s))
+  where
+    plus_zero : (n : ℕ) → n ≡ n + 0
+    plus_zero n = omega arith
+posted_on config node s (x ∷ xs) (suc j) slot op h e = by_stage x.stage (posted_on config node (suc s) xs j slot op h e)
+  where
+    moved : (n j : ℕ) → suc n + j ≡ n + suc j
+    moved n j = omega arith
+
+    by_stage : (st : Stage) → ((k : ℕ) × (t : Claim) × At k t (posted_from config node (suc s) xs) × (t.request.author ≡ session config node (suc s + j)))
+        → (k : ℕ) × (t : Claim) × At k t (posted_at config node s x.count st (posted_from config node (suc s) xs)) × (t.request.author ≡ session config node (s + suc j))
+    by_stage Empty r = (r.0, r.1, r.2, r.3 ∙ ap (λ z. session config node z) (moved s j))
+    by_stage Claimed r = (r.0, r.1, r.2, r.3 ∙ ap (λ z. session config node z) (moved s j))
+    by_stage (Answered reply) r = (r.0, r.1, r.2, r.3 ∙ ap (λ z. session config node z) (moved s j))
+    by_stage (Posted op2) r = (suc r.0, r.1, r.2, r.3 ∙ ap (λ z. session config node z) (moved s j))
+
+one_slot : (config : Config) (node s t : ℕ) → session config node s ≡ session config node t → s ≡ t
+one_slot config node s t e = cancel (node * config.slots) e
+  where
+    cancel : (b : ℕ) → b + s ≡ b + t → s ≡ t
+    cancel b e = omega (arith, e)
+
+module _ {C M : Type 0} (E : Meaning C M) where
+  module _ (l : Progress C) (ns : List SessionNote) (c : ℕ) (n n' : SessionNote) (w : Accounts E l ns) (here : At c n ns) (x : DeskValue) (desk : DeskAgrees E l ns x) where
+    -- a session's own slot changes, and no batch
+    own_slot : n'.batch ≡ n.batch → (s : ℕ) (slot : SlotValue) → c ≡ session l.config x.node s → SlotAgrees E l (set ns c n') desk.combiner c slot → DeskAgrees E l (set ns c n') (record { node = x.node; slots = set x.slots s slot })
+    own_slot batch s slot mine agrees = record {
+      slots = length-set x.slots s slot ∙ desk.slots;
+      combiner = desk.combiner;
+      each = λ t other at. ⊎_elim
+          (λ e. subst (λ z. SlotAgrees E l (set ns c n') desk.combiner (session l.config x.node z) other) (sym e.0) (subst (λ z. SlotAgrees E l (set ns c n') desk.combiner (session l.config x.node s) z) e.1 (subst (λ z. SlotAgrees E l (set ns c n') desk.combiner z slot) mine agrees)))
+          (λ e. slot_stays E l l [] ns (set ns c n') desk.combiner (session l.config x.node t) other w.completed (same_progress E l ns w) (calm t e.0) (desk.each t other e.1))
+          (at_set x.slots s t slot other at);
+    }
+      where
+        forth : (d k : ℕ) (t : Claim) → IsInBatch ns d k t → Dec (d ≡ c) → IsInBatch (set ns c n') d k t
+        forth d k t (m, at, h) (yes e) = subst (λ z. IsInBatch (set ns c n') z k t) (sym e) (batch_here ns c n n' here k t (subst (λ b. At k t b) (ap (λ (z : SessionNote). z.batch) (at_one ns c m n (subst (λ z. At z m ns) e at) here) ∙ sym batch) h))
+        forth d k t h (no ne) = batch_else ns c n n' here d k t ne h
+
+        calm : (t : ℕ) → t ≢ s → Undisturbed E l l ns (set ns c n') desk.combiner (session l.config x.node t)
+        calm t ne = record {
+          note = λ m at. (m, note_else ns c n n' here (session l.config x.node t) m (λ e. ne (one_slot l.config x.node t s (e ∙ mine))) at, alike_self m);
+          free = λ free d k u h. free d k u (same_batches ns c n n' here batch d k u h);
+          claimed = λ h. (h.0, h.1, forth desk.combiner h.0 h.1 h.2 (ℕ_discrete desk.combiner c), h.3);
+          unheard = λ seq free none. none;
+        }
+
+    free_now : n'.batch ≡ n.batch → IsUnclaimed ns c → IsUnclaimed (set ns c n') c
+    free_now batch free d k u h = free d k u (same_batches ns c n n' here batch d k u h)
+
+  module _ (known l : Progress C) (ns : List SessionNote) (c : ℕ) (n : SessionNote) (low : known.completed ≤ length known.history) (grown : Extends known l) (w : Accounts E l ns) (here : At c n ns)
+      (x : DeskValue) (mine : IsSessionOf l.config x.node c) (desk : DeskAgrees E l ns x) where
+    told : (s : ℕ) (slot : SlotValue) → c ≡ session l.config x.node s → At s slot x.slots → (slot.count ≡ length n.answered) × StageAgrees E l ns desk.combiner c n slot.stage
+    told s slot is at =
+        let t = desk.each s slot at in
+        let same : t.0 ≡ n = at_one ns c t.0 n (subst (λ z. At z t.0 ns) (sym is) t.1) here in
+        (t.2 ∙ ap (λ (z : SessionNote). length z.answered) same, subst (λ m. StageAgrees E l ns desk.combiner c m slot.stage) same (subst (λ z. StageAgrees E l ns desk.combiner z t.0 slot.stage) (sym is) t.3))
+
+    own : (s : ℕ) → c ≡ session known.config x.node s → c ≡ session l.config x.node s
+    own s e = e ∙ ap (λ z. session z x.node s) grown.config
+
+    post_puts : (s : ℕ) (slot : SlotValue) (op : Operation) → c ≡ session known.config x.node s → At s slot x.slots → slot.stage ≡ Empty → E.Allowed known.catalogue op → (n' : SessionNote) → n' ≡ record n { pending = Some (record { op = op; seen = length known.history }) }
+        → DeskMove E x c l n n' × DeskAgrees E l (set ns c n') (record { node = x.node; slots = set x.slots s (record { stage = Posted op; count = slot.count }) })
+    post_puts s slot op is at empty may n' e = (
+      Posts asked idle (subst (λ z. E.Allowed z op) grown.catalogue may) seen e,
+      own_slot l ns c n n' w here x desk batch s (record { stage = Posted op; count = slot.count }) (own s is) (
+        n',
+        note_here ns c n n' here,
+        t.0 ∙ sym answered,
+        (asked, ap (λ (z : SessionNote). z.pending) e, refl, subst (λ z. HasNoRecord l.history c z) (sym answered) none, free_now l ns c n n' w here x desk batch free),
+      ),
+    )
+      where
+        asked : Pending
+        asked = record { op = op; seen = length known.history }
+
+        t : (slot.count ≡ length n.answered) × StageAgrees E l ns desk.combiner c n slot.stage
+        t = told s slot (own s is) at
+
+        idle : n.pending ≡ None
+        idle = subst (λ st. StageAgrees E l ns desk.combiner c n st) empty t.1
+
+        seen : length known.history ≤ length l.history
+        seen = let long = ap length grown.history.1 ∙ length-append known.history grown.history.0 in omega (arith, long)
+
+        batch : n'.batch ≡ n.batch
+        batch = ap (λ (z : SessionNote). z.batch) e
+
+        answered : length n'.answered ≡ length n.answered
+        answered = ap (λ (z : SessionNote). length z.answered) e
+
+        none : HasNoRecord l.history c (length n.answered)
+        none i r at e q =
+            let a = w.accounted i r at in
+            let same : a.0 ≡ n = at_one ns c a.0 n (subst (λ z. At z a.0 ns) e a.1) here in
+            ⊎_elim (λ h. let b = at_below n.answered r.seq _ (subst (λ (z : SessionNote). At r.seq (record { place = i; op = r.op }) z.answered) same h) in omega (arith, b, q))
+            (λ h. some_none h.0 a.0.pending h.1 (ap (λ (z : SessionNote). z.pending) same ∙ idle)) a.2
+
+        free : IsUnclaimed ns c
+        free d k u h e =
+            let r = w.requested d k u h in
+            let same : r.0 ≡ n = at_one ns c r.0 n (subst (λ z. At z r.0 ns) e r.1) here in
+            some_none r.2.0 r.0.pending r.2.1 (ap (λ (z : SessionNote). z.pending) same ∙ idle)
+
+    collect_puts : (s : ℕ) (slot : SlotValue) (o : Pending) (reply : Answer) → c ≡ session known.config x.node s → At s slot x.slots → slot.stage ≡ Answered reply → n.pending ≡ Some o → (n' : SessionNote) → n' ≡ answered_with n o.op reply
+        → DeskMove E x c l n n' × DeskAgrees E l (set ns c n') (record { node = x.node; slots = set x.slots s (record { stage = Empty; count = counted reply slot.count }) })
+    collect_puts s slot o reply is at stage asked n' e = (
+      Collects s slot o reply (own s is) at stage asked e,
+      own_slot l ns c n n' w here x desk (ap (λ (z : SessionNote). z.batch) e ∙ batch reply) s (record { stage = Empty; count = counted reply slot.count }) (own s is)
+          (n', note_here ns c n n' here, count reply ∙ ap (λ (z : SessionNote). length z.answered) (sym e), ap (λ (z : SessionNote). z.pending) e ∙ none reply),
+    )
+      where
+        batch : (r : Answer) → (answered_with n o.op r).batch ≡ n.batch
+        batch (PlacedAt i r) = refl
+        batch Ended = refl
+
+        none : (r : Answer) → (answered_with n o.op r).pending ≡ None
+        none (PlacedAt i r) = refl
+        none Ended = refl
+
+        one_more : (a b c : ℕ) → a ≡ b → c ≡ b + 1 → suc a ≡ c
+        one_more a b c e f = omega (arith, e, f)
+
+        count : (r : Answer) → counted r slot.count ≡ length (answered_with n o.op r).answered
+        count (PlacedAt i r) = one_more slot.count (length n.answered) _ (told s slot (own s is) at).0 (length-append n.answered (record { place = i; op = o.op } ∷ []))
+        count Ended = (told s slot (own s is) at).0
+
+    claim_puts : ((s : ℕ) (slot : SlotValue) → At s slot x.slots → slot.stage ≢ Claimed) → n.batch ≡ [] → (n' : SessionNote) → n' ≡ record n { batch = posted_from known.config x.node 0 x.slots }
+        → DeskMove E x c l n n' × DeskAgrees E l (set ns c n') (record { node = x.node; slots = map claimed_slot x.slots })
+    claim_puts idle empty n' e = (Claims empty e', record { slots = length-map x.slots claimed_slot ∙ desk.slots; combiner = c; each = each })
+      where
+        e' : n' ≡ record n { batch = posted_from l.config x.node 0 x.slots }
+        e' = e ∙ ap (λ z. record n { batch = posted_from z x.node 0 x.slots }) grown.config
+
+        like : Alike n n'
+        like = record { answered = ap (λ (z : SessionNote). z.answered) (sym e); pending = ap (λ (z : SessionNote). z.pending) (sym e) }
+
+        zero_plus : (j : ℕ) → 0 + j ≡ j
+        zero_plus j = omega arith
+
+        free : (s : ℕ) (slot : SlotValue) (reply : Answer) → At s slot x.slots → slot.stage ≡ Answered reply → IsUnclaimed ns (session l.config x.node s) → IsUnclaimed (set ns c n') (session l.config x.node s)
+        free s slot reply at st old d k u h q = ⊎_elim
+            (λ b. let p = posted_back l.config x.node 0 x.slots k u (subst (λ (z : SessionNote). At k u z.batch) e' b.1) in
+            let same : p.slot ≡ s = one_slot l.config x.node p.slot s (ap (λ z. session l.config x.node z) (sym (zero_plus p.slot)) ∙ (ap (λ (z : Claim). z.request.author) (sym p.is) ∙ q)) in
+            let one : p.posted ≡ slot = at_one x.slots s p.posted slot (subst (λ z. At z p.posted x.slots) same p.at) at in
+            subst (λ z. IsStage (Posted p.op) z) (sym p.stage ∙ (ap (λ (z : SlotValue). z.stage) one ∙ st)) tt)
+            (λ b. old d k u b.1 q) (batch_back ns c n n' here d k u h)
+
+        stage : (s : ℕ) (slot : SlotValue) (m o : SessionNote) → At s slot x.slots → Alike m o → (st : Stage) → slot.stage ≡ st → StageAgrees E l ns desk.combiner (session l.config x.node s) m st → StageAgrees E l (set ns c n') c (session l.config x.node s) o (claimed_stage st)
+        stage s slot m o at same_as Empty is h = sym same_as.pending ∙ h
+        stage s slot m o at same_as (Posted op) is h =
+            let p = posted_on l.config x.node 0 x.slots s slot op at is in
+            (h.0, sym same_as.pending ∙ h.1, (p.0, p.1, batch_here ns c n n' here p.0 p.1 (subst (λ (z : SessionNote). At p.0 p.1 z.batch) (sym e') p.2), p.3 ∙ ap (λ z. session l.config x.node z) (zero_plus s)))
+        stage s slot m o at same_as Claimed is h = absurd (idle s slot at is)
+        stage s slot m o at same_as (Answered reply) is h =
+            (h.0, sym same_as.pending ∙ h.1, subst (λ us. Answers E l (session l.config x.node s) us h.0.op reply) (ap length same_as.answered) h.2, free s slot reply at is h.3)
+
+        each : (s : ℕ) (slot : SlotValue) → At s slot (map claimed_slot x.slots) → SlotAgrees E l (set ns c n') c (session l.config x.node s) slot
+        each s slot at =
+            let b = at_mapped claimed_slot x.slots s slot at in
+            let t = desk.each s b.0 b.1 in
+            let o = alike_on ns c n n' here like (session l.config x.node s) t.0 t.1 (ℕ_discrete (session l.config x.node s) c) in
+            subst (λ z. SlotAgrees E l (set ns c n') c (session l.config x.node s) z) (sym b.2)
+            (o.0, o.1, t.2 ∙ ap length o.2.answered, stage s b.0 t.0 o.0 b.1 o.2 b.0.stage refl t.3)
+
+    -- who has a batch is the one that the desk's claimed slots are with
+    combines : (k : ℕ) (t : Claim) → At k t n.batch → desk.combiner ≡ c
+    combines k t at = by_stage slot.0.stage there.3
+      where
+        mate : (node : ℕ) × IsSessionOf l.config node c × IsSessionOf l.config node t.request.author
+        mate = w.near c k t (n, here, at)
+
+        same_node : mate.0 ≡ x.node
+        same_node = one_node mate.0 x.node mate.1.0 mine.0 l.config.slots mate.1.1 mine.1 (sym mate.1.2 ∙ mine.2)
+
+        s : ℕ
+        s = mate.2.0
+
+        is : t.request.author ≡ session l.config x.node mate.2.0
+        is = mate.2.2 ∙ ap (λ z. session l.config z mate.2.0) same_node
+
+        slot : (a : SlotValue) × At mate.2.0 a x.slots
+        slot = at_there x.slots mate.2.0 (let lt = mate.2.1 in let long = desk.slots in omega (arith, lt, long))
+
+        there : SlotAgrees E l ns desk.combiner (session l.config x.node mate.2.0) slot.0
+        there = desk.each mate.2.0 slot.0 slot.1
+
+        by_stage : (st : Stage) → StageAgrees E l ns desk.combiner (session l.config x.node mate.2.0) there.0 st → desk.combiner ≡ c
+        by_stage Empty h =
+            let r = w.requested c k t (n, here, at) in
+            let same : r.0 ≡ there.0 = at_one ns t.request.author r.0 there.0 r.1 (subst (λ z. At z there.0 ns) (sym is) there.1) in
+            absurd (some_none r.2.0 r.0.pending r.2.1 (ap (λ (z : SessionNote). z.pending) same ∙ h))
+        by_stage (Posted op) h = absurd (h.4 c k t (n, here, at) is)
+        by_stage (Answered reply) h = absurd (h.3 c k t (n, here, at) is)
+        by_stage Claimed h = (w.once desk.combiner c h.2.0 k h.2.1 t h.2.2 (n, here, at) (h.2.3 ∙ sym is)).0
+
+    reply_puts : (answer : ℕ → Answer) (k : ℕ) (t : Claim) → At k t n.batch → ((k : ℕ) (t : Claim) → At k t n.batch → Gives E known t (answer t.request.author)) → (n' : SessionNote) → n' ≡ record n { batch = [] } → (y : DeskValue)
+        → y.node ≡ x.node → length y.slots ≡ length x.slots → ((s : ℕ) (slot : SlotValue) → At s slot x.slots → At s (replied_slot (answer (session known.config x.node s)) slot) y.slots)
+        → DeskMove E x c l n n' × DeskAgrees E l (set ns c n') y
+    reply_puts answer k0 t0 first gives n' e y node long now = (Replies e, record { slots = long ∙ desk.slots; combiner = c; each = each })
+      where
+        like : Alike n n'
+        like = record { answered = ap (λ (z : SessionNote). z.answered) (sym e); pending = ap (λ (z : SessionNote). z.pending) (sym e) }
+
+        back : (d k : ℕ) (u : Claim) → IsInBatch (set ns c n') d k u → (d ≢ c) × IsInBatch ns d k u
+        back d k u h = ⊎_elim (λ b. absurd (at_none k u (subst (λ (z : SessionNote). At k u z.batch) e b.1))) (λ b. b) (batch_back ns c n n' here d k u h)
+
+        answers : (a : ℕ) (u : Claim) (o : Pending) (seq : ℕ) (r : Answer) → u.request ≡ record { author = a; seq = seq; op = o.op } → IsPlacedIn l.history u → Gives E known u r → Answers E l a seq o.op r
+        answers a u o seq (PlacedAt i r) is p g =
+            let up = grown.completed in let lt = g.1 in (
+              omega (arith, up, lt),
+              subst (λ z. At i z l.history) is (p.0 i g.0),
+              g.2 ∙ (ap (λ (z : Record). reply_at E known.catalogue known.history i z.op) is ∙ (ap (λ z. reply_at E z known.history i o.op) grown.catalogue
+                  ∙ (sym (reply_front E l.catalogue known.history grown.history.0 i o.op (omega (arith, lt, low))) ∙ ap (λ z. reply_at E l.catalogue z i o.op) (sym grown.history.1)))),
+            )
+        answers a u o seq Ended is p g =
+            let up = grown.completed in let at = g.1 in let same = ap (λ (z : Config). z.limit) grown.config in let top = w.limit in let end = w.completed in
+            (omega (arith, up, at, same, top, end), subst (λ (z : Record). HasNoRecord l.history z.author z.seq) is (p.1 g.0))
+
+        stage : (s : ℕ) (m o : SessionNote) → At (session l.config x.node s) m ns → Alike m o → (st : Stage) → StageAgrees E l ns desk.combiner (session l.config x.node s) m st
+            → StageAgrees E l (set ns c n') c (session l.config x.node s) o (replied_stage (answer (session known.config x.node s)) st)
+        stage s m o there same_as Empty h = sym same_as.pending ∙ h
+        stage s m o there same_as (Posted op) h = (h.0, sym same_as.pending ∙ h.1, h.2, subst (λ us. HasNoRecord l.history (session l.config x.node s) us) (ap length same_as.answered) h.3, (λ d k u g. h.4 d k u (back d k u g).1))
+        stage s m o there same_as (Answered reply) h = (h.0, sym same_as.pending ∙ h.1, subst (λ us. Answers E l (session l.config x.node s) us h.0.op reply) (ap length same_as.answered) h.2, (λ d k u g. h.3 d k u (back d k u g).1))
+        stage s m o there same_as Claimed h =
+            let a = session l.config x.node s in
+            let by : IsInBatch ns c h.2.0 h.2.1 = subst (λ z. IsInBatch ns z h.2.0 h.2.1) (combines k0 t0 first) h.2.2 in
+            let at : At h.2.0 h.2.1 n.batch = subst (λ (z : SessionNote). At h.2.0 h.2.1 z.batch) (at_one ns c by.0 n by.1 here) by.2 in
+            let r = w.requested c h.2.0 h.2.1 by in
+            let note : r.0 ≡ m = at_one ns a r.0 m (subst (λ z. At z r.0 ns) h.2.3 r.1) there in
+            let asked : r.2.0 ≡ h.0 = some_one r.2.0 h.0 (sym r.2.1 ∙ (ap (λ (z : SessionNote). z.pending) note ∙ h.1)) in
+            let is : h.2.1.request ≡ record { author = a; seq = length o.answered; op = h.0.op } =
+            λ k. record { author = h.2.3 k; seq = (r.2.3 ∙ (ap (λ (z : SessionNote). length z.answered) note ∙ ap length same_as.answered)) k; op = (r.2.2 ∙ ap (λ (z : Pending). z.op) asked) k } in (
+              h.0,
+              sym same_as.pending ∙ h.1,
+              subst (λ z. Answers E l a (length o.answered) h.0.op (answer z)) (h.2.3 ∙ ap (λ z. session z x.node s) (sym grown.config))
+                  (answers a h.2.1 h.0 (length o.answered) (answer h.2.1.request.author) is (w.placed c h.2.0 h.2.1 by) (gives h.2.0 h.2.1 at)),
+              (λ d k u g q. let b = back d k u g in b.0 (w.once d c k h.2.0 u h.2.1 b.1 by (q ∙ sym h.2.3)).0),
+            )
+
+        each : (s : ℕ) (slot : SlotValue) → At s slot y.slots → SlotAgrees E l (set ns c n') c (session l.config y.node s) slot
+        each s slot at =
+            let b = at_there x.slots s (let lt = at_below y.slots s slot at in omega (arith, lt, long)) in
+            let t = desk.each s b.0 b.1 in
+            let o = alike_on ns c n n' here like (session l.config x.node s) t.0 t.1 (ℕ_discrete (session l.config x.node s) c) in
+            subst (λ z. SlotAgrees E l (set ns c n') c (session l.config z s) slot) (sym node)
+            (subst (λ z. SlotAgrees E l (set ns c n') c (session l.config x.node s) z) (at_one y.slots s _ slot (now s b.0 b.1) at)
+            (o.0, o.1, t.2 ∙ ap length o.2.answered, stage s t.0 o.0 t.1 o.2 b.0.stage t.3))
+
+  pub desk_puts : DeskPuts E
+  desk_puts known l ns c n n' x y low grown w here mine desk (PostStep s slot op is at empty may e f) =
+      let t = post_puts known l ns c n low grown w here x mine desk s slot op is at empty may n' e in (t.0, subst (λ z. DeskAgrees E l (set ns c n') z) (sym f) t.1)
+  desk_puts known l ns c n n' x y low grown w here mine desk (ClaimStep idle empty e f) =
+      let t = claim_puts known l ns c n low grown w here x mine desk idle empty n' e in (t.0, subst (λ z. DeskAgrees E l (set ns c n') z) (sym f) t.1)
+  desk_puts known l ns c n n' x y low grown w here mine desk (ReplyStep answer k t first gives e node long now) = reply_puts known l ns c n low grown w here x mine desk answer k t first gives n' e y node long now
+  desk_puts known l ns c n n' x y low grown w here mine desk (CollectStep s slot o reply is at stage asked e f) =
+      let t = collect_puts known l ns c n low grown w here x mine desk s slot o reply is at stage asked n' e in (t.0, subst (λ z. DeskAgrees E l (set ns c n') z) (sym f) t.1)
+
+  same_node : (known : Progress C) (c : ℕ) (n n' : SessionNote) (x y : DeskValue) → DeskStep E known c n x n' y → x.node ≡ y.node
+  same_node known c n n' x y (PostStep s slot op is at empty may e f) = ap (λ (z : DeskValue). z.node) (sym f)
+  same_node known c n n' x y (ClaimStep idle empty e f) = ap (λ (z : DeskValue). z.node) (sym f)
+  same_node known c n n' x y (ReplyStep answer k t first gives e node long now) = sym node
+  same_node known c n n' x y (CollectStep s slot o reply is at stage asked e f) = ap (λ (z : DeskValue). z.node) (sym f)
+
+  pub desk_may_put : DeskMayPut E
+  desk_may_put k p a x y n' held low mine step = (
+    TheDesk x,
+    a,
+    held,
+    λ line notes may.
+        let grown = may.0.0 in
+        let own : IsSessionOf line.config x.node k.session = subst (λ z. IsSessionOf z x.node k.session) grown.config mine in
+        let agrees = may.3 a (p, TheDesk x) held in
+        let t = desk_puts k.progress line notes k.session k.note n' x y low grown may.2 may.1 own agrees.2 step in
+        let node = same_node k.progress k.session k.note n' x y step in
+        ((refl, inr (own, t.0)), (subst (λ z. z < line.config.nodes) node agrees.0, agrees.1 ∙ ap (λ z. desk_place line.config z) node, t.1)),
+  )

@@ -1,0 +1,23 @@
+use Rattle.progress.proofs.AlonePuts.{single_opens, may_take_first, may_take_second, takes_log, takes_replica, agrees_log, agrees_replica}
+use Rattle.progress.proofs.law.single_takes.Goals as goal
+
+pub returns-clause-opens : goal.returns-clause-opens
+returns-clause-opens g c = single_opens g.S.Viewed.meaning g.S.Viewed.view g.S.Viewed.is_sized
+
+pub returns-clause-log : goal.returns-clause-log
+returns-clause-log g c = takes_log g.S.Viewed.meaning g.S.Viewed.view g.S.Viewed.is_sized
+
+pub returns-clause-replica : goal.returns-clause-replica
+returns-clause-replica g c = takes_replica g.S.Viewed.meaning g.S.Viewed.view g.S.Viewed.is_sized
+
+pub returns-clause-is_log : goal.returns-clause-is_log
+returns-clause-is_log g c = agrees_log g.S.Viewed.meaning g.S.Viewed.view g.S.Viewed.is_sized
+
+pub returns-clause-is_replica : goal.returns-clause-is_replica
+returns-clause-is_replica g c = agrees_replica g.S.Viewed.meaning g.S.Viewed.view g.S.Viewed.is_sized
+
+pub returns-clause-first : goal.returns-clause-first
+returns-clause-first g c = may_take_first g.S.Viewed.meaning g.S.Viewed.view g.S.Viewed.is_sized
+
+pub returns-clause-second : goal.returns-clause-second
+returns-clause-second g c = may_take_second g.S.Viewed.meaning g.S.Viewed.view g.S.Viewed.is_sized

@@ -1,0 +1,11 @@
+pub mod Values
+pub mod Accounts
+pub mod Agreement
+pub mod Moves
+pub mod Seen
+pub mod DeskSteps
+pub mod LogSteps
+pub mod Told
+pub mod Single
+pub mod SinglePuts
+pub mod Picks

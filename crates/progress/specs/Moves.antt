@@ -1,0 +1,108 @@
+-- What a session may change of the progress and of its own note, by the value that it took.
+use Rattle.std.specs.Prelude.{max, ◌+◌, ◌≡◌, ℕ, zero, suc, ◌≤◌, ◌⊎◌, List, [], ◌∷◌, ◌++◌, map, take, length, Some, None}
+use Rattle.ownlock.specs.Rules.{Rules}
+use Rattle.ownlock.specs.Seats.{At}
+use Rattle.oplog.specs.Operations.{Operation}
+use Rattle.oplog.specs.declared.records.Record.{Record}
+use Rattle.oplog.specs.declared.configuration.Config.{Config}
+use Rattle.oplog.specs.History.{Meaning}
+use Rattle.progress.specs.declared.sessions.Progress.{Progress}
+use Rattle.progress.specs.declared.sessions.Pending.{Pending}
+use Rattle.progress.specs.declared.sessions.Claim.{Claim}
+use Rattle.progress.specs.declared.sessions.SessionNote.{SessionNote}
+use Rattle.progress.specs.Values.{DeskValue, SlotValue, Stage, Empty, Posted, Claimed, Answered, Answer, PlacedAt, Ended, StoreValue, TheLog, TheReplica, TheDesk}
+use Rattle.progress.specs.Accounts.{session, IsSessionOf, Accounts, Extends}
+use Rattle.progress.specs.Agreement.{AgreesWith, log_place, replica_place, desk_place}
+
+-- a batch whose first k requests were appended, from this place on
+abbrev pub placed_from : ℕ → ℕ → List Claim → List Claim
+placed_from from zero ts = ts
+placed_from from (suc k) [] = []
+placed_from from (suc k) (t ∷ ts) = record { request = t.request; place = Some from } ∷ placed_from (suc from) k ts
+
+abbrev pub record_of : Claim → Record
+record_of t = t.request
+
+-- the requests that are posted on a desk, by ascending slots from s on
+abbrev pub posted_at : Config → ℕ → ℕ → ℕ → Stage → List Claim → List Claim
+posted_at config node s count (Posted op) ts = record { request = record { author = session config node s; seq = count; op = op }; place = None } ∷ ts
+posted_at config node s count Empty ts = ts
+posted_at config node s count Claimed ts = ts
+posted_at config node s count (Answered answer) ts = ts
+
+abbrev pub posted_from : Config → ℕ → ℕ → List SlotValue → List Claim
+posted_from config node s [] = []
+posted_from config node s (x ∷ xs) = posted_at config node s x.count x.stage (posted_from config node (suc s) xs)
+
+-- the note once the session has its answer
+abbrev pub answered_with : SessionNote → Operation → Answer → SessionNote
+answered_with n op (PlacedAt i reply) = record n { answered = n.answered ++ record { place = i; op = op } ∷ []; pending = None }
+answered_with n op Ended = record n { pending = None }
+
+-- what session c may hold at once, the one taken last first: nothing, the desk of its node alone, the replica of its node, the log, or these two
+pub data MayHold {C : Type 0} (l : Progress C) (c : ℕ) (places : List ℕ) : Type 0 where
+  HoldsNothing : places ≡ [] → MayHold l c places
+  HoldsLog : places ≡ log_place ∷ [] → MayHold l c places
+  HoldsDesk : (node : ℕ) → IsSessionOf l.config node c → places ≡ desk_place l.config node ∷ [] → MayHold l c places
+  HoldsReplica : (node : ℕ) → IsSessionOf l.config node c → places ≡ replica_place l.config node ∷ [] → MayHold l c places
+  HoldsBoth : (node : ℕ) → IsSessionOf l.config node c → places ≡ log_place ∷ replica_place l.config node ∷ [] → MayHold l c places
+
+module _ {C M : Type 0} (E : Meaning C M) where
+  -- at the desk of its node a session changes nothing but its note
+  pub data DeskMove (x : DeskValue) (c : ℕ) (l : Progress C) (n n' : SessionNote) : Type 0 where
+    Posts : (o : Pending) → n.pending ≡ None → E.Allowed l.catalogue o.op → o.seen ≤ length l.history → n' ≡ record n { pending = Some o } → DeskMove x c l n n'
+    Claims : n.batch ≡ [] → n' ≡ record n { batch = posted_from l.config x.node 0 x.slots } → DeskMove x c l n n'
+    Replies : n' ≡ record n { batch = [] } → DeskMove x c l n n'
+    Collects : (s : ℕ) (slot : SlotValue) (o : Pending) (answer : Answer) → c ≡ session l.config x.node s → At s slot x.slots → slot.stage ≡ Answered answer → n.pending ≡ Some o → n' ≡ answered_with n o.op answer → DeskMove x c l n n'
+
+  -- the log is put back with the first k requests of the session's batch
+  pub record BatchAppended (l : Progress C) (n : SessionNote) (l' : Progress C) (n' : SessionNote) : Type 0 where
+    pub count : ℕ
+    pub unplaced : (j : ℕ) (t : Claim) → At j t n.batch → t.place ≡ None
+    pub within : count ≤ length n.batch
+    pub history : l'.history ≡ l.history ++ map record_of (take count n.batch)
+    pub limit : length l'.history ≤ l.config.limit
+    pub note : n' ≡ record n { batch = placed_from (length l.history) count n.batch }
+
+  -- who holds the log raises the completed tail, and may append from its batch
+  pub record LogMove (l : Progress C) (n : SessionNote) (l' : Progress C) (n' : SessionNote) : Type 0 where
+    pub config : l'.config ≡ l.config
+    pub catalogue : l'.catalogue ≡ l.catalogue
+    pub rises : l.completed ≤ l'.completed
+    pub completed : l'.completed ≤ length l'.history
+    pub appends : ((l'.history ≡ l.history) × (n' ≡ n)) ⊎ BatchAppended l n l' n'
+
+  abbrev pub Moves : ℕ → ℕ → StoreValue M → Progress C → SessionNote → Progress C → SessionNote → Type 0
+  Moves p c (TheLog x) l n l' n' = (p ≡ log_place) × LogMove l n l' n'
+  Moves p c (TheReplica x) l n l' n' = (l' ≡ l) × (n' ≡ n)
+  Moves p c (TheDesk x) l n l' n' = (l' ≡ l) × ((n' ≡ n) ⊎ (IsSessionOf l.config x.node c × DeskMove x c l n n'))
+
+  -- a store whose sessions combine at desks
+  abbrev pub desk_rules : Rules (Progress C) SessionNote (StoreValue M)
+  desk_rules = record {
+    Extends = Extends;
+    SameHistory = λ a b. a.history ≡ b.history;
+    Accounts = Accounts E;
+    AgreesWith = AgreesWith E;
+    Allows = MayHold;
+    Moves = Moves;
+    completed = λ l. l.completed;
+    with_completed = λ l n. record l { completed = n };
+    HasLength = λ l n. n ≤ length l.history;
+  }
+
+module _ {M : Type 0} where
+  -- the log, its completed tail, and the log whose completed tail is the greater of what it was and n, where the log reaches so far
+  abbrev pub IsLog : StoreValue M → Type 0
+  IsLog (TheLog x) = Unit {0}
+  IsLog (TheReplica x) = ⊥
+  IsLog (TheDesk x) = ⊥
+
+  abbrev pub done_of : StoreValue M → ℕ
+  done_of (TheLog x) = x.done
+  done_of (TheReplica x) = 0
+  done_of (TheDesk x) = 0
+
+  abbrev pub RaisedTo : StoreValue M → ℕ → StoreValue M → Type 0
+  RaisedTo (TheLog x) n (TheLog y) = (y.base ≡ x.base) × (y.base_maps ≡ x.base_maps) × (y.records ≡ x.records) × (n ≤ x.base + length x.records → y.done ≡ max x.done n)
+  RaisedTo _ n _ = ⊥

@@ -1,0 +1,77 @@
+-- A store whose sessions have no desk: who holds the log appends its own request, and counts it as answered in the same move.
+use Rattle.std.specs.Prelude.{◌≡◌, ℕ, ◌<◌, ◌≤◌, ◌⊎◌, List, [], ◌∷◌, ◌++◌, length, slice_set, None}
+use Rattle.ownlock.specs.Rules.{Rules}
+use Rattle.ownlock.specs.Seats.{At}
+use Rattle.oplog.specs.Operations.{Operation}
+use Rattle.oplog.specs.declared.records.Record.{Record}
+use Rattle.oplog.specs.History.{Meaning}
+use Rattle.progress.specs.declared.sessions.Progress.{Progress}
+use Rattle.progress.specs.declared.sessions.SessionNote.{SessionNote}
+use Rattle.progress.specs.Values.{StoreValue, TheLog, TheReplica, TheDesk}
+use Rattle.progress.specs.Accounts.{IsSessionOf, Accounts, Extends}
+use Rattle.progress.specs.Agreement.{AgreesWith, log_place}
+use Rattle.progress.specs.Moves.{MayHold}
+
+-- the request as the next record of the session c, whose note is n
+abbrev pub next_record : ℕ → SessionNote → Operation → Record
+next_record c n op = record { author = c; seq = length n.answered; op = op }
+
+-- the note, once the session was answered op at place i
+abbrev pub note_with : SessionNote → ℕ → Operation → SessionNote
+note_with n i op = record { answered = n.answered ++ record { place = i; op = op } ∷ []; pending = None; batch = [] }
+
+abbrev pub IsNoDesk : {M : Type 0} → StoreValue M → Type 0
+IsNoDesk (TheLog x) = Unit {0}
+IsNoDesk (TheReplica x) = Unit {0}
+IsNoDesk (TheDesk x) = ⊥
+
+module _ {C : Type 0} where
+  -- the progress, once r is appended
+  abbrev pub progress_with : Progress C → Record → ℕ → Progress C
+  progress_with l r completed = record { config = l.config; catalogue = l.catalogue; history = l.history ++ r ∷ []; completed = completed }
+
+module _ {C M : Type 0} (E : Meaning C M) where
+  -- the session c, which waits for nothing and combines nothing, appends an allowed operation of its own, and counts it as answered
+  pub record OwnAppended (c : ℕ) (l : Progress C) (n : SessionNote) (l' : Progress C) (n' : SessionNote) : Type 0 where
+    pub op : Operation
+    pub node : ℕ
+    pub own : IsSessionOf l.config node c
+    pub idle : n.pending ≡ None
+    pub alone : n.batch ≡ []
+    pub allowed : E.Allowed l.catalogue op
+    pub room : length l.history < l.config.limit
+    pub history : l'.history ≡ l.history ++ next_record c n op ∷ []
+    pub note : n' ≡ note_with n (length l.history) op
+
+  -- who holds the log raises the completed tail, and may append one record of its own
+  pub record SingleLogMove (c : ℕ) (l : Progress C) (n : SessionNote) (l' : Progress C) (n' : SessionNote) : Type 0 where
+    pub config : l'.config ≡ l.config
+    pub catalogue : l'.catalogue ≡ l.catalogue
+    pub rises : l.completed ≤ l'.completed
+    pub completed : l'.completed ≤ length l'.history
+    pub appends : ((l'.history ≡ l.history) × (n' ≡ n)) ⊎ OwnAppended c l n l' n'
+
+  abbrev pub SingleMoves : ℕ → ℕ → StoreValue M → Progress C → SessionNote → Progress C → SessionNote → Type 0
+  SingleMoves p c (TheLog x) l n l' n' = (p ≡ log_place) × SingleLogMove c l n l' n'
+  SingleMoves p c (TheReplica x) l n l' n' = (l' ≡ l) × (n' ≡ n)
+  SingleMoves p c (TheDesk x) l n l' n' = (l' ≡ l) × (n' ≡ n)
+
+  abbrev pub single_rules : Rules (Progress C) SessionNote (StoreValue M)
+  single_rules = record {
+    Extends = Extends;
+    SameHistory = λ a b. a.history ≡ b.history;
+    Accounts = Accounts E;
+    AgreesWith = λ p l ns v. IsNoDesk v × AgreesWith E p l ns v;
+    Allows = MayHold;
+    Moves = SingleMoves;
+    completed = λ l. l.completed;
+    with_completed = λ l n. record l { completed = n };
+    HasLength = λ l n. n ≤ length l.history;
+  }
+
+  -- the request is appended and counted as answered, and the account stays
+  abbrev pub SingleKeeps : Type 0
+  SingleKeeps =
+      (l : Progress C) (ns : List SessionNote) (c node : ℕ) (n : SessionNote) (op : Operation) (completed : ℕ) → Accounts E l ns → At c n ns → IsSessionOf l.config node c → n.pending ≡ None → E.Allowed l.catalogue op
+      → length l.history < l.config.limit → completed ≤ length (l.history ++ next_record c n op ∷ [])
+      → Accounts E (progress_with l (next_record c n op) completed) (slice_set ns c (note_with n (length l.history) op))

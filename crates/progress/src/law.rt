@@ -1,0 +1,98 @@
+// The laws of what a store's sessions know of its history.
+ghost use Rattle.ownlock.specs.Rules.{Laws, CompletedLaws};
+ghost use Rattle.progress.specs.Moves.{desk_rules, IsLog, done_of, RaisedTo};
+ghost use Rattle.progress.specs.Seen.{seen_rules, IsSeenLog, seen_done, IsSeenRaised};
+ghost use Rattle.progress.specs.DeskSteps.{DeskPuts, DeskMayPut};
+ghost use Rattle.progress.specs.LogSteps.{LogPuts, ReplicaPuts, Opens};
+ghost use Rattle.progress.specs.Told.{DeskTells, Ends};
+ghost use Rattle.progress.specs.Single.{single_rules, SingleKeeps};
+ghost use Rattle.progress.specs.SinglePuts.{the_rules, OneMoreSteps, TailIs, Replays, ReplayedAgrees, PlacedTells, ReadsTell, EndedTells, SingleOpens, AgreesLog, AgreesReplica, MayTakeFirst, MayTakeSecond, TakesLog, TakesReplica, SameMayPut, OwnMayPut, ReplicaMayPut};
+ghost use Rattle.progress.specs.Picks.{SamePicked, OwnPicked, ReplicaPicked, PutsAccount, SameIs, OwnIs, ReplicaIs};
+
+use crate::meanings::{Effects, Viewed};
+
+/// With desks: a move keeps the account of all notes and the agreement of every other value, and the completed tail is the log's.
+pub fn desk_laws<E: Effects>()
+    ensures laws { Laws (desk_rules E.meaning) }
+    ensures completed { CompletedLaws (desk_rules E.meaning) IsLog done_of RaisedTo }
+{}
+
+/// A post, claim, reply or collect at a desk may be put back, wherever the others are by then.
+pub fn desk_puts<E: Effects>()
+    ensures steps { DeskPuts E.meaning }
+    ensures shelf { DeskMayPut E.meaning }
+{}
+
+/// With desks, a log with some of a batch or a replica that was replayed may be put back, wherever the others are by then.
+pub fn log_puts<E: Effects>()
+    ensures log { LogPuts E.meaning }
+    ensures replica { ReplicaPuts E.meaning }
+{}
+
+/// What a store opens with agrees.
+pub fn opens<E: Effects>()
+    ensures { Opens E.meaning }
+{}
+
+/// What a desk has for a session is so; and in the end the records of each session are its answered updates in order, and no
+/// record is of anybody else.
+pub fn tells<E: Effects>()
+    ensures desk { DeskTells E.meaning }
+    ensures ends { Ends E.meaning }
+{}
+
+/// Without desks: the same of the moves of a session that appends its own request and counts it as answered at once.
+pub fn single_laws<E: Effects>()
+    ensures laws { Laws (single_rules E.meaning) }
+    ensures completed { CompletedLaws (single_rules E.meaning) IsLog done_of RaisedTo }
+    ensures append { SingleKeeps E.meaning }
+{}
+
+/// Without desks: one more record is a step of the log, replaying records is what the history means, and from where a record
+/// stands and what the history's limit is follows what its session may say.
+pub fn single_tells<E: Effects>()
+    ensures step { OneMoreSteps E.meaning }
+    ensures tail { TailIs E.meaning }
+    ensures replays { Replays E.meaning }
+    ensures agrees { ReplayedAgrees E.meaning }
+    ensures placed { PlacedTells E.meaning }
+    ensures ended { EndedTells E.meaning }
+    ensures read { ReadsTell E.meaning }
+{}
+
+/// Both sets of laws, for values of any type that are seen as a store's.
+pub fn seen_laws<S: Viewed>()
+    ensures desk { Laws (seen_rules S.view S.is_sized (desk_rules S.meaning)) }
+    ensures desk_completed { CompletedLaws (seen_rules S.view S.is_sized (desk_rules S.meaning)) (IsSeenLog S.view S.is_sized) (seen_done S.view S.is_sized) (IsSeenRaised S.view S.is_sized) }
+    ensures single { Laws (the_rules S.meaning S.view S.is_sized) }
+    ensures single_completed { CompletedLaws (the_rules S.meaning S.view S.is_sized) (IsSeenLog S.view S.is_sized) (seen_done S.view S.is_sized) (IsSeenRaised S.view S.is_sized) }
+{}
+
+/// Without desks: what a shelf opens with, what a session may take, what it is told then, and what each value is in the end.
+pub fn single_takes<S: Viewed>()
+    ensures opens { SingleOpens S.meaning S.view S.is_sized }
+    ensures first { MayTakeFirst S.meaning S.view S.is_sized }
+    ensures second { MayTakeSecond S.meaning S.view S.is_sized }
+    ensures log { TakesLog S.meaning S.view S.is_sized }
+    ensures replica { TakesReplica S.meaning S.view S.is_sized }
+    ensures is_log { AgreesLog S.meaning S.view S.is_sized }
+    ensures is_replica { AgreesReplica S.meaning S.view S.is_sized }
+{}
+
+/// Without desks: what a session may put back, wherever the others are by then.
+pub fn single_puts<S: Viewed>()
+    ensures same { SameMayPut S.meaning S.view S.is_sized }
+    ensures own { OwnMayPut S.meaning S.view S.is_sized }
+    ensures replica { ReplicaMayPut S.meaning S.view S.is_sized }
+{}
+
+/// The same for one pick of what every put of a function changes, read off the value and what the session knows.
+pub fn single_picks<S: Viewed>()
+    ensures same { SamePicked S.meaning S.view S.is_sized }
+    ensures own { OwnPicked S.meaning S.view S.is_sized }
+    ensures replica { ReplicaPicked S.meaning S.view S.is_sized }
+    ensures account { PutsAccount S.meaning S.view S.is_sized }
+    ensures same_is { SameIs S.meaning S.view S.is_sized }
+    ensures own_is { OwnIs S.meaning S.view S.is_sized }
+    ensures replica_is { ReplicaIs S.meaning S.view S.is_sized }
+{}

@@ -1,0 +1,14 @@
+//! What is known of one growing history of operations, and the laws of it: how the log, the replicas and the desks of a store fit
+//! the history and what each session says of itself, and which changes keep that. Definitions and laws alone, and no code that runs.
+#![tactic(auto)]
+
+mod law;
+mod meanings;
+mod sessions;
+
+pub use law::{
+    desk_laws, desk_puts, log_puts, opens, seen_laws, single_laws, single_picks, single_puts,
+    single_takes, single_tells, tells,
+};
+pub use meanings::{Effects, Viewed};
+pub use sessions::{AnsweredUpdate, Claim, Pending, Progress, SessionNote};
