@@ -3,3 +3,7 @@ pub mod Found
 pub mod Gathers
 pub mod Answers
 pub mod ProgramLines
+pub mod Opened
+pub mod OneUpdate
+pub mod RunLines
+pub mod RunAnswers

@@ -1,7 +1,11 @@
 pub mod Transfer
 pub mod Files
+pub mod Script
+pub mod ScriptShown
 pub mod Texts
 pub mod Status
 pub mod Answer
+pub mod RunAnswer
+pub mod Running
 pub mod Reading
 pub mod Report

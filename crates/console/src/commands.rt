@@ -1,5 +1,7 @@
 // One module for each command.
 
 mod checking;
+mod running;
 
 pub use checking::check;
+pub use running::run;

@@ -22,7 +22,7 @@ pub(crate) fn no_memory() -> &'static [u8]
     b"no memory\n"
 }
 
-fn put_number(out: &mut Vec<u8>, n: u64) -> Result<(), AllocError>
+pub(crate) fn put_number(out: &mut Vec<u8>, n: u64) -> Result<(), AllocError>
     ensures { OnOk result (out.new.items ≡ out.old.items ++ decimal n) }
 {
     let mut digits = Buffer::new();
@@ -41,7 +41,11 @@ fn put_program(out: &mut Vec<u8>, name: &str, program: &Accepted) -> Result<(), 
 }
 
 // The line of program k.
-fn put_numbered(out: &mut Vec<u8>, catalogue: &Catalogue, k: u16) -> Result<(), AllocError>
+pub(crate) fn put_numbered(
+    out: &mut Vec<u8>,
+    catalogue: &Catalogue,
+    k: u16,
+) -> Result<(), AllocError>
     ensures { OnOk result (out.new.items ≡ out.old.items ++ line_if_any (slice_get catalogue.now.programs k)) }
 {
     match (catalogue.name(k), catalogue.program(k)) {

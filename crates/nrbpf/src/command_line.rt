@@ -9,22 +9,45 @@ use std::alloc::{AllocError, Global};
 pub enum Call<'a> {
     /// Check the manifest of this path.
     Check(&'a str),
+    /// Run a script.
+    Run {
+        /// The path of the manifest.
+        manifest: &'a str,
+        /// The path of the script.
+        script: &'a str,
+    },
+}
+
+fn manifest<'a>(alloc: Global) -> Arg<'a> {
+    Arg::new(alloc, "MANIFEST")
+        .required(true)
+        .help(help::MANIFEST)
+}
+
+fn check_command<'a>(alloc: Global) -> Result<Command<'a>, AllocError> {
+    Command::new(alloc, "check")
+        .about(help::CHECK)
+        .after_help(help::AFTER_CHECK)
+        .arg(manifest(alloc))
+}
+
+fn run_command<'a>(alloc: Global) -> Result<Command<'a>, AllocError> {
+    let script = Arg::new(alloc, "SCRIPT").required(true).help(help::SCRIPT);
+    Command::new(alloc, "run")
+        .about(help::RUN)
+        .after_help(help::AFTER_RUN)
+        .arg(manifest(alloc))?
+        .arg(script)
 }
 
 fn command<'a>(alloc: Global) -> Result<Command<'a>, AllocError> {
-    let manifest = Arg::new(alloc, "MANIFEST")
-        .required(true)
-        .help(help::MANIFEST);
-    let check = Command::new(alloc, "check")
-        .about(help::CHECK)
-        .after_help(help::AFTER_CHECK)
-        .arg(manifest)?;
     Command::new(alloc, "nrbpf")
         .about(help::ABOUT)
         .after_help(help::AFTER)
         .subcommand_required(true)
         .arg_required_else_help(true)
-        .subcommand(check)
+        .subcommand(check_command(alloc)?)?
+        .subcommand(run_command(alloc)?)
 }
 
 /// The call that the words of a command line ask for, the first of them the program's name.
@@ -32,8 +55,10 @@ pub fn read<'a>(alloc: Global, words: &'a [String]) -> Result<Call<'a>, Error> {
     let mut command = command(alloc)?;
     let matches = command.try_get_matches_from_mut(words)?;
     if let Some((_, inner)) = matches.subcommand() {
-        if let Some(path) = inner.get_str("MANIFEST") {
-            return Ok(Call::Check(path));
+        match (inner.get_str("MANIFEST"), inner.get_str("SCRIPT")) {
+            (Some(manifest), Some(script)) => return Ok(Call::Run { manifest, script }),
+            (Some(manifest), None) => return Ok(Call::Check(manifest)),
+            (None, _) => {}
         }
     }
     Err(command.error(ErrorKind::MissingSubcommand, "no command")?)

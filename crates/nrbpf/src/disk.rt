@@ -2,6 +2,8 @@
 
 use console::Folder;
 use std::fs;
+use std::io;
+use std::io::Read;
 use std::rt::Files;
 
 /// The file system, from the working folder.
@@ -15,5 +17,36 @@ impl<R: Files> Folder for Disk<'_, R> {
 
     fn open(&self, name: &str) -> Option<R::File> {
         fs::open(self.rt, name).ok()
+    }
+}
+
+/// A file that is opened when it is first read: what is read before it is judged before it.
+#[derive(Drop)]
+pub struct LateFile<'a, R: Files> {
+    rt: &'a R,
+    path: &'a str,
+    file: Option<R::File>,
+}
+
+impl<'a, R: Files> LateFile<'a, R> {
+    /// The file of this path.
+    pub fn new(rt: &'a R, path: &'a str) -> LateFile<'a, R> {
+        LateFile {
+            rt,
+            path,
+            file: None,
+        }
+    }
+}
+
+impl<R: Files> Read for LateFile<'_, R> {
+    fn read(&mut self, buf: &mut [u8]) -> io::Result<usize> {
+        if let Some(file) = &mut self.file {
+            return file.read(buf);
+        }
+        let mut file = fs::open(self.rt, self.path)?;
+        let read = file.read(buf);
+        self.file = Some(file);
+        read
     }
 }

@@ -13,7 +13,7 @@ A manifest is a text that names the maps of a store and its programs:
 
 `map array VALUE ENTRIES` is a map of ENTRIES values of VALUE bytes each. `program NAME MODE ARGLEN FILE`
 is a program in the file FILE, as hexadecimal digits; its MODE is update or read, and its argument has
-ARGLEN bytes. `nrbpf check --help` says more.
+ARGLEN bytes. `nrbpf check --help` says more, and `nrbpf run --help` how programs are called.
 
 Exit statuses: 0 all is well, 2 wrong words on the command line, 3 refused, 4 no memory,
 5 a file cannot be read or the output cannot be written.";
@@ -52,3 +52,41 @@ Exit statuses: 0 all is well, 2 wrong words on the command line, 3 refused, 4 `n
 
 /// What the manifest's path is.
 pub const MANIFEST: &str = "The path of the manifest";
+
+/// What `run` does, in a line.
+pub const RUN: &str = "Runs a script on the programs of a manifest";
+
+/// What stands behind the arguments of `run`.
+pub const AFTER_RUN: &str = "\
+Opens a new store with the maps and the programs of the manifest (`nrbpf check --help`), runs the calls of the
+script in their order, and writes one line for each.
+
+A script has one call a line, at most 512 bytes a line:
+
+    # a comment; empty lines are skipped too
+    bump 00000000
+    peek 00000000
+
+    NAME HEX    NAME a program of the manifest; HEX the bytes of the argument, two hexadecimal digits each,
+                or - for no bytes; one space between
+
+Writes, for each call:
+    update INDEX reply REPLY steps STEPS    the program may change maps; it is update INDEX, from 0
+    read POINT reply REPLY steps STEPS      the program only reads; POINT updates were before it
+    refused S1                              there is no program of this name
+    refused S2                              the argument has not the program's length
+    refused S4                              an update, after 65536 updates
+
+A refused call changes nothing, and the run goes on. With the manifest of examples/counter the script above
+writes `update 0 reply 1 steps 9` and `read 1 reply 1 steps 6`.
+
+Refusals, which end the run:
+    line N bad          line N of the script is no call, comment or empty line; what stands before was run
+    line N: ..          the manifest is refused (`nrbpf check --help`), and nothing is run
+    not UTF-8           the manifest, a program file or the script is not UTF-8, and nothing is run
+
+Exit statuses: 0 all is well, 2 wrong words on the command line, 3 refused, 4 `no memory`,
+5 `cannot read` or `cannot write` (on standard error).";
+
+/// What the script's path is.
+pub const SCRIPT: &str = "The path of the script";

@@ -6,23 +6,36 @@ mod disk;
 mod help;
 
 use command_line::Call;
-use console::{Folder, Status, check};
-use disk::Disk;
+use console::{Status, check, run};
+use disk::{Disk, LateFile};
 use std::io;
 use std::process::ExitCode;
 
 // Runs `check` on a manifest's file and standard output.
-fn run_check(rt: &HostRuntime, path: &str) -> Status {
-    let disk = Disk { rt };
-    match disk.open(path) {
-        None => Status::CannotRead,
-        Some(mut manifest) => check(rt.alloc(), &disk, &mut manifest, &mut io::writer(rt)),
-    }
+fn check_file(rt: &HostRuntime, manifest: &str) -> Status {
+    check(
+        rt.alloc(),
+        &Disk { rt },
+        &mut LateFile::new(rt, manifest),
+        &mut io::writer(rt),
+    )
 }
 
-fn run(rt: &HostRuntime, call: Call) -> ExitCode {
+// Runs `run` on the files of a manifest and a script, and standard output.
+fn run_files(rt: &HostRuntime, manifest: &str, script: &str) -> Status {
+    run(
+        rt.alloc(),
+        &Disk { rt },
+        &mut LateFile::new(rt, manifest),
+        &mut LateFile::new(rt, script),
+        &mut io::writer(rt),
+    )
+}
+
+fn answer(rt: &HostRuntime, call: Call) -> ExitCode {
     let status = match call {
-        Call::Check(path) => run_check(rt, path),
+        Call::Check(manifest) => check_file(rt, manifest),
+        Call::Run { manifest, script } => run_files(rt, manifest, script),
     };
     if let Some(complaint) = status.complaint() {
         let _ = eprintln!(rt; "{complaint}");
@@ -42,7 +55,7 @@ fn main(rt: HostRuntime) -> ExitCode {
         Err(_) => return ExitCode::from(FAULT),
     };
     match command_line::read(rt.alloc(), words.as_slice()) {
-        Ok(call) => run(&rt, call),
+        Ok(call) => answer(&rt, call),
         Err(error) => {
             let _ = error.print(&rt);
             ExitCode::from(error.exit_code() as u8)

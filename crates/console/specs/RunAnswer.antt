@@ -1,0 +1,117 @@
+-- What `run` answers and writes, as a function of the manifest, of the files that are there, and of the script.
+use Rattle.std.specs.Prelude.{ℕ, ◌&&◌, List, [], ◌∷◌, ◌++◌, length, codes, decimal, Option, Some, None, option_map, Ok, Err, nat_lt, ◌==◌, if◌then◌else◌}
+use Rattle.maps.specs.Maps.{Maps}
+use Rattle.verifier.specs.declared.refusal.Mode.{Mode}
+use Rattle.verifier.specs.declared.refusal.Mode.TheVariants.{Update, Read}
+use Rattle.verifier.specs.Accepted.{Checked}
+use Rattle.loader.specs.Lines.{lines_of, named_in}
+use Rattle.loader.specs.CatalogueView.{CatalogueView, number_named}
+use Rattle.loader.specs.Loading.{Outcome, next_line, loaded}
+use Rattle.oplog.specs.Operations.{Operation}
+use Rattle.oplog.specs.History.{Effect, History, effect_at}
+use Rattle.replica.specs.StoreMeaning.{program_at, store_meaning}
+use Rattle.console.specs.declared.status.Verdict.TheVariants as verdicts
+use Rattle.console.specs.Files.{Contents, is_text, present, are_texts}
+use Rattle.console.specs.Texts.{refusal_text}
+use Rattle.console.specs.Answer.{Answer, not_text}
+use Rattle.console.specs.Script.{ProgramCall, Meaning, Comment, Call, line_meaning}
+
+-- how many updates a run has at most
+abbrev pub run_limit : ℕ
+run_limit = 65536
+
+-- ---- the texts
+
+-- a place in the history, and what the program replied there after how many steps
+abbrev pub outcome_text : ℕ → ℕ → ℕ → List ℕ
+outcome_text place reply steps = decimal place ++ (codes " reply " ++ (decimal reply ++ (codes " steps " ++ (decimal steps ++ codes "\n"))))
+
+abbrev pub update_text : ℕ → Effect Maps → List ℕ
+update_text index e = codes "update " ++ outcome_text index e.reply e.steps
+
+abbrev pub read_text : ℕ → Effect Maps → List ℕ
+read_text point e = codes "read " ++ outcome_text point e.reply e.steps
+
+-- S1: there is no program of this name. S2: the argument has another length. S4: the history has all its records
+abbrev pub refused_text : ℕ → List ℕ
+refused_text number = codes "refused S" ++ (decimal number ++ codes "\n")
+
+abbrev pub bad_line_text : ℕ → List ℕ
+bad_line_text n = codes "line " ++ (decimal n ++ codes " bad\n")
+
+-- ---- one call
+
+-- what a call writes, and the history after it
+pub record Turn : Type 0 where
+  pub text : List ℕ
+  pub history : History
+
+abbrev pub refused : History → ℕ → Turn
+refused history number = record { text = refused_text number; history = history }
+
+-- the history with one more operation; all are by one author
+abbrev pub with_operation : History → Operation → History
+with_operation history op = history ++ record { author = 0; seq = length history; op = op } ∷ []
+
+-- an update stands in the history from then on; a read leaves it
+abbrev pub performed : CatalogueView → History → Operation → Mode → Turn
+performed c history op Update =
+    if nat_lt (length history) run_limit
+    then record { text = update_text (length history) (effect_at store_meaning c history (length history) op); history = with_operation history op }
+    else refused history 4
+performed c history op Read = record { text = read_text (length history) (effect_at store_meaning c history (length history) op); history = history }
+
+abbrev pub performed_by : CatalogueView → History → Operation → Option Checked → Turn
+performed_by c history op None = refused history 1
+performed_by c history op (Some program) = if length op.argument == program.arg_len then performed c history op program.mode else refused history 2
+
+abbrev pub numbered : CatalogueView → History → List ℕ → Option ℕ → Turn
+numbered c history argument None = refused history 1
+numbered c history argument (Some k) = performed_by c history (record { program = k; argument = argument }) (program_at c k)
+
+-- what a call does on a history
+unfoldable pub called : CatalogueView → History → ProgramCall → Turn
+called c history call = numbered c history call.argument (number_named c.programs call.name)
+
+-- ---- a script
+
+abbrev pub taken : CatalogueView → History → Meaning → Turn
+taken c history Comment = record { text = []; history = history }
+taken c history (Call call) = called c history call
+
+-- what a line does; `None` where it is bad
+unfoldable pub line_turn : CatalogueView → History → List ℕ → Option Turn
+line_turn c history line = option_map (taken c history) (line_meaning line)
+
+-- with this text before
+abbrev pub behind : List ℕ → Answer → Answer
+behind text a = record { text = text ++ a.text; verdict = a.verdict }
+
+abbrev pub bad_line : ℕ → Answer
+bad_line n = record { text = bad_line_text n; verdict = verdicts.Refused }
+
+abbrev pub by_turn : Answer → (Turn → Answer) → Option Turn → Answer
+by_turn bad next None = bad
+by_turn bad next (Some turn) = next turn
+
+-- what the lines from number n on write, on a history; a bad line ends the run
+unfoldable pub lines_answer : CatalogueView → ℕ → History → List (List ℕ) → Answer
+lines_answer c n history [] = record { text = []; verdict = verdicts.Good }
+lines_answer c n history (l ∷ ls) =
+    by_turn (bad_line n) (λ turn. behind turn.text (lines_answer c (next_line n) turn.history ls)) (line_turn c history l)
+
+-- what a catalogue answers to a script
+abbrev pub script_answer : CatalogueView → List ℕ → Answer
+script_answer c script = lines_answer c 1 [] (lines_of script)
+
+-- a refused manifest writes only its refusal
+abbrev pub ran : Outcome → List ℕ → Answer
+ran (Ok c) script = script_answer c script
+ran (Err e) script = record { text = refusal_text e; verdict = verdicts.Refused }
+
+-- what `run` answers: all files are read first, then the manifest is loaded, then the lines are run
+unfoldable pub run_answer : List ℕ → Contents → List ℕ → Answer
+run_answer manifest folder script =
+    if is_text manifest && (are_texts (present folder (named_in manifest)) && is_text script)
+    then ran (loaded manifest (present folder (named_in manifest))) script
+    else not_text

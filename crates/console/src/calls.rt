@@ -1,0 +1,111 @@
+// What a line of a script does.
+
+ghost use Rattle.std.specs.Prelude.{◌≡◌, ◌≤◌, Some, length, IfOk, OnOk};
+ghost use Rattle.replica.specs.StoreMeaning.{program_at};
+ghost use Rattle.console.specs.RunAnswer.{performed, numbered, called, line_turn};
+ghost use Rattle.console.specs.Running.{history_of, IsAtRest, IsTaken, LineTaken};
+ghost use Rattle.console.specs.ScriptShown.{call_of};
+
+use crate::node::SingleNode;
+use crate::run_texts::{put_read, put_refused, put_update};
+use crate::script::{ProgramCall, ScriptLine, read_line};
+use loader::Catalogue;
+use std::alloc::AllocError;
+use verifier::{Accepted, Mode};
+
+// Runs program k, which is this, on an argument of its length.
+fn perform(
+    node: &mut SingleNode,
+    catalogue: &Catalogue,
+    k: u16,
+    program: &Accepted,
+    argument: &[u8],
+    out: &mut Vec<u8>,
+) -> Result<(), AllocError>
+    requires rest { IsAtRest catalogue.now node.old }
+    requires program { program_at catalogue.now k ≡ Some program.now }
+    requires length { length argument.now ≡ program.now.arg_len }
+    requires fits { length argument.now ≤ 64 }
+    requires shapes { program.now.shapes ≡ catalogue.now.shapes }
+    ensures rest { IsAtRest catalogue.now node.new }
+    ensures taken { OnOk result (IsTaken (performed catalogue.now (history_of node.old) (record { program = k; argument = argument.now }) program.now.mode) node.new out.old.items out.new.items) }
+{
+    let place = node.tail();
+    match program.mode() {
+        Mode::Read => {
+            let outcome = node.read(program, argument);
+            put_read(out, place, outcome)
+        }
+        Mode::Update => match node.update(catalogue, k, argument) {
+            Some(outcome) => put_update(out, place, outcome),
+            None => put_refused(out, 4),
+        },
+    }
+}
+
+// Runs the program of this number, where there is one and the argument has its length.
+fn put_numbered(
+    node: &mut SingleNode,
+    catalogue: &Catalogue,
+    number: Option<u16>,
+    argument: &[u8],
+    out: &mut Vec<u8>,
+) -> Result<(), AllocError>
+    requires rest { IsAtRest catalogue.now node.old }
+    ensures rest { IsAtRest catalogue.now node.new }
+    ensures taken { OnOk result (IsTaken (numbered catalogue.now (history_of node.old) argument.now number) node.new out.old.items out.new.items) }
+{
+    let Some(k) = number else {
+        return put_refused(out, 1);
+    };
+    let Some(program) = catalogue.program(k) else {
+        return put_refused(out, 1);
+    };
+    if argument.len() != program.arg_len() {
+        return put_refused(out, 2);
+    }
+    perform(node, catalogue, k, program, argument, out)
+}
+
+// Runs the program that a line calls, and writes what it answers.
+#[tactic(auto, unfolding(crate::specs::RunAnswer::called))]
+fn put_call(
+    node: &mut SingleNode,
+    catalogue: &Catalogue,
+    call: &ProgramCall,
+    out: &mut Vec<u8>,
+) -> Result<(), AllocError>
+    requires rest { IsAtRest catalogue.now node.old }
+    ensures rest { IsAtRest catalogue.now node.new }
+    ensures taken { OnOk result (IsTaken (called catalogue.now (history_of node.old) (call_of call.now)) node.new out.old.items out.new.items) }
+{
+    put_numbered(
+        node,
+        catalogue,
+        catalogue.number(call.name),
+        call.argument.as_slice(),
+        out,
+    )
+}
+
+// Does what a line says, and tells whether the line is good.
+#[tactic(auto, unfolding(crate::specs::RunAnswer::line_turn))]
+pub(crate) fn take_line(
+    node: &mut SingleNode,
+    catalogue: &Catalogue,
+    line: &str,
+    out: &mut Vec<u8>,
+) -> Result<bool, AllocError>
+    requires rest { IsAtRest catalogue.now node.old }
+    ensures rest { IsAtRest catalogue.now node.new }
+    ensures taken { IfOk result (λ good. LineTaken (line_turn catalogue.now (history_of node.old) line.now) good node.new out.old.items out.new.items) }
+{
+    match read_line(line) {
+        None => Ok(false),
+        Some(ScriptLine::Comment) => Ok(true),
+        Some(ScriptLine::Call(call)) => {
+            put_call(node, catalogue, &call, out)?;
+            Ok(true)
+        }
+    }
+}

@@ -1,0 +1,53 @@
+// What `run` writes.
+
+ghost use Rattle.std.specs.Prelude.{◌≡◌, ◌++◌, codes, OnOk};
+ghost use Rattle.console.specs.RunAnswer.{outcome_text, refused_text, bad_line_text};
+
+use crate::texts::put_number;
+use machine::Outcome;
+use std::alloc::AllocError;
+
+fn put_outcome(out: &mut Vec<u8>, place: u64, outcome: Outcome) -> Result<(), AllocError>
+    ensures { OnOk result (out.new.items ≡ out.old.items ++ outcome_text place outcome.reply outcome.steps) }
+{
+    put_number(out, place)?;
+    out.extend_from_slice(b" reply ")?;
+    put_number(out, outcome.reply)?;
+    out.extend_from_slice(b" steps ")?;
+    put_number(out, outcome.steps as u64)?;
+    out.extend_from_slice(b"\n")
+}
+
+// The line of an update: its index in the history.
+pub(crate) fn put_update(out: &mut Vec<u8>, index: u64, outcome: Outcome) -> Result<(), AllocError>
+    ensures { OnOk result (out.new.items ≡ out.old.items ++ (codes "update " ++ outcome_text index outcome.reply outcome.steps)) }
+{
+    out.extend_from_slice(b"update ")?;
+    put_outcome(out, index, outcome)
+}
+
+// The line of a read: the number of updates before it.
+pub(crate) fn put_read(out: &mut Vec<u8>, point: u64, outcome: Outcome) -> Result<(), AllocError>
+    ensures { OnOk result (out.new.items ≡ out.old.items ++ (codes "read " ++ outcome_text point outcome.reply outcome.steps)) }
+{
+    out.extend_from_slice(b"read ")?;
+    put_outcome(out, point, outcome)
+}
+
+// The line of a call that is refused for this reason.
+pub(crate) fn put_refused(out: &mut Vec<u8>, number: u8) -> Result<(), AllocError>
+    ensures { OnOk result (out.new.items ≡ out.old.items ++ refused_text number) }
+{
+    out.extend_from_slice(b"refused S")?;
+    put_number(out, number as u64)?;
+    out.extend_from_slice(b"\n")
+}
+
+// The line behind which nothing is run.
+pub(crate) fn put_bad_line(out: &mut Vec<u8>, number: u32) -> Result<(), AllocError>
+    ensures { OnOk result (out.new.items ≡ out.old.items ++ bad_line_text number) }
+{
+    out.extend_from_slice(b"line ")?;
+    put_number(out, number as u64)?;
+    out.extend_from_slice(b" bad\n")
+}
