@@ -33,7 +33,12 @@ fn outcome(reply: u64, steps: u32) -> Outcome {
 }
 
 /// What a program answers to each of these arguments in turn, on the maps as the one before left them.
-fn outcomes(alloc: Global, text: &[u8], arg_len: usize, arguments: &[[u8; 4]]) -> Option<Vec<Outcome>> {
+fn outcomes(
+    alloc: Global,
+    text: &[u8],
+    arg_len: usize,
+    arguments: &[[u8; 4]],
+) -> Option<Vec<Outcome>> {
     let Some(program) = accepted(alloc, text, arg_len, Mode::Update) else {
         return None;
     };
@@ -70,7 +75,12 @@ fn five(rt: HostRuntime) -> Result<(), Fail> {
 #[test]
 fn a_load_of_the_argument(rt: HostRuntime) -> Result<(), Fail> {
     let alloc = rt.alloc();
-    let got = outcomes(alloc, b"6110000000000000 9500000000000000", 4, &[[7, 0, 0, 0]]);
+    let got = outcomes(
+        alloc,
+        b"6110000000000000 9500000000000000",
+        4,
+        &[[7, 0, 0, 0]],
+    );
     assert_eq!(rt; got.as_deref(), Some([outcome(7, 2)].as_slice()));
     Ok(())
 }

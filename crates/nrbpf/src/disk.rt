@@ -1,10 +1,9 @@
 // Files by their paths.
 
 use console::Folder;
-use std::fs;
-use std::io;
 use std::io::Read;
 use std::rt::Files;
+use std::{fs, io};
 
 /// The file system, from the working folder.
 #[derive(Drop)]

@@ -28,12 +28,7 @@ fn run_one(catalogue: &Catalogue, maps: &mut MapSet, op: &Op) -> Outcome
 }
 
 // Runs the operations of the records in a hand, one after the other, and keeps what they answer.
-pub(crate) fn run_each(
-    catalogue: &Catalogue,
-    maps: &mut MapSet,
-    hand: &Hand,
-    replies: &mut Replies,
-)
+pub(crate) fn run_each(catalogue: &Catalogue, maps: &mut MapSet, hand: &Hand, replies: &mut Replies)
     requires shapes { HasShapes catalogue.now.shapes (maps_of maps.old) }
     requires allowed { AreUpdates catalogue.now hand.now.records }
     requires fits { hand.now.begin + length hand.now.records < 2 ^ 64 }

@@ -73,12 +73,7 @@ impl Replica {
 
     /// Applies the records of a hand, which begins at the tail, and keeps what they answer. Their operations are updates of
     /// the catalogue, whose maps have the replica's shapes. The hand is then empty, and begins at the new tail.
-    pub fn replay(
-        &mut self,
-        hand: &mut Hand,
-        catalogue: &Catalogue,
-        replies: &mut Replies,
-    )
+    pub fn replay(&mut self, hand: &mut Hand, catalogue: &Catalogue, replies: &mut Replies)
         requires begins { hand.old.begin ≡ self.old.tail }
         requires shapes { shapes_of self.old.maps ≡ catalogue.now.shapes }
         requires allowed { AreUpdates catalogue.now hand.old.records }

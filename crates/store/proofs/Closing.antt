@@ -1,0 +1,125 @@
+-- What a closed store leaves.
+use Rattle.std.specs.Option.{IsSome, option_to_list}
+use Rattle.std.proofs.Common.{Bool, true, false, length-append, ◌≡◌, ℕ, zero, suc, ◌+◌, List, [], ◌∷◌, ◌++◌, length, sym, refl, ap, ◌∙◌, subst, arith, Option, Some, None}
+use mathlib.Core.Option.{some-injective}
+use lib.ListN.{get_elem?}
+use Rattle.ownlock.specs.Seats.{At, SeatView, ShelfId}
+use Rattle.ownlock.specs.Knowledge.{Agreed, AllIdle, AllAgree}
+use Rattle.loader.specs.CatalogueView.{CatalogueView}
+use Rattle.oplog.specs.Logs.{Log as LogView}
+use Rattle.replica.specs.StoreMeaning.{store_meaning}
+use Rattle.progress.specs.declared.sessions.Progress.{Progress}
+use Rattle.progress.specs.declared.sessions.SessionNote.{SessionNote}
+use Rattle.progress.specs.Accounts.{Extends}
+use Rattle.progress.specs.Agreement.{LogAgrees, ReplicaAgrees}
+use Rattle.progress.specs.Told.{records_of, numbered}
+use Rattle.progress.proofs.Ended.{ends}
+use Rattle.progress.proofs.Lists.{at_none, at_below}
+use Rattle.store.specs.declared.values.NodeReplica.{NodeReplica}
+use Rattle.store.specs.declared.values.Value.{Value}
+use Rattle.store.specs.declared.values.Value.TheVariants.{Log, Replica}
+use Rattle.store.specs.Shelving.{store_rules}
+use Rattle.store.specs.Sessions.{SessionView, known_of}
+use Rattle.store.specs.Opening.{IsClosed}
+
+abbrev L : Type 0
+L = Progress CatalogueView
+
+abbrev S : Type 0
+S = SeatView (Progress CatalogueView) SessionNote Value
+
+pub one_item : {A : Type 0} (xs ys : List A) (a : A) → length xs ≡ 1 → xs ≡ ys ++ a ∷ [] → xs ≡ a ∷ []
+one_item xs [] a long e = e
+one_item xs (y ∷ ys) a long e = absurd (let n = sym long ∙ ap length e in more ys a n)
+  where
+    more : (ys : List _) (a : _) → 1 ≡ length (y ∷ (ys ++ a ∷ [])) → ⊥
+    more [] a e = omega (arith, e)
+    more (z ∷ zs) a e = omega (arith, e)
+
+only : {A : Type 0} (a b : A) (i : ℕ) → At i b (a ∷ []) → b ≡ a
+only a b zero e = sym (some-injective a b e)
+only a b (suc i) e = absurd (at_none i b e)
+
+pub one_idle : (id : ShelfId) (seats : List S) (seat : S) (s : SessionView) → seats ≡ seat ∷ [] → seat.sessions ≡ known_of s ∷ [] → seat.shelf ≡ id → AllIdle id seats
+one_idle id seats seat s is known shelf a t at =
+    let e : seat ≡ t = sym (only seat t a (subst (λ z. At a t z) is at)) in
+    (ap (λ (z : S). z.shelf) (sym e) ∙ shelf, (known_of s, subst (λ (z : S). z.sessions ≡ known_of s ∷ []) e known, refl))
+
+-- the log and the replica, in the order of their places
+pub record IsPair (l : L) (slots : List (Option Value)) : Type 0 where
+  pub log : LogView
+  pub node : NodeReplica
+  pub slots_are : slots ≡ Some (Log log) ∷ Some (Replica node) ∷ []
+  pub log_is : LogAgrees store_meaning l (record { base = log.base; base_maps = log.base_maps; records = log.records; done = log.done })
+  pub replica_is : ReplicaAgrees store_meaning l (record { tail = node.replica.tail; maps = node.replica.maps })
+
+log_at : (l : L) (ns : List SessionNote) (v : Value) → store_rules.AgreesWith 0 l ns v → (g : LogView) × (v ≡ Log g) × LogAgrees store_meaning l (record { base = g.base; base_maps = g.base_maps; records = g.records; done = g.done })
+log_at l ns (Log g) a = (g, refl, a.0.1.1)
+log_at l ns (Replica n) a = absurd (none a.0.1.0 a.0.1.2)
+  where
+    none : (n : ℕ) → 0 ≡ 1 + n → ⊥
+    none n e = omega (arith, e)
+
+replica_at : (l : L) (ns : List SessionNote) (v : Value) → store_rules.AgreesWith 1 l ns v → (n : NodeReplica) × (v ≡ Replica n) × ReplicaAgrees store_meaning l (record { tail = n.replica.tail; maps = n.replica.maps })
+replica_at l ns (Replica n) a = (n, refl, a.0.1.3)
+replica_at l ns (Log g) a = absurd (none a.0.1.0)
+  where
+    none : ◌≡◌ {A = ℕ} 1 0 → ⊥
+    none e = omega (arith, e)
+
+pub is_pair : (l : L) (ns : List SessionNote) (slots : List (Option Value)) → length slots ≡ 2 → AllAgree store_rules l ns slots → IsPair l slots
+is_pair l ns [] long all = absurd (omega (arith, long))
+is_pair l ns (a ∷ []) long all = absurd (omega (arith, long))
+is_pair l ns (a ∷ b ∷ []) long all =
+    let first = all 0 (omega (arith, long)) in
+    let second = all 1 (omega (arith, long)) in
+    let g = log_at l ns first.0 first.2 in
+    let n = replica_at l ns second.0 second.2 in
+    record {
+      log = g.0;
+      node = n.0;
+      slots_are = λ i. (some-injective a (Some first.0) first.1 ∙ ap Some g.1) i ∷ (some-injective b (Some second.0) second.1 ∙ ap Some n.1) i ∷ [];
+      log_is = g.2;
+      replica_is = n.2;
+    }
+is_pair l ns (a ∷ b ∷ c ∷ cs) long all = absurd (omega (arith, long))
+
+pub is_closed : (sessions : List SessionView) (s : SessionView) (seats : List S) (seat : S) (slots : List (Option Value)) → sessions ≡ s ∷ [] → seats ≡ seat ∷ [] → seat.sessions ≡ known_of s ∷ [] → s.note.pending ≡ None → length slots ≡ 2
+    → (a : Agreed store_rules seats slots) → (p : IsPair a.0 slots) → IsClosed sessions p.log p.node.replica
+is_closed sessions s seats seat slots is isn known idle long a p =
+    let k = a.4 0 seat (known_of s) (ap (λ z. get_elem? z 0) isn) known in
+    let e = ends store_meaning a.0 a.1 a.2 in
+    let count : length a.1 ≡ 1 = a.3 ∙ ap length isn in
+    let zero_is = at_below a.1 s.session s.note k.1 in
+    record {
+      progress = a.0;
+      grown = λ j t at. subst (λ (z : SessionView). Extends z.progress a.0) (mine j t at) k.0;
+      log_is = p.log_is;
+      replica_is = p.replica_is;
+      answered = λ j t at. subst (λ (z : SessionView). records_of z.session a.0.history ≡ numbered z.session 0 z.note.answered) (mine j t at) (e.0 s.session s.note k.1 idle);
+      authors = λ i r at. (0, s, ap (λ z. get_elem? z 0) is, (let low = e.1 i r at in omega (arith, low, count, zero_is)));
+    }
+  where
+    mine : (j : ℕ) (t : SessionView) → At j t sessions → s ≡ t
+    mine j t at = sym (only s t j (subst (λ z. At j t z) is at))
+
+abbrev IsNo : Bool → Type 0
+IsNo false = Unit {0}
+IsNo true = ⊥
+
+last_is : {A : Type 0} (ys : List A) (c a b : A) → ys ++ c ∷ [] ≡ a ∷ b ∷ [] → (c ≡ b) × (ys ≡ a ∷ [])
+last_is [] c a b e = absurd (let n = ap length e in omega (arith, n))
+last_is (y ∷ []) c a b e = (some-injective c b (ap (λ l. get_elem? l 1) e), λ i. some-injective y a (ap (λ l. get_elem? l 0) e) i ∷ [])
+last_is (y ∷ z ∷ zs) c a b e = absurd (let n = ap length e in let m = length-append zs (c ∷ []) in omega (arith, n, m))
+
+one_is : {A : Type 0} (ys : List A) (c a : A) → ys ++ c ∷ [] ≡ a ∷ [] → c ≡ a
+one_is [] c a e = some-injective c a (ap (λ l. get_elem? l 0) e)
+one_is (y ∷ ys) c a e = absurd (let n = ap length e in let m = length-append ys (c ∷ []) in omega (arith, n, m))
+
+pub pop_two : {A : Type 0} (xs ys : List A) (o : Option A) (a b : A) → xs ≡ ys ++ option_to_list o → IsSome o → xs ≡ a ∷ b ∷ [] → (o ≡ Some b) × (ys ≡ a ∷ [])
+pop_two xs ys (Some c) a b e some is = let t = last_is ys c a b (sym e ∙ is) in (ap Some t.0, t.1)
+pop_two xs ys None a b e some is = absurd (subst IsNo some tt)
+
+pub pop_one : {A : Type 0} (xs ys : List A) (o : Option A) (a : A) → xs ≡ ys ++ option_to_list o → IsSome o → xs ≡ a ∷ [] → o ≡ Some a
+pop_one xs ys (Some c) a e some is = ap Some (one_is ys c a (sym e ∙ is))
+pop_one xs ys None a e some is = absurd (subst IsNo some tt)

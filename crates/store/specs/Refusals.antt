@@ -1,0 +1,32 @@
+-- What a session's call may be asked for, and the refusal of one that it may not.
+use Rattle.std.specs.Prelude.{ℕ, List, length, Option, Some, None, ◌==◌, if◌then◌else◌}
+use Rattle.verifier.specs.declared.refusal.Mode.{Mode}
+use Rattle.verifier.specs.declared.refusal.Mode.TheVariants.{Update, Read}
+use Rattle.verifier.specs.Accepted.{Checked}
+use Rattle.loader.specs.CatalogueView.{CatalogueView}
+use Rattle.replica.specs.StoreMeaning.{program_at}
+use Rattle.store.specs.declared.answers.StoreRefused.{StoreRefused}
+use Rattle.store.specs.declared.answers.StoreRefused.TheVariants.{UnknownProgram, ArgumentLength, WrongMode, Ended}
+
+-- the number that a refusal shows after its letter S
+abbrev pub store_fault_number : StoreRefused → ℕ
+store_fault_number UnknownProgram = 1
+store_fault_number ArgumentLength = 2
+store_fault_number WrongMode = 3
+store_fault_number Ended = 4
+
+-- the refusal of a program of the second mode, where one of the first is asked for
+abbrev pub mode_refusal : Mode → Mode → Option StoreRefused
+mode_refusal Update Update = None
+mode_refusal Read Read = None
+mode_refusal Update Read = Some WrongMode
+mode_refusal Read Update = Some WrongMode
+
+abbrev pub program_refusal : Mode → List ℕ → Option Checked → Option StoreRefused
+program_refusal mode argument None = Some UnknownProgram
+program_refusal mode argument (Some program) = if length argument == program.arg_len then mode_refusal mode program.mode else Some ArgumentLength
+
+-- the refusal of a program by its number and of an argument, where a program of this mode is asked for: unknown, else of another
+-- length, else of another mode
+abbrev pub early_refusal : CatalogueView → Mode → ℕ → List ℕ → Option StoreRefused
+early_refusal c mode program argument = program_refusal mode argument (program_at c program)

@@ -1,0 +1,111 @@
+-- A session and a store as their users see them, and what a call answers.
+use Rattle.std.specs.Prelude.{◌≡◌, ℕ, ◌<◌, ◌≤◌, List, [], ◌∷◌, length, None, Result, MatchResult}
+use Rattle.ownlock.specs.Seats.{IsSession, SeatView, ShelfId}
+use Rattle.loader.specs.CatalogueView.{CatalogueView}
+use Rattle.oplog.specs.declared.configuration.Config.{Config}
+use Rattle.oplog.specs.declared.answers.Ended.{Ended}
+use Rattle.oplog.specs.Operations.{Operation}
+use Rattle.readpath.specs.declared.reading.ReadAnswer.{ReadAnswer}
+use Rattle.replica.specs.StoreMeaning.{store_meaning}
+use Rattle.progress.specs.declared.sessions.Progress.{Progress}
+use Rattle.progress.specs.declared.sessions.Pending.{Pending}
+use Rattle.progress.specs.declared.sessions.SessionNote.{SessionNote}
+use Rattle.progress.specs.Values.{PlacedAt, Ended as EndedAnswer}
+use Rattle.progress.specs.Accounts.{Extends, IsSessionOf}
+use Rattle.progress.specs.LogSteps.{first_progress, fresh_note}
+use Rattle.progress.specs.Single.{note_with}
+use Rattle.progress.specs.Told.{Tells, ReadTells}
+use Rattle.store.specs.declared.answers.Answer.{Answer}
+use Rattle.store.specs.declared.answers.StoreRefused.{StoreRefused}
+use Rattle.store.specs.declared.answers.StoreRefused.TheVariants.{Ended as TheEnd}
+use Rattle.store.specs.declared.values.Value.{Value}
+use Rattle.store.specs.Standing.{SessionKnown}
+
+-- which shelf a store has, and what it was opened with
+pub record StoreView : Type 0 where
+  pub id : ShelfId
+  pub config : Config
+  pub catalogue : CatalogueView
+
+-- a session: the shelf of its store, its number, the progress that it saw last, and its note
+pub record SessionView : Type 0 where
+  pub shelf : ShelfId
+  pub session : ℕ
+  pub progress : Progress CatalogueView
+  pub note : SessionNote
+
+-- the session is one of this store
+pub record IsOf (store : StoreView) (s : SessionView) : Type 0 where
+  pub shelf : s.shelf ≡ store.id
+  pub config : s.progress.config ≡ store.config
+  pub catalogue : s.progress.catalogue ≡ store.catalogue
+
+-- the first session of a seat that has any
+abbrev pub nobody : SessionKnown
+nobody = record { session = 0; progress = first_progress (record { nodes = 0; slots = 0; window = 0; limit = 0 }) (record { shapes = []; programs = [] }); note = fresh_note; held = [] }
+
+abbrev pub first_in : List SessionKnown → SessionKnown
+first_in [] = nobody
+first_in (k ∷ ks) = k
+
+abbrev pub session_view : SeatView (Progress CatalogueView) SessionNote Value → SessionView
+session_view s = let k = first_in s.sessions in record { shelf = s.shelf; session = k.session; progress = k.progress; note = k.note }
+
+-- what session 0 knows at first, and the session
+abbrev pub fresh_known : Config → CatalogueView → SessionKnown
+fresh_known config c = record { session = 0; progress = first_progress config c; note = fresh_note; held = [] }
+
+abbrev pub fresh_session : ShelfId → Config → CatalogueView → SessionView
+fresh_session shelf config c = record { shelf = shelf; session = 0; progress = first_progress config c; note = fresh_note }
+
+-- what a session knows that holds nothing
+abbrev pub known_of : SessionView → SessionKnown
+known_of s = record { session = s.session; progress = s.progress; note = s.note; held = [] }
+
+-- between its calls a session of that node, with this number and so many answered updates, holds nothing and waits for nothing
+pub record IsIdle (s : SeatView (Progress CatalogueView) SessionNote Value) (node author answered : ℕ) : Type 0 where
+  pub known : SessionKnown
+  pub is : IsSession s known
+  pub held : known.held ≡ []
+  pub pending : known.note.pending ≡ None
+  pub batch : known.note.batch ≡ []
+  pub near : node < known.progress.config.nodes
+  pub own : IsSessionOf known.progress.config node known.session
+  pub number : author ≡ known.session
+  pub counted : answered ≡ length known.note.answered
+  -- each answered update has its place in the history
+  pub within : length known.note.answered ≤ length known.progress.history
+
+-- the operation as a request of this session
+abbrev pub request_of : Progress CatalogueView → Operation → Pending
+request_of known op = record { op = op; seen = length known.history }
+
+-- a session's update, from what it knew to what it knows
+pub record IsUpdated (k after : SessionKnown) (op : Operation) (result : Result Answer Ended) : Type 0 where
+  pub session : after.session ≡ k.session
+  pub held : after.held ≡ []
+  pub extends : Extends k.progress after.progress
+  pub tells : MatchResult result
+      (λ a. Tells store_meaning after.progress k.session (length k.note.answered) (request_of k.progress op) (PlacedAt a.index a.reply) × (after.note ≡ note_with k.note a.index op))
+      (λ _. Tells store_meaning after.progress k.session (length k.note.answered) (request_of k.progress op) EndedAnswer × (after.note ≡ k.note))
+  -- the history has more than the session knew, if the update has a place
+  pub longer : MatchResult result (λ a. (a.index < 1000000) × (length k.progress.history < length after.progress.history)) (λ _. Unit {0})
+
+-- a session's read
+pub record IsReadBy (k after : SessionKnown) (op : Operation) (answer : ReadAnswer) : Type 0 where
+  pub session : after.session ≡ k.session
+  pub held : after.held ≡ []
+  pub note : after.note ≡ k.note
+  pub extends : Extends k.progress after.progress
+  pub tells : ReadTells store_meaning after.progress k.progress.completed op answer.point answer.reply
+
+-- the answer to an update that was not refused early: Ok with its place and its reply there, the update counted; or S4, where the
+-- history has its last record, none of this request, and nothing is counted
+abbrev pub TellsUpdate : (old new : SessionView) → Operation → Result Answer StoreRefused → Type 0
+TellsUpdate old new op result = MatchResult result
+    (λ a. Tells store_meaning new.progress old.session (length old.note.answered) (request_of old.progress op) (PlacedAt a.index a.reply) × (new.note ≡ note_with old.note a.index op))
+    (λ e. (e ≡ TheEnd) × Tells store_meaning new.progress old.session (length old.note.answered) (request_of old.progress op) EndedAnswer × (new.note ≡ old.note))
+
+-- the answer to a read that was not refused
+abbrev pub TellsRead : (old new : SessionView) → Operation → Result ReadAnswer StoreRefused → Type 0
+TellsRead old new op result = MatchResult result (λ a. ReadTells store_meaning new.progress old.progress.completed op a.point a.reply) (λ _. ⊥)

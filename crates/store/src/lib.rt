@@ -1,0 +1,15 @@
+//! A store whose sessions run on threads of their own (Calciu et al., ASPLOS 2017: Node Replication): a log of updates, and a
+//! replica of the maps on each node that replays it.
+#![tactic(auto)]
+
+mod answers;
+mod lent;
+mod session;
+mod steps;
+mod store;
+mod values;
+
+pub use answers::{Answer, StoreRefused};
+pub use session::Session;
+pub use store::{Closed, Store};
+pub use values::{NodeReplica, Setup, Value};

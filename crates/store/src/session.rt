@@ -1,0 +1,176 @@
+// A session's calls.
+
+ghost use Rattle.std.specs.Prelude.{◌≡◌, ◌≤◌, [], ◌∷◌, length, None, Some, Err, MatchResult};
+ghost use Rattle.verifier.specs.declared.refusal.Mode.TheVariants.{Update, Read};
+ghost use Rattle.loader.specs.CatalogueView.{CatalogueView};
+ghost use Rattle.oplog.specs.declared.configuration.Config.{Config};
+ghost use Rattle.progress.specs.Accounts.{Extends};
+ghost use Rattle.replica.specs.StoreMeaning.{IsUpdate};
+ghost use Rattle.store.specs.declared.answers.StoreRefused.{StoreRefused};
+ghost use Rattle.store.specs.declared.answers.StoreRefused.TheVariants.{Ended};
+ghost use Rattle.store.specs.Refusals.{early_refusal};
+ghost use Rattle.store.specs.Sessions.{IsOf, TellsUpdate, TellsRead, fresh_known, fresh_session, known_of};
+
+use crate::answers::{Answer, StoreRefused};
+use crate::steps::{query, update};
+use crate::store::Store;
+use crate::values::Value;
+use loader::Catalogue;
+use oplog::{Op, Record};
+use ownlock::seat::Seat;
+use readpath::ReadAnswer;
+use std::marker::Model;
+use std::sync::Wait;
+use verifier::Mode;
+
+/// What a thread updates and reads a store with: one slot of one node. It moves to a thread, and ends in `Store::close`.
+#[derive(Drop)]
+pub struct Session {
+    seat: Seat<Value>,
+    node: u32,
+    author: u16,
+    answered: u64,
+}
+
+impl Model for Session {
+    ghost use Rattle.store.specs.Sessions.{SessionView, IsIdle, session_view};
+
+    ghost Value = { SessionView };
+
+    ghost view = { λ s. session_view s.seat };
+
+    ghost invariant = { λ s. IsIdle s.seat s.node s.author s.answered };
+}
+
+// Why a program and its argument are refused before anything is done.
+fn refusal(catalogue: &Catalogue, mode: Mode, program: u16, argument: &[u8]) -> Option<StoreRefused>
+    ensures refusal { result ≡ early_refusal catalogue.now mode program argument.now }
+    ensures short { result ≡ None → length argument.now ≤ 64 }
+{
+    let Some(accepted) = catalogue.program(program) else {
+        return Some(StoreRefused::UnknownProgram);
+    };
+    if argument.len() != accepted.arg_len() {
+        return Some(StoreRefused::ArgumentLength);
+    }
+    match (mode, accepted.mode()) {
+        (Mode::Update, Mode::Update) | (Mode::Read, Mode::Read) => None,
+        (Mode::Update, Mode::Read) | (Mode::Read, Mode::Update) => Some(StoreRefused::WrongMode),
+    }
+}
+
+impl Session {
+    // The one session of this seat, which is new, at its node's slot 0.
+    pub(crate) fn first(seat: Seat<Value>) -> Session
+        requires first { (config : Config) × (c : CatalogueView) × (seat.sessions ≡ fresh_known config c ∷ []) × (config.nodes ≡ 1) × (config.slots ≡ 1) }
+        ensures shelf { result.shelf ≡ seat.shelf }
+        ensures fresh { (config : Config) (c : CatalogueView) → seat.sessions ≡ fresh_known config c ∷ [] → result ≡ fresh_session seat.shelf config c }
+    {
+        Session {
+            seat,
+            node: 0,
+            author: 0,
+            answered: 0,
+        }
+    }
+
+    pub(crate) fn into_seat(self) -> Seat<Value>
+        ensures shelf { result.shelf ≡ self.shelf }
+        ensures known { result.sessions ≡ known_of self ∷ [] }
+        ensures idle { self.note.pending ≡ None }
+    {
+        let Session { seat, .. } = self;
+        seat
+    }
+
+    /// Runs an update program of the store on its argument, as the next operation of the history.
+    ///
+    /// # Errors
+    ///
+    /// S1 unknown program, S2 argument length, S3 not an update: nothing is done then. S4: the history has all its records,
+    /// and this request has none. The session goes on after each.
+    pub fn invoke<R: Wait>(
+        &mut self,
+        rt: &R,
+        store: &Store,
+        program: u16,
+        argument: &[u8],
+    ) -> Result<Answer, StoreRefused>
+        requires own { IsOf store.now self.old }
+        ensures same { (self.new.shelf ≡ self.old.shelf) × (self.new.session ≡ self.old.session) }
+        ensures grown { Extends self.old.progress self.new.progress }
+        ensures early { (r : StoreRefused) → early_refusal store.now.catalogue Update program argument.now ≡ Some r → (result ≡ Err r) × (self.new.note ≡ self.old.note) }
+        ensures answered { early_refusal store.now.catalogue Update program argument.now ≡ None → TellsUpdate self.old self.new (record { program = program; argument = argument.now }) result }
+    {
+        match refusal(store.catalogue(), Mode::Update, program, argument) {
+            Some(refused) => Err(refused),
+            None => self.append(rt, store, Op::new(program, argument)),
+        }
+    }
+
+    // The operation as the session's next record.
+    fn append<R: Wait>(&mut self, rt: &R, store: &Store, op: Op) -> Result<Answer, StoreRefused>
+        requires own { IsOf store.now self.old }
+        requires update { IsUpdate store.now.catalogue op }
+        ensures same { (self.new.shelf ≡ self.old.shelf) × (self.new.session ≡ self.old.session) }
+        ensures grown { Extends self.old.progress self.new.progress }
+        ensures answered { TellsUpdate self.old self.new op result }
+    {
+        let next = Record {
+            author: self.author,
+            seq: self.answered,
+            op,
+        };
+        let place = self.node as usize + 1;
+        match update(
+            rt,
+            store.shelf(),
+            &mut self.seat,
+            place,
+            store.catalogue(),
+            next,
+        ) {
+            Ok(answer) => {
+                self.answered += 1;
+                Ok(answer)
+            }
+            Err(_) => Err(StoreRefused::Ended),
+        }
+    }
+
+    /// Runs a read program of the store on the maps of the session's node, once these have seen everything that was completed
+    /// when the call began.
+    ///
+    /// # Errors
+    ///
+    /// S1 unknown program, S2 argument length, S3 not a read: nothing is done then.
+    pub fn read<R: Wait>(
+        &mut self,
+        rt: &R,
+        store: &Store,
+        program: u16,
+        argument: &[u8],
+    ) -> Result<ReadAnswer, StoreRefused>
+        requires own { IsOf store.now self.old }
+        ensures same { (self.new.shelf ≡ self.old.shelf) × (self.new.session ≡ self.old.session) × (self.new.note ≡ self.old.note) }
+        ensures grown { Extends self.old.progress self.new.progress }
+        ensures early { (r : StoreRefused) → early_refusal store.now.catalogue Read program argument.now ≡ Some r → result ≡ Err r }
+        ensures answered { early_refusal store.now.catalogue Read program argument.now ≡ None → TellsRead self.old self.new (record { program = program; argument = argument.now }) result }
+    {
+        match refusal(store.catalogue(), Mode::Read, program, argument) {
+            Some(refused) => Err(refused),
+            None => {
+                let place = self.node as usize + 1;
+                Ok(query(
+                    rt,
+                    store.shelf(),
+                    &mut self.seat,
+                    place,
+                    store.catalogue(),
+                    program,
+                    argument,
+                ))
+            }
+        }
+    }
+}

@@ -1,0 +1,184 @@
+// What a session does on the shelf.
+
+ghost use Rattle.std.specs.Prelude.{◌≡◌, ◌+◌, ◌<◌, ◌≤◌, ℕ, [], ◌∷◌, length, None, Some, slice_get, IfOk};
+ghost use Rattle.verifier.specs.declared.refusal.Mode.TheVariants.{Read};
+ghost use Rattle.machine.specs.declared.running.Outcome.{Outcome as TheOutcome};
+ghost use Rattle.ownlock.specs.Seats.{IsSession};
+ghost use Rattle.progress.specs.Accounts.{IsSessionOf};
+ghost use Rattle.progress.specs.Agreement.{replica_place};
+ghost use Rattle.store.specs.Refusals.{early_refusal};
+ghost use Rattle.store.specs.Lent.{tail_in, IsReplica};
+ghost use Rattle.store.specs.Sessions.{IsUpdated, IsReadBy};
+ghost use Rattle.store.specs.Standing.{SessionKnown, Stands, AgreesIn, HoldsReplica, IsFree, HasRest, IsNext, HasAppended, HasCaughtUp, IsBroughtUp};
+
+use crate::answers::Answer;
+use crate::lent::{answer_in, append_one, copy_on, is_ready, replay_node, replica_tail};
+use crate::values::Value;
+use loader::Catalogue;
+use oplog::{Ended, Record};
+use ownlock::seat::Seat;
+use ownlock::shelf::{LEADER, Shelf};
+use readpath::ReadAnswer;
+use replica::Replies;
+use std::marker::Brand;
+use std::sync::Wait;
+
+// Takes the log and appends the record, copies what the replica has still to apply into its hand, and puts the log back.
+fn append_and_copy<R: Wait>(
+    rt: &R,
+    shelf: &Shelf<Value>,
+    seat: &mut Seat<Value>,
+    node: &mut Value,
+    next: Record,
+) -> Result<u64, Ended>
+    requires own { seat.old.shelf ≡ shelf.now.id }
+    requires there { 0 < shelf.now.places }
+    requires holds { (k : SessionKnown) × IsSession seat.old k × HoldsReplica k node.old × AgreesIn k.progress node.old × Stands k × IsNext k next }
+    ensures same { seat.new.shelf ≡ seat.old.shelf }
+    ensures appended { (k : SessionKnown) → IsSession seat.old k → (after : SessionKnown) × IsSession seat.new after × HasAppended k after next result node.new }
+{
+    let mut log = shelf.take(rt, seat, LEADER);
+    let appended = append_one(&mut log.value, next);
+    copy_on(&log.value, node);
+    shelf.put::<Brand>(seat, log);
+    appended
+}
+
+// Replays the records in the hand, and raises the completed tail to the replica's.
+fn catch_up<R: Wait>(
+    rt: &R,
+    shelf: &Shelf<Value>,
+    seat: &mut Seat<Value>,
+    node: &mut Value,
+    catalogue: &Catalogue,
+    replies: &mut Replies,
+)
+    requires own { seat.old.shelf ≡ shelf.now.id }
+    requires there { 0 < shelf.now.places }
+    requires holds { (k : SessionKnown) × (w : Value) × IsSession seat.old k × HoldsReplica k w × HasRest k.progress node.old × Stands k × (k.progress.catalogue ≡ catalogue.now) }
+    ensures same { seat.new.shelf ≡ seat.old.shelf }
+    ensures caught { (k : SessionKnown) → IsSession seat.old k → (after : SessionKnown) × IsSession seat.new after × HasCaughtUp k after node.old node.new replies.old replies.new }
+{
+    replay_node(node, catalogue, replies);
+    let tail = replica_tail(node);
+    shelf.raise(rt, seat, tail);
+}
+
+// The place of a record that was appended, and 0 for one that was not.
+fn place_of(appended: &Result<u64, Ended>) -> u64
+    ensures place { IfOk appended.now (λ i. result ≡ i) }
+{
+    match appended {
+        Ok(index) => *index,
+        Err(_) => 0,
+    }
+}
+
+// The reply of the first outcome that was kept.
+fn first_reply(replies: &Replies) -> u64
+    requires kept { (o : TheOutcome) × (slice_get replies.now.outcomes 0 ≡ Some (Some o)) }
+    ensures reply { (o : TheOutcome) → slice_get replies.now.outcomes 0 ≡ Some (Some o) → result ≡ o.reply }
+{
+    match replies.get(0) {
+        Some(outcome) => outcome.reply,
+        None => unreachable!(),
+    }
+}
+
+// Appends the record, brings the replica at that place of the shelf up to it, and answers its place and reply.
+pub(crate) fn update<R: Wait>(
+    rt: &R,
+    shelf: &Shelf<Value>,
+    seat: &mut Seat<Value>,
+    place: usize,
+    catalogue: &Catalogue,
+    next: Record,
+) -> Result<Answer, Ended>
+    requires own { seat.old.shelf ≡ shelf.now.id }
+    requires there { place < shelf.now.places }
+    requires idle { (k : SessionKnown) × IsSession seat.old k × IsFree place k × IsNext k next × (k.progress.catalogue ≡ catalogue.now) }
+    ensures same { seat.new.shelf ≡ seat.old.shelf }
+    ensures updated { (k : SessionKnown) → IsSession seat.old k → (after : SessionKnown) × IsSession seat.new after × IsUpdated k after next.op result }
+{
+    let mut node = shelf.take(rt, seat, place);
+    let appended = append_and_copy(rt, shelf, seat, &mut node.value, next);
+    let mut replies = Replies::new(place_of(&appended), 1);
+    catch_up(rt, shelf, seat, &mut node.value, catalogue, &mut replies);
+    shelf.put::<Brand>(seat, node);
+    match appended {
+        Ok(index) => Ok(Answer {
+            index,
+            reply: first_reply(&replies),
+        }),
+        Err(ended) => Err(ended),
+    }
+}
+
+// Takes the log, copies and replays while it is held, puts it back, and raises the completed tail to the replica's.
+fn refresh<R: Wait>(
+    rt: &R,
+    shelf: &Shelf<Value>,
+    seat: &mut Seat<Value>,
+    node: &mut Value,
+    catalogue: &Catalogue,
+)
+    requires own { seat.old.shelf ≡ shelf.now.id }
+    requires there { 0 < shelf.now.places }
+    requires holds { (k : SessionKnown) × IsSession seat.old k × HoldsReplica k node.old × AgreesIn k.progress node.old × Stands k × (k.progress.catalogue ≡ catalogue.now) }
+    ensures same { seat.new.shelf ≡ seat.old.shelf }
+    ensures up { (k : SessionKnown) → IsSession seat.old k → (after : SessionKnown) × IsSession seat.new after × IsBroughtUp k after k.progress.completed node.new }
+{
+    let log = shelf.take(rt, seat, LEADER);
+    copy_on(&log.value, node);
+    let mut replies = Replies::new(0, 0);
+    replay_node(node, catalogue, &mut replies);
+    shelf.put::<Brand>(seat, log);
+    let tail = replica_tail(node);
+    shelf.raise(rt, seat, tail);
+}
+
+// Runs a read program on the replica at that place of the shelf, once it has reached the tail that is completed now.
+pub(crate) fn query<R: Wait>(
+    rt: &R,
+    shelf: &Shelf<Value>,
+    seat: &mut Seat<Value>,
+    place: usize,
+    catalogue: &Catalogue,
+    program: u16,
+    argument: &[u8],
+) -> ReadAnswer
+    requires own { seat.old.shelf ≡ shelf.now.id }
+    requires there { place < shelf.now.places }
+    requires idle { (k : SessionKnown) × IsSession seat.old k × IsFree place k × (k.progress.catalogue ≡ catalogue.now) }
+    requires asked { early_refusal catalogue.now Read program argument.now ≡ None }
+    ensures same { seat.new.shelf ≡ seat.old.shelf }
+    ensures read { (k : SessionKnown) → IsSession seat.old k → (after : SessionKnown) × IsSession seat.new after × IsReadBy k after (record { program = program; argument = argument.now }) result }
+{
+    let done = shelf.done(rt, seat);
+    let mut node = shelf.take(rt, seat, place);
+    bring_up(rt, shelf, seat, &mut node.value, catalogue, done);
+    let answer = answer_in(&mut node.value, catalogue, program, argument);
+    shelf.put::<Brand>(seat, node);
+    answer
+}
+
+// Brings the replica up to that completed tail, where it has not reached it.
+fn bring_up<R: Wait>(
+    rt: &R,
+    shelf: &Shelf<Value>,
+    seat: &mut Seat<Value>,
+    node: &mut Value,
+    catalogue: &Catalogue,
+    done: u64,
+)
+    requires own { seat.old.shelf ≡ shelf.now.id }
+    requires there { 0 < shelf.now.places }
+    requires holds { (k : SessionKnown) × IsSession seat.old k × HoldsReplica k node.old × AgreesIn k.progress node.old × Stands k × (k.progress.catalogue ≡ catalogue.now) × (done ≤ k.progress.completed) }
+    ensures same { seat.new.shelf ≡ seat.old.shelf }
+    ensures up { (k : SessionKnown) → IsSession seat.old k → (after : SessionKnown) × IsSession seat.new after × IsBroughtUp k after done node.new }
+{
+    if is_ready(node, done) {
+        return;
+    }
+    refresh(rt, shelf, seat, node, catalogue);
+}
