@@ -7,6 +7,8 @@ mod lent;
 mod session;
 mod steps;
 mod store;
+#[cfg(test)]
+mod tests;
 mod values;
 
 pub use answers::{Answer, StoreRefused};
