@@ -4,8 +4,9 @@ use Rattle.std.specs.Prelude.{Ok, Err, ◌==◌, nat_lt}
 use Rattle.std.specs.List.{flat_map}
 use Rattle.std.proofs.lemmas.Bool.Decides.{nat_tests}
 use Rattle.insn.specs.declared.instruction.Form.{Form}
+use Rattle.insn.specs.declared.instruction.TheConstants.{MAX_SLOTS}
 use Rattle.insn.specs.declared.decoding.DecodeFault.{DecodeFault}
-use Rattle.insn.specs.declared.decoding.DecodeError.{DecodeError}
+use Rattle.insn.specs.declared.decoding.DecodeRefusal.{DecodeRefusal}
 use Rattle.insn.specs.Encoding.{slot_bytes, program_slots}
 use Rattle.insn.specs.Refusal.{slots_in, AreBytes, Decodes, Refuses, RefusesBy, length_fault}
 use Rattle.insn.specs.Decoded.{decoded, program_from, unless_refused}
@@ -17,19 +18,19 @@ use Rattle.insn.proofs.Fit.{program_fits}
 pub record Lengths (n : ℕ) : Type 0 where
   pub whole : n % 8 ≡ 0
   pub some : 0 < n
-  pub few : n ≤ 32768
+  pub few : n ≤ 8 * MAX_SLOTS
 
 pub no_length_fault : (n : ℕ) → Lengths n → length_fault n ≡ None
 no_length_fault n h =
     let a : (n % 8 == 0) ≡ true = grind (arith, nat_tests, h.whole) in
     let b : (n == 0) ≡ false = grind (arith, nat_tests, h.some) in
-    let c : nat_lt 32768 n ≡ false = grind (arith, nat_tests, h.few) in
+    let c : nat_lt (8 * MAX_SLOTS) n ≡ false = grind (arith, nat_tests, h.few) in
     rw (a, b, c) refl
 
 pub good_length : (n : ℕ) → length_fault n ≡ None → Lengths n
-good_length n e = by (n % 8 == 0) (n == 0) (nat_lt 32768 n) refl refl refl
+good_length n e = by (n % 8 == 0) (n == 0) (nat_lt (8 * MAX_SLOTS) n) refl refl refl
   where
-    by : (a b c : Bool) → (n % 8 == 0) ≡ a → (n == 0) ≡ b → nat_lt 32768 n ≡ c → Lengths n
+    by : (a b c : Bool) → (n % 8 == 0) ≡ a → (n == 0) ≡ b → nat_lt (8 * MAX_SLOTS) n ≡ c → Lengths n
     by true false false p q r = record { whole = grind (arith, nat_tests); some = grind (arith, nat_tests); few = grind (arith, nat_tests) }
     by false b c p q r = let g = rw p at e in cc
     by true true c p q r = let g = rw (p, q) at e in cc
@@ -70,7 +71,7 @@ read_is_spelled bytes p h e = by (length_fault (length bytes)) refl
           few = omega (arith, n.few, length_slots bytes n.whole, count, size_is p);
         }
 
-pub read_is_refused : (bytes : List ℕ) (e : DecodeError) → AreBytes bytes → decoded bytes ≡ Err e → Refuses bytes e
+pub read_is_refused : (bytes : List ℕ) (e : DecodeRefusal) → AreBytes bytes → decoded bytes ≡ Err e → Refuses bytes e
 read_is_refused bytes e h d = by (length_fault (length bytes)) refl
   where
     by : (o : Option DecodeFault) → length_fault (length bytes) ≡ o → Refuses bytes e
@@ -83,7 +84,7 @@ read_is_refused bytes e h d = by (length_fault (length bytes)) refl
         let x = subst (Explained 0 (slots_in bytes)) read (explained 0 (slots_in bytes) (slots_fit bytes h)) in
         subst (λ o. RefusesBy o bytes e) (sym f) (record { before = x.before; each = x.each; rest = x.rest; joined = x.joined; place = omega (arith, x.place); first = x.first })
 
-pub refused_is_read : (bytes : List ℕ) (e : DecodeError) → Refuses bytes e → decoded bytes ≡ Err e
+pub refused_is_read : (bytes : List ℕ) (e : DecodeRefusal) → Refuses bytes e → decoded bytes ≡ Err e
 refused_is_read bytes e r = by (length_fault (length bytes)) refl
   where
     by : (o : Option DecodeFault) → length_fault (length bytes) ≡ o → decoded bytes ≡ Err e

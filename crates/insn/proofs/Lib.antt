@@ -7,4 +7,5 @@ pub mod Fit
 pub mod Programs
 pub mod Laws
 pub mod Answered
+pub mod OneForOne
 pub mod Places

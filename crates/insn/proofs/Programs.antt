@@ -7,8 +7,8 @@ use Rattle.std.proofs.Math.Seq.{drop-append_seam, drop-length}
 use Rattle.insn.specs.declared.instruction.Fields.{Fields}
 use Rattle.insn.specs.declared.instruction.Form.{Form}
 use Rattle.insn.specs.declared.decoding.DecodeFault.{DecodeFault}
-use Rattle.insn.specs.declared.decoding.DecodeError.{DecodeError}
-use Rattle.insn.specs.Encoding.{slots, program_slots, IsInstruction}
+use Rattle.insn.specs.declared.decoding.DecodeRefusal.{DecodeRefusal}
+use Rattle.insn.specs.Encoding.{slots, program_slots, HasEncoding}
 use Rattle.insn.specs.Layout.{slot_count, slot_contents, layout, size}
 use Rattle.insn.specs.Refusal.{is_wide, first_fault, FaultAt}
 use Rattle.insn.specs.Decoded.{front, with_first, in_order, program_from}
@@ -17,7 +17,7 @@ use Rattle.insn.proofs.Spelled.{Narrow, Wide, spelled}
 use Rattle.insn.proofs.Fronts.{Begins, front_of, front_begins, front_fails}
 
 abbrev pub Answer : Type 0
-Answer = Result (List Form) DecodeError
+Answer = Result (List Form) DecodeRefusal
 
 -- ---- one instruction
 
@@ -40,7 +40,7 @@ wide_step i w rest at h =
     ∙ ap (λ b. with_first i (program_from (at + 1) b (w.second ∷ rest))) w.wide
     ∙ ap (λ k. with_first i (program_from k false rest)) count
 
-pub step : (i : Form) (rest : List Fields) (at : ℕ) → IsInstruction i → program_from at false (slots i ++ rest) ≡ with_first i (program_from (at + slot_count i) false rest)
+pub step : (i : Form) (rest : List Fields) (at : ℕ) → HasEncoding i → program_from at false (slots i ++ rest) ≡ with_first i (program_from (at + slot_count i) false rest)
 step i rest at h = by (spelled i h)
   where
     by : Narrow i ⊎ Wide i → program_from at false (slots i ++ rest) ≡ with_first i (program_from (at + slot_count i) false rest)
@@ -57,7 +57,7 @@ pub all_ok : (p q : List Form) → with_all p (Ok q) ≡ Ok (p ++ q)
 all_ok [] q = refl
 all_ok (i ∷ p) q = ap (with_first i) (all_ok p q)
 
-pub all_err : (p : List Form) (e : DecodeError) → with_all p (Err e) ≡ Err e
+pub all_err : (p : List Form) (e : DecodeRefusal) → with_all p (Err e) ≡ Err e
 all_err [] e = refl
 all_err (i ∷ p) e = ap (with_first i) (all_err p e)
 
@@ -68,7 +68,7 @@ all_push (j ∷ p) i r = ap (with_first j) (all_push p i r)
 size_more : (i : Form) (p : List Form) → size (i ∷ p) ≡ slot_count i + size p
 size_more i p = length-append (slot_contents i) (layout p)
 
-pub steps : (p : List Form) (rest : List Fields) (at : ℕ) → AllByRecursion IsInstruction p → program_from at false (program_slots p ++ rest) ≡ with_all p (program_from (at + size p) false rest)
+pub steps : (p : List Form) (rest : List Fields) (at : ℕ) → AllByRecursion HasEncoding p → program_from at false (program_slots p ++ rest) ≡ with_all p (program_from (at + size p) false rest)
 steps [] rest at h = let e : at ≡ at + 0 = omega arith in ap (λ k. program_from k false rest) e
 steps (i ∷ p) rest at h =
     let e : at + slot_count i + size p ≡ at + size (i ∷ p) = omega (arith, size_more i p) in
@@ -76,7 +76,7 @@ steps (i ∷ p) rest at h =
     ∙ step i (program_slots p ++ rest) at h.0
     ∙ ap (with_first i) (steps p rest (at + slot_count i) h.1 ∙ ap (λ k. with_all p (program_from k false rest)) e)
 
-pub reads_program : (p : List Form) → AllByRecursion IsInstruction p → program_from 0 false (program_slots p) ≡ Ok p
+pub reads_program : (p : List Form) → AllByRecursion HasEncoding p → program_from 0 false (program_slots p) ≡ Ok p
 unfolding program_from
 reads_program p h =
     ap (program_from 0 false) (sym (append-nil (program_slots p))) ∙ steps p [] 0 h ∙ all_ok p [] ∙ ap Ok (append-nil p)
@@ -87,7 +87,7 @@ unfolding program_from
 refused_here [] at why e = cc
 refused_here (f ∷ rest) at why e = rw e refl
 
-pub refuses_fault : (all : List Fields) (e : DecodeError) → FaultAt all e.slot e.why → program_from 0 false all ≡ Err e
+pub refuses_fault : (all : List Fields) (e : DecodeRefusal) → FaultAt all e.slot e.why → program_from 0 false all ≡ Err e
 refuses_fault all e fault =
     ap (program_from 0 false) fault.joined
     ∙ steps fault.before fault.rest 0 fault.each
@@ -101,19 +101,19 @@ refuses_fault all e fault =
 -- ---- what an answer says
 
 -- the same as `FaultAt`, counted from a slot on
-pub record FaultFrom (all : List Fields) (at : ℕ) (e : DecodeError) : Type 0 where
+pub record FaultFrom (all : List Fields) (at : ℕ) (e : DecodeRefusal) : Type 0 where
   pub before : List Form
-  pub each : AllByRecursion IsInstruction before
+  pub each : AllByRecursion HasEncoding before
   pub rest : List Fields
   pub joined : all ≡ program_slots before ++ rest
   pub place : e.slot ≡ at + size before
   pub first : first_fault rest ≡ Some e.why
 
 abbrev pub Explained : ℕ → List Fields → Answer → Type 0
-Explained at all (Ok p) = AllByRecursion IsInstruction p × (all ≡ program_slots p)
+Explained at all (Ok p) = AllByRecursion HasEncoding p × (all ≡ program_slots p)
 Explained at all (Err e) = FaultFrom all at e
 
-extended : (i : Form) (at : ℕ) (all rest : List Fields) (r : Answer) → IsInstruction i → all ≡ slots i ++ rest → Explained (at + slot_count i) rest r → Explained at all (with_first i r)
+extended : (i : Form) (at : ℕ) (all rest : List Fields) (r : Answer) → HasEncoding i → all ≡ slots i ++ rest → Explained (at + slot_count i) rest r → Explained at all (with_first i r)
 extended i at all rest (Ok p) h s x = ((h, x.0), s ∙ ap (λ y. slots i ++ y) x.1)
 extended i at all rest (Err e) h s x = record {
   before = i ∷ x.before;
@@ -133,10 +133,10 @@ BehindTwo at rest = (g : Fields) (behind : List Fields) → rest ≡ g ∷ behin
 
 stepped : (at : ℕ) (all : List Fields) (i : Form) (b : Begins all i) → Behind (at + slot_count i) b.rest → Explained at all (program_from at false all)
 stepped at all i b x =
-    subst (Explained at all) (sym (ap (program_from at false) b.joined ∙ step i b.rest at b.built)) (extended i at all b.rest (program_from (at + slot_count i) false b.rest) b.built b.joined x)
+    subst (Explained at all) (sym (ap (program_from at false) b.joined ∙ step i b.rest at b.encoded)) (extended i at all b.rest (program_from (at + slot_count i) false b.rest) b.encoded b.joined x)
 
 shorter : (at : ℕ) (f : Fields) (rest : List Fields) (i : Form) (b : Begins (f ∷ rest) i) → Behind (at + 1) rest → BehindTwo (at + 1) rest → Behind (at + slot_count i) b.rest
-shorter at f rest i b x y = by (spelled i b.built)
+shorter at f rest i b x y = by (spelled i b.encoded)
   where
     by : Narrow i ⊎ Wide i → Behind (at + slot_count i) b.rest
     by (inl n) =
@@ -150,12 +150,12 @@ shorter at f rest i b x y = by (spelled i b.built)
         let count : at + 1 + 1 ≡ at + slot_count i = omega (arith, w.count) in
         subst (λ k. Behind k b.rest) count (y w.second b.rest same)
 
-explained_first : (at : ℕ) (f : Fields) (rest : List Fields) → FieldsFit f → Behind (at + 1) rest → BehindTwo (at + 1) rest → Behind at (f ∷ rest)
+explained_first : (at : ℕ) (f : Fields) (rest : List Fields) → AllByRecursion FieldsFit (f ∷ rest) → Behind (at + 1) rest → BehindTwo (at + 1) rest → Behind at (f ∷ rest)
 explained_first at f rest fit x y = by (front (f ∷ rest)) refl
   where
     by : (r : Result Form DecodeFault) → front (f ∷ rest) ≡ r → Behind at (f ∷ rest)
     by (Err why) e =
-        let broken = front_fails (f ∷ rest) why e in
+        let broken = front_fails f rest why fit.0 e in
         subst (Explained at (f ∷ rest)) (sym (refused_here (f ∷ rest) at why broken)) (record { before = []; each = tt; rest = f ∷ rest; joined = refl; place = omega arith; first = broken })
     by (Ok i) e = let b = front_begins f rest i fit e in stepped at (f ∷ rest) i b (shorter at f rest i b x y)
 
@@ -166,9 +166,9 @@ explained_end at = (tt, refl)
 
 pub explained : (at : ℕ) (all : List Fields) → AllByRecursion FieldsFit all → Explained at all (program_from at false all)
 explained at [] h = explained_end at
-explained at (f ∷ []) h = explained_first at f [] h.0 (explained_end (at + 1)) (λ g behind e. cc)
+explained at (f ∷ []) h = explained_first at f [] h (explained_end (at + 1)) (λ g behind e. cc)
 explained at (f ∷ g ∷ rest) h =
-    explained_first at f (g ∷ rest) h.0 (explained (at + 1) (g ∷ rest) h.1)
+    explained_first at f (g ∷ rest) h (explained (at + 1) (g ∷ rest) h.1)
     (λ k behind e. let same : rest ≡ behind = cc in subst (Behind (at + 1 + 1)) same (explained (at + 1 + 1) rest h.1.1))
 
 -- ---- the next instruction of a loop
@@ -183,16 +183,22 @@ goes_on all at i fit lt e = by (drop at all) refl
     by : (there : List Fields) → drop at all ≡ there → GoesOn all at i
     by [] s = absurd (omega (arith, ap length s, length-drop at all))
     by (f ∷ rest) s =
-        let b = front_begins f rest i (subst (AllByRecursion FieldsFit) s (all_drop FieldsFit at all fit)).0 (ap front (sym s) ∙ e) in
+        let b = front_begins f rest i (subst (AllByRecursion FieldsFit) s (all_drop FieldsFit at all fit)) (ap front (sym s) ∙ e) in
         let joined : drop at all ≡ slots i ++ b.rest = s ∙ b.joined in
         let behind : drop (at + slot_count i) all ≡ b.rest = sym (drop-drop (slot_count i) at all) ∙ ap (drop (slot_count i)) joined ∙ ap (λ k. drop k (slots i ++ b.rest)) (sym (count_is i)) ∙ drop-append_seam (slots i) b.rest in
         record {
-          read = ap (program_from at false) joined ∙ step i b.rest at b.built ∙ ap (λ x. with_first i (program_from (at + slot_count i) false x)) (sym behind);
+          read = ap (program_from at false) joined ∙ step i b.rest at b.encoded ∙ ap (λ x. with_first i (program_from (at + slot_count i) false x)) (sym behind);
           within = omega (arith, ap length joined, length-append (slots i) b.rest, count_is i, length-drop at all);
         }
 
-pub stops : (all : List Fields) (at : ℕ) (why : DecodeFault) → at < length all → front (drop at all) ≡ Err why → program_from at false (drop at all) ≡ Err (record { slot = at; why = why })
-stops all at why lt e = refused_here (drop at all) at why (front_fails (drop at all) why e)
+pub stops : (all : List Fields) (at : ℕ) (why : DecodeFault) → AllByRecursion FieldsFit all → at < length all → front (drop at all) ≡ Err why → program_from at false (drop at all) ≡ Err (record { slot = at; why = why })
+stops all at why fit lt e = by (drop at all) refl
+  where
+    by : (there : List Fields) → drop at all ≡ there → program_from at false (drop at all) ≡ Err (record { slot = at; why = why })
+    by [] s = absurd (omega (arith, ap length s, length-drop at all))
+    by (f ∷ rest) s =
+        let here = (subst (AllByRecursion FieldsFit) s (all_drop FieldsFit at all fit)).0 in
+        refused_here (drop at all) at why (ap first_fault s ∙ front_fails f rest why here (ap front (sym s) ∙ e))
 
 pub read_more : (p q : List Form) (i : Form) (all : List Fields) (at n : ℕ) (whole : Answer) → whole ≡ with_all p (program_from at false (drop at all)) → GoesOn all at i → q ≡ p ++ i ∷ [] → n ≡ slot_count i → whole ≡ with_all q (program_from (at + n) false (drop (at + n) all))
 read_more p q i all at n whole h more e width =

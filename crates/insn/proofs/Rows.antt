@@ -10,14 +10,22 @@ use Rattle.std.proofs.lemmas.List.Folds.{find-append}
 use Rattle.insn.specs.declared.instruction.Fields.{Fields}
 use Rattle.insn.specs.declared.decoding.DecodeFault.{DecodeFault}
 use Rattle.insn.specs.declared.decoding.DecodeFault.TheVariants.{UnknownOpcode, RegisterAbove10, UndefinedValue, UnusedFieldSet, CutOff, BadSecondHalf}
-use Rattle.insn.specs.Refusal.{Use, Unused, AnyValue, OneOf, Row, row_of, is_undefined, is_set_though_unused, some_field, is_wide, is_bad_half, first_fault, first_slot_faults, second_slot_faults, breaks}
+use Rattle.insn.specs.declared.uses.Use.{Use}
+use Rattle.insn.specs.declared.uses.Use.TheVariants.{Unused}
+use Rattle.insn.specs.declared.uses.Uses.{Uses}
+use Rattle.insn.specs.Table.{uses_of, values_of}
+use Rattle.std.proofs.lemmas.Bool.{true≢false}
+use Rattle.insn.specs.Refusal.{is_none_of, is_undefined, is_set_though_unused, some_field, is_wide, is_bad_half, first_fault, first_slot_faults, second_slot_faults, breaks}
 
 -- ---- what a row asks
 
+abbrev pub FitsValues : Option (List ℤ) → ℤ → Type 0
+FitsValues (Some values) z = list_any (int_eq z) values ≡ true
+FitsValues None z = Unit {0}
+
 abbrev pub FitsUse : Use → ℤ → Type 0
 FitsUse Unused z = z ≡ pos 0
-FitsUse AnyValue z = Unit {0}
-FitsUse (OneOf values) z = list_any (int_eq z) values ≡ true
+FitsUse u z = FitsValues (values_of u) z
 
 pub not_false : (b : Bool) → not b ≡ false → b ≡ true
 not_false true e = refl
@@ -31,18 +39,19 @@ pub or_right : (a b : Bool) → a || b ≡ false → b ≡ false
 or_right true b e = cc
 or_right false b e = e
 
+fits_values : (o : Option (List ℤ)) (z : ℤ) → is_none_of o z ≡ false → FitsValues o z
+fits_values (Some values) z a = not_false _ a
+fits_values None z a = tt
+
 fits_use : (u : Use) (z : ℤ) → is_undefined u z ≡ false → is_set_though_unused u z ≡ false → FitsUse u z
 fits_use Unused z a b = (signed_Decides z (pos 0)).0 (not_false _ b)
-fits_use AnyValue z a b = tt
-fits_use (OneOf values) z a b = not_false _ a
+fits_use u z a b = fits_values (values_of u) z a
 
-abbrev pub FollowsRow : Option Row → Fields → Type 0
-FollowsRow None f = ⊥
-FollowsRow (Some r) f = FitsUse r.dst (pos f.dst) × FitsUse r.src (pos f.src) × FitsUse r.offset f.offset × FitsUse r.imm f.imm
+abbrev pub FollowsUses : Uses → Fields → Type 0
+FollowsUses u f = FitsUse u.dst (pos f.dst) × FitsUse u.src (pos f.src) × FitsUse u.offset f.offset × FitsUse u.imm f.imm
 
-follows : (o : Option Row) (f : Fields) → is_none o ≡ false → some_field is_undefined o f ≡ false → some_field is_set_though_unused o f ≡ false → FollowsRow o f
-follows None f n u s = cc
-follows (Some r) f n u s =
+follows : (r : Uses) (f : Fields) → some_field is_undefined (Some r) f ≡ false → some_field is_set_though_unused (Some r) f ≡ false → FollowsUses r f
+follows r f u s =
     let ud = is_undefined r.dst (pos f.dst) in
     let us = is_undefined r.src (pos f.src) in
     let uo = is_undefined r.offset f.offset in
@@ -77,22 +86,35 @@ own_fault f = find (λ d. breaks d (f ∷ [])) first_slot_faults
 
 -- a slot without such a reason
 pub record Clean (f : Fields) : Type 0 where
-  pub known : is_none (row_of f.opcode) ≡ false
+  pub uses : Uses
+  pub known : uses_of f.opcode ≡ Some uses
   pub dst : f.dst ≤ 10
   pub src : f.src ≤ 10
-  pub row : FollowsRow (row_of f.opcode) f
+  pub follows_uses : FollowsUses uses f
 
 pub is_clean : (f : Fields) → own_fault f ≡ None → Clean f
-is_clean f e =
-    let a = find_none (λ d. breaks d (f ∷ [])) UnknownOpcode (RegisterAbove10 ∷ UndefinedValue ∷ UnusedFieldSet ∷ []) e in
-    let b = find_none (λ d. breaks d (f ∷ [])) RegisterAbove10 (UndefinedValue ∷ UnusedFieldSet ∷ []) a.1 in
-    let c = find_none (λ d. breaks d (f ∷ [])) UndefinedValue (UnusedFieldSet ∷ []) b.1 in
-    let d = find_none (λ d. breaks d (f ∷ [])) UnusedFieldSet [] c.1 in
-    record {
-      known = a.0;
+is_clean f e = by (uses_of f.opcode) refl
+  where
+    a : (is_none (uses_of f.opcode) ≡ false) × (find (λ d. breaks d (f ∷ [])) (RegisterAbove10 ∷ UndefinedValue ∷ UnusedFieldSet ∷ []) ≡ None)
+    a = find_none (λ d. breaks d (f ∷ [])) UnknownOpcode (RegisterAbove10 ∷ UndefinedValue ∷ UnusedFieldSet ∷ []) e
+
+    b : (nat_lt 10 f.dst || nat_lt 10 f.src ≡ false) × (find (λ d. breaks d (f ∷ [])) (UndefinedValue ∷ UnusedFieldSet ∷ []) ≡ None)
+    b = find_none (λ d. breaks d (f ∷ [])) RegisterAbove10 (UndefinedValue ∷ UnusedFieldSet ∷ []) a.1
+
+    c : (some_field is_undefined (uses_of f.opcode) f ≡ false) × (find (λ d. breaks d (f ∷ [])) (UnusedFieldSet ∷ []) ≡ None)
+    c = find_none (λ d. breaks d (f ∷ [])) UndefinedValue (UnusedFieldSet ∷ []) b.1
+
+    d : (some_field is_set_though_unused (uses_of f.opcode) f ≡ false) × (find (λ d. breaks d (f ∷ [])) [] ≡ None)
+    d = find_none (λ d. breaks d (f ∷ [])) UnusedFieldSet [] c.1
+
+    by : (o : Option Uses) → uses_of f.opcode ≡ o → Clean f
+    by None h = absurd (true≢false (sym (ap is_none h) ∙ a.0))
+    by (Some u) h = record {
+      uses = u;
+      known = h;
       dst = not_above f.dst (or_left (nat_lt 10 f.dst) (nat_lt 10 f.src) b.0);
       src = not_above f.src (or_right (nat_lt 10 f.dst) (nat_lt 10 f.src) b.0);
-      row = follows (row_of f.opcode) f a.0 c.0 d.0;
+      follows_uses = follows u f (sym (ap (λ o. some_field is_undefined o f) h) ∙ c.0) (sym (ap (λ o. some_field is_set_though_unused o f) h) ∙ d.0);
     }
 
 -- ---- the faults of a slot, and of the one behind it

@@ -1,22 +1,19 @@
 // Programs out of bytes, whole.
 
-ghost use Rattle.std.specs.Prelude.{◌≡◌, ℕ, ◌%◌, ◌≤◌, ◌++◌, ◌⊎◌, ◌∷◌, [], List, false, Ok, length, IfOk, IfErr, OnOk, MatchResult};
+ghost use Rattle.std.specs.Prelude.{◌≡◌, ℕ, ◌*◌, ◌%◌, ◌≤◌, ◌++◌, ◌∷◌, [], List, false, Ok, length, IfOk, IfErr, OnOk, MatchResult};
 ghost use Rattle.insn.specs.declared.instruction.Form.{Form};
-ghost use Rattle.insn.specs.declared.decoding.DecodeFault.TheVariants.{NoMemory};
-ghost use Rattle.insn.specs.Refusal.{slots_in, length_fault, fault_number, Decodes, Refuses, IsNoMemory, IsOnly};
+ghost use Rattle.insn.specs.declared.decoding.DecodeError.TheVariants.{NoMemory, Refused};
+ghost use Rattle.insn.specs.Refusal.{slots_in, length_fault, fault_number, Decodes, IsOnly, IsFirst};
 ghost use Rattle.insn.specs.Decoded.{decoded, program_from, DecodeFails, ReadsWhatIsSpelled, ReadsWhatIsRefused};
 
-use crate::instruction::Insn;
+use crate::instruction::{Insn, MAX_SLOTS};
 use crate::reading::instruction;
-use std::alloc::Global;
+use std::alloc::{AllocError, Global};
 use thiserror::Error;
 
-/// Why bytes are no program. Each has its number, from 0 to 9.
+/// Why bytes are no program. Each has its number, from 1 to 9.
 #[derive(Clone, Copy, PartialEq, Eq, Debug, Error)]
 pub enum DecodeFault {
-    /// Memory ran out.
-    #[error("D0: memory ran out")]
-    NoMemory,
     /// A slot has 8 bytes (RFC 9669, section 3.1).
     #[error("D1: the number of bytes is not a multiple of 8")]
     NotWholeSlots,
@@ -26,7 +23,7 @@ pub enum DecodeFault {
     /// A program has at most 4,096 slots.
     #[error("D3: there are more than 4096 slots")]
     TooLong,
-    /// The opcode is none that is built (RFC 9669, sections 4 and 5).
+    /// The opcode is that of no instruction (RFC 9669, sections 4 and 5).
     #[error("D4: the opcode is unknown")]
     UnknownOpcode,
     /// There are the registers 0 to 10 (RFC 9669, section 3.1); a field that is not in use is held to it too.
@@ -47,12 +44,11 @@ pub enum DecodeFault {
 }
 
 impl DecodeFault {
-    /// The number, from 0 to 9, that a refusal shows after its letter D.
+    /// The number, from 1 to 9, that a refusal shows after its letter D.
     pub fn number(self) -> u8
         ensures { result ≡ fault_number self }
     {
         match self {
-            DecodeFault::NoMemory => 0,
             DecodeFault::NotWholeSlots => 1,
             DecodeFault::Empty => 2,
             DecodeFault::TooLong => 3,
@@ -67,33 +63,77 @@ impl DecodeFault {
 }
 
 /// The first refusal, and the slot at which it stands, from 0: the first slot of the instruction, and 0 where the
-/// number of bytes is wrong or memory ran out.
+/// number of bytes is wrong.
 #[derive(Clone, Copy, PartialEq, Eq, Debug, Error)]
 #[error("slot {slot}: {why}")]
-pub struct DecodeError {
+pub struct DecodeRefusal {
     /// The slot, from 0.
     pub slot: u32,
     /// What is wrong there.
     pub why: DecodeFault,
 }
 
+/// Why `decode` gives no program.
+#[derive(Clone, Copy, PartialEq, Eq, Debug, Error)]
+pub enum DecodeError {
+    /// There is no memory left for the program, which says nothing of the bytes.
+    #[error("slot 0: D0: memory ran out")]
+    NoMemory,
+    /// The bytes spell no program.
+    #[error("{0}")]
+    Refused(DecodeRefusal),
+}
+
+impl DecodeError {
+    ghost use Rattle.insn.specs.Refusal.{error_number, error_slot};
+
+    /// The number, from 0 to 9, that it shows after its letter D: 0 where memory ran out.
+    pub fn number(self) -> u8
+        ensures { result ≡ error_number self }
+    {
+        match self {
+            DecodeError::NoMemory => 0,
+            DecodeError::Refused(refusal) => refusal.why.number(),
+        }
+    }
+
+    /// The slot of the refusal, from 0, and 0 where memory ran out.
+    pub fn slot(self) -> u32
+        ensures { result ≡ error_slot self }
+    {
+        match self {
+            DecodeError::NoMemory => 0,
+            DecodeError::Refused(refusal) => refusal.slot,
+        }
+    }
+}
+
+impl From<AllocError> for DecodeError {
+    ghost from_gives = { λ _ e. e ≡ NoMemory };
+
+    fn from(_: AllocError) -> Self {
+        DecodeError::NoMemory
+    }
+}
+
 /// The program that the bytes spell (RFC 9669, section 3), or the first thing that keeps them from spelling one: their
 /// number, else at the lowest slot at which no instruction begins the fault with the lowest number. Any bytes may be
-/// asked; those of a program of 1 to 4,096 slots are answered unless memory runs out, which is `NoMemory`.
+/// asked; those of a program of 1 to 4,096 slots are answered unless memory runs out, which is
+/// `NoMemory`.
 pub fn decode(alloc: Global, bytes: &[u8]) -> Result<Vec<Insn>, DecodeError>
     // What is answered is spelled by the bytes.
     ensures found { IfOk result (λ p. Decodes bytes.now p.items) }
     // What the bytes spell is answered, unless memory runs out.
     ensures only { (p : List Form) → Decodes bytes.now p → IsOnly result p }
     // A refusal is the first one, unless memory ran out.
-    ensures first { IfErr result (λ e. IsNoMemory e ⊎ Refuses bytes.now e) }
+    ensures first { IfErr result (IsFirst bytes.now) }
     // The same, by the function that callers cite.
     ensures reading { MatchResult result
         (λ v. decoded bytes.now ≡ Ok v.items)
         (λ e. DecodeFails e (decoded bytes.now)) }
 {
     match fault_of_length(bytes.len()) {
-        Some(why) => Err(DecodeError { slot: 0, why }),
+        Some(why) => Err(refused(0, why)),
         None => read_slots(alloc, bytes),
     }
 }
@@ -106,7 +146,7 @@ fn fault_of_length(count: usize) -> Option<DecodeFault>
         Some(DecodeFault::NotWholeSlots)
     } else if count == 0 {
         Some(DecodeFault::Empty)
-    } else if count > 32768 {
+    } else if count > 8 * MAX_SLOTS {
         Some(DecodeFault::TooLong)
     } else {
         None
@@ -116,7 +156,7 @@ fn fault_of_length(count: usize) -> Option<DecodeFault>
 // The program in the slots of the bytes, or the first refusal there.
 fn read_slots(alloc: Global, bytes: &[u8]) -> Result<Vec<Insn>, DecodeError>
     requires whole { length bytes.now % 8 ≡ 0 }
-    requires few { length bytes.now ≤ 32768 }
+    requires few { length bytes.now ≤ 8 * MAX_SLOTS }
     ensures { MatchResult result
         (λ v. program_from 0 false (slots_in bytes.now) ≡ Ok v.items)
         (λ e. DecodeFails e (program_from 0 false (slots_in bytes.now))) }
@@ -129,28 +169,27 @@ fn read_slots(alloc: Global, bytes: &[u8]) -> Result<Vec<Insn>, DecodeError>
                 push(&mut program, insn)?;
                 slot += insn.slot_count();
             }
-            Err(why) => {
-                return Err(DecodeError {
-                    slot: slot as u32,
-                    why,
-                });
-            }
+            Err(why) => return Err(refused(slot as u32, why)),
         }
     }
     Ok(program)
 }
 
+// The refusal at a slot.
+fn refused(slot: u32, why: DecodeFault) -> DecodeError
+    ensures { result ≡ Refused (record { slot = slot; why = why }) }
+{
+    DecodeError::Refused(DecodeRefusal { slot, why })
+}
+
 // Adds an instruction.
 fn push(program: &mut Vec<Insn>, insn: Insn) -> Result<(), DecodeError>
     ensures added { OnOk result (program.new.items ≡ program.old.items ++ insn ∷ []) }
-    ensures refused { IfErr result IsNoMemory }
+    ensures no_memory { IfErr result (λ e. e ≡ NoMemory) }
 {
     match program.push(insn) {
         Ok(()) => Ok(()),
-        Err(_) => Err(DecodeError {
-            slot: 0,
-            why: DecodeFault::NoMemory,
-        }),
+        Err(_) => Err(DecodeError::NoMemory),
     }
 }
 

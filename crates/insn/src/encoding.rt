@@ -5,9 +5,9 @@ ghost use Rattle.std.specs.List.{flat_map, AllByRecursion};
 ghost use Rattle.insn.specs.declared.instruction.Form.{Form};
 ghost use Rattle.insn.specs.Layout.{size};
 ghost use Rattle.insn.specs.Refusal.{Decodes};
-ghost use Rattle.insn.specs.Encoding.{Encodes, slots, slot_bytes, program_bytes, HasEncoding, IsInstruction};
+ghost use Rattle.insn.specs.Encoding.{Encodes, slots, slot_bytes, program_bytes, HasEncoding};
 
-use crate::instruction::{Fields, Form, Insn};
+use crate::instruction::{Fields, Form, Insn, MAX_SLOTS};
 use crate::spelling::slots_of;
 use byteorder::{ByteOrder, LittleEndian};
 use std::alloc::{AllocError, Global};
@@ -28,13 +28,13 @@ pub fn encode(alloc: Global, program: &[Insn]) -> Result<Vec<u8>, AllocError>
 /// written, if it has from 1 to 4,096 slots.
 pub fn encode_inverts_decode()
     ensures back { (bytes : List ℕ) (p : List Form) → Decodes bytes p → program_bytes p ≡ bytes }
-    ensures again { (p : List Form) → AllByRecursion IsInstruction p → 0 < size p → size p ≤ 4096
+    ensures again { (p : List Form) → AllByRecursion HasEncoding p → 0 < size p → size p ≤ MAX_SLOTS
         → Decodes (program_bytes p) p }
 {}
 
 /// The bytes of one instruction are a program of that instruction alone, and nothing else is.
 pub fn one_instruction_is_a_program()
-    ensures { (i : Form) (bytes : List ℕ) → IsInstruction i → Encodes i bytes ↔ Decodes bytes (i ∷ []) }
+    ensures { (i : Form) (bytes : List ℕ) → HasEncoding i → Encodes i bytes ↔ Decodes bytes (i ∷ []) }
 {}
 
 // Adds the bytes of an instruction.

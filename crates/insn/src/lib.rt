@@ -6,14 +6,19 @@
 
 mod decoding;
 mod encoding;
+mod flat;
 mod instruction;
 mod reading;
 mod spelling;
-#[cfg(test)]
-mod tests;
+mod uses;
 
-pub use decoding::{DecodeError, DecodeFault, decode, decoded_is_refused, decoded_is_spelled};
-pub use encoding::{encode, encode_inverts_decode, one_instruction_is_a_program};
-pub use instruction::{
-    Condition, Fields, Form, Insn, Operation, Order, Size, Source, size_counts_slots,
+pub use decoding::{
+    DecodeError, DecodeFault, DecodeRefusal, decode, decoded_is_refused, decoded_is_spelled,
 };
+pub use encoding::{encode, encode_inverts_decode, one_instruction_is_a_program};
+pub use flat::{Division, Op, forms_lie_one_for_one};
+pub use instruction::{
+    Condition, Edge, Fields, Form, Insn, MAX_SLOTS, Operation, Order, Size, Source, distance,
+    size_counts_slots,
+};
+pub use uses::opcodes_are_those_of_instructions;

@@ -1,16 +1,16 @@
-use Rattle.std.proofs.Common.{Some, Err, length, sym, ◌∙◌, arith}
-use Rattle.insn.specs.Decoded.{decoded}
+use Rattle.std.proofs.Common.{Some, Err, length, sym, ◌∙◌, arith, subst}
+use Rattle.insn.specs.Decoded.{decoded, DecodeFails}
 use Rattle.insn.proofs.Slots.{are_bytes}
 use Rattle.insn.proofs.Laws.{good_length, decoded_as}
-use Rattle.insn.proofs.Answered.{Answer, found_by, only_this, first_refusal, reads_slots, fails_by_length}
+use Rattle.insn.proofs.Answered.{Answer, ReadsAs, found_by, only_this, first_refusal, reads_slots}
 use Rattle.insn.proofs.decoding.decode.Goals as goal
 
 pub returns-in-Some : goal.returns-in-Some
 returns-in-Some c =
     let bytes = c.args.bytes.now in
     let fault = sym c.fault_of_length.ensures ∙ c.in-Some.is in
-    let r : Answer = Err (record { slot = 0; why = c.in-Some.why }) in
-    let reads = fails_by_length (length bytes) c.in-Some.why (decoded bytes) fault (decoded_as bytes (Some c.in-Some.why) fault) in
+    let r : Answer = Err c.refused.result in
+    let reads : ReadsAs r (decoded bytes) = subst (λ e. DecodeFails e (decoded bytes)) (sym c.refused.ensures) (decoded_as bytes (Some c.in-Some.why) fault) in
     record {
       found = tt;
       only = only_this bytes r reads;

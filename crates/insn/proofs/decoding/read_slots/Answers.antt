@@ -1,10 +1,8 @@
-use Rattle.std.proofs.Common.{drop, sym, ap, ◌∙◌, arith}
+use Rattle.std.proofs.Common.{false, subst, sym, ap, ◌∙◌, arith}
 use Rattle.insn.specs.Refusal.{slots_in}
-use Rattle.insn.specs.Decoded.{front}
+use Rattle.insn.specs.Decoded.{front, program_from, DecodeFails}
 use Rattle.insn.proofs.Slots.{are_bytes, slots_fit, slots_drop, length_slots}
-use Rattle.insn.proofs.Fronts.{front_fails}
 use Rattle.insn.proofs.Programs.{with_all, all_err, goes_on, stops, read_more, read_all}
-use Rattle.insn.proofs.Answered.{fails_at}
 use Rattle.insn.proofs.decoding.read_slots.Goals as goal
 
 pub loop-slot-preserved : goal.loop-slot-preserved
@@ -28,8 +26,8 @@ returns-in-Err c =
     let p = c.loop-slot.program.items in
     let count = length_slots bytes c.requires.whole in
     let here = sym (ap front (slots_drop at bytes c.loop-slot.invariant.within)) ∙ c.in-Err.ensures.first in
-    let stop = stops all at c.in-Err.why (omega (arith, count)) here in
-    fails_at (drop at all) at c.in-Err.why _ (front_fails (drop at all) c.in-Err.why here) (c.loop-slot.invariant.read ∙ ap (with_all p) stop ∙ all_err p _)
+    let stop = stops all at c.in-Err.why (slots_fit bytes (are_bytes bytes (λ k. omega (arith, c.type_inv.bytes k)))) (omega (arith, count)) here in
+    subst (λ e. DecodeFails e (program_from 0 false all)) (sym c.refused.ensures) (c.loop-slot.invariant.read ∙ ap (with_all p) stop ∙ all_err p _)
 
 pub returns : goal.returns
 returns c =

@@ -1,4 +1,4 @@
-use Rattle.std.proofs.Common.{◌≡◌, ℕ, ◌<◌, ◌≤◌, [], ◌∷◌, refl, sym, ◌∙◌, arith}
+use Rattle.std.proofs.Common.{◌≡◌, ◌<◌, ◌≤◌, [], ◌∷◌, refl, sym, ◌∙◌, arith}
 use Rattle.std.specs.List.{flat_map}
 use Rattle.insn.specs.declared.instruction.Form.{Form}
 use Rattle.insn.specs.declared.instruction.Form.TheVariants.{Imm64, MapRef}
@@ -19,5 +19,5 @@ takes_slots i = (omega arith, omega arith)
 pub returns : goal.returns
 returns c = λ i bytes instruction. (
   λ e. record { each = (instruction, tt); spelled = e.1 ∙ sym (joined i); some = (takes_slots i).0; few = (takes_slots i).1 },
-  λ d. (instruction.0, d.spelled ∙ joined i),
+  λ d. (instruction, d.spelled ∙ joined i),
 )

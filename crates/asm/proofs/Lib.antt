@@ -1,0 +1,11 @@
+pub mod Table
+pub mod Lists
+pub mod Cuts
+pub mod Numbers
+pub mod LabelLemmas
+pub mod AssembledLines
+pub mod TextLines
+pub mod Parts
+pub mod RoundTrip
+pub mod ReadBack
+pub mod PlainWords

@@ -1,0 +1,9 @@
+pub mod Refusal
+pub mod Words
+pub mod Tokens
+pub mod Operands
+pub mod Labels
+pub mod Forms
+pub mod Assembled
+pub mod Text
+pub mod Laws

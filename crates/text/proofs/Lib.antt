@@ -1,0 +1,6 @@
+pub mod Cuts
+pub mod FirstLines
+pub mod LineReadings
+pub mod Numbers
+pub mod Numerals
+pub mod SpacedBytes
