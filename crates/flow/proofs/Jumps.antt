@@ -4,7 +4,9 @@ use Rattle.std.specs.Prelude.{ℤ, pos, negsuc, ◌+ℤ◌, ◌≤ℤ◌, ◌<�
 use Rattle.std.proofs.lemmas.Bool.{false≢true, or_cases, or_left, or_right, and_parts, and_from, ltb-true, leb-true, le-leb}
 use Rattle.std.proofs.lemmas.Int.{ints}
 use Rattle.insn.specs.declared.instruction.Form.{Form}
-use Rattle.insn.specs.Layout.{slot_count, falls_through, displacement, Edge, Fall, Jump, LeadsTo}
+use Rattle.insn.specs.Layout.{slot_count, falls_through, displacement, LeadsTo}
+use Rattle.insn.specs.declared.instruction.Edge.{Edge}
+use Rattle.insn.specs.declared.instruction.Edge.TheVariants.{Fall, Jump}
 use Rattle.flow.specs.Faults.{jump_target, jump_is, is_slot, is_outside, is_backward, is_inside_wide, leads_to}
 
 mapped : (test : ℤ → Bool) (f : ℤ → ℤ) (o : Option ℤ) → jump_is test (option_map f o) ≡ true → (d : ℤ) × (o ≡ Some d) × (test (f d) ≡ true)

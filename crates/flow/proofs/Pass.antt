@@ -5,7 +5,9 @@ use Rattle.std.specs.List.{list_any}
 use Rattle.std.proofs.lemmas.Bool.{cases_Bool, cases_lt, false≢true}
 use Rattle.std.proofs.lemmas.Int.{ints}
 use Rattle.insn.specs.declared.instruction.Form.{Form}
-use Rattle.insn.specs.Layout.{slot_count, size, instruction_at, Edge, Fall, Jump, LeadsTo}
+use Rattle.insn.specs.Layout.{slot_count, size, instruction_at, LeadsTo}
+use Rattle.insn.specs.declared.instruction.Edge.{Edge}
+use Rattle.insn.specs.declared.instruction.Edge.TheVariants.{Fall, Jump}
 use Rattle.flow.specs.declared.rules.StructureRule.{StructureRule}
 use Rattle.flow.specs.declared.rules.StructureRule.TheVariants.{TargetOutside, RunsOffTheEnd, Unreachable}
 use Rattle.flow.specs.Structure.{StandsAt}

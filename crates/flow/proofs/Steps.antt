@@ -6,7 +6,8 @@ use Rattle.std.proofs.lemmas.Int.{ints}
 use Rattle.std.specs.Option.{option_or}
 use Rattle.std.proofs.lemmas.List.Folds.{find-append}
 use Rattle.insn.specs.declared.instruction.Form.{Form}
-use Rattle.insn.specs.Layout.{slot_count, falls_through, Fall}
+use Rattle.insn.specs.Layout.{slot_count, falls_through}
+use Rattle.insn.specs.declared.instruction.Edge.TheVariants.{Fall}
 use Rattle.flow.specs.declared.rules.StructureRule.{StructureRule}
 use Rattle.flow.specs.declared.rules.StructureRule.TheVariants.{RunsOffTheEnd, Unreachable}
 use Rattle.flow.specs.Faults.{leads_to, jump_is, is_slot, jump_target, is_broken, rules_of_jumps, first_rule}

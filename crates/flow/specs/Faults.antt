@@ -2,6 +2,7 @@
 -- rules there. The laws `no_fault_where_structured` and `fault_is_first_broken` say that it is the one that `Structure` defines.
 use Rattle.std.specs.Prelude.{◌≡◌, ℕ, zero, suc, ◌+◌, Bool, true, false, cond, not, ◌&&◌, ◌||◌, nat_lt, nat_le, nat_eq, ℤ, pos, negsuc, ◌+ℤ◌, List, [], ◌∷◌, ◌++◌, Option, Some, None, find, slice_get, option_map, option_and_then}
 use Rattle.std.specs.List.{list_any}
+use Rattle.insn.specs.declared.instruction.TheConstants.{MAX_SLOTS}
 use Rattle.insn.specs.declared.instruction.Form.{Form}
 use Rattle.insn.specs.Layout.{layout, size, slot_count, instruction_at, falls_through, displacement}
 use Rattle.flow.specs.declared.rules.StructureRule.{StructureRule}
@@ -121,7 +122,7 @@ lowest_fault p (suc k) = or_fault_at k (rule_at p k) (lowest_fault p k)
 
 -- there is an instruction, and at most 4,096 slots
 abbrev pub has_good_size : List Form → Bool
-has_good_size p = nat_lt 0 (size p) && nat_le (size p) 4096
+has_good_size p = nat_lt 0 (size p) && nat_le (size p) MAX_SLOTS
 
 -- the fault that is to be named
 unfoldable pub structure_fault : List Form → Option Fault

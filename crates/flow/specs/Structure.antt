@@ -1,8 +1,11 @@
 -- When the control flow of a program is well structured: each jump leads forward to an instruction (RFC 9669, section 4.3),
 -- the last instruction doesn't fall through, and every instruction can be reached.
 use Rattle.std.specs.Prelude.{◌≡◌, ℕ, ◌+◌, ◌<◌, ◌≤◌, ◌⊎◌, true, ℤ, pos, ◌<ℤ◌, ◌≤ℤ◌, List, Some, None, slice_get}
+use Rattle.insn.specs.declared.instruction.TheConstants.{MAX_SLOTS}
 use Rattle.insn.specs.declared.instruction.Form.{Form}
-use Rattle.insn.specs.Layout.{layout, size, slot_count, instruction_at, falls_through, Edge, Jump, LeadsTo}
+use Rattle.insn.specs.Layout.{layout, size, slot_count, instruction_at, falls_through, LeadsTo}
+use Rattle.insn.specs.declared.instruction.Edge.{Edge}
+use Rattle.insn.specs.declared.instruction.Edge.TheVariants.{Jump}
 use Rattle.flow.specs.declared.rules.StructureRule.{StructureRule}
 use Rattle.flow.specs.declared.rules.StructureRule.TheVariants.{TargetOutside, TargetNotForward, TargetInsideWide, RunsOffTheEnd, Unreachable}
 
@@ -39,12 +42,13 @@ Breaks Unreachable p i s = Reached p s → ⊥
 -- a program has an instruction, and at most 4,096 slots
 pub record HasGoodSize (p : List Form) : Type 0 where
   pub some : 0 < size p
-  pub few : size p ≤ 4096
+  pub few : size p ≤ MAX_SLOTS
 
 -- no instruction breaks a rule at a slot for which P holds
 abbrev pub IsUnbroken : List Form → (ℕ → Type 0) → Type 0
 IsUnbroken p P = (i : Form) (s : ℕ) → P s → StandsAt p i s → (rule : StructureRule) → Breaks rule p i s → ⊥
 
+-- every slot
 abbrev pub AnySlot : ℕ → Type 0
 AnySlot s = Unit {0}
 
@@ -63,7 +67,7 @@ pub record BreaksFirst (p : List Form) (i : Form) (s : ℕ) (rule : StructureRul
 
 -- a program has no instruction, or more than 4,096 slots
 abbrev pub HasBadSize : List Form → Type 0
-HasBadSize p = (size p ≡ 0) ⊎ (4096 < size p)
+HasBadSize p = (size p ≡ 0) ⊎ (MAX_SLOTS < size p)
 
 -- the rule that is to be named, and its slot: a program of bad size runs off the end at slot 0, before all else
 abbrev pub FirstBroken : List Form → ℕ → StructureRule → Type 0

@@ -1,4 +1,5 @@
-// Deciding the rules of structure, in one pass over the program.
+// Deciding the rules of structure, in three linear passes over the program: its slots are counted, then its second halves
+// are noted, then each instruction is checked.
 
 ghost use Rattle.std.specs.Prelude.{◌≡◌, ℕ, Bool, find, ◌&&◌, nat_eq, ◌+◌, ◌<◌, ◌≤◌, ◌↔◌, cond, None, Some, IsOk, IfErr, MatchResult};
 ghost use Rattle.insn.specs.Layout.{size, slot_count, falls_through};
@@ -7,10 +8,10 @@ ghost use Rattle.flow.specs.Structure.{IsStructured, FirstBroken, rule_number};
 ghost use Rattle.flow.specs.Faults.{is_second_half, is_broken, rules_of_jumps, first_rule, lowest_fault, has_good_size, structure_fault, Names};
 ghost use Rattle.flow.specs.SlotSets.{has_slot};
 
-use crate::edges::{insert_targets, is_followed, target_of};
+use crate::edges::{insert_targets, target_of};
 use crate::rules::{Broken, StructureRule};
-use crate::slot_set::{MAX_SLOTS, SlotSet};
-use insn::{Form, Insn};
+use crate::slot_set::SlotSet;
+use insn::{Form, Insn, MAX_SLOTS};
 
 /// Whether the program is structured, and if not, the lowest slot at which a rule of structure is broken, and there the
 /// rule of the lowest number.
@@ -30,7 +31,7 @@ pub fn structure(program: &[Insn]) -> Result<(), Broken>
 
 // The refusal of the rule at the slot.
 fn broken(slot: usize, rule: StructureRule) -> Broken
-    requires { slot < 4096 }
+    requires { slot < MAX_SLOTS }
     ensures at { result.slot ≡ slot }
     ensures named { result.number ≡ rule_number rule }
 {
@@ -56,7 +57,7 @@ fn good_size(program: &[Insn]) -> Option<usize>
 
 // The second halves of the wide instructions.
 fn second_halves(program: &[Insn]) -> SlotSet
-    requires { size program.now ≤ 4096 }
+    requires { size program.now ≤ MAX_SLOTS }
     ensures { (t : ℕ) → has_slot result t ≡ is_second_half program.now t }
 {
     let mut halves = SlotSet::new();
@@ -73,7 +74,7 @@ fn second_halves(program: &[Insn]) -> SlotSet
 // The first fault of a program that ends before this slot.
 fn check_each(program: &[Insn], end: usize) -> Result<(), Broken>
     requires sized { end ≡ size program.now }
-    requires few { end ≤ 4096 }
+    requires few { end ≤ MAX_SLOTS }
     ensures { MatchResult result (λ _. lowest_fault program.now end ≡ None) (λ b. Names b (lowest_fault program.now end)) }
 {
     let halves = second_halves(program);
@@ -103,7 +104,7 @@ fn broken_rule(
 ) -> Option<StructureRule>
     requires next { next ≡ slot + slot_count form }
     requires within { slot < end }
-    requires few { end ≤ 4096 }
+    requires few { end ≤ MAX_SLOTS }
     ensures { result ≡ first_rule end (has_slot halves.now) is_reached form slot }
 {
     if let Some(rule) = broken_by_jump(form, slot, end, halves) {
@@ -122,13 +123,13 @@ fn broken_rule(
 fn runs_off(form: Form, next: usize, end: usize) -> bool
     ensures { result ≡ (falls_through form && nat_eq next end) }
 {
-    is_followed(form) && next == end
+    form.falls_through() && next == end
 }
 
 // The first rule that its jump breaks.
 fn broken_by_jump(form: Form, slot: usize, end: usize, halves: &SlotSet) -> Option<StructureRule>
     requires within { slot < end }
-    requires few { end ≤ 4096 }
+    requires few { end ≤ MAX_SLOTS }
     ensures { (reached : Bool) → result ≡ find (is_broken end (has_slot halves.now) reached form slot) rules_of_jumps }
 {
     let target = target_of(form, slot)?;

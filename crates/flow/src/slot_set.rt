@@ -3,8 +3,7 @@
 ghost use Rattle.std.specs.Prelude.{◌≡◌, ℕ, ◌<◌, false, ◌||◌, nat_eq};
 ghost use Rattle.flow.specs.SlotSets.{has_slot};
 
-/// How many slots a program has at most.
-pub const MAX_SLOTS: usize = 4096;
+use insn::MAX_SLOTS;
 
 /// A set of slots, a bit for each.
 #[derive(Clone, Copy)]
@@ -24,7 +23,7 @@ impl SlotSet {
 
     /// Whether the slot is one of them.
     pub fn contains(&self, slot: usize) -> bool
-        requires { slot < 4096 }
+        requires { slot < MAX_SLOTS }
         ensures { result ≡ has_slot self.now slot }
     {
         (self.words[slot / 64] >> (slot % 64)) & 1 == 1
@@ -32,7 +31,7 @@ impl SlotSet {
 
     /// Adds the slot.
     pub fn insert(&mut self, slot: usize)
-        requires { slot < 4096 }
+        requires { slot < MAX_SLOTS }
         ensures { (s : ℕ) → has_slot self.new s ≡ (nat_eq s slot || has_slot self.old s) }
     {
         self.words[slot / 64] |= 1 << (slot % 64);

@@ -63,7 +63,7 @@ array_has true present first e = absurd cc
 array_has false true first e = refl
 array_has false false first e = absurd cc
 
-hash_room : (large present first second : Bool) (entries keys : ℕ)
+pub hash_room : (large present first second : Bool) (entries keys : ℕ)
     → cond large (Some einval) (cond present (cond first (Some eexist) None) (cond second (Some enoent) (cond (nat_le entries keys) (Some e2big) None))) ≡ None
     → (present ≡ true) ⊎ ((present ≡ false) × (keys < entries))
 hash_room true present first second entries keys e = absurd cc

@@ -12,6 +12,7 @@ use Rattle.helpers.specs.Helpers.{update_error, delete_error, enoent, e2big, eex
 abbrev pub UpdateRow : Type 0
 UpdateRow = Shape × Bool × ℕ × ℕ × Option ℕ
 
+-- every row of the table of updates, on an array of 16 and on a hash of two keys
 abbrev pub update_rows : List UpdateRow
 update_rows =
     (Array 8 16, true, 16, 0, None)
@@ -35,12 +36,15 @@ update_rows =
     ∷ (Hash 4 8 2, true, 2, 18446744073709551615, Some einval)
     ∷ []
 
+-- the shape, whether the key is present; the error
 abbrev pub DeleteRow : Type 0
 DeleteRow = Shape × Bool × Option ℕ
 
+-- every row of the table of deletes
 abbrev pub delete_rows : List DeleteRow
 delete_rows = (Array 8 16, true, Some einval) ∷ (Array 8 16, false, Some einval) ∷ (Hash 4 8 1, false, Some enoent) ∷ (Hash 4 8 1, true, None) ∷ []
 
+-- each row has its error
 pub record TablesHold : Type 0 where
   pub updates : AllByRecursion (λ (r : UpdateRow). update_error r.0 r.1 r.2 r.3 ≡ r.4) update_rows
   pub deletes : AllByRecursion (λ (r : DeleteRow). delete_error r.0 r.1 ≡ r.2) delete_rows
@@ -51,12 +55,15 @@ pub record TablesHold : Type 0 where
 abbrev pub both : Entries → Entries → Maps
 both array hash = record { shape = Array 8 16; entries = array } ∷ record { shape = Hash 4 8 1; entries = hash } ∷ []
 
+-- a key
 abbrev pub a : List ℕ
 a = 1 ∷ 0 ∷ 0 ∷ 0 ∷ []
 
+-- another key
 abbrev pub b : List ℕ
 b = 2 ∷ 0 ∷ 0 ∷ 0 ∷ []
 
+-- a value
 abbrev pub zeros : List ℕ
 zeros = 0 ∷ 0 ∷ 0 ∷ 0 ∷ 0 ∷ 0 ∷ 0 ∷ 0 ∷ []
 
@@ -73,5 +80,6 @@ pub record CallsAnswer (array : Entries) : Type 0 where
   pub past : HelperAnswers (UpdateCall 0 (index_key 16) zeros 0) (both array finite_map.empty) (Num 18446744073709551609) (both array finite_map.empty)
   pub there : HelperAnswers (UpdateCall 0 (index_key 0) zeros 2) (both array finite_map.empty) (Num 0) (both (finite_map.insert array (index_key 0) zeros) finite_map.empty)
 
+-- whatever the array has
 abbrev pub CallsAnswerSo : Type 0
 CallsAnswerSo = (array : Entries) → IsMapState (record { shape = Array 8 16; entries = array }) → CallsAnswer array

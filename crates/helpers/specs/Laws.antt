@@ -30,6 +30,7 @@ Changes (LookupCall m key) r = ⊥
 Changes (UpdateCall m key value flags) r = r ≡ Num 0
 Changes (DeleteCall m key) r = r ≡ Num 0
 
+-- every other answer leaves the maps as they are
 abbrev pub RefusalsChangeNothing : Type 0
 RefusalsChangeNothing = (call : HelperCall) (maps maps' : Maps) (r : MachineValue) → HelperAnswers call maps r maps' → ¬ Changes call r → maps' ≡ maps
 
@@ -50,11 +51,13 @@ FitsShape (LookupCall m key) shape = (length key ≡ key_size shape) × AreBytes
 FitsShape (UpdateCall m key value flags) shape = (length key ≡ key_size shape) × AreBytes key × IsValueOf shape value
 FitsShape (DeleteCall m key) shape = (length key ≡ key_size shape) × AreBytes key
 
+-- the map that the call names
 abbrev pub number_of : HelperCall → ℕ
 number_of (LookupCall m key) = m
 number_of (UpdateCall m key value flags) = m
 number_of (DeleteCall m key) = m
 
+-- the call fits the shape of the map that it names
 abbrev pub FitsMaps : HelperCall → Maps → Type 0
 FitsMaps call maps = (s : MapState) → slice_get maps (number_of call) ≡ Some s → FitsShape call s.shape
 

@@ -1,22 +1,20 @@
 -- Tables copied one by one.
-use Rattle.std.proofs.Common.{◌≡◌, ◌≢◌, ℕ, zero, suc, ◌+◌, ◌<◌, ◌≤◌, List, [], ◌∷◌, length, Some, refl, sym, ap, ◌∙◌, arith, subst, get_or, inr, ⊎_elim}
+use Rattle.std.proofs.Common.{◌≡◌, ◌≢◌, ℕ, zero, suc, ◌+◌, ◌<◌, ◌≤◌, List, [], ◌∷◌, length, Some, refl, sym, ap, ◌∙◌, arith, subst, get_or, ⊎_elim}
 use Rattle.std.specs.Prelude.{slice_get, slice_set}
-use Rattle.std.specs.List.{AllByRecursion}
 use Rattle.std.specs.Option.{option_map}
 use Rattle.std.proofs.lemmas.List.{length-map}
 use Rattle.std.proofs.lemmas.Option.{slice_get-map}
 use Rattle.std.proofs.lemmas.Bool.Decides.{eqb_tells}
 use Rattle.maps.specs.declared.shapes.Shape.{Shape}
-use Rattle.maps.specs.Shapes.{room_of}
 use Rattle.maps.specs.declared.table.Table.{Table}
-use Rattle.maps.specs.MapSets.{Stored, Contents, stored_shapes, opening_keys}
-use Rattle.maps.specs.Blocks.{stored, contents, IsFull}
+use Rattle.maps.specs.MapSets.{Stored, Contents, stored_shapes}
+use Rattle.maps.specs.Blocks.{stored, contents, IsTable, AreTables}
 use Rattle.maps.proofs.Stored.{get_at, all_get}
-use Rattle.maps.proofs.Written.{kept_shapes, all_full}
+use Rattle.maps.proofs.Written.{kept_shapes, tables_kept}
 
--- the first i are those of the source, and all have the shapes and lengths of the source's
+-- the first i are those of the source, and all have the shapes of the source's
 pub record IsCopied (i : ℕ) (ts source : List Table) : Type 0 where
-  pub full : AllByRecursion IsFull (contents ts)
+  pub tables : AreTables ts
   pub shapes : stored_shapes (contents ts) ≡ stored_shapes (contents source)
   pub first : (j : ℕ) → j < i → slice_get (contents ts) j ≡ slice_get (contents source) j
 
@@ -45,25 +43,32 @@ at ts i t h e = slice_get-map stored ts i ∙ ap (option_map stored) (get_at ts 
 shape_at : (ts : List Table) (i : ℕ) (t : Table) → i < length ts → t ≡ get_or ts i t → slice_get (stored_shapes (contents ts)) i ≡ Some t.shape
 shape_at ts i t h e = slice_get-map (λ (s : Stored). s.shape) (contents ts) i ∙ ap (option_map (λ (s : Stored). s.shape)) (at ts i t h e)
 
-pub alike : (i : ℕ) (ts source : List Table) (t x : Table) → AllByRecursion IsFull (contents source) → IsCopied i ts source → i < length ts → t ≡ get_or ts i t → x ≡ get_or source i x
-    → (t.shape ≡ x.shape) × (length t.block.items ≡ length x.block.items)
-alike i ts source t x full c h e f =
-    let within : i < length source = subst (λ n. i < n) (count ts source c.shapes) h in
-    let same : t.shape ≡ x.shape = one t.shape x.shape (sym (shape_at ts i t h e) ∙ (ap (λ s. slice_get s i) c.shapes ∙ shape_at source i x within f)) in
-    (same, all_get IsFull (contents ts) i (stored t) c.full (at ts i t h e) ∙ (ap room_of same ∙ sym (all_get IsFull (contents source) i (stored x) full (at source i x within f))))
+-- the next of both are tables of one shape
+pub record IsNext (t x : Table) : Type 0 where
+  pub table : IsTable t
+  pub source : IsTable x
+  pub shape : t.shape ≡ x.shape
 
-pub copied_one : (i : ℕ) (ts source : List Table) (t x u : Table) → AllByRecursion IsFull (contents source) → IsCopied i ts source → i < length ts → t ≡ get_or ts i t → x ≡ get_or source i x
-    → u.shape ≡ t.shape → u.block.items ≡ x.block.items → IsCopied (i + 1) (slice_set ts i u) source
-copied_one i ts source t x u full c h e f shape bytes =
-    let is = alike i ts source t x full c h e f in
+pub alike : (i : ℕ) (ts source : List Table) (t x : Table) → AreTables source → IsCopied i ts source → i < length ts → t ≡ get_or ts i t → x ≡ get_or source i x → IsNext t x
+alike i ts source t x tables c h e f =
     let within : i < length source = subst (λ n. i < n) (count ts source c.shapes) h in
-    let filled : IsFull (stored u) = ap length bytes ∙ (all_get IsFull (contents source) i (stored x) full (at source i x within f) ∙ ap room_of (sym (shape ∙ is.0))) in
-    let whole : stored u ≡ stored x = ap (λ s. record { shape = s; keys = opening_keys s; bytes = u.block.items }) (shape ∙ is.0) ∙ ap (λ b. record { shape = x.shape; keys = opening_keys x.shape; bytes = b }) bytes in
     record {
-      full = all_full ts i u c.full (inr filled);
+      table = all_get IsTable ts i t c.tables.each (get_at ts i t h e);
+      source = all_get IsTable source i x tables.each (get_at source i x within f);
+      shape = one t.shape x.shape (sym (shape_at ts i t h e) ∙ (ap (λ s. slice_get s i) c.shapes ∙ shape_at source i x within f));
+    }
+
+pub copied_one : (i : ℕ) (ts source : List Table) (t x u : Table) → AreTables source → IsCopied i ts source → i < length ts → t ≡ get_or ts i t → x ≡ get_or source i x
+    → stored u ≡ stored x → IsTable u → IsCopied (i + 1) (slice_set ts i u) source
+copied_one i ts source t x u tables c h e f same fits =
+    let next = alike i ts source t x tables c h e f in
+    let within : i < length source = subst (λ n. i < n) (count ts source c.shapes) h in
+    let shape : u.shape ≡ t.shape = ap (λ (s : Stored). s.shape) same ∙ sym next.shape in
+    record {
+      tables = tables_kept ts i t u c.tables e shape fits;
       shapes = kept_shapes ts i t u e shape ∙ c.shapes;
       first = λ j below. ⊎_elim
-          (λ same. let is : j ≡ i = same.1 in subst (λ n. slice_get (contents (slice_set ts i u)) n ≡ slice_get (contents source) n) (sym is) (get_set_same ts i u h ∙ (ap Some whole ∙ sym (at source i x within f))))
+          (λ is. let ji : j ≡ i = is.1 in subst (λ n. slice_get (contents (slice_set ts i u)) n ≡ slice_get (contents source) n) (sym ji) (get_set_same ts i u h ∙ (ap Some same ∙ sym (at source i x within f))))
           (λ other. get_set_other ts i j u other.1 ∙ c.first j (omega (arith, below, other.1)))
           (eqb_tells j i);
     }

@@ -1,7 +1,10 @@
 pub mod Keys
 pub mod Placed
+pub mod KeysChanged
 pub mod Stored
 pub mod Written
+pub mod TableKeys
+pub mod WholeBlocks
 pub mod Copied
 pub mod Opened
 pub mod OpeningShapes

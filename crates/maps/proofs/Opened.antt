@@ -4,11 +4,9 @@ use Rattle.std.proofs.Math.Nat.{mul-le-mul_right}
 use Rattle.maps.specs.declared.shapes.Shape.TheVariants.{Array, Hash}
 use Rattle.maps.proofs.Placed.{same_placed, length_index_keys}
 use Rattle.std.specs.Prelude.{replicate}
-use Rattle.std.specs.List.{AllByRecursion}
 use Rattle.maps.specs.declared.shapes.Shape.{Shape}
-use Rattle.maps.specs.Shapes.{AreShapesOk, room_of, value_size}
+use Rattle.maps.specs.Shapes.{AreShapesOk, block_size, value_size}
 use Rattle.maps.specs.MapSets.{stored_shapes, opened, opening_map, opening_maps, maps_of, placed, value_in, opening_keys, index_keys}
-use Rattle.maps.specs.Blocks.{IsFull, AreFull}
 
 zeros : (n : ℕ) → length {A = ℕ} (replicate n 0) ≡ n
 zeros zero = refl
@@ -18,12 +16,8 @@ same_shapes : (shapes : List Shape) → stored_shapes (opened shapes) ≡ shapes
 same_shapes [] = refl
 same_shapes (s ∷ shapes) = ap (λ x. s ∷ x) (same_shapes shapes)
 
-all_full : (shapes : List Shape) → AllByRecursion IsFull (opened shapes)
-all_full [] = tt
-all_full (s ∷ shapes) = (zeros (room_of s), all_full shapes)
-
-pub opened_full : (shapes : List Shape) → AreShapesOk shapes → AreFull (opened shapes)
-opened_full shapes h = record { shapes = subst AreShapesOk (sym (same_shapes shapes)) h; full = all_full shapes }
+pub opened_shapes : (shapes : List Shape) → AreShapesOk shapes → AreShapesOk (stored_shapes (opened shapes))
+opened_shapes shapes h = subst AreShapesOk (sym (same_shapes shapes)) h
 
 -- ---- the finite maps: every value is of zeros
 
@@ -46,7 +40,7 @@ none_same : (n m : ℕ) (v w : ℕ → List ℕ) → placed (replicate n None) w
 none_same zero m v w = refl
 none_same (suc n) m v w = none_same n (suc m) v w
 
-opened_entries : (s : Shape) → placed (opening_keys s) (value_in (value_size s) (replicate (room_of s) 0)) 0 ≡ placed (opening_keys s) (λ _. replicate (value_size s) 0) 0
+opened_entries : (s : Shape) → placed (opening_keys s) (value_in (value_size s) (replicate (block_size s) 0)) 0 ≡ placed (opening_keys s) (λ _. replicate (value_size s) 0) 0
 opened_entries (Array value entries) =
     same_placed (index_keys 0 entries) (λ _. replicate value 0) (value_in value (replicate (entries * value) 0)) 0
     (λ i h. zero_value value entries (0 + i) (let n = length_index_keys 0 entries in omega (arith, h, n)))

@@ -6,6 +6,7 @@ use Rattle.std.specs.Cmp.Lexicographic.{slice_cmp, nat_list_cmp_total}
 use Rattle.std.specs.FinMap as finite_map
 use Rattle.std.specs.FinMap.{get-insert, get-empty, len-insert, len-empty, same_map, slice_cmp-IsAntisymmetric, nat_cmp-IsAntisymmetric}
 use Rattle.std.proofs.lemmas.Option.{slice_get_within}
+use Rattle.keyindex.specs.Places.{filled}
 use Rattle.maps.specs.declared.shapes.Shape.{Shape}
 use Rattle.maps.specs.declared.shapes.Shape.TheVariants.{Array, Hash}
 use Rattle.maps.specs.Shapes.{entry_count}
@@ -158,21 +159,22 @@ none_free (suc n) (suc p) k e = none_free n p k e
 
 -- ---- how many keys
 
-len_index : (i n m : ℕ) (v : ℕ → List ℕ) → i + n ≤ 2 ^ 32 → finite_map.len (placed (index_keys i n) v m) ≡ n
-len_index i zero m v h = len-empty (slice_cmp nat_cmp) (List ℕ)
-len_index i (suc n) m v h =
-    let rest = placed (index_keys (suc i) n) v (suc m) in
-    let new : finite_map.get rest (index_key i) ≡ None = get_nowhere (index_keys (suc i) n) v (suc m) (index_key i) (λ p. index_nowhere (suc i) n i p (omega arith) (omega arith) (λ q _ e. omega (arith, e))) in
-    len-insert nat_list_cmp_total rest (index_key i) (v m)
-    ∙ (ap (λ o. cond (is_some o) (finite_map.len rest) (finite_map.len rest + 1)) new
-    ∙ (ap (λ x. x + 1) (len_index (suc i) n (suc m) v (omega arith)) ∙ omega arith))
+pub len_placed : (ks : List (Option (List ℕ))) (v : ℕ → List ℕ) (n : ℕ) → Distinct ks → finite_map.len (placed ks v n) ≡ filled ks
+len_placed [] v n d = len-empty (slice_cmp nat_cmp) (List ℕ)
+len_placed (None ∷ ks) v n d = len_placed ks v (suc n) d
+len_placed (Some k ∷ ks) v n d =
+    let rest = placed ks v (suc n) in
+    len-insert nat_list_cmp_total rest k (v n)
+    ∙ (ap (λ o. cond (is_some o) (finite_map.len rest) (finite_map.len rest + 1)) (get_nowhere ks v (suc n) k d.0)
+    ∙ (ap (λ x. x + 1) (len_placed ks v (suc n) d.1) ∙ omega arith))
 
-len_none : (n m : ℕ) (v : ℕ → List ℕ) → finite_map.len (placed (replicate n None) v m) ≡ 0
-len_none zero m v = len-empty (slice_cmp nat_cmp) (List ℕ)
-len_none (suc n) m v = len_none n (suc m) v
+pub filled_index : (i n : ℕ) → filled (index_keys i n) ≡ n
+filled_index i zero = refl
+filled_index i (suc n) = ap suc (filled_index (suc i) n)
 
-pub len_array : (value entries : ℕ) (v : ℕ → List ℕ) → entries ≤ 65536 → finite_map.len (placed (opening_keys (Array value entries)) v 0) ≡ entries
-len_array value entries v h = len_index 0 entries 0 v (omega arith)
+filled_none : (n : ℕ) → filled (replicate n None) ≡ 0
+filled_none zero = refl
+filled_none (suc n) = filled_none n
 
 pub len_hash : (key value entries : ℕ) (v : ℕ → List ℕ) → finite_map.len (placed (opening_keys (Hash key value entries)) v 0) ≡ 0
-len_hash key value entries v = len_none entries 0 v
+len_hash key value entries v = len_placed (replicate entries None) v 0 (none_distinct entries) ∙ filled_none entries

@@ -1,5 +1,5 @@
 -- A value written over: its block, the finite maps, and what stays.
-use Rattle.std.proofs.Common.{◌≡◌, ◌≢◌, ℕ, zero, suc, ◌+◌, ◌-◌, ◌*◌, ◌<◌, ◌≤◌, List, [], ◌∷◌, ◌++◌, length, map, take, drop, Option, Some, None, refl, sym, ap, ◌∙◌, arith, subst, get_or, inl, inr, ⊎_elim, length-append, length-take, length-drop, take-append-drop}
+use Rattle.std.proofs.Common.{◌≡◌, ◌≢◌, ℕ, zero, suc, ◌+◌, ◌-◌, ◌*◌, ◌<◌, ◌≤◌, List, [], ◌∷◌, ◌++◌, length, map, take, drop, Option, Some, refl, sym, ap, ◌∙◌, arith, subst, get_or, inl, inr, ⊎_elim, length-append, length-take, length-drop, take-append-drop}
 use Rattle.std.specs.Prelude.{◌⊎◌, slice_get, slice_set, is_some, IsSome}
 use Rattle.std.specs.List.{AllByRecursion, refill}
 use Rattle.std.specs.FinMap as finite_map
@@ -11,11 +11,11 @@ use Rattle.maps.specs.Shapes.{AreShapesOk, value_size}
 use Rattle.maps.specs.Maps.{Maps, MapState}
 use Rattle.maps.specs.declared.table.Table.{Table}
 use Rattle.maps.specs.declared.entry.Entry.{Entry}
-use Rattle.maps.specs.MapSets.{Stored, Contents, placed, opening_keys, value_in, map_of, maps_of, key_at, flat, key_of, stored_shapes, change_at, write_over, write_value, put_value}
-use Rattle.maps.specs.Blocks.{stored, contents, IsFull, AreFull}
+use Rattle.maps.specs.MapSets.{Stored, Contents, placed, value_in, map_of, maps_of, key_at, flat, key_of, stored_shapes, change_at, write_over, write_value, put_value, take_key}
+use Rattle.maps.specs.Blocks.{keys_at, stored, contents, IsTable, AreTables}
 use Rattle.maps.specs.Lent.{with_bytes}
-use Rattle.maps.proofs.Placed.{change_placed, opening_distinct}
-use Rattle.maps.proofs.Stored.{standing, ok_at, room_at}
+use Rattle.maps.proofs.Placed.{change_placed}
+use Rattle.maps.proofs.Stored.{IsAt, distinct, standing, room_at}
 
 -- ---- bytes
 
@@ -57,7 +57,7 @@ in_place p s x w z e g =
     ap (λ n. take s (drop n (x ++ (w ++ z)))) (sym e) ∙ (ap (take s) (drop-append_seam x (w ++ z)) ∙ (ap (λ n. take n (w ++ z)) (sym g) ∙ take-append_seam w z))
 
 -- bytes of the same length are taken whole
-whole : (n : ℕ) (b r : List ℕ) → length b ≡ n → length r ≡ n → refill n b r ≡ r
+pub whole : (n : ℕ) (b r : List ℕ) → length b ≡ n → length r ≡ n → refill n b r ≡ r
 whole n b r e f =
     ap (λ m. take n (r ++ drop m b)) f ∙ (take-append-le n r (drop n b) (omega (arith, f)) ∙ (ap (λ m. take m r) (sym f) ∙ take-length r))
 
@@ -103,7 +103,7 @@ module _ (bytes : List ℕ) (p s : ℕ) (w : List ℕ) (fits : p * s + s ≤ len
 
 -- ---- the tables
 
-change_map : (ts : List Table) (m : ℕ) (t u : Table) (f : Stored → Stored) → m < length ts → t ≡ get_or ts m t → stored u ≡ f (stored t) → map stored (slice_set ts m u) ≡ change_at f (map stored ts) m
+pub change_map : (ts : List Table) (m : ℕ) (t u : Table) (f : Stored → Stored) → m < length ts → t ≡ get_or ts m t → stored u ≡ f (stored t) → map stored (slice_set ts m u) ≡ change_at f (map stored ts) m
 change_map [] m t u f h e is = absurd (omega arith)
 change_map (x ∷ ts) zero t u f h e is = ap (λ b. b ∷ map stored ts) (is ∙ ap (λ b. f (stored b)) e)
 change_map (x ∷ ts) (suc m) t u f h e is = ap (λ bs. stored x ∷ bs) (change_map ts m t u f (omega arith) e is)
@@ -112,11 +112,11 @@ pub view_written : (ts : List Table) (c : Contents) (e : Entry) (t : Table) (siz
     → contents (slice_set ts e.map (with_bytes t (e.place * size) w)) ≡ write_value c e w
 view_written ts c e t size w is h at width =
     change_map ts e.map t (with_bytes t (e.place * size) w) (λ s. record { shape = s.shape; keys = s.keys; bytes = write_over s.bytes (e.place * value_size s.shape) w }) h at
-    (ap (λ i. record { shape = t.shape; keys = opening_keys t.shape; bytes = (with_items_from t.block i w).items }) (ap (λ n. e.place * n) width)
-    ∙ ap (λ n. record { shape = t.shape; keys = opening_keys t.shape; bytes = refill n t.block.items (take (e.place * value_size t.shape) t.block.items ++ (w ++ drop (length w) (drop (e.place * value_size t.shape) t.block.items))) }) t.block.ok.0)
+    (ap (λ i. record { shape = t.shape; keys = keys_at t.shape t.index; bytes = (with_items_from t.block i w).items }) (ap (λ n. e.place * n) width)
+    ∙ ap (λ n. record { shape = t.shape; keys = keys_at t.shape t.index; bytes = refill n t.block.items (take (e.place * value_size t.shape) t.block.items ++ (w ++ drop (length w) (drop (e.place * value_size t.shape) t.block.items))) }) t.block.ok.0)
     ∙ ap (λ x. write_value x e w) is
 
-kept_length : (t : Table) (start : ℕ) (w : List ℕ) → length (with_bytes t start w).block.items ≡ length t.block.items
+pub kept_length : (t : Table) (start : ℕ) (w : List ℕ) → length (with_bytes t start w).block.items ≡ length t.block.items
 kept_length t start w = sym (with_bytes t start w).block.ok.0 ∙ t.block.ok.0
 
 pub kept_shapes : (ts : List Table) (m : ℕ) (t u : Table) → t ≡ get_or ts m t → u.shape ≡ t.shape → stored_shapes (contents (slice_set ts m u)) ≡ stored_shapes (contents ts)
@@ -124,20 +124,23 @@ kept_shapes [] m t u e same = refl
 kept_shapes (x ∷ ts) zero t u e same = ap (λ s. s ∷ stored_shapes (contents ts)) (same ∙ ap (λ (b : Table). b.shape) e)
 kept_shapes (x ∷ ts) (suc m) t u e same = ap (λ s. x.shape ∷ s) (kept_shapes ts m t u e same)
 
-pub all_full : (ts : List Table) (m : ℕ) (u : Table) → AllByRecursion IsFull (contents ts) → (slice_get ts m ≡ None) ⊎ IsFull (stored u) → AllByRecursion IsFull (contents (slice_set ts m u))
-all_full [] m u all h = tt
-all_full (x ∷ ts) zero u all h = (⊎_elim (λ e. absurd (let p : Some x ≡ None = e in cc)) (λ f. f) h, all.1)
-all_full (x ∷ ts) (suc m) u all h = (all.0, all_full ts m u all.1 h)
+pub all_set : {A : Type 0} (P : A → Type 0) (xs : List A) (i : ℕ) (y : A) → AllByRecursion P xs → P y → AllByRecursion P (slice_set xs i y)
+all_set P [] i y all h = tt
+all_set P (x ∷ xs) zero y all h = (h, all.1)
+all_set P (x ∷ xs) (suc i) y all h = (all.0, all_set P xs i y all.1 h)
 
-pub full_written : (ts : List Table) (c : Contents) (m place : ℕ) (t : Table) (start : ℕ) (w : List ℕ) → contents ts ≡ c → AreFull (contents ts) → IsSome (key_at c m place) → t ≡ get_or ts m t
-    → AreFull (contents (slice_set ts m (with_bytes t start w)))
-full_written ts c m place t start w is full h e =
-    let at = standing ts c m place t is h e in
-    let fine = ok_at c m (stored t) (subst AreFull is full) at.1 in
-    record {
-      shapes = subst AreShapesOk (sym (kept_shapes ts m t (with_bytes t start w) e refl)) full.shapes;
-      full = all_full ts m (with_bytes t start w) full.full (inr (kept_length t start w ∙ fine.1));
-    }
+-- a table exchanged for one of the same shape
+pub tables_kept : (ts : List Table) (m : ℕ) (t u : Table) → AreTables ts → t ≡ get_or ts m t → u.shape ≡ t.shape → IsTable u → AreTables (slice_set ts m u)
+tables_kept ts m t u tables e same fits = record { shapes = subst AreShapesOk (sym (kept_shapes ts m t u e same)) tables.shapes; each = all_set IsTable ts m u tables.each fits }
+
+pub fits_written : (t : Table) (start : ℕ) (w : List ℕ) → IsTable t → IsTable (with_bytes t start w)
+fits_written t start w table = record { index = table.index; full = kept_length t start w ∙ table.full }
+
+pub full_written : (ts : List Table) (c : Contents) (m place : ℕ) (t : Table) (start : ℕ) (w : List ℕ) → contents ts ≡ c → AreTables ts → IsSome (key_at c m place) → t ≡ get_or ts m t
+    → AreTables (slice_set ts m (with_bytes t start w))
+full_written ts c m place t start w is tables h e =
+    let at = standing ts c m place t is tables h e in
+    tables_kept ts m t (with_bytes t start w) tables e refl (fits_written t start w at.0.table)
 
 -- ---- the finite maps, and what stays
 
@@ -146,7 +149,7 @@ change_maps [] m s f g e is = refl
 change_maps (x ∷ c) zero s f g e is = let same : s ≡ x = cc in ap (λ b. b ∷ map map_of c) (subst (λ y. map_of (f y) ≡ g (map_of y)) same is)
 change_maps (x ∷ c) (suc m) s f g e is = ap (λ bs. map_of x ∷ bs) (change_maps c m s f g e is)
 
-keep_keys : (f : Stored → Stored) → ((s : Stored) → (f s).keys ≡ s.keys) → (c : Contents) (m n place : ℕ) → key_at (change_at f c m) n place ≡ key_at c n place
+pub keep_keys : (f : Stored → Stored) → ((s : Stored) → (f s).keys ≡ s.keys) → (c : Contents) (m n place : ℕ) → key_at (change_at f c m) n place ≡ key_at c n place
 keep_keys f same [] m n place = refl
 keep_keys f same (x ∷ c) zero zero place = ap (λ ks. flat (slice_get ks place)) (same x)
 keep_keys f same (x ∷ c) zero (suc n) place = refl
@@ -156,7 +159,7 @@ keep_keys f same (x ∷ c) (suc m) (suc n) place = keep_keys f same c m n place
 pub keys_kept : (c : Contents) (e : Entry) (w : List ℕ) (other : Entry) → key_of (write_value c e w) other ≡ key_of c other
 keys_kept c e w other = keep_keys _ (λ _. refl) c e.map other.map other.place
 
-keep_shapes : (f : Stored → Stored) → ((s : Stored) → (f s).shape ≡ s.shape) → (c : Contents) (m : ℕ) → stored_shapes (change_at f c m) ≡ stored_shapes c
+pub keep_shapes : (f : Stored → Stored) → ((s : Stored) → (f s).shape ≡ s.shape) → (c : Contents) (m : ℕ) → stored_shapes (change_at f c m) ≡ stored_shapes c
 keep_shapes f same [] m = refl
 keep_shapes f same (x ∷ c) zero = ap (λ k. k ∷ stored_shapes c) (same x)
 keep_shapes f same (x ∷ c) (suc m) = ap (λ ks. x.shape ∷ ks) (keep_shapes f same c m)
@@ -167,20 +170,37 @@ shapes_kept c e w = keep_shapes _ (λ _. refl) c e.map
 same_some : (o : Option (List ℕ)) (j k : List ℕ) → o ≡ Some j → o ≡ Some k → j ≡ k
 same_some o j k p q = let r : Some j ≡ Some k = sym p ∙ q in cc
 
-pub maps_written : (ts : List Table) (c : Contents) (e : Entry) (t : Table) (key w : List ℕ) → contents ts ≡ c → AreFull (contents ts) → t ≡ get_or ts e.map t → key_of c e ≡ Some key → length w ≡ value_size t.shape
+pub maps_written : (ts : List Table) (c : Contents) (e : Entry) (t : Table) (key w : List ℕ) → contents ts ≡ c → AreTables ts → t ≡ get_or ts e.map t → key_of c e ≡ Some key → length w ≡ value_size t.shape
     → maps_of (write_value c e w) ≡ put_value (maps_of c) e.map key w
-maps_written ts c e t key w is full at has many =
-    let found = standing ts c e.map e.place t is (ap is_some has) at in
-    let fine = ok_at c e.map (stored t) (subst AreFull is full) found.1 in
-    let room = room_at t.shape e.place found.0 fine.0 found.2 in
+maps_written ts c e t key w is tables at has many =
+    let found = standing ts c e.map e.place t is tables (ap is_some has) at in
+    let keys = keys_at t.shape t.index in
+    let room = room_at t e.place found.1 found.0.ok found.0.table found.2 in
     let size = value_size t.shape in
-    let stands : slice_get (opening_keys t.shape) e.place ≡ Some (Some key) = subst (λ k. slice_get (opening_keys t.shape) e.place ≡ Some (Some k)) (same_some (key_of c e) found.0 key found.3 has) found.2 in
-    let fits : e.place * size + size ≤ length t.block.items = omega (arith, room.0, fine.1) in
-    change_maps c e.map (stored t) _ _ found.1
+    let stands : slice_get keys e.place ≡ Some (Some key) = subst (λ k. slice_get keys e.place ≡ Some (Some k)) (same_some (key_of c e) found.1 key found.3 has) found.2 in
+    change_maps c e.map (stored t) _ _ found.0.there
     (ap (λ x. record { shape = t.shape; entries = x })
-    (change_placed (opening_keys t.shape) (value_in size t.block.items) (value_in size (write_over t.block.items (e.place * size) w)) e.place key (opening_distinct t.shape fine.0.entries.1) stands
-    (λ i _ ne. kept_at t.block.items e.place size w fits many i ne)
-    ∙ ap (finite_map.insert (placed (opening_keys t.shape) (value_in size t.block.items) 0) key) (written_at t.block.items e.place size w fits many)))
+    (change_placed keys (value_in size t.block.items) (value_in size (write_over t.block.items (e.place * size) w)) e.place key (distinct t.shape t.index found.0.ok.entries.1) stands
+    (λ i _ ne. kept_at t.block.items e.place size w room.0 many i ne)
+    ∙ ap (finite_map.insert (placed keys (value_in size t.block.items) 0) key) (written_at t.block.items e.place size w room.0 many)))
+
+-- ---- a table exchanged
+
+changed_elsewhere : {A : Type 0} (f : A → A) (xs : List A) (m n : ℕ) → n ≢ m → slice_get (change_at f xs m) n ≡ slice_get xs n
+changed_elsewhere f [] m n ne = refl
+changed_elsewhere f (x ∷ xs) zero zero ne = absurd (ne refl)
+changed_elsewhere f (x ∷ xs) zero (suc n) ne = refl
+changed_elsewhere f (x ∷ xs) (suc m) zero ne = refl
+changed_elsewhere f (x ∷ xs) (suc m) (suc n) ne = changed_elsewhere f xs m n (λ e. ne (ap suc e))
+
+pub others_kept : (f : Stored → Stored) (c : Contents) (m n : ℕ) → n ≢ m → slice_get (change_at f c m) n ≡ slice_get c n
+others_kept f c m n ne = changed_elsewhere f c m n ne
+
+pub view_exchanged : (ts : List Table) (c : Contents) (m : ℕ) (t u : Table) → contents ts ≡ c → m < length ts → t ≡ get_or ts m t → contents (slice_set ts m u) ≡ change_at (λ _. stored u) c m
+view_exchanged ts c m t u is h at = change_map ts m t u (λ _. stored u) h at refl ∙ ap (λ x. change_at (λ _. stored u) x m) is
+
+pub maps_exchanged : (c : Contents) (m : ℕ) (t u : Table) (g : MapState → MapState) → IsAt c m t → map_of (stored u) ≡ g (map_of (stored t)) → maps_of (change_at (λ _. stored u) c m) ≡ change_at g (maps_of c) m
+maps_exchanged c m t u g at same = change_maps c m (stored t) (λ _. stored u) g at.there same
 
 -- ---- for callers: the map whose value is written, replaced in the list
 
@@ -191,3 +211,6 @@ changed (x ∷ maps) (suc m) s g e = ap (λ ms. x ∷ ms) (changed maps m s g e)
 
 pub put_value_at : (maps : Maps) (m : ℕ) (s : MapState) (key w : List ℕ) → slice_get maps m ≡ Some s → put_value maps m key w ≡ slice_set maps m (record { shape = s.shape; entries = finite_map.insert s.entries key w })
 put_value_at maps m s key w e = changed maps m s _ e
+
+pub take_key_at : (maps : Maps) (m : ℕ) (s : MapState) (key : List ℕ) → slice_get maps m ≡ Some s → take_key maps m key ≡ slice_set maps m (record { shape = s.shape; entries = finite_map.remove s.entries key })
+take_key_at maps m s key e = changed maps m s _ e

@@ -1,21 +1,44 @@
 -- How tables are read. No public clause cites this module.
-use Rattle.std.specs.Prelude.{◌≡◌, List, length, map}
+use Rattle.std.specs.Prelude.{◌≡◌, ℕ, List, Option, Some, None, length, map, slice_get, ◌≢◌, ◌<◌}
 use Rattle.std.specs.List.{AllByRecursion}
+use Rattle.keyindex.specs.declared.index.KeyIndex.{KeyIndex}
+use Rattle.keyindex.specs.Places.{keys_of, filled, HasSizes}
+use Rattle.maps.specs.declared.shapes.Shape.{Shape}
+use Rattle.maps.specs.declared.shapes.Shape.TheVariants.{Array, Hash}
 use Rattle.maps.specs.declared.table.Table.{Table}
-use Rattle.maps.specs.Shapes.{AreShapesOk, room_of}
-use Rattle.maps.specs.MapSets.{Stored, Contents, opening_keys, stored_shapes}
+use Rattle.maps.specs.Shapes.{AreShapesOk, IsHash, entry_count, block_size}
+use Rattle.maps.specs.MapSets.{Stored, Contents, index_keys, stored_shapes}
 
--- the keys of an array are its indices, and a hash has none yet
+-- the keys by their places: an array's are its indices, a hash's those of its index
+abbrev pub keys_at : Shape → Option KeyIndex → List (Option (List ℕ))
+keys_at shape None = index_keys 0 (entry_count shape)
+keys_at shape (Some index) = keys_of index
+
+-- a table as it is seen
 abbrev pub stored : Table → Stored
-stored t = record { shape = t.shape; keys = opening_keys t.shape; bytes = t.block.items }
+stored t = record { shape = t.shape; keys = keys_at t.shape t.index; bytes = t.block.items }
 
+-- all tables
 abbrev pub contents : List Table → Contents
 contents tables = map stored tables
 
-abbrev pub IsFull : Stored → Type 0
-IsFull s = length s.bytes ≡ room_of s.shape
+-- an array has no index; a hash has one of its sizes, with as many buckets as entries
+abbrev pub FitsIndex : Shape → Option KeyIndex → Type 0
+FitsIndex (Array value entries) None = Unit {0}
+FitsIndex (Array value entries) (Some index) = ⊥
+FitsIndex (Hash key value entries) None = ⊥
+FitsIndex (Hash key value entries) (Some index) = HasSizes index key entries entries
 
--- allowed shapes, and each block as long as its shape asks
-pub record AreFull (c : Contents) : Type 0 where
-  pub shapes : AreShapesOk (stored_shapes c)
-  pub full : AllByRecursion IsFull c
+-- the index and the block are as large as the shape asks
+pub record IsTable (t : Table) : Type 0 where
+  pub index : FitsIndex t.shape t.index
+  pub full : length t.block.items ≡ block_size t.shape
+
+-- a key that isn't there has room: the table is a hash's, with fewer keys than entries
+abbrev pub HasRoomFor : Table → List ℕ → Type 0
+HasRoomFor t key = ((p : ℕ) → slice_get (stored t).keys p ≢ Some (Some key)) → IsHash t.shape × (filled (stored t).keys < entry_count t.shape)
+
+-- allowed shapes, and what each shape asks
+pub record AreTables (tables : List Table) : Type 0 where
+  pub shapes : AreShapesOk (stored_shapes (contents tables))
+  pub each : AllByRecursion IsTable tables

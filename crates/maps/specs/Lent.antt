@@ -9,5 +9,6 @@ use Rattle.maps.specs.contracts.table.Table.{the_row}
 abbrev pub with_bytes : Table → ℕ → List ℕ → Table
 with_bytes t start w = record t { block = with_items_from t.block start w }
 
+-- what is left behind the reference stands in the block from `start` on
 abbrev pub LendsBlock : MutBor Table → ℕ → MutBor (List ℕ) → Fml
 LendsBlock t start r = Lends the_row (Array u8 0) t r (with_bytes t.now start)

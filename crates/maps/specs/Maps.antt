@@ -13,6 +13,7 @@ use Rattle.maps.specs.Shapes.{value_size}
 abbrev pub IsByte : ℕ → Type 0
 IsByte n = n < 256
 
+-- all are bytes
 abbrev pub AreBytes : List ℕ → Type 0
 AreBytes xs = AllByRecursion IsByte xs
 
@@ -29,6 +30,7 @@ pub record MapState : Type 0 where
 abbrev pub Maps : Type 0
 Maps = List MapState
 
+-- the shapes of maps
 abbrev pub shapes_of : Maps → List Shape
 shapes_of maps = map (λ m. m.shape) maps
 
@@ -47,6 +49,7 @@ abbrev pub IsKeyOf : Shape → List ℕ → Type 0
 IsKeyOf (Array value entries) k = (n : ℕ) × (n < entries) × (k ≡ index_key n)
 IsKeyOf (Hash key value entries) k = (length k ≡ key) × AreBytes k
 
+-- a value of a map of a shape: bytes, as many as it has in each value
 abbrev pub IsValueOf : Shape → List ℕ → Type 0
 IsValueOf shape v = (length v ≡ value_size shape) × AreBytes v
 
@@ -55,6 +58,7 @@ abbrev pub HasEntryCount : Shape → Entries → Type 0
 HasEntryCount (Array value entries) c = (n : ℕ) → n < entries → finite_map.contains_key c (index_key n) ≡ true
 HasEntryCount (Hash key value entries) c = finite_map.len c ≤ entries
 
+-- as many entries as its shape has or may have, each with a key and a value of its sizes
 pub record IsMapState (s : MapState) : Type 0 where
   pub count : HasEntryCount s.shape s.entries
   pub each_key : (k : List ℕ) → finite_map.contains_key s.entries k ≡ true → IsKeyOf s.shape k

@@ -1,14 +1,17 @@
 -- The sizes of a map, by its shape, and which shapes maps may have.
-use Rattle.std.specs.Prelude.{ℕ, ◌+◌, ◌*◌, ◌≤◌, Bool, false, ◌&&◌, not, nat_le, nat_lt, List, [], ◌∷◌, length, All, sum_by, find, Option}
+use Rattle.std.specs.Prelude.{ℕ, ◌+◌, ◌*◌, ◌≤◌, Bool, ◌&&◌, not, nat_le, nat_lt, List, [], ◌∷◌, length, All, sum_by, find, Option}
 use Rattle.std.specs.List.{list_all}
 use Rattle.maps.specs.declared.shapes.Shape.{Shape}
 use Rattle.maps.specs.declared.shapes.Shape.TheVariants.{Array, Hash}
 use Rattle.maps.specs.declared.shapes.MapError.{MapError}
-use Rattle.maps.specs.declared.shapes.MapError.TheVariants.{NoMapOrTooMany, SizeOutOfLimits, TooManyBytes, NoMemory}
+use Rattle.maps.specs.declared.shapes.MapError.TheVariants.{NoMemory, Refused}
+use Rattle.maps.specs.declared.shapes.ShapeFault.{ShapeFault}
+use Rattle.maps.specs.declared.shapes.ShapeFault.TheVariants.{NoMapOrTooMany, SizeOutOfLimits, TooManyBytes}
+use Rattle.maps.specs.declared.shapes.TheConstants.{MAX_MAPS, INDEX_BYTES, MAX_KEY_BYTES, MAX_VALUE_BYTES, MAX_ENTRIES, MAX_TOTAL_BYTES}
 
 -- the bytes of a key: an array's is an index
 abbrev pub key_size : Shape → ℕ
-key_size (Array value entries) = 4
+key_size (Array value entries) = INDEX_BYTES
 key_size (Hash key value entries) = key
 
 -- the bytes of a value
@@ -21,6 +24,10 @@ abbrev pub entry_count : Shape → ℕ
 entry_count (Array value entries) = entries
 entry_count (Hash key value entries) = entries
 
+-- the bytes of all values, one for each entry that a map has or may have
+abbrev pub block_size : Shape → ℕ
+block_size s = entry_count s * value_size s
+
 -- the bytes that a map counts: an array's values, a hash's keys and values
 abbrev pub room_of : Shape → ℕ
 room_of (Array value entries) = entries * value
@@ -28,38 +35,48 @@ room_of (Hash key value entries) = entries * (key + value)
 
 -- keys of 1 to 64 bytes, values of 1 to 256 bytes, 1 to 65,536 entries
 pub record IsShapeOk (s : Shape) : Type 0 where
-  pub key : (1 ≤ key_size s) × (key_size s ≤ 64)
-  pub value : (1 ≤ value_size s) × (value_size s ≤ 256)
-  pub entries : (1 ≤ entry_count s) × (entry_count s ≤ 65536)
+  pub key : (1 ≤ key_size s) × (key_size s ≤ MAX_KEY_BYTES)
+  pub value : (1 ≤ value_size s) × (value_size s ≤ MAX_VALUE_BYTES)
+  pub entries : (1 ≤ entry_count s) × (entry_count s ≤ MAX_ENTRIES)
 
 -- 1 to 16 maps, each size in its limits, at most 16,777,216 bytes together
 pub record AreShapesOk (shapes : List Shape) : Type 0 where
-  pub many : (1 ≤ length shapes) × (length shapes ≤ 16)
+  pub many : (1 ≤ length shapes) × (length shapes ≤ MAX_MAPS)
   pub each : All IsShapeOk shapes
-  pub room : sum_by room_of shapes ≤ 16777216
+  pub room : sum_by room_of shapes ≤ MAX_TOTAL_BYTES
+
+-- a hash, whose keys come and go
+abbrev pub IsHash : Shape → Type 0
+IsHash (Array value entries) = ⊥
+IsHash (Hash key value entries) = Unit {0}
 
 -- ---- refusals
 
 -- the number that a refusal shows
-abbrev pub fault_number : MapError → ℕ
+abbrev pub fault_number : ShapeFault → ℕ
 fault_number NoMapOrTooMany = 1
 fault_number SizeOutOfLimits = 2
 fault_number TooManyBytes = 3
-fault_number NoMemory = 4
 
+-- the number that an error shows: a refusal's, or 4 where memory ran out
+abbrev pub error_number : MapError → ℕ
+error_number NoMemory = 4
+error_number (Refused fault) = fault_number fault
+
+-- whether a number is in limits
 abbrev pub is_between : ℕ → ℕ → ℕ → Bool
 is_between low high n = nat_le low n && nat_le n high
 
+-- whether each size of a shape is in its limits
 abbrev pub has_sizes : Shape → Bool
-has_sizes s = is_between 1 64 (key_size s) && (is_between 1 256 (value_size s) && is_between 1 65536 (entry_count s))
+has_sizes s = is_between 1 MAX_KEY_BYTES (key_size s) && (is_between 1 MAX_VALUE_BYTES (value_size s) && is_between 1 MAX_ENTRIES (entry_count s))
 
--- whether shapes break the rule of a refusal; want of memory is no fault of theirs
-abbrev pub breaks : MapError → List Shape → Bool
-breaks NoMapOrTooMany shapes = not (is_between 1 16 (length shapes))
+-- whether shapes break the rule of a refusal
+abbrev pub breaks : ShapeFault → List Shape → Bool
+breaks NoMapOrTooMany shapes = not (is_between 1 MAX_MAPS (length shapes))
 breaks SizeOutOfLimits shapes = not (list_all has_sizes shapes)
-breaks TooManyBytes shapes = nat_lt 16777216 (sum_by room_of shapes)
-breaks NoMemory shapes = false
+breaks TooManyBytes shapes = nat_lt MAX_TOTAL_BYTES (sum_by room_of shapes)
 
 -- the first of the rules that the shapes break
-abbrev pub first_shape_fault : List Shape → Option MapError
+abbrev pub first_shape_fault : List Shape → Option ShapeFault
 first_shape_fault shapes = find (λ e. breaks e shapes) (NoMapOrTooMany ∷ SizeOutOfLimits ∷ TooManyBytes ∷ [])

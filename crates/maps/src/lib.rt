@@ -5,9 +5,10 @@ mod entry;
 mod map_set;
 mod shapes;
 mod table;
-#[cfg(test)]
-mod tests;
 
 pub use entry::Entry;
 pub use map_set::MapSet;
-pub use shapes::{MapError, Shape, shapes_ok};
+pub use shapes::{
+    INDEX_BYTES, MAX_ENTRIES, MAX_KEY_BYTES, MAX_MAPS, MAX_TOTAL_BYTES, MAX_VALUE_BYTES, MapError,
+    Shape, ShapeFault, shapes_ok,
+};

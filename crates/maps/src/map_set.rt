@@ -1,13 +1,14 @@
 // The maps of a program in memory.
 
-ghost use Rattle.std.specs.Prelude.{◌≡◌, ◌↔◌, ◌<◌, ℕ, List, length, slice_get, All, Some, Err, IfSome, IfNone, IsSome, IsNone, IfOk, IfErr};
+ghost use Rattle.std.specs.Prelude.{◌≡◌, ◌↔◌, ◌<◌, ◌≢◌, ℕ, List, length, slice_get, All, Some, Err, IfSome, IfNone, IsSome, IsNone, IfOk, IfErr};
+ghost use Rattle.std.specs.List.{AllByRecursion};
 ghost use Rattle.std.specs.FinMap as finite_map;
 ghost use Rattle.std.specs.Borrow.{sem};
-ghost use Rattle.maps.specs.Shapes.{key_size, value_size, entry_count, first_shape_fault, IsShapeOk};
-ghost use Rattle.maps.specs.Blocks.{contents};
-ghost use Rattle.maps.specs.declared.shapes.MapError.TheVariants.{NoMemory};
-ghost use Rattle.maps.specs.Maps.{HasShapes, value_at, index_key};
-ghost use Rattle.maps.specs.MapSets.{maps_of, stored_shapes, key_of, value_of, write_value, opened, opening_maps, put_value};
+ghost use Rattle.maps.specs.Shapes.{key_size, value_size, entry_count, block_size, first_shape_fault, IsShapeOk, IsHash};
+ghost use Rattle.maps.specs.Blocks.{contents, IsTable};
+ghost use Rattle.maps.specs.declared.shapes.MapError.TheVariants.{NoMemory, Refused};
+ghost use Rattle.maps.specs.Maps.{HasShapes, value_at};
+ghost use Rattle.maps.specs.MapSets.{maps_of, stored_shapes, key_of, value_of, block_of, HoldsValues, write_value, write_block, PutsOneValue, opened, opening_maps, put_value, take_key, HasRoom};
 
 use crate::entry::Entry;
 use crate::shapes::{MapError, Shape, shapes_ok};
@@ -16,7 +17,7 @@ use std::alloc::{AllocError, Global};
 use std::marker::Model;
 
 /// Maps of fixed shapes. All their room is taken when they are opened, one flat block of bytes for each map; no later
-/// call takes memory. A hash has its room and no key yet: there is no call that puts one in.
+/// call takes memory. An array has all its keys, a hash those that were put in.
 #[derive(Drop)]
 pub struct MapSet {
     tables: Vec<Table>,
@@ -27,15 +28,15 @@ impl Model for MapSet {
 
     ghost Value = { Contents };
 
-    ghost use Rattle.maps.specs.Blocks.{contents, AreFull};
+    ghost use Rattle.maps.specs.Blocks.{contents, AreTables};
 
     ghost view = { λ a. contents a.tables.items };
 
-    ghost invariant = { λ a. AreFull (contents a.tables.items) };
+    ghost invariant = { λ a. AreTables a.tables.items };
 }
 
 impl MapSet {
-    ghost use Rattle.maps.specs.LentValue.{LendsValue};
+    ghost use Rattle.maps.specs.LentValue.{LendsValue, LendsValues};
     ghost use Rattle.maps.specs.declared.entry.Entry.{Entry};
 
     /// Maps of these shapes: arrays of zeros, hashes without a key. Refused as by [`shapes_ok`], or with
@@ -44,14 +45,20 @@ impl MapSet {
         ensures opened { IfOk result (λ c. c ≡ opened shapes.now) }
         ensures maps { IfOk result (λ c. maps_of c ≡ opening_maps shapes.now) }
         ensures shapes { IfOk result (λ c. HasShapes shapes.now (maps_of c)) }
-        ensures refused { IfSome (first_shape_fault shapes.now) (λ e. result ≡ Err e) }
+        ensures refused { IfSome (first_shape_fault shapes.now) (λ fault. result ≡ Err (Refused fault)) }
         ensures otherwise { IfNone (first_shape_fault shapes.now) (IfErr result (λ e. e ≡ NoMemory)) }
     {
         shapes_ok(shapes)?;
-        match open_tables(alloc, shapes) {
-            Ok(tables) => Ok(MapSet { tables }),
-            Err(_) => Err(MapError::NoMemory),
-        }
+        let tables = open_tables(alloc, shapes)?;
+        Ok(MapSet { tables })
+    }
+
+    /// The shape of map `m`.
+    pub fn shape(&self, m: usize) -> Shape
+        requires map { m < length (stored_shapes self.now) }
+        ensures shape { slice_get (stored_shapes self.now) m ≡ Some result }
+    {
+        self.tables[m].shape
     }
 
     /// The number of keys of map `m`.
@@ -59,11 +66,7 @@ impl MapSet {
         requires map { m < length (stored_shapes self.now) }
         ensures keys { IfSome (slice_get (maps_of self.now) m) (λ s. result ≡ finite_map.len s.entries) }
     {
-        let table = &self.tables[m];
-        match table.shape {
-            Shape::Array { entries, .. } => entries as usize,
-            Shape::Hash { .. } => 0,
-        }
+        self.tables[m].len()
     }
 
     /// The entry of map `m` where a key stands, if it does.
@@ -74,21 +77,11 @@ impl MapSet {
         ensures place { IfSome result (λ e. IfSome (slice_get (stored_shapes self.now) m) (λ s. e.place < entry_count s)) }
         ensures absent { IsNone result ↔ IsNone (value_at (maps_of self.now) m key.now) }
     {
-        let table = &self.tables[m];
-        match table.shape {
-            Shape::Array { entries, .. } => {
-                let place = index_of(key);
-                if place < entries {
-                    Some(Entry {
-                        map: m as u8,
-                        place,
-                    })
-                } else {
-                    None
-                }
-            }
-            Shape::Hash { .. } => None,
-        }
+        let place = self.tables[m].find(key)?;
+        Some(Entry {
+            map: m as u8,
+            place,
+        })
     }
 
     /// The value of an entry.
@@ -122,6 +115,70 @@ impl MapSet {
         table.bytes_mut(entry.place as usize * size, size)
     }
 
+    /// The bytes of all values of map `m`: the value of place `p` are those from `p` times the size of a value on. They may
+    /// be anything at places where no key stands.
+    pub fn block(&self, m: usize) -> &[u8]
+        requires map { m < length (stored_shapes self.now) }
+        ensures block { block_of self.now m ≡ Some result.now }
+        ensures size { IfSome (slice_get (stored_shapes self.now) m) (λ s. length result.now ≡ block_size s) }
+        ensures values { HoldsValues self.now m result.now }
+    {
+        &self.tables[m].block
+    }
+
+    /// The bytes of all values of map `m`, to be written: the value of place `p` are those from `p` times the size of a
+    /// value on.
+    pub fn block_mut(&mut self, m: usize) -> &mut [u8]
+        requires map { m < length (stored_shapes self.old) }
+        ensures* writes_back { sem 𝓛 (LendsValues self.entry m result) }
+        ensures block { block_of self.old m ≡ Some result.now }
+        ensures size { IfSome (slice_get (stored_shapes self.old) m) (λ s. length result.now ≡ block_size s) }
+        ensures values { HoldsValues self.old m result.now }
+
+        // The map has the bytes that were written. Where those of one entry's value alone were, they have become the
+        // value of its key, and every other key of every map keeps its value.
+        ensures written { (w : List ℕ) → length w ≡ length result.now → block_of (write_block self.old m w) m ≡ Some w }
+        ensures one_value { PutsOneValue self.old m result.now }
+
+        // Other maps, all keys and all shapes stay.
+        ensures others { (w : List ℕ) (n : ℕ) → n ≢ m → slice_get (write_block self.old m w) n ≡ slice_get self.old n }
+        ensures places { (w : List ℕ) (e : Entry) → key_of (write_block self.old m w) e ≡ key_of self.old e }
+        ensures shapes { (w : List ℕ) → stored_shapes (write_block self.old m w) ≡ stored_shapes self.old }
+    {
+        let table = &mut self.tables[m];
+        let len = table.block.len();
+        table.bytes_mut(0, len)
+    }
+
+    /// Puts a value under a key of map `m`, in place of what was under it. The key is there, or the map is a hash with
+    /// fewer keys than entries.
+    pub fn update(&mut self, m: usize, key: &[u8], value: &[u8])
+        requires map { m < length (stored_shapes self.old) }
+        requires key { IfSome (slice_get (stored_shapes self.old) m) (λ s. length key.now ≡ key_size s) }
+        requires value { IfSome (slice_get (stored_shapes self.old) m) (λ s. length value.now ≡ value_size s) }
+        requires room { HasRoom (maps_of self.old) m key.now }
+        ensures updated { maps_of self.new ≡ put_value (maps_of self.old) m key.now value.now }
+        ensures others { (n : ℕ) → n ≢ m → slice_get self.new n ≡ slice_get self.old n }
+        ensures shapes { stored_shapes self.new ≡ stored_shapes self.old }
+    {
+        let table = &mut self.tables[m];
+        table.put(key, value);
+    }
+
+    /// Takes a key out of map `m`, a hash that has it.
+    pub fn remove(&mut self, m: usize, key: &[u8])
+        requires map { m < length (stored_shapes self.old) }
+        requires hash { IfSome (slice_get (stored_shapes self.old) m) IsHash }
+        requires key { IfSome (slice_get (stored_shapes self.old) m) (λ s. length key.now ≡ key_size s) }
+        requires present { IsSome (value_at (maps_of self.old) m key.now) }
+        ensures removed { maps_of self.new ≡ take_key (maps_of self.old) m key.now }
+        ensures others { (n : ℕ) → n ≢ m → slice_get self.new n ≡ slice_get self.old n }
+        ensures shapes { stored_shapes self.new ≡ stored_shapes self.old }
+    {
+        let table = &mut self.tables[m];
+        table.take_out(key);
+    }
+
     /// Makes the maps those of `source`, which has the same shapes. Takes time in proportion to their room.
     pub fn copy_from(&mut self, source: &MapSet)
         requires shapes { stored_shapes self.old ≡ stored_shapes source.now }
@@ -146,26 +203,16 @@ impl MapSet {
     }
 }
 
-/// The index that a key of an array is.
-fn index_of(key: &[u8]) -> u32
-    requires size { length key.now ≡ 4 }
-    ensures index { key.now ≡ index_key result }
-{
-    u32::from_le_bytes([key[0], key[1], key[2], key[3]])
-}
-
+/// A table for each shape: zeros for all values.
 fn open_tables(alloc: Global, shapes: &[Shape]) -> Result<Vec<Table>, AllocError>
     requires sizes { All IsShapeOk shapes.now }
     ensures opened { IfOk result (λ v. contents v.items ≡ opened shapes.now) }
+    ensures tables { IfOk result (λ v. AllByRecursion IsTable v.items) }
 {
     let mut tables = Vec::new(alloc);
     for shape in shapes {
-        let room = shape.room() as usize;
-        let block = vec![in alloc; 0; room]?;
-        tables.push(Table {
-            shape: *shape,
-            block,
-        })?;
+        let table = Table::open(alloc, *shape)?;
+        tables.push(table)?;
     }
     Ok(tables)
 }

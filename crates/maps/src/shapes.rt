@@ -1,9 +1,28 @@
 // The shapes of maps, and which of them are allowed.
 
 ghost use Rattle.std.specs.Prelude.{◌≡◌, ◌↔◌, ◌≤◌, IsTrue, IsOk, MatchResult, None, Some, All, length, sum_by};
-ghost use Rattle.maps.specs.Shapes.{value_size, IsShapeOk, AreShapesOk, room_of, fault_number, first_shape_fault};
+ghost use Rattle.maps.specs.Shapes.{key_size, value_size, entry_count, IsShapeOk, AreShapesOk, room_of, error_number, fault_number, first_shape_fault};
 
+use std::alloc::AllocError;
 use thiserror::Error;
+
+/// The most maps of a program.
+pub const MAX_MAPS: usize = 16;
+
+/// The bytes of an array's key, which is an index.
+pub const INDEX_BYTES: u32 = 4;
+
+/// The most bytes of a hash's key.
+pub const MAX_KEY_BYTES: u32 = 64;
+
+/// The most bytes of a value.
+pub const MAX_VALUE_BYTES: u32 = 256;
+
+/// The most entries of a map.
+pub const MAX_ENTRIES: u32 = 65_536;
+
+/// The most bytes of all maps of a program.
+pub const MAX_TOTAL_BYTES: u32 = 16_777_216;
 
 /// The kind of a map and its sizes: the bytes of a key and of a value, and the number of entries.
 #[derive(Clone, Copy, PartialEq, Eq, Debug)]
@@ -20,14 +39,16 @@ impl Shape {
         ensures sizes { IsTrue result ↔ IsShapeOk self }
     {
         let (key, value, entries) = match self {
-            Shape::Array { value, entries } => (4, value, entries),
+            Shape::Array { value, entries } => (INDEX_BYTES, value, entries),
             Shape::Hash {
                 key,
                 value,
                 entries,
             } => (key, value, entries),
         };
-        (1..=64).contains(&key) && (1..=256).contains(&value) && (1..=65_536).contains(&entries)
+        (1..=MAX_KEY_BYTES).contains(&key)
+            && (1..=MAX_VALUE_BYTES).contains(&value)
+            && (1..=MAX_ENTRIES).contains(&entries)
     }
 
     /// The bytes that the map counts: an array's values, a hash's keys and values.
@@ -44,9 +65,17 @@ impl Shape {
             } => entries * (key + value),
         }
     }
-}
 
-impl Shape {
+    /// The bytes of a key: four of an array's, which is an index.
+    pub fn key_bytes(self) -> usize
+        ensures key { result ≡ key_size self }
+    {
+        match self {
+            Shape::Array { .. } => INDEX_BYTES as usize,
+            Shape::Hash { key, .. } => key as usize,
+        }
+    }
+
     /// The bytes of a value.
     pub fn value_bytes(self) -> usize
         ensures value { result ≡ value_size self }
@@ -56,11 +85,21 @@ impl Shape {
             Shape::Hash { value, .. } => value as usize,
         }
     }
+
+    /// How many entries the map has, or may have.
+    pub fn entry_count(self) -> usize
+        ensures entries { result ≡ entry_count self }
+    {
+        match self {
+            Shape::Array { entries, .. } => entries as usize,
+            Shape::Hash { entries, .. } => entries as usize,
+        }
+    }
 }
 
-/// Why maps can't be had. Each has its number, from 1 to 4.
+/// Which rule shapes break. Each has its number, from 1 to 3.
 #[derive(Clone, Copy, PartialEq, Eq, Debug, Error)]
-pub enum MapError {
+pub enum ShapeFault {
     /// There are 1 to 16 maps.
     #[error("M1: there is no map, or there are more than 16")]
     NoMapOrTooMany,
@@ -70,48 +109,86 @@ pub enum MapError {
     /// The values of the arrays and the keys and values of the hashes have at most 16,777,216 bytes.
     #[error("M3: the maps have more than 16777216 bytes together")]
     TooManyBytes,
-    /// Memory ran out.
-    #[error("M4: memory ran out")]
-    NoMemory,
 }
 
-impl MapError {
-    /// The number, from 1 to 4, that a refusal shows after its letter M.
+impl ShapeFault {
+    /// The number, from 1 to 3, that a refusal shows after its letter M.
     pub fn number(self) -> u8
         ensures number { result ≡ fault_number self }
     {
         match self {
-            MapError::NoMapOrTooMany => 1,
-            MapError::SizeOutOfLimits => 2,
-            MapError::TooManyBytes => 3,
-            MapError::NoMemory => 4,
+            ShapeFault::NoMapOrTooMany => 1,
+            ShapeFault::SizeOutOfLimits => 2,
+            ShapeFault::TooManyBytes => 3,
         }
     }
 }
 
-const MOST_MAPS: usize = 16;
+/// Why maps can't be had.
+#[derive(Clone, Copy, PartialEq, Eq, Debug, Error)]
+pub enum MapError {
+    /// Memory ran out.
+    #[error("M4: memory ran out")]
+    NoMemory,
+    /// The shapes break a rule.
+    #[error("{0}")]
+    Refused(ShapeFault),
+}
 
-const MOST_BYTES: u32 = 16_777_216;
+impl MapError {
+    /// The number, from 1 to 4, that a refusal shows after its letter M; 4 where memory ran out.
+    pub fn number(self) -> u8
+        ensures number { result ≡ error_number self }
+    {
+        match self {
+            MapError::NoMemory => 4,
+            MapError::Refused(fault) => fault.number(),
+        }
+    }
+}
+
+impl From<AllocError> for MapError {
+    ghost use Rattle.maps.specs.declared.shapes.MapError.TheVariants.{NoMemory};
+
+    ghost from_gives = { λ _ e. e ≡ NoMemory };
+
+    /// No memory.
+    fn from(_e: AllocError) -> MapError {
+        MapError::NoMemory
+    }
+}
+
+impl From<ShapeFault> for MapError {
+    ghost use Rattle.maps.specs.declared.shapes.MapError.TheVariants.{Refused};
+
+    ghost from_gives = { λ fault e. e ≡ Refused fault };
+
+    /// A refusal.
+    fn from(fault: ShapeFault) -> MapError {
+        MapError::Refused(fault)
+    }
+}
 
 /// Whether maps may have these shapes; if not, the refusal with the lowest number of those that hold. Takes no memory.
-pub fn shapes_ok(shapes: &[Shape]) -> Result<(), MapError>
+pub fn shapes_ok(shapes: &[Shape]) -> Result<(), ShapeFault>
     ensures ok { IsOk result ↔ AreShapesOk shapes.now }
     ensures first { MatchResult result (λ _. first_shape_fault shapes.now ≡ None) (λ e. first_shape_fault shapes.now ≡ Some e) }
 {
-    if shapes.is_empty() || shapes.len() > MOST_MAPS {
-        return Err(MapError::NoMapOrTooMany);
+    if shapes.is_empty() || shapes.len() > MAX_MAPS {
+        return Err(ShapeFault::NoMapOrTooMany);
     }
     if !shapes.iter().all(|shape| shape.is_ok()) {
-        return Err(MapError::SizeOutOfLimits);
+        return Err(ShapeFault::SizeOutOfLimits);
     }
-    if total_room(shapes) > MOST_BYTES {
-        return Err(MapError::TooManyBytes);
+    if total_room(shapes) > MAX_TOTAL_BYTES {
+        return Err(ShapeFault::TooManyBytes);
     }
     Ok(())
 }
 
+/// The bytes that all maps count.
 fn total_room(shapes: &[Shape]) -> u32
-    requires many { length shapes.now ≤ 16 }
+    requires many { length shapes.now ≤ MAX_MAPS }
     requires sizes { All IsShapeOk shapes.now }
     ensures total { result ≡ sum_by room_of shapes.now }
 {

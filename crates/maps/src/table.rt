@@ -1,23 +1,77 @@
 // One map in memory.
 
-ghost use Rattle.std.specs.Prelude.{◌≡◌, ◌+◌, ◌≤◌, take, drop, length, vec_len};
+ghost use Rattle.std.specs.Prelude.{◌≡◌, ◌≢◌, ◌+◌, ◌≤◌, ℕ, List, take, drop, length, vec_len, slice_get, Some, None, IfSome, IfNone, IfOk};
 ghost use Rattle.std.specs.List.{AllByRecursion};
+ghost use Rattle.std.specs.FinMap as finite_map;
 ghost use Rattle.std.specs.Borrow.{sem};
-ghost use Rattle.maps.specs.MapSets.{stored_shapes};
-ghost use Rattle.maps.specs.Blocks.{contents, IsFull};
+ghost use Rattle.maps.specs.Shapes.{key_size, value_size, IsShapeOk, IsHash};
+ghost use Rattle.maps.specs.Maps.{index_key};
+ghost use Rattle.maps.specs.MapSets.{stored_shapes, entries_of, opening_keys, opened_map};
+ghost use Rattle.maps.specs.Blocks.{keys_at, stored, contents, FitsIndex, IsTable, HasRoomFor, AreTables};
 
 use crate::shapes::Shape;
+use keyindex::KeyIndex;
+use std::alloc::{AllocError, Global};
 
-/// A shape and its block of bytes. An array's block has its values, one after another; a hash's block has room for its
-/// values and keys.
+/// A shape, its block of values, one place after another, and of a hash the index that says which key stands at which
+/// place. The keys of an array are its indices.
 #[derive(Drop)]
 pub(crate) struct Table {
     pub(crate) shape: Shape,
     pub(crate) block: Vec<u8>,
+    index: Option<KeyIndex>,
 }
 
 impl Table {
     ghost use Rattle.maps.specs.Lent.{LendsBlock};
+
+    /// A table of a shape: zeros for all values, and all keys of an array, or none of a hash.
+    pub(crate) fn open(alloc: Global, shape: Shape) -> Result<Table, AllocError>
+        requires shape { IsShapeOk shape }
+        ensures opened { IfOk result (λ t. stored t ≡ opened_map shape) }
+        ensures table { IfOk result IsTable }
+    {
+        let block = vec![in alloc; 0; shape.entry_count() * shape.value_bytes()]?;
+        let index = open_index(alloc, shape)?;
+        Ok(Table {
+            shape,
+            block,
+            index,
+        })
+    }
+
+    /// The number of keys.
+    pub(crate) fn len(&self) -> usize
+        requires shape { IsShapeOk self.now.shape }
+        requires table { IsTable self.now }
+        ensures keys { result ≡ finite_map.len (entries_of (stored self.now)) }
+    {
+        match &self.index {
+            None => self.shape.entry_count(),
+            Some(index) => index.len(),
+        }
+    }
+
+    /// The place of a key, if it stands anywhere.
+    pub(crate) fn find(&self, key: &[u8]) -> Option<u32>
+        requires shape { IsShapeOk self.now.shape }
+        requires table { IsTable self.now }
+        requires key { length key.now ≡ key_size self.now.shape }
+        ensures found { IfSome result (λ p. slice_get (stored self.now).keys p ≡ Some (Some key.now)) }
+        ensures absent { IfNone result ((p : ℕ) → slice_get (stored self.now).keys p ≢ Some (Some key.now)) }
+    {
+        match &self.index {
+            None => {
+                let place = index_of(key);
+                if (place as usize) < self.shape.entry_count() {
+                    Some(place)
+                } else {
+                    None
+                }
+            }
+            Some(index) => index.lookup(key),
+        }
+    }
 
     /// So many bytes of the block, from `start` on, to be written.
     pub(crate) fn bytes_mut(&mut self, start: usize, size: usize) -> &mut [u8]
@@ -29,22 +83,109 @@ impl Table {
         block.slice_mut(start..start + size)
     }
 
-    /// Copies the bytes of a block of the same length.
-    pub(crate) fn copy_from(&mut self, source: &Table)
-        requires len { length self.old.block.items ≡ length source.now.block.items }
+    /// The place of a key, from now on: its own, or a free one.
+    fn claim(&mut self, key: &[u8]) -> u32
+        requires shape { IsShapeOk self.old.shape }
+        requires table { IsTable self.old }
+        requires key { length key.now ≡ key_size self.old.shape }
+        requires room { HasRoomFor self.old key.now }
         ensures shape { self.new.shape ≡ self.old.shape }
-        ensures bytes { self.new.block.items ≡ source.now.block.items }
+        ensures block { self.new.block ≡ self.old.block }
+        ensures table { IsTable self.new }
+        ensures place { slice_get (stored self.new).keys result ≡ Some (Some key.now) }
+        ensures own { (other : List ℕ) → slice_get (stored self.old).keys result ≡ Some (Some other) → other ≡ key.now }
+        ensures others { (p : ℕ) → p ≢ result → slice_get (stored self.new).keys p ≡ slice_get (stored self.old).keys p }
+    {
+        match &mut self.index {
+            None => index_of(key),
+            Some(index) => index.insert(key).unwrap(),
+        }
+    }
+
+    /// Puts a value under a key, which is there, or for which a hash has room.
+    pub(crate) fn put(&mut self, key: &[u8], value: &[u8])
+        requires shape { IsShapeOk self.old.shape }
+        requires table { IsTable self.old }
+        requires key { length key.now ≡ key_size self.old.shape }
+        requires value { length value.now ≡ value_size self.old.shape }
+        requires room { HasRoomFor self.old key.now }
+        ensures shape { self.new.shape ≡ self.old.shape }
+        ensures table { IsTable self.new }
+        ensures entries { entries_of (stored self.new) ≡ finite_map.insert (entries_of (stored self.old)) key.now value.now }
+    {
+        let place = self.claim(key);
+        let size = self.shape.value_bytes();
+        let bytes = self.bytes_mut(place as usize * size, size);
+        bytes.copy_from_slice(value);
+    }
+
+    /// Takes a hash's key out, with its value.
+    pub(crate) fn take_out(&mut self, key: &[u8])
+        requires shape { IsShapeOk self.old.shape }
+        requires table { IsTable self.old }
+        requires hash { IsHash self.old.shape }
+        requires key { length key.now ≡ key_size self.old.shape }
+        ensures shape { self.new.shape ≡ self.old.shape }
+        ensures table { IsTable self.new }
+        ensures entries { entries_of (stored self.new) ≡ finite_map.remove (entries_of (stored self.old)) key.now }
+    {
+        let Some(index) = &mut self.index else {
+            return;
+        };
+        if let Some(removed) = index.remove(key) {
+            let size = self.shape.value_bytes();
+            let from = removed.from as usize * size;
+            let to = removed.place as usize * size;
+            self.block.copy_within(from..from + size, to);
+        }
+    }
+
+    /// Copies the keys and the values of a table of the same shape.
+    pub(crate) fn copy_from(&mut self, source: &Table)
+        requires table { IsTable self.old }
+        requires source { IsTable source.now }
+        requires shape { self.old.shape ≡ source.now.shape }
+        ensures same { stored self.new ≡ stored source.now }
+        ensures table { IsTable self.new }
     {
         self.block.copy_from_slice(&source.block);
+        if let (Some(index), Some(from)) = (&mut self.index, &source.index) {
+            index.copy_from(from);
+        }
     }
 }
 
-/// Copies the bytes of tables of the same shapes.
+/// The index of a hash's keys; an array has none.
+fn open_index(alloc: Global, shape: Shape) -> Result<Option<KeyIndex>, AllocError>
+    requires shape { IsShapeOk shape }
+    ensures fits { IfOk result (FitsIndex shape) }
+    ensures keys { IfOk result (λ index. keys_at shape index ≡ opening_keys shape) }
+{
+    match shape {
+        Shape::Array { .. } => Ok(None),
+        Shape::Hash { key, entries, .. } => {
+            let places = entries as usize;
+            let index = KeyIndex::open(alloc, key as usize, places, places)?;
+            Ok(Some(index))
+        }
+    }
+}
+
+/// The index that a key of an array is.
+fn index_of(key: &[u8]) -> u32
+    requires size { length key.now ≡ 4 }
+    ensures index { key.now ≡ index_key result }
+{
+    u32::from_le_bytes([key[0], key[1], key[2], key[3]])
+}
+
+/// Copies the keys and the values of tables of the same shapes.
 pub(crate) fn copy_tables(tables: &mut Vec<Table>, source: &Vec<Table>)
-    requires full { AllByRecursion IsFull (contents tables.old.items) }
-    requires source_full { AllByRecursion IsFull (contents source.now.items) }
+    requires tables { AreTables tables.old.items }
+    requires source { AreTables source.now.items }
     requires shapes { stored_shapes (contents tables.old.items) ≡ stored_shapes (contents source.now.items) }
     ensures same { contents tables.new.items ≡ contents source.now.items }
+    ensures tables { AreTables tables.new.items }
 {
     for m in 0..tables.len() {
         let table = &mut tables[m];

@@ -70,7 +70,14 @@ impl Frame {
         requires register { register < 11 }
         ensures kind { result ≡ kind self.now register }
     {
-        self.kinds[register as usize]
+        self.kinds[usize::from(register)]
+    }
+
+    /// The kinds of all registers, in order.
+    pub fn kinds(&self) -> &[Kind; 11]
+        ensures { result.now ≡ self.now.kinds }
+    {
+        &self.kinds
     }
 
     /// Another kind for a register.

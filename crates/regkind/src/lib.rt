@@ -2,7 +2,5 @@
 #![tactic(auto)]
 
 mod frames;
-#[cfg(test)]
-mod tests;
 
 pub use frames::{Frame, Kind, covers, join};

@@ -6,7 +6,7 @@ use Rattle.std.proofs.lemmas.Grind.{common_steps}
 use Rattle.std.proofs.lemmas.List.Elements.{All-weaker}
 use Rattle.std.proofs.lemmas.List.Sums.{list_all-from_AllPass}
 use Rattle.maps.specs.declared.shapes.Shape.{Shape}
-use Rattle.maps.specs.declared.shapes.MapError.TheVariants.{TooManyBytes}
+use Rattle.maps.specs.declared.shapes.ShapeFault.TheVariants.{TooManyBytes}
 use Rattle.maps.specs.Shapes.{IsShapeOk, is_between, has_sizes, room_of, key_size, value_size, entry_count, first_shape_fault}
 use Rattle.maps.proofs.shapes.shapes_ok.Goals as goal
 
@@ -25,8 +25,8 @@ too_big shapes many each big = rw (between 1 16 (length shapes) many, all_pass s
 good : (shapes : List Shape) → (1 ≤ length shapes) × (length shapes ≤ 16) → All IsShapeOk shapes → sum_by room_of shapes ≤ 16777216 → first_shape_fault shapes ≡ None
 good shapes many each small = rw (between 1 16 (length shapes) many, all_pass shapes each, le-ltb 16777216 (sum_by room_of shapes) small) refl
 
-pub returns-then-total_room-gt-MOST_BYTES-clause-first : goal.returns-then-total_room-gt-MOST_BYTES-clause-first
-returns-then-total_room-gt-MOST_BYTES-clause-first c =
+pub returns-then-total_room-gt-MAX_TOTAL_BYTES-clause-first : goal.returns-then-total_room-gt-MAX_TOTAL_BYTES-clause-first
+returns-then-total_room-gt-MAX_TOTAL_BYTES-clause-first c =
     let each : All IsShapeOk c.args.shapes.now = grind (arith, common_steps) in
     let some : 1 ≤ length c.args.shapes.now = grind (arith, common_steps) in
     too_big c.args.shapes.now (some, omega arith) each (omega arith)

@@ -1,42 +1,39 @@
-use Rattle.std.proofs.Common.{true, false, refl, subst, arith}
-use Rattle.maps.specs.Blocks.{stored, AreFull}
-use Rattle.maps.proofs.Stored.{place_below, within, key_length, here, ok_at, array_key, array_present, array_absent, hash_absent, both}
+use Rattle.std.proofs.Common.{◌≡◌, true, false, length, refl, ap}
+use Rattle.std.specs.Prelude.{is_some}
+use Rattle.maps.specs.Shapes.{key_size}
+use Rattle.maps.specs.Blocks.{stored}
+use Rattle.maps.proofs.Stored.{within, is_at, of_shape, for_shape, below, key_stands, present, missing, both}
 use Rattle.maps.proofs.map_set.MapSet.lookup.Goals as goal
 
-pub returns-then-place-entries-clause-found : goal.returns-then-place-entries-clause-found
-returns-then-place-entries-clause-found c =
-    let t = c.index-table.result.now in
-    let at = here c.self.inside.tables.items c.args.self.now c.args.m t c.self.view_is (within c.args.self.now c.args.m c.requires.map) c.index-table.ensures in
-    (refl, array_key c.args.self.now c.args.m c.index_of-place.result t c.in-Array.value c.in-Array.entries c.args.key.now at c.in-Array.is (omega (arith, c.if-place-entries.true)) c.index_of-place.ensures.index)
+pub find-requires-clause-shape : goal.find-requires-clause-shape
+find-requires-clause-shape c = (is_at c.self.inside.tables.items c.args.self.now c.args.m c.index.result.now c.self.view_is c.self.invariant (within c.args.self.now c.args.m c.requires.map) c.index.ensures).ok
 
-pub returns-then-place-entries-clause-absent : goal.returns-then-place-entries-clause-absent
-returns-then-place-entries-clause-absent c =
-    let t = c.index-table.result.now in
-    let at = here c.self.inside.tables.items c.args.self.now c.args.m t c.self.view_is (within c.args.self.now c.args.m c.requires.map) c.index-table.ensures in
-    let ok = ok_at c.args.self.now c.args.m (stored t) (subst AreFull c.self.view_is c.self.invariant) at in
-    both true _ true refl (array_present c.args.self.now c.args.m c.index_of-place.result t c.in-Array.value c.in-Array.entries c.args.key.now at ok.0 c.in-Array.is (omega (arith, c.if-place-entries.true)) c.index_of-place.ensures.index)
+pub find-requires-clause-key : goal.find-requires-clause-key
+find-requires-clause-key c =
+    let t = c.index.result.now in
+    let at = is_at c.self.inside.tables.items c.args.self.now c.args.m t c.self.view_is c.self.invariant (within c.args.self.now c.args.m c.requires.map) c.index.ensures in
+    for_shape (λ s. length c.args.key.now ≡ key_size s) c.args.self.now c.args.m (stored t) at.there c.requires.key
 
-pub returns-else-place-entries-clause-absent : goal.returns-else-place-entries-clause-absent
-returns-else-place-entries-clause-absent c =
-    let t = c.index-table.result.now in
-    let at = here c.self.inside.tables.items c.args.self.now c.args.m t c.self.view_is (within c.args.self.now c.args.m c.requires.map) c.index-table.ensures in
-    let ok = ok_at c.args.self.now c.args.m (stored t) (subst AreFull c.self.view_is c.self.invariant) at in
-    both false _ false refl (array_absent c.args.self.now c.args.m c.index_of-place.result t c.in-Array.value c.in-Array.entries c.args.key.now at ok.0 c.in-Array.is (omega (arith, c.if-place-entries.false)) (omega (arith, c.index_of-place.type_inv)) c.index_of-place.ensures.index)
+pub returns-in_err-place-clause-absent : goal.returns-in_err-place-clause-absent
+returns-in_err-place-clause-absent c =
+    let t = c.index.result.now in
+    let at = is_at c.self.inside.tables.items c.args.self.now c.args.m t c.self.view_is c.self.invariant (within c.args.self.now c.args.m c.requires.map) c.index.ensures in
+    both _ _ false (ap is_some c.from_residual.ensures) (ap is_some (missing c.args.self.now c.args.m t c.args.key.now at c.in_err-place.ensures.absent))
 
-pub returns-in-Hash-clause-absent : goal.returns-in-Hash-clause-absent
-returns-in-Hash-clause-absent c =
-    let t = c.index-table.result.now in
-    let at = here c.self.inside.tables.items c.args.self.now c.args.m t c.self.view_is (within c.args.self.now c.args.m c.requires.map) c.index-table.ensures in
-    both false _ false refl (hash_absent c.args.self.now c.args.m t c.in-Hash.key c.in-Hash.value c.in-Hash.entries c.args.key.now at c.in-Hash.is)
+pub returns-clause-found : goal.returns-clause-found
+returns-clause-found c =
+    let t = c.index.result.now in
+    let at = is_at c.self.inside.tables.items c.args.self.now c.args.m t c.self.view_is c.self.invariant (within c.args.self.now c.args.m c.requires.map) c.index.ensures in
+    (refl, key_stands c.args.self.now c.args.m c.in_ok-place.place t c.args.key.now at c.in_ok-place.ensures.found)
 
-pub index_of-place-requires : goal.index_of-place-requires
-index_of-place-requires c =
-    let t = c.index-table.result.now in
-    let at = here c.self.inside.tables.items c.args.self.now c.args.m t c.self.view_is (within c.args.self.now c.args.m c.requires.map) c.index-table.ensures in
-    record { size = key_length c.args.self.now c.args.m t c.in-Array.value c.in-Array.entries c.args.key.now at c.in-Array.is c.requires.key }
+pub returns-clause-place : goal.returns-clause-place
+returns-clause-place c =
+    let t = c.index.result.now in
+    let at = is_at c.self.inside.tables.items c.args.self.now c.args.m t c.self.view_is c.self.invariant (within c.args.self.now c.args.m c.requires.map) c.index.ensures in
+    of_shape _ c.args.self.now c.args.m (stored t) at.there (below t.shape t.index c.in_ok-place.place c.args.key.now at.table.index c.in_ok-place.ensures.found)
 
-pub returns-then-place-entries-clause-place : goal.returns-then-place-entries-clause-place
-returns-then-place-entries-clause-place c =
-    let t = c.index-table.result.now in
-    let at = here c.self.inside.tables.items c.args.self.now c.args.m t c.self.view_is (within c.args.self.now c.args.m c.requires.map) c.index-table.ensures in
-    place_below c.args.self.now c.args.m c.index_of-place.result t c.in-Array.value c.in-Array.entries at c.in-Array.is (omega (arith, c.if-place-entries.true))
+pub returns-clause-absent : goal.returns-clause-absent
+returns-clause-absent c =
+    let t = c.index.result.now in
+    let at = is_at c.self.inside.tables.items c.args.self.now c.args.m t c.self.view_is c.self.invariant (within c.args.self.now c.args.m c.requires.map) c.index.ensures in
+    both true _ true refl (ap is_some (present c.args.self.now c.args.m c.in_ok-place.place t c.args.key.now at c.in_ok-place.ensures.found))

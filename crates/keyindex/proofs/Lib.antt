@@ -1,0 +1,11 @@
+pub mod Walked
+pub mod Put
+pub mod Cut
+pub mod Found
+pub mod Parts
+pub mod Taken
+pub mod Leaves
+pub mod Dropped
+pub mod Empty
+pub mod Listed
+pub mod Callers

@@ -1,0 +1,8 @@
+//! Which key stands at which place, found by a hash and then by the key's bits.
+#![tactic(auto)]
+
+mod bits;
+mod block;
+mod index;
+
+pub use index::{KeyIndex, MAX_BUCKETS, MAX_KEY_SIZE, MAX_PLACES, Removed};

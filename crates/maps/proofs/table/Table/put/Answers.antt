@@ -1,0 +1,39 @@
+use Rattle.std.proofs.Common.{◌≡◌, ◌∙◌, length, ap, arith, length-take, length-drop}
+use Rattle.std.proofs.Common.{◌*◌, drop}
+use Rattle.maps.specs.Shapes.{value_size}
+use Rattle.maps.specs.MapSets.{entries_of}
+use Rattle.maps.specs.Blocks.{stored}
+use Rattle.maps.specs.Lent.{with_bytes}
+use Rattle.maps.proofs.TableKeys.{IsClaimed, claimed_room, put_entries}
+use Rattle.maps.proofs.table.Table.put.Goals as goal
+
+pub bytes_mut-bytes-requires : goal.bytes_mut-bytes-requires
+bytes_mut-bytes-requires c =
+    let t = c.args.self.now in let u = c.claim-place.new.self in
+    let h = c.claim-place.ensures in
+    let is : IsClaimed t u c.args.key.now c.claim-place.result = record { shape = h.shape; block = h.block; table = h.table; stands = h.place; own = h.own; others = h.others } in
+    let fits = claimed_room t u c.args.key.now c.claim-place.result c.value_bytes-size.result c.requires.shape is c.value_bytes-size.ensures.value in
+    let len = u.block.ok.0 in omega (arith, fits.0, len)
+
+pub copy_from_slice-requires : goal.copy_from_slice-requires
+copy_from_slice-requires c =
+    let t = c.args.self.now in let u = c.claim-place.new.self in
+    let h = c.claim-place.ensures in
+    let is : IsClaimed t u c.args.key.now c.claim-place.result = record { shape = h.shape; block = h.block; table = h.table; stands = h.place; own = h.own; others = h.others } in
+    let size = c.value_bytes-size.result in
+    let start = c.claim-place.result * size in
+    let fits = claimed_room t u c.args.key.now c.claim-place.result size c.requires.shape is c.value_bytes-size.ensures.value in
+    let taken = length-take size (drop start u.block.items) in
+    let dropped = length-drop start u.block.items in
+    let many = ap length c.bytes_mut-bytes.ensures.value in
+    let width : size ≡ value_size t.shape = c.value_bytes-size.ensures.value ∙ ap value_size h.shape in
+    let long = c.requires.value in
+    omega (arith, taken, dropped, many, width, long, fits.0)
+
+pub returns-clause-entries : goal.returns-clause-entries
+returns-clause-entries c =
+    let t = c.args.self.now in let u = c.claim-place.new.self in
+    let h = c.claim-place.ensures in
+    let is : IsClaimed t u c.args.key.now c.claim-place.result = record { shape = h.shape; block = h.block; table = h.table; stands = h.place; own = h.own; others = h.others } in
+    ap (λ w. entries_of (stored (with_bytes u (c.claim-place.result * c.value_bytes-size.result) w))) c.copy_from_slice.ensures.after
+    ∙ put_entries t u c.args.key.now c.args.value.now c.claim-place.result c.value_bytes-size.result c.requires.shape is c.value_bytes-size.ensures.value c.requires.value
