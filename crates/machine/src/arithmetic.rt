@@ -94,6 +94,3 @@ fn low_word(n: u64) -> u32
 {
     (n % 0x1_0000_0000) as u32
 }
-
-#[cfg(test)]
-mod tests;

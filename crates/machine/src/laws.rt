@@ -12,10 +12,10 @@ pub use arithmetic_laws::{
     negation_subtracts, results_fit, shift_amounts_wrap, signed_division_truncates,
     subtraction_undoes_addition, swaps_undo_themselves,
 };
-pub use effects::{effects_are_runs, runs_are_effects, typable_programs_take_effect};
+pub use effects::{effects_are_runs, typable_programs_take_effect};
 pub use examples::{map_programs_run, programs_run, tables_hold};
 pub use run_laws::{
     exits_are_final, runs_are_unique, runs_keep_shapes, steps_are_unique, steps_keep_states,
     stores_are_loaded,
 };
-pub use soundness_laws::typable_programs_run;
+pub use soundness_laws::{accepted_programs_run, typable_programs_run};

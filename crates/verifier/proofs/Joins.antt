@@ -1,9 +1,16 @@
 -- The joined frames, as they are computed, are what comes in at each slot.
-use Rattle.std.proofs.Common.{◌≡◌, ◌≢◌, ℕ, zero, suc, ◌+◌, ◌<◌, Bool, true, false, cond, List, [], ◌∷◌, ◌++◌, length, Option, Some, None, refl, sym, ap, ◌∙◌, inl, inr, ⊎_elim, arith, subst, length-append}
-use Rattle.std.specs.Prelude.{pos, slice_get, option_and_then, ◌==◌}
+use Rattle.std.proofs.Common.{◌≡◌, ◌≢◌, ℕ, zero, suc, ◌+◌, ◌<◌, Bool, true, false, cond, List, [], ◌∷◌, ◌++◌, length, map, Option, Some, None, refl, sym, ap, ◌∙◌, inl, inr, ⊎_elim, arith, subst, length-append}
+use Rattle.std.specs.Prelude.{pos, option_and_then, fold, filter, flat_map, ◌==◌}
+use Rattle.std.specs.List.{range_with_len}
+use Rattle.std.specs.Option.{option_map}
+use Rattle.std.proofs.lemmas.List.{map-append, append-nil}
+use Rattle.std.proofs.lemmas.List.Elements.{filter-append}
+use Rattle.std.proofs.lemmas.Grind.{fold-append, flat_map-append}
 use Rattle.std.proofs.lemmas.Bool.{false≢true, and_parts, and_from, cases_lt, cases_eq, eqb-true, eq-eqb}
 use Rattle.insn.specs.declared.instruction.Form.{Form}
-use Rattle.insn.specs.Layout.{Edge, Fall, Jump, LeadsTo, slot_count, instruction_at, falls_through}
+use Rattle.insn.specs.Layout.{LeadsTo, slot_count, instruction_at, falls_through}
+use Rattle.insn.specs.declared.instruction.Edge.{Edge}
+use Rattle.insn.specs.declared.instruction.Edge.TheVariants.{Fall, Jump}
 use Rattle.regkind.specs.Frames.{Frame, Covers, IsFrame, entry_frame}
 use Rattle.regkind.proofs.Laws.{covers_refl, covers_trans, IsFrame-entry}
 use Rattle.flow.specs.Structure.{IsStructured, StandsAt, Reached}
@@ -14,9 +21,10 @@ use Rattle.flow.proofs.Forward.{leads_on}
 use Rattle.flow.proofs.Jumps.{jump_found, jump_tested, slot_is}
 use Rattle.verifier.specs.FrameAfter.{frame_after}
 use Rattle.verifier.specs.Typing.{Frames, IsJoin, Leads}
-use Rattle.verifier.specs.Joined.{common, and_in_common, leads, along, out_of, coming_in, frame_in, joined_frames, joined_frame}
+use Rattle.verifier.specs.Joined.{common, in_common, Leaving, leaving, edges_of, leads, leads_to, frame_in, frame_along, entry_at, joined_frames, joined_frame}
 use Rattle.verifier.proofs.Monotone.{after_frame}
 use Rattle.verifier.proofs.Progress.{Below, With, same_form}
+use Rattle.verifier.proofs.Lists.{get_left, get_last}
 use Rattle.verifier.proofs.Common.{common_frame, common_covers}
 
 -- ---- edges
@@ -31,6 +39,53 @@ slot_self t = eq-eqb t t refl
 is_leads : (i : Form) (s : ℕ) (e : Edge) (t : ℕ) → LeadsTo i s e (pos t) → leads i s e t ≡ true
 is_leads i s Fall t h = let same : t ≡ s + slot_count i = let a = h.1 in cc in and_from (falls_through i) ((s + slot_count i) == t) h.0 (eq-eqb (s + slot_count i) t (sym same))
 is_leads i s Jump t h = jump_tested (is_slot t) i s (pos t) h (slot_self t)
+
+-- what came in before, and the frame along this edge, if it leads to slot t
+abbrev along : Edge → Form → ℕ → Frame → ℕ → Option Frame → Option Frame
+along e i s f t before = cond (leads i s e t) (in_common before (Some (frame_after i f e))) before
+
+-- the frames along the edges of what stands at slot s, and what came in before
+abbrev out_of : (ℕ → Option Frame) → ℕ → Option Form → ℕ → Option Frame → Option Frame
+out_of G s o t before = fold in_common before (map (frame_along G) (filter (leads_to t) (edges_of s o)))
+
+-- an edge of a list of edges
+one_edge : (G : ℕ → Option Frame) (t : ℕ) (o : Option Frame) (x : Leaving) (xs : List Leaving) → fold in_common o (map (frame_along G) (filter (leads_to t) (x ∷ xs))) ≡ fold in_common (cond (leads_to t x) (in_common o (frame_along G x)) o) (map (frame_along G) (filter (leads_to t) xs))
+one_edge G t o x xs = by (leads_to t x) refl
+  where
+    by : (b : Bool) → leads_to t x ≡ b → fold in_common o (map (frame_along G) (cond (leads_to t x) (x ∷ filter (leads_to t) xs) (filter (leads_to t) xs))) ≡ fold in_common (cond (leads_to t x) (in_common o (frame_along G x)) o) (map (frame_along G) (filter (leads_to t) xs))
+    by true e = rw e refl
+    by false e = rw e refl
+
+-- both edges of an instruction
+out_of_both : (G : ℕ → Option Frame) (s t : ℕ) (i : Form) (f : Frame) (o : Option Frame) → G s ≡ Some f → out_of G s (Some i) t o ≡ along Jump i s f t (along Fall i s f t o)
+out_of_both G s t i f o e =
+    one_edge G t o (leaving s i Fall) (leaving s i Jump ∷ [])
+    ∙ one_edge G t (cond (leads i s Fall t) (in_common o (frame_along G (leaving s i Fall))) o) (leaving s i Jump) []
+    ∙ ap (λ g. cond (leads i s Jump t) (in_common (cond (leads i s Fall t) (in_common o (option_map (λ x. frame_after i x Fall) g)) o) (option_map (λ x. frame_after i x Jump) g)) (cond (leads i s Fall t) (in_common o (option_map (λ x. frame_after i x Fall) g)) o)) e
+
+-- what comes in at slot t, of the entry and from the slots below n
+abbrev edges_below : List Form → ℕ → List Leaving
+edges_below p n = flat_map (λ s. edges_of s (instruction_at p s)) (range_with_len 0 n)
+
+abbrev coming_in : List Form → (ℕ → Option Frame) → ℕ → ℕ → Option Frame
+coming_in p G n t = fold in_common (entry_at t) (map (frame_along G) (filter (leads_to t) (edges_below p n)))
+
+next_number : (a n : ℕ) → range_with_len a (suc n) ≡ range_with_len a n ++ (a + n) ∷ []
+next_number a zero = let e : a ≡ a + 0 = omega arith in ap (λ m. m ∷ []) e
+next_number a (suc n) = let e : a + 1 + n ≡ a + suc n = omega arith in ap (λ ns. a ∷ ns) (next_number (a + 1) n ∙ ap (λ m. range_with_len (a + 1) n ++ m ∷ []) e)
+
+next_edges : (p : List Form) (s : ℕ) → edges_below p (suc s) ≡ edges_below p s ++ edges_of s (instruction_at p s)
+next_edges p s =
+    ap (flat_map (λ u. edges_of u (instruction_at p u))) (next_number 0 s ∙ ap (λ n. range_with_len 0 s ++ n ∷ []) (let e : 0 + s ≡ s = omega arith in e))
+    ∙ flat_map-append (λ u. edges_of u (instruction_at p u)) (range_with_len 0 s) (s ∷ [])
+    ∙ ap (λ es. edges_below p s ++ es) (append-nil (edges_of s (instruction_at p s)))
+
+coming_next : (p : List Form) (G : ℕ → Option Frame) (s t : ℕ) → coming_in p G (suc s) t ≡ out_of G s (instruction_at p s) t (coming_in p G s t)
+coming_next p G s t =
+    ap (λ es. fold in_common (entry_at t) (map (frame_along G) (filter (leads_to t) es))) (next_edges p s)
+    ∙ ap (λ es. fold in_common (entry_at t) (map (frame_along G) es)) (filter-append (leads_to t) (edges_below p s) (edges_of s (instruction_at p s)))
+    ∙ ap (fold in_common (entry_at t)) (map-append (frame_along G) (filter (leads_to t) (edges_below p s)) (filter (leads_to t) (edges_of s (instruction_at p s))))
+    ∙ fold-append in_common (entry_at t) (map (frame_along G) (filter (leads_to t) (edges_below p s))) (map (frame_along G) (filter (leads_to t) (edges_of s (instruction_at p s))))
 
 -- ---- what comes in at a slot along the edges seen so far
 
@@ -62,7 +117,7 @@ module _ (p : List Form) (J : Frames) (Seen : ℕ → Edge → Type 0) (t : ℕ)
       (subst (λ u'. Covers a (frame_after x (J u') d)) (sym new.0) (subst (λ y. Covers a (frame_after y (J s) d)) form c))
 
   -- it leads there
-  goes_in : (o : Option Frame) → LeadsTo i s d (pos t) → ComesIn p J Seen t o → ComesIn p J (With Seen s d) t (and_in_common o (frame_after i (J s) d))
+  goes_in : (o : Option Frame) → LeadsTo i s d (pos t) → ComesIn p J Seen t o → ComesIn p J (With Seen s d) t (in_common o (Some (frame_after i (J s) d)))
   goes_in None leads c = record {
     frame = after_frame i (J s) d frame;
     entry = λ z. absurd (c.0 z);
@@ -100,8 +155,8 @@ module _ (p : List Form) (J : Frames) (Seen : ℕ → Edge → Type 0) (t : ℕ)
   along_edge o c = by (leads i s d t) refl
     where
       by : (b : Bool) → leads i s d t ≡ b → ComesIn p J (With Seen s d) t (along d i s (J s) t o)
-      by true e = subst (λ b. ComesIn p J (With Seen s d) t (cond b (and_in_common o (frame_after i (J s) d)) o)) (sym e) (goes_in o (leads_is i s d t e) c)
-      by false e = subst (λ b. ComesIn p J (With Seen s d) t (cond b (and_in_common o (frame_after i (J s) d)) o)) (sym e) (goes_past o (λ h. false≢true (sym e ∙ is_leads i s d t h)) c)
+      by true e = subst (λ b. ComesIn p J (With Seen s d) t (cond b (in_common o (Some (frame_after i (J s) d))) o)) (sym e) (goes_in o (leads_is i s d t e) c)
+      by false e = subst (λ b. ComesIn p J (With Seen s d) t (cond b (in_common o (Some (frame_after i (J s) d))) o)) (sym e) (goes_past o (λ h. false≢true (sym e ∙ is_leads i s d t h)) c)
 
 -- ---- all lower slots
 
@@ -122,11 +177,11 @@ abbrev Given : List Form → Frames → (ℕ → Option Frame) → ℕ → Type 
 Given p J G s = (i : Form) → StandsAt p i s → (G s ≡ Some (J s)) × IsFrame (J s)
 
 module _ (p : List Form) (J : Frames) (G : ℕ → Option Frame) (t : ℕ) where
-  next_slot : (s : ℕ) (o : Option Frame) → Given p J G s → ComesIn p J (Below s) t o → ComesIn p J (Below (suc s)) t (out_of (instruction_at p s) s (G s) t o)
+  next_slot : (s : ℕ) (o : Option Frame) → Given p J G s → ComesIn p J (Below s) t o → ComesIn p J (Below (suc s)) t (out_of G s (instruction_at p s) t o)
   next_slot s o given c = by (instruction_at p s) refl
     where
-      by : (x : Option Form) → instruction_at p s ≡ x → ComesIn p J (Below (suc s)) t (out_of (instruction_at p s) s (G s) t o)
-      by None e = subst (λ x. ComesIn p J (Below (suc s)) t (out_of x s (G s) t o)) (sym e) (resaid p J (Below s) (Below (suc s)) t o from (λ x u d h lt. omega arith) c)
+      by : (x : Option Form) → instruction_at p s ≡ x → ComesIn p J (Below (suc s)) t (out_of G s (instruction_at p s) t o)
+      by None e = subst (λ x. ComesIn p J (Below (suc s)) t (out_of G s x t o)) (sym e) (resaid p J (Below s) (Below (suc s)) t o from (λ x u d h lt. omega arith) c)
         where
           from : (x : Form) (u : ℕ) (d : Edge) → Leads p x u d t → u < suc s → u < s
           from x u d h lt = ⊎_elim (λ below. below) (λ ge. let eq : u ≡ s = omega arith in let st = subst (λ y. StandsAt p x y) eq h.0 in absurd (let b : ⊥ = cc in b)) (cases_lt u s)
@@ -135,29 +190,17 @@ module _ (p : List Form) (J : Frames) (G : ℕ → Option Frame) (t : ℕ) where
           let one = along_edge p J (Below s) t i s e g.1 Fall o c in
           let two = along_edge p J (With (Below s) s Fall) t i s e g.1 Jump (along Fall i s (J s) t o) one in
           let done = resaid p J (With (With (Below s) s Fall) s Jump) (Below (suc s)) t (along Jump i s (J s) t (along Fall i s (J s) t o)) (λ x u d h lt. two_edges s u d lt) (λ x u d h seen. edges_two s u d seen) two in
-          subst (λ x. ComesIn p J (Below (suc s)) t (out_of x s (G s) t o)) (sym e) (subst (λ f. ComesIn p J (Below (suc s)) t (out_of (Some i) s f t o)) (sym g.0) done)
+          subst (λ x. ComesIn p J (Below (suc s)) t (out_of G s x t o)) (sym e) (subst (ComesIn p J (Below (suc s)) t) (sym (out_of_both G s t i (J s) o g.0)) done)
 
   pub comes_from : (n : ℕ) → ((s : ℕ) → s < n → Given p J G s) → ComesIn p J (Below n) t (coming_in p G n t)
-  unfolding coming_in
   comes_from zero given = first t
     where
       first : (u : ℕ) → ComesIn p J (Below 0) u (coming_in p G 0 u)
       first zero = record { frame = IsFrame-entry; entry = λ z. covers_refl entry_frame; edges = λ i s d h lt. absurd (omega arith); greatest = λ a h k. h refl }
       first (suc u) = (λ z. absurd (omega arith), λ i s d h lt. absurd (omega arith))
-  comes_from (suc s) given = next_slot s (coming_in p G s t) (given s (omega arith)) (comes_from s (λ u lt. given u (omega arith)))
+  comes_from (suc s) given = subst (ComesIn p J (Below (suc s)) t) (sym (coming_next p G s t)) (next_slot s (coming_in p G s t) (given s (omega arith)) (comes_from s (λ u lt. given u (omega arith))))
 
 -- ---- the list of frames
-
-get_left : {A : Type 0} (xs ys : List A) (k : ℕ) → k < length xs → slice_get (xs ++ ys) k ≡ slice_get xs k
-get_left [] ys k lt = absurd (omega arith)
-get_left (x ∷ xs) ys zero lt = refl
-get_left (x ∷ xs) ys (suc k) lt = get_left xs ys k (omega arith)
-
-get_last : {A : Type 0} (xs : List A) (y : A) (k : ℕ) → k ≡ length xs → slice_get (xs ++ y ∷ []) k ≡ Some y
-get_last [] y zero e = refl
-get_last [] y (suc k) e = absurd (omega arith)
-get_last (x ∷ xs) y zero e = absurd (omega arith)
-get_last (x ∷ xs) y (suc k) e = get_last xs y k (omega arith)
 
 how_many : (p : List Form) (n : ℕ) → length (joined_frames p n) ≡ n
 unfolding joined_frames

@@ -12,3 +12,4 @@ pub mod Common
 pub mod Joins
 pub mod VerdictLaws
 pub mod PlacesLemmas
+pub mod Kept

@@ -9,10 +9,12 @@ use Rattle.insn.specs.declared.instruction.Form.{Form}
 use Rattle.insn.specs.declared.instruction.Form.TheVariants.{Alu, Neg, MovSx, Swap, Load, Store, Imm64, MapRef, Ja, Branch, Call, Exit}
 use Rattle.insn.specs.declared.instruction.Operation.{Operation}
 use Rattle.insn.specs.declared.instruction.Operation.TheVariants.{Mov}
+use Rattle.insn.specs.declared.instruction.Condition.{Condition}
+use Rattle.insn.specs.declared.instruction.Condition.TheVariants.{Jeq, Jne}
 use Rattle.insn.specs.declared.instruction.Source.{Source}
 use Rattle.insn.specs.declared.instruction.Source.TheVariants.{Reg, Imm}
-use Rattle.insn.specs.Encoding.{IsInstruction}
-use Rattle.insn.specs.Layout.{Edge}
+use Rattle.insn.specs.Encoding.{HasEncoding}
+use Rattle.insn.specs.declared.instruction.Edge.{Edge}
 use Rattle.insn.specs.Sizes.{byte_count}
 use Rattle.insn.specs.declared.instruction.Size.{Size}
 use Rattle.regkind.specs.declared.frames.Kind.{Kind}
@@ -23,11 +25,11 @@ use Rattle.maps.specs.Values.{Helper, Lookup, Update, Delete}
 use Rattle.verifier.specs.declared.refusal.VerifyFault.{VerifyFault}
 use Rattle.verifier.specs.declared.refusal.VerifyFault.TheVariants.{UnreadableRegister, UndefinedOperation, OutOfRegion, UninitialisedStack, UncheckedNull, HelperArgument}
 use Rattle.verifier.specs.Signature.{Signature}
-use Rattle.verifier.specs.Kinds.{is_unreadable}
+use Rattle.verifier.specs.Kinds.{is_unreadable, is_pointer, cannot_be_tested}
 use Rattle.verifier.specs.Operands.{known_helper, call_registers, reads, copied, jumps_at_null}
 use Rattle.insn.specs.Moves.{distance}
 use Rattle.verifier.specs.Regions.{is_within, lies_in, is_outside, has_unmarked, is_unmarked, Access, access, stack_index, helper_reads}
-use Rattle.verifier.specs.Rules.{breaks, first_broken, rules_in_order, has_bad_argument}
+use Rattle.verifier.specs.Rules.{breaks, first_broken, rules_in_order, misuses, has_bad_argument}
 use Rattle.verifier.specs.FrameAfter.{frame_after, shifted, result_kind, after_store, after_test, after_call, without_arguments, forgotten, forgetting}
 use Rattle.verifier.proofs.Broken.{or_parts, or_from, both_true, find_none_too, unbroken_rules}
 
@@ -120,6 +122,22 @@ call_rule l id a b h s UninitialisedStack e =
 call_rule l id a b h s HelperArgument e = sym (same_arguments (known_helper id) a b s) ∙ e
 call_rule l id a b h s v e = e
 
+-- ---- branches
+
+same_misuse : (w64 : Bool) (cond : Condition) (dst : ℕ) (src : Source) (off : ℤ) (a b : Frame) → SameKinds a b (reads (Branch w64 cond dst src off)) → misuses (Branch w64 cond dst src off) a ≡ misuses (Branch w64 cond dst src off) b
+same_misuse true Jeq dst (Imm (pos zero)) off a b s = ap cannot_be_tested s.0
+same_misuse true Jne dst (Imm (pos zero)) off a b s = ap cannot_be_tested s.0
+same_misuse w64 cond dst (Imm imm) off a b s = ap (λ k. is_pointer k || false) s.0
+same_misuse true Jeq dst (Reg src) off a b s = rw (s.0, s.1.0) refl
+same_misuse true Jne dst (Reg src) off a b s = rw (s.0, s.1.0) refl
+same_misuse false cond dst (Reg src) off a b s = rw (s.0, s.1.0) refl
+same_misuse true cond dst (Reg src) off a b s = rw (s.0, s.1.0) refl
+
+branch_rule : (l : Signature) (w64 : Bool) (cond : Condition) (dst : ℕ) (src : Source) (off : ℤ) (a b : Frame) → SameKinds a b (reads (Branch w64 cond dst src off)) → (v : VerifyFault) → breaks v l (Branch w64 cond dst src off) a ≡ false → breaks v l (Branch w64 cond dst src off) b ≡ false
+branch_rule l w64 cond dst src off a b s UnreadableRegister e = sym (same_unreadable a b (reads (Branch w64 cond dst src off)) s) ∙ e
+branch_rule l w64 cond dst src off a b s UndefinedOperation e = sym (same_misuse w64 cond dst src off a b s) ∙ e
+branch_rule l w64 cond dst src off a b s v e = e
+
 -- ---- all rules
 
 unbroken_too : (l : Signature) (i : Form) (a b : Frame) → Covers a b → SameKinds a b (reads i) → first_broken l i a ≡ None → first_broken l i b ≡ None
@@ -139,14 +157,14 @@ unbroken_too l (Store size dst off (Reg src)) a b h s e = rw (← s.0, ← s.1.0
 unbroken_too l (Imm64 dst value) a b h s e = e
 unbroken_too l (MapRef dst index) a b h s e = e
 unbroken_too l (Ja long by) a b h s e = e
-unbroken_too l (Branch w64 cond dst (Imm imm) off) a b h s e = rw (← s.0) e
-unbroken_too l (Branch w64 cond dst (Reg src) off) a b h s e = rw (← s.0, ← s.1.0) e
+unbroken_too l (Branch w64 cond dst src off) a b h s e =
+    find_none_too (λ v. breaks v l (Branch w64 cond dst src off) a) (λ v. breaks v l (Branch w64 cond dst src off) b) rules_in_order (branch_rule l w64 cond dst src off a b s) e
 unbroken_too l (Call id) a b h s e =
     find_none_too (λ v. breaks v l (Call id) a) (λ v. breaks v l (Call id) b) rules_in_order (call_rule l id a b h s) e
 unbroken_too l Exit a b h s e = rw (← s.0) e
 
 -- an instruction that breaks no rule breaks none on a frame that says more
-pub check_mono : (l : Signature) (i : Form) (a b : Frame) → IsInstruction i → IsFrame a → IsFrame b → Covers a b → first_broken l i a ≡ None → first_broken l i b ≡ None
+pub check_mono : (l : Signature) (i : Form) (a b : Frame) → HasEncoding i → IsFrame a → IsFrame b → Covers a b → first_broken l i a ≡ None → first_broken l i b ≡ None
 check_mono l i a b instruction fa fb h e = unbroken_too l i a b h (alike l i a b fa h e) e
 
 -- ---- the frame after
@@ -236,7 +254,7 @@ grown-after (Call id) a b e s g = grown-after_call (known_helper id) a b s g
 grown-after Exit a b e s g = g
 
 -- where no rule is broken, a frame that says more leads to one that says more, by either edge
-pub after_mono : (l : Signature) (i : Form) (a b : Frame) (e : Edge) → IsInstruction i → IsFrame a → IsFrame b → Covers a b → first_broken l i a ≡ None → Covers (frame_after i a e) (frame_after i b e)
+pub after_mono : (l : Signature) (i : Form) (a b : Frame) (e : Edge) → HasEncoding i → IsFrame a → IsFrame b → Covers a b → first_broken l i a ≡ None → Covers (frame_after i a e) (frame_after i b e)
 after_mono l i a b e instruction fa fb h ok =
     let g = grown-after i a b e (alike l i a b fa h ok) (record { first = fa; second = fb; covers = h }) in
     g.covers

@@ -1,26 +1,20 @@
 -- What the pass over the instructions keeps: at each slot ahead, what all that came in so far has in common.
-use Rattle.std.proofs.Common.{◌≡◌, ◌≢◌, ℕ, zero, suc, ◌<◌, List, ◌∷◌, Option, Some, None, refl, ap, ◌∙◌, inl, inr, ⊎_elim, arith, subst}
+use Rattle.std.proofs.Common.{◌≡◌, ◌≢◌, ℕ, zero, suc, ◌<◌, List, ◌∷◌, Some, None, refl, ap, ◌∙◌, inl, inr, ⊎_elim, arith, subst}
 use Rattle.std.specs.Prelude.{pos, slice_get, slice_set, replicate, ◌⊎◌}
 use Rattle.std.proofs.lemmas.Bool.{cases_lt}
 use Rattle.insn.specs.declared.instruction.Form.{Form}
-use Rattle.insn.specs.Layout.{Edge, Fall, Jump, LeadsTo}
+use Rattle.insn.specs.Layout.{LeadsTo}
+use Rattle.insn.specs.declared.instruction.Edge.{Edge}
+use Rattle.insn.specs.declared.instruction.Edge.TheVariants.{Fall, Jump}
 use Rattle.regkind.specs.Frames.{Frame, Covers, IsFrame, entry_frame}
 use Rattle.flow.specs.Structure.{StandsAt}
 use Rattle.verifier.specs.Signature.{Signature}
 use Rattle.verifier.specs.Rules.{first_broken}
 use Rattle.verifier.specs.FrameAfter.{frame_after}
 use Rattle.verifier.specs.Typing.{Frames, Leads}
-use Rattle.verifier.specs.Pass.{Table}
+use Rattle.verifier.specs.Pass.{Table, or_entry, frame_at}
 use Rattle.verifier.proofs.Lists.{get_replicate}
 use Rattle.regkind.proofs.Laws.{covers_refl, IsFrame-entry}
-
-abbrev pub or_entry : Option (Option Frame) → Frame
-or_entry (Some (Some f)) = f
-or_entry (Some None) = entry_frame
-or_entry None = entry_frame
-
-abbrev pub frame_at : Table → ℕ → Frame
-frame_at xs t = or_entry (slice_get xs t)
 
 -- what the entry and the edges seen so far into t have in common
 pub record JoinOver (p : List Form) (J : Frames) (Seen : ℕ → Edge → Type 0) (t : ℕ) : Type 0 where

@@ -1,11 +1,11 @@
 -- One visit, in the code's terms.
-use Rattle.std.proofs.Common.{◌≡◌, ℕ, zero, suc, ◌+◌, ◌<◌, [], ◌∷◌, length, get_or, Option, Some, None, refl, sym, ap, ◌∙◌, inl, inr, arith, subst}
-use Rattle.std.specs.Prelude.{Bool, true, ℤ, ◌+ℤ◌, pos, slice_get, ◌↔◌}
+use Rattle.std.proofs.Common.{◌≡◌, ℕ, zero, suc, ◌<◌, [], ◌∷◌, length, get_or, Option, Some, None, refl, ap, ◌∙◌, inl, inr, arith, subst}
+use Rattle.std.specs.Prelude.{pos, slice_get, ◌↔◌}
 use Rattle.std.proofs.lemmas.Option.{slice_get_read}
 use Rattle.std.proofs.Math.ListN.{length-set}
 use Rattle.insn.specs.declared.instruction.Form.{Form}
-use Rattle.insn.specs.Layout.{Edge, LeadsTo, displacement}
-use Rattle.verifier.specs.FrameAfter.{edge_of}
+use Rattle.insn.specs.Layout.{LeadsTo}
+use Rattle.insn.specs.declared.instruction.Edge.{Edge}
 use Rattle.regkind.specs.Frames.{Frame, IsFrame}
 use Rattle.verifier.specs.Pass.{Table, FlowsInto, Follows}
 
@@ -30,15 +30,3 @@ goes i s e f old new o t law is flows = inl (t, (law t).0 is, flows)
 
 pub goes_not : (i : Form) (s : ℕ) (e : Edge) (f : Frame) (old : Table) (o : Option ℕ) → ((u : ℕ) → (o ≡ Some u) ↔ LeadsTo i s e (pos u)) → o ≡ None → Follows i s e f old old
 goes_not i s e f old o law is = inr (λ t leads. let some = (law t).1 leads in cc, refl)
-
--- ---- jumps
-
--- a jump leads where its displacement says
-pub jumps_to : (i : Form) (d read : ℤ) (s : ℕ) (o : Option ℕ) → displacement i ≡ Some d → read ≡ d → ((t : ℕ) → (o ≡ Some t) ↔ (pos t ≡ pos (s + 1) +ℤ read)) → (jumps : Bool) → jumps ≡ true → (t : ℕ) → (o ≡ Some t) ↔ LeadsTo i s (edge_of jumps) (pos t)
-jumps_to i d read s o is eq law jumps e t = subst (λ j. (o ≡ Some t) ↔ LeadsTo i s (edge_of j) (pos t)) (sym e) (
-  λ h. (d, is, (law t).0 h ∙ ap (λ z. pos (s + 1) +ℤ z) eq),
-  λ leads. (law t).1 (leads.2 ∙ ap (λ z. pos (s + 1) +ℤ z) (same leads.0 leads.1 ∙ sym eq)),
-)
-  where
-    same : (z : ℤ) → displacement i ≡ Some z → z ≡ d
-    same z h = cc

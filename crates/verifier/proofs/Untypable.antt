@@ -2,7 +2,7 @@
 use Rattle.std.proofs.Common.{◌≡◌, ℕ, zero, suc, ◌<◌, ◌≤◌, List, None, sym, arith, subst}
 use Rattle.std.specs.List.{AllByRecursion}
 use Rattle.insn.specs.declared.instruction.Form.{Form}
-use Rattle.insn.specs.Encoding.{IsInstruction}
+use Rattle.insn.specs.Encoding.{HasEncoding}
 use Rattle.regkind.specs.Frames.{Covers, entry_frame}
 use Rattle.regkind.proofs.Laws.{covers_trans}
 use Rattle.flow.specs.Structure.{IsStructured, StandsAt}
@@ -14,7 +14,7 @@ use Rattle.verifier.specs.Typing.{Frames, IsTyping, IsTypable, IsJoin, FirstBrok
 use Rattle.verifier.proofs.Monotone.{check_mono, after_mono}
 use Rattle.verifier.proofs.Slots.{each_standing}
 
-module _ (p : List Form) (l : Signature) (structured : IsStructured p) (all : AllByRecursion IsInstruction p) (F : Frames) (types : IsTyping p l F) (J : Frames) (last : ℕ) (joined : (i : Form) (t : ℕ) → StandsAt p i t → t ≤ last → IsJoin p J t) where
+module _ (p : List Form) (l : Signature) (structured : IsStructured p) (all : AllByRecursion HasEncoding p) (F : Frames) (types : IsTyping p l F) (J : Frames) (last : ℕ) (joined : (i : Form) (t : ℕ) → StandsAt p i t → t ≤ last → IsJoin p J t) where
   -- any typing says at most what the joined frames say
   covered : (n t : ℕ) (x : Form) → StandsAt p x t → t < n → t ≤ last → Covers (F t) (J t)
   covered zero t x here lt le = absurd (omega arith)
@@ -26,13 +26,13 @@ module _ (p : List Form) (l : Signature) (structured : IsStructured p) (all : Al
       let below : s < n = omega arith in
       let before : s ≤ last = omega arith in
       covers_trans _ _ _ (types.edges i s t e leads)
-      (after_mono l i (F s) (J s) e (each_standing IsInstruction p all i s leads.0) (types.frames s) (joined i s leads.0 before).frame (covered n s i leads.0 below before) (types.each i s leads.0)))
+      (after_mono l i (F s) (J s) e (each_standing HasEncoding p all i s leads.0) (types.frames s) (joined i s leads.0 before).frame (covered n s i leads.0 below before) (types.each i s leads.0)))
 
   pub unbroken : (i : Form) → StandsAt p i last → first_broken l i (J last) ≡ None
   unbroken i stands =
-      check_mono l i (F last) (J last) (each_standing IsInstruction p all i last stands) (types.frames last) (joined i last stands (omega arith)).frame (covered (suc last) last i stands (omega arith) (omega arith)) (types.each i last stands)
+      check_mono l i (F last) (J last) (each_standing HasEncoding p all i last stands) (types.frames last) (joined i last stands (omega arith)).frame (covered (suc last) last i stands (omega arith) (omega arith)) (types.each i last stands)
 
-pub untypable : (p : List Form) (l : Signature) (s : ℕ) (why : VerifyFault) → AllByRecursion IsInstruction p → FirstBrokenKind p l s why → IsTypable p l → ⊥
+pub untypable : (p : List Form) (l : Signature) (s : ℕ) (why : VerifyFault) → AllByRecursion HasEncoding p → FirstBrokenKind p l s why → IsTypable p l → ⊥
 untypable p l s why all broken typed =
     let none = unbroken p l typed.0 all typed.1.0 typed.1.1 broken.frames s broken.joined broken.instruction broken.stands in
     let some = broken.broken in

@@ -1,30 +1,27 @@
 -- The computed verdict is none exactly for the typable programs, and else the refusal that is to be named.
-use Rattle.std.proofs.Common.{◌≡◌, ℕ, zero, suc, ◌<◌, ◌≤◌, Bool, true, false, cond, List, [], ◌∷◌, Option, Some, None, refl, sym, ap, ◌∙◌, inl, inr, ⊎_elim, arith, subst}
-use Rattle.std.specs.Prelude.{◌↔◌, find}
+use Rattle.std.proofs.Common.{◌≡◌, ℕ, zero, suc, ◌<◌, ◌≤◌, List, Option, Some, None, refl, sym, ap, ◌∙◌, inl, inr, ⊎_elim, arith, subst}
+use Rattle.std.specs.Prelude.{◌↔◌}
 use Rattle.std.specs.Option.{option_map}
-use Rattle.std.specs.List.{AllByRecursion, list_all}
-use Rattle.std.proofs.lemmas.Bool.{cases_lt, cases_eq, false≢true, and_parts}
+use Rattle.std.specs.List.{AllByRecursion}
+use Rattle.std.proofs.lemmas.Bool.{cases_lt, cases_eq}
 use Rattle.insn.specs.declared.instruction.Form.{Form}
-use Rattle.insn.specs.Encoding.{IsInstruction}
+use Rattle.insn.specs.Encoding.{HasEncoding}
 use Rattle.insn.specs.Layout.{size, instruction_at}
 use Rattle.insn.proofs.Places.{first_of}
 use Rattle.regkind.specs.Frames.{Frame, Covers, IsFrame, entry_frame}
 use Rattle.regkind.proofs.Laws.{covers_antisymmetric, IsFrame-entry}
 use Rattle.flow.specs.Structure.{IsStructured, StandsAt}
-use Rattle.flow.specs.declared.rules.StructureRule.{StructureRule}
 use Rattle.flow.specs.Faults.{Fault, structure_fault}
 use Rattle.flow.proofs.Forward.{leads_on, target_stands}
 use Rattle.flow.proofs.Lowest.{structured_from_fault, broken_from_fault, broken_is_not_structured, only_one_broken, fault_iff}
-use Rattle.flow.specs.declared.rules.StructureRule.TheVariants as structure
 use Rattle.verifier.specs.declared.refusal.VerifyFault.{VerifyFault}
 use Rattle.verifier.specs.declared.refusal.Refused.{Refused}
 use Rattle.verifier.specs.Signature.{Signature}
-use Rattle.verifier.specs.declared.refusal.VerifyFault.TheVariants.{NoMemory}
-use Rattle.verifier.specs.Rules.{first_broken, breaks, rules_in_order}
+use Rattle.verifier.specs.Rules.{first_broken}
 use Rattle.verifier.specs.FrameAfter.{frame_after}
-use Rattle.verifier.specs.Typing.{Frames, IsTypable, IsJoin, FirstBrokenKind, Refuses, RefusedByStructure, RefusedByKinds, structure_reason, IsNoMemory}
+use Rattle.verifier.specs.Typing.{Frames, IsTypable, IsJoin, FirstBrokenKind, Refuses, RefusedByStructure, RefusedByKinds, structure_reason}
 use Rattle.verifier.specs.Joined.{joined_frame}
-use Rattle.verifier.specs.Verdict.{refused, refusal_of, or_else, lowest_refusal, after_structure, verdict, fails_by, VerifyFails}
+use Rattle.verifier.specs.Verdict.{refused, refusal_of, or_else, lowest_refusal, after_structure, verdict}
 use Rattle.verifier.proofs.Progress.{same_form}
 use Rattle.verifier.proofs.Slots.{stands_inside}
 use Rattle.verifier.proofs.Joins.{joined_at, has_joined, is_join, joins, ComesIn, or_entry_frame}
@@ -154,7 +151,7 @@ refuses p l e h = by (structure_fault p) refl h
 -- ---- it is the only one
 
 -- a refused program has no typing
-pub never_both : (p : List Form) (l : Signature) (e : Refused) → AllByRecursion IsInstruction p → Refuses p l e → IsTypable p l → ⊥
+pub never_both : (p : List Form) (l : Signature) (e : Refused) → AllByRecursion HasEncoding p → Refuses p l e → IsTypable p l → ⊥
 never_both p l e all (inl h) typable = broken_is_not_structured p e.slot h.0 h.1 typable.0
 never_both p l e all (inr h) typable = untypable p l e.slot e.why all h.1 typable
 
@@ -205,14 +202,14 @@ one_refusal p l a b (inr h) (inr k) = same_kinds p l a b h k
 
 -- ---- the laws
 
-pub accepted_iff : (p : List Form) (l : Signature) → AllByRecursion IsInstruction p → (verdict p l ≡ None) ↔ IsTypable p l
+pub accepted_iff : (p : List Form) (l : Signature) → AllByRecursion HasEncoding p → (verdict p l ≡ None) ↔ IsTypable p l
 accepted_iff p l all = (accepts p l, λ typable. by (verdict p l) refl typable)
   where
     by : (o : Option Refused) → verdict p l ≡ o → IsTypable p l → verdict p l ≡ None
     by None e typable = e
     by (Some e) eq typable = absurd (never_both p l e all (refuses p l e eq) typable)
 
-pub refused_iff : (p : List Form) (l : Signature) (e : Refused) → AllByRecursion IsInstruction p → (verdict p l ≡ Some e) ↔ Refuses p l e
+pub refused_iff : (p : List Form) (l : Signature) (e : Refused) → AllByRecursion HasEncoding p → (verdict p l ≡ Some e) ↔ Refuses p l e
 refused_iff p l e all = (refuses p l e, λ h. by (verdict p l) refl h)
   where
     by : (o : Option Refused) → verdict p l ≡ o → Refuses p l e → verdict p l ≡ Some e
@@ -227,38 +224,5 @@ by_structure p l e h =
     let found = (fault_iff p e.slot h.0).1 h.1 in
     ap (λ o. after_structure o (lowest_refusal p l (size p))) found ∙ ap (λ v. Some (refused e.slot v)) (sym h.2)
 
--- the rules name no want of memory
-abbrev is_rule : VerifyFault → Bool
-is_rule NoMemory = false
-is_rule v = true
-
-find_passes : (Q test : VerifyFault → Bool) (xs : List VerifyFault) (v : VerifyFault) → list_all Q xs ≡ true → find test xs ≡ Some v → Q v ≡ true
-find_passes Q test [] v all h = cc
-find_passes Q test (x ∷ xs) v all h = let parts = and_parts (Q x) (list_all Q xs) all in by (test x) parts.0 h (find_passes Q test xs v parts.1)
-  where
-    by : (b : Bool) → Q x ≡ true → cond b (Some x) (find test xs) ≡ Some v → (find test xs ≡ Some v → Q v ≡ true) → Q v ≡ true
-    by true q h rest = let same : x ≡ v = cc in subst (λ y. Q y ≡ true) same q
-    by false q h rest = rest h
-
-kind_rule : (p : List Form) (l : Signature) (e : Refused) → RefusedByKinds p l e → is_rule e.why ≡ true
-kind_rule p l e h = find_passes is_rule (λ v. breaks v l h.1.instruction (h.1.frames e.slot)) rules_in_order e.why refl h.1.broken
-
-structure_rule : (rule : StructureRule) → is_rule (structure_reason rule) ≡ true
-structure_rule structure.TargetOutside = refl
-structure_rule structure.TargetNotForward = refl
-structure_rule structure.TargetInsideWide = refl
-structure_rule structure.RunsOffTheEnd = refl
-structure_rule structure.Unreachable = refl
-
-fails_from : (why : VerifyFault) (e : Refused) (read : Option Refused) → is_rule why ≡ true → read ≡ Some e → fails_by why e read
-fails_from NoMemory e read h k = absurd (false≢true h)
-fails_from why e read h k = k
-
-pub fails_by_memory : (p : List Form) (l : Signature) (e : Refused) → IsNoMemory e → VerifyFails e (verdict p l)
-fails_by_memory p l e h = subst (λ x. VerifyFails x (verdict p l)) (sym h) refl
-
-pub fails_by_structure : (p : List Form) (l : Signature) (e : Refused) → RefusedByStructure p e → VerifyFails e (verdict p l)
-fails_by_structure p l e h = fails_from e.why e (verdict p l) (ap is_rule h.2 ∙ structure_rule h.0) (by_structure p l e h)
-
-pub fails_by_kinds : (p : List Form) (l : Signature) (e : Refused) → AllByRecursion IsInstruction p → RefusedByKinds p l e → VerifyFails e (verdict p l)
-fails_by_kinds p l e all h = fails_from e.why e (verdict p l) (kind_rule p l e h) ((refused_iff p l e all).1 (inr h))
+pub by_kinds : (p : List Form) (l : Signature) (e : Refused) → AllByRecursion HasEncoding p → RefusedByKinds p l e → verdict p l ≡ Some e
+by_kinds p l e all h = (refused_iff p l e all).1 (inr h)

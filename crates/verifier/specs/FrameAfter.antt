@@ -3,7 +3,8 @@ use Rattle.std.specs.Prelude.{ℕ, zero, suc, Bool, true, false, ◌==◌, ℤ, 
 use Rattle.std.specs.Int.{w16}
 use Rattle.insn.specs.declared.instruction.Form.{Form}
 use Rattle.insn.specs.declared.instruction.Form.TheVariants.{Alu, Neg, MovSx, Swap, Load, Store, Imm64, MapRef, Branch, Call}
-use Rattle.insn.specs.Layout.{Edge, Fall, Jump}
+use Rattle.insn.specs.declared.instruction.Edge.{Edge}
+use Rattle.insn.specs.declared.instruction.Edge.TheVariants.{Fall, Jump}
 use Rattle.insn.specs.Sizes.{byte_count}
 use Rattle.regkind.specs.declared.frames.Kind.{Kind}
 use Rattle.regkind.specs.declared.frames.Kind.TheVariants.{Unreadable, Scalar, Stack, Arg, Map, Value, ValueOrNull}
@@ -95,8 +96,3 @@ frame_after (Store size dst off src) f e = after_store f (kind f dst) off (byte_
 frame_after (Branch w64 cond dst src off) f e = after_test (jumps_at_null w64 cond src) f dst (kind f dst) e
 frame_after (Call id) f e = after_call (known_helper id) (kind f 1) f
 frame_after i f e = f
-
--- the edge by which an instruction is left that jumps, or does not
-abbrev pub edge_of : Bool → Edge
-edge_of true = Jump
-edge_of false = Fall

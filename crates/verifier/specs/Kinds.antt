@@ -1,5 +1,5 @@
 -- What the rules ask of one kind.
-use Rattle.std.specs.Prelude.{Bool, true, false, ◌||◌}
+use Rattle.std.specs.Prelude.{Bool, true, false}
 use Rattle.regkind.specs.declared.frames.Kind.{Kind}
 use Rattle.regkind.specs.declared.frames.Kind.TheVariants.{Unreadable, Scalar, Stack, Arg, Map, Value, ValueOrNull}
 
@@ -21,12 +21,6 @@ is_region_pointer (Arg o) = true
 is_region_pointer (Value m o) = true
 is_region_pointer k = false
 
--- the answer of a lookup, which may be tested for null
-abbrev pub is_testable : Kind → Bool
-is_testable (Value m o) = true
-is_testable (ValueOrNull m) = true
-is_testable k = false
-
 -- a number
 abbrev pub is_scalar : Kind → Bool
 is_scalar Scalar = true
@@ -37,9 +31,24 @@ abbrev pub is_map : Kind → Bool
 is_map (Map m) = true
 is_map k = false
 
--- a number or a map, neither of which is the base of a load or a store
-abbrev pub is_no_base : Kind → Bool
-is_no_base k = is_scalar k || is_map k
+-- a number or a map, through which nothing is loaded or stored
+abbrev pub cannot_be_dereferenced : Kind → Bool
+cannot_be_dereferenced Scalar = true
+cannot_be_dereferenced (Map m) = true
+cannot_be_dereferenced k = false
+
+-- a map or the answer of a lookup, whose pointer no addition moves
+abbrev pub cannot_be_moved : Kind → Bool
+cannot_be_moved (Map m) = true
+cannot_be_moved (ValueOrNull m) = true
+cannot_be_moved k = false
+
+-- a pointer that no lookup answered, which is not tested for null
+abbrev pub cannot_be_tested : Kind → Bool
+cannot_be_tested (Stack o) = true
+cannot_be_tested (Arg o) = true
+cannot_be_tested (Map m) = true
+cannot_be_tested k = false
 
 -- a pointer into the argument
 abbrev pub is_arg : Kind → Bool

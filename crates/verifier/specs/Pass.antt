@@ -1,16 +1,36 @@
 -- Internal: what one visit of an instruction does to the table of frames that the pass keeps. No public contract cites it.
-use Rattle.std.specs.Prelude.{◌≡◌, ℕ, ◌⊎◌, pos, List, Option, Some, None, ◌↔◌, slice_get, slice_set}
+use Rattle.std.specs.Prelude.{◌≡◌, ℕ, ◌⊎◌, pos, List, length, Option, Some, None, ◌↔◌, slice_get, slice_set}
 use Rattle.insn.specs.declared.instruction.Form.{Form}
-use Rattle.insn.specs.Layout.{Edge, Fall, Jump, LeadsTo}
-use Rattle.regkind.specs.Frames.{Frame, Covers, IsFrame}
+use Rattle.insn.specs.Layout.{LeadsTo, size}
+use Rattle.insn.specs.declared.instruction.Edge.{Edge}
+use Rattle.insn.specs.declared.instruction.Edge.TheVariants.{Fall, Jump}
+use Rattle.regkind.specs.Frames.{Frame, Covers, IsFrame, entry_frame}
+use Rattle.flow.specs.Structure.{StandsAt}
 use Rattle.verifier.specs.declared.refusal.VerifyFault.{VerifyFault}
 use Rattle.verifier.specs.Signature.{Signature}
 use Rattle.verifier.specs.Rules.{first_broken}
 use Rattle.verifier.specs.FrameAfter.{frame_after}
+use Rattle.verifier.specs.Typing.{IsTyping}
 
 -- for each slot the frame that has come in so far, if any has
 abbrev pub Table : Type 0
 Table = List (Option Frame)
+
+-- the frame in a slot; the entry's, where none has come in
+abbrev pub or_entry : Option (Option Frame) → Frame
+or_entry (Some (Some f)) = f
+or_entry (Some None) = entry_frame
+or_entry None = entry_frame
+
+-- the frame of each slot
+abbrev pub frame_at : Table → ℕ → Frame
+frame_at xs t = or_entry (slice_get xs t)
+
+-- the table has a frame for each instruction of the program, and these are a typing
+pub record IsTypedBy (p : List Form) (l : Signature) (xs : Table) : Type 0 where
+  pub slots : length xs ≡ size p
+  pub each : (i : Form) (s : ℕ) → StandsAt p i s → (f : Frame) × (slice_get xs s ≡ Some (Some f))
+  pub typing : IsTyping p l (frame_at xs)
 
 -- what is in the slot and the frame that comes in have this in common
 abbrev pub Meets : Option (Option Frame) → Frame → Frame → Type 0
@@ -39,6 +59,7 @@ pub record VisitsFine (l : Signature) (i : Form) (s : ℕ) (old new : Table) : T
   pub falls : Follows i s Fall (frame_after i frame Fall) old between
   pub jumps : Follows i s Jump (frame_after i frame Jump) between new
 
+-- what a visit does, and what it answers: the rule that is broken, if one is
 abbrev pub Visits : Signature → Form → ℕ → Table → Table → Option VerifyFault → Type 0
 Visits l i s old new None = VisitsFine l i s old new
 Visits l i s old new (Some why) = (f : Frame) × (slice_get old s ≡ Some (Some f)) × (first_broken l i f ≡ Some why)

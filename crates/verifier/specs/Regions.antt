@@ -43,6 +43,7 @@ pub record Access : Type 0 where
   pub distance : ℤ
   pub bytes : ℕ
 
+-- these three
 abbrev pub access : Kind → ℤ → ℕ → Access
 access base distance bytes = record { base = base; distance = distance; bytes = bytes }
 
@@ -73,6 +74,7 @@ abbrev pub has_unmarked : Signature → Frame → Kind → ℤ → ℕ → Bool
 has_unmarked l f (Stack o) d n = is_within l (Stack o) d n && not (all_marked f (stack_index (o +ℤ d)) n)
 has_unmarked l f k d n = false
 
+-- a byte of the access lies in the stack, and is not initialised
 abbrev pub is_unmarked : Signature → Frame → Access → Bool
 is_unmarked l f a = has_unmarked l f a.base a.distance a.bytes
 

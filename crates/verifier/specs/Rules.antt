@@ -1,7 +1,10 @@
 -- The rules that an instruction may break on the frame before it.
-use Rattle.std.specs.Prelude.{ℕ, Bool, true, false, not, ◌&&◌, ◌||◌, ◌==◌, nat_lt, ℤ, pos, negsuc, List, [], ◌∷◌, length, Option, Some, None, find, is_none, is_some}
+use Rattle.std.specs.Prelude.{ℕ, zero, Bool, true, false, not, ◌&&◌, ◌||◌, ◌==◌, nat_lt, ℤ, pos, negsuc, List, [], ◌∷◌, length, Option, Some, None, find, is_none}
 use Rattle.std.specs.List.{list_any}
 use Rattle.std.specs.Option.{option_map_or}
+use Rattle.insn.specs.declared.instruction.Source.TheVariants.{Reg, Imm}
+use Rattle.insn.specs.declared.instruction.Operation.TheVariants.{Add, Sub, Mov}
+use Rattle.insn.specs.declared.instruction.Condition.TheVariants.{Jeq, Jne}
 use Rattle.insn.specs.declared.instruction.Form.{Form}
 use Rattle.insn.specs.declared.instruction.Form.TheVariants.{Alu, Load, Store, MapRef, Branch, Call, Exit}
 use Rattle.regkind.specs.declared.frames.Kind.{Kind}
@@ -12,8 +15,8 @@ use Rattle.verifier.specs.declared.refusal.Mode.TheVariants.{Read}
 use Rattle.verifier.specs.declared.refusal.VerifyFault.{VerifyFault}
 use Rattle.verifier.specs.declared.refusal.VerifyFault.TheVariants.{UnreadableRegister, FramePointerWritten, UndefinedOperation, OffsetOutOfRange, OutOfRegion, UninitialisedStack, ArgumentWritten, PointerStored, UncheckedNull, HelperArgument, UnknownHelperOrMap, PointerReply, WriteInReadMode}
 use Rattle.verifier.specs.Signature.{Signature}
-use Rattle.verifier.specs.Kinds.{is_unreadable, is_pointer, is_region_pointer, is_testable, is_scalar, is_map, is_no_base, is_arg, is_value, is_value_or_null}
-use Rattle.verifier.specs.Operands.{known_helper, source_registers, reads, writes, copied, jumps_at_null}
+use Rattle.verifier.specs.Kinds.{is_unreadable, is_pointer, is_region_pointer, is_scalar, is_map, cannot_be_dereferenced, cannot_be_moved, cannot_be_tested, is_arg, is_value, is_value_or_null}
+use Rattle.verifier.specs.Operands.{known_helper, source_registers, reads, writes}
 use Rattle.insn.specs.Moves.{distance}
 use Rattle.verifier.specs.Regions.{is_within, memory_read, memory_written, is_outside, is_unmarked}
 
@@ -23,19 +26,20 @@ use Rattle.verifier.specs.Regions.{is_within, memory_read, memory_written, is_ou
 abbrev pub any_pointer : List ℕ → Frame → Bool
 any_pointer rs f = list_any (λ r. is_pointer (kind f r)) rs
 
--- it may take pointers: it copies, it moves a pointer into a region, or it tests a looked-up value for null
-abbrev pub takes_pointer : Form → Frame → Bool
-takes_pointer (Alu w64 op dst src) f = is_some (copied w64 op src) || (is_some (distance w64 op src) && is_region_pointer (kind f dst))
-takes_pointer (Branch w64 cond dst src off) f = is_some (jumps_at_null w64 cond src) && is_testable (kind f dst)
-takes_pointer i f = false
-
--- arithmetic or a branch on a pointer that it may not take; a load or a store whose base is a number or a map
+-- Arithmetic and branches are on numbers. But a MOV of 64 bits copies what a register holds, an ADD or SUB of 64 bits with
+-- an immediate moves a pointer into a region, and a JEQ or JNE of 64 bits with 0 tests the answer of a lookup for null. A
+-- load or a store needs a pointer into a region (RFC 9669, sections 4.1, 4.3, 5.1 and 5.2).
 abbrev pub misuses : Form → Frame → Bool
-misuses (Load size signed dst src off) f = is_no_base (kind f src)
-misuses (Store size dst off src) f = is_no_base (kind f dst)
+misuses (Alu true Mov dst (Reg src)) f = false
+misuses (Alu true Add dst (Imm imm)) f = cannot_be_moved (kind f dst)
+misuses (Alu true Sub dst (Imm imm)) f = cannot_be_moved (kind f dst)
+misuses (Branch true Jeq dst (Imm (pos zero)) off) f = cannot_be_tested (kind f dst)
+misuses (Branch true Jne dst (Imm (pos zero)) off) f = cannot_be_tested (kind f dst)
+misuses (Load size signed dst src off) f = cannot_be_dereferenced (kind f src)
+misuses (Store size dst off src) f = cannot_be_dereferenced (kind f dst)
 misuses (Call id) f = false
 misuses Exit f = false
-misuses i f = any_pointer (reads i) f && not (takes_pointer i f)
+misuses i f = any_pointer (reads i) f
 
 -- a pointer is moved out of its region, and not to its end
 abbrev pub leaves_region : Signature → Form → Frame → Bool
@@ -73,6 +77,7 @@ abbrev pub is_map_index : Signature → ℤ → Bool
 is_map_index l (pos m) = nat_lt m (length l.shapes)
 is_map_index l (negsuc m) = false
 
+-- the mode changes no map
 abbrev pub is_read : Mode → Bool
 is_read Read = true
 is_read mode = false

@@ -1,14 +1,17 @@
 -- Which programs are typable, and how one that isn't is refused.
 use Rattle.std.specs.Prelude.{◌≡◌, ℕ, ◌<◌, ◌≤◌, ◌⊎◌, pos, List, Some, None}
 use Rattle.insn.specs.declared.instruction.Form.{Form}
-use Rattle.insn.specs.Layout.{Edge, LeadsTo}
+use Rattle.insn.specs.Layout.{LeadsTo}
+use Rattle.insn.specs.declared.instruction.Edge.{Edge}
 use Rattle.regkind.specs.Frames.{Frame, Covers, IsFrame, entry_frame}
 use Rattle.flow.specs.Structure.{IsStructured, StandsAt, FirstBroken}
 use Rattle.flow.specs.declared.rules.StructureRule.{StructureRule}
 use Rattle.flow.specs.declared.rules.StructureRule.TheVariants as structure
 use Rattle.verifier.specs.declared.refusal.VerifyFault.{VerifyFault}
-use Rattle.verifier.specs.declared.refusal.VerifyFault.TheVariants.{NoMemory, TargetOutside, TargetNotForward, TargetInsideWide, RunsOffTheEnd, Unreachable}
+use Rattle.verifier.specs.declared.refusal.VerifyFault.TheVariants.{TargetOutside, TargetNotForward, TargetInsideWide, RunsOffTheEnd, Unreachable}
 use Rattle.verifier.specs.declared.refusal.Refused.{Refused}
+use Rattle.verifier.specs.declared.refusal.VerifyError.{VerifyError}
+use Rattle.verifier.specs.declared.refusal.VerifyError.TheVariants as answers
 use Rattle.verifier.specs.Signature.{Signature}
 use Rattle.verifier.specs.Rules.{first_broken}
 use Rattle.verifier.specs.FrameAfter.{frame_after}
@@ -58,16 +61,25 @@ structure_reason structure.TargetInsideWide = TargetInsideWide
 structure_reason structure.RunsOffTheEnd = RunsOffTheEnd
 structure_reason structure.Unreachable = Unreachable
 
--- the structure is decided for the whole program first, then kinds
+-- this is the first rule of structure that is broken: structure is decided for the whole program first, then kinds
 abbrev pub RefusedByStructure : List Form → Refused → Type 0
 RefusedByStructure p e = (rule : StructureRule) × FirstBroken p e.slot rule × (e.why ≡ structure_reason rule)
 
+-- the structure is good, and this is the first rule of kinds that is broken
 abbrev pub RefusedByKinds : List Form → Signature → Refused → Type 0
 RefusedByKinds p l e = IsStructured p × FirstBrokenKind p l e.slot e.why
 
+-- the refusal that is to be named
 abbrev pub Refuses : List Form → Signature → Refused → Type 0
 Refuses p l e = RefusedByStructure p e ⊎ RefusedByKinds p l e
 
--- want of memory, which names no slot
-abbrev pub IsNoMemory : Refused → Type 0
-IsNoMemory e = e ≡ record { slot = 0; why = NoMemory }
+-- ---- what verify answers
+
+-- there is no memory left, which says nothing of the program
+abbrev pub IsNoMemory : VerifyError → Type 0
+IsNoMemory e = e ≡ answers.NoMemory
+
+-- where the program is refused, this holds of the refusal
+abbrev pub IfRefused : (Refused → Type 0) → VerifyError → Type 0
+IfRefused P answers.NoMemory = Unit {0}
+IfRefused P (answers.Refused e) = P e

@@ -1,18 +1,18 @@
 -- The verdict on a program, computed: the refusal that names the first rule that is broken, or none.
-use Rattle.std.specs.Prelude.{◌≡◌, ℕ, zero, suc, List, Option, Some, None}
+use Rattle.std.specs.Prelude.{ℕ, zero, suc, List, Option, Some, None}
 use Rattle.std.specs.Option.{option_map}
 use Rattle.insn.specs.declared.instruction.Form.{Form}
 use Rattle.insn.specs.Layout.{size, instruction_at}
 use Rattle.regkind.specs.Frames.{Frame}
 use Rattle.flow.specs.Faults.{Fault, structure_fault}
 use Rattle.verifier.specs.declared.refusal.VerifyFault.{VerifyFault}
-use Rattle.verifier.specs.declared.refusal.VerifyFault.TheVariants.{NoMemory}
 use Rattle.verifier.specs.declared.refusal.Refused.{Refused}
 use Rattle.verifier.specs.Signature.{Signature}
 use Rattle.verifier.specs.Rules.{first_broken}
-use Rattle.verifier.specs.Typing.{structure_reason, IsNoMemory}
+use Rattle.verifier.specs.Typing.{structure_reason}
 use Rattle.verifier.specs.Joined.{joined_frame}
 
+-- the refusal of a rule at a slot
 abbrev pub refused : ℕ → VerifyFault → Refused
 refused slot why = record { slot = slot; why = why }
 
@@ -21,6 +21,7 @@ abbrev pub refusal_of : Signature → Option Form → Option Frame → ℕ → O
 refusal_of l (Some i) (Some f) s = option_map (refused s) (first_broken l i f)
 refusal_of l o f s = None
 
+-- the first of two refusals
 abbrev pub or_else : Option Refused → Option Refused → Option Refused
 or_else (Some e) other = Some e
 or_else None other = other
@@ -35,15 +36,6 @@ abbrev pub after_structure : Option Fault → Option Refused → Option Refused
 after_structure (Some f) other = Some (refused f.slot (structure_reason f.rule))
 after_structure None other = other
 
+-- the verdict on a program
 unfoldable pub verdict : List Form → Signature → Option Refused
 verdict p l = after_structure (structure_fault p) (lowest_refusal p l (size p))
-
--- ---- what verify answers, by the verdict
-
--- want of memory says nothing of the program, and names no slot; any other refusal is the verdict
-abbrev pub fails_by : VerifyFault → Refused → Option Refused → Type 0
-fails_by NoMemory e read = IsNoMemory e
-fails_by why e read = read ≡ Some e
-
-abbrev pub VerifyFails : Refused → Option Refused → Type 0
-VerifyFails e read = fails_by e.why e read

@@ -5,45 +5,41 @@ ghost use Rattle.std.specs.List.{list_any};
 ghost use Rattle.insn.specs.declared.instruction.Form.TheVariants as form;
 ghost use Rattle.insn.specs.Encoding.{IsSource};
 ghost use Rattle.regkind.specs.Frames as frames;
-ghost use Rattle.verifier.specs.declared.refusal.Mode.{Mode};
-ghost use Rattle.verifier.specs.Signature.{signature};
 ghost use Rattle.verifier.specs.Kinds.{is_unreadable, is_pointer};
 ghost use Rattle.verifier.specs.Operands.{source_registers};
 ghost use Rattle.verifier.specs.Rules.{first_broken, any_pointer};
 
+use crate::context::Context;
 use crate::refusal::{Mode, VerifyFault};
 use crate::regions::{
-    byte_count, has_unmarked, is_arg, is_no_base, is_pointer, is_region_pointer, is_unreadable,
-    is_value, is_value_or_null, is_within, key_size,
+    cannot_be_dereferenced, has_unmarked, is_arg, is_pointer, is_region_pointer, is_unreadable,
+    is_value, is_value_or_null,
 };
 use insn::{Size, Source};
-use maps::Shape;
 use regkind::{Frame, Kind};
 
 // A load of bytes of memory.
 pub(crate) fn broken_by_load(
-    shapes: &[Shape],
-    arg_len: usize,
-    f: &Frame,
+    on: &Context,
     size: Size,
     dst: u8,
     src: u8,
     off: i16,
 ) -> Option<VerifyFault>
     requires src { src < 11 }
-    ensures { (mode : Mode) (signed : Bool) → result ≡ first_broken (signature shapes.now arg_len mode) (form.Load size signed dst src off) f.now }
+    ensures { (signed : Bool) → result ≡ first_broken on.now.signature.now (form.Load size signed dst src off) on.now.frame.now }
 {
-    let base = f.kind(src);
-    let bytes = byte_count(size);
+    let base = on.frame.kind(src);
+    let bytes = size.bytes();
     if is_unreadable(base) {
         Some(VerifyFault::UnreadableRegister)
     } else if dst == 10 {
         Some(VerifyFault::FramePointerWritten)
-    } else if is_no_base(base) {
+    } else if cannot_be_dereferenced(base) {
         Some(VerifyFault::UndefinedOperation)
-    } else if !is_within(shapes, arg_len, base, off as i64, bytes) {
+    } else if !on.signature.is_within(base, off as i64, bytes) {
         Some(VerifyFault::OutOfRegion)
-    } else if has_unmarked(f, base, off as i64, bytes) {
+    } else if has_unmarked(on.frame, base, off as i64, bytes) {
         Some(VerifyFault::UninitialisedStack)
     } else if is_value_or_null(base) {
         Some(VerifyFault::UncheckedNull)
@@ -54,10 +50,7 @@ pub(crate) fn broken_by_load(
 
 // A store of bytes into memory.
 pub(crate) fn broken_by_store(
-    shapes: &[Shape],
-    arg_len: usize,
-    mode: Mode,
-    f: &Frame,
+    on: &Context,
     size: Size,
     dst: u8,
     off: i16,
@@ -65,15 +58,15 @@ pub(crate) fn broken_by_store(
 ) -> Option<VerifyFault>
     requires dst { dst < 11 }
     requires src { IsSource src }
-    ensures { result ≡ first_broken (signature shapes.now arg_len mode) (form.Store size dst off src) f.now }
+    ensures { result ≡ first_broken on.now.signature.now (form.Store size dst off src) on.now.frame.now }
 {
-    let target = f.kind(dst);
-    let stored = source_kind(f, src);
+    let target = on.frame.kind(dst);
+    let stored = source_kind(on.frame, src);
     if is_unreadable(target) || is_unreadable(stored) {
         Some(VerifyFault::UnreadableRegister)
-    } else if is_no_base(target) {
+    } else if cannot_be_dereferenced(target) {
         Some(VerifyFault::UndefinedOperation)
-    } else if !is_within(shapes, arg_len, target, off as i64, byte_count(size)) {
+    } else if !on.signature.is_within(target, off as i64, size.bytes()) {
         Some(VerifyFault::OutOfRegion)
     } else if is_arg(target) {
         Some(VerifyFault::ArgumentWritten)
@@ -81,7 +74,7 @@ pub(crate) fn broken_by_store(
         Some(VerifyFault::PointerStored)
     } else if is_value_or_null(target) {
         Some(VerifyFault::UncheckedNull)
-    } else if mode == Mode::Read && is_value(target) {
+    } else if on.signature.mode() == Mode::Read && is_value(target) {
         Some(VerifyFault::WriteInReadMode)
     } else {
         None
@@ -101,34 +94,29 @@ pub(crate) fn source_kind(f: &Frame, src: Source) -> Kind
 }
 
 // A call of a helper; the lookup in a map, helper 1, alone is known.
-pub(crate) fn broken_by_call(
-    shapes: &[Shape],
-    arg_len: usize,
-    f: &Frame,
-    id: i32,
-) -> Option<VerifyFault>
-    ensures { (mode : Mode) → result ≡ first_broken (signature shapes.now arg_len mode) (form.Call id) f.now }
+pub(crate) fn broken_by_call(on: &Context, id: i32) -> Option<VerifyFault>
+    ensures { result ≡ first_broken on.now.signature.now (form.Call id) on.now.frame.now }
 {
     match id {
-        1 => broken_by_lookup(shapes, arg_len, f),
+        1 => broken_by_lookup(on),
         _ => Some(VerifyFault::UnknownHelperOrMap),
     }
 }
 
 // A lookup of the key at R2 in the map in R1.
-fn broken_by_lookup(shapes: &[Shape], arg_len: usize, f: &Frame) -> Option<VerifyFault>
-    ensures { (mode : Mode) → result ≡ first_broken (signature shapes.now arg_len mode) (form.Call (pos 1)) f.now }
+fn broken_by_lookup(on: &Context) -> Option<VerifyFault>
+    ensures { result ≡ first_broken on.now.signature.now (form.Call (pos 1)) on.now.frame.now }
 {
-    let (first, key) = (f.kind(1), f.kind(2));
+    let (first, key) = (on.frame.kind(1), on.frame.kind(2));
     if is_unreadable(first) || is_unreadable(key) {
         return Some(VerifyFault::UnreadableRegister);
     }
     match first {
         Kind::Map(map) => {
-            let bytes = key_size(shapes, map);
-            if !is_within(shapes, arg_len, key, 0, bytes) {
+            let bytes = on.signature.key_size(map);
+            if !on.signature.is_within(key, 0, bytes) {
                 Some(VerifyFault::OutOfRegion)
-            } else if has_unmarked(f, key, 0, bytes) {
+            } else if has_unmarked(on.frame, key, 0, bytes) {
                 Some(VerifyFault::UninitialisedStack)
             } else if !is_region_pointer(key) {
                 Some(VerifyFault::HelperArgument)

@@ -5,16 +5,15 @@ ghost use Rattle.insn.specs.declared.instruction.Form.TheVariants as form;
 ghost use Rattle.insn.specs.declared.instruction.Operation.TheVariants as operation;
 ghost use Rattle.insn.specs.declared.instruction.Source.TheVariants as source;
 ghost use Rattle.regkind.specs.Frames as frames;
-ghost use Rattle.verifier.specs.declared.refusal.Mode.{Mode};
-ghost use Rattle.verifier.specs.Signature.{Signature, signature};
+ghost use Rattle.verifier.specs.Signature.{Signature};
 ghost use Rattle.verifier.specs.Regions.{IsShort};
 ghost use Rattle.verifier.specs.Rules.{first_broken};
 
-use crate::operands::{copied, distance, is_mov};
+use crate::context::Context;
+use crate::operands::{copied, is_mov};
 use crate::refusal::VerifyFault;
-use crate::regions::{is_pointer, is_region_pointer, is_unreadable, is_within};
-use insn::{Operation, Source};
-use maps::Shape;
+use crate::regions::{cannot_be_moved, is_pointer, is_unreadable};
+use insn::{Operation, Source, distance};
 use regkind::Frame;
 
 // R10, the frame pointer, is read-only.
@@ -30,44 +29,36 @@ pub(crate) fn frame_pointer_written(dst: u8) -> Option<VerifyFault>
 
 // Arithmetic with an immediate: a pointer is moved, a number is made, or one is computed.
 pub(crate) fn broken_by_immediate(
-    shapes: &[Shape],
-    arg_len: usize,
-    f: &Frame,
+    on: &Context,
     w64: bool,
     op: Operation,
     dst: u8,
     imm: i32,
 ) -> Option<VerifyFault>
     requires dst { dst < 11 }
-    ensures { (mode : Mode) → result ≡ first_broken (signature shapes.now arg_len mode) (form.Alu w64 op dst (source.Imm imm)) f.now }
+    ensures { result ≡ first_broken on.now.signature.now (form.Alu w64 op dst (source.Imm imm)) on.now.frame.now }
 {
     match distance(w64, op, Source::Imm(imm)) {
-        Some(by) => broken_by_move(shapes, arg_len, f, dst, by),
+        Some(by) => broken_by_move(on, dst, by),
         None if is_mov(op) => frame_pointer_written(dst),
-        None => broken_by_unary(f, dst, dst),
+        None => broken_by_unary(on.frame, dst, dst),
     }
 }
 
 // A pointer is moved so far, or a number is added.
-fn broken_by_move(
-    shapes: &[Shape],
-    arg_len: usize,
-    f: &Frame,
-    dst: u8,
-    by: i64,
-) -> Option<VerifyFault>
+fn broken_by_move(on: &Context, dst: u8, by: i64) -> Option<VerifyFault>
     requires dst { dst < 11 }
     requires short { IsShort by }
-    ensures { (mode : Mode) → result ≡ first_broken (signature shapes.now arg_len mode) (form.Alu true operation.Add dst (source.Imm by)) f.now }
+    ensures { result ≡ first_broken on.now.signature.now (form.Alu true operation.Add dst (source.Imm by)) on.now.frame.now }
 {
-    let kind = f.kind(dst);
+    let kind = on.frame.kind(dst);
     if is_unreadable(kind) {
         Some(VerifyFault::UnreadableRegister)
     } else if dst == 10 {
         Some(VerifyFault::FramePointerWritten)
-    } else if is_pointer(kind) && !is_region_pointer(kind) {
+    } else if cannot_be_moved(kind) {
         Some(VerifyFault::UndefinedOperation)
-    } else if !is_within(shapes, arg_len, kind, by, 0) {
+    } else if !on.signature.is_within(kind, by, 0) {
         Some(VerifyFault::OffsetOutOfRange)
     } else {
         None

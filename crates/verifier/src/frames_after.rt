@@ -2,46 +2,37 @@
 
 ghost use Rattle.std.specs.Prelude.{◌≡◌, ◌<◌, ◌≤◌, ◌≤ℤ◌, ◌<ℤ◌, Some, None, IfSome, pos, unsigned_abs};
 ghost use Rattle.insn.specs.Encoding.{HasEncoding, IsSource};
-ghost use Rattle.maps.specs.Shapes.{AreShapesOk};
 ghost use Rattle.maps.specs.Values.{Lookup};
 ghost use Rattle.regkind.specs.declared.frames.Kind.TheVariants as kinds;
 ghost use Rattle.regkind.specs.Frames.{kind, with_kind};
-ghost use Rattle.verifier.specs.Signature.{signature};
+ghost use Rattle.verifier.specs.Signature.{IsSignatureOk};
 ghost use Rattle.verifier.specs.Operands.{copied};
 ghost use Rattle.insn.specs.Moves.{distance};
 ghost use Rattle.verifier.specs.Regions.{IsShort, StaysInStack};
 ghost use Rattle.verifier.specs.Rules.{first_broken};
-ghost use Rattle.verifier.specs.FrameAfter.{frame_after, edge_of, after_call, shifted, FitsShift, result_kind, after_store, after_test, without_arguments};
+ghost use Rattle.verifier.specs.FrameAfter.{frame_after, is_null_on, after_call, shifted, FitsShift, result_kind, after_store, after_test, without_arguments};
 
-use crate::operands::{copied, distance, jumps_at_null};
-use crate::refusal::Mode;
-use crate::regions::{byte_count, moved, stack_bytes};
-use insn::{Form, Operation, Source};
-use maps::Shape;
+use crate::context::Context;
+use crate::operands::{copied, jumps_at_null};
+use crate::regions::{moved, stack_bytes};
+use insn::{Edge, Form, Operation, Source, distance};
 use regkind::{Frame, Kind};
 
 /// The frame after an instruction that breaks no rule on the frame before it, where it jumps or falls through.
-pub fn frame_after(
-    shapes: &[Shape],
-    arg_len: usize,
-    mode: Mode,
-    i: Form,
-    f: &Frame,
-    jumps: bool,
-) -> Frame
+pub(crate) fn frame_after(on: &Context, i: Form, edge: Edge) -> Frame
     requires instruction { HasEncoding i }
-    requires shapes { AreShapesOk shapes.now }
-    requires argument { arg_len ≤ 64 }
-    requires unbroken { first_broken (signature shapes.now arg_len mode) i f.now ≡ None }
-    ensures { result ≡ frame_after i f.now (edge_of jumps) }
+    requires limits { IsSignatureOk on.now.signature.now }
+    requires unbroken { first_broken on.now.signature.now i on.now.frame.now ≡ None }
+    ensures { result ≡ frame_after i on.now.frame.now edge }
 {
+    let f = on.frame;
     match i {
         Form::Alu { w64, op, dst, src } => with_kind(f, dst, result_kind(f, w64, op, dst, src)),
         Form::Neg { dst, .. } => with_kind(f, dst, Kind::Scalar),
         Form::MovSx { dst, .. } => with_kind(f, dst, Kind::Scalar),
         Form::Swap { dst, .. } => with_kind(f, dst, Kind::Scalar),
         Form::Load { dst, .. } => with_kind(f, dst, Kind::Scalar),
-        Form::Store { size, dst, off, .. } => after_store(f, f.kind(dst), off, byte_count(size)),
+        Form::Store { size, dst, off, .. } => after_store(f, f.kind(dst), off, size.bytes()),
         Form::Imm64 { dst, .. } => with_kind(f, dst, Kind::Scalar),
         Form::MapRef { dst, index } => with_kind(f, dst, map_kind(index)),
         Form::Branch {
@@ -50,7 +41,7 @@ pub fn frame_after(
             dst,
             src,
             ..
-        } => after_test(f, dst, jumps_at_null(w64, cond, src), jumps),
+        } => after_test(f, dst, jumps_at_null(w64, cond, src), edge),
         Form::Call { id: 1 } => after_lookup(f),
         Form::Call { .. } | Form::Ja { .. } | Form::Exit => *f,
     }
@@ -106,26 +97,26 @@ fn map_kind(index: i32) -> Kind
 }
 
 // Bytes that are stored in the stack are initialised.
-fn after_store(f: &Frame, base: Kind, off: i16, bytes: u32) -> Frame
+fn after_store(f: &Frame, base: Kind, off: i16, bytes: usize) -> Frame
     requires within { StaysInStack base off bytes }
     ensures { result ≡ after_store f.now base off bytes }
 {
     let mut after = *f;
     if let Kind::Stack(offset) = base {
         if let Some(first) = stack_bytes(moved(offset, off as i64), bytes) {
-            after.mark(first, bytes as usize);
+            after.mark(first, bytes);
         }
     }
     after
 }
 
 // A register that is tested for null is a number where it is null, else a pointer to a value.
-fn after_test(f: &Frame, register: u8, jumps_at_null: Option<bool>, jumps: bool) -> Frame
+fn after_test(f: &Frame, register: u8, jumps_at_null: Option<bool>, edge: Edge) -> Frame
     requires register { register < 11 }
-    ensures { result ≡ after_test jumps_at_null f.now register (kind f.now register) (edge_of jumps) }
+    ensures { result ≡ after_test jumps_at_null f.now register (kind f.now register) edge }
 {
     match (jumps_at_null, f.kind(register)) {
-        (Some(at_null), Kind::ValueOrNull(_)) if jumps == at_null => with_kind(
+        (Some(jumps), Kind::ValueOrNull(_)) if is_null_on(jumps, edge) => with_kind(
             f,
             register,
             Kind::Scalar,
@@ -133,6 +124,13 @@ fn after_test(f: &Frame, register: u8, jumps_at_null: Option<bool>, jumps: bool)
         (Some(_), Kind::ValueOrNull(map)) => with_kind(f, register, Kind::Value(map, 0)),
         _ => *f,
     }
+}
+
+// Whether the tested register is null on this edge: where the test jumps at null, or else where it falls through.
+fn is_null_on(jumps: bool, edge: Edge) -> bool
+    ensures { result ≡ is_null_on jumps edge }
+{
+    jumps == (edge == Edge::Jump)
 }
 
 // After a lookup R0 is a pointer to a value or null, and R1 to R5 are unreadable.

@@ -3,7 +3,7 @@
 ghost use Rattle.std.specs.Prelude.{◌≡◌, ◌↔◌, List, None, Some};
 ghost use Rattle.std.specs.List.{AllByRecursion};
 ghost use Rattle.insn.specs.declared.instruction.Form.{Form};
-ghost use Rattle.insn.specs.Encoding.{IsInstruction};
+ghost use Rattle.insn.specs.Encoding.{HasEncoding};
 ghost use Rattle.verifier.specs.declared.refusal.Refused.{Refused};
 ghost use Rattle.verifier.specs.Signature.{Signature};
 ghost use Rattle.verifier.specs.Typing.{IsTypable, Refuses};
@@ -11,15 +11,15 @@ ghost use Rattle.verifier.specs.Verdict.{verdict};
 
 /// The verdict is no refusal exactly where a program is typable.
 pub fn no_refusal_where_typable()
-    ensures { (p : List Form) (l : Signature) → AllByRecursion IsInstruction p → (verdict p l ≡ None) ↔ IsTypable p l }
+    ensures { (p : List Form) (l : Signature) → AllByRecursion HasEncoding p → (verdict p l ≡ None) ↔ IsTypable p l }
 {}
 
 /// The verdict is the refusal that is to be named.
 pub fn refusal_is_first_broken()
-    ensures { (p : List Form) (l : Signature) (e : Refused) → AllByRecursion IsInstruction p → (verdict p l ≡ Some e) ↔ Refuses p l e }
+    ensures { (p : List Form) (l : Signature) (e : Refused) → AllByRecursion HasEncoding p → (verdict p l ≡ Some e) ↔ Refuses p l e }
 {}
 
 /// A refused program has no typing at all.
 pub fn refused_is_untypable()
-    ensures { (p : List Form) (l : Signature) (e : Refused) → AllByRecursion IsInstruction p → Refuses p l e → IsTypable p l → ⊥ }
+    ensures { (p : List Form) (l : Signature) (e : Refused) → AllByRecursion HasEncoding p → Refuses p l e → IsTypable p l → ⊥ }
 {}

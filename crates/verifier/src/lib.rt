@@ -4,19 +4,19 @@
 mod accepted;
 mod accesses;
 mod arithmetic;
-mod edges;
+mod context;
 mod frames_after;
 mod laws;
 mod operands;
 mod refusal;
 mod regions;
 mod rules;
-#[cfg(test)]
-mod tests;
+mod signature;
 mod verification;
 mod visiting;
 
 pub use accepted::Accepted;
 pub use laws::{no_refusal_where_typable, refusal_is_first_broken, refused_is_untypable};
-pub use refusal::{Mode, Refused, VerifyFault};
+pub use refusal::{Mode, Refused, VerifyError, VerifyFault};
+pub use signature::MAX_ARG_LEN;
 pub use verification::verify;

@@ -1,9 +1,7 @@
 // Where an instruction may take a pointer for a number.
 
-ghost use Rattle.std.specs.Prelude.{◌≡◌, IfSome};
+ghost use Rattle.std.specs.Prelude.{◌≡◌};
 ghost use Rattle.verifier.specs.Operands.{is_mov, copied, jumps_at_null};
-ghost use Rattle.insn.specs.Moves.{distance};
-ghost use Rattle.verifier.specs.Regions.{IsShort};
 
 use insn::{Condition, Operation, Source};
 
@@ -20,18 +18,6 @@ pub(crate) fn copied(w64: bool, op: Operation, src: Source) -> Option<u8>
 {
     match (w64, op, src) {
         (true, Operation::Mov, Source::Reg(register)) => Some(register),
-        _ => None,
-    }
-}
-
-// How far an ADD or SUB of 64 bits with an immediate moves a pointer.
-pub(crate) fn distance(w64: bool, op: Operation, src: Source) -> Option<i64>
-    ensures moved { result ≡ distance w64 op src }
-    ensures short { IfSome result IsShort }
-{
-    match (w64, op, src) {
-        (true, Operation::Add, Source::Imm(imm)) => Some(imm as i64),
-        (true, Operation::Sub, Source::Imm(imm)) => Some(-(imm as i64)),
         _ => None,
     }
 }

@@ -1,8 +1,11 @@
 // What a program is checked for, and why it is refused.
 
 ghost use Rattle.std.specs.Prelude.{◌≡◌};
-ghost use Rattle.verifier.specs.Numbers.{fault_number};
+ghost use Rattle.verifier.specs.Numbers.{fault_number, error_number, error_slot};
 
+use std::alloc::AllocError;
+use std::error::Error;
+use std::fmt;
 use thiserror::Error;
 
 /// Whether a program may change maps.
@@ -12,46 +15,45 @@ pub enum Mode {
     Read,
 }
 
-/// Why a program is refused. Structure is decided for the whole program first, then kinds.
-#[derive(Clone, Copy, PartialEq, Eq, Debug, Error)]
+/// Why a program is refused. Structure is decided for the whole program first, then kinds. Each rule has its number, from
+/// 1 to 18.
+#[derive(Clone, Copy, PartialEq, Eq, Debug)]
 pub enum VerifyFault {
-    #[error("V0: no memory")]
-    NoMemory,
-    #[error("V1: the jump leads outside the program")]
+    /// A jump leads below slot 0 or behind the last slot.
     TargetOutside,
-    #[error("V2: the jump does not lead forward")]
+    /// A jump leads to itself or backward.
     TargetNotForward,
-    #[error("V3: the jump leads into the second half of a wide instruction")]
+    /// A jump leads into the second half of a wide instruction.
     TargetInsideWide,
-    #[error("V4: the program runs off its end")]
+    /// The last instruction is neither EXIT nor JA; also that there is no instruction, or more than 4,096 slots.
     RunsOffTheEnd,
-    #[error("V5: the instruction is never reached")]
+    /// Nothing leads to the instruction.
     Unreachable,
-    #[error("V6: a register is read that has no readable value on every way here")]
+    /// A register is read of which nothing is known on some way here.
     UnreadableRegister,
-    #[error("V7: R10 is written, which is read-only")]
+    /// R10, which is read-only, is written.
     FramePointerWritten,
-    #[error("V8: the operation is not defined on these kinds of value")]
+    /// The operation is not defined on a pointer, or a load or a store goes through a number or a map.
     UndefinedOperation,
-    #[error("V9: the moved pointer leaves its region")]
+    /// A pointer is moved out of its region.
     OffsetOutOfRange,
-    #[error("V10: the access lies outside its region")]
+    /// A byte that is loaded, stored or given to a helper lies outside the pointer's region.
     OutOfRegion,
-    #[error("V11: a byte of the stack is read that was not written on every way here")]
+    /// A byte of the stack is read that was not written on every way here.
     UninitialisedStack,
-    #[error("V12: the argument is written, which is read-only")]
+    /// A byte of the argument, which is read-only, is written.
     ArgumentWritten,
-    #[error("V13: a pointer is stored")]
+    /// A pointer is stored in memory.
     PointerStored,
-    #[error("V14: a looked-up value is used before it is tested for null")]
+    /// The answer of a lookup is used before it is tested for null.
     UncheckedNull,
-    #[error("V15: an argument of the helper has the wrong kind")]
+    /// An argument of the helper has the wrong kind.
     HelperArgument,
-    #[error("V16: the helper or the map is not known")]
+    /// The helper or the map is not known.
     UnknownHelperOrMap,
-    #[error("V17: the reply is not a number")]
+    /// The reply in R0 is a pointer.
     PointerReply,
-    #[error("V18: a program in Read mode changes a map")]
+    /// A program in Read mode changes a map.
     WriteInReadMode,
 }
 
@@ -60,14 +62,109 @@ impl VerifyFault {
     pub fn number(self) -> u8
         ensures { result ≡ fault_number self }
     {
-        self as u8
+        self as u8 + 1
+    }
+
+    // What is wrong, in words.
+    fn text(self) -> &'static str {
+        match self {
+            VerifyFault::TargetOutside => "the jump leads outside the program",
+            VerifyFault::TargetNotForward => "the jump does not lead forward",
+            VerifyFault::TargetInsideWide => {
+                "the jump leads into the second half of a wide instruction"
+            }
+            VerifyFault::RunsOffTheEnd => "the program runs off its end",
+            VerifyFault::Unreachable => "the instruction is never reached",
+            VerifyFault::UnreadableRegister => {
+                "a register is read that has no readable value on every way here"
+            }
+            VerifyFault::FramePointerWritten => "R10 is written, which is read-only",
+            VerifyFault::UndefinedOperation => {
+                "the operation is not defined on these kinds of value"
+            }
+            VerifyFault::OffsetOutOfRange => "the moved pointer leaves its region",
+            VerifyFault::OutOfRegion => "the access lies outside its region",
+            VerifyFault::UninitialisedStack => {
+                "a byte of the stack is read that was not written on every way here"
+            }
+            VerifyFault::ArgumentWritten => "the argument is written, which is read-only",
+            VerifyFault::PointerStored => "a pointer is stored",
+            VerifyFault::UncheckedNull => {
+                "a looked-up value is used before it is tested for null"
+            }
+            VerifyFault::HelperArgument => "an argument of the helper has the wrong kind",
+            VerifyFault::UnknownHelperOrMap => "the helper or the map is not known",
+            VerifyFault::PointerReply => "the reply is not a number",
+            VerifyFault::WriteInReadMode => "a program in Read mode changes a map",
+        }
     }
 }
 
-/// A refusal, with the slot of the instruction (0 for want of memory).
+impl fmt::Display for VerifyFault {
+    fn fmt<W: fmt::Write>(&self, f: &mut fmt::Formatter<W>) -> fmt::Result {
+        write!(f, "V{}: {}", self.number(), self.text())
+    }
+}
+
+impl Error for VerifyFault {}
+
+/// A refusal, with the slot of the instruction that breaks the rule, from 0.
 #[derive(Clone, Copy, PartialEq, Eq, Debug, Error)]
 #[error("slot {slot}: {why}")]
 pub struct Refused {
     pub slot: u32,
     pub why: VerifyFault,
+}
+
+/// Why a program is not accepted.
+#[derive(Clone, Copy, PartialEq, Eq, Debug, Error)]
+pub enum VerifyError {
+    /// There is no memory left, which says nothing of the program.
+    #[error("V0: no memory")]
+    NoMemory,
+    /// The program breaks a rule.
+    #[error("{0}")]
+    Refused(Refused),
+}
+
+impl VerifyError {
+    /// The number after the `V`: 0 where there is no memory left.
+    pub fn number(self) -> u8
+        ensures { result ≡ error_number self }
+    {
+        match self {
+            VerifyError::NoMemory => 0,
+            VerifyError::Refused(refused) => refused.why.number(),
+        }
+    }
+
+    /// The slot of the instruction that breaks the rule: 0 where there is no memory left.
+    pub fn slot(self) -> u32
+        ensures { result ≡ error_slot self }
+    {
+        match self {
+            VerifyError::NoMemory => 0,
+            VerifyError::Refused(refused) => refused.slot,
+        }
+    }
+}
+
+impl From<AllocError> for VerifyError {
+    ghost use Rattle.verifier.specs.declared.refusal.VerifyError.TheVariants.{NoMemory};
+
+    ghost from_gives = { λ _ e. e ≡ NoMemory };
+
+    fn from(_e: AllocError) -> VerifyError {
+        VerifyError::NoMemory
+    }
+}
+
+impl From<Refused> for VerifyError {
+    ghost use Rattle.verifier.specs.declared.refusal.VerifyError.TheVariants as answers;
+
+    ghost from_gives = { λ refused e. e ≡ answers.Refused refused };
+
+    fn from(refused: Refused) -> VerifyError {
+        VerifyError::Refused(refused)
+    }
 }

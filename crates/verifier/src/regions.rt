@@ -1,15 +1,11 @@
 // Kinds, the regions that pointers point into, and how far an access goes there.
 
 ghost use Rattle.std.specs.Prelude.{◌≡◌, ◌+◌, ◌≤◌, ◌+ℤ◌, pos, negsuc, is_some, IfSome};
-ghost use Rattle.insn.specs.Sizes.{byte_count};
-ghost use Rattle.maps.specs.Shapes as sizes;
-ghost use Rattle.verifier.specs.declared.refusal.Mode.{Mode};
-ghost use Rattle.verifier.specs.Signature.{Signature, signature};
-ghost use Rattle.verifier.specs.Kinds.{is_unreadable, is_pointer, is_region_pointer, is_testable, is_no_base, is_arg, is_value, is_value_or_null};
-ghost use Rattle.verifier.specs.Regions.{size_of, lies_in, is_within, stack_index, has_unmarked, IsShort, IsSmall};
+ghost use Rattle.verifier.specs.Signature.{Signature};
+ghost use Rattle.verifier.specs.Kinds.{is_unreadable, is_pointer, is_region_pointer, is_arg, is_value, is_value_or_null};
+ghost use Rattle.verifier.specs.Kinds.{cannot_be_dereferenced, cannot_be_moved, cannot_be_tested};
+ghost use Rattle.verifier.specs.Regions.{lies_in, stack_index, has_unmarked, IsShort, IsSmall};
 
-use insn::Size;
-use maps::Shape;
 use regkind::{Frame, Kind};
 
 // Nothing is known of the register.
@@ -33,16 +29,23 @@ pub(crate) fn is_region_pointer(kind: Kind) -> bool
     matches!(kind, Kind::Stack(_) | Kind::Arg(_) | Kind::Value(_, _))
 }
 
-// The answer of a lookup.
-pub(crate) fn is_testable(kind: Kind) -> bool
-    ensures { result ≡ is_testable kind }
+// A map or the answer of a lookup, whose pointer no addition moves.
+pub(crate) fn cannot_be_moved(kind: Kind) -> bool
+    ensures { result ≡ cannot_be_moved kind }
 {
-    matches!(kind, Kind::Value(_, _) | Kind::ValueOrNull(_))
+    matches!(kind, Kind::Map(_) | Kind::ValueOrNull(_))
+}
+
+// A pointer that no lookup answered, which is not tested for null.
+pub(crate) fn cannot_be_tested(kind: Kind) -> bool
+    ensures { result ≡ cannot_be_tested kind }
+{
+    matches!(kind, Kind::Stack(_) | Kind::Arg(_) | Kind::Map(_))
 }
 
 // A number or a map, through which nothing is loaded or stored.
-pub(crate) fn is_no_base(kind: Kind) -> bool
-    ensures { result ≡ is_no_base kind }
+pub(crate) fn cannot_be_dereferenced(kind: Kind) -> bool
+    ensures { result ≡ cannot_be_dereferenced kind }
 {
     matches!(kind, Kind::Scalar | Kind::Map(_))
 }
@@ -68,52 +71,6 @@ pub(crate) fn is_value_or_null(kind: Kind) -> bool
     matches!(kind, Kind::ValueOrNull(_))
 }
 
-// The size of the keys of a map.
-pub(crate) fn key_size(shapes: &[Shape], map: u8) -> u32
-    ensures { result ≡ size_of sizes.key_size shapes.now map }
-{
-    match shapes.get(map as usize) {
-        None => 0,
-        Some(Shape::Array { .. }) => 4,
-        Some(Shape::Hash { key, .. }) => *key,
-    }
-}
-
-// The size of the values of a map.
-fn value_size(shapes: &[Shape], map: u8) -> u32
-    ensures { result ≡ size_of sizes.value_size shapes.now map }
-{
-    match shapes.get(map as usize) {
-        None => 0,
-        Some(Shape::Array { value, .. } | Shape::Hash { value, .. }) => *value,
-    }
-}
-
-// So many bytes at a distance from a pointer of this kind lie in its region.
-pub(crate) fn is_within(
-    shapes: &[Shape],
-    arg_len: usize,
-    kind: Kind,
-    distance: i64,
-    bytes: u32,
-) -> bool
-    requires short { IsShort distance }
-    ensures { (mode : Mode) → result ≡ is_within (signature shapes.now arg_len mode) kind distance bytes }
-{
-    match kind {
-        Kind::Stack(offset) => stack_bytes(moved(offset, distance), bytes).is_some(),
-        Kind::Arg(offset) => is_in_block(arg_len, moved(offset, distance), bytes),
-        Kind::Value(map, offset) => {
-            is_in_block(
-                value_size(shapes, map) as usize,
-                moved(offset, distance),
-                bytes,
-            )
-        }
-        _ => true,
-    }
-}
-
 // An offset at a distance from another one.
 pub(crate) fn moved(offset: i16, distance: i64) -> i64
     requires short { IsShort distance }
@@ -124,13 +81,13 @@ pub(crate) fn moved(offset: i16, distance: i64) -> i64
 }
 
 // The first of so many bytes from an offset on, counted from the stack's lower end, where they lie in the stack.
-pub(crate) fn stack_bytes(at: i64, bytes: u32) -> Option<usize>
+pub(crate) fn stack_bytes(at: i64, bytes: usize) -> Option<usize>
     requires small { IsSmall at }
     ensures within { is_some result ≡ lies_in (negsuc 511) (pos 0) at bytes }
     ensures first { IfSome result (λ k. k ≡ stack_index at) }
     ensures room { IfSome result (λ k. k + bytes ≤ 512) }
 {
-    if at >= -512 && at + bytes as i64 <= 0 {
+    if at >= -512 && at <= 0 && bytes <= -at as usize {
         Some((at + 512) as usize)
     } else {
         None
@@ -138,35 +95,23 @@ pub(crate) fn stack_bytes(at: i64, bytes: u32) -> Option<usize>
 }
 
 // So many bytes from an offset on lie in a block of this size.
-fn is_in_block(size: usize, at: i64, bytes: u32) -> bool
+pub(crate) fn is_in_block(size: usize, at: i64, bytes: usize) -> bool
     requires small { IsSmall at }
     ensures { result ≡ lies_in (pos 0) (pos size) at bytes }
 {
-    at >= 0 && at as u64 + bytes as u64 <= size as u64
+    at >= 0 && at as usize <= size && bytes <= size - at as usize
 }
 
 // So many bytes at a distance from a pointer of this kind lie in the stack, and one is not initialised.
-pub(crate) fn has_unmarked(f: &Frame, kind: Kind, distance: i64, bytes: u32) -> bool
+pub(crate) fn has_unmarked(f: &Frame, kind: Kind, distance: i64, bytes: usize) -> bool
     requires short { IsShort distance }
     ensures { (l : Signature) → result ≡ has_unmarked l f.now kind distance bytes }
 {
     match kind {
         Kind::Stack(offset) => match stack_bytes(moved(offset, distance), bytes) {
-            Some(first) => !f.are_marked(first, bytes as usize),
+            Some(first) => !f.are_marked(first, bytes),
             None => false,
         },
         _ => false,
-    }
-}
-
-// How many bytes a load or a store of this size moves.
-pub(crate) fn byte_count(size: Size) -> u32
-    ensures { result ≡ byte_count size }
-{
-    match size {
-        Size::Byte => 1,
-        Size::Half => 2,
-        Size::Word => 4,
-        Size::Double => 8,
     }
 }

@@ -1,24 +1,25 @@
 // The verifier: structure first, then one pass over the instructions in program order.
 
-ghost use Rattle.std.specs.Prelude.{◌≡◌, ◌<◌, ◌≤◌, ◌⊎◌, None, replicate, slice_set, IfOk, IfErr, OnOk, MatchResult};
+ghost use Rattle.std.specs.Prelude.{◌≡◌, ◌<◌, ◌≤◌, None, Some, replicate, slice_set, IfOk, IfErr, OnOk, MatchResult};
 ghost use Rattle.std.specs.List.{AllByRecursion};
-ghost use Rattle.insn.specs.Encoding.{IsInstruction};
+ghost use Rattle.insn.specs.Encoding.{HasEncoding};
 ghost use Rattle.insn.specs.Layout.{size};
 ghost use Rattle.regkind.specs.Frames.{entry_frame};
 ghost use Rattle.flow.specs.Structure.{IsStructured, rule_number};
 ghost use Rattle.flow.specs.declared.rules.StructureRule.{StructureRule};
 ghost use Rattle.maps.specs.Shapes.{AreShapesOk};
 ghost use Rattle.verifier.specs.Accepted.{checked};
-ghost use Rattle.verifier.specs.Signature.{Signature, signature};
-ghost use Rattle.verifier.specs.Typing.{IsTypable, Refuses, RefusedByStructure, RefusedByKinds, structure_reason, IsNoMemory};
-ghost use Rattle.verifier.specs.Verdict.{verdict, VerifyFails};
+ghost use Rattle.verifier.specs.Signature.{Signature, signature, IsSignatureOk};
+ghost use Rattle.verifier.specs.Typing.{IsTypable, Refuses, RefusedByStructure, RefusedByKinds, structure_reason, IsNoMemory, IfRefused};
+ghost use Rattle.verifier.specs.Pass.{IsTypedBy};
+ghost use Rattle.verifier.specs.Verdict.{verdict};
 
 use crate::accepted::Accepted;
-use crate::edges::width;
-use crate::refusal::{Mode, Refused, VerifyFault};
+use crate::refusal::{Mode, Refused, VerifyError, VerifyFault};
+use crate::signature::{MAX_ARG_LEN, Signature};
 use crate::visiting::visit;
 use flow::structure;
-use insn::Insn;
+use insn::{Insn, MAX_SLOTS};
 use maps::Shape;
 use regkind::Frame;
 use std::alloc::{AllocError, Global};
@@ -26,54 +27,42 @@ use std::alloc::{AllocError, Global};
 /// Checks a program for maps of these shapes, an argument of so many bytes, and a mode.
 ///
 /// Structure is decided first, for the whole program (V1 to V5), then what the instructions ask of the kinds of their
-/// operands (V6 to V18). In each of the two the lowest slot is named, and there the lowest number. V0 is want of memory.
-/// A program that is refused isn't handed back.
+/// operands (V6 to V18). In each of the two the lowest slot is named, and there the lowest number. `NoMemory` says that
+/// there is no memory left. A program that is refused isn't handed back.
 pub fn verify(
     alloc: Global,
     program: Vec<Insn>,
     shapes: &[Shape],
     arg_len: usize,
     mode: Mode,
-) -> Result<Accepted, Refused>
+) -> Result<Accepted, VerifyError>
     requires shapes { AreShapesOk shapes.now }
-    requires argument { arg_len ≤ 64 }
+    requires argument { arg_len ≤ MAX_ARG_LEN }
     // What is handed back is the program, with what it was checked for.
     ensures accepted { IfOk result (λ a. a ≡ checked program.items shapes.now arg_len mode) }
     ensures typable { OnOk result (IsTypable program.items (signature shapes.now arg_len mode)) }
-    // A typable program is refused for want of memory alone.
+    // A typable program is not accepted only where there is no memory left.
     ensures only { IsTypable program.items (signature shapes.now arg_len mode)
         → IfErr result IsNoMemory }
-    // Any other refusal names the first rule that is broken.
-    ensures refused { IfErr result (λ e.
-        IsNoMemory e ⊎ Refuses program.items (signature shapes.now arg_len mode) e) }
+    // A refusal names the first rule that is broken.
+    ensures refused { IfErr result (IfRefused (Refuses program.items (signature shapes.now arg_len mode))) }
     // The answer is the computed verdict.
     ensures reading { MatchResult result
         (λ _. verdict program.items (signature shapes.now arg_len mode) ≡ None)
-        (λ e. VerifyFails e (verdict program.items (signature shapes.now arg_len mode))) }
+        (IfRefused (λ e. verdict program.items (signature shapes.now arg_len mode) ≡ Some e)) }
 {
+    let l = Signature::new(shapes, arg_len, mode);
     check_structure(&program)?;
-    let slots = check_kinds(alloc, &program, shapes, arg_len, mode)?;
-    match Accepted::of(alloc, program, slots, shapes, arg_len, mode) {
-        Ok(accepted) => Ok(accepted),
-        Err(_) => Err(no_memory()),
-    }
-}
-
-// The refusal for want of memory, which names no slot.
-fn no_memory() -> Refused
-    ensures { IsNoMemory result }
-{
-    Refused {
-        slot: 0,
-        why: VerifyFault::NoMemory,
-    }
+    let frames = check_kinds(alloc, &program, &l)?;
+    let accepted = Accepted::of(alloc, program, &frames, &l)?;
+    Ok(accepted)
 }
 
 // Whether the structure is good; else the first rule of structure that is broken.
 fn check_structure(program: &[Insn]) -> Result<(), Refused>
     ensures structured { OnOk result (IsStructured program.now) }
     ensures refused { IfErr result (λ e. RefusedByStructure program.now e) }
-    ensures reading { (l : Signature) → IfErr result (λ e. VerifyFails e (verdict program.now l)) }
+    ensures reading { (l : Signature) → IfErr result (λ e. verdict program.now l ≡ Some e) }
 {
     match structure(program) {
         Ok(()) => Ok(()),
@@ -97,58 +86,50 @@ fn fault_of_structure(number: u8) -> VerifyFault
     }
 }
 
-// Whether a structured program can be typed, and then its number of slots; else the first rule of kinds that is broken.
+// The frames of a structured program, by their slots, if it can be typed; else the first rule of kinds that is broken.
 fn check_kinds(
     alloc: Global,
     program: &[Insn],
-    shapes: &[Shape],
-    arg_len: usize,
-    mode: Mode,
-) -> Result<usize, Refused>
+    l: &Signature,
+) -> Result<Vec<Option<Frame>>, VerifyError>
     requires structured { IsStructured program.now }
-    requires shapes { AreShapesOk shapes.now }
-    requires argument { arg_len ≤ 64 }
-    ensures accepted { OnOk result (IsTypable program.now (signature shapes.now arg_len mode)) }
-    ensures slots { IfOk result (λ n. n ≡ size program.now) }
-    ensures instructions { AllByRecursion IsInstruction program.now }
-    ensures only { IsTypable program.now (signature shapes.now arg_len mode)
-        → IfErr result IsNoMemory }
-    ensures refused { IfErr result (λ e.
-        IsNoMemory e ⊎ RefusedByKinds program.now (signature shapes.now arg_len mode) e) }
+    requires limits { IsSignatureOk l.now }
+    ensures accepted { OnOk result (IsTypable program.now l.now) }
+    ensures frames { IfOk result (λ v. IsTypedBy program.now l.now v.items) }
+    ensures instructions { AllByRecursion HasEncoding program.now }
+    ensures only { IsTypable program.now l.now → IfErr result IsNoMemory }
+    ensures refused { IfErr result (IfRefused (RefusedByKinds program.now l.now)) }
     ensures reading { MatchResult result
-        (λ _. verdict program.now (signature shapes.now arg_len mode) ≡ None)
-        (λ e. VerifyFails e (verdict program.now (signature shapes.now arg_len mode))) }
+        (λ _. verdict program.now l.now ≡ None)
+        (IfRefused (λ e. verdict program.now l.now ≡ Some e)) }
 {
     let slots = count_slots(program);
-    let mut frames = match first_frames(alloc, slots) {
-        Ok(frames) => frames,
-        Err(_) => return Err(no_memory()),
-    };
+    let mut frames = first_frames(alloc, slots)?;
     let mut slot = 0;
     for insn in program {
         let i = insn.form();
-        match visit(&mut frames, shapes, arg_len, mode, i, slot) {
-            None => slot += width(i),
+        match visit(&mut frames, l, i, slot) {
+            None => slot += i.slot_count(),
             Some(why) => {
-                return Err(Refused {
+                return Err(VerifyError::Refused(Refused {
                     slot: slot as u32,
                     why,
-                });
+                }));
             }
         }
     }
-    Ok(slots)
+    Ok(frames)
 }
 
 // How many slots the instructions take.
 fn count_slots(program: &[Insn]) -> usize
-    requires few { size program.now ≤ 4096 }
+    requires few { size program.now ≤ MAX_SLOTS }
     ensures slots { result ≡ size program.now }
-    ensures instructions { AllByRecursion IsInstruction program.now }
+    ensures instructions { AllByRecursion HasEncoding program.now }
 {
     let mut slots = 0;
     for insn in program {
-        slots += width(insn.form());
+        slots += insn.form().slot_count();
     }
     slots
 }

@@ -1,6 +1,5 @@
 use Rattle.std.proofs.Common.{◌≡◌, length, take}
 use Rattle.insn.specs.Layout.{size}
-use Rattle.verifier.specs.Signature.{signature}
 use Rattle.verifier.proofs.Progress.{Progress, Below}
 use Rattle.verifier.proofs.verification.check_kinds.Given as goal
 
@@ -8,4 +7,4 @@ abbrev pub invariant-loop-insn : goal.invariant-loop-insn
 invariant-loop-insn l =
     (l.slot ≡ size (take l.insn-index l.program))
     × (length l.frames.items ≡ size l.program)
-    × Progress l.program (signature l.shapes l.arg_len l.mode) l.frames.items l.slot (Below l.slot)
+    × Progress l.program l.l l.frames.items l.slot (Below l.slot)

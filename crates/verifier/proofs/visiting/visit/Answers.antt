@@ -1,11 +1,11 @@
-use Rattle.std.proofs.Common.{arith, sym, ◌∙◌, inl, inr}
-use Rattle.insn.specs.Layout.{Fall}
+use Rattle.std.proofs.Common.{arith, sym, ◌∙◌}
+use Rattle.insn.specs.declared.instruction.Edge.TheVariants.{Fall, Jump}
 use Rattle.verifier.specs.FrameAfter.{frame_after}
 use Rattle.verifier.proofs.Steps.{read_here, same_frame, is_there, same_length}
 use Rattle.verifier.proofs.visiting.visit.Goals as goal
 
 pub follow-requires-clause-inside : goal.follow-requires-clause-inside
-follow-requires-clause-inside c = λ t leads. c.requires.inside t (inl leads)
+follow-requires-clause-inside c = λ t leads. c.requires.inside t Fall leads
 
 pub follow-requires-clause-frame : goal.follow-requires-clause-frame
 follow-requires-clause-frame c =
@@ -21,7 +21,7 @@ pub follow-requires-in-None-broken_rule-clause-few : goal.follow-requires-in-Non
 follow-requires-in-None-broken_rule-clause-few c = let h = c.requires.there in omega (arith, c.requires.few, is_there c.args.frames.now.items c.args.slot h.0 h.1, c.args.frames.now.ok.0)
 
 pub follow-requires-in-None-broken_rule-clause-inside : goal.follow-requires-in-None-broken_rule-clause-inside
-follow-requires-in-None-broken_rule-clause-inside c = λ t leads. omega (arith, c.requires.inside t (inr leads), same_length c.args.i c.args.slot Fall (frame_after c.args.i c.in-Some.f Fall) c.args.frames.now.items c.follow.new.frames.items c.follow.ensures, c.args.frames.now.ok.0, c.follow.new.frames.ok.0)
+follow-requires-in-None-broken_rule-clause-inside c = λ t leads. omega (arith, c.requires.inside t Jump leads, same_length c.args.i c.args.slot Fall (frame_after c.args.i c.in-Some.f Fall) c.args.frames.now.items c.follow.new.frames.items c.follow.ensures, c.args.frames.now.ok.0, c.follow.new.frames.ok.0)
 
 pub returns-in-Some-broken_rule : goal.returns-in-Some-broken_rule
 returns-in-Some-broken_rule c =

@@ -1,0 +1,109 @@
+// What a program is checked for.
+
+ghost use Rattle.std.specs.Prelude.{◌≡◌, length};
+ghost use Rattle.maps.specs.Shapes as sizes;
+ghost use Rattle.verifier.specs.Signature.{signature};
+ghost use Rattle.verifier.specs.Regions.{size_of, is_within, IsShort};
+
+use crate::refusal::Mode;
+use crate::regions::{is_in_block, moved, stack_bytes};
+use maps::Shape;
+use regkind::Kind;
+use std::marker::Model;
+
+/// The most bytes of an argument.
+pub const MAX_ARG_LEN: usize = 64;
+
+/// What a program is checked for: the shapes of its maps, the length of its argument in bytes, and its mode.
+#[derive(Drop)]
+pub(crate) struct Signature<'a> {
+    shapes: &'a [Shape],
+    arg_len: usize,
+    mode: Mode,
+}
+
+impl<'a> Model for Signature<'a> {
+    ghost use Rattle.verifier.specs.Signature.{Signature, signature};
+
+    ghost Value = { Signature };
+
+    ghost view = { λ l. signature l.shapes.now l.arg_len l.mode };
+}
+
+impl<'a> Signature<'a> {
+    // These shapes, a length and a mode, as a caller gives them.
+    pub(crate) fn new(shapes: &'a [Shape], arg_len: usize, mode: Mode) -> Self
+        ensures { result ≡ signature shapes.now arg_len mode }
+    {
+        Signature {
+            shapes,
+            arg_len,
+            mode,
+        }
+    }
+}
+
+impl<'a> Signature<'a> {
+    // The shapes of the maps.
+    pub(crate) fn shapes(&self) -> &[Shape]
+        ensures { result.now ≡ self.now.shapes }
+    {
+        self.shapes
+    }
+
+    // The length of the argument in bytes.
+    pub(crate) fn arg_len(&self) -> usize
+        ensures { result ≡ self.now.arg_len }
+    {
+        self.arg_len
+    }
+
+    // How many maps there are.
+    pub(crate) fn map_count(&self) -> usize
+        ensures { result ≡ length self.now.shapes }
+    {
+        self.shapes.len()
+    }
+
+    // Whether maps may be changed.
+    pub(crate) fn mode(&self) -> Mode
+        ensures { result ≡ self.now.mode }
+    {
+        self.mode
+    }
+
+    // The bytes of a key of a map.
+    pub(crate) fn key_size(&self, map: u8) -> usize
+        ensures { result ≡ size_of sizes.key_size self.now.shapes map }
+    {
+        match self.shapes.get(map as usize) {
+            None => 0,
+            Some(shape) => shape.key_bytes(),
+        }
+    }
+
+    // The bytes of a value of a map.
+    fn value_size(&self, map: u8) -> usize
+        ensures { result ≡ size_of sizes.value_size self.now.shapes map }
+    {
+        match self.shapes.get(map as usize) {
+            None => 0,
+            Some(shape) => shape.value_bytes(),
+        }
+    }
+
+    // So many bytes at a distance from a pointer of this kind lie in its region.
+    pub(crate) fn is_within(&self, kind: Kind, distance: i64, bytes: usize) -> bool
+        requires short { IsShort distance }
+        ensures { result ≡ is_within self.now kind distance bytes }
+    {
+        match kind {
+            Kind::Stack(offset) => stack_bytes(moved(offset, distance), bytes).is_some(),
+            Kind::Arg(offset) => is_in_block(self.arg_len, moved(offset, distance), bytes),
+            Kind::Value(map, offset) => {
+                is_in_block(self.value_size(map), moved(offset, distance), bytes)
+            }
+            _ => true,
+        }
+    }
+}
