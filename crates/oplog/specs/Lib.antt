@@ -1,5 +1,6 @@
 pub mod Operations
 pub mod History
+pub mod Sessions
 pub mod Limits
 pub mod Logs
 pub mod CopyAnswers

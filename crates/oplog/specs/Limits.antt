@@ -3,18 +3,20 @@ use Rattle.std.specs.Prelude.{ℕ, ◌≤◌}
 use Rattle.oplog.specs.declared.configuration.Config.{Config}
 use Rattle.oplog.specs.declared.configuration.OpenError.{OpenError}
 use Rattle.oplog.specs.declared.configuration.OpenError.TheVariants.{OutOfLimits, NoMemory}
+use Rattle.oplog.specs.declared.configuration.TheConstants.{MAX_NODES, MAX_NODE_SLOTS, MIN_WINDOW, MAX_WINDOW, MAX_LIMIT}
 
 -- records that a log keeps at once
 abbrev pub IsWindow : ℕ → Type 0
-IsWindow n = (16 ≤ n) × (n ≤ 4096)
+IsWindow n = (MIN_WINDOW ≤ n) × (n ≤ MAX_WINDOW)
 
 -- records that a history may have
 abbrev pub IsLimit : ℕ → Type 0
-IsLimit n = (1 ≤ n) × (n ≤ 1000000)
+IsLimit n = (1 ≤ n) × (n ≤ MAX_LIMIT)
 
+-- each number of a configuration is within its limits
 pub record IsConfig (c : Config) : Type 0 where
-  pub nodes : (1 ≤ c.nodes) × (c.nodes ≤ 8)
-  pub slots : (1 ≤ c.slots) × (c.slots ≤ 16)
+  pub nodes : (1 ≤ c.nodes) × (c.nodes ≤ MAX_NODES)
+  pub slots : (1 ≤ c.slots) × (c.slots ≤ MAX_NODE_SLOTS)
   pub window : IsWindow c.window
   pub limit : IsLimit c.limit
 

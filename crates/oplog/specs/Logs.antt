@@ -14,9 +14,9 @@ pub record Log : Type 0 where
   pub base_maps : Maps
   -- the records from there on
   pub records : History
-  -- the completed tail
+  -- so many operations are completed, as far as the log was told
   pub done : ℕ
-  -- the window, in records; for now each record is kept, however many there are
+  -- how many records it keeps at most
   pub window : ℕ
   -- how many records the history may have
   pub limit : ℕ
@@ -29,15 +29,20 @@ tail_of g = g.base + length g.records
 abbrev pub records_from : Log → ℕ → History
 records_from g index = drop (index - g.base) g.records
 
--- how many records may still come
-abbrev pub room_left : Log → ℕ
-room_left g = g.limit - tail_of g
+-- how many records fit, until the base moves
+abbrev pub room_in : Log → ℕ
+room_in g = g.window - length g.records
+
+-- how many records the history may still have
+abbrev pub left_of : Log → ℕ
+left_of g = g.limit - tail_of g
 
 -- what is true of every log
 pub record IsLog (g : Log) : Type 0 where
   pub shapes : HasShapes (shapes_of g.base_maps) g.base_maps
   pub reclaimed : g.base ≤ g.done
   pub completed : g.done ≤ tail_of g
+  pub kept : length g.records ≤ g.window
   pub within : tail_of g ≤ g.limit
   pub window : IsWindow g.window
   pub limit : IsLimit g.limit
@@ -51,10 +56,9 @@ opened_log shapes window limit =
 pub record HandView : Type 0 where
   pub begin : ℕ
   pub records : History
-  -- the window and the limit of the logs whose records it has room for
+  -- the window of the logs whose records it has room for
   pub window : ℕ
-  pub limit : ℕ
 
 -- a new buffer: no record yet
-abbrev pub opened_hand : ℕ → ℕ → HandView
-opened_hand window limit = record { begin = 0; records = []; window = window; limit = limit }
+abbrev pub opened_hand : ℕ → HandView
+opened_hand window = record { begin = 0; records = []; window = window }

@@ -1,22 +1,50 @@
 // What a store is opened with.
 
-ghost use Rattle.std.specs.Prelude.{◌≡◌};
-ghost use Rattle.oplog.specs.Limits.{open_fault_number};
+ghost use Rattle.std.specs.Prelude.{◌≡◌, ◌↔◌, IsTrue};
+ghost use Rattle.oplog.specs.Limits.{open_fault_number, IsConfig};
 
 use std::fmt;
 use thiserror::Error;
 
+/// The most nodes of a store.
+pub const MAX_NODES: u32 = 8;
+
+/// The most slots of a node.
+pub const MAX_NODE_SLOTS: u32 = 16;
+
+/// The smallest window of a log, in records.
+pub const MIN_WINDOW: usize = 16;
+
+/// The largest window of a log, in records.
+pub const MAX_WINDOW: usize = 4_096;
+
+/// The most records that a history may have.
+pub const MAX_LIMIT: usize = 1_000_000;
+
 /// The sizes of a store.
 #[derive(Clone, Copy, Debug, PartialEq, Eq)]
 pub struct Config {
-    /// Nodes, each with a replica of the maps: 1 to 8.
+    /// Nodes, each with a replica of the maps: 1 to [`MAX_NODES`].
     pub nodes: u32,
-    /// Slots of a node, 1 to 16: sessions that may have a request there at the same time.
+    /// Slots of a node, 1 to [`MAX_NODE_SLOTS`]: sessions that may have a request there at the same time.
     pub slots: u32,
-    /// Records that the log keeps at once, 16 to 4,096.
+    /// Records that the log keeps at once, [`MIN_WINDOW`] to [`MAX_WINDOW`].
     pub window: u32,
-    /// Records that the history may have in all, 1 to 1,000,000.
+    /// Records that the history may have in all, 1 to [`MAX_LIMIT`].
     pub limit: u32,
+}
+
+impl Config {
+    /// Whether each number is within its limits.
+    pub fn is_within_limits(&self) -> bool
+        ensures limits { IsTrue result ↔ IsConfig self.now }
+    {
+        let (window, limit) = (self.window as usize, self.limit as usize);
+        (1..=MAX_NODES).contains(&self.nodes)
+            && (1..=MAX_NODE_SLOTS).contains(&self.slots)
+            && (MIN_WINDOW..=MAX_WINDOW).contains(&window)
+            && (1..=MAX_LIMIT).contains(&limit)
+    }
 }
 
 /// Why a store is not opened.

@@ -1,7 +1,7 @@
 // The buffer that records are copied into from the log.
 
 ghost use Rattle.std.specs.Prelude.{◌≡◌, ◌↔◌, ◌<◌, ◌++◌, ◌∷◌, [], length, slice_get, Some, IsTrue, IfOk};
-ghost use Rattle.oplog.specs.Limits.{IsWindow, IsLimit};
+ghost use Rattle.oplog.specs.Limits.{IsWindow};
 ghost use Rattle.oplog.specs.Logs.{opened_hand};
 
 use crate::records::Record;
@@ -15,7 +15,6 @@ pub struct Hand {
     begin: u64,
     records: Vec<Record>,
     window: usize,
-    limit: usize,
 }
 
 impl Model for Hand {
@@ -24,29 +23,27 @@ impl Model for Hand {
 
     ghost Value = { HandView };
 
-    ghost view = { λ h. record { begin = h.begin; records = h.records.items; window = h.window; limit = h.limit } };
+    ghost view = { λ h. record { begin = h.begin; records = h.records.items; window = h.window } };
 
-    // There is room for the whole history.
-    ghost invariant = { λ h. h.limit ≤ vec_capacity h.records };
+    // There is room for a whole window.
+    ghost invariant = { λ h. h.window ≤ vec_capacity h.records };
 }
 
 impl Hand {
-    /// An empty hand that begins at 0, for a log of this window and limit.
+    /// An empty hand that begins at 0, for a log of this window.
     ///
     /// # Errors
     ///
-    /// Want of memory.
-    pub fn open(alloc: Global, window: usize, limit: usize) -> Result<Hand, AllocError>
+    /// The system has no memory left.
+    pub fn open(alloc: Global, window: usize) -> Result<Hand, AllocError>
         requires window { IsWindow window }
-        requires limit { IsLimit limit }
-        ensures opened { IfOk result (λ h. h ≡ opened_hand window limit) }
+        ensures opened { IfOk result (λ h. h ≡ opened_hand window) }
     {
-        let records = Vec::with_capacity(alloc, limit)?;
+        let records = Vec::with_capacity(alloc, window)?;
         Ok(Hand {
             begin: 0,
             records,
             window,
-            limit,
         })
     }
 
@@ -89,7 +86,7 @@ impl Hand {
 
     /// Puts one more record at the end. There is room for it.
     pub(crate) fn push(&mut self, next: Record)
-        requires room { length self.old.records < self.old.limit }
+        requires room { length self.old.records < self.old.window }
         ensures pushed { self.new ≡ record self.old { records = self.old.records ++ next ∷ [] } }
     {
         self.records.push_reserved(next);

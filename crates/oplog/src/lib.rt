@@ -7,11 +7,11 @@ mod configuration;
 mod hand;
 mod log_state;
 mod records;
-#[cfg(test)]
-mod tests;
 
 pub use answers::{Appended, CopyAnswer, Ended};
-pub use configuration::{Config, OpenError};
+pub use configuration::{
+    Config, MAX_LIMIT, MAX_NODE_SLOTS, MAX_NODES, MAX_WINDOW, MIN_WINDOW, OpenError,
+};
 pub use hand::Hand;
 pub use log_state::LogState;
-pub use records::{Op, Record};
+pub use records::{MAX_ARG_LEN, Op, Record};

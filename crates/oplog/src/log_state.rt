@@ -4,8 +4,9 @@ ghost use Rattle.std.specs.Prelude.{◌≡◌, ◌↔◌, ◌<◌, ◌≤◌, �
 ghost use Rattle.maps.specs.Shapes.{AreShapesOk};
 ghost use Rattle.maps.specs.Maps.{HasShapes, shapes_of};
 ghost use Rattle.maps.specs.MapSets.{maps_of};
+ghost use Rattle.oplog.specs.declared.configuration.TheConstants.{MAX_LIMIT};
 ghost use Rattle.oplog.specs.Limits.{IsWindow, IsLimit};
-ghost use Rattle.oplog.specs.Logs.{IsLog, tail_of, room_left, records_from, opened_log};
+ghost use Rattle.oplog.specs.Logs.{IsLog, tail_of, room_in, left_of, records_from, opened_log};
 ghost use Rattle.oplog.specs.CopyAnswers.{IfCopied, IfBelow};
 
 use crate::answers::{Appended, CopyAnswer, Ended};
@@ -15,8 +16,8 @@ use maps::{MapSet, Shape};
 use std::alloc::{AllocError, Global};
 use std::marker::Model;
 
-/// The one history of operations that all replicas are fed from, and how far it is completed. All its room is taken when it
-/// is opened: no later call takes memory.
+/// The one history of operations that all replicas are fed from, from its base on, with the maps there, and how far it is
+/// completed. All its room, a window of records and the maps, is taken when it is opened: no later call takes memory.
 #[derive(Drop)]
 pub struct LogState {
     base: u64,
@@ -28,7 +29,7 @@ pub struct LogState {
 }
 
 impl Model for LogState {
-    ghost use Rattle.std.specs.Prelude.{◌+◌, ◌≤◌, vec_capacity};
+    ghost use Rattle.std.specs.Prelude.{◌≤◌, vec_capacity};
     ghost use Rattle.oplog.specs.Logs.{Log, IsLog};
     ghost use Rattle.oplog.specs.Codes.{log_code};
 
@@ -40,16 +41,17 @@ impl Model for LogState {
 
     ghost view = { log_of };
 
-    // There is room for each record that may still come.
-    ghost invariant = { λ a. IsLog (log_of a) × (a.limit ≤ a.base + vec_capacity a.records) };
+    // There is room for a whole window.
+    ghost invariant = { λ a. IsLog (log_of a) × (a.window ≤ vec_capacity a.records) };
 }
 
 impl LogState {
-    /// A log without a record, over maps of these shapes as they are opened. It may have `limit` records.
+    /// A log without a record, over maps of these shapes as they are opened. It keeps at most `window` records at once, and
+    /// its history may have `limit`.
     ///
     /// # Errors
     ///
-    /// Want of memory.
+    /// The system has no memory left.
     pub fn open(
         alloc: Global,
         shapes: &[Shape],
@@ -64,7 +66,7 @@ impl LogState {
         let Ok(base_maps) = MapSet::open(alloc, shapes) else {
             return Err(AllocError);
         };
-        let records = Vec::with_capacity(alloc, limit)?;
+        let records = Vec::with_capacity(alloc, window)?;
         Ok(LogState {
             base: 0,
             base_maps,
@@ -75,9 +77,17 @@ impl LogState {
         })
     }
 
-    /// How many records may still be appended.
+    /// How many records fit, until [`LogState::reclaim`] drops some.
     pub fn room(&self) -> usize
-        ensures room { result ≡ room_left self.now }
+        ensures room { result ≡ room_in self.now }
+        ensures window { IsWindow self.now.window }
+    {
+        self.window - self.records.len()
+    }
+
+    /// How many records the history may still have.
+    pub fn left(&self) -> usize
+        ensures left { result ≡ left_of self.now }
     {
         self.limit - self.tail() as usize
     }
@@ -113,37 +123,39 @@ impl LogState {
         self.done
     }
 
-    /// Appends as many records of a batch, from its front, as the history may still have.
+    /// Appends as many records of a batch, from its front, as the history may still have. They fit in the room.
     ///
     /// # Errors
     ///
     /// L1 where it has as many as it may have.
     pub fn append(&mut self, batch: &[Record]) -> Result<Appended, Ended>
+        requires room { min (length batch.now) (left_of self.old) ≤ room_in self.old }
         ensures first { IfOk result (λ a. a.first ≡ tail_of self.old) }
-        ensures count { IfOk result (λ a. a.count ≡ min (length batch.now) (room_left self.old)) }
+        ensures count { IfOk result (λ a. a.count ≡ min (length batch.now) (left_of self.old)) }
         ensures records { IfOk result (λ a. self.new ≡ record self.old { records = self.old.records ++ take a.count batch.now }) }
         ensures ended { IsErr result ↔ (tail_of self.old ≡ self.old.limit) }
         ensures same { OnErr result (self.new ≡ self.old) }
     {
-        let room = self.room();
-        if room == 0 {
+        let left = self.left();
+        if left == 0 {
             return Err(Ended);
         }
         let first = self.tail();
-        let count = batch.len().min(room);
+        let count = batch.len().min(left);
         for record in &batch[..count] {
-            self.records.push_reserved(record.copy());
+            self.records.push_reserved(*record);
         }
         Ok(Appended { first, count })
     }
 
-    /// Copies all records from an index on into a hand. The hand was opened for a log of this window and limit.
+    /// Copies all records from an index on into a hand, which was opened for a log of this window. Nothing is copied from below
+    /// the base.
     pub fn copy_from(&self, index: u64, hand: &mut Hand) -> CopyAnswer
         requires index { index ≤ tail_of self.now }
         requires window { hand.old.window ≡ self.now.window }
-        requires limit { hand.old.limit ≡ self.now.limit }
         ensures kept { IfCopied result (self.now.base ≤ index) }
         ensures copied { IfCopied result (hand.new ≡ record hand.old { begin = index; records = records_from self.now index }) }
+        ensures within { tail_of self.now ≤ MAX_LIMIT }
         ensures below { IfBelow result (λ base. (base ≡ self.now.base) × (index < base) × (hand.new ≡ hand.old)) }
     {
         if index < self.base {
@@ -152,7 +164,7 @@ impl LogState {
         hand.clear(index);
         let start = (index - self.base) as usize;
         for record in &self.records[start..] {
-            hand.push(record.copy());
+            hand.push(*record);
         }
         CopyAnswer::Copied
     }
@@ -163,5 +175,20 @@ impl LogState {
         ensures raised { self.new ≡ record self.old { done = max self.old.done n } }
     {
         self.done = self.done.max(n);
+    }
+
+    /// Makes `at` the base, above the base that was and completed: the maps, those after so many operations, become the base's, and the
+    /// records before are dropped. The maps have the log's shapes. Takes time in proportion to them and to the records that stay.
+    pub fn reclaim(&mut self, at: u64, maps: &MapSet)
+        requires above { self.old.base < at }
+        requires completed { at ≤ self.old.done }
+        requires shapes { HasShapes (shapes_of self.old.base_maps) (maps_of maps.now) }
+        ensures base { self.new ≡ record self.old { base = at; base_maps = maps_of maps.now; records = records_from self.old at } }
+    {
+        self.base_maps.copy_from(maps);
+        let dropped = (at - self.base) as usize;
+        self.records.copy_within(dropped.., 0);
+        self.records.truncate(self.records.len() - dropped);
+        self.base = at;
     }
 }

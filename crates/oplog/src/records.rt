@@ -2,43 +2,50 @@
 
 ghost use Rattle.std.specs.Prelude.{◌≡◌, ◌≤◌, length};
 ghost use Rattle.maps.specs.Maps.{AreBytes};
+ghost use Rattle.oplog.specs.Operations.{padded};
 
-use arrayvec::ArrayVec;
 use std::marker::Model;
 
-/// An operation: a program of the catalogue, by its number there, and its argument of at most 64 bytes.
-#[derive(Drop)]
+/// The most bytes that an argument has.
+pub const MAX_ARG_LEN: usize = 64;
+
+/// An operation: a program of the catalogue, by its number there, and its argument of at most [`MAX_ARG_LEN`]. It is copied
+/// as one block of bytes.
+#[derive(Clone, Copy)]
 pub struct Op {
     program: u16,
-    argument: ArrayVec<u8, 64>,
+    argument_len: u8,
+    // The argument, and zeros after it.
+    argument_bytes: [u8; MAX_ARG_LEN],
 }
 
 impl Model for Op {
-    ghost use Rattle.std.specs.Prelude.{◌≤◌, length};
-    ghost use Rattle.maps.specs.Maps.{AreBytes};
     ghost use Rattle.oplog.specs.Operations.{Operation};
 
     ghost Value = { Operation };
 
-    ghost view = { λ o. record { program = o.program; argument = o.argument.items } };
+    ghost use Rattle.oplog.specs.Fields.{operation_of, fields_of, fields_of_operation, IsArgument};
 
-    ghost invariant = { λ o. (length o.argument.items ≤ 64) × AreBytes o.argument.items };
+    ghost view = { operation_of };
+
+    ghost invariant = { λ o. IsArgument o.argument_len o.argument_bytes };
+
+    ghost inverse = { fields_of };
+
+    ghost inverse_ok = { fields_of_operation };
 }
 
 impl Op {
-    /// The operation of a program, by its number in the catalogue, and an argument of at most 64 bytes.
+    /// The operation of a program, by its number in the catalogue, and an argument of at most [`MAX_ARG_LEN`].
     pub fn new(program: u16, argument: &[u8]) -> Op
-        requires fits { length argument.now ≤ 64 }
+        requires fits { length argument.now ≤ MAX_ARG_LEN }
         ensures operation { result ≡ record { program = program; argument = argument.now } }
         ensures bytes { AreBytes result.argument }
     {
-        let mut kept = ArrayVec::new();
-        for byte in argument {
-            kept.push(*byte);
-        }
         Op {
             program,
-            argument: kept,
+            argument_len: argument.len() as u8,
+            argument_bytes: filled_up(argument),
         }
     }
 
@@ -52,33 +59,38 @@ impl Op {
     /// The argument.
     pub fn argument(&self) -> &[u8]
         ensures argument { result.now ≡ self.now.argument }
-        ensures fits { length result.now ≤ 64 }
+        ensures fits { length result.now ≤ MAX_ARG_LEN }
         ensures bytes { AreBytes result.now }
     {
-        self.argument.as_slice()
+        &self.argument_bytes[..self.argument_len as usize]
+    }
+}
+
+impl Default for Op {
+    /// The first program, without an argument.
+    fn default() -> Op {
+        Op::new(0, &[])
     }
 }
 
 /// An operation of the history: whose it is, and how many records its author had before.
-#[derive(Drop)]
+#[derive(Clone, Copy, Default)]
 pub struct Record {
     /// The session: its node's number times the slots of a node, plus its slot.
     pub author: u16,
+    /// The operation itself.
+    pub op: Op,
     /// The number of the author's earlier records.
     pub seq: u64,
-    pub op: Op,
 }
 
-impl Record {
-    /// The same record once more. It takes no memory.
-    pub(crate) fn copy(&self) -> Record
-        ensures same { result ≡ self.now }
-    {
-        let op = &self.op;
-        Record {
-            author: self.author,
-            seq: self.seq,
-            op: Op::new(op.program(), op.argument()),
-        }
-    }
+// The bytes of an argument, and zeros after them.
+fn filled_up(argument: &[u8]) -> [u8; MAX_ARG_LEN]
+    requires fits { length argument.now ≤ MAX_ARG_LEN }
+    ensures filled { result ≡ padded argument.now }
+{
+    let mut bytes = [0; MAX_ARG_LEN];
+    let front = &mut bytes[..argument.len()];
+    front.copy_from_slice(argument);
+    bytes
 }

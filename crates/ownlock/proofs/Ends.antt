@@ -9,6 +9,7 @@ use Rattle.std.proofs.lemmas.Map.Steps.{length-le_from_distinct_below}
 use Rattle.atomic_table.specs.Table.{State, Final, Seen}
 use Rattle.ownlock.specs.declared.known.Known.{Known}
 use Rattle.ownlock.specs.Rules.{Rules}
+use Rattle.ownlock.specs.Words.{word_of}
 use Rattle.ownlock.specs.Seats.{At, HoldsNone}
 use Rattle.ownlock.specs.Knowledge.{AllAgree}
 use Rattle.ownlock.specs.Invariant.{LockInvariant, HeldBySome, Closes}
@@ -91,7 +92,7 @@ module _ {P N V : Type 0} (R : Rules P N V) (sessions : ℕ) where
       let k = map_at _ v t.0 q t.1 in (t.0, k.0, k.1, k.2)
 
   pub closes : (words : List ℕ) (slots : List (Option V)) (id : ℕ) (v : List K) → length v ≡ sessions → HoldsNone v → Final (Seen (LockInvariant R sessions) id v) words slots → Closes R sessions v slots
-  closes words slots id v long idle (s, (r, at), same_words, same_count, homes) = (r.progress, r.notes, r.accounts, r.counted, (λ i k e. let fit = (r.each id i v k at e).0 in (fit.possible.0.0, fit.possible.1)), agree)
+  closes words slots id v long idle (s, (r, at), same_words, same_count, homes) = (r.progress, r.notes, r.accounts, r.counted, (λ i k e. let fit = (r.each id i v k at e).0 in (fit.possible.0.0, fit.possible.1)), agree, (λ q small. present s r id v at long q small))
     where
       no_one : (p : ℕ) → HeldBySome R p s.views → ⊥
       no_one p (j, w, i, m, a, u, at_j, at_i, at_a, is) =
@@ -103,13 +104,13 @@ module _ {P N V : Type 0} (R : Rules P N V) (sessions : ℕ) where
           some-ne-none u (sym none)
 
       agree : AllAgree R r.progress r.notes slots
-      agree p below = dite (ℕ_discrete (get_or s.words p 0) 0)
+      agree p below = dite (ℕ_discrete (get_or s.words (word_of p) 0) 0)
           (λ free. let t = r.free p (subst (λ z. p < z) (sym same_count) below) free in (t.0, homes p (Some t.0) t.1, t.2))
           (λ busy. absurd (no_one p (r.busy p (subst (λ z. p < z) (sym same_count) below) busy)))
 
 -- a shelf with no session: nobody holds a place
 pub closes_without : {P N V : Type 0} (R : Rules P N V) (words : List ℕ) (slots : List (Option V)) → Final (LockInvariant R 0) words slots → Closes R 0 [] slots
-closes_without {P} {N} {V} R words slots (s, r, same_words, same_count, homes) = (r.progress, r.notes, r.accounts, r.counted, (λ i k e. absurd (some-ne-none k (sym e))), agree)
+closes_without {P} {N} {V} R words slots (s, r, same_words, same_count, homes) = (r.progress, r.notes, r.accounts, r.counted, (λ i k e. absurd (some-ne-none k (sym e))), agree, (λ q small. absurd (omega (arith, small))))
   where
     no_one : (p : ℕ) → HeldBySome R p s.views → ⊥
     no_one p (j, w, i, m, a, u, at_j, at_i, at_a, is) =
@@ -119,6 +120,6 @@ closes_without {P} {N} {V} R words slots (s, r, same_words, same_count, homes) =
         omega (arith, low, none)
 
     agree : AllAgree R r.progress r.notes slots
-    agree p below = dite (ℕ_discrete (get_or s.words p 0) 0)
+    agree p below = dite (ℕ_discrete (get_or s.words (word_of p) 0) 0)
         (λ free. let t = r.free p (subst (λ z. p < z) (sym same_count) below) free in (t.0, homes p (Some t.0) t.1, t.2))
         (λ busy. absurd (no_one p (r.busy p (subst (λ z. p < z) (sym same_count) below) busy)))

@@ -1,17 +1,18 @@
--- A put keeps the invariant: first the try at its own place, then the freeing of the word.
-use Rattle.std.proofs.Common.{◌≡◌, ◌≢◌, ℕ, ◌<◌, eqb, List, [], ◌∷◌, map, length, get_or, set, sym, refl, ap, ◌∙◌, subst, length-set, get_or-set_other, get_or-set_same, Option, Some, None}
+-- A put keeps the invariant: first the look at its own word, then the freeing of that.
+use Rattle.std.proofs.Common.{◌≡◌, ◌≢◌, ℕ, ◌<◌, eqb, List, [], ◌∷◌, map, length, get_or, set, sym, refl, ap, ◌∙◌, subst, arith, length-set, get_or-set_other, get_or-set_same, Option, Some, None}
 use mathlib.Core.Option as kernel
 use mathlib.Core.Option.{some-injective, some-ne-none}
 use lib.Seq.{set-get_or}
 use prog.Atomic.{either}
-use Rattle.atomic_table.specs.Table.{State, Me, Act, gives, step, stepped, Allows, Valid, carried_after, homes_after}
+use Rattle.atomic_table.specs.Table.{State, Me, Act, gives, step, stepped, Allows, Valid, carried_after, homes_after, rest}
 use Rattle.atomic_table.proofs.Lists.{set_here, set_else, set_again, exchanged}
 use Rattle.ownlock.specs.declared.known.Known.{Known}
 use Rattle.ownlock.specs.Rules.{Rules, Laws}
+use Rattle.ownlock.specs.Words.{word_of}
 use Rattle.ownlock.specs.Seats.{At, place_of, without, left_with}
 use Rattle.ownlock.specs.Knowledge.{Possible, MayPut}
 use Rattle.ownlock.specs.Invariant.{emptied, SessionInvariant, LockInvariant, StepsAs, fronted, freed}
-use Rattle.ownlock.proofs.Keeps.{at_below, one_session, Goes, goes, mine_of, not_of_others}
+use Rattle.ownlock.proofs.Keeps.{at_below, one_session, one_place, Goes, goes, mine_of, not_of_others, word_there, word_else, tail_else}
 use Rattle.ownlock.proofs.Without.{was_held, still_held, not_held, apart_without, part_of}
 use Rattle.ownlock.proofs.Fronts.{bring, brings}
 
@@ -87,7 +88,7 @@ module _ {P N V : Type 0} (R : Rules P N V) (laws : Laws R) (sessions : ℕ) whe
       out = λ b u e. let back = was_held p k.held b u e in let h = was.out back.0 u back.1 in (h.0, set_else s.homes p u.0 (kernel.some (Some y)) (other b u e) ∙ h.1);
     }
 
-    gives_it : Goes R laws sessions s r id p k giver progress_after notes_after (set s.words p 0) homes_given r.holder
+    gives_it : Goes R laws sessions s r id p k giver progress_after notes_after (set s.words (word_of p) 0) homes_given r.holder
     gives_it = record {
       here = at;
       session = refl;
@@ -99,56 +100,56 @@ module _ {P N V : Type 0} (R : Rules P N V) (laws : Laws R) (sessions : ℕ) whe
       counted = length-set r.notes k.session note_after ∙ r.counted;
       homes_else = λ q ne. set_else s.homes p q (kernel.some (Some y)) ne;
       homes_long = length-set s.homes p (kernel.some (Some y));
-      words_else = λ q ne. get_or-set_other s.words p q 0 0 ne;
-      words_long = length-set s.words p 0;
+      words_else = λ q ne. word_else R laws sessions s.words p q 0 ne;
+      tail_here = tail_else R laws sessions s r p 0 (kernel.some (Some y)) below ∙ sym (laws.moves_completed p k.session x r.progress progress_after k.note note_after moves);
+      words_long = length-set s.words (word_of p) 0;
       holder_else = λ q _. refl;
       not_theirs = not_of_others R laws sessions s r id p k at (was.out a (p, x) top).0;
       mine = give_fits;
       free_here = λ _ _. (y, set_here s.homes p (kernel.some (Some y)) below, (may r.progress r.notes was.possible).1);
-      busy_here = λ ne. absurd (ne (get_or-set_same s.words p 0 0 (subst (λ z. p < z) (sym r.wide) below)));
+      busy_here = λ _ ne. absurd (ne (get_or-set_same s.words (word_of p) 0 0 (word_there R laws sessions s r p (omega (arith, below)))));
       held_else = still_held p k.held;
     }
 
-    gives_stand : (c : List (ℕ × Option V)) → LockInvariant R sessions (stepped s p 0 id ((p, Some y) ∷ c) (giver ∷ []) gives)
-    gives_stand c = goes R laws sessions s r id p k giver progress_after notes_after (set s.words p 0) homes_given r.holder gives_it
+    gives_stand : (c : List (ℕ × Option V)) → LockInvariant R sessions (stepped s (word_of p) 0 id ((p, Some y) ∷ c) (giver ∷ []) gives)
+    gives_stand c = goes R laws sessions s r id p k giver progress_after notes_after (set s.words (word_of p) 0) homes_given r.holder gives_it
 
   only_one : (k k2 : K) → (k ∷ []) ≡ (k2 ∷ []) → k ≡ k2
   only_one k k2 e = ap (λ l. get_or l 0 k) e
 
   frees_at : (slots id p : ℕ) (k : K) (y : V) (c : List (ℕ × Option V)) (grown : P → P) (noting : N → N) → p < slots → MayPut R grown noting k p y
-      → Allows (LockInvariant R sessions) slots id (me k ((p, Some y) ∷ c)) p (λ _. 0) (λ n. freed R grown noting (step slots p 0 0 kernel.none) (me k ((p, Some y) ∷ c)) 0)
+      → Allows (LockInvariant R sessions) slots id (me k ((p, Some y) ∷ c)) (word_of p) (λ _. 0) (λ n. freed R grown noting (step slots (word_of p) 0 0 kernel.none) (me k ((p, Some y) ∷ c)) 0)
   frees_at slots id p k y c grown noting below (x, a, top, may) s r long at _ = (
     giver s r id p k at inside x y a top grown noting may ∷ [],
     gives,
     tt,
     gives_stand s r id p k at inside x y a top grown noting may c,
-    λ k2 sits. subst (λ (z : K). (progress : P) × ((notes : List N) × Possible R z progress notes) × (me (left_with k p (grown r.progress) (noting k.note)) c ≡ me (left_with z p (grown progress) (noting z.note)) c)) (only_one k k2 sits) (r.progress, (r.notes, (mine_of R laws sessions s r id k at).possible), refl),
+    λ k2 p2 sits same. subst
+        (λ (z : ℕ × K). (progress : P) × ((notes : List N) × Possible R z.1 progress notes) × (me (left_with k p (grown r.progress) (noting k.note)) c ≡ me (left_with z.1 z.0 (grown progress) (noting z.1.note)) c))
+        (λ i. (one_place p p2 same i, only_one k k2 sits i)) (r.progress, (r.notes, (mine_of R laws sessions s r id k at).possible), refl),
   )
     where
       inside : p < length s.homes
       inside = subst (λ z. p < z) (sym long) below
 
   -- the word of the place p goes to 0, and the value y is at home
-  pub frees : (slots id p : ℕ) (m : M) (k : K) (y : V) (c : List (ℕ × Option V)) (grown : P → P) (noting : N → N) → m ≡ (k ∷ [], (p, Some y) ∷ c) → p < slots → MayPut R grown noting k p y
-      → Allows (LockInvariant R sessions) slots id m p (λ _. 0) (λ n. freed R grown noting (step slots p 0 0 kernel.none) m 0)
-  frees slots id p m k y c grown noting is below may = subst (λ (z : M). Allows (LockInvariant R sessions) slots id z p (λ _. 0) (λ n. freed R grown noting (step slots p 0 0 kernel.none) z 0)) (sym is) (frees_at slots id p k y c grown noting below may)
+  pub frees : (slots id p word : ℕ) (m : M) (k : K) (y : V) (c : List (ℕ × Option V)) (grown : P → P) (noting : N → N) → word ≡ word_of p → m ≡ (k ∷ [], (p, Some y) ∷ c) → p < slots → MayPut R grown noting k p y
+      → Allows (LockInvariant R sessions) slots id m word (λ _. 0) (λ n. freed R grown noting (step slots word 0 0 kernel.none) m 0)
+  frees slots id p word m k y c grown noting at is below may =
+      subst (λ (z : ℕ × M). Allows (LockInvariant R sessions) slots id z.1 z.0 (λ _. 0) (λ n. freed R grown noting (step slots z.0 0 0 kernel.none) z.1 0)) (λ i. (sym at i, sym is i)) (frees_at slots id p k y c grown noting below may)
 
-  -- a try at a held place fails, and brings its slot to the front
+  -- a look at the word of a held place brings its slot to the front
   fronts_at : (slots id p : ℕ) (k : K) (x : V) (a : ℕ) → At a (p, x) k.held → p < slots
-      → Allows (LockInvariant R sessions) slots id (k ∷ [], map emptied k.held) p (λ n. either (eqb n 0) 1 n) (fronted R (step slots p 0 1 kernel.none) (k ∷ [], map emptied k.held))
-  fronts_at slots id p k x a top below s r long at _ =
-      exchanged (get_or s.words p 0) 0 1
-      (λ n. (w : List K) × (act : Act (Option V)) × Valid s.homes (map emptied k.held) act × LockInvariant R sessions (stepped s p n id (map emptied k.held) w act)
-      × fronted R (step slots p 0 1 kernel.none) (k ∷ [], map emptied k.held) (get_or s.words p 0) (w, carried_after (map emptied k.held) act))
-      (λ hit. absurd (taken hit))
-      (λ miss. (
-        k ∷ [],
-        bring p k.held,
-        moved.0,
-        subst (λ (z : List ℕ × Homes × List (List K)). LockInvariant R sessions record { words = z.0; homes = z.1; views = z.2 })
-            (λ i. (sym (set-get_or s.words p 0) i, sym moved.1 i, sym (set_again s.views id (k ∷ []) at) i)) r,
-        λ k2 sits. subst (λ (z : K). me k (carried_after (map emptied k.held) (bring p k.held)) ≡ me z ((p, None) ∷ map emptied (without p z.held))) (one_session (k ∷ [], map emptied k.held) k k2 refl sits) (λ i. (k ∷ [], moved.2 i)),
-      ))
+      → Allows (LockInvariant R sessions) slots id (k ∷ [], map emptied k.held) (word_of p) (λ n. n) (fronted R (step slots (word_of p) 0 0 kernel.none) (k ∷ [], map emptied k.held))
+  fronts_at slots id p k x a top below s r long at _ = (
+    k ∷ [],
+    bring p k.held,
+    moved.0,
+    subst (λ (z : List ℕ × Homes × List (List K)). LockInvariant R sessions record { words = z.0; homes = z.1; views = z.2 })
+        (λ i. (sym (set-get_or s.words (word_of p) 0) i, sym moved.1 i, sym (set_again s.views id (k ∷ []) at) i)) r,
+    λ k2 p2 sits same. subst (λ (z : ℕ × K). me k (carried_after (map emptied k.held) (bring p k.held)) ≡ me z.1 ((z.0, None) ∷ map emptied (without z.0 z.1.held)))
+        (λ i. (one_place p p2 same i, one_session (k ∷ [], map emptied k.held) k k2 refl sits i)) (λ i. (k ∷ [], moved.2 i)),
+  )
     where
       fit : SessionInvariant R r.progress r.notes s.homes r.holder k
       fit = mine_of R laws sessions s r id k at
@@ -156,9 +157,19 @@ module _ {P N V : Type 0} (R : Rules P N V) (laws : Laws R) (sessions : ℕ) whe
       moved : Valid s.homes (map emptied k.held) (bring p k.held) × (homes_after s.homes (map emptied k.held) (bring p k.held) ≡ s.homes) × (carried_after (map emptied k.held) (bring p k.held) ≡ (p, None) ∷ map emptied (without p k.held))
       moved = brings p k.held a x top fit.apart s.homes (λ b u e. (fit.out b u e).1)
 
-      taken : get_or s.words p 0 ≡ 0 → ⊥
-      taken hit = let t = r.free p (subst (λ z. p < z) (sym long) below) hit in some-ne-none (Some t.0) (some-injective _ _ (sym t.1 ∙ (fit.out a (p, x) top).1))
+  pub fronts : (slots id p word : ℕ) (m : M) (k : K) (x : V) (a : ℕ) → word ≡ word_of p → StepsAs m k → At a (p, x) k.held → p < slots
+      → Allows (LockInvariant R sessions) slots id m word (λ n. n) (fronted R (step slots word 0 0 kernel.none) m)
+  fronts slots id p word m k x a is sits top below =
+      subst (λ (z : ℕ × M). Allows (LockInvariant R sessions) slots id z.1 z.0 (λ n. n) (fronted R (step slots z.0 0 0 kernel.none) z.1)) (λ i. (sym is i, sym sits i)) (fronts_at slots id p k x a top below)
 
-  pub fronts : (slots id p : ℕ) (m : M) (k : K) (x : V) (a : ℕ) → StepsAs m k → At a (p, x) k.held → p < slots
-      → Allows (LockInvariant R sessions) slots id m p (λ n. either (eqb n 0) 1 n) (fronted R (step slots p 0 1 kernel.none) m)
-  fronts slots id p m k x a sits top below = subst (λ (z : M). Allows (LockInvariant R sessions) slots id z p (λ n. either (eqb n 0) 1 n) (fronted R (step slots p 0 1 kernel.none) z)) (sym sits) (fronts_at slots id p k x a top below)
+module _ {P N V : Type 0} where
+  -- the slot of the place is the first of those that are out, and it is empty
+  pub put_out : (m : Me (Option V) (List (Known P N V))) (k : Known P N V) (p : ℕ) → m ≡ (k ∷ [], (p, None) ∷ map emptied (without p k.held)) → m.1 ≡ (p, None) ∷ rest m.1
+  put_out m k p left = ap (λ v. v.1) left ∙ ap (λ v. (p, None) ∷ rest v.1) (sym left)
+
+  pub none_left : (m : Me (Option V) (List (Known P N V))) (k : Known P N V) (p : ℕ) (found : Option V) → m ≡ (k ∷ [], (p, None) ∷ map emptied (without p k.held)) → m.1 ≡ (p, found) ∷ rest m.1 → found ≡ None
+  none_left m k p found left is = ap (λ (l : List (ℕ × Option V)). (get_or l 0 (p, found)).1) (sym is ∙ ap (λ v. v.1) left)
+
+  -- once the word is freed, the session has left the place
+  pub freed_with : (m n : Me (Option V) (List (Known P N V))) (k : Known P N V) (p : ℕ) (y : V) (left : Known P N V) → m ≡ (k ∷ [], (p, Some y) ∷ map emptied (without p k.held)) → n ≡ (left ∷ [], rest m.1) → n ≡ (left ∷ [], map emptied (without p k.held))
+  freed_with m n k p y left is done = done ∙ ap (λ v. (left ∷ [], rest v.1)) is

@@ -1,5 +1,5 @@
 -- Each step of a shelf keeps its rule.
-use Rattle.std.proofs.Common.{◌≡◌, ◌≢◌, ℕ, zero, suc, ◌<◌, List, [], ◌∷◌, length, get_or, set, sym, refl, ap, ◌∙◌, subst, ⊎_elim, arith, Option, Some}
+use Rattle.std.proofs.Common.{◌≡◌, ◌≢◌, ℕ, zero, suc, ◌<◌, ◌≤◌, List, [], ◌∷◌, length, length-set, get_or, get_or-set_other, set, sym, refl, ap, ◌∙◌, subst, ⊎_elim, arith, Option, Some}
 use mathlib.Core.Logic.{dite}
 use mathlib.Core.Option as kernel
 use mathlib.Core.Option.{some-injective, some-ne-none}
@@ -10,6 +10,7 @@ use Rattle.atomic_table.specs.Table.{State, Me, keeps, stepped}
 use Rattle.atomic_table.proofs.Lists.{at_set, set_here, set_else, set_again}
 use Rattle.ownlock.specs.declared.known.Known.{Known}
 use Rattle.ownlock.specs.Rules.{Rules, Laws, leader}
+use Rattle.ownlock.specs.Words.{word_of}
 use Rattle.ownlock.specs.Seats.{At}
 use Rattle.ownlock.specs.Invariant.{SessionInvariant, HeldBySome, LockInvariant, StepsAs}
 
@@ -25,6 +26,10 @@ module _ {A : Type 0} where
 
   pub at_one : (l : List A) (i : ℕ) (x y : A) → At i x l → At i y l → x ≡ y
   at_one l i x y e f = some-injective x y (sym e ∙ f)
+
+-- a word is that of one place at most
+pub one_place : (p q : ℕ) → word_of p ≡ word_of q → p ≡ q
+one_place p q e = omega (arith, e)
 
 -- a seat is one session at most
 pub one_session : {P N V : Type 0} (m : Me (Option V) (List (Known P N V))) (k k2 : Known P N V) → StepsAs m k → StepsAs m k2 → k ≡ k2
@@ -55,13 +60,14 @@ module _ {P N V : Type 0} (R : Rules P N V) (laws : Laws R) (sessions : ℕ) whe
     pub counted : length notes ≡ sessions
     pub homes_else : (q : ℕ) → q ≢ p → get_elem? homes q ≡ get_elem? s.homes q
     pub homes_long : length homes ≡ length s.homes
-    pub words_else : (q : ℕ) → q ≢ p → get_or words q 0 ≡ get_or s.words q 0
+    pub words_else : (q : ℕ) → q ≢ p → get_or words (word_of q) 0 ≡ get_or s.words (word_of q) 0
+    pub tail_here : get_or words (word_of (length homes)) 0 ≡ R.completed progress
     pub words_long : length words ≡ length s.words
     pub holder_else : (q : ℕ) → q ≢ p → holder q ≡ r.holder q
     pub not_theirs : (j i : ℕ) (v : List K) (m : K) (a : ℕ) (u : ℕ × V) → j ≢ id → At j v s.views → At i m v → At a u m.held → u.0 ≢ p
     pub mine : SessionInvariant R progress notes homes holder k'
-    pub free_here : p < length homes → get_or words p 0 ≡ 0 → (x : V) × At p (kernel.some (Some x)) homes × R.AgreesWith p progress notes x
-    pub busy_here : get_or words p 0 ≢ 0 → (a : ℕ) × (u : ℕ × V) × At a u k'.held × (u.0 ≡ p)
+    pub free_here : p < length homes → get_or words (word_of p) 0 ≡ 0 → (x : V) × At p (kernel.some (Some x)) homes × R.AgreesWith p progress notes x
+    pub busy_here : p < length homes → get_or words (word_of p) 0 ≢ 0 → (a : ℕ) × (u : ℕ × V) × At a u k'.held × (u.0 ≡ p)
     pub held_else : (a : ℕ) (u : ℕ × V) → At a u k.held → u.0 ≢ p → (b : ℕ) × At b u k'.held
 
   module _ (s : St) (r : LockInvariant R sessions s) (id p : ℕ) (k k' : K) (progress : P) (notes : List N) (words : List ℕ) (homes : Homes) (holder : ℕ → ℕ) (g : Goes s r id p k k' progress notes words homes holder) where
@@ -108,9 +114,9 @@ module _ {P N V : Type 0} (R : Rules P N V) (laws : Laws R) (sessions : ℕ) whe
         (λ (t : (j ≢ id) × At j v s.views). r.distinct j a b v x y t.1 at_a at_b e)
         (at_set s.views id j (k' ∷ []) v at_j)
 
-    free_after : (q : ℕ) → q < length homes → get_or words q 0 ≡ 0 → (x : V) × At q (kernel.some (Some x)) homes × R.AgreesWith q progress notes x
+    free_after : (q : ℕ) → q < length homes → get_or words (word_of q) 0 ≡ 0 → (x : V) × At q (kernel.some (Some x)) homes × R.AgreesWith q progress notes x
     free_after q below is = dite (ℕ_discrete q p)
-        (λ e. subst (λ z. (x : V) × At z (kernel.some (Some x)) homes × R.AgreesWith z progress notes x) (sym e) (g.free_here (subst (λ z. z < length homes) e below) (subst (λ z. get_or words z 0 ≡ 0) e is)))
+        (λ e. subst (λ z. (x : V) × At z (kernel.some (Some x)) homes × R.AgreesWith z progress notes x) (sym e) (g.free_here (subst (λ z. z < length homes) e below) (subst (λ z. get_or words (word_of z) 0 ≡ 0) e is)))
         (λ ne. let was = r.free q (subst (λ z. q < z) g.homes_long below) (sym (g.words_else q ne) ∙ is) in (was.0, g.homes_else q ne ∙ was.1, g.others q was.0 ne was.2))
 
     still_held : (q : ℕ) → q ≢ p → HeldBySome R q s.views → HeldBySome R q after
@@ -123,9 +129,9 @@ module _ {P N V : Type 0} (R : Rules P N V) (laws : Laws R) (sessions : ℕ) whe
         (id, k' ∷ [], 0, k', kept.0, u, mine_at, refl, kept.1, is))
         (λ other. (j, v, i, m, a, u, set_else s.views id j (k' ∷ []) other ∙ at_j, at_i, at_a, is))
 
-    busy_after : (q : ℕ) → q < length homes → get_or words q 0 ≢ 0 → HeldBySome R q after
+    busy_after : (q : ℕ) → q < length homes → get_or words (word_of q) 0 ≢ 0 → HeldBySome R q after
     busy_after q below is = dite (ℕ_discrete q p)
-        (λ e. let mine = g.busy_here (λ h. is (ap (λ z. get_or words z 0) e ∙ h)) in (id, k' ∷ [], 0, k', mine.0, mine.1, mine_at, refl, mine.2, mine.3 ∙ sym e))
+        (λ e. let mine = g.busy_here (subst (λ z. z < length homes) e below) (λ h. is (ap (λ z. get_or words (word_of z) 0) e ∙ h)) in (id, k' ∷ [], 0, k', mine.0, mine.1, mine_at, refl, mine.2, mine.3 ∙ sym e))
         (λ ne. still_held q ne (r.busy q (subst (λ z. q < z) g.homes_long below) (λ h. is (g.words_else q ne ∙ h))))
 
     pub goes : LockInvariant R sessions record { words = words; homes = homes; views = after }
@@ -136,7 +142,8 @@ module _ {P N V : Type 0} (R : Rules P N V) (laws : Laws R) (sessions : ℕ) whe
       holder = holder;
       accounts = g.accounts;
       counted = g.counted;
-      wide = g.words_long ∙ (r.wide ∙ sym g.homes_long);
+      wide = g.words_long ∙ (r.wide ∙ ap (λ n. word_of (suc n)) (sym g.homes_long));
+      tail = g.tail_here;
       free = free_after;
       busy = busy_after;
       each = each_after;
@@ -155,6 +162,20 @@ module _ {P N V : Type 0} (R : Rules P N V) (laws : Laws R) (sessions : ℕ) whe
       let same : m.session ≡ k.session = sym (known.0.out a u at_a).0 ∙ (ap r.holder e ∙ holds) in
       other (sym known.1 ∙ (ap r.owner same ∙ (r.each id 0 (k ∷ []) k at refl).1))
 
+  -- the word of a place, or that of the completed tail, is there
+  pub word_there : (s : St) (r : LockInvariant R sessions s) (p : ℕ) → p ≤ length s.homes → word_of p < length s.words
+  word_there s r p below = let long = r.wide in omega (arith, long, below)
+
+  -- the words of two places are two
+  pub word_else : (words : List ℕ) (p q n : ℕ) → q ≢ p → get_or (set words (word_of p) n) (word_of q) 0 ≡ get_or words (word_of q) 0
+  word_else words p q n ne = get_or-set_other words (word_of p) (word_of q) n 0 (λ e. ne (omega (arith, e)))
+
+  -- a step at a place leaves the word of the completed tail as it is
+  pub tail_else : (s : St) (r : LockInvariant R sessions s) (p n : ℕ) (h : kernel.Option (Option V)) → p < length s.homes
+      → get_or (set s.words (word_of p) n) (word_of (length (set s.homes p h))) 0 ≡ R.completed r.progress
+  tail_else s r p n h below =
+      ap (λ z. get_or (set s.words (word_of p) n) (word_of z) 0) (length-set s.homes p h) ∙ (word_else s.words p (length s.homes) n (λ e. omega (arith, e, below)) ∙ r.tail)
+
   -- a step that changes nothing
-  pub unmoved : (s : St) (r : LockInvariant R sessions s) (id p : ℕ) (k : K) (c : List (ℕ × Option V)) → At id (k ∷ []) s.views → LockInvariant R sessions (stepped s p (get_or s.words p 0) id c (k ∷ []) keeps)
-  unmoved s r id p k c at = subst (λ (z : List ℕ × List (List K)). LockInvariant R sessions record { words = z.0; homes = s.homes; views = z.1 }) (λ i. (sym (set-get_or s.words p 0) i, sym (set_again s.views id (k ∷ []) at) i)) r
+  pub unmoved : (s : St) (r : LockInvariant R sessions s) (id w : ℕ) (k : K) (c : List (ℕ × Option V)) → At id (k ∷ []) s.views → LockInvariant R sessions (stepped s w (get_or s.words w 0) id c (k ∷ []) keeps)
+  unmoved s r id w k c at = subst (λ (z : List ℕ × List (List K)). LockInvariant R sessions record { words = z.0; homes = s.homes; views = z.1 }) (λ i. (sym (set-get_or s.words w 0) i, sym (set_again s.views id (k ∷ []) at) i)) r

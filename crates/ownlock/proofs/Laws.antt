@@ -7,7 +7,8 @@ use native.Mathlib.Decide.{ℕ_discrete}
 use Rattle.std.specs.Option.{unwrap_or}
 use Rattle.atomic_table.specs.Table.{State}
 use Rattle.ownlock.specs.declared.known.Known.{Known}
-use Rattle.ownlock.specs.Rules.{Rules, CompletedLaws, leader}
+use Rattle.ownlock.specs.Rules.{Rules, leader}
+use Rattle.ownlock.specs.Words.{word_of}
 use Rattle.ownlock.specs.Seats.{At}
 use Rattle.ownlock.specs.Invariant.{LockInvariant, HeldBySome}
 use Rattle.ownlock.specs.Between.{Between, Holds, IsHome, IsHeld, IsHomeOrHeld}
@@ -40,36 +41,25 @@ module _ {P N V : Type 0} (R : Rules P N V) (sessions : ℕ) (s : State (Option 
   not_both : (p : ℕ) (o : Option V) → At p (kernel.some o) s.homes → At p kernel.none s.homes → ⊥
   not_both p o e f = some-ne-none o (some-injective _ _ (sym e ∙ f))
 
-  free : (p : ℕ) → p < length s.homes → get_or s.words p 0 ≡ 0 → IsHome R s r.progress r.notes p
+  free : (p : ℕ) → p < length s.homes → get_or s.words (word_of p) 0 ≡ 0 → IsHome R s r.progress r.notes p
   free p below is = let t = r.free p below is in (is, t, (λ j i a k x h. not_both p (Some t.0) t.1 (out j i a k p x h)))
 
-  held : (p : ℕ) → get_or s.words p 0 ≢ 0 → HeldBySome R p s.views → IsHeld R s r.progress r.notes p
+  held : (p : ℕ) → get_or s.words (word_of p) 0 ≢ 0 → HeldBySome R p s.views → IsHeld R s r.progress r.notes p
   held p busy (j, v, i, k, a, u, at_j, at_i, at_a, is) =
       let h : Holds s j i a k p u.1 = (v, at_j, at_i, subst (λ q. At a (q, u.1) k.held) is at_a) in
       (busy, out j i a k p u.1 h, (j, i, a, k, u.1, h, (λ j' i' a' k' x' h'. once j i a k p u.1 j' i' a' k' x' h h'), agrees j i a k p u.1 h))
 
   either_way : (p : ℕ) → p < length s.homes → IsHomeOrHeld R s r.progress r.notes p
-  either_way p below = dite (ℕ_discrete (get_or s.words p 0) 0) (λ is. inl (free p below is)) (λ busy. inr (held p busy (r.busy p below busy)))
+  either_way p below = dite (ℕ_discrete (get_or s.words (word_of p) 0) 0) (λ is. inl (free p below is)) (λ busy. inr (held p busy (r.busy p below busy)))
 
-  pub between : (Leads : V → Type 0) (completed_of : V → ℕ) (IsRaised : V → ℕ → V → Type 0) → CompletedLaws R Leads completed_of IsRaised → Between R completed_of s sessions
-  between Leads completed_of IsRaised more = (
+  pub between : Between R s sessions
+  between = (
     r.progress,
     r.notes,
     r.accounts,
     r.counted,
     either_way,
     (λ j i v k at_j at_i. let one = (r.each j i v k at_j at_i).0 in (one.possible.0.0, one.possible.1, one.allowed)),
-    (shelved, (λ j i a k x h. more.completed_is r.progress r.notes x (agrees j i a k leader x h))),
+    r.tail,
     (λ j i a k x h. (r.each j i h.0 k h.1 h.2).0.possible.0.1 a (leader, x) h.3 refl),
   )
-    where
-      same : (x y : V) → At leader (kernel.some (Some x)) s.homes → At leader (kernel.some (Some y)) s.homes → y ≡ x
-      same x y e f = ap (λ o. unwrap_or o x) (some-injective _ _ (some-injective _ _ (sym f ∙ e)))
-
-      shelved : (x : V) → At leader (kernel.some (Some x)) s.homes → completed_of x ≡ R.completed r.progress
-      shelved x e = dite (ℕ_discrete (get_or s.words leader 0) 0)
-          (λ is. let t = r.free leader (at_below s.homes leader (kernel.some (Some x)) e) is in subst (λ z. completed_of z ≡ R.completed r.progress) (same x t.0 e t.1) (more.completed_is r.progress r.notes t.0 t.2))
-          (λ busy. absurd (taken (r.busy leader (at_below s.homes leader (kernel.some (Some x)) e) busy)))
-        where
-          taken : HeldBySome R leader s.views → ⊥
-          taken (j, v, i, k, a, u, at_j, at_i, at_a, is) = not_both leader (Some x) e (out j i a k leader u.1 (v, at_j, at_i, subst (λ q. At a (q, u.1) k.held) is at_a))

@@ -7,5 +7,5 @@ pub mod Seats
 pub mod Ends
 pub mod Gather
 pub mod Unload
-pub mod Completed
+pub mod Tail
 pub mod Laws

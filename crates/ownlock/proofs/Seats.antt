@@ -10,7 +10,8 @@ use Rattle.atomic_table.specs.Table.{State, Me, opening, Splits, Joins}
 use Rattle.atomic_table.proofs.Lists.{at_set, set_here, set_else, at_longer, at_last, at_map}
 use Rattle.ownlock.specs.declared.known.Known.{Known}
 use Rattle.ownlock.specs.Rules.{Rules, Laws}
-use Rattle.ownlock.specs.Seats.{At, all_sessions, HoldsNone}
+use Rattle.ownlock.specs.Words.{word_of}
+use Rattle.ownlock.specs.Seats.{At, SeatView, IsSession, all_sessions, HoldsNone}
 use Rattle.ownlock.specs.Knowledge.{AllAgree}
 use Rattle.ownlock.specs.Invariant.{SessionInvariant, HeldBySome, LockInvariant, first_of, others_of, out_of, emptied, StepsAs}
 use Rattle.ownlock.proofs.Keeps.{at_below, at_only, at_one}
@@ -30,6 +31,10 @@ module _ {A : Type 0} where
   pub at_behind : (l m : List A) (i : ℕ) (b : A) → At i b m → (j : ℕ) × At j b (l ++ m)
   at_behind [] m i b e = (i, e)
   at_behind (x ∷ xs) m i b e = let t = at_behind xs m i b e in (suc t.0, t.1)
+
+-- a seat is one session at most
+pub one_known : {P N V : Type 0} (s : SeatView P N V) (k m : Known P N V) → IsSession s k → IsSession s m → k ≡ m
+one_known s k m e f = ap (λ l. get_or l 0 k) (sym e ∙ f)
 
 abbrev blanks : ℕ → List ℕ
 blanks n = replicate n 0
@@ -106,22 +111,26 @@ module _ {P N V : Type 0} (R : Rules P N V) (laws : Laws R) where
   all_sessions_at progress n (x ∷ xs) (suc i) k e = let t = all_sessions_at progress (suc n) xs i k e in let number = t.0 in (omega arith, t.1, t.2, t.3)
 
   -- the shelf at the start
-  pub opens : (progress : P) (notes : List N) (slots : List (Option V)) (words : List ℕ) → words ≡ blanks (length slots) → R.Accounts progress notes → AllAgree R progress notes slots
+  pub opens : (progress : P) (notes : List N) (slots : List (Option V)) (words : List ℕ) → words ≡ blanks (word_of (length slots + 1)) → R.completed progress ≡ 0 → R.Accounts progress notes → AllAgree R progress notes slots
       → LockInvariant R (length notes) (opening words slots (all_sessions progress 0 notes))
-  opens progress notes slots words blank whole agree = record {
+  opens progress notes slots words blank none whole agree = record {
     progress = progress;
     notes = notes;
     owner = λ _. 0;
     holder = λ _. 0;
     accounts = whole;
     counted = refl;
-    wide = ap length blank ∙ omega (arith, length_replicate (length slots), length_map slots);
+    wide = ap length blank ∙ omega (arith, length_replicate (word_of (length slots + 1)), length_map slots);
+    tail = zero_at (word_of (length (map kernel.some slots))) ∙ sym none;
     free = λ p below _. let t = agree p (omega (arith, length_map slots, below)) in (t.0, at_map kernel.some slots p (Some t.0) t.1, t.2);
-    busy = λ p below ne. absurd (ne (ap (λ l. get_or l p 0) blank ∙ zeros (length slots) p));
+    busy = λ p below ne. absurd (ne (zero_at (word_of p)));
     each = holds_of;
     distinct = apart;
   }
     where
+      zero_at : (p : ℕ) → get_or words p 0 ≡ 0
+      zero_at p = ap (λ l. get_or l p 0) blank ∙ zeros (word_of (length slots + 1)) p
+
       length_replicate : (n : ℕ) → length (blanks n) ≡ n
       length_replicate zero = refl
       length_replicate (suc n) = let h = length_replicate n in omega arith
@@ -170,6 +179,7 @@ module _ {P N V : Type 0} (R : Rules P N V) (laws : Laws R) where
       accounts = r.accounts;
       counted = r.counted;
       wide = r.wide;
+      tail = r.tail;
       free = r.free;
       busy = λ p below ne. held p (r.busy p below ne);
       each = each;
@@ -251,6 +261,7 @@ module _ {P N V : Type 0} (R : Rules P N V) (laws : Laws R) where
       accounts = r.accounts;
       counted = r.counted;
       wide = r.wide;
+      tail = r.tail;
       free = r.free;
       busy = λ p below ne. held p (r.busy p below ne);
       each = each;

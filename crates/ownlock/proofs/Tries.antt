@@ -9,10 +9,11 @@ use Rattle.atomic_table.specs.Table.{State, Me, Act, keeps, takes, step, stepped
 use Rattle.atomic_table.proofs.Lists.{set_here, set_else, exchanged}
 use Rattle.ownlock.specs.declared.known.Known.{Known}
 use Rattle.ownlock.specs.Rules.{Rules, Laws}
+use Rattle.ownlock.specs.Words.{word_of}
 use Rattle.ownlock.specs.Seats.{At, place_of, holding}
 use Rattle.ownlock.specs.Knowledge.{HeldAgree, Possible, Acquired, MayTake}
 use Rattle.ownlock.specs.Invariant.{emptied, SessionInvariant, LockInvariant, StepsAs, tried}
-use Rattle.ownlock.proofs.Keeps.{one_session, Goes, goes, mine_of, unmoved}
+use Rattle.ownlock.proofs.Keeps.{one_session, one_place, Goes, goes, mine_of, word_there, word_else, tail_else, unmoved}
 
 module _ {P N V : Type 0} (R : Rules P N V) (laws : Laws R) (sessions : ℕ) where
   abbrev K : Type 0
@@ -62,10 +63,10 @@ module _ {P N V : Type 0} (R : Rules P N V) (laws : Laws R) (sessions : ℕ) whe
     take_fits : SessionInvariant R r.progress r.notes (set s.homes p kernel.none) now_holds taker
     take_fits = record { possible = after_take; allowed = laws.allows_on k.progress r.progress k.session (map place_of taker.held) (mine_of R laws sessions s r id k at).possible.0.0 may.1; apart = take_apart; out = take_out }
 
-    word_set : (n : ℕ) → get_or (set s.words p n) p 0 ≡ n
-    word_set n = get_or-set_same s.words p n 0 (subst (λ z. p < z) (sym r.wide) below)
+    word_set : (n : ℕ) → get_or (set s.words (word_of p) n) (word_of p) 0 ≡ n
+    word_set n = get_or-set_same s.words (word_of p) n 0 (word_there R laws sessions s r p (omega (arith, below)))
 
-    takes_it : Goes R laws sessions s r id p k taker r.progress r.notes (set s.words p 1) (set s.homes p kernel.none) now_holds
+    takes_it : Goes R laws sessions s r id p k taker r.progress r.notes (set s.words (word_of p) 1) (set s.homes p kernel.none) now_holds
     takes_it = record {
       here = at;
       session = refl;
@@ -77,18 +78,19 @@ module _ {P N V : Type 0} (R : Rules P N V) (laws : Laws R) (sessions : ℕ) whe
       counted = r.counted;
       homes_else = λ q ne. set_else s.homes p q kernel.none ne;
       homes_long = length-set s.homes p kernel.none;
-      words_else = λ q ne. get_or-set_other s.words p q 1 0 ne;
-      words_long = length-set s.words p 1;
+      words_else = λ q ne. word_else R laws sessions s.words p q 1 ne;
+      tail_here = tail_else R laws sessions s r p 1 kernel.none below;
+      words_long = length-set s.words (word_of p) 1;
       holder_else = holds_else;
       not_theirs = λ j i v m a u other at_j at_i at_a e. not_out (subst (λ z. At z kernel.none s.homes) e ((r.each j i v m at_j at_i).0.out a u at_a).1);
       mine = take_fits;
       free_here = λ _ e. let one = word_set 1 in absurd (omega (arith, one, e));
-      busy_here = λ _. (0, (p, x), refl, refl);
+      busy_here = λ _ _. (0, (p, x), refl, refl);
       held_else = λ a u e _. (suc a, e);
     }
 
-    takes_stand : LockInvariant R sessions (stepped s p 1 id (map emptied k.held) (taker ∷ []) (takes p (Some x)))
-    takes_stand = goes R laws sessions s r id p k taker r.progress r.notes (set s.words p 1) (set s.homes p kernel.none) now_holds takes_it
+    takes_stand : LockInvariant R sessions (stepped s (word_of p) 1 id (map emptied k.held) (taker ∷ []) (takes p (Some x)))
+    takes_stand = goes R laws sessions s r id p k taker r.progress r.notes (set s.words (word_of p) 1) (set s.homes p kernel.none) now_holds takes_it
 
   abbrev me : K → List (ℕ × Option V) → M
   me k c = (k ∷ [], c)
@@ -98,11 +100,11 @@ module _ {P N V : Type 0} (R : Rules P N V) (laws : Laws R) (sessions : ℕ) whe
   Told p m n m' k = (n ≢ 0 → m' ≡ m) × (n ≡ 0 → (w : K) × (x : V) × Acquired R p k w x × (m' ≡ me w ((p, Some x) ∷ m.1)))
 
   tries_at : (slots id p : ℕ) (k : K) → p < slots → MayTake R p k
-      → Allows (LockInvariant R sessions) slots id (k ∷ [], map emptied k.held) p (λ n. either (eqb n 0) 1 n) (tried R (step slots p 0 1 kernel.none) (k ∷ [], map emptied k.held))
+      → Allows (LockInvariant R sessions) slots id (k ∷ [], map emptied k.held) (word_of p) (λ n. either (eqb n 0) 1 n) (tried R (step slots (word_of p) 0 1 kernel.none) (k ∷ [], map emptied k.held))
   tries_at slots id p k below may s r long at _ =
-      exchanged (get_or s.words p 0) 0 1
-      (λ n. (w : List K) × (a : Act (Option V)) × Valid s.homes (map emptied k.held) a × LockInvariant R sessions (stepped s p n id (map emptied k.held) w a)
-      × tried R (step slots p 0 1 kernel.none) (k ∷ [], map emptied k.held) (get_or s.words p 0) (w, carried_after (map emptied k.held) a))
+      exchanged (get_or s.words (word_of p) 0) 0 1
+      (λ n. (w : List K) × (a : Act (Option V)) × Valid s.homes (map emptied k.held) a × LockInvariant R sessions (stepped s (word_of p) n id (map emptied k.held) w a)
+      × tried R (step slots (word_of p) 0 1 kernel.none) (k ∷ [], map emptied k.held) (get_or s.words (word_of p) 0) (w, carried_after (map emptied k.held) a))
       (λ hit.
       let inside : p < length s.homes = subst (λ z. p < z) (sym long) below in
       let t = r.free p inside hit in
@@ -111,19 +113,20 @@ module _ {P N V : Type 0} (R : Rules P N V) (laws : Laws R) (sessions : ℕ) whe
         takes p (Some t.0),
         t.1,
         takes_stand s r id p k at inside may t.0 t.1 t.2,
-        λ k2 sits. subst
-            (λ (z : K). Told p (me k (map emptied k.held)) (get_or s.words p 0) (me after ((p, Some t.0) ∷ map emptied k.held)) z)
-            (one_session (k ∷ [], map emptied k.held) k k2 refl sits) (
+        λ k2 p2 sits same. subst
+            (λ (z : ℕ × K). Told z.0 (me k (map emptied k.held)) (get_or s.words (word_of p) 0) (me after ((p, Some t.0) ∷ map emptied k.held)) z.1)
+            (λ i. (one_place p p2 same i, one_session (k ∷ [], map emptied k.held) k k2 refl sits i)) (
               (λ ne. absurd (ne hit)),
               (λ _. (after, t.0, (r.progress, refl, (mine_of R laws sessions s r id k at).possible.0, (r.notes, after_take s r id p k at inside may t.0 t.1 t.2)), refl)),
             ),
       ))
-      (λ miss. (k ∷ [], keeps, tt, unmoved R laws sessions s r id p k (map emptied k.held) at, λ k2 sits. ((λ _. refl), (λ hit. absurd (miss hit)))))
+      (λ miss. (k ∷ [], keeps, tt, unmoved R laws sessions s r id (word_of p) k (map emptied k.held) at, λ k2 p2 sits same. ((λ _. refl), (λ hit. absurd (miss hit)))))
 
   -- a try at the place p
-  pub tries : (slots id p : ℕ) (m : M) (k : K) → StepsAs m k → p < slots → MayTake R p k
-      → Allows (LockInvariant R sessions) slots id m p (λ n. either (eqb n 0) 1 n) (tried R (step slots p 0 1 kernel.none) m)
-  tries slots id p m k sits below may = subst (λ (z : M). Allows (LockInvariant R sessions) slots id z p (λ n. either (eqb n 0) 1 n) (tried R (step slots p 0 1 kernel.none) z)) (sym sits) (tries_at slots id p k below may)
+  pub tries : (slots id p word : ℕ) (m : M) (k : K) → word ≡ word_of p → StepsAs m k → p < slots → MayTake R p k
+      → Allows (LockInvariant R sessions) slots id m word (λ n. either (eqb n 0) 1 n) (tried R (step slots word 0 1 kernel.none) m)
+  tries slots id p word m k is sits below may =
+      subst (λ (z : ℕ × M). Allows (LockInvariant R sessions) slots id z.1 z.0 (λ n. either (eqb n 0) 1 n) (tried R (step slots z.0 0 1 kernel.none) z.1)) (λ i. (sym is i, sym sits i)) (tries_at slots id p k below may)
 
   -- what the seat has, once the value is out of its slot
   pub taken_out : (m m1 m2 : M) (k w : K) (p : ℕ) (x v : V) (found : Option V) → StepsAs m k → Acquired R p k w x → m1 ≡ (w ∷ [], (p, Some x) ∷ m.1) → m1.1 ≡ (p, found) ∷ rest m1.1 → m2 ≡ (m1.0, (p, None) ∷ rest m1.1) → found ≡ Some v
@@ -134,3 +137,7 @@ module _ {P N V : Type 0} (R : Rules P N V) (laws : Laws R) (sessions : ℕ) whe
       let view : m1.0 ≡ w ∷ [] = ap (λ (z : M). z.0) is1 in
       let left : (p, None) ∷ rest m1.1 ≡ map emptied w.held = ap (λ (z : M). (p, None) ∷ rest z.1) is1 ∙ sym held in
       (w, subst (λ z. Acquired R p k w z) same won, is2 ∙ (λ i. (view i, left i)))
+
+  -- what was in the slot is what the try found
+  pub was_there : (m m1 : M) (w : K) (p : ℕ) (x : V) (found : Option V) → m1 ≡ (w ∷ [], (p, Some x) ∷ m.1) → m1.1 ≡ (p, found) ∷ rest m1.1 → found ≡ Some x
+  was_there m m1 w p x found is top = ap (λ (l : List (ℕ × Option V)). (get_or l 0 (p, found)).1) (sym top ∙ ap (λ (z : M). z.1) is)

@@ -1,12 +1,13 @@
 -- What holds of the words, the slots and the seats between any two atomic steps, and what each step on a word tells.
--- A place has one word, which is 0 while the place is free, and one slot.
-use Rattle.std.specs.Prelude.{◌≡◌, ◌≢◌, ℕ, ◌<◌, List, [], ◌∷◌, ◌++◌, map, length, slice_index, Option, Some, None}
+-- A place has one word, which is 0 while the place is free, and one slot. The completed tail has a word of its own.
+use Rattle.std.specs.Prelude.{◌≡◌, ◌≢◌, ℕ, suc, ◌<◌, List, [], ◌∷◌, ◌++◌, map, length, slice_index, Option, Some, None}
 use mathlib.Core.Option as kernel
 use Rattle.atomic_table.specs.Table.{State, Me, Step, rest}
 use Rattle.ownlock.specs.declared.known.Known.{Known}
 use Rattle.ownlock.specs.Rules.{Rules}
-use Rattle.ownlock.specs.Seats.{At, View, place_of, without, left_with}
-use Rattle.ownlock.specs.Knowledge.{Possible, Acquired, AllAgree}
+use Rattle.ownlock.specs.Words.{word_of, completed_word}
+use Rattle.ownlock.specs.Seats.{At, View, place_of, without, left_with, with_progress}
+use Rattle.ownlock.specs.Knowledge.{Later, Possible, Acquired, AllAgree}
 
 -- the slot of a place that is held has no value
 abbrev pub emptied : {V : Type 0} → ℕ × V → ℕ × Option V
@@ -52,23 +53,36 @@ module _ {P N V : Type 0} (R : Rules P N V) where
     pub holder : ℕ → ℕ
     pub accounts : R.Accounts progress notes
     pub counted : length notes ≡ sessions
-    pub wide : length s.words ≡ length s.homes
-    pub free : (p : ℕ) → p < length s.homes → slice_index s.words p ≡ 0 → (x : V) × At p (kernel.some (Some x)) s.homes × R.AgreesWith p progress notes x
-    pub busy : (p : ℕ) → p < length s.homes → slice_index s.words p ≢ 0 → HeldBySome p s.views
+    pub wide : length s.words ≡ word_of (suc (length s.homes))
+    pub tail : slice_index s.words (completed_word (length s.homes)) ≡ R.completed progress
+    pub free : (p : ℕ) → p < length s.homes → slice_index s.words (word_of p) ≡ 0 → (x : V) × At p (kernel.some (Some x)) s.homes × R.AgreesWith p progress notes x
+    pub busy : (p : ℕ) → p < length s.homes → slice_index s.words (word_of p) ≢ 0 → HeldBySome p s.views
     pub each : (j i : ℕ) (v : View P N V) (k : Known P N V) → At j v s.views → At i k v → SessionInvariant progress notes s.homes holder k × (owner k.session ≡ j)
     pub distinct : (j a b : ℕ) (v : View P N V) (k m : Known P N V) → At j v s.views → At a k v → At b m v → k.session ≡ m.session → a ≡ b
 
   -- a try at a place: where the word was 0, the seat has the value, and knows a progress that it agrees with
   abbrev pub tried : Step (Option V) → Me (Option V) (View P N V) → ℕ → Me (Option V) (View P N V) → Type 0
-  tried st m r m' = (k : Known P N V) → StepsAs m k → (r ≢ 0 → m' ≡ m) × (r ≡ 0 → (after : Known P N V) × (x : V) × Acquired R st.word k after x × (m' ≡ (after ∷ [], (st.word, Some x) ∷ m.1)))
+  tried st m r m' = (k : Known P N V) (p : ℕ) → StepsAs m k → st.word ≡ word_of p → (r ≢ 0 → m' ≡ m) × (r ≡ 0 → (after : Known P N V) × (x : V) × Acquired R p k after x × (m' ≡ (after ∷ [], (p, Some x) ∷ m.1)))
 
-  -- a try at a place that the seat holds fails, and the slot of that place is then the first of those that are out
+  -- a look at the word of a place that the seat itself holds finds it taken, and the slot of that place is then the first of those that are out
   abbrev pub fronted : Step (Option V) → Me (Option V) (View P N V) → ℕ → Me (Option V) (View P N V) → Type 0
-  fronted st m r m' = (k : Known P N V) → StepsAs m k → m' ≡ (k ∷ [], (st.word, None) ∷ map emptied (without st.word k.held))
+  fronted st m r m' = (k : Known P N V) (p : ℕ) → StepsAs m k → st.word ≡ word_of p → m' ≡ (k ∷ [], (p, None) ∷ map emptied (without p k.held))
 
   -- the word of a held place goes to 0
   abbrev pub freed : (P → P) → (N → N) → Step (Option V) → Me (Option V) (View P N V) → ℕ → Me (Option V) (View P N V) → Type 0
-  freed grown noted st m r m' = (k : Known P N V) → m.0 ≡ k ∷ [] → (progress : P) × ((notes : List N) × Possible R k progress notes) × (m' ≡ (left_with k st.word (grown progress) (noted k.note) ∷ [], rest m.1))
+  freed grown noted st m r m' = (k : Known P N V) (p : ℕ) → m.0 ≡ k ∷ [] → st.word ≡ word_of p → (progress : P) × ((notes : List N) × Possible R k progress notes) × (m' ≡ (left_with k p (grown progress) (noted k.note) ∷ [], rest m.1))
+
+  -- the word of the completed tail is read: the seat knows a progress with that completed tail
+  abbrev pub done_read : Step (Option V) → Me (Option V) (View P N V) → ℕ → Me (Option V) (View P N V) → Type 0
+  done_read st m r m' = (k : Known P N V) → m.0 ≡ k ∷ [] → (progress : P) × ((notes : List N) × Possible R k progress notes) × (r ≡ R.completed progress) × (m' ≡ (with_progress k progress ∷ [], m.1))
+
+  -- the word of the completed tail is raised: the seat knows a progress with the completed tail so raised
+  abbrev pub done_raised : Step (Option V) → Me (Option V) (View P N V) → ℕ → Me (Option V) (View P N V) → Type 0
+  done_raised st m r m' = (k : Known P N V) → m.0 ≡ k ∷ [] → (before : P) × Later R k before × ((notes : List N) × Possible R k (R.raised before st.first) notes) × (m' ≡ (with_progress k (R.raised before st.first) ∷ [], m.1))
+
+  -- each session with a number below this count is in the view
+  abbrev pub HasAllSessions : ℕ → View P N V → Type 0
+  HasAllSessions count v = (q : ℕ) → q < count → (i : ℕ) × (k : Known P N V) × At i k v × (k.session ≡ q)
 
   -- at the end: each value agrees with a progress that has grown from every session's, and with the notes of all
   abbrev pub Closes : ℕ → View P N V → List (Option V) → Type 0
@@ -76,3 +90,4 @@ module _ {P N V : Type 0} (R : Rules P N V) where
       (progress : P) × (notes : List N) × R.Accounts progress notes × (length notes ≡ sessions)
       × ((i : ℕ) (k : Known P N V) → At i k v → R.Extends k.progress progress × At k.session k.note notes)
       × AllAgree R progress notes slots
+      × HasAllSessions sessions v

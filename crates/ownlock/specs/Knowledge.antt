@@ -36,12 +36,17 @@ module _ {P N V : Type 0} (R : Rules P N V) where
   abbrev pub AllAgree : P → List N → List (Option V) → Type 0
   AllAgree progress notes slots = (p : ℕ) → p < length slots → (x : V) × At p (Some x) slots × R.AgreesWith p progress notes x
 
-  -- at the end: each value agrees with one progress, which has grown from the one of each seat, and with the notes that the seats bring
+  -- each session with a number below this count has one of the seats
+  abbrev pub AllHaveSeats : ℕ → List (SeatView P N V) → Type 0
+  AllHaveSeats count seats = (q : ℕ) → q < count → (a : ℕ) × (s : SeatView P N V) × (k : Known P N V) × At a s seats × IsSession s k × (k.session ≡ q)
+
+  -- at the end: each value agrees with one progress, which has grown from the one of each seat, and with the notes that the seats bring, which are all notes
   abbrev pub Agreed : List (SeatView P N V) → List (Option V) → Type 0
   Agreed seats slots =
       (progress : P) × (notes : List N) × R.Accounts progress notes × (length notes ≡ length seats)
       × ((a : ℕ) (s : SeatView P N V) (k : Known P N V) → At a s seats → IsSession s k → R.Extends k.progress progress × At k.session k.note notes)
       × AllAgree progress notes slots
+      × AllHaveSeats (length notes) seats
 
 -- each of these seats is of that shelf, is one session, and holds no place
 abbrev pub AllIdle : {P N V : Type 0} → ShelfId → List (SeatView P N V) → Type 0

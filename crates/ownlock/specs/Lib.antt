@@ -1,4 +1,5 @@
 pub mod Rules
+pub mod Words
 pub mod Seats
 pub mod Knowledge
 pub mod Invariant

@@ -27,10 +27,10 @@ pub record Rules (P N V : Type 0) : Type 1 where
   pub Allows : P → ℕ → List ℕ → Type 0
   -- the session that took the value at the place may go from the progress and its own note to another progress and note
   pub Moves : ℕ → ℕ → V → P → N → P → N → Type 0
-  -- the completed tail, the progress with that completed tail, and whether the history has so many entries
+  -- the completed tail, the progress whose completed tail is raised to at least n, and whether the history has at least n entries
   pub completed : P → ℕ
-  pub with_completed : P → ℕ → P
-  pub HasLength : P → ℕ → Type 0
+  pub raised : P → ℕ → P
+  pub Reaches : P → ℕ → Type 0
 
 -- What has to hold of the rules.
 pub record Laws {P N V : Type 0} (R : Rules P N V) : Type 0 where
@@ -48,15 +48,14 @@ pub record Laws {P N V : Type 0} (R : Rules P N V) : Type 0 where
   pub moves_account : (p i : ℕ) (x : V) (l l' : P) (n n' : N) (ns : List N) → R.Accounts l ns → get_elem? ns i ≡ some n → R.AgreesWith p l ns x → R.Moves p i x l n l' n' → R.Accounts l' (slice_set ns i n')
   pub moves_others : (p i : ℕ) (x : V) (l l' : P) (n n' : N) (ns : List N) → R.Accounts l ns → get_elem? ns i ≡ some n → R.AgreesWith p l ns x → R.Moves p i x l n l' n'
       → (q : ℕ) (y : V) → q ≢ p → R.AgreesWith q l ns y → R.AgreesWith q l' (slice_set ns i n') y
-
--- While the completed tail is a part of the leader's value: which values lead, the completed tail of one, and that the second value is the first with a tail raised to n.
-pub record CompletedLaws {P N V : Type 0} (R : Rules P N V) (Leads : V → Type 0) (completed_of : V → ℕ) (IsRaised : V → ℕ → V → Type 0) : Type 0 where
-  pub leader_leads : (l : P) (ns : List N) (x : V) → R.AgreesWith leader l ns x → Leads x
-  pub completed_is : (l : P) (ns : List N) (x : V) → R.AgreesWith leader l ns x → completed_of x ≡ R.completed l
-  pub with_completed_is : (l : P) (n : ℕ) → R.completed (R.with_completed l n) ≡ n
-  pub length_on : (a b : P) (n : ℕ) → R.Extends a b → R.HasLength a n → R.HasLength b n
-  -- who changes nothing may put a value back
-  pub stays : (p i : ℕ) (x : V) (l : P) (n : N) (ns : List N) → R.Accounts l ns → R.AgreesWith p l ns x → R.Moves p i x l n l n
-  -- who raises the leader's tail makes the completed tail the greater of the two
-  pub rises : (i : ℕ) (x y : V) (l : P) (m : N) (ns : List N) (n : ℕ) → R.Accounts l ns → R.AgreesWith leader l ns x → R.HasLength l n → IsRaised x n y
-      → R.Moves leader i x l m (R.with_completed l (max (R.completed l) n)) m × R.AgreesWith leader (R.with_completed l (max (R.completed l) n)) ns y
+  -- no put changes the completed tail
+  pub moves_completed : (p i : ℕ) (x : V) (l l' : P) (n n' : N) → R.Moves p i x l n l' n' → R.completed l' ≡ R.completed l
+  -- a raise makes the completed tail the greater of the two, and adds nothing to the history
+  pub raised_completed : (l : P) (n : ℕ) → R.completed (R.raised l n) ≡ max (R.completed l) n
+  pub raised_extends : (l : P) (n : ℕ) → R.Extends l (R.raised l n)
+  pub raised_same : (l : P) (n : ℕ) → R.SameHistory l (R.raised l n)
+  -- a raise to no more than the history's length keeps the account, and the agreement of each value
+  pub raised_account : (l : P) (n : ℕ) (ns : List N) → R.Reaches l n → R.Accounts l ns → R.Accounts (R.raised l n) ns
+  pub raised_agrees : (p : ℕ) (x : V) (l : P) (n : ℕ) (ns : List N) → R.Reaches l n → R.Accounts l ns → R.AgreesWith p l ns x → R.AgreesWith p (R.raised l n) ns x
+  -- a history that grows reaches as far as before
+  pub reaches_on : (a b : P) (n : ℕ) → R.Extends a b → R.Reaches a n → R.Reaches b n

@@ -11,7 +11,7 @@ use crate::shelved::Shelved;
 ///
 /// One progress has grown from what every session knows, and accounts for the notes of all. Each place is either free, with a
 /// value on the shelf that agrees with them, and held by nobody, or its word isn't 0, nothing is on the shelf, and one session
-/// of one seat holds it. The completed tail of the leader's value is the progress's.
+/// of one seat holds it. A word of its own is the progress's completed tail.
 pub fn between_steps<V: Shelved>()
-    ensures { (sessions : ℕ) (s : State (Option V) (View V.Progress V.SessionNote V)) → LockInvariant V.rules sessions s → Between V.rules V.completed_of s sessions }
+    ensures { (sessions : ℕ) (s : State (Option V) (View V.Progress V.SessionNote V)) → LockInvariant V.rules sessions s → Between V.rules s sessions }
 {}

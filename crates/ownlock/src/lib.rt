@@ -4,14 +4,21 @@
 //! agree with both. Any number of threads may take and put, each with a seat of its own.
 #![tactic(auto)]
 
-pub mod change;
-pub mod error;
-pub mod known;
-pub mod law;
+mod change;
+mod error;
+mod known;
+mod law;
 mod rule;
-pub mod seat;
-pub mod shelf;
-pub mod shelved;
+mod seat;
+mod shelf;
+mod shelved;
 mod steps;
-#[cfg(test)]
-mod tests;
+mod words;
+
+pub use change::Change;
+pub use error::{NotOpened, OpenError};
+pub use known::Known;
+pub use law::between_steps;
+pub use seat::Seat;
+pub use shelf::{Held, LEADER, Shelf};
+pub use shelved::Shelved;

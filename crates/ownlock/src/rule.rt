@@ -1,7 +1,7 @@
 // The rule of the table under a shelf, and what each step on a word tells.
 ghost use Rattle.std.specs.Prelude.{[], ◌++◌, length};
 ghost use Rattle.ownlock.specs.Seats.{all_sessions};
-ghost use Rattle.ownlock.specs.Invariant.{LockInvariant, tried, fronted, freed, first_of, others_of};
+ghost use Rattle.ownlock.specs.Invariant.{LockInvariant, tried, fronted, freed, done_read, done_raised, first_of, others_of};
 
 use crate::change::Change;
 use crate::known::Known;
@@ -34,10 +34,10 @@ impl<V: Shelved> Play<Option<V>, View<V>> for Try {
     ghost then = { tried V.rules };
 }
 
-// A try at a place that the seat itself holds, which fails.
-pub struct Front;
+// A look at the word of a place that the seat itself holds: it is taken.
+pub struct OwnRetry;
 
-impl<V: Shelved> Play<Option<V>, View<V>> for Front {
+impl<V: Shelved> Play<Option<V>, View<V>> for OwnRetry {
     ghost then = { fronted V.rules };
 }
 
@@ -48,6 +48,20 @@ pub struct Free<M> {
 
 impl<V: Shelved, M: Change<V::Progress, V::SessionNote>> Play<Option<V>, View<V>> for Free<M> {
     ghost then = { freed V.rules M.progress M.note };
+}
+
+// The completed tail is read.
+pub struct ReadDone;
+
+impl<V: Shelved> Play<Option<V>, View<V>> for ReadDone {
+    ghost then = { done_read V.rules };
+}
+
+// The completed tail is raised.
+pub struct RaiseDone;
+
+impl<V: Shelved> Play<Option<V>, View<V>> for RaiseDone {
+    ghost then = { done_raised V.rules };
 }
 
 // The first session goes to a seat of its own.

@@ -1,28 +1,28 @@
 // The shelf, and its calls.
 ghost use Rattle.std.specs.Prelude.{◌≡◌, ◌<◌, ◌≤◌, max, List, [], ◌∷◌, ◌++◌, length, replicate, vec_capacity, IfOk, IfErr};
 ghost use Rattle.std.specs.Mem.Slots.{slots_items, slots_len, IsFull};
-ghost use Rattle.ownlock.specs.Rules.{leader};
 ghost use Rattle.ownlock.specs.declared.known.Known.{Known};
 ghost use Rattle.ownlock.specs.Seats.{IsSession, left_with, with_progress, all_sessions, HoldsNone};
-ghost use Rattle.ownlock.specs.Knowledge.{Acquired, Possible, MayTake, MayPut, AllAgree, Agreed, AllIdle};
+ghost use Rattle.ownlock.specs.Knowledge.{Later, Acquired, Possible, MayTake, MayPut, AllAgree, Agreed, AllIdle};
 ghost use Rattle.ownlock.specs.Invariant.{Closes};
 ghost use Rattle.ownlock.specs.Held.{held_place};
 
 use crate::change::Change;
 use crate::error::{NotOpened, OpenError};
-use crate::rule::{JoinViews, LockRule, SplitFirst, View};
+use crate::rule::{JoinViews, LockRule, RaiseDone, ReadDone, SplitFirst, View};
 use crate::seat::Seat;
 use crate::shelved::Shelved;
 use crate::steps::{acquire, release};
+use crate::words::{word_count, word_of};
 use atomic_table::{Closed, Refused, Table};
 use std::alloc::{AllocError, Global};
-use std::marker::{Brand, Model};
+use std::marker::Model;
 use std::sync::Wait;
 
-/// The place of the value that leads: nothing but its put adds to the history, and the completed tail is a part of it.
+/// The place of the value that leads: nothing but its put adds to the history.
 pub const LEADER: usize = 0;
 
-/// Numbered places, from 0 on. Each has a value, or a session holds it.
+/// Numbered places, from 0 on: each has a value, or a session holds it. And the completed tail, which no place has.
 #[derive(Drop)]
 pub struct Shelf<V: Shelved> {
     table: Table<Option<V>, View<V>, <V as Shelved>::Setup, LockRule<V>, Global>,
@@ -31,14 +31,15 @@ pub struct Shelf<V: Shelved> {
 
 impl<V: Shelved> Model for Shelf<V> {
     ghost use Rattle.std.specs.Prelude.{◌≡◌, ◌<◌, ◌≤◌, [], vec_capacity};
+    ghost use Rattle.ownlock.specs.Words.{HasLines};
     ghost use Rattle.ownlock.specs.Seats.{ShelfView};
 
     ghost Value = { ShelfView V.Setup };
 
     ghost view = { λ a. record { id = a.table.shared.table_id; places = a.table.shared.table_id.slots; setup = a.table.shared.key } };
 
-    // Each place has one word and one slot, there is a place for the leader, and there is room for all values at the end.
-    ghost invariant = { λ a. (a.table.shared.table_id.words ≡ a.table.shared.table_id.slots) × (0 < a.table.shared.table_id.slots) × (a.room.items ≡ []) × (a.table.shared.table_id.slots ≤ vec_capacity a.room) };
+    // Each place and the completed tail have a line of words, there is a place for the leader, and there is room for all values at the end.
+    ghost invariant = { λ a. HasLines a.table.shared.table_id × (0 < a.table.shared.table_id.slots) × (a.room.items ≡ []) × (a.table.shared.table_id.slots ≤ vec_capacity a.room) };
 }
 
 /// The value of a place that a session holds. It has no `Drop`, so it ends in `put`.
@@ -87,6 +88,7 @@ impl<V: Shelved> Shelf<V> {
         setup: &V::Setup,
     ) -> Result<(Shelf<V>, Seat<V>), NotOpened<V>>
         requires leads { 0 < length values.items }
+        requires none { V.rules.completed (V.first_progress setup.now) ≡ 0 }
         requires accounts { V.rules.Accounts (V.first_progress setup.now) (V.first_notes setup.now) }
         requires agree { AllAgree V.rules (V.first_progress setup.now) (V.first_notes setup.now) values.items }
         ensures shelf { IfOk result (λ t. (t.0.places ≡ length values.items) × (t.0.setup ≡ setup.now)) }
@@ -94,7 +96,10 @@ impl<V: Shelved> Shelf<V> {
         ensures refused { IfErr result (λ r. r.values.items ≡ values.items) }
     {
         let places = values.len();
-        let Ok(words) = blank_words(alloc, places) else {
+        let Some(count) = word_count(places) else {
+            return Err(not_opened(values));
+        };
+        let Ok(words) = blank_words(alloc, count) else {
             return Err(not_opened(values));
         };
         let Ok(room) = Vec::with_capacity(alloc, places) else {
@@ -115,7 +120,8 @@ impl<V: Shelved> Shelf<V> {
         requires some { (k : Known V.Progress V.SessionNote V) × (ks : List (Known V.Progress V.SessionNote V)) × (seat.old.sessions ≡ k ∷ ks) }
         requires idle { HoldsNone seat.old.sessions }
         ensures same { (seat.new.shelf ≡ seat.old.shelf) × (result.shelf ≡ seat.old.shelf) }
-        ensures apart { (k : Known V.Progress V.SessionNote V) (ks : List (Known V.Progress V.SessionNote V)) → seat.old.sessions ≡ k ∷ ks → (seat.new.sessions ≡ ks) × (result.sessions ≡ k ∷ []) }
+        ensures apart { (k : Known V.Progress V.SessionNote V) (ks : List (Known V.Progress V.SessionNote V)) → seat.old.sessions ≡ k ∷ ks
+            → (seat.new.sessions ≡ ks) × (result.sessions ≡ k ∷ []) }
     {
         let pass = self.table.shared.split_seat::<SplitFirst>(&mut seat.pass);
         Seat { pass }
@@ -128,7 +134,8 @@ impl<V: Shelved> Shelf<V> {
         requires there { place < self.now.places }
         requires may { (k : Known V.Progress V.SessionNote V) × IsSession seat.old k × MayTake V.rules place k }
         ensures same { (seat.new.shelf ≡ seat.old.shelf) × (held_place result ≡ place) }
-        ensures taken { (k : Known V.Progress V.SessionNote V) → IsSession seat.old k → (after : Known V.Progress V.SessionNote V) × Acquired V.rules place k after result.value × IsSession seat.new after }
+        ensures taken { (k : Known V.Progress V.SessionNote V) → IsSession seat.old k → (after : Known V.Progress V.SessionNote V)
+            × Acquired V.rules place k after result.value × IsSession seat.new after }
     {
         let value = acquire(rt, &self.table.shared, &mut seat.pass, place);
         Held { value, place }
@@ -141,38 +148,42 @@ impl<V: Shelved> Shelf<V> {
         requires there { held_place held < self.now.places }
         requires may { (k : Known V.Progress V.SessionNote V) × IsSession seat.old k × MayPut V.rules M.progress M.note k (held_place held) held.value }
         ensures same { seat.new.shelf ≡ seat.old.shelf }
-        ensures put { (k : Known V.Progress V.SessionNote V) → IsSession seat.old k → (progress : V.Progress) × ((notes : List V.SessionNote) × Possible V.rules k progress notes) × IsSession seat.new (left_with k (held_place held) (M.progress progress) (M.note k.note)) }
+        ensures put { (k : Known V.Progress V.SessionNote V) → IsSession seat.old k → (progress : V.Progress)
+            × ((notes : List V.SessionNote) × Possible V.rules k progress notes)
+            × IsSession seat.new (left_with k (held_place held) (M.progress progress) (M.note k.note)) }
     {
         let Held { value, place } = held;
         release::<V, M>(&self.table.shared, &mut seat.pass, place, value);
     }
 
-    /// The completed tail, by way of the leader's place, which is taken for a moment.
-    pub fn done<R: Wait>(&self, rt: &R, seat: &mut Seat<V>) -> u64
+    /// The completed tail. It waits for nobody, and the session may hold any places: what it took from there still agrees.
+    pub fn done(&self, seat: &mut Seat<V>) -> u64
         requires own { seat.old.shelf ≡ self.now.id }
-        requires may { (k : Known V.Progress V.SessionNote V) × IsSession seat.old k × MayTake V.rules leader k }
+        requires one { (k : Known V.Progress V.SessionNote V) × IsSession seat.old k }
         ensures same { seat.new.shelf ≡ seat.old.shelf }
-        ensures read { (k : Known V.Progress V.SessionNote V) → IsSession seat.old k → (progress : V.Progress) × V.rules.Extends k.progress progress × (result ≡ V.rules.completed progress) × IsSession seat.new (with_progress k progress) }
+        ensures read { (k : Known V.Progress V.SessionNote V) → IsSession seat.old k → (progress : V.Progress)
+            × ((notes : List V.SessionNote) × Possible V.rules k progress notes) × (result ≡ V.rules.completed progress)
+            × IsSession seat.new (with_progress k progress) }
     {
-        let _ = &self.table;
-        let held = self.take(rt, seat, LEADER);
-        let done = held.value.done();
-        self.put::<Brand>(seat, held);
-        done
+        let word = word_of(self.table.slot_count());
+        self.table.shared.load::<ReadDone>(&mut seat.pass, word)
     }
 
-    /// The completed tail becomes the greater of itself and `n`, which is a length of the history that the session knows. The
-    /// leader's place is taken for a moment.
-    pub fn raise<R: Wait>(&self, rt: &R, seat: &mut Seat<V>, n: u64)
+    /// The completed tail becomes the greater of itself and `n`, which is at most the length of the history that the session
+    /// knows. It waits for nobody, and the session may hold any places.
+    pub fn raise(&self, seat: &mut Seat<V>, n: u64)
         requires own { seat.old.shelf ≡ self.now.id }
-        requires may { (k : Known V.Progress V.SessionNote V) × IsSession seat.old k × MayTake V.rules leader k × V.rules.HasLength k.progress n }
+        requires may { (k : Known V.Progress V.SessionNote V) × IsSession seat.old k × V.rules.Reaches k.progress n }
         ensures same { seat.new.shelf ≡ seat.old.shelf }
-        ensures raised { (k : Known V.Progress V.SessionNote V) → IsSession seat.old k → (before after : V.Progress) × V.rules.Extends k.progress before × (after ≡ V.rules.with_completed before (max (V.rules.completed before) n)) × (V.rules.completed after ≡ max (V.rules.completed before) n) × V.rules.Extends k.progress after × IsSession seat.new (with_progress k after) }
+        ensures raised { (k : Known V.Progress V.SessionNote V) → IsSession seat.old k → (before : V.Progress) × Later V.rules k before
+            × ((notes : List V.SessionNote) × Possible V.rules k (V.rules.raised before n) notes)
+            × (V.rules.completed (V.rules.raised before n) ≡ max (V.rules.completed before) n)
+            × IsSession seat.new (with_progress k (V.rules.raised before n)) }
     {
-        let _ = &self.table;
-        let mut held = self.take(rt, seat, LEADER);
-        held.value.raise_done(n);
-        self.put::<Brand>(seat, held);
+        let word = word_of(self.table.slot_count());
+        self.table
+            .shared
+            .fetch_max::<RaiseDone>(&mut seat.pass, word, n);
     }
 
     fn join(&self, seat: &mut Seat<V>, other: Seat<V>)

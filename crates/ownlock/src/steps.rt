@@ -1,15 +1,50 @@
-// The atomic steps of the lock: a failed try, a won try, the value taken, the value put, the word freed.
-ghost use Rattle.std.specs.Prelude.{◌≡◌, ◌<◌, List, [], ◌∷◌};
+// The atomic steps of the lock: a failed try, a won try, the value taken, the value put, the word freed, the completed tail read,
+// the completed tail raised.
+ghost use Rattle.std.specs.Prelude.{◌≡◌, ◌<◌, List, [], ◌∷◌, Some, None};
+ghost use Rattle.ownlock.specs.Words.{HasLines};
 ghost use Rattle.ownlock.specs.declared.known.Known.{Known};
 ghost use Rattle.ownlock.specs.Seats.{left_with};
 ghost use Rattle.ownlock.specs.Knowledge.{Acquired, Possible, MayTake, MayPut};
 ghost use Rattle.ownlock.specs.Invariant.{StepsAs};
 
 use crate::change::Change;
-use crate::rule::{Free, Front, Pass, Steps, Try};
+use crate::rule::{Free, OwnRetry, Pass, Steps, Try};
 use crate::shelved::Shelved;
+use crate::words::word_of;
 use crossbeam_utils::Backoff;
 use std::sync::Wait;
+
+// Takes the value out of its slot if the place's word was 0.
+fn try_once<V: Shelved>(steps: &Steps<V>, pass: &mut Pass<V>, place: usize) -> Option<V>
+    requires own { pass.old.table_id ≡ steps.now.table_id }
+    requires there { (place < steps.now.table_id.slots) × HasLines steps.now.table_id }
+    requires may { (k : Known V.Progress V.SessionNote V) × StepsAs pass.old.me k × MayTake V.rules place k }
+    ensures same { pass.new.table_id ≡ pass.old.table_id }
+    ensures failed { result ≡ None → pass.new.me ≡ pass.old.me }
+    ensures taken { (value : V) → result ≡ Some value → (k : Known V.Progress V.SessionNote V) → StepsAs pass.old.me k
+        → (after : Known V.Progress V.SessionNote V) × Acquired V.rules place k after value × StepsAs pass.new.me after }
+{
+    if steps.compare_exchange::<Try>(pass, word_of(place), 0, 1) != 0 {
+        return None;
+    }
+    let found = steps.exchange(pass, place, None);
+    let Some(value) = found else { unreachable!() };
+    Some(value)
+}
+
+// Looks at the place's word until it is 0. Nothing is known then: somebody may take the place at once.
+fn wait_for<V: Shelved, R: Wait>(rt: &R, steps: &Steps<V>, place: usize)
+    requires { (place < steps.now.table_id.slots) × HasLines steps.now.table_id }
+{
+    let word = word_of(place);
+    let backoff = Backoff::new();
+    for _ in rt.forever() {
+        if steps.peek(word) == 0 {
+            return;
+        }
+        backoff.snooze();
+    }
+}
 
 // Tries until the place's word was 0, then takes the value out of its slot.
 pub(crate) fn acquire<V: Shelved, R: Wait>(
@@ -19,25 +54,23 @@ pub(crate) fn acquire<V: Shelved, R: Wait>(
     place: usize,
 ) -> V
     requires own { pass.old.table_id ≡ steps.now.table_id }
-    requires there { (place < steps.now.table_id.slots) × (steps.now.table_id.words ≡ steps.now.table_id.slots) }
+    requires there { (place < steps.now.table_id.slots) × HasLines steps.now.table_id }
     requires may { (k : Known V.Progress V.SessionNote V) × StepsAs pass.old.me k × MayTake V.rules place k }
     ensures same { pass.new.table_id ≡ pass.old.table_id }
-    ensures taken { (k : Known V.Progress V.SessionNote V) → StepsAs pass.old.me k → (after : Known V.Progress V.SessionNote V) × Acquired V.rules place k after result × StepsAs pass.new.me after }
+    ensures taken { (k : Known V.Progress V.SessionNote V) → StepsAs pass.old.me k → (after : Known V.Progress V.SessionNote V)
+        × Acquired V.rules place k after result × StepsAs pass.new.me after }
 {
-    let backoff = Backoff::new();
     for _ in rt.forever() {
-        if steps.compare_exchange::<Try>(pass, place, 0, 1) == 0 {
-            let found = steps.exchange(pass, place, None);
-            let Some(value) = found else { unreachable!() };
+        if let Some(value) = try_once(steps, pass, place) {
             return value;
         }
-        backoff.snooze();
+        wait_for(rt, steps, place);
     }
     unreachable!()
 }
 
-// Puts the value into its slot, then frees the place's word. The try at its own word fails, since the seat holds the place: it
-// is the step at which the place becomes the first of those that are out, whichever place it is.
+// Puts the value into its slot, then frees the place's word. The look at its own word finds it taken, since the seat holds the
+// place: it is the step at which the place becomes the first of those that are out, whichever place it is.
 pub(crate) fn release<V: Shelved, M: Change<V::Progress, V::SessionNote>>(
     steps: &Steps<V>,
     pass: &mut Pass<V>,
@@ -45,13 +78,15 @@ pub(crate) fn release<V: Shelved, M: Change<V::Progress, V::SessionNote>>(
     value: V,
 )
     requires own { pass.old.table_id ≡ steps.now.table_id }
-    requires there { (place < steps.now.table_id.slots) × (steps.now.table_id.words ≡ steps.now.table_id.slots) }
+    requires there { (place < steps.now.table_id.slots) × HasLines steps.now.table_id }
     requires may { (k : Known V.Progress V.SessionNote V) × StepsAs pass.old.me k × MayPut V.rules M.progress M.note k place value }
     ensures same { pass.new.table_id ≡ pass.old.table_id }
-    ensures put { (k : Known V.Progress V.SessionNote V) → StepsAs pass.old.me k → (progress : V.Progress) × ((notes : List V.SessionNote) × Possible V.rules k progress notes) × StepsAs pass.new.me (left_with k place (M.progress progress) (M.note k.note)) }
+    ensures put { (k : Known V.Progress V.SessionNote V) → StepsAs pass.old.me k → (progress : V.Progress) × ((notes : List V.SessionNote)
+        × Possible V.rules k progress notes) × StepsAs pass.new.me (left_with k place (M.progress progress) (M.note k.note)) }
 {
-    let _ = steps.compare_exchange::<Front>(pass, place, 0, 1);
+    let word = word_of(place);
+    let _ = steps.load::<OwnRetry>(pass, word);
     let emptied = steps.exchange(pass, place, Some(value));
     let None = emptied else { unreachable!() };
-    steps.store::<Free<M>>(pass, place, 0);
+    steps.store::<Free<M>>(pass, word, 0);
 }

@@ -1,8 +1,7 @@
 -- The laws of a store whose sessions have no desk.
-use Rattle.std.proofs.Common.{max, ◌≡◌, ◌≢◌, ℕ, ◌<◌, ◌≤◌, List, [], ◌∷◌, ◌++◌, length, set, sym, refl, ap, ◌∙◌, subst, inl, ⊎_elim, arith, append-nil}
-use Rattle.std.proofs.Math.Nat.{le-max_left}
+use Rattle.std.proofs.Common.{◌≡◌, ◌≢◌, ℕ, ◌<◌, List, [], ◌∷◌, ◌++◌, length, set, sym, refl, ap, ◌∙◌, subst, inl, ⊎_elim, arith, append-nil}
 use Rattle.atomic_table.proofs.Lists.{set_again}
-use Rattle.ownlock.specs.Rules.{Laws, CompletedLaws, leader}
+use Rattle.ownlock.specs.Rules.{Laws, leader}
 use Rattle.ownlock.specs.Seats.{At}
 use Rattle.oplog.specs.declared.records.Record.{Record}
 use Rattle.oplog.specs.declared.configuration.Config.{Config}
@@ -12,24 +11,25 @@ use Rattle.progress.specs.declared.sessions.SessionNote.{SessionNote}
 use Rattle.progress.specs.Values.{StoreValue, TheLog, TheReplica, TheDesk}
 use Rattle.progress.specs.Accounts.{Accounts, Extends}
 use Rattle.progress.specs.Agreement.{AgreesWith}
-use Rattle.progress.specs.Moves.{IsLog, done_of, RaisedTo}
 use Rattle.progress.specs.Single.{single_rules, SingleMoves, SingleLogMove, IsNoDesk, next_record, progress_with, note_with}
-use Rattle.progress.proofs.Appended.{finish_accounts}
 use Rattle.progress.proofs.Others.{Grown, replica_stays, desk_laws}
-use Rattle.progress.proofs.Finish.{desk_completed_laws, raised_log}
 use Rattle.progress.proofs.Kept.{single_keeps}
 
 module _ {C M : Type 0} (E : Meaning C M) where
   -- the progress after the append, part by part
-  is_with : (l l' : Progress C) (r : Record) → l'.config ≡ l.config → l'.catalogue ≡ l.catalogue → l'.history ≡ l.history ++ r ∷ [] → l' ≡ progress_with l r l'.completed
-  is_with l l' r e f h = λ k. record { config = e k; catalogue = f k; history = h k; completed = l'.completed }
+  is_with : (l l' : Progress C) (r : Record) → l'.config ≡ l.config → l'.catalogue ≡ l.catalogue → l'.history ≡ l.history ++ r ∷ [] → l'.completed ≡ l.completed → l' ≡ progress_with l r
+  is_with l l' r e f h same = λ k. record { config = e k; catalogue = f k; history = h k; completed = same k }
+
+  -- the progress that is kept, part by part
+  is_kept : (l l' : Progress C) → l'.config ≡ l.config → l'.catalogue ≡ l.catalogue → l'.history ≡ l.history → l'.completed ≡ l.completed → l' ≡ l
+  is_kept l l' e f h same = λ k. record { config = e k; catalogue = f k; history = h k; completed = same k }
 
   log_accounts : (c : ℕ) (l l' : Progress C) (n n' : SessionNote) (ns : List SessionNote) → Accounts E l ns → At c n ns → SingleLogMove E c l n l' n' → Accounts E l' (set ns c n')
   log_accounts c l l' n n' ns w here m = ⊎_elim
-      (λ keep. subst (λ z. Accounts E l' (set ns c z)) (sym keep.1) (subst (λ z. Accounts E l' z) (sym (set_again ns c n here)) (finish_accounts E l l' ns c n w here m.config m.catalogue keep.0 m.completed)))
+      (λ keep. subst (λ z. Accounts E l' (set ns c z)) (sym keep.1) (subst (λ z. Accounts E l' z) (sym (set_again ns c n here)) (subst (λ z. Accounts E z ns) (sym (is_kept l l' m.config m.catalogue keep.0 m.completed)) w)))
       (λ o. subst (λ z. Accounts E l' (set ns c z)) (sym o.note)
-      (subst (λ z. Accounts E z (set ns c (note_with n (length l.history) o.op))) (sym (is_with l l' (next_record c n o.op) m.config m.catalogue o.history))
-      (single_keeps E l ns c o.node n o.op l'.completed w here o.own o.idle o.allowed o.room (subst (λ h. l'.completed ≤ length h) o.history m.completed))))
+      (subst (λ z. Accounts E z (set ns c (note_with n (length l.history) o.op))) (sym (is_with l l' (next_record c n o.op) m.config m.catalogue o.history m.completed))
+      (single_keeps E l ns c o.node n o.op w here o.own o.idle o.allowed o.room)))
       m.appends
 
   accounts : (p c : ℕ) (x : StoreValue M) (l l' : Progress C) (n n' : SessionNote) (ns : List SessionNote) → Accounts E l ns → At c n ns → SingleMoves E p c x l n l' n' → Accounts E l' (set ns c n')
@@ -39,8 +39,8 @@ module _ {C M : Type 0} (E : Meaning C M) where
 
   grown : (c : ℕ) (l l' : Progress C) (n n' : SessionNote) (ns : List SessionNote) → Accounts E l' ns → SingleLogMove E c l n l' n' → (more : History) × Grown E l l' more
   grown c l l' n n' ns w m = ⊎_elim
-      (λ keep. ([], record { config = m.config; catalogue = m.catalogue; history = keep.0 ∙ sym (append-nil l.history); rises = m.rises; done = m.completed; limit = w.limit }))
-      (λ o. (next_record c n o.op ∷ [], record { config = m.config; catalogue = m.catalogue; history = o.history; rises = m.rises; done = m.completed; limit = w.limit })) m.appends
+      (λ keep. ([], record { config = m.config; catalogue = m.catalogue; history = keep.0 ∙ sym (append-nil l.history); rises = (let same = m.completed in omega (arith, same)); done = w.completed; limit = w.limit }))
+      (λ o. (next_record c n o.op ∷ [], record { config = m.config; catalogue = m.catalogue; history = o.history; rises = (let same = m.completed in omega (arith, same)); done = w.completed; limit = w.limit })) m.appends
 
   log_others : (c : ℕ) (l l' : Progress C) (n n' : SessionNote) (ns : List SessionNote) → Accounts E l ns → At c n ns → SingleLogMove E c l n l' n' → (q : ℕ) (y : StoreValue M) → q ≢ leader → IsNoDesk y → AgreesWith E q l ns y → AgreesWith E q l' (set ns c n') y
   log_others c l l' n n' ns w here m q (TheLog y) ne plain a = absurd (ne a.0)
@@ -60,7 +60,7 @@ module _ {C M : Type 0} (E : Meaning C M) where
     config = sym m.config;
     catalogue = sym m.catalogue;
     history = ⊎_elim (λ keep. ([], keep.0 ∙ sym (append-nil l.history))) (λ o. (next_record c n o.op ∷ [], o.history)) m.appends;
-    completed = m.rises;
+    completed = let same = m.completed in omega (arith, same);
   }
   extends p c (TheReplica x) l l' n n' m = subst (λ z. Extends l z) (sym m.0) ((desk_laws E).extends_self l)
   extends p c (TheDesk x) l l' n n' m = subst (λ z. Extends l z) (sym m.0) ((desk_laws E).extends_self l)
@@ -69,6 +69,11 @@ module _ {C M : Type 0} (E : Meaning C M) where
   same p c (TheLog x) l l' n n' ne m = absurd (ne m.0)
   same p c (TheReplica x) l l' n n' ne m = ap (λ (z : Progress C). z.history) (sym m.0)
   same p c (TheDesk x) l l' n n' ne m = ap (λ (z : Progress C). z.history) (sym m.0)
+
+  completed_stays : (p c : ℕ) (x : StoreValue M) (l l' : Progress C) (n n' : SessionNote) → SingleMoves E p c x l n l' n' → l'.completed ≡ l.completed
+  completed_stays p c (TheLog x) l l' n n' m = m.1.completed
+  completed_stays p c (TheReplica x) l l' n n' m = ap (λ (z : Progress C). z.completed) m.0
+  completed_stays p c (TheDesk x) l l' n n' m = ap (λ (z : Progress C). z.completed) m.0
 
   pub single_laws : Laws (single_rules E)
   single_laws = let s = desk_laws E in record {
@@ -83,29 +88,16 @@ module _ {C M : Type 0} (E : Meaning C M) where
     moves_same = same;
     moves_account = λ p i x l l' n n' ns w e a m. accounts p i x l l' n n' ns w e m;
     moves_others = λ p i x l l' n n' ns w e a m q y ne b. (b.0, others p i x l l' n n' ns w e m q y ne b.0 b.1);
+    moves_completed = completed_stays;
+    raised_completed = s.raised_completed;
+    raised_extends = s.raised_extends;
+    raised_same = s.raised_same;
+    raised_account = s.raised_account;
+    raised_agrees = λ p x l n ns far w a. (a.0, s.raised_agrees p x l n ns far w a.1);
+    reaches_on = s.reaches_on;
   }
 
-  stays : (p i : ℕ) (x : StoreValue M) (l : Progress C) (n : SessionNote) (ns : List SessionNote) → Accounts E l ns → AgreesWith E p l ns x → SingleMoves E p i x l n l n
-  stays p i (TheLog x) l n ns w a = (a.0, record { config = refl; catalogue = refl; rises = omega arith; completed = w.completed; appends = inl (refl, refl) })
+  pub stays : (p i : ℕ) (x : StoreValue M) (l : Progress C) (n : SessionNote) (ns : List SessionNote) → Accounts E l ns → AgreesWith E p l ns x → SingleMoves E p i x l n l n
+  stays p i (TheLog x) l n ns w a = (a.0, record { config = refl; catalogue = refl; completed = refl; appends = inl (refl, refl) })
   stays p i (TheReplica x) l n ns w a = (refl, refl)
   stays p i (TheDesk x) l n ns w a = (refl, refl)
-
-  rises : (i : ℕ) (x y : StoreValue M) (l : Progress C) (n : SessionNote) (ns : List SessionNote) (k : ℕ) → Accounts E l ns → IsNoDesk x × AgreesWith E leader l ns x → k ≤ length l.history → RaisedTo x k y
-      → SingleMoves E leader i x l n (record l { completed = max l.completed k }) n × (IsNoDesk y × AgreesWith E leader (record l { completed = max l.completed k }) ns y)
-  rises i (TheLog x) (TheLog y) l n ns k w a far r =
-      let t = raised_log E x y l k w.completed a.1.1 far r in
-      ((refl, record { config = refl; catalogue = refl; rises = le-max_left l.completed k; completed = t.0; appends = inl (refl, refl) }), (tt, (refl, t.1)))
-  rises i (TheLog x) (TheReplica y) l n ns k w a far r = absurd r
-  rises i (TheLog x) (TheDesk y) l n ns k w a far r = absurd r
-  rises i (TheReplica x) y l n ns k w a far r = absurd ((desk_completed_laws E).leader_leads l ns (TheReplica x) a.1)
-  rises i (TheDesk x) y l n ns k w a far r = absurd a.0
-
-  pub single_completed_laws : CompletedLaws (single_rules E) IsLog done_of RaisedTo
-  single_completed_laws = let s = desk_completed_laws E in record {
-    leader_leads = λ l ns x a. s.leader_leads l ns x a.1;
-    completed_is = λ l ns x a. s.completed_is l ns x a.1;
-    with_completed_is = s.with_completed_is;
-    length_on = s.length_on;
-    stays = λ p i x l n ns w a. stays p i x l n ns w a.1;
-    rises = rises;
-  }

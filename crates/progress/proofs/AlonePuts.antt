@@ -1,5 +1,5 @@
 -- What a session of a store without desks is told, puts back and may say.
-use Rattle.std.proofs.Common.{◌≡◌, ◌≢◌, ℕ, zero, suc, ◌+◌, ◌<◌, ◌≤◌, List, [], ◌∷◌, ◌++◌, length, take, drop, set, sym, refl, ap, ◌∙◌, subst, inr, arith, length-append, replicate, map}
+use Rattle.std.proofs.Common.{◌≡◌, ◌≢◌, ℕ, zero, suc, ◌+◌, ◌<◌, ◌≤◌, List, [], ◌∷◌, ◌++◌, length, take, drop, set, sym, refl, ap, ◌∙◌, subst, inr, arith, replicate, map, option_map}
 use Rattle.std.proofs.lemmas.List.{length-drop}
 use lib.ListN.{get_elem?}
 use mathlib.Core.Option.{some-injective}
@@ -9,20 +9,21 @@ use Rattle.ownlock.specs.Seats.{At, place_of}
 use Rattle.ownlock.specs.Knowledge.{Acquired, Possible}
 use Rattle.oplog.specs.Operations.{Operation}
 use Rattle.oplog.specs.declared.configuration.Config.{Config}
-use Rattle.oplog.specs.History.{Meaning, History, after, maps_after, reply_at}
+use Rattle.oplog.specs.History.{Meaning, History, after, left_by, maps_after, reply_at, read_reply_at}
 use Rattle.progress.specs.declared.sessions.Progress.{Progress}
 use Rattle.progress.specs.declared.sessions.SessionNote.{SessionNote}
 use Rattle.progress.specs.Values.{LogValue, ReplicaValue, StoreValue, TheLog, TheReplica, TheDesk}
-use Rattle.progress.specs.Accounts.{IsSessionOf, Accounts, Extends}
+use Rattle.oplog.specs.Sessions.{IsSessionOf}
+use Rattle.progress.specs.Accounts.{Accounts, Extends, IsAllowed}
 use Rattle.progress.specs.Agreement.{AgreesWith, log_place, replica_place, LogAgrees, ReplicaAgrees}
 use Rattle.progress.specs.Moves.{HoldsLog, HoldsReplica, HoldsBoth}
 use Rattle.progress.specs.LogSteps.{first_progress, fresh_note}
 use Rattle.progress.specs.Single.{SingleMoves, SingleLogMove, IsNoDesk, next_record, progress_with, note_with}
 use Rattle.progress.specs.SinglePuts.{OwnStep, OneMoreSteps, TailIs, Replays, ReplayedAgrees, PlacedTells, ReadsTell, EndedTells, the_rules, KeepsSizes, IsTaken, MayTakeFirst, MayTakeSecond, SingleOpens, AgreesLog, AgreesReplica, TakesLog, TakesReplica, SameMayPut, OwnMayPut, ReplicaMayPut}
 use Rattle.progress.proofs.Lists.{at_below, at_none, at_front}
-use Rattle.progress.proofs.Parts.{maps_front, reply_front}
+use Rattle.progress.proofs.Parts.{maps_front, reply_front, read_front}
 use Rattle.progress.proofs.Finish.{drop_front, opens}
-use Rattle.progress.proofs.Alone.{single_completed_laws}
+use Rattle.progress.proofs.Alone.{stays}
 use Rattle.progress.proofs.Kept.{no_next}
 
 module _ {A : Type 0} where
@@ -47,7 +48,7 @@ module _ {A : Type 0} where
 module _ {C M : Type 0} (E : Meaning C M) where
   after_joined : (c : C) (m : M) (xs ys : History) → after E c m (xs ++ ys) ≡ after E c (after E c m xs) ys
   after_joined c m [] ys = refl
-  after_joined c m (r ∷ rs) ys = after_joined c (E.effect c r.op m).maps rs ys
+  after_joined c m (r ∷ rs) ys = after_joined c (left_by (E.update c r.op m) m) rs ys
 
   pub replays : Replays E
   replays c h t k = sym (ap (λ z. after E c (E.opening c) z) (take_joined t k h) ∙ after_joined c (E.opening c) (take t h) (take k (drop t h)))
@@ -61,6 +62,10 @@ module _ {C M : Type 0} (E : Meaning C M) where
   reply_on known l k op grown low = ap (λ z. reply_at E z known.history k op) grown.catalogue
       ∙ (sym (reply_front E l.catalogue known.history grown.history.0 k op low) ∙ ap (λ h. reply_at E l.catalogue h k op) (sym grown.history.1))
 
+  pub read_on : (known l : Progress C) (k : ℕ) (op : Operation) → Extends known l → k ≤ length known.history → read_reply_at E known.catalogue known.history k op ≡ read_reply_at E l.catalogue l.history k op
+  read_on known l k op grown low = ap (λ z. read_reply_at E z known.history k op) grown.catalogue
+      ∙ (sym (read_front E l.catalogue known.history grown.history.0 k op low) ∙ ap (λ h. read_reply_at E l.catalogue h k op) (sym grown.history.1))
+
   pub tail_is : TailIs E
   tail_is l x low a = let long = ap length a.records ∙ length-drop x.base l.history in let base = a.base in let done = a.done in omega (arith, long, base, done, low)
 
@@ -72,14 +77,14 @@ module _ {C M : Type 0} (E : Meaning C M) where
     seen,
     done,
     subst (λ h. At i (record { author = c; seq = seq; op = o.op }) h) (sym grown.history.1) (at_front known.history grown.history.0 i _ at),
-    is ∙ reply_on known l i o.op grown (let b = at_below known.history i _ at in omega (arith, b)),
+    sym (reply_on known l i o.op grown (let b = at_below known.history i _ at in omega (arith, b))) ∙ is,
   )
 
   pub reads_tell : ReadsTell E
   reads_tell known l begun reply op y grown low maps is first last = (
     first,
     last,
-    is ∙ (ap (λ m. (E.effect known.catalogue op m).reply) maps ∙ reply_on known l y.tail op grown low),
+    sym (ap (λ m. option_map (λ e. e.reply) (E.read known.catalogue op m)) maps ∙ read_on known l y.tail op grown low) ∙ is,
   )
 
   pub ended_tells : EndedTells E
@@ -94,36 +99,34 @@ module _ {C M : Type 0} (E : Meaning C M) where
         alone = alone;
         allowed = may;
         room = room;
-        rises = omega (arith, d);
-        done = omega (arith, d, done, low);
+        done = omega (arith, d, done);
         base = omega (arith, b, d, base);
         below = omega (arith, b, base, done, low);
         base_maps = more.1 ∙ (agrees.base_maps ∙ ap (λ z. maps_after E known.catalogue known.history z) (sym b));
         records = more.2 ∙ ap (λ z. z ++ next_record c n op ∷ []) (agrees.records ∙ ap (λ z. drop z known.history) (sym b));
       }
 
-  own_puts : (known l : Progress C) (c : ℕ) (n : SessionNote) (op : Operation) (x y : LogValue M) → Extends known l → known.history ≡ l.history → LogAgrees E l x → OwnStep E known c n op x y
-      → SingleLogMove E c l n (progress_with l (next_record c n op) y.done) (note_with n (length known.history) op) × LogAgrees E (progress_with l (next_record c n op) y.done) y
+  own_puts : (known l : Progress C) (c : ℕ) (n : SessionNote) (op : Operation) (x y : LogValue M) → Extends known l → known.history ≡ l.history → LogAgrees E l x → OwnStep E known c n op y
+      → SingleLogMove E c l n (progress_with l (next_record c n op)) (note_with n (length known.history) op) × LogAgrees E (progress_with l (next_record c n op)) y
   own_puts known l c n op x y grown same a s = (
     record {
       config = refl;
       catalogue = refl;
-      rises = let e = a.done in let up = s.rises in omega (arith, e, up);
-      completed = subst (λ h. y.done ≤ length (h ++ next_record c n op ∷ [])) same (longer (length-append known.history (next_record c n op ∷ [])) s.done);
+      completed = refl;
       appends = inr (record {
         op = op;
         node = s.node;
         own = subst (λ z. IsSessionOf z s.node c) grown.config s.own;
         idle = s.idle;
         alone = s.alone;
-        allowed = subst (λ z. E.Allowed z op) grown.catalogue s.allowed;
+        allowed = subst (λ z. IsAllowed E z op) grown.catalogue s.allowed;
         room = subst (λ (z : Config). length l.history < z.limit) grown.config (subst (λ h. length h < known.config.limit) same s.room);
         history = refl;
         note = ap (λ h. note_with n (length h) op) same;
       });
     },
     record {
-      done = refl;
+      done = let low = s.done in let up = grown.completed in omega (arith, low, up);
       base = s.base;
       base_maps = s.base_maps ∙ (ap (λ z. maps_after E z known.history y.base) grown.catalogue
           ∙ (ap (λ h. maps_after E l.catalogue h y.base) same ∙ sym (maps_front E l.catalogue l.history (next_record c n op ∷ []) y.base below)));
@@ -131,9 +134,6 @@ module _ {C M : Type 0} (E : Meaning C M) where
     },
   )
     where
-      longer : length (known.history ++ next_record c n op ∷ []) ≡ length known.history + 1 → y.done ≤ suc (length known.history) → y.done ≤ length (known.history ++ next_record c n op ∷ [])
-      longer e h = omega (arith, e, h)
-
       below : y.base ≤ length l.history
       below = subst (λ h. y.base ≤ length h) same s.below
 
@@ -213,7 +213,7 @@ module _ {C M V : Type 0} (E : Meaning C M) (view : V → StoreValue M) (IsSized
       → (the_rules E view IsSized).Moves p k.session v l k.note l k.note × (the_rules E view IsSized).AgreesWith p l (set ns k.session k.note) w
   same_move k p a v w at same keeps l ns may =
       let h = may.3 a (p, v) at in (
-        (single_completed_laws E).stays p k.session (view v) l k.note ns may.2 h.0,
+        stays E p k.session (view v) l k.note ns may.2 h.0.1,
         subst (λ z. (the_rules E view IsSized).AgreesWith p l z w) (sym (set_again ns k.session k.note may.1))
             (subst (λ z. IsNoDesk z × AgreesWith E p l ns z) (sym same) h.0, keeps l.config l.catalogue h.1),
       )
@@ -232,8 +232,8 @@ module _ {C M V : Type 0} (E : Meaning C M) (view : V → StoreValue M) (IsSized
         let n' = note_with k.note (length k.progress.history) op in
         let agrees = (subst (λ z. AgreesWith E log_place l ns z) isx h.0.1).1 in
         let t = own_puts E k.progress l k.session k.note op x y may.0.0 (may.0.1 a (log_place, v) at refl) agrees step in (
-          subst (λ z. SingleMoves E log_place k.session z l k.note (progress_with l r y.done) n') (sym isx) (refl, t.0),
-          (subst (λ z. IsNoDesk z × AgreesWith E log_place (progress_with l r y.done) (set ns k.session n') z) (sym isy) (tt, (refl, t.1)), keeps l.config l.catalogue h.1),
+          subst (λ z. SingleMoves E log_place k.session z l k.note (progress_with l r) n') (sym isx) (refl, t.0),
+          (subst (λ z. IsNoDesk z × AgreesWith E log_place (progress_with l r) (set ns k.session n') z) (sym isy) (tt, (refl, t.1)), keeps l.config l.catalogue h.1),
         ),
   )
 

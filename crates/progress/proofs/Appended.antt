@@ -1,5 +1,5 @@
 -- What the log takes keeps the account of all notes.
-use Rattle.std.proofs.Common.{◌≡◌, ◌≢◌, ℕ, ◌+◌, ◌<◌, ◌≤◌, ◌⊎◌, List, ◌++◌, map, length, take, set, sym, refl, ap, ◌∙◌, subst, ⊎_elim, arith, Some, None}
+use Rattle.std.proofs.Common.{◌≡◌, ◌≢◌, ℕ, ◌+◌, ◌<◌, ◌≤◌, ◌⊎◌, List, ◌++◌, map, length, take, set, sym, refl, ap, ◌∙◌, subst, ⊎_elim, arith, Some, None, length-append}
 use Rattle.std.proofs.lemmas.Bool.{cases_lt}
 use native.Mathlib.Decide.{ℕ_discrete}
 use Rattle.atomic_table.proofs.Lists.{set_again}
@@ -11,7 +11,8 @@ use Rattle.progress.proofs.Keeps.{Batches, IsNew, batch_changes, some_one}
 use Rattle.progress.proofs.Lists.{at_behind, at_front, at_joined, at_one}
 use Rattle.progress.proofs.Moved.{claim_accounts, collect_accounts, post_accounts, reply_accounts, some_none}
 use Rattle.progress.proofs.Parts.{Alike, alike_on, alike_request, batch_back, placed_back, taken_back, taken_on}
-use Rattle.progress.specs.Accounts.{Accounts, HasNoRecord, IsInBatch, IsNoted, IsPlacedIn, IsRequest, IsSessionOf, session}
+use Rattle.oplog.specs.Sessions.{IsSessionOf, session}
+use Rattle.progress.specs.Accounts.{Accounts, HasNoRecord, IsInBatch, IsNoted, IsPlacedIn, IsRequest, IsAllowed}
 use Rattle.progress.specs.Agreement.{AgreesWith, Answers, DeskAgrees, IsUnclaimed, StageAgrees}
 use Rattle.progress.specs.Moves.{Claims, Collects, DeskMove, LogMove, Moves, Posts, Replies, placed_from, record_of}
 use Rattle.progress.specs.Values.{Answer, Answered, DeskValue, SlotValue, StoreValue, TheDesk, TheLog, TheReplica}
@@ -26,12 +27,12 @@ module _ {C M : Type 0} (E : Meaning C M) where
     -- the completed tail rises alone
     pub finish_accounts : l'.history ≡ l.history → l'.completed ≤ length l'.history → Accounts E l' ns
     finish_accounts same done = record {
-      allowed = subst (λ h. (i : ℕ) (r : Record) → At i r h → E.Allowed l'.catalogue r.op) (sym same) (subst (λ z. (i : ℕ) (r : Record) → At i r l.history → E.Allowed z r.op) (sym catalogue) w.allowed);
+      allowed = subst (λ h. (i : ℕ) (r : Record) → At i r h → IsAllowed E l'.catalogue r.op) (sym same) (subst (λ z. (i : ℕ) (r : Record) → At i r l.history → IsAllowed E z r.op) (sym catalogue) w.allowed);
       accounted = subst (λ h. (i : ℕ) (r : Record) → At i r h → (m : SessionNote) × At r.author m ns × IsNoted m i r) (sym same) w.accounted;
       ordered = subst (λ h. (i j : ℕ) (r s : Record) → At i r h → At j s h → i < j → r.author ≡ s.author → r.seq < s.seq) (sym same) w.ordered;
       answered = subst (λ h. (a : ℕ) (m : SessionNote) (q : ℕ) (u : AnsweredUpdate) → At a m ns → At q u m.answered → At u.place (record { author = a; seq = q; op = u.op }) h) (sym same) w.answered;
-      pending = subst (λ h. (a : ℕ) (m : SessionNote) (o : Pending) → At a m ns → m.pending ≡ Some o → E.Allowed l'.catalogue o.op × (o.seen ≤ length h)) (sym same)
-          (subst (λ z. (a : ℕ) (m : SessionNote) (o : Pending) → At a m ns → m.pending ≡ Some o → E.Allowed z o.op × (o.seen ≤ length l.history)) (sym catalogue) w.pending);
+      pending = subst (λ h. (a : ℕ) (m : SessionNote) (o : Pending) → At a m ns → m.pending ≡ Some o → IsAllowed E l'.catalogue o.op × (o.seen ≤ length h)) (sym same)
+          (subst (λ z. (a : ℕ) (m : SessionNote) (o : Pending) → At a m ns → m.pending ≡ Some o → IsAllowed E z o.op × (o.seen ≤ length l.history)) (sym catalogue) w.pending);
       requested = w.requested;
       placed = subst (λ h. (d k : ℕ) (t : Claim) → IsInBatch ns d k t → IsPlacedIn h t) (sym same) w.placed;
       near = subst (λ z. (d k : ℕ) (t : Claim) → IsInBatch ns d k t → (node : ℕ) × IsSessionOf z node d × IsSessionOf z node t.request.author) (sym config) w.near;
@@ -117,9 +118,9 @@ module _ {C M : Type 0} (E : Meaning C M) where
 
   log_accounts : (l l' : Progress C) (ns : List SessionNote) (c : ℕ) (n n' : SessionNote) → Accounts E l ns → At c n ns → LogMove E l n l' n' → Accounts E l' (set ns c n')
   log_accounts l l' ns c n n' w here m = ⊎_elim
-      (λ keep. subst (λ z. Accounts E l' (set ns c z)) (sym keep.1) (subst (λ z. Accounts E l' z) (sym (set_again ns c n here)) (finish_accounts l l' ns c n w here m.config m.catalogue keep.0 m.completed)))
-      (λ t. let limit = t.limit in let top = ap (λ (z : Config). z.limit) m.config in
-      subst (λ z. Accounts E l' (set ns c z)) (sym t.note) (append_accounts l l' ns c n w here m.config m.catalogue t.count t.unplaced t.history m.completed (omega (arith, limit, top))))
+      (λ keep. subst (λ z. Accounts E l' (set ns c z)) (sym keep.1) (subst (λ z. Accounts E l' z) (sym (set_again ns c n here)) (finish_accounts l l' ns c n w here m.config m.catalogue keep.0 (let low = w.completed in let still = m.completed in let long = ap length keep.0 in omega (arith, low, still, long)))))
+      (λ t. let limit = t.limit in let top = ap (λ (z : Config). z.limit) m.config in let low = w.completed in let still = m.completed in let long = ap length t.history ∙ length-append l.history (map record_of (take t.count n.batch)) in
+      subst (λ z. Accounts E l' (set ns c z)) (sym t.note) (append_accounts l l' ns c n w here m.config m.catalogue t.count t.unplaced t.history (omega (arith, low, still, long)) (omega (arith, limit, top))))
       m.appends
 
   -- what a desk tells of a slot that is answered

@@ -1,20 +1,19 @@
 -- The puts of the log and of replicas, the completed tail, and what a store opens with.
-use Rattle.std.proofs.Common.{max, replicate, ◌≡◌, ℕ, zero, suc, ◌+◌, ◌*◌, ◌<◌, ◌≤◌, List, [], ◌∷◌, ◌++◌, map, length, take, drop, sym, refl, ap, ◌∙◌, subst, inl, inr, arith, length-append}
+use Rattle.std.proofs.Common.{replicate, ◌≡◌, ℕ, zero, suc, ◌+◌, ◌*◌, ◌<◌, ◌≤◌, List, [], ◌∷◌, ◌++◌, map, length, take, drop, sym, refl, ap, ◌∙◌, subst, inr, arith, length-append}
 use mathlib.Core.Option.{some-injective}
-use Rattle.std.proofs.Math.Nat.{le-max_left, max-le}
-use Rattle.std.proofs.lemmas.List.{length-replicate, length-drop}
+use Rattle.std.proofs.lemmas.List.{length-replicate}
 use Rattle.oplog.specs.History.{Meaning, maps_after}
 use Rattle.oplog.specs.declared.configuration.Config.{Config}
-use Rattle.ownlock.specs.Rules.{CompletedLaws}
 use Rattle.ownlock.specs.Seats.{At}
 use Rattle.progress.proofs.Lists.{at_none}
 use Rattle.progress.proofs.Moved.{some_none}
 use Rattle.progress.proofs.Parts.{maps_front}
-use Rattle.progress.specs.Accounts.{Accounts, Extends, IsInBatch, session}
-use Rattle.progress.specs.Agreement.{LogAgrees, AgreesWith, StageAgrees}
+use Rattle.oplog.specs.Sessions.{session}
+use Rattle.progress.specs.Accounts.{Extends, IsInBatch}
+use Rattle.progress.specs.Agreement.{StageAgrees}
 use Rattle.progress.specs.LogSteps.{LogPuts, Opens, ReplicaPuts, empty_slot, first_progress, fresh_note}
-use Rattle.progress.specs.Moves.{IsLog, Moves, RaisedTo, desk_rules, done_of, placed_from, record_of}
-use Rattle.progress.specs.Values.{LogValue, SlotValue, StoreValue, TheDesk, TheLog, TheReplica}
+use Rattle.progress.specs.Moves.{placed_from, record_of}
+use Rattle.progress.specs.Values.{SlotValue}
 use Rattle.progress.specs.declared.sessions.Claim.{Claim}
 use Rattle.progress.specs.declared.sessions.Progress.{Progress}
 use Rattle.progress.specs.declared.sessions.SessionNote.{SessionNote}
@@ -44,8 +43,7 @@ module _ {C M : Type 0} (E : Meaning C M) where
     record {
       config = refl;
       catalogue = refl;
-      rises = let e = a.done in let up = s.rises in omega (arith, e, up);
-      completed = subst (λ h. y.done ≤ length (h ++ map record_of (take k n.batch))) same s.done;
+      completed = refl;
       appends = inr (record {
         count = k;
         unplaced = s.unplaced;
@@ -56,7 +54,7 @@ module _ {C M : Type 0} (E : Meaning C M) where
       });
     },
     record {
-      done = refl;
+      done = let low = s.done in let up = grown.completed in omega (arith, low, up);
       base = s.base;
       base_maps = s.base_maps ∙ (ap (λ z. maps_after E z known.history y.base) grown.catalogue
           ∙ (ap (λ h. maps_after E l.catalogue h y.base) same ∙ sym (maps_front E l.catalogue l.history (map record_of (take k n.batch)) y.base (subst (λ h. y.base ≤ length h) same s.below))));
@@ -69,60 +67,6 @@ module _ {C M : Type 0} (E : Meaning C M) where
     tail = let t = a.tail in let up = grown.completed in omega (arith, t, up);
     maps = a.maps ∙ (ap (λ z. maps_after E z known.history y.tail) grown.catalogue
         ∙ (sym (maps_front E l.catalogue known.history grown.history.0 y.tail low) ∙ ap (λ h. maps_after E l.catalogue h y.tail) (sym grown.history.1)));
-  }
-
-  no_zero : (n : ℕ) → 0 ≡ 1 + n → ⊥
-  no_zero n e = omega (arith, e)
-
-  no_zero2 : (m n : ℕ) → 0 ≡ 1 + m + n → ⊥
-  no_zero2 m n e = omega (arith, e)
-
-  leads : (l : Progress C) (ns : List SessionNote) (x : StoreValue M) → AgreesWith E 0 l ns x → IsLog x
-  leads l ns (TheLog x) a = tt
-  leads l ns (TheReplica x) a = no_zero a.0 a.2
-  leads l ns (TheDesk x) a = no_zero2 l.config.nodes x.node a.1
-
-  done_is : (l : Progress C) (ns : List SessionNote) (x : StoreValue M) → AgreesWith E 0 l ns x → done_of x ≡ l.completed
-  done_is l ns (TheLog x) a = a.1.done
-  done_is l ns (TheReplica x) a = absurd (no_zero a.0 a.2)
-  done_is l ns (TheDesk x) a = absurd (no_zero2 l.config.nodes x.node a.1)
-
-  stays : (p i : ℕ) (x : StoreValue M) (l : Progress C) (n : SessionNote) (ns : List SessionNote) → Accounts E l ns → AgreesWith E p l ns x → Moves E p i x l n l n
-  stays p i (TheLog x) l n ns w a = (a.0, record { config = refl; catalogue = refl; rises = omega arith; completed = w.completed; appends = inl (refl, refl) })
-  stays p i (TheReplica x) l n ns w a = (refl, refl)
-  stays p i (TheDesk x) l n ns w a = (refl, inl refl)
-
-  pub raised_log : (x y : LogValue M) (l : Progress C) (k : ℕ) → l.completed ≤ length l.history → LogAgrees E l x → k ≤ length l.history → RaisedTo (TheLog x) k (TheLog y)
-      → (max l.completed k ≤ length l.history) × LogAgrees E (record l { completed = max l.completed k }) y
-  raised_log x y l k low a far r =
-      let base = a.base in let same = a.done in let left = le-max_left l.completed k in let up : y.done ≡ max l.completed k = r.3 (let long = ap length a.records ∙ length-drop x.base l.history in omega (arith, long, far, base, same, low)) ∙ ap (λ z. max z k) same in (
-        max-le low far,
-        record {
-          done = up;
-          base = subst (λ z. z ≤ y.done) (sym r.0) (omega (arith, base, same, left, up));
-          base_maps = r.1 ∙ (a.base_maps ∙ ap (λ z. maps_after E l.catalogue l.history z) (sym r.0));
-          records = r.2 ∙ (a.records ∙ ap (λ z. drop z l.history) (sym r.0));
-        },
-      )
-
-  rises : (i : ℕ) (x y : StoreValue M) (l : Progress C) (n : SessionNote) (ns : List SessionNote) (k : ℕ) → Accounts E l ns → AgreesWith E 0 l ns x → k ≤ length l.history → RaisedTo x k y
-      → Moves E 0 i x l n (record l { completed = max l.completed k }) n × AgreesWith E 0 (record l { completed = max l.completed k }) ns y
-  rises i (TheLog x) (TheLog y) l n ns k w a far r =
-      let t = raised_log x y l k w.completed a.1 far r in
-      ((refl, record { config = refl; catalogue = refl; rises = le-max_left l.completed k; completed = t.0; appends = inl (refl, refl) }), (refl, t.1))
-  rises i (TheLog x) (TheReplica y) l n ns k w a far r = absurd r
-  rises i (TheLog x) (TheDesk y) l n ns k w a far r = absurd r
-  rises i (TheReplica x) y l n ns k w a far r = absurd (no_zero a.0 a.2)
-  rises i (TheDesk x) y l n ns k w a far r = absurd (no_zero2 l.config.nodes x.node a.1)
-
-  pub desk_completed_laws : CompletedLaws (desk_rules E) IsLog done_of RaisedTo
-  desk_completed_laws = record {
-    leader_leads = leads;
-    completed_is = done_is;
-    with_completed_is = λ l n. refl;
-    stays = stays;
-    length_on = λ a b n g far. let long = grown_long a b g in omega (arith, long, far);
-    rises = rises;
   }
 
   no_batch : (count c k : ℕ) (t : Claim) → IsInBatch (replicate count fresh_note) c k t → ⊥
@@ -143,7 +87,7 @@ module _ {C M : Type 0} (E : Meaning C M) where
       completed = omega arith;
       limit = omega arith;
     },
-    record { done = refl; base = omega arith; base_maps = refl; records = refl },
+    record { done = omega arith; base = omega arith; base_maps = refl; records = refl },
     record { tail = omega arith; maps = refl },
     (λ node fits. record {
       slots = length-replicate config.slots empty_slot;

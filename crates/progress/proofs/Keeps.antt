@@ -7,7 +7,8 @@ use Rattle.oplog.specs.declared.records.Record.{Record}
 use Rattle.ownlock.specs.Seats.{At}
 use Rattle.progress.proofs.Lists.{at_below, at_front, at_joined, at_one}
 use Rattle.progress.proofs.Parts.{Alike, alike_accounts, alike_back, alike_on, note_back, note_else, note_here, same_batches}
-use Rattle.progress.specs.Accounts.{Accounts, HasNoRecord, IsInBatch, IsNoted, IsPlacedIn, IsRequest, IsSessionOf}
+use Rattle.oplog.specs.Sessions.{IsSessionOf}
+use Rattle.progress.specs.Accounts.{Accounts, HasNoRecord, IsInBatch, IsNoted, IsPlacedIn, IsRequest, IsAllowed}
 use Rattle.progress.specs.declared.sessions.AnsweredUpdate.{AnsweredUpdate}
 use Rattle.progress.specs.declared.sessions.Claim.{Claim}
 use Rattle.progress.specs.declared.sessions.Pending.{Pending}
@@ -66,9 +67,9 @@ module _ {C M : Type 0} (E : Meaning C M) where
           far : (j seen : ℕ) → seen ≤ length l.history → seen ≤ length l.history + j
           far j seen h = omega (arith, h)
 
-      allowed : (i : ℕ) (r : Record) → At i r H' → E.Allowed l.catalogue r.op
-      allowed = joined (λ i r. E.Allowed l.catalogue r.op) (λ i r at. w.allowed i r at)
-          (λ j r at. let t = new.request j r at in subst (λ o. E.Allowed l.catalogue o) (sym t.2.2) (w.pending r.author t.0 t.2.0 t.1 t.2.1).0)
+      allowed : (i : ℕ) (r : Record) → At i r H' → IsAllowed E l.catalogue r.op
+      allowed = joined (λ i r. IsAllowed E l.catalogue r.op) (λ i r at. w.allowed i r at)
+          (λ j r at. let t = new.request j r at in subst (λ o. IsAllowed E l.catalogue o) (sym t.2.2) (w.pending r.author t.0 t.2.0 t.1 t.2.1).0)
 
       ordered : (i j : ℕ) (r s : Record) → At i r H' → At j s H' → i < j → r.author ≡ s.author → r.seq < s.seq
       ordered i j r s at_i at_j lt e =
@@ -83,7 +84,7 @@ module _ {C M : Type 0} (E : Meaning C M) where
           let o = alike_back ns c n n' here unlike a m at in
           at_front l.history more u.place _ (w.answered a o.0 q u o.1 (subst (λ us. At q u us) o.2.answered h))
 
-      opened : (a : ℕ) (m : SessionNote) (o : Pending) → At a m ns' → m.pending ≡ Some o → E.Allowed l.catalogue o.op × (o.seen ≤ length H')
+      opened : (a : ℕ) (m : SessionNote) (o : Pending) → At a m ns' → m.pending ≡ Some o → IsAllowed E l.catalogue o.op × (o.seen ≤ length H')
       opened a m o at h =
           let b = alike_back ns c n n' here unlike a m at in let old = w.pending a b.0 o b.1 (sym b.2.pending ∙ h) in
           (old.0, far o.seen old.1)
@@ -93,12 +94,12 @@ module _ {C M : Type 0} (E : Meaning C M) where
 
       pub batch_changes : l'.completed ≤ length l'.history → length l'.history ≤ l'.config.limit → Batches l' ns' → Accounts E l' ns'
       batch_changes done limit b = record {
-        allowed = subst (λ h. (i : ℕ) (r : Record) → At i r h → E.Allowed l'.catalogue r.op) (sym history) (subst (λ z. (i : ℕ) (r : Record) → At i r H' → E.Allowed z r.op) (sym catalogue) allowed);
+        allowed = subst (λ h. (i : ℕ) (r : Record) → At i r h → IsAllowed E l'.catalogue r.op) (sym history) (subst (λ z. (i : ℕ) (r : Record) → At i r H' → IsAllowed E z r.op) (sym catalogue) allowed);
         accounted = subst (λ h. (i : ℕ) (r : Record) → At i r h → (m : SessionNote) × At r.author m ns' × IsNoted m i r) (sym history) accounted;
         ordered = subst (λ h. (i j : ℕ) (r s : Record) → At i r h → At j s h → i < j → r.author ≡ s.author → r.seq < s.seq) (sym history) ordered;
         answered = subst (λ h. (a : ℕ) (m : SessionNote) (q : ℕ) (u : AnsweredUpdate) → At a m ns' → At q u m.answered → At u.place (record { author = a; seq = q; op = u.op }) h) (sym history) answered;
-        pending = subst (λ h. (a : ℕ) (m : SessionNote) (o : Pending) → At a m ns' → m.pending ≡ Some o → E.Allowed l'.catalogue o.op × (o.seen ≤ length h)) (sym history)
-            (subst (λ z. (a : ℕ) (m : SessionNote) (o : Pending) → At a m ns' → m.pending ≡ Some o → E.Allowed z o.op × (o.seen ≤ length H')) (sym catalogue) opened);
+        pending = subst (λ h. (a : ℕ) (m : SessionNote) (o : Pending) → At a m ns' → m.pending ≡ Some o → IsAllowed E l'.catalogue o.op × (o.seen ≤ length h)) (sym history)
+            (subst (λ z. (a : ℕ) (m : SessionNote) (o : Pending) → At a m ns' → m.pending ≡ Some o → IsAllowed E z o.op × (o.seen ≤ length H')) (sym catalogue) opened);
         requested = b.requested;
         placed = b.placed;
         near = b.near;
@@ -112,7 +113,7 @@ module _ {C M : Type 0} (E : Meaning C M) where
         → ((d k : ℕ) (t : Claim) → IsInBatch ns d k t → t.request.author ≢ c)
         → ((i : ℕ) (r : Record) → At i r l.history → r.author ≡ c → IsNoted n i r → IsNoted n' i r)
         → ((q : ℕ) (u : AnsweredUpdate) → At q u n'.answered → At u.place (record { author = c; seq = q; op = u.op }) l.history)
-        → ((o : Pending) → n'.pending ≡ Some o → E.Allowed l.catalogue o.op × (o.seen ≤ length l.history))
+        → ((o : Pending) → n'.pending ≡ Some o → IsAllowed E l.catalogue o.op × (o.seen ≤ length l.history))
         → Accounts E l (set ns c n')
     request_changes batch unclaimed accounted answered opened = record {
       allowed = w.allowed;

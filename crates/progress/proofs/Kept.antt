@@ -10,7 +10,8 @@ use Rattle.progress.proofs.Keeps.{Batches, batch_changes}
 use Rattle.progress.proofs.Lists.{at_behind, at_below, at_none, at_one}
 use Rattle.progress.proofs.Moved.{none_new, placed_accounts, post_accounts, reply_accounts, some_none, unclaimed_idle}
 use Rattle.progress.proofs.Parts.{Alike, alike_on, alike_request, batch_back, note_here, same_batches}
-use Rattle.progress.specs.Accounts.{Accounts, HasNoRecord, IsInBatch, IsPlacedIn, IsRequest, IsSessionOf}
+use Rattle.oplog.specs.Sessions.{IsSessionOf}
+use Rattle.progress.specs.Accounts.{Accounts, HasNoRecord, IsInBatch, IsPlacedIn, IsRequest, IsAllowed}
 use Rattle.progress.specs.Single.{SingleKeeps, note_with, progress_with}
 use Rattle.progress.specs.declared.sessions.Claim.{Claim}
 use Rattle.progress.specs.declared.sessions.Progress.{Progress}
@@ -34,7 +35,7 @@ module _ {C M : Type 0} (E : Meaning C M) where
       ⊎_elim (λ h. let b = at_below n.answered r.seq _ (subst (λ (z : SessionNote). At r.seq (record { place = i; op = r.op }) z.answered) same h) in omega (arith, b, q))
       (λ h. some_none h.0 a.0.pending h.1 (ap (λ (z : SessionNote). z.pending) same ∙ idle)) a.2
 
-  module _ (l : Progress C) (ns : List SessionNote) (c node : ℕ) (n : SessionNote) (op : Operation) (w : Accounts E l ns) (here : At c n ns) (is : IsSessionOf l.config node c) (idle : n.pending ≡ None) (may : E.Allowed l.catalogue op) where
+  module _ (l : Progress C) (ns : List SessionNote) (c node : ℕ) (n : SessionNote) (op : Operation) (w : Accounts E l ns) (here : At c n ns) (is : IsSessionOf l.config node c) (idle : n.pending ≡ None) (may : IsAllowed E l.catalogue op) where
     abbrev asked : SessionNote
     asked = record n { pending = Some (record { op = op; seen = length l.history }) }
 
@@ -79,12 +80,12 @@ module _ {C M : Type 0} (E : Meaning C M) where
     combines : Accounts E l ns2
     combines = batch_changes E l l (set ns c asked) c asked claimed posted asks [] refl (sym (append-nil l.history)) (none_new E l (set ns c asked) c asked posted asks) like w.completed w.limit batches
 
-    single : (done : ℕ) → length l.history < l.config.limit → done ≤ length (l.history ++ record { author = c; seq = length n.answered; op = op } ∷ []) → Accounts E (progress_with l (record { author = c; seq = length n.answered; op = op }) done) (set ns c (note_with n (length l.history) op))
-    single done room low =
-        let l' : Progress C = progress_with l (record { author = c; seq = length n.answered; op = op }) done in
+    single : length l.history < l.config.limit → Accounts E (progress_with l (record { author = c; seq = length n.answered; op = op })) (set ns c (note_with n (length l.history) op))
+    single room =
+        let l' : Progress C = progress_with l (record { author = c; seq = length n.answered; op = op }) in
         let there2 : At c claimed ns2 = note_here (set ns c asked) c asked claimed asks in
         let appended : SessionNote = record claimed { batch = record { request = mine.request; place = Some (length l.history) } ∷ [] } in
-        let w3 : Accounts E l' (set ns2 c appended) = append_accounts E l l' ns2 c claimed combines there2 refl refl 1 (λ j t h. ap (λ (z : Claim). z.place) (sym (only_one j mine t h).1)) refl low (top (length-append l.history (mine.request ∷ []))) in
+        let w3 : Accounts E l' (set ns2 c appended) = append_accounts E l l' ns2 c claimed combines there2 refl refl 1 (λ j t h. ap (λ (z : Claim). z.place) (sym (only_one j mine t h).1)) refl (below (length-append l.history (mine.request ∷ []))) (top (length-append l.history (mine.request ∷ []))) in
         let there3 : At c appended (set ns2 c appended) = note_here ns2 c claimed appended there2 in
         let w4 = reply_accounts E l' (set ns2 c appended) c appended w3 there3 in
         let idle4 : SessionNote = record appended { batch = [] } in
@@ -98,8 +99,11 @@ module _ {C M : Type 0} (E : Meaning C M) where
         plus_zero : (a : ℕ) → a + 0 ≡ a
         plus_zero a = omega arith
 
+        below : length (l.history ++ mine.request ∷ []) ≡ length l.history + 1 → l.completed ≤ length (l.history ++ mine.request ∷ [])
+        below e = let low = w.completed in omega (arith, e, low)
+
         top : length (l.history ++ mine.request ∷ []) ≡ length l.history + 1 → length (l.history ++ mine.request ∷ []) ≤ l.config.limit
         top e = omega (arith, e, room)
 
   pub single_keeps : SingleKeeps E
-  single_keeps l ns c node n op done w here is idle may room low = single l ns c node n op w here is idle may done room low
+  single_keeps l ns c node n op w here is idle may room = single l ns c node n op w here is idle may room

@@ -10,7 +10,8 @@ use Rattle.ownlock.specs.Seats.{At}
 use Rattle.progress.proofs.Keeps.{Batches, IsNew, batch_changes, request_changes, some_one}
 use Rattle.progress.proofs.Lists.{at_behind, at_below, at_front, at_joined, at_none, at_one}
 use Rattle.progress.proofs.Parts.{Alike, alike_on, alike_request, batch_back, posted_back, posted_once}
-use Rattle.progress.specs.Accounts.{Accounts, HasNoRecord, IsInBatch, IsNoted, IsRequest, IsSessionOf, session}
+use Rattle.oplog.specs.Sessions.{IsSessionOf, session}
+use Rattle.progress.specs.Accounts.{Accounts, HasNoRecord, IsInBatch, IsNoted, IsRequest, IsAllowed}
 use Rattle.progress.specs.Agreement.{Answers, DeskAgrees, IsUnclaimed, StageAgrees}
 use Rattle.progress.specs.Moves.{answered_with, posted_from}
 use Rattle.progress.specs.Values.{Answer, DeskValue, Ended, PlacedAt, Posted, Stage}
@@ -63,10 +64,10 @@ module _ {C M : Type 0} (E : Meaning C M) where
         let same : r.0 ≡ n = at_one ns c r.0 n (subst (λ z. At z r.0 ns) e r.1) here in
         some_none r.2.0 r.0.pending r.2.1 (ap (λ (z : SessionNote). z.pending) same ∙ idle)
 
-    pub post_accounts : (o : Pending) → n.pending ≡ None → E.Allowed l.catalogue o.op → o.seen ≤ length l.history → Accounts E l (set ns c (record n { pending = Some o }))
+    pub post_accounts : (o : Pending) → n.pending ≡ None → IsAllowed E l.catalogue o.op → o.seen ≤ length l.history → Accounts E l (set ns c (record n { pending = Some o }))
     post_accounts o idle may seen = request_changes E l l ns c n (record n { pending = Some o }) w here refl (unclaimed_idle idle) accounted
         (λ q u h. w.answered c n q u here h)
-        (λ o2 e. let same = some_one o o2 e in subst (λ (z : Pending). E.Allowed l.catalogue z.op × (z.seen ≤ length l.history)) same (may, seen))
+        (λ o2 e. let same = some_one o o2 e in subst (λ (z : Pending). IsAllowed E l.catalogue z.op × (z.seen ≤ length l.history)) same (may, seen))
       where
         accounted : (i : ℕ) (r : Record) → At i r l.history → r.author ≡ c → IsNoted n i r → IsNoted (record n { pending = Some o }) i r
         accounted i r at e (inl h) = inl h

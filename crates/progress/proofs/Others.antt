@@ -1,5 +1,6 @@
 -- A move at one place keeps the agreement of every other.
-use Rattle.std.proofs.Common.{append_assoc, ◌≡◌, ◌≢◌, ℕ, ◌<◌, ◌≤◌, ◌⊎◌, List, [], ◌∷◌, ◌++◌, map, length, take, set, sym, refl, ap, ◌∙◌, subst, inl, inr, ⊎_elim, arith, append-nil, None}
+use Rattle.std.proofs.Common.{append_assoc, ◌≡◌, ◌≢◌, ℕ, ◌<◌, ◌≤◌, ◌⊎◌, List, [], ◌∷◌, ◌++◌, map, length, length-append, take, set, sym, refl, ap, ◌∙◌, subst, inl, inr, ⊎_elim, arith, append-nil, None}
+use Rattle.std.proofs.Math.Nat.{le-max_left, max-le}
 use native.Mathlib.Decide.{ℕ_discrete}
 use Rattle.atomic_table.proofs.Lists.{set_again}
 use Rattle.oplog.specs.History.{Meaning, maps_after, reply_at}
@@ -11,9 +12,10 @@ use Rattle.ownlock.specs.Seats.{At}
 use Rattle.progress.proofs.Appended.{moves_accounts, was}
 use Rattle.progress.proofs.Lists.{at_below, at_front, at_joined, at_one, one_node}
 use Rattle.progress.proofs.Parts.{Alike, alike_on, alike_self, batch_back, batch_else, batch_here, maps_front, note_else, placed_on, reply_front, taken_back}
-use Rattle.progress.specs.Accounts.{Accounts, Extends, HasNoRecord, IsInBatch, IsSessionOf, session}
+use Rattle.oplog.specs.Sessions.{IsSessionOf, session}
+use Rattle.progress.specs.Accounts.{Accounts, Extends, HasNoRecord, IsInBatch}
 use Rattle.progress.specs.Agreement.{AgreesWith, Answers, DeskAgrees, IsClaimedBy, IsUnclaimed, ReplicaAgrees, SlotAgrees, StageAgrees, desk_place, replica_place}
-use Rattle.progress.specs.Moves.{HoldsBoth, HoldsDesk, HoldsLog, HoldsNothing, HoldsReplica, LogMove, BatchAppended, MayHold, Moves, desk_rules, placed_from, record_of}
+use Rattle.progress.specs.Moves.{HoldsBoth, HoldsDesk, HoldsLog, HoldsNothing, HoldsReplica, LogMove, BatchAppended, MayHold, Moves, desk_rules, placed_from, raised, record_of}
 use Rattle.progress.specs.Values.{Answer, Answered, Claimed, DeskValue, Empty, Ended, PlacedAt, Posted, ReplicaValue, SlotValue, Stage, StoreValue, TheDesk, TheLog, TheReplica}
 use Rattle.progress.specs.declared.sessions.Claim.{Claim}
 use Rattle.progress.specs.declared.sessions.Progress.{Progress}
@@ -51,7 +53,7 @@ module _ {C M : Type 0} (E : Meaning C M) where
   answer_stays : (l l' : Progress C) (more : List Record) → l.completed ≤ length l.history → Grown l l' more → (a seq : ℕ) (op : Operation) (reply : Answer) → (HasNoRecord l.history a seq → HasNoRecord l'.history a seq) → Answers E l a seq op reply → Answers E l' a seq op reply
   answer_stays l l' more low g a seq op (PlacedAt i reply) none h =
       let lt = h.0 in let up = g.rises in
-      (omega (arith, lt, up), subst (λ z. At i (record { author = a; seq = seq; op = op }) z) (sym g.history) (at_front l.history more i _ h.1), h.2 ∙ sym (reply_stays l l' more g i op (omega (arith, lt, low))))
+      (omega (arith, lt, up), subst (λ z. At i (record { author = a; seq = seq; op = op }) z) (sym g.history) (at_front l.history more i _ h.1), reply_stays l l' more g i op (omega (arith, lt, low)) ∙ h.2)
   answer_stays l l' more low g a seq op Ended none h =
       let at = h.0 in let up = g.rises in let top = g.limit in let end = g.done in let same = ap (λ (z : Config). z.limit) g.config in
       (omega (arith, at, up, top, end, same), none h.1)
@@ -135,19 +137,19 @@ module _ {C M : Type 0} (E : Meaning C M) where
       let g = grown in (node, subst (λ (z : Config). node < z.nodes) (sym m.config) lt, at, replica_stays l l' g.0 y w.completed g.1 a)
     where
       grown : (more : List Record) × Grown l l' more
-      grown = ⊎_elim (λ keep. ([], record { config = m.config; catalogue = m.catalogue; history = keep.0 ∙ sym (append-nil l.history); rises = m.rises; done = w'.completed; limit = w'.limit }))
-          (λ t. (map record_of (take t.count n.batch), record { config = m.config; catalogue = m.catalogue; history = t.history; rises = m.rises; done = w'.completed; limit = w'.limit })) m.appends
+      grown = ⊎_elim (λ keep. ([], record { config = m.config; catalogue = m.catalogue; history = keep.0 ∙ sym (append-nil l.history); rises = (let same = m.completed in omega (arith, same)); done = w'.completed; limit = w'.limit }))
+          (λ t. (map record_of (take t.count n.batch), record { config = m.config; catalogue = m.catalogue; history = t.history; rises = (let same = m.completed in omega (arith, same)); done = w'.completed; limit = w'.limit })) m.appends
   log_others l l' ns c n n' w w' here m q (TheDesk y) ne (lt, at, a) =
       (subst (λ (z : Config). y.node < z.nodes) (sym m.config) lt, at ∙ ap (λ z. desk_place z y.node) (sym m.config), ⊎_elim kept added m.appends)
     where
       kept : (l'.history ≡ l.history) × (n' ≡ n) → DeskAgrees E l' (set ns c n') y
       kept keep = subst (λ z. DeskAgrees E l' z y) (sym (set_again ns c n here) ∙ ap (λ z. set ns c z) (sym keep.1))
-          (desk_stays l l' [] ns ns y w.completed (record { config = m.config; catalogue = m.catalogue; history = keep.0 ∙ sym (append-nil l.history); rises = m.rises; done = w'.completed; limit = w'.limit }) a
+          (desk_stays l l' [] ns ns y w.completed (record { config = m.config; catalogue = m.catalogue; history = keep.0 ∙ sym (append-nil l.history); rises = (let same = m.completed in omega (arith, same)); done = w'.completed; limit = w'.limit }) a
           (λ s lt. record { note = λ o at. (o, at, alike_self o); free = λ h. h; claimed = λ h. h; unheard = λ seq free none. subst (λ z. HasNoRecord z (session l.config y.node s) seq) (sym keep.0) none }))
 
       added : BatchAppended E l n l' n' → DeskAgrees E l' (set ns c n') y
       added t = subst (λ z. DeskAgrees E l' (set ns c z) y) (sym t.note)
-          (desk_stays l l' (map record_of (take t.count n.batch)) ns _ y w.completed (record { config = m.config; catalogue = m.catalogue; history = t.history; rises = m.rises; done = w'.completed; limit = w'.limit }) a
+          (desk_stays l l' (map record_of (take t.count n.batch)) ns _ y w.completed (record { config = m.config; catalogue = m.catalogue; history = t.history; rises = (let same = m.completed in omega (arith, same)); done = w'.completed; limit = w'.limit }) a
           (λ s lt. append_desk l l' ns c n w here m.config m.catalogue t.count t.unplaced t.history a.combiner (session l.config y.node s)))
 
   desk_others : (l : Progress C) (ns : List SessionNote) (c : ℕ) (n n' : SessionNote) → Accounts E l ns → Accounts E l (set ns c n') → At c n ns → (mine p : ℕ) → p ≡ desk_place l.config mine → IsSessionOf l.config mine c → (q : ℕ) (y : StoreValue M) → q ≢ p → AgreesWith E q l ns y → AgreesWith E q l (set ns c n') y
@@ -182,7 +184,7 @@ module _ {C M : Type 0} (E : Meaning C M) where
     config = sym m.config;
     catalogue = sym m.catalogue;
     history = ⊎_elim (λ keep. ([], keep.0 ∙ sym (append-nil l.history))) (λ t. (map record_of (take t.count n.batch), t.history)) m.appends;
-    completed = m.rises;
+    completed = let same = m.completed in omega (arith, same);
   }
   moves_grow p c (TheReplica x) l l' n n' m = subst (λ z. Extends l z) (sym m.0) (grows_self l)
   moves_grow p c (TheDesk x) l l' n n' m = subst (λ z. Extends l z) (sym m.0) (grows_self l)
@@ -191,6 +193,42 @@ module _ {C M : Type 0} (E : Meaning C M) where
   moves_same p c (TheLog x) l l' n n' ne m = absurd (ne m.0)
   moves_same p c (TheReplica x) l l' n n' ne m = ap (λ (z : Progress C). z.history) (sym m.0)
   moves_same p c (TheDesk x) l l' n n' ne m = ap (λ (z : Progress C). z.history) (sym m.0)
+
+  moves_completed : (p c : ℕ) (x : StoreValue M) (l l' : Progress C) (n n' : SessionNote) → Moves E p c x l n l' n' → l'.completed ≡ l.completed
+  moves_completed p c (TheLog x) l l' n n' m = m.1.completed
+  moves_completed p c (TheReplica x) l l' n n' m = ap (λ (z : Progress C). z.completed) m.0
+  moves_completed p c (TheDesk x) l l' n n' m = ap (λ (z : Progress C). z.completed) m.0
+
+  pub raised_grows : (l : Progress C) (n : ℕ) → Extends l (raised l n)
+  raised_grows l n = record { config = refl; catalogue = refl; history = ([], sym (append-nil l.history)); completed = le-max_left l.completed n }
+
+  -- a raise to no more than the history's length leaves everything but the completed tail
+  pub raised_accounts : (l : Progress C) (n : ℕ) (ns : List SessionNote) → n ≤ length l.history → Accounts E l ns → Accounts E (raised l n) ns
+  raised_accounts l n ns far w = record {
+    allowed = w.allowed;
+    accounted = w.accounted;
+    ordered = w.ordered;
+    answered = w.answered;
+    pending = w.pending;
+    requested = w.requested;
+    placed = w.placed;
+    near = w.near;
+    once = w.once;
+    completed = max-le w.completed far;
+    limit = w.limit;
+  }
+
+  raised_grown : (l : Progress C) (n : ℕ) (ns : List SessionNote) → n ≤ length l.history → Accounts E l ns → Grown l (raised l n) []
+  raised_grown l n ns far w = record { config = refl; catalogue = refl; history = sym (append-nil l.history); rises = le-max_left l.completed n; done = max-le w.completed far; limit = w.limit }
+
+  pub raised_agrees : (p : ℕ) (x : StoreValue M) (l : Progress C) (n : ℕ) (ns : List SessionNote) → n ≤ length l.history → Accounts E l ns → AgreesWith E p l ns x → AgreesWith E p (raised l n) ns x
+  raised_agrees p (TheLog x) l n ns far w a = (a.0, record { done = (let low = a.1.done in omega (arith, low, le-max_left l.completed n)); base = a.1.base; base_maps = a.1.base_maps; records = a.1.records })
+  raised_agrees p (TheReplica x) l n ns far w a = (a.0, a.1, a.2, replica_stays l (raised l n) [] x w.completed (raised_grown l n ns far w) a.3)
+  raised_agrees p (TheDesk x) l n ns far w a = (
+    a.0,
+    a.1,
+    desk_stays l (raised l n) [] ns ns x w.completed (raised_grown l n ns far w) a.2 (λ s lt. record { note = λ o at. (o, at, alike_self o); free = λ h. h; claimed = λ h. h; unheard = λ seq free none. none }),
+  )
 
   -- of one place there are two parts, of two places four
   one_part : (qs : List ℕ) (p : ℕ) → IsPart qs (p ∷ []) → (qs ≡ []) ⊎ (qs ≡ p ∷ [])
@@ -236,4 +274,11 @@ module _ {C M : Type 0} (E : Meaning C M) where
     moves_same = moves_same;
     moves_account = moves_accounts E;
     moves_others = moves_others;
+    moves_completed = moves_completed;
+    raised_completed = λ l n. refl;
+    raised_extends = raised_grows;
+    raised_same = λ l n. refl;
+    raised_account = raised_accounts;
+    raised_agrees = raised_agrees;
+    reaches_on = λ a b n g far. let long = ap length g.history.1 ∙ length-append a.history g.history.0 in omega (arith, long, far);
   }

@@ -1,16 +1,17 @@
 -- Histories, batches and notes, part by part.
-use Rattle.std.proofs.Common.{◌≡◌, ◌≢◌, ℕ, zero, suc, ◌+◌, ◌*◌, ◌<◌, ◌≤◌, ◌⊎◌, List, [], ◌∷◌, ◌++◌, map, length, take, set, sym, refl, ap, ◌∙◌, subst, inl, inr, ⊎_elim, arith, Some, None}
+use Rattle.std.proofs.Common.{◌≡◌, ◌≢◌, ℕ, zero, suc, ◌+◌, ◌*◌, ◌<◌, ◌≤◌, ◌⊎◌, List, [], ◌∷◌, ◌++◌, map, length, take, set, sym, refl, ap, ◌∙◌, subst, inl, inr, ⊎_elim, arith, Some, None, option_map}
 use Rattle.std.proofs.lemmas.Bool.{cases_lt}
 use mathlib.Core.Option as kernel
 use mathlib.Core.Option.{some-injective, some-ne-none}
 use Rattle.atomic_table.proofs.Lists.{at_set, set_here, set_else}
-use Rattle.oplog.specs.History.{Meaning, after, maps_after, reply_at}
+use Rattle.oplog.specs.History.{Meaning, after, maps_after, reply_at, read_reply_at}
 use Rattle.oplog.specs.Operations.{Operation}
 use Rattle.oplog.specs.declared.configuration.Config.{Config}
 use Rattle.oplog.specs.declared.records.Record.{Record}
 use Rattle.ownlock.specs.Seats.{At}
 use Rattle.progress.proofs.Lists.{at_below, at_none, at_one, take_front}
-use Rattle.progress.specs.Accounts.{IsInBatch, IsNoted, IsRequest, session}
+use Rattle.oplog.specs.Sessions.{session}
+use Rattle.progress.specs.Accounts.{IsInBatch, IsNoted, IsRequest}
 use Rattle.progress.specs.Moves.{placed_from, posted_at, posted_from, record_of}
 use Rattle.progress.specs.Values.{Answered, Claimed, Empty, Posted, SlotValue, Stage}
 use Rattle.progress.specs.declared.sessions.Claim.{Claim}
@@ -22,7 +23,10 @@ module _ {C M : Type 0} (E : Meaning C M) where
   maps_front c h more k le = ap (λ rs. after E c (E.opening c) rs) (take_front k h more le)
 
   pub reply_front : (c : C) (h more : List Record) (k : ℕ) (op : Operation) → k ≤ length h → reply_at E c (h ++ more) k op ≡ reply_at E c h k op
-  reply_front c h more k op le = ap (λ m. (E.effect c op m).reply) (maps_front c h more k le)
+  reply_front c h more k op le = ap (λ m. option_map (λ e. e.reply) (E.update c op m)) (maps_front c h more k le)
+
+  pub read_front : (c : C) (h more : List Record) (k : ℕ) (op : Operation) → k ≤ length h → read_reply_at E c (h ++ more) k op ≡ read_reply_at E c h k op
+  read_front c h more k op le = ap (λ m. option_map (λ e. e.reply) (E.read c op m)) (maps_front c h more k le)
 
 -- both notes have been answered the same and ask the same
 pub record Alike (n m : SessionNote) : Type 0 where

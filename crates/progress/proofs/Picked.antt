@@ -26,7 +26,7 @@ drop_twice b h = drop_of_length-le (drop b h) (let long = length-drop b h in ome
 
 module _ {C M : Type 0} (E : Meaning C M) where
   -- what the log with one record more has behind the known history
-  own_appended : (known : Progress C) (c : ℕ) (n : SessionNote) (op : Operation) (x y : LogValue M) → OwnStep E known c n op x y → drop (length known.history - y.base) y.records ≡ next_record c n op ∷ []
+  own_appended : (known : Progress C) (c : ℕ) (n : SessionNote) (op : Operation) (x y : LogValue M) → OwnStep E known c n op y → drop (length known.history - y.base) y.records ≡ next_record c n op ∷ []
   own_appended known c n op x y s = ap (drop (length known.history - y.base)) s.records
       ∙ (drop_front (length known.history - y.base) (drop y.base known.history) (next_record c n op ∷ []) (let long = length-drop y.base known.history in omega (arith, long))
       ∙ ap (λ z. z ++ next_record c n op ∷ []) (drop_twice y.base known.history))
@@ -34,7 +34,7 @@ module _ {C M : Type 0} (E : Meaning C M) where
 module _ {C M V : Type 0} (E : Meaning C M) where
   same_is : (k : Known (Progress C) SessionNote V) (l : Progress C) (ns : List SessionNote) (p : ℕ) (x : StoreValue M) → IsNoDesk x → AgreesWith E p l ns x → (p ≡ leader → k.progress.history ≡ l.history) → (put_progress (k ∷ []) x l ≡ l) × (put_note (k ∷ []) x k.note ≡ k.note)
   same_is k l ns p (TheLog y) plain a same = (
-    (λ i. record { config = l.config; catalogue = l.catalogue; history = (ap (λ z. l.history ++ z) none ∙ append-nil l.history) i; completed = a.1.done i }),
+    (λ i. record { config = l.config; catalogue = l.catalogue; history = (ap (λ z. l.history ++ z) none ∙ append-nil l.history) i; completed = l.completed }),
     ap (λ z. counts_from (length k.progress.history) z k.note) none,
   )
     where
@@ -53,7 +53,7 @@ module _ {C M V : Type 0} (E : Meaning C M) (view : V → StoreValue M) (IsSized
   pub own_picks : OwnIs E view IsSized
   own_picks sessions k w x y op is isw step =
       let one = own_appended E k.progress k.session k.note op x y step in (
-        ap (λ s. put_progress s (view w)) is ∙ (ap (λ z. put_progress (k ∷ []) z) isw ∙ (λ i l. record { config = l.config; catalogue = l.catalogue; history = l.history ++ one i; completed = y.done })),
+        ap (λ s. put_progress s (view w)) is ∙ (ap (λ z. put_progress (k ∷ []) z) isw ∙ (λ i l. record { config = l.config; catalogue = l.catalogue; history = l.history ++ one i; completed = l.completed })),
         ap (λ s. put_note s (view w)) is ∙ (ap (λ z. put_note (k ∷ []) z) isw ∙ (λ i n. counts_from (length k.progress.history) (one i) n)),
       )
 

@@ -14,7 +14,8 @@ use Rattle.progress.proofs.Lists.{at_below, at_none, at_one, one_node}
 use Rattle.progress.proofs.Moved.{some_none}
 use Rattle.progress.proofs.Others.{Undisturbed, same_progress, slot_stays}
 use Rattle.progress.proofs.Parts.{Alike, alike_on, alike_self, batch_back, batch_else, batch_here, note_else, note_here, posted_back, reply_front, same_batches}
-use Rattle.progress.specs.Accounts.{Accounts, Extends, HasNoRecord, IsInBatch, IsPlacedIn, IsSessionOf, session}
+use Rattle.oplog.specs.Sessions.{IsSessionOf, session}
+use Rattle.progress.specs.Accounts.{Accounts, Extends, HasNoRecord, IsInBatch, IsPlacedIn, IsAllowed}
 use Rattle.progress.specs.Agreement.{Answers, DeskAgrees, IsUnclaimed, SlotAgrees, StageAgrees, desk_place}
 use Rattle.progress.specs.DeskSteps.{ClaimStep, CollectStep, DeskMayPut, DeskPuts, DeskStep, Gives, PostStep, ReplyStep, claimed_slot, claimed_stage, counted, replied_slot, replied_stage}
 use Rattle.progress.specs.Moves.{Claims, Collects, DeskMove, Posts, Replies, answered_with, posted_at, posted_from}
@@ -107,10 +108,10 @@ module _ {C M : Type 0} (E : Meaning C M) where
     own : (s : ℕ) → c ≡ session known.config x.node s → c ≡ session l.config x.node s
     own s e = e ∙ ap (λ z. session z x.node s) grown.config
 
-    post_puts : (s : ℕ) (slot : SlotValue) (op : Operation) → c ≡ session known.config x.node s → At s slot x.slots → slot.stage ≡ Empty → E.Allowed known.catalogue op → (n' : SessionNote) → n' ≡ record n { pending = Some (record { op = op; seen = length known.history }) }
+    post_puts : (s : ℕ) (slot : SlotValue) (op : Operation) → c ≡ session known.config x.node s → At s slot x.slots → slot.stage ≡ Empty → IsAllowed E known.catalogue op → (n' : SessionNote) → n' ≡ record n { pending = Some (record { op = op; seen = length known.history }) }
         → DeskMove E x c l n n' × DeskAgrees E l (set ns c n') (record { node = x.node; slots = set x.slots s (record { stage = Posted op; count = slot.count }) })
     post_puts s slot op is at empty may n' e = (
-      Posts asked idle (subst (λ z. E.Allowed z op) grown.catalogue may) seen e,
+      Posts asked idle (subst (λ z. IsAllowed E z op) grown.catalogue may) seen e,
       own_slot l ns c n n' w here x desk batch s (record { stage = Posted op; count = slot.count }) (own s is) (
         n',
         note_here ns c n n' here,
@@ -258,8 +259,8 @@ module _ {C M : Type 0} (E : Meaning C M) where
             let up = grown.completed in let lt = g.1 in (
               omega (arith, up, lt),
               subst (λ z. At i z l.history) is (p.0 i g.0),
-              g.2 ∙ (ap (λ (z : Record). reply_at E known.catalogue known.history i z.op) is ∙ (ap (λ z. reply_at E z known.history i o.op) grown.catalogue
-                  ∙ (sym (reply_front E l.catalogue known.history grown.history.0 i o.op (omega (arith, lt, low))) ∙ ap (λ z. reply_at E l.catalogue z i o.op) (sym grown.history.1)))),
+              sym (ap (λ (z : Record). reply_at E known.catalogue known.history i z.op) is ∙ (ap (λ z. reply_at E z known.history i o.op) grown.catalogue
+                  ∙ (sym (reply_front E l.catalogue known.history grown.history.0 i o.op (omega (arith, lt, low))) ∙ ap (λ z. reply_at E l.catalogue z i o.op) (sym grown.history.1)))) ∙ g.2,
             )
         answers a u o seq Ended is p g =
             let up = grown.completed in let at = g.1 in let same = ap (λ (z : Config). z.limit) grown.config in let top = w.limit in let end = w.completed in

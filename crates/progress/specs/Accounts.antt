@@ -1,22 +1,15 @@
 -- How the history and the notes of all sessions fit together.
-use Rattle.std.specs.Prelude.{◌≡◌, ◌≢◌, ℕ, ◌+◌, ◌*◌, ◌<◌, ◌≤◌, ◌⊎◌, List, ◌++◌, length, Some, None}
+use Rattle.std.specs.Prelude.{◌≡◌, ◌≢◌, ℕ, ◌<◌, ◌≤◌, ◌⊎◌, true, List, ◌++◌, length, Some, None}
 use Rattle.ownlock.specs.Seats.{At}
 use Rattle.oplog.specs.declared.records.Record.{Record}
-use Rattle.oplog.specs.declared.configuration.Config.{Config}
 use Rattle.oplog.specs.History.{Meaning, History}
+use Rattle.oplog.specs.Operations.{Operation}
+use Rattle.oplog.specs.Sessions.{IsSessionOf}
 use Rattle.progress.specs.declared.sessions.Progress.{Progress}
 use Rattle.progress.specs.declared.sessions.Pending.{Pending}
 use Rattle.progress.specs.declared.sessions.AnsweredUpdate.{AnsweredUpdate}
 use Rattle.progress.specs.declared.sessions.Claim.{Claim}
 use Rattle.progress.specs.declared.sessions.SessionNote.{SessionNote}
-
--- the session of a slot of a node, by its number among all: the author of its records
-abbrev pub session : Config → ℕ → ℕ → ℕ
-session config node slot = node * config.slots + slot
-
--- the session a is one of that node
-abbrev pub IsSessionOf : Config → ℕ → ℕ → Type 0
-IsSessionOf config node a = (slot : ℕ) × (slot < config.slots) × (a ≡ session config node slot) × (node < config.nodes)
 
 -- no record of the session has that number
 abbrev pub HasNoRecord : History → ℕ → ℕ → Type 0
@@ -45,17 +38,27 @@ abbrev pub IsPrefix : History → History → Type 0
 IsPrefix a b = (more : History) × (b ≡ a ++ more)
 
 module _ {C M : Type 0} (E : Meaning C M) where
+  -- a history of this catalogue may have the operation
+  abbrev pub IsAllowed : C → Operation → Type 0
+  IsAllowed c op = E.is_update c op ≡ true
+
+  -- the progress is one of its catalogue and its sizes: each operation is allowed, and no more is completed than the history has, which is within the limit
+  pub record IsWellFormed (l : Progress C) : Type 0 where
+    pub allowed : (i : ℕ) (r : Record) → At i r l.history → IsAllowed l.catalogue r.op
+    pub completed : l.completed ≤ length l.history
+    pub limit : length l.history ≤ l.config.limit
+
   -- the progress accounts for all that the sessions say, and they for the whole history
   pub record Accounts (l : Progress C) (ns : List SessionNote) : Type 0 where
     -- each record is allowed, and its session's
-    pub allowed : (i : ℕ) (r : Record) → At i r l.history → E.Allowed l.catalogue r.op
+    pub allowed : (i : ℕ) (r : Record) → At i r l.history → IsAllowed l.catalogue r.op
     pub accounted : (i : ℕ) (r : Record) → At i r l.history → (n : SessionNote) × At r.author n ns × IsNoted n i r
     -- the numbers of a session's records rise
     pub ordered : (i j : ℕ) (r s : Record) → At i r l.history → At j s l.history → i < j → r.author ≡ s.author → r.seq < s.seq
     -- each answered update has its record
     pub answered : (a : ℕ) (n : SessionNote) (q : ℕ) (u : AnsweredUpdate) → At a n ns → At q u n.answered → At u.place (record { author = a; seq = q; op = u.op }) l.history
     -- each request that a session waits for is allowed, and began when the history was no longer than it is
-    pub pending : (a : ℕ) (n : SessionNote) (o : Pending) → At a n ns → n.pending ≡ Some o → E.Allowed l.catalogue o.op × (o.seen ≤ length l.history)
+    pub pending : (a : ℕ) (n : SessionNote) (o : Pending) → At a n ns → n.pending ≡ Some o → IsAllowed l.catalogue o.op × (o.seen ≤ length l.history)
     -- each request of a batch is one that its session waits for, and of the node of who combines it
     pub requested : (c k : ℕ) (t : Claim) → IsInBatch ns c k t → (n : SessionNote) × At t.request.author n ns × IsRequest n t.request
     pub placed : (c k : ℕ) (t : Claim) → IsInBatch ns c k t → IsPlacedIn l.history t

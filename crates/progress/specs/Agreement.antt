@@ -10,7 +10,8 @@ use Rattle.progress.specs.declared.sessions.Pending.{Pending}
 use Rattle.progress.specs.declared.sessions.Claim.{Claim}
 use Rattle.progress.specs.declared.sessions.SessionNote.{SessionNote}
 use Rattle.progress.specs.Values.{LogValue, ReplicaValue, DeskValue, SlotValue, Stage, Empty, Posted, Claimed, Answered, Answer, PlacedAt, Ended, StoreValue, TheLog, TheReplica, TheDesk}
-use Rattle.progress.specs.Accounts.{session, HasNoRecord, IsInBatch}
+use Rattle.oplog.specs.Sessions.{session}
+use Rattle.progress.specs.Accounts.{HasNoRecord, IsInBatch}
 
 -- the places of the shelf: the log, then each node's replica, then each node's desk
 abbrev pub log_place : ℕ
@@ -33,7 +34,7 @@ IsClaimedBy ns c a = (k : ℕ) × (t : Claim) × IsInBatch ns c k t × (t.reques
 module _ {C M : Type 0} (E : Meaning C M) where
   -- the answer is right for the request op, of that number, of session a
   abbrev pub Answers : Progress C → ℕ → ℕ → Operation → Answer → Type 0
-  Answers l a seq op (PlacedAt i reply) = (i < l.completed) × At i (record { author = a; seq = seq; op = op }) l.history × (reply ≡ reply_at E l.catalogue l.history i op)
+  Answers l a seq op (PlacedAt i reply) = (i < l.completed) × At i (record { author = a; seq = seq; op = op }) l.history × (reply_at E l.catalogue l.history i op ≡ Some reply)
   Answers l a seq op Ended = (l.completed ≡ l.config.limit) × HasNoRecord l.history a seq
 
   -- the stage of the slot of session a, whose note is n; who combines for the desk is session c
@@ -57,9 +58,9 @@ module _ {C M : Type 0} (E : Meaning C M) where
     pub tail : x.tail ≤ l.completed
     pub maps : x.maps ≡ maps_after E l.catalogue l.history x.tail
 
-  -- the completed tail is the log's, and it keeps at least the records from there on
+  -- the log's own completed tail is one that was read from the lock's word, and the log keeps at least the records from there on
   pub record LogAgrees (l : Progress C) (x : LogValue M) : Type 0 where
-    pub done : x.done ≡ l.completed
+    pub done : x.done ≤ l.completed
     pub base : x.base ≤ x.done
     pub base_maps : x.base_maps ≡ maps_after E l.catalogue l.history x.base
     pub records : x.records ≡ drop x.base l.history

@@ -10,7 +10,8 @@ use Rattle.progress.specs.declared.sessions.Pending.{Pending}
 use Rattle.progress.specs.declared.sessions.Claim.{Claim}
 use Rattle.progress.specs.declared.sessions.SessionNote.{SessionNote}
 use Rattle.progress.specs.Values.{DeskValue, SlotValue, Stage, Empty, Posted, Claimed, Answered, Answer, PlacedAt, Ended, StoreValue, TheDesk}
-use Rattle.progress.specs.Accounts.{session, IsSessionOf, Accounts, Extends}
+use Rattle.oplog.specs.Sessions.{session, IsSessionOf}
+use Rattle.progress.specs.Accounts.{Accounts, Extends, IsAllowed}
 use Rattle.progress.specs.Agreement.{DeskAgrees}
 use Rattle.progress.specs.Moves.{posted_from, answered_with, DeskMove, desk_rules}
 
@@ -42,11 +43,11 @@ counted Ended count = count
 module _ {C M : Type 0} (E : Meaning C M) where
   -- the answer that a combiner has for a request of its batch
   abbrev pub Gives : Progress C → Claim → Answer → Type 0
-  Gives known t (PlacedAt i reply) = (t.place ≡ Some i) × (i < known.completed) × (reply ≡ reply_at E known.catalogue known.history i t.request.op)
+  Gives known t (PlacedAt i reply) = (t.place ≡ Some i) × (i < known.completed) × (reply_at E known.catalogue known.history i t.request.op ≡ Some reply)
   Gives known t Ended = (t.place ≡ None) × (known.completed ≡ known.config.limit)
 
   pub data DeskStep (known : Progress C) (c : ℕ) (n : SessionNote) (x : DeskValue) (n' : SessionNote) (y : DeskValue) : Type 0 where
-    PostStep : (s : ℕ) (slot : SlotValue) (op : Operation) → c ≡ session known.config x.node s → At s slot x.slots → slot.stage ≡ Empty → E.Allowed known.catalogue op
+    PostStep : (s : ℕ) (slot : SlotValue) (op : Operation) → c ≡ session known.config x.node s → At s slot x.slots → slot.stage ≡ Empty → IsAllowed E known.catalogue op
         → n' ≡ record n { pending = Some (record { op = op; seen = length known.history }) }
         → y ≡ record { node = x.node; slots = slice_set x.slots s (record { stage = Posted op; count = slot.count }) } → DeskStep known c n x n' y
     ClaimStep : ((s : ℕ) (slot : SlotValue) → At s slot x.slots → slot.stage ≢ Claimed) → n.batch ≡ []

@@ -28,26 +28,25 @@ module _ {C M : Type 0} (E : Meaning C M) where
   abbrev pub first_replica : C → ReplicaValue M
   first_replica c = record { tail = 0; maps = E.opening c }
 
-  -- the log y is x with a completed tail and a base that may have risen, and the first k requests of the batch
+  -- the log y is x with a base and an own completed tail that may have risen, as far as is known to be completed, and the first k requests of the batch
   pub record LogStep (known : Progress C) (n : SessionNote) (x : LogValue M) (k : ℕ) (y : LogValue M) : Type 0 where
     pub unplaced : (j : ℕ) (t : Claim) → At j t n.batch → t.place ≡ None
     pub count : k ≤ length n.batch
     pub limit : length (known.history ++ map record_of (take k n.batch)) ≤ known.config.limit
-    pub rises : x.done ≤ y.done
-    pub done : y.done ≤ length (known.history ++ map record_of (take k n.batch))
+    pub done : y.done ≤ known.completed
     pub base : y.base ≤ y.done
     pub below : y.base ≤ length known.history
     pub base_maps : y.base_maps ≡ maps_after E known.catalogue known.history y.base
     pub records : y.records ≡ drop y.base known.history ++ map record_of (take k n.batch)
 
-  abbrev pub appended_progress : Progress C → List Claim → ℕ → Progress C
-  appended_progress l batch done = record { config = l.config; catalogue = l.catalogue; history = l.history ++ map record_of batch; completed = done }
+  abbrev pub appended_progress : Progress C → List Claim → Progress C
+  appended_progress l batch = record { config = l.config; catalogue = l.catalogue; history = l.history ++ map record_of batch; completed = l.completed }
 
   abbrev pub LogPuts : Type 0
   LogPuts =
       (known l : Progress C) (n : SessionNote) (x y : LogValue M) (k : ℕ) → Extends known l → known.history ≡ l.history → LogAgrees E l x → LogStep known n x k y
-      → LogMove E l n (appended_progress l (take k n.batch) y.done) (record { answered = n.answered; pending = n.pending; batch = placed_from (length known.history) k n.batch })
-      × LogAgrees E (appended_progress l (take k n.batch) y.done) y
+      → LogMove E l n (appended_progress l (take k n.batch)) (record { answered = n.answered; pending = n.pending; batch = placed_from (length known.history) k n.batch })
+      × LogAgrees E (appended_progress l (take k n.batch)) y
 
   -- a replica that was replayed or rebased as far as the known completed tail
   abbrev pub ReplicaPuts : Type 0

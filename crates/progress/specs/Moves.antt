@@ -1,5 +1,5 @@
 -- What a session may change of the progress and of its own note, by the value that it took.
-use Rattle.std.specs.Prelude.{max, ◌+◌, ◌≡◌, ℕ, zero, suc, ◌≤◌, ◌⊎◌, List, [], ◌∷◌, ◌++◌, map, take, length, Some, None}
+use Rattle.std.specs.Prelude.{max, ◌≡◌, ℕ, zero, suc, ◌≤◌, ◌⊎◌, List, [], ◌∷◌, ◌++◌, map, take, length, Some, None}
 use Rattle.ownlock.specs.Rules.{Rules}
 use Rattle.ownlock.specs.Seats.{At}
 use Rattle.oplog.specs.Operations.{Operation}
@@ -11,7 +11,8 @@ use Rattle.progress.specs.declared.sessions.Pending.{Pending}
 use Rattle.progress.specs.declared.sessions.Claim.{Claim}
 use Rattle.progress.specs.declared.sessions.SessionNote.{SessionNote}
 use Rattle.progress.specs.Values.{DeskValue, SlotValue, Stage, Empty, Posted, Claimed, Answered, Answer, PlacedAt, Ended, StoreValue, TheLog, TheReplica, TheDesk}
-use Rattle.progress.specs.Accounts.{session, IsSessionOf, Accounts, Extends}
+use Rattle.oplog.specs.Sessions.{session, IsSessionOf}
+use Rattle.progress.specs.Accounts.{Accounts, Extends, IsAllowed}
 use Rattle.progress.specs.Agreement.{AgreesWith, log_place, replica_place, desk_place}
 
 -- a batch whose first k requests were appended, from this place on
@@ -47,10 +48,14 @@ pub data MayHold {C : Type 0} (l : Progress C) (c : ℕ) (places : List ℕ) : T
   HoldsReplica : (node : ℕ) → IsSessionOf l.config node c → places ≡ replica_place l.config node ∷ [] → MayHold l c places
   HoldsBoth : (node : ℕ) → IsSessionOf l.config node c → places ≡ log_place ∷ replica_place l.config node ∷ [] → MayHold l c places
 
+-- the progress, all of whose first n operations are completed
+abbrev pub raised : {C : Type 0} → Progress C → ℕ → Progress C
+raised l n = record l { completed = max l.completed n }
+
 module _ {C M : Type 0} (E : Meaning C M) where
   -- at the desk of its node a session changes nothing but its note
   pub data DeskMove (x : DeskValue) (c : ℕ) (l : Progress C) (n n' : SessionNote) : Type 0 where
-    Posts : (o : Pending) → n.pending ≡ None → E.Allowed l.catalogue o.op → o.seen ≤ length l.history → n' ≡ record n { pending = Some o } → DeskMove x c l n n'
+    Posts : (o : Pending) → n.pending ≡ None → IsAllowed E l.catalogue o.op → o.seen ≤ length l.history → n' ≡ record n { pending = Some o } → DeskMove x c l n n'
     Claims : n.batch ≡ [] → n' ≡ record n { batch = posted_from l.config x.node 0 x.slots } → DeskMove x c l n n'
     Replies : n' ≡ record n { batch = [] } → DeskMove x c l n n'
     Collects : (s : ℕ) (slot : SlotValue) (o : Pending) (answer : Answer) → c ≡ session l.config x.node s → At s slot x.slots → slot.stage ≡ Answered answer → n.pending ≡ Some o → n' ≡ answered_with n o.op answer → DeskMove x c l n n'
@@ -64,12 +69,11 @@ module _ {C M : Type 0} (E : Meaning C M) where
     pub limit : length l'.history ≤ l.config.limit
     pub note : n' ≡ record n { batch = placed_from (length l.history) count n.batch }
 
-  -- who holds the log raises the completed tail, and may append from its batch
+  -- who holds the log may append from its batch
   pub record LogMove (l : Progress C) (n : SessionNote) (l' : Progress C) (n' : SessionNote) : Type 0 where
     pub config : l'.config ≡ l.config
     pub catalogue : l'.catalogue ≡ l.catalogue
-    pub rises : l.completed ≤ l'.completed
-    pub completed : l'.completed ≤ length l'.history
+    pub completed : l'.completed ≡ l.completed
     pub appends : ((l'.history ≡ l.history) × (n' ≡ n)) ⊎ BatchAppended l n l' n'
 
   abbrev pub Moves : ℕ → ℕ → StoreValue M → Progress C → SessionNote → Progress C → SessionNote → Type 0
@@ -87,22 +91,6 @@ module _ {C M : Type 0} (E : Meaning C M) where
     Allows = MayHold;
     Moves = Moves;
     completed = λ l. l.completed;
-    with_completed = λ l n. record l { completed = n };
-    HasLength = λ l n. n ≤ length l.history;
+    raised = raised;
+    Reaches = λ l n. n ≤ length l.history;
   }
-
-module _ {M : Type 0} where
-  -- the log, its completed tail, and the log whose completed tail is the greater of what it was and n, where the log reaches so far
-  abbrev pub IsLog : StoreValue M → Type 0
-  IsLog (TheLog x) = Unit {0}
-  IsLog (TheReplica x) = ⊥
-  IsLog (TheDesk x) = ⊥
-
-  abbrev pub done_of : StoreValue M → ℕ
-  done_of (TheLog x) = x.done
-  done_of (TheReplica x) = 0
-  done_of (TheDesk x) = 0
-
-  abbrev pub RaisedTo : StoreValue M → ℕ → StoreValue M → Type 0
-  RaisedTo (TheLog x) n (TheLog y) = (y.base ≡ x.base) × (y.base_maps ≡ x.base_maps) × (y.records ≡ x.records) × (n ≤ x.base + length x.records → y.done ≡ max x.done n)
-  RaisedTo _ n _ = ⊥

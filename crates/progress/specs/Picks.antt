@@ -27,7 +27,7 @@ module _ {C M V : Type 0} where
   -- the progress, once the session that knows this has put the value back
   abbrev pub put_progress : List (Known (Progress C) SessionNote V) → StoreValue M → Progress C → Progress C
   put_progress [] v l = l
-  put_progress (k ∷ ks) (TheLog y) l = record { config = l.config; catalogue = l.catalogue; history = l.history ++ appended_by k.progress y; completed = y.done }
+  put_progress (k ∷ ks) (TheLog y) l = record { config = l.config; catalogue = l.catalogue; history = l.history ++ appended_by k.progress y; completed = l.completed }
   put_progress (k ∷ ks) (TheReplica y) l = l
   put_progress (k ∷ ks) (TheDesk y) l = l
 
@@ -52,7 +52,7 @@ module _ {C M V : Type 0} (E : Meaning C M) (view : V → StoreValue M) (IsSized
   abbrev pub OwnPicked : Type 0
   OwnPicked =
       (sessions : List (Known (Progress C) SessionNote V)) (k : Known (Progress C) SessionNote V) (a : ℕ) (v w : V) (x y : LogValue M) (op : Operation)
-      → At a (log_place, v) k.held → view v ≡ TheLog x → view w ≡ TheLog y → KeepsSizes E view IsSized v w → OwnStep E k.progress k.session k.note op x y → MayPutPicked sessions k log_place w
+      → At a (log_place, v) k.held → view v ≡ TheLog x → view w ≡ TheLog y → KeepsSizes E view IsSized v w → OwnStep E k.progress k.session k.note op y → MayPutPicked sessions k log_place w
 
   abbrev pub ReplicaPicked : Type 0
   ReplicaPicked =
@@ -82,8 +82,8 @@ module _ {C M V : Type 0} (E : Meaning C M) (view : V → StoreValue M) (IsSized
 
   abbrev pub OwnIs : Type 0
   OwnIs =
-      (sessions : List (Known (Progress C) SessionNote V)) (k : Known (Progress C) SessionNote V) (w : V) (x y : LogValue M) (op : Operation) → sessions ≡ k ∷ [] → view w ≡ TheLog y → OwnStep E k.progress k.session k.note op x y
-      → (put_progress sessions (view w) ≡ (λ l. progress_with l (next_record k.session k.note op) y.done)) × (put_note sessions (view w) ≡ (λ n. note_with n (length k.progress.history) op))
+      (sessions : List (Known (Progress C) SessionNote V)) (k : Known (Progress C) SessionNote V) (w : V) (x y : LogValue M) (op : Operation) → sessions ≡ k ∷ [] → view w ≡ TheLog y → OwnStep E k.progress k.session k.note op y
+      → (put_progress sessions (view w) ≡ (λ l. progress_with l (next_record k.session k.note op))) × (put_note sessions (view w) ≡ (λ n. note_with n (length k.progress.history) op))
 
   abbrev pub ReplicaIs : Type 0
   ReplicaIs =

@@ -8,9 +8,10 @@ use Rattle.oplog.specs.History.{Meaning}
 use Rattle.progress.specs.declared.sessions.Progress.{Progress}
 use Rattle.progress.specs.declared.sessions.SessionNote.{SessionNote}
 use Rattle.progress.specs.Values.{StoreValue, TheLog, TheReplica, TheDesk}
-use Rattle.progress.specs.Accounts.{IsSessionOf, Accounts, Extends}
+use Rattle.oplog.specs.Sessions.{IsSessionOf}
+use Rattle.progress.specs.Accounts.{Accounts, Extends, IsAllowed}
 use Rattle.progress.specs.Agreement.{AgreesWith, log_place}
-use Rattle.progress.specs.Moves.{MayHold}
+use Rattle.progress.specs.Moves.{MayHold, raised}
 
 -- the request as the next record of the session c, whose note is n
 abbrev pub next_record : ℕ → SessionNote → Operation → Record
@@ -27,8 +28,8 @@ IsNoDesk (TheDesk x) = ⊥
 
 module _ {C : Type 0} where
   -- the progress, once r is appended
-  abbrev pub progress_with : Progress C → Record → ℕ → Progress C
-  progress_with l r completed = record { config = l.config; catalogue = l.catalogue; history = l.history ++ r ∷ []; completed = completed }
+  abbrev pub progress_with : Progress C → Record → Progress C
+  progress_with l r = record { config = l.config; catalogue = l.catalogue; history = l.history ++ r ∷ []; completed = l.completed }
 
 module _ {C M : Type 0} (E : Meaning C M) where
   -- the session c, which waits for nothing and combines nothing, appends an allowed operation of its own, and counts it as answered
@@ -38,17 +39,16 @@ module _ {C M : Type 0} (E : Meaning C M) where
     pub own : IsSessionOf l.config node c
     pub idle : n.pending ≡ None
     pub alone : n.batch ≡ []
-    pub allowed : E.Allowed l.catalogue op
+    pub allowed : IsAllowed E l.catalogue op
     pub room : length l.history < l.config.limit
     pub history : l'.history ≡ l.history ++ next_record c n op ∷ []
     pub note : n' ≡ note_with n (length l.history) op
 
-  -- who holds the log raises the completed tail, and may append one record of its own
+  -- who holds the log may append one record of its own
   pub record SingleLogMove (c : ℕ) (l : Progress C) (n : SessionNote) (l' : Progress C) (n' : SessionNote) : Type 0 where
     pub config : l'.config ≡ l.config
     pub catalogue : l'.catalogue ≡ l.catalogue
-    pub rises : l.completed ≤ l'.completed
-    pub completed : l'.completed ≤ length l'.history
+    pub completed : l'.completed ≡ l.completed
     pub appends : ((l'.history ≡ l.history) × (n' ≡ n)) ⊎ OwnAppended c l n l' n'
 
   abbrev pub SingleMoves : ℕ → ℕ → StoreValue M → Progress C → SessionNote → Progress C → SessionNote → Type 0
@@ -65,13 +65,12 @@ module _ {C M : Type 0} (E : Meaning C M) where
     Allows = MayHold;
     Moves = SingleMoves;
     completed = λ l. l.completed;
-    with_completed = λ l n. record l { completed = n };
-    HasLength = λ l n. n ≤ length l.history;
+    raised = raised;
+    Reaches = λ l n. n ≤ length l.history;
   }
 
   -- the request is appended and counted as answered, and the account stays
   abbrev pub SingleKeeps : Type 0
   SingleKeeps =
-      (l : Progress C) (ns : List SessionNote) (c node : ℕ) (n : SessionNote) (op : Operation) (completed : ℕ) → Accounts E l ns → At c n ns → IsSessionOf l.config node c → n.pending ≡ None → E.Allowed l.catalogue op
-      → length l.history < l.config.limit → completed ≤ length (l.history ++ next_record c n op ∷ [])
-      → Accounts E (progress_with l (next_record c n op) completed) (slice_set ns c (note_with n (length l.history) op))
+      (l : Progress C) (ns : List SessionNote) (c node : ℕ) (n : SessionNote) (op : Operation) → Accounts E l ns → At c n ns → IsSessionOf l.config node c → n.pending ≡ None → IsAllowed E l.catalogue op
+      → length l.history < l.config.limit → Accounts E (progress_with l (next_record c n op)) (slice_set ns c (note_with n (length l.history) op))

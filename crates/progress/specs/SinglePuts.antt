@@ -1,6 +1,6 @@
 -- What a session of a store without desks is told when it takes a value, what it may put back, and what it may say of its answer.
 -- A value of type V is seen as a store's value, and its sizes are those of the configuration and the catalogue.
-use Rattle.std.specs.Prelude.{◌≡◌, ◌≢◌, ℕ, suc, ◌+◌, ◌<◌, ◌≤◌, List, [], ◌∷◌, ◌++◌, length, take, drop, replicate, None}
+use Rattle.std.specs.Prelude.{◌≡◌, ◌≢◌, ℕ, ◌+◌, ◌<◌, ◌≤◌, List, [], ◌∷◌, ◌++◌, length, take, drop, replicate, None, Some, option_map}
 use Rattle.ownlock.specs.declared.known.Known.{Known}
 use Rattle.ownlock.specs.Rules.{Rules}
 use Rattle.ownlock.specs.Seats.{At}
@@ -13,7 +13,8 @@ use Rattle.progress.specs.declared.sessions.Progress.{Progress}
 use Rattle.progress.specs.declared.sessions.Pending.{Pending}
 use Rattle.progress.specs.declared.sessions.SessionNote.{SessionNote}
 use Rattle.progress.specs.Values.{LogValue, ReplicaValue, StoreValue, TheLog, TheReplica, PlacedAt, Ended}
-use Rattle.progress.specs.Accounts.{IsSessionOf, Accounts, Extends}
+use Rattle.oplog.specs.Sessions.{IsSessionOf}
+use Rattle.progress.specs.Accounts.{Accounts, Extends, IsAllowed}
 use Rattle.progress.specs.Agreement.{log_place, replica_place, LogAgrees, ReplicaAgrees}
 use Rattle.progress.specs.LogSteps.{first_progress, fresh_note, first_log, first_replica}
 use Rattle.progress.specs.Seen.{seen_rules}
@@ -25,16 +26,15 @@ module _ {C M : Type 0} (E : Meaning C M) where
   abbrev pub HasOneMore : LogValue M → Record → LogValue M → Type 0
   HasOneMore x r y = (y.base ≡ x.base) × (y.base_maps ≡ x.base_maps) × (y.records ≡ x.records ++ r ∷ []) × (y.done ≡ x.done)
 
-  -- y is the log x with the next record of session c, and with a completed tail and a base that may have risen, by what is known
-  pub record OwnStep (known : Progress C) (c : ℕ) (n : SessionNote) (op : Operation) (x y : LogValue M) : Type 0 where
+  -- y is the log x with the next record of session c, and with a base and an own completed tail that may have risen, as far as is known to be completed
+  pub record OwnStep (known : Progress C) (c : ℕ) (n : SessionNote) (op : Operation) (y : LogValue M) : Type 0 where
     pub node : ℕ
     pub own : IsSessionOf known.config node c
     pub idle : n.pending ≡ None
     pub alone : n.batch ≡ []
-    pub allowed : E.Allowed known.catalogue op
+    pub allowed : IsAllowed E known.catalogue op
     pub room : length known.history < known.config.limit
-    pub rises : x.done ≤ y.done
-    pub done : y.done ≤ suc (length known.history)
+    pub done : y.done ≤ known.completed
     pub base : y.base ≤ y.done
     pub below : y.base ≤ length known.history
     pub base_maps : y.base_maps ≡ maps_after E known.catalogue known.history y.base
@@ -43,7 +43,7 @@ module _ {C M : Type 0} (E : Meaning C M) where
   abbrev pub OneMoreSteps : Type 0
   OneMoreSteps =
       (known : Progress C) (c node : ℕ) (n : SessionNote) (op : Operation) (x y : LogValue M) → known.completed ≤ length known.history → LogAgrees E known x
-      → IsSessionOf known.config node c → n.pending ≡ None → n.batch ≡ [] → E.Allowed known.catalogue op → length known.history < known.config.limit → HasOneMore x (next_record c n op) y → OwnStep known c n op x y
+      → IsSessionOf known.config node c → n.pending ≡ None → n.batch ≡ [] → IsAllowed E known.catalogue op → length known.history < known.config.limit → HasOneMore x (next_record c n op) y → OwnStep known c n op y
 
   -- the log ends where the history ends
   abbrev pub TailIs : Type 0
@@ -61,14 +61,14 @@ module _ {C M : Type 0} (E : Meaning C M) where
   -- the record that a session appended and the reply there are what it may say of its answer, once that place is completed
   abbrev pub PlacedTells : Type 0
   PlacedTells =
-      (known l : Progress C) (c seq i reply : ℕ) (o : Pending) → Extends known l → At i (record { author = c; seq = seq; op = o.op }) known.history → reply ≡ reply_at E known.catalogue known.history i o.op
+      (known l : Progress C) (c seq i reply : ℕ) (o : Pending) → Extends known l → At i (record { author = c; seq = seq; op = o.op }) known.history → reply_at E known.catalogue known.history i o.op ≡ Some reply
       → o.seen ≤ i → i < l.completed → Tells E l c seq o (PlacedAt i reply)
 
   -- the reply on the maps of a replica that was replayed is what a read may answer, once that far is completed
   abbrev pub ReadsTell : Type 0
   ReadsTell =
       (known l : Progress C) (begun reply : ℕ) (op : Operation) (y : ReplicaValue M) → Extends known l → y.tail ≤ length known.history → y.maps ≡ maps_after E known.catalogue known.history y.tail
-      → reply ≡ (E.effect known.catalogue op y.maps).reply → begun ≤ y.tail → y.tail ≤ l.completed → ReadTells E l begun op y.tail reply
+      → option_map (λ e. e.reply) (E.read known.catalogue op y.maps) ≡ Some reply → begun ≤ y.tail → y.tail ≤ l.completed → ReadTells E l begun op y.tail reply
 
   -- a session that waits for nothing may say that the history has its last record, once all of it is completed
   abbrev pub EndedTells : Type 0
@@ -132,8 +132,8 @@ module _ {C M V : Type 0} (E : Meaning C M) (view : V → StoreValue M) (IsSized
   -- a log with the session's own request may be put back; the session counts the request as answered at the place where the history ended
   abbrev pub OwnMayPut : Type 0
   OwnMayPut =
-      (k : Known (Progress C) SessionNote V) (a : ℕ) (v w : V) (x y : LogValue M) (op : Operation) → At a (log_place, v) k.held → view v ≡ TheLog x → view w ≡ TheLog y → KeepsSizes v w → OwnStep E k.progress k.session k.note op x y
-      → MayPut the_rules (λ l. progress_with l (next_record k.session k.note op) y.done) (λ n. note_with n (length k.progress.history) op) k log_place w
+      (k : Known (Progress C) SessionNote V) (a : ℕ) (v w : V) (x y : LogValue M) (op : Operation) → At a (log_place, v) k.held → view v ≡ TheLog x → view w ≡ TheLog y → KeepsSizes v w → OwnStep E k.progress k.session k.note op y
+      → MayPut the_rules (λ l. progress_with l (next_record k.session k.note op)) (λ n. note_with n (length k.progress.history) op) k log_place w
 
   -- a replica that was replayed as far as the known completed tail may be put back
   abbrev pub ReplicaMayPut : Type 0

@@ -3,13 +3,14 @@ use Rattle.std.specs.Prelude.{◌≡◌, ℕ, suc, ◌<◌, ◌≤◌, ◌==◌,
 use Rattle.ownlock.specs.Seats.{At}
 use Rattle.oplog.specs.Operations.{Operation}
 use Rattle.oplog.specs.declared.records.Record.{Record}
-use Rattle.oplog.specs.History.{Meaning, History, reply_at}
+use Rattle.oplog.specs.History.{Meaning, History, reply_at, read_reply_at}
 use Rattle.progress.specs.declared.sessions.Progress.{Progress}
 use Rattle.progress.specs.declared.sessions.Pending.{Pending}
 use Rattle.progress.specs.declared.sessions.AnsweredUpdate.{AnsweredUpdate}
 use Rattle.progress.specs.declared.sessions.SessionNote.{SessionNote}
 use Rattle.progress.specs.Values.{DeskValue, SlotValue, Answered, Answer, PlacedAt, Ended}
-use Rattle.progress.specs.Accounts.{session, HasNoRecord, Accounts}
+use Rattle.oplog.specs.Sessions.{session}
+use Rattle.progress.specs.Accounts.{HasNoRecord, Accounts}
 use Rattle.progress.specs.Agreement.{DeskAgrees}
 
 -- the records of a session, in order
@@ -26,13 +27,13 @@ module _ {C M : Type 0} (E : Meaning C M) where
   -- completed, and has the session's record of it, and the reply is the one of there; or the history has its last record and none is of that number
   abbrev pub Tells : Progress C → ℕ → ℕ → Pending → Answer → Type 0
   Tells l c seq o (PlacedAt i reply) =
-      (o.seen ≤ i) × (i < l.completed) × At i (record { author = c; seq = seq; op = o.op }) l.history × (reply ≡ reply_at E l.catalogue l.history i o.op)
+      (o.seen ≤ i) × (i < l.completed) × At i (record { author = c; seq = seq; op = o.op }) l.history × (reply_at E l.catalogue l.history i o.op ≡ Some reply)
   Tells l c seq o Ended = (l.completed ≡ l.config.limit) × HasNoRecord l.history c seq
 
   -- the answer to a read that began when so many operations were completed: its point lies from there to the completed tail at its
   -- end, and the reply is the one after the operations before that point
   abbrev pub ReadTells : Progress C → ℕ → Operation → ℕ → ℕ → Type 0
-  ReadTells l begun op point reply = (begun ≤ point) × (point ≤ l.completed) × (reply ≡ reply_at E l.catalogue l.history point op)
+  ReadTells l begun op point reply = (begun ≤ point) × (point ≤ l.completed) × (read_reply_at E l.catalogue l.history point op ≡ Some reply)
 
   -- what a desk has for a session is so
   abbrev pub DeskTells : Type 0

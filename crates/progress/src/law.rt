@@ -1,7 +1,7 @@
 // The laws of what a store's sessions know of its history.
-ghost use Rattle.ownlock.specs.Rules.{Laws, CompletedLaws};
-ghost use Rattle.progress.specs.Moves.{desk_rules, IsLog, done_of, RaisedTo};
-ghost use Rattle.progress.specs.Seen.{seen_rules, IsSeenLog, seen_done, IsSeenRaised};
+ghost use Rattle.ownlock.specs.Rules.{Laws};
+ghost use Rattle.progress.specs.Moves.{desk_rules};
+ghost use Rattle.progress.specs.Seen.{seen_rules};
 ghost use Rattle.progress.specs.DeskSteps.{DeskPuts, DeskMayPut};
 ghost use Rattle.progress.specs.LogSteps.{LogPuts, ReplicaPuts, Opens};
 ghost use Rattle.progress.specs.Told.{DeskTells, Ends};
@@ -11,10 +11,9 @@ ghost use Rattle.progress.specs.Picks.{SamePicked, OwnPicked, ReplicaPicked, Put
 
 use crate::meanings::{Effects, Viewed};
 
-/// With desks: a move keeps the account of all notes and the agreement of every other value, and the completed tail is the log's.
+/// With desks: a move, or a raise of the completed tail, keeps the account of all notes and the agreement of every other value.
 pub fn desk_laws<E: Effects>()
-    ensures laws { Laws (desk_rules E.meaning) }
-    ensures completed { CompletedLaws (desk_rules E.meaning) IsLog done_of RaisedTo }
+    ensures { Laws (desk_rules E.meaning) }
 {}
 
 /// A post, claim, reply or collect at a desk may be put back, wherever the others are by then.
@@ -44,7 +43,6 @@ pub fn tells<E: Effects>()
 /// Without desks: the same of the moves of a session that appends its own request and counts it as answered at once.
 pub fn single_laws<E: Effects>()
     ensures laws { Laws (single_rules E.meaning) }
-    ensures completed { CompletedLaws (single_rules E.meaning) IsLog done_of RaisedTo }
     ensures append { SingleKeeps E.meaning }
 {}
 
@@ -63,9 +61,7 @@ pub fn single_tells<E: Effects>()
 /// Both sets of laws, for values of any type that are seen as a store's.
 pub fn seen_laws<S: Viewed>()
     ensures desk { Laws (seen_rules S.view S.is_sized (desk_rules S.meaning)) }
-    ensures desk_completed { CompletedLaws (seen_rules S.view S.is_sized (desk_rules S.meaning)) (IsSeenLog S.view S.is_sized) (seen_done S.view S.is_sized) (IsSeenRaised S.view S.is_sized) }
     ensures single { Laws (the_rules S.meaning S.view S.is_sized) }
-    ensures single_completed { CompletedLaws (the_rules S.meaning S.view S.is_sized) (IsSeenLog S.view S.is_sized) (seen_done S.view S.is_sized) (IsSeenRaised S.view S.is_sized) }
 {}
 
 /// Without desks: what a shelf opens with, what a session may take, what it is told then, and what each value is in the end.

@@ -1,6 +1,6 @@
 // When a read may answer, and what it answers.
 
-ghost use Rattle.std.specs.Prelude.{◌≡◌, ◌↔◌, ◌≤◌, IsTrue, length};
+ghost use Rattle.std.specs.Prelude.{◌≡◌, ◌↔◌, ◌≤◌, IsTrue, length, Some, option_map};
 ghost use Rattle.maps.specs.Maps.{shapes_of};
 ghost use Rattle.verifier.specs.declared.refusal.Mode.TheVariants.{Read};
 ghost use Rattle.machine.specs.Effects.{effect};
@@ -30,7 +30,7 @@ pub fn answer(program: &Accepted, replica: &mut Replica, argument: &[u8]) -> Rea
     requires mode { program.now.mode ≡ Read }
     requires length { length argument.now ≡ program.now.arg_len }
     ensures point { result.point ≡ replica.old.tail }
-    ensures reply { result.reply ≡ (effect program.now.program replica.old.maps argument.now).reply }
+    ensures reply { option_map (λ e. e.reply) (effect program.now.program replica.old.maps argument.now) ≡ Some result.reply }
     ensures same { replica.new ≡ replica.old }
 {
     let point = replica.tail();

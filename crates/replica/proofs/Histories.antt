@@ -1,26 +1,25 @@
 -- Each operation of a history takes effect.
-use Rattle.std.proofs.Common.{◌≡◌, ℕ, zero, suc, List, [], ◌∷◌, length, take, Option, Some, None, slice_get, refl, sym, ap, ◌∙◌, subst}
+use Rattle.std.proofs.Common.{◌≡◌, ℕ, zero, suc, true, List, [], ◌∷◌, length, take, Option, Some, None, slice_get, refl, sym, ap, ◌∙◌, subst}
 use Rattle.std.specs.List.{AllByRecursion}
 use Rattle.std.specs.Option.{option_map}
 use Rattle.std.proofs.lemmas.Option.{slice_get_within, get_or_from_slice_get}
 use Rattle.insn.specs.declared.instruction.Form.{Form}
-use Rattle.insn.specs.Encoding.{HasEncoding, IsInstruction}
 use Rattle.maps.specs.declared.shapes.Shape.{Shape}
-use Rattle.maps.specs.Maps.{Maps, AreBytes, HasShapes}
+use Rattle.maps.specs.Maps.{Maps, HasShapes}
 use Rattle.maps.specs.MapSets.{opening_maps}
 use Rattle.maps.proofs.OpeningShapes.{opening_shapes}
+use Rattle.verifier.specs.declared.refusal.Mode.{Mode}
+use Rattle.verifier.specs.declared.refusal.Mode.TheVariants.{Update, Read}
 use Rattle.verifier.specs.Accepted.{Checked, IsAccepted, signature_of}
-use Rattle.machine.specs.Effects.{TakesEffect, effect}
+use Rattle.machine.specs.Effects.{Effect as RunEffect}
 use Rattle.machine.proofs.EffectsOfRuns.{typable_takes_effect}
 use Rattle.loader.specs.CatalogueView.{CatalogueView, IsCatalogue, Entry}
 use Rattle.oplog.specs.Operations.{Operation}
-use Rattle.oplog.specs.History.{History, maps_after, after}
-use Rattle.replica.specs.StoreMeaning.{program_at, effect_of, effect_with, IsUpdate, AreUpdates, store_meaning}
-use Rattle.replica.specs.HistoryLaws.{HasEffects}
-
-spelled : (p : List Form) → AllByRecursion IsInstruction p → AllByRecursion HasEncoding p
-spelled [] h = tt
-spelled (i ∷ p) h = (h.0.0, spelled p h.1)
+use Rattle.oplog.specs.History.{History, left_by, maps_after, after, effect_at, read_at}
+use Rattle.replica.specs.StoreMeaning.{program_at, run_of, as_update, as_read, IsOperation, is_operation, AreUpdates, store_meaning}
+use Rattle.replica.specs.HistoryLaws.{HasRun, HasEffects}
+use Rattle.replica.proofs.Outcomes.{known_run}
+use Rattle.replica.proofs.Tested.{is_tested}
 
 mapped : {A B : Type 0} (f : A → B) (o : Option A) (y : B) → option_map f o ≡ Some y → (x : A) × (o ≡ Some x) × (f x ≡ y)
 mapped f None y e = absurd cc
@@ -46,32 +45,57 @@ accepted_at c k p whole known =
     let there = get_or_from_slice_get c.programs k entry.0 entry.0 entry.1 in
     subst IsAccepted entry.2 (subst (λ (e : Entry). IsAccepted e.checked) there (whole.checked k entry.0 (slice_get_within c.programs k entry.0 entry.1)))
 
-module _ (c : CatalogueView) (whole : IsCatalogue c) where
-  -- an operation of the catalogue on maps of its shapes
-  takes : (op : Operation) (p : Checked) (maps : Maps) → program_at c op.program ≡ Some p → length op.argument ≡ p.arg_len → AreBytes op.argument → HasShapes c.shapes maps
-      → TakesEffect p.program (signature_of p) maps op.argument
-  takes op p maps known len bytes shapes =
-      let is = accepted_at c op.program p whole known in
-      typable_takes_effect p.program (signature_of p) (spelled p.program is.instructions) is.typable maps op.argument
-      (subst (λ (s : List Shape). HasShapes s maps) (sym (for_shapes c op.program p whole known)) shapes) bytes len
+-- an operation whose program takes effect, on maps of the catalogue's shapes
+record Takes (c : CatalogueView) (op : Operation) (p : Checked) (maps : Maps) : Type 0 where
+  has : HasRun c op maps
+  done : run_of c op maps ≡ Some has.done
+  reads : p.mode ≡ Read → has.done.maps ≡ maps
 
-  shapes_next : (op : Operation) (maps : Maps) → IsUpdate c op → HasShapes c.shapes maps → HasShapes c.shapes (effect_of c op maps).maps
+module _ (c : CatalogueView) (whole : IsCatalogue c) where
+  takes : (mode : Mode) (op : Operation) (maps : Maps) (is : IsOperation mode c op) → HasShapes c.shapes maps → Takes c op is.program maps
+  takes mode op maps is shapes =
+      let p = is.program in
+      let accepted = accepted_at c op.program p whole is.named in
+      let same = for_shapes c op.program p whole is.named in
+      let t =
+      typable_takes_effect p.program (signature_of p) accepted.instructions accepted.typable maps op.argument
+      (subst (λ (s : List Shape). HasShapes s maps) (sym same) shapes) is.bytes is.length_is in
+      record {
+        has = record { program = p; named = is.named; done = t.done; run = t.run; shapes = subst (λ (s : List Shape). HasShapes s t.done.maps) same t.shapes };
+        done = known_run c op maps p is.named ∙ t.takes;
+        reads = t.reads;
+      }
+
+  shapes_next : (op : Operation) (maps : Maps) → is_operation Update c op ≡ true → HasShapes c.shapes maps → HasShapes c.shapes (left_by (store_meaning.update c op maps) maps)
   shapes_next op maps update shapes =
-      let left = (takes op update.program maps update.named update.length update.bytes shapes).shapes in
-      subst (λ (o : Option Checked). HasShapes c.shapes (effect_with o op.argument maps).maps) (sym update.named)
-      (subst (λ (s : List Shape). HasShapes s (effect update.program.program maps op.argument).maps) (for_shapes c op.program update.program whole update.named) left)
+      let t = takes Update op maps (is_tested Update c op update) shapes in
+      subst (λ (o : Option RunEffect). HasShapes c.shapes (left_by (option_map as_update o) maps)) (sym t.done) t.has.shapes
 
   shapes_after : (maps : Maps) (history : History) → AreUpdates c history → HasShapes c.shapes maps → HasShapes c.shapes (after store_meaning c maps history)
   shapes_after maps [] updates shapes = shapes
   shapes_after maps (r ∷ rs) updates shapes =
-      shapes_after (effect_of c r.op maps).maps rs (λ k s e. updates (suc k) s e) (shapes_next r.op maps (updates 0 r refl) shapes)
+      shapes_after (left_by (store_meaning.update c r.op maps) maps) rs (λ k s e. updates (suc k) s e) (shapes_next r.op maps (updates 0 r refl) shapes)
 
   shapes_at : (history : History) (k : ℕ) → AreUpdates c history → HasShapes c.shapes (maps_after store_meaning c history k)
   shapes_at history k updates =
       shapes_after (opening_maps c.shapes) (take k history) (λ i r e. updates i r (from-take history k i r e)) (opening_shapes c.shapes whole.shapes)
 
+  updates_at : (history : History) (k : ℕ) (op : Operation) → AreUpdates c history → is_operation Update c op ≡ true
+      → (h : HasRun c op (maps_after store_meaning c history k)) × (effect_at store_meaning c history k op ≡ Some (as_update h.done))
+  updates_at history k op updates is =
+      let t = takes Update op (maps_after store_meaning c history k) (is_tested Update c op is) (shapes_at history k updates) in
+      (t.has, ap (option_map as_update) t.done)
+
+  reads_at : (history : History) (k : ℕ) (op : Operation) → AreUpdates c history → is_operation Read c op ≡ true
+      → (h : HasRun c op (maps_after store_meaning c history k)) × (read_at store_meaning c history k op ≡ Some (as_read h.done)) × (h.done.maps ≡ maps_after store_meaning c history k)
+  reads_at history k op updates is =
+      let known = is_tested Read c op is in
+      let t = takes Read op (maps_after store_meaning c history k) known (shapes_at history k updates) in
+      (t.has, ap (option_map as_read) t.done, t.reads known.mode_is)
+
   pub have_effects : (history : History) → AreUpdates c history → HasEffects c history
   have_effects history updates = record {
     shapes = λ k. shapes_at history k updates;
-    runs = λ k op p known len bytes. takes op p (maps_after store_meaning c history k) known len bytes (shapes_at history k updates);
+    updates = λ k op is. updates_at history k op updates is;
+    reads = λ k op is. reads_at history k op updates is;
   }

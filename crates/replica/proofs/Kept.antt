@@ -1,6 +1,6 @@
 -- Outcomes that are kept.
 use Rattle.std.proofs.Common.{◌≡◌, ℕ, zero, suc, ◌+◌, ◌-◌, ◌<◌, ◌≤◌, Bool, true, false, List, [], ◌∷◌, length, take, set, Option, Some, slice_get, refl, sym, ap, ◌∙◌, arith, add-one, subst, ◌⊎◌, inl, inr}
-use Rattle.std.specs.Prelude.{nat_le, if◌then◌else◌}
+use Rattle.std.specs.Prelude.{nat_le, if◌then◌else◌, option_map}
 use Rattle.std.proofs.lemmas.Bool.{le-leb}
 use Rattle.std.proofs.lemmas.Bool.Decides.{leb_tells}
 use Rattle.std.proofs.lemmas.List.{length-set, length-take-le}
@@ -11,10 +11,12 @@ use Rattle.machine.specs.declared.running.Outcome.{Outcome}
 use Rattle.maps.specs.Maps.{Maps}
 use Rattle.loader.specs.CatalogueView.{CatalogueView}
 use Rattle.oplog.specs.declared.records.Record.{Record}
-use Rattle.oplog.specs.History.{History, after}
-use Rattle.replica.specs.StoreMeaning.{effect_of, outcome_of, store_meaning}
+use Rattle.oplog.specs.History.{History, after, left_by}
+use Rattle.oplog.specs.Operations.{Operation}
+use Rattle.machine.specs.Effects.{effect_of}
+use Rattle.replica.specs.StoreMeaning.{run_of, as_update, store_meaning}
 use Rattle.replica.specs.Views.{RepliesView, with_outcome}
-use Rattle.replica.specs.Replaying.{KeepsOutcomes}
+use Rattle.replica.specs.Replaying.{IsAnswered, KeepsOutcomes}
 
 pub kept_within : (first count place : ℕ) (xs : List (Option Outcome)) (o : Outcome) → first ≤ place → place - first < count
     → (let kept : RepliesView = record { first = first; outcomes = take count (set xs (place - first) (Some o)) } in kept)
@@ -86,17 +88,18 @@ take-take (x ∷ xs) (suc n) (suc i) le = ap (λ (ys : List _). x ∷ ys) (take-
 -- the k-th record is replayed behind the first k
 module _ (c : CatalogueView) (maps : Maps) (begin : ℕ) (records : History) (old mid : RepliesView) (k : ℕ) (r : Record) (o : Outcome)
     (so_far : KeepsOutcomes c maps begin (take k records) old mid) (is : slice_get records k ≡ Some r)
-    (outcome : o ≡ outcome_of (effect_of c r.op (after store_meaning c maps (take k records)))) where
+    (outcome : IsAnswered c r.op (after store_meaning c maps (take k records)) o) where
   within : k < length records
   within = slice_get_within records k r is
 
-  answer : Record → ℕ → Option (Option Outcome)
-  answer r i = Some (Some (outcome_of (effect_of c r.op (after store_meaning c maps (take i (take (suc k) records))))))
+  Answer : ℕ → Record → ℕ → Type 0
+  Answer j s i =
+      (p : Outcome) × (slice_get (with_outcome mid (begin + k) o).outcomes j ≡ Some (Some p)) × IsAnswered c s.op (after store_meaning c maps (take i (take (suc k) records))) p
 
   -- the record itself
   last : (j i : ℕ) (s : Record) → j < length old.outcomes → slice_get (take (suc k) records) i ≡ Some s → old.first + j ≡ begin + i → i ≡ k
-      → slice_get (with_outcome mid (begin + k) o).outcomes j ≡ answer s i
-  unfolding answer
+      → Answer j s i
+  unfolding Answer
   last j i s lt e at at_k =
       let there : mid.first + j ≡ begin + k = omega (arith, so_far.first) in
       let inside : j < length mid.outcomes = omega (arith, so_far.count) in
@@ -104,27 +107,26 @@ module _ (c : CatalogueView) (maps : Maps) (begin : ℕ) (records : History) (ol
       let under : i < suc k = omega arith in
       let same : r ≡ s = (let found : Some r ≡ Some s = sym is ∙ ap (slice_get records) (sym at_k) ∙ sym (get-take records (suc k) i under) ∙ e in cc) in
       let before : take i (take (suc k) records) ≡ take k records = take-take records (suc k) i (omega arith) ∙ ap (λ (n : ℕ). take n records) at_k in
-      at_with mid (begin + k) j o there inside
-      ∙ ap (λ (x : Outcome). Some (Some x)) outcome
-      ∙ ap (λ (s : Record). Some (Some (outcome_of (effect_of c s.op (after store_meaning c maps (take k records)))))) same
-      ∙ ap (λ (rs : History). Some (Some (outcome_of (effect_of c s.op (after store_meaning c maps rs))))) (sym before)
+      let here : IsAnswered c s.op (after store_meaning c maps (take i (take (suc k) records))) o =
+      subst (λ (rs : History). IsAnswered c s.op (after store_meaning c maps rs) o) (sym before) (subst (λ (s : Record). IsAnswered c s.op (after store_meaning c maps (take k records)) o) same outcome) in
+      (o, at_with mid (begin + k) j o there inside, here)
 
   -- one before it
   earlier : (j i : ℕ) (s : Record) → j < length old.outcomes → slice_get (take (suc k) records) i ≡ Some s → old.first + j ≡ begin + i → i < k
-      → slice_get (with_outcome mid (begin + k) o).outcomes j ≡ answer s i
-  unfolding answer
+      → Answer j s i
+  unfolding Answer
   earlier j i s lt e at lt_k =
       let away : mid.first + j ≡ begin + k → ⊥ = λ (q : mid.first + j ≡ begin + k). (omega (arith, so_far.first)) in
       let under : i < suc k = omega arith in
       let le : i ≤ k = omega arith in
       let le_suc : i ≤ suc k = omega arith in
       let found : slice_get (take k records) i ≡ Some s = get-take records k i lt_k ∙ sym (get-take records (suc k) i under) ∙ e in
-      off_with mid (begin + k) j o away
-      ∙ so_far.replayed j i s lt found at
-      ∙ ap (λ (rs : History). Some (Some (outcome_of (effect_of c s.op (after store_meaning c maps rs))))) (take-take records k i le ∙ sym (take-take records (suc k) i le_suc))
+      let was = so_far.replayed j i s lt found at in
+      let same : take i (take k records) ≡ take i (take (suc k) records) = take-take records k i le ∙ sym (take-take records (suc k) i le_suc) in
+      (was.0, off_with mid (begin + k) j o away ∙ was.1, subst (λ (rs : History). IsAnswered c s.op (after store_meaning c maps rs) was.0) same was.2)
 
   either : (j i : ℕ) (s : Record) → j < length old.outcomes → slice_get (take (suc k) records) i ≡ Some s → old.first + j ≡ begin + i
-      → slice_get (with_outcome mid (begin + k) o).outcomes j ≡ answer s i
+      → Answer j s i
   either j i s lt e at =
       let under : i < length (take (suc k) records) = slice_get_within (take (suc k) records) i s e in
       let size : length (take (suc k) records) ≡ suc k = length-take-le (suc k) records within in
@@ -141,7 +143,7 @@ module _ (c : CatalogueView) (maps : Maps) (begin : ℕ) (records : History) (ol
       off_with mid (begin + k) j o away ∙ so_far.others j before
 
   keeps_suc : KeepsOutcomes c maps begin (take (suc k) records) old (with_outcome mid (begin + k) o)
-  unfolding answer
+  unfolding Answer
   keeps_suc = record {
     first = so_far.first;
     count = count_with mid (begin + k) o ∙ so_far.count;
@@ -155,9 +157,22 @@ module _ (c : CatalogueView) (maps : Maps) (begin : ℕ) (records : History) (ol
 -- as the loop has it: the record was run on these maps, and its outcome kept at its place
 pub keeps_one_more : (c : CatalogueView) (maps before : Maps) (begin place : ℕ) (records : History) (old mid new : RepliesView) (k : ℕ) (r : Record) (o : Outcome)
     → KeepsOutcomes c maps begin (take k records) old mid → slice_get records k ≡ Some r → before ≡ after store_meaning c maps (take k records)
-    → o ≡ outcome_of (effect_of c r.op before) → place ≡ begin → new ≡ with_outcome mid (place + k) o
+    → IsAnswered c r.op before o → place ≡ begin → new ≡ with_outcome mid (place + k) o
     → KeepsOutcomes c maps begin (take (k + 1) records) old new
 keeps_one_more c maps before begin place records old mid new k r o so_far is maps_are outcome there kept =
     subst (λ (m : RepliesView). KeepsOutcomes c maps begin (take (k + 1) records) old m)
     (sym (kept ∙ ap (λ (p : ℕ). with_outcome mid (p + k) o) there))
-    (keeps_next c maps begin records old mid k r o so_far is (outcome ∙ ap (λ (m : Maps). outcome_of (effect_of c r.op m)) maps_are))
+    (keeps_next c maps begin records old mid k r o so_far is (subst (λ (m : Maps). IsAnswered c r.op m o) maps_are outcome))
+
+-- ---- what a run says
+
+pub is_answered : (c : CatalogueView) (op : Operation) (maps left : Maps) (o : Outcome) → run_of c op maps ≡ Some (effect_of o.steps o.reply left) → IsAnswered c op maps o
+is_answered c op maps left o run = record {
+  done = as_update (effect_of o.steps o.reply left);
+  takes = ap (option_map as_update) run;
+  outcome = refl;
+}
+
+pub leaves : (c : CatalogueView) (op : Operation) (maps left : Maps) (o : Outcome) → run_of c op maps ≡ Some (effect_of o.steps o.reply left)
+    → left ≡ left_by (store_meaning.update c op maps) maps
+leaves c op maps left o run = sym (ap (λ e. left_by (option_map as_update e) maps) run)

@@ -2,3 +2,4 @@ pub mod Outcomes
 pub mod Kept
 pub mod Afters
 pub mod Histories
+pub mod Tested

@@ -1,19 +1,35 @@
 -- What holds of each history that a store may have.
-use Rattle.std.specs.Prelude.{◌≡◌, ℕ, length, Some}
-use Rattle.maps.specs.Maps.{AreBytes, HasShapes}
-use Rattle.verifier.specs.Accepted.{Checked, signature_of}
-use Rattle.machine.specs.Effects.{TakesEffect}
+use Rattle.std.specs.Prelude.{◌≡◌, ◌↔◌, ℕ, true, Some}
+use Rattle.maps.specs.Maps.{Maps, HasShapes}
+use Rattle.verifier.specs.declared.refusal.Mode.{Mode}
+use Rattle.verifier.specs.declared.refusal.Mode.TheVariants.{Update, Read}
+use Rattle.verifier.specs.Accepted.{Checked}
+use Rattle.machine.specs.Effects.{IsRun, Effect as RunEffect}
 use Rattle.loader.specs.CatalogueView.{CatalogueView, IsCatalogue}
 use Rattle.oplog.specs.Operations.{Operation}
-use Rattle.oplog.specs.History.{History, maps_after}
-use Rattle.replica.specs.StoreMeaning.{program_at, AreUpdates, store_meaning}
+use Rattle.oplog.specs.History.{History, maps_after, effect_at, read_at}
+use Rattle.replica.specs.StoreMeaning.{program_at, IsOperation, is_operation, as_update, as_read, AreUpdates, store_meaning}
 
--- after every number of operations the maps have the catalogue's shapes, and on them each of its programs runs to its exit, from any
--- argument of its length
+-- the operation's program has a run on these maps, and leaves maps of the catalogue's shapes
+pub record HasRun (c : CatalogueView) (op : Operation) (maps : Maps) : Type 0 where
+  pub program : Checked
+  pub named : program_at c op.program ≡ Some program
+  pub done : RunEffect
+  pub run : IsRun program.program maps op.argument done
+  pub shapes : HasShapes c.shapes done.maps
+
+-- after every number of operations the maps have the catalogue's shapes, and what an update or a read does there is the run of its
+-- program; a read leaves the maps
 pub record HasEffects (c : CatalogueView) (history : History) : Type 0 where
   pub shapes : (k : ℕ) → HasShapes c.shapes (maps_after store_meaning c history k)
-  pub runs : (k : ℕ) (op : Operation) (p : Checked) → program_at c op.program ≡ Some p → length op.argument ≡ p.arg_len → AreBytes op.argument
-      → TakesEffect p.program (signature_of p) (maps_after store_meaning c history k) op.argument
+  pub updates : (k : ℕ) (op : Operation) → is_operation Update c op ≡ true
+      → (h : HasRun c op (maps_after store_meaning c history k)) × (effect_at store_meaning c history k op ≡ Some (as_update h.done))
+  pub reads : (k : ℕ) (op : Operation) → is_operation Read c op ≡ true
+      → (h : HasRun c op (maps_after store_meaning c history k)) × (read_at store_meaning c history k op ≡ Some (as_read h.done)) × (h.done.maps ≡ maps_after store_meaning c history k)
 
 abbrev pub HistoriesHaveEffects : Type 0
 HistoriesHaveEffects = (c : CatalogueView) (history : History) → IsCatalogue c → AreUpdates c history → HasEffects c history
+
+-- the test for operations tells just those that are
+abbrev pub OperationsAreTested : Type 0
+OperationsAreTested = (mode : Mode) (c : CatalogueView) (op : Operation) → (is_operation mode c op ≡ true) ↔ IsOperation mode c op

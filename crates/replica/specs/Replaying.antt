@@ -1,11 +1,19 @@
 -- Which outcomes are kept when records are replayed.
 use Rattle.std.specs.Prelude.{◌≡◌, ◌⊎◌, ℕ, ◌+◌, ◌<◌, ◌≤◌, length, take, Some, slice_get}
 use Rattle.maps.specs.Maps.{Maps}
+use Rattle.oplog.specs.Operations.{Operation}
 use Rattle.oplog.specs.declared.records.Record.{Record}
-use Rattle.oplog.specs.History.{History, after}
+use Rattle.oplog.specs.History.{Effect, History, after}
+use Rattle.machine.specs.declared.running.Outcome.{Outcome}
 use Rattle.loader.specs.CatalogueView.{CatalogueView}
-use Rattle.replica.specs.StoreMeaning.{effect_of, outcome_of, store_meaning}
+use Rattle.replica.specs.StoreMeaning.{outcome_of, store_meaning}
 use Rattle.replica.specs.Views.{RepliesView}
+
+-- the operation as an update of these maps answers this
+pub record IsAnswered (c : CatalogueView) (op : Operation) (maps : Maps) (o : Outcome) : Type 0 where
+  pub done : Effect Maps
+  pub takes : store_meaning.update c op maps ≡ Some done
+  pub outcome : o ≡ outcome_of done
 
 -- the records, the first at place begin, were replayed on these maps: of each at a place that is kept, the outcome on the maps after
 -- the records before it; at the other places what was kept before
@@ -13,5 +21,5 @@ pub record KeepsOutcomes (c : CatalogueView) (maps : Maps) (begin : ℕ) (record
   pub first : new.first ≡ old.first
   pub count : length new.outcomes ≡ length old.outcomes
   pub replayed : (k i : ℕ) (r : Record) → k < length old.outcomes → slice_get records i ≡ Some r → old.first + k ≡ begin + i
-      → slice_get new.outcomes k ≡ Some (Some (outcome_of (effect_of c r.op (after store_meaning c maps (take i records)))))
+      → (o : Outcome) × (slice_get new.outcomes k ≡ Some (Some o)) × IsAnswered c r.op (after store_meaning c maps (take i records)) o
   pub others : (k : ℕ) → (old.first + k < begin) ⊎ (begin + length records ≤ old.first + k) → slice_get new.outcomes k ≡ slice_get old.outcomes k

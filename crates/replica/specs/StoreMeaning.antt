@@ -1,53 +1,76 @@
 -- What the operations of a store mean: each is a run of its program on the maps.
-use Rattle.std.specs.Prelude.{◌≡◌, ℕ, List, length, Option, Some, None, slice_get, option_map}
+use Rattle.std.specs.Prelude.{◌≡◌, ℕ, Bool, true, false, ◌&&◌, nat_eq, nat_lt, List, length, Option, Some, None, slice_get, option_map, option_and_then}
+use Rattle.std.specs.List.{list_all}
 use Rattle.maps.specs.Maps.{Maps, AreBytes}
 use Rattle.maps.specs.MapSets.{opening_maps}
-use Rattle.verifier.specs.declared.refusal.Mode.TheVariants.{Update}
+use Rattle.verifier.specs.declared.refusal.Mode.{Mode}
+use Rattle.verifier.specs.declared.refusal.Mode.TheVariants.{Update, Read}
 use Rattle.verifier.specs.Accepted.{Checked}
-use Rattle.machine.specs.Effects.{effect}
+use Rattle.machine.specs.Effects.{effect, Effect as RunEffect}
 use Rattle.machine.specs.declared.running.Outcome.{Outcome}
 use Rattle.loader.specs.CatalogueView.{CatalogueView}
 use Rattle.oplog.specs.Operations.{Operation}
 use Rattle.oplog.specs.declared.records.Record.{Record}
-use Rattle.oplog.specs.History.{Effect, Meaning, History}
+use Rattle.oplog.specs.History.{Effect, ReadEffect, Meaning, History}
 
 -- the k-th program of the catalogue
 abbrev pub program_at : CatalogueView → ℕ → Option Checked
 program_at c k = option_map (λ e. e.checked) (slice_get c.programs k)
 
--- what a run of a program does
-abbrev pub run_effect : Checked → List ℕ → Maps → Effect Maps
-run_effect program argument maps =
-    let done = effect program.program maps argument in record { steps = done.steps; reply = done.reply; maps = done.maps }
+-- the run of an operation's program on its argument, if the catalogue has the program and it runs
+abbrev pub run_of : CatalogueView → Operation → Maps → Option RunEffect
+run_of c op maps = option_and_then (λ p. effect p.program maps op.argument) (program_at c op.program)
 
--- nothing
-abbrev pub no_effect : Maps → Effect Maps
-no_effect maps = record { steps = 0; reply = 0; maps = maps }
+-- a run as an update, and as a read
+abbrev pub as_update : RunEffect → Effect Maps
+as_update e = record { steps = e.steps; reply = e.reply; maps = e.maps }
 
-abbrev pub effect_with : Option Checked → List ℕ → Maps → Effect Maps
-effect_with (Some program) argument maps = run_effect program argument maps
-effect_with None argument maps = no_effect maps
+abbrev pub as_read : RunEffect → ReadEffect
+as_read e = record { steps = e.steps; reply = e.reply }
 
--- an operation runs its program on its argument; of an unknown program it does nothing
-abbrev pub effect_of : CatalogueView → Operation → Maps → Effect Maps
-effect_of c op maps = effect_with (program_at c op.program) op.argument maps
-
--- the reply and the steps of an effect, as a run answers them
+-- the reply and the steps of an update, as a run answers them
 abbrev pub outcome_of : Effect Maps → Outcome
 outcome_of e = record { reply = e.reply; steps = e.steps }
 
--- an operation that a history may have: an update program of the catalogue, with bytes as many as its argument has
-pub record IsUpdate (c : CatalogueView) (op : Operation) : Type 0 where
+-- ---- which operations there are
+
+-- the operation names a program of the catalogue, of that mode, and its argument is bytes, as many as the program's has
+pub record IsOperation (mode : Mode) (c : CatalogueView) (op : Operation) : Type 0 where
   pub program : Checked
   pub named : program_at c op.program ≡ Some program
-  pub mode : program.mode ≡ Update
-  pub length : length op.argument ≡ program.arg_len
+  pub mode_is : program.mode ≡ mode
+  pub length_is : length op.argument ≡ program.arg_len
   pub bytes : AreBytes op.argument
 
--- each record's operation is one
-abbrev pub AreUpdates : CatalogueView → History → Type 0
-AreUpdates c records = (k : ℕ) (r : Record) → slice_get records k ≡ Some r → IsUpdate c r.op
+-- the same as a test
+abbrev pub is_mode : Mode → Mode → Bool
+is_mode Update Update = true
+is_mode Read Read = true
+is_mode Update Read = false
+is_mode Read Update = false
 
--- a store opens with the opening maps of its shapes
+abbrev pub takes_argument : Checked → List ℕ → Bool
+takes_argument p argument = nat_eq (length argument) p.arg_len && list_all (λ b. nat_lt b 256) argument
+
+abbrev pub fits : Mode → List ℕ → Option Checked → Bool
+fits mode argument None = false
+fits mode argument (Some p) = is_mode p.mode mode && takes_argument p argument
+
+abbrev pub is_operation : Mode → CatalogueView → Operation → Bool
+is_operation mode c op = fits mode op.argument (program_at c op.program)
+
+-- ---- what they mean
+
+-- a store opens with the opening maps of its shapes; its updates are runs of update programs, its reads runs of read programs
 abbrev pub store_meaning : Meaning CatalogueView Maps
-store_meaning = record { opening = λ c. opening_maps c.shapes; effect = effect_of; Allowed = IsUpdate }
+store_meaning = record {
+  opening = λ c. opening_maps c.shapes;
+  update = λ c op maps. option_map as_update (run_of c op maps);
+  read = λ c op maps. option_map as_read (run_of c op maps);
+  is_update = is_operation Update;
+  is_read = is_operation Read;
+}
+
+-- each record's operation is an update
+abbrev pub AreUpdates : CatalogueView → History → Type 0
+AreUpdates c records = (k : ℕ) (r : Record) → slice_get records k ≡ Some r → is_operation Update c r.op ≡ true

@@ -5,9 +5,7 @@ mod laws;
 mod operations;
 mod replicas;
 mod replying;
-#[cfg(test)]
-mod tests;
 
-pub use laws::histories_have_effects;
+pub use laws::{histories_have_effects, operations_are_tested};
 pub use replicas::Replica;
 pub use replying::Replies;

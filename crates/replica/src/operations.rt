@@ -1,10 +1,12 @@
 // Operations of the history, run on a node's maps.
 
-ghost use Rattle.std.specs.Prelude.{◌≡◌, ◌+◌, ◌<◌, ◌^◌, length};
+ghost use Rattle.std.specs.Prelude.{◌≡◌, ◌+◌, ◌<◌, ◌^◌, length, true, Some};
 ghost use Rattle.maps.specs.Maps.{HasShapes};
 ghost use Rattle.maps.specs.MapSets.{maps_of};
+ghost use Rattle.verifier.specs.declared.refusal.Mode.TheVariants.{Update};
+ghost use Rattle.machine.specs.Effects.{effect_of};
 ghost use Rattle.oplog.specs.History.{after};
-ghost use Rattle.replica.specs.StoreMeaning.{store_meaning, effect_of, outcome_of, IsUpdate, AreUpdates};
+ghost use Rattle.replica.specs.StoreMeaning.{store_meaning, run_of, is_operation, AreUpdates};
 ghost use Rattle.replica.specs.Replaying.{KeepsOutcomes};
 
 use crate::replying::Replies;
@@ -16,9 +18,8 @@ use oplog::{Hand, Op};
 // Runs one operation.
 fn run_one(catalogue: &Catalogue, maps: &mut MapSet, op: &Op) -> Outcome
     requires shapes { HasShapes catalogue.now.shapes (maps_of maps.old) }
-    requires update { IsUpdate catalogue.now op.now }
-    ensures outcome { result ≡ outcome_of (effect_of catalogue.now op.now (maps_of maps.old)) }
-    ensures maps { maps_of maps.new ≡ (effect_of catalogue.now op.now (maps_of maps.old)).maps }
+    requires update { is_operation Update catalogue.now op.now ≡ true }
+    ensures run { run_of catalogue.now op.now (maps_of maps.old) ≡ Some (effect_of result.steps result.reply (maps_of maps.new)) }
     ensures shapes { HasShapes catalogue.now.shapes (maps_of maps.new) }
 {
     match catalogue.program(op.program()) {

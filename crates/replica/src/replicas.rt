@@ -1,11 +1,11 @@
 // A replica of the maps.
 
-ghost use Rattle.std.specs.Prelude.{◌≡◌, ◌+◌, ◌<◌, ◌^◌, [], length, IfOk};
+ghost use Rattle.std.specs.Prelude.{◌≡◌, ◌+◌, ◌<◌, ◌^◌, [], length, Some, IfOk};
 ghost use Rattle.maps.specs.Shapes.{AreShapesOk};
-ghost use Rattle.maps.specs.Maps.{shapes_of};
+ghost use Rattle.maps.specs.Maps.{shapes_of, HasShapes};
 ghost use Rattle.maps.specs.MapSets.{maps_of, opening_maps};
 ghost use Rattle.verifier.specs.declared.refusal.Mode.TheVariants.{Read};
-ghost use Rattle.machine.specs.Effects.{effect};
+ghost use Rattle.machine.specs.Effects.{effect, effect_of};
 ghost use Rattle.oplog.specs.History.{after};
 ghost use Rattle.replica.specs.StoreMeaning.{store_meaning, AreUpdates};
 ghost use Rattle.replica.specs.Replaying.{KeepsOutcomes};
@@ -46,7 +46,7 @@ impl Replica {
     ///
     /// # Errors
     ///
-    /// Want of memory.
+    /// The system has no memory left.
     pub fn open(alloc: Global, shapes: &[Shape]) -> Result<Replica, AllocError>
         requires shapes { AreShapesOk shapes.now }
         ensures opened { IfOk result (λ r. r ≡ record { tail = 0; maps = opening_maps shapes.now }) }
@@ -67,6 +67,7 @@ impl Replica {
     /// The maps after them.
     pub fn maps(&self) -> &MapSet
         ensures maps { maps_of result.now ≡ self.now.maps }
+        ensures shapes { HasShapes (shapes_of self.now.maps) self.now.maps }
     {
         &self.maps
     }
@@ -89,13 +90,22 @@ impl Replica {
         hand.clear(self.tail);
     }
 
+    /// Makes the maps those of a base, which are the maps after `index` operations. They have the replica's shapes. Takes time in
+    /// proportion to their room.
+    pub fn rebase(&mut self, index: u64, maps: &MapSet)
+        requires shapes { HasShapes (shapes_of self.old.maps) (maps_of maps.now) }
+        ensures based { self.new ≡ record { tail = index; maps = maps_of maps.now } }
+    {
+        self.maps.copy_from(maps);
+        self.tail = index;
+    }
+
     /// Runs a Read program of the replica's shapes on an argument of its length. The replica stays.
     pub fn query(&mut self, program: &Accepted, argument: &[u8]) -> Outcome
         requires shapes { program.now.shapes ≡ shapes_of self.old.maps }
         requires mode { program.now.mode ≡ Read }
         requires length { length argument.now ≡ program.now.arg_len }
-        ensures reply { result.reply ≡ (effect program.now.program self.old.maps argument.now).reply }
-        ensures steps { result.steps ≡ (effect program.now.program self.old.maps argument.now).steps }
+        ensures run { effect program.now.program self.old.maps argument.now ≡ Some (effect_of result.steps result.reply self.old.maps) }
         ensures same { self.new ≡ self.old }
     {
         run(program, &mut self.maps, argument)

@@ -18,9 +18,13 @@ use Rattle.progress.proofs.Lists.{at_none, at_below}
 use Rattle.store.specs.declared.values.NodeReplica.{NodeReplica}
 use Rattle.store.specs.declared.values.Value.{Value}
 use Rattle.store.specs.declared.values.Value.TheVariants.{Log, Replica}
-use Rattle.store.specs.Shelving.{store_rules}
-use Rattle.store.specs.Sessions.{SessionView, known_of}
-use Rattle.store.specs.Opening.{IsClosed}
+use Rattle.store.specs.Shelving.{store_rules, log_value, replica_value, HasLogSizes}
+use Rattle.store.specs.Sessions.{StoreView, SessionView, known_of}
+use Rattle.store.specs.Opening.{AreOf, IsClosed}
+use Rattle.progress.proofs.AlonePuts.{tail_is}
+use Rattle.std.specs.Global.{Box}
+use Rattle.maps.specs.Maps.{shapes_of}
+use Rattle.oplog.specs.declared.configuration.Config.{Config}
 
 abbrev L : Type 0
 L = Progress CatalogueView
@@ -47,21 +51,23 @@ one_idle id seats seat s is known shelf a t at =
 
 -- the log and the replica, in the order of their places
 pub record IsPair (l : L) (slots : List (Option Value)) : Type 0 where
-  pub log : LogView
-  pub node : NodeReplica
+  pub log : Box LogView
+  pub node : Box NodeReplica
   pub slots_are : slots ≡ Some (Log log) ∷ Some (Replica node) ∷ []
-  pub log_is : LogAgrees store_meaning l (record { base = log.base; base_maps = log.base_maps; records = log.records; done = log.done })
-  pub replica_is : ReplicaAgrees store_meaning l (record { tail = node.replica.tail; maps = node.replica.maps })
+  pub log_is : LogAgrees store_meaning l (log_value log.value)
+  pub log_sizes : HasLogSizes l.config l.catalogue log.value
+  pub replica_is : ReplicaAgrees store_meaning l (replica_value node.value.replica)
+  pub replica_shapes : shapes_of node.value.replica.maps ≡ l.catalogue.shapes
 
-log_at : (l : L) (ns : List SessionNote) (v : Value) → store_rules.AgreesWith 0 l ns v → (g : LogView) × (v ≡ Log g) × LogAgrees store_meaning l (record { base = g.base; base_maps = g.base_maps; records = g.records; done = g.done })
-log_at l ns (Log g) a = (g, refl, a.0.1.1)
+log_at : (l : L) (ns : List SessionNote) (v : Value) → store_rules.AgreesWith 0 l ns v → (g : Box LogView) × (v ≡ Log g) × LogAgrees store_meaning l (log_value g.value) × HasLogSizes l.config l.catalogue g.value
+log_at l ns (Log g) a = (g, refl, a.0.1.1, a.1)
 log_at l ns (Replica n) a = absurd (none a.0.1.0 a.0.1.2)
   where
     none : (n : ℕ) → 0 ≡ 1 + n → ⊥
     none n e = omega (arith, e)
 
-replica_at : (l : L) (ns : List SessionNote) (v : Value) → store_rules.AgreesWith 1 l ns v → (n : NodeReplica) × (v ≡ Replica n) × ReplicaAgrees store_meaning l (record { tail = n.replica.tail; maps = n.replica.maps })
-replica_at l ns (Replica n) a = (n, refl, a.0.1.3)
+replica_at : (l : L) (ns : List SessionNote) (v : Value) → store_rules.AgreesWith 1 l ns v → (n : Box NodeReplica) × (v ≡ Replica n) × ReplicaAgrees store_meaning l (replica_value n.value.replica) × (shapes_of n.value.replica.maps ≡ l.catalogue.shapes)
+replica_at l ns (Replica n) a = (n, refl, a.0.1.3, a.1.0)
 replica_at l ns (Log g) a = absurd (none a.0.1.0)
   where
     none : ◌≡◌ {A = ℕ} 1 0 → ⊥
@@ -80,19 +86,30 @@ is_pair l ns (a ∷ b ∷ []) long all =
       node = n.0;
       slots_are = λ i. (some-injective a (Some first.0) first.1 ∙ ap Some g.1) i ∷ (some-injective b (Some second.0) second.1 ∙ ap Some n.1) i ∷ [];
       log_is = g.2;
+      log_sizes = g.3;
       replica_is = n.2;
+      replica_shapes = n.3;
     }
 is_pair l ns (a ∷ b ∷ c ∷ cs) long all = absurd (omega (arith, long))
 
-pub is_closed : (sessions : List SessionView) (s : SessionView) (seats : List S) (seat : S) (slots : List (Option Value)) → sessions ≡ s ∷ [] → seats ≡ seat ∷ [] → seat.sessions ≡ known_of s ∷ [] → s.note.pending ≡ None → length slots ≡ 2
-    → (a : Agreed store_rules seats slots) → (p : IsPair a.0 slots) → IsClosed sessions p.log p.node.replica
-is_closed sessions s seats seat slots is isn known idle long a p =
+pub is_closed : (store : StoreView) (sessions : List SessionView) (s : SessionView) (seats : List S) (seat : S) (slots : List (Option Value)) → AreOf store sessions → sessions ≡ s ∷ [] → seats ≡ seat ∷ [] → seat.sessions ≡ known_of s ∷ []
+    → s.note.pending ≡ None → length slots ≡ 2 → (a : Agreed store_rules seats slots) → (p : IsPair a.0 slots) → IsClosed store sessions p.log.value p.node.value.replica
+is_closed store sessions s seats seat slots own is isn known idle long a p =
     let k = a.4 0 seat (known_of s) (ap (λ z. get_elem? z 0) isn) known in
     let e = ends store_meaning a.0 a.1 a.2 in
     let count : length a.1 ≡ 1 = a.3 ∙ ap length isn in
     let zero_is = at_below a.1 s.session s.note k.1 in
+    let of = own 0 s (ap (λ z. get_elem? z 0) is) in
+    let config = sym k.0.config ∙ of.config in
+    let catalogue = sym k.0.catalogue ∙ of.catalogue in
+    let w = a.2 in
     record {
       progress = a.0;
+      of = (config, catalogue);
+      well_formed = record { allowed = w.allowed; completed = w.completed; limit = w.limit };
+      log_tail = tail_is store_meaning a.0 (log_value p.log.value) w.completed p.log_is;
+      log_sizes = subst (λ (z : Config × CatalogueView). HasLogSizes z.0 z.1 p.log.value) (λ i. (config i, catalogue i)) p.log_sizes;
+      replica_shapes = p.replica_shapes ∙ ap (λ (z : CatalogueView). z.shapes) catalogue;
       grown = λ j t at. subst (λ (z : SessionView). Extends z.progress a.0) (mine j t at) k.0;
       log_is = p.log_is;
       replica_is = p.replica_is;

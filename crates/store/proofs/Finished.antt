@@ -1,24 +1,19 @@
 -- What was copied is replayed and completed, and the replica is put back.
-use Rattle.store.proofs.Copied.{tail_low}
-use Rattle.store.specs.Lent.{IsReplicaOf, reply_on}
-use Rattle.store.specs.Standing.{IsFree}
-use Rattle.store.specs.Sessions.{IsReadBy}
-use Rattle.oplog.specs.Operations.{Operation}
-use Rattle.progress.specs.Told.{ReadTells}
-use Rattle.progress.proofs.AlonePuts.{reads_tell}
-use Rattle.readpath.specs.declared.reading.ReadAnswer.{ReadAnswer}
-use Rattle.std.proofs.Common.{eq-eqb, if◌then◌else◌, ◌≡◌, ℕ, ◌+◌, ◌<◌, ◌≤◌, List, [], ◌∷◌, length, sym, refl, ap, ◌∙◌, subst, arith, Some, None, slice_get, Result, Ok, Err, MatchResult, IfOk}
+use Rattle.std.proofs.Common.{eq-eqb, if◌then◌else◌, ◌≡◌, ℕ, ◌+◌, ◌<◌, ◌≤◌, List, [], ◌∷◌, length, sym, refl, ap, ◌∙◌, subst, arith, Some, None, slice_get, Result, Ok, Err, MatchResult, IfOk, option_map}
 use lib.ListN.{get_elem?}
-use Rattle.maps.specs.Maps.{Maps}
 use Rattle.ownlock.specs.Rules.{leader}
-use Rattle.ownlock.specs.Seats.{At, without, with_progress}
-use Rattle.ownlock.specs.Knowledge.{Possible}
+use Rattle.ownlock.specs.Seats.{At, without, with_progress, left_with}
+use Rattle.ownlock.specs.Knowledge.{Possible, MayPut}
+use Rattle.machine.specs.declared.running.Outcome.{Outcome}
 use Rattle.loader.specs.CatalogueView.{CatalogueView}
+use Rattle.oplog.specs.Operations.{Operation}
 use Rattle.oplog.specs.declared.configuration.Config.{Config}
+use Rattle.oplog.specs.declared.configuration.TheConstants.{MAX_LIMIT}
 use Rattle.oplog.specs.declared.records.Record.{Record}
 use Rattle.oplog.specs.declared.answers.Ended.{Ended}
-use Rattle.oplog.specs.History.{effect_at, reply_at}
-use Rattle.replica.specs.StoreMeaning.{store_meaning, outcome_of}
+use Rattle.oplog.specs.History.{reply_at}
+use Rattle.readpath.specs.declared.reading.ReadAnswer.{ReadAnswer}
+use Rattle.replica.specs.StoreMeaning.{store_meaning}
 use Rattle.replica.specs.Views.{RepliesView, no_replies}
 use Rattle.progress.specs.declared.sessions.Progress.{Progress}
 use Rattle.progress.specs.declared.sessions.SessionNote.{SessionNote}
@@ -27,7 +22,9 @@ use Rattle.progress.specs.Accounts.{Extends}
 use Rattle.progress.specs.Agreement.{replica_place}
 use Rattle.progress.specs.SinglePuts.{KeepsSizes}
 use Rattle.progress.specs.Picks.{put_progress, put_note}
-use Rattle.progress.proofs.AlonePuts.{replayed_agrees, placed_tells, ended_tells}
+use Rattle.progress.specs.Told.{ReadTells}
+use Rattle.maps.specs.Maps.{Maps}
+use Rattle.progress.proofs.AlonePuts.{placed_tells, ended_tells, reads_tell}
 use Rattle.progress.proofs.Picked.{replica_picked, replica_picks, puts_account, same_picked, same_picks}
 use Rattle.progress.proofs.Finish.{grown_long}
 use Rattle.progress.proofs.Lists.{at_below}
@@ -35,14 +32,13 @@ use Rattle.progress.proofs.Seen.{sized_on}
 use Rattle.progress.specs.Single.{single_rules, next_record, note_with}
 use Rattle.store.specs.declared.values.Value.{Value}
 use Rattle.store.specs.declared.values.Value.TheVariants.{Log, Replica}
-use Rattle.store.specs.Shelving.{view_of, IsSized, store_rules}
+use Rattle.store.specs.Shelving.{view_of, IsSized, store_rules, replica_value}
+use Rattle.store.specs.Held.{IsReplica, IsReplicaOf, Replies, tail_in}
+use Rattle.store.specs.Standing.{SessionKnown, Stands, AgreesIn, HoldsReplica, IsFree, GoesOn, HasAppended, HasRaised, KeepsOutcomesOf, HasCaughtUp, IsBroughtUp}
+use Rattle.store.specs.Sessions.{IsUpdated, IsReadBy, request_of}
 use Rattle.store.proofs.StoreLaws.{store_laws}
-use Rattle.store.specs.Lent.{IsReplica, CanCopy, HasCopied, CanReplay, HasReplayed, tail_in}
-use Rattle.store.specs.Standing.{SessionKnown, Stands, AgreesIn, HoldsReplica, HasRest, IsNext, GoesOn, HasAppended, KeepsOutcomesOf, HasCaughtUp, IsBroughtUp}
-use Rattle.store.specs.Sessions.{IsUpdated, request_of}
-use Rattle.store.proofs.Copied.{can_copy, has_rest}
-use Rattle.store.proofs.Played.{HasAll, can_replay, has_all, keeps}
-use Rattle.store.proofs.Taken.{TookReplica, TookLog, Picked, put_back, own_on}
+use Rattle.store.proofs.Taken.{TookReplica, TookLog, own_on, tail_low, well_formed}
+use Rattle.store.proofs.Played.{HasAllIn, all_agrees, all_tail}
 
 abbrev K : Type 0
 K = SessionKnown
@@ -50,41 +46,18 @@ K = SessionKnown
 abbrev L : Type 0
 L = Progress CatalogueView
 
--- what was replayed as far as the known history agrees, once that is completed
-pub all_agrees : (l m : L) (v : Value) → Extends l m → length l.history ≤ m.completed → HasAll l v → AgreesIn m v
-all_agrees l m (Replica n) g done h =
-    let t = h.0 in
-    (replayed_agrees store_meaning l m (record { tail = n.replica.tail; maps = n.replica.maps }) g (omega (arith, t)) h.1 (omega (arith, t, done)), sized_on view_of IsSized (single_rules store_meaning) l m (Replica n) g.config g.catalogue h.2)
-all_agrees l m (Log g) grown done h = absurd h
+abbrev pub Picked : List K → Value → K → ℕ → Type 0
+Picked sessions y t q = MayPut store_rules (put_progress sessions (view_of y)) (put_note sessions (view_of y)) t q y
 
-pub all_tail : (l : L) (v : Value) → HasAll l v → tail_in v ≡ length l.history
-all_tail l (Replica n) h = h.0
-all_tail l (Log g) h = absurd h
-
-pub played_tail : (l : L) (v w : Value) (c : CatalogueView) (old new : RepliesView) → l.catalogue ≡ c → HasRest l v → HasReplayed c v w old new → tail_in w ≡ length l.history
-played_tail l v w c old new same rest played = all_tail l w (has_all l v w old new rest (subst (λ z. HasReplayed z v w old new) (sym same) played))
+-- what the session has become, once it has put y back
+abbrev pub put_back : List K → Value → K → ℕ → Progress CatalogueView → K
+put_back sessions y t q l = left_with t q (put_progress sessions (view_of y) l) (put_note sessions (view_of y) t.note)
 
 -- the session still is what it was, but for the progress that it knows
 pub record Same (k t f : K) : Type 0 where
   pub goes : GoesOn k f
   pub note : f.note ≡ k.note
   pub on : Extends t.progress f.progress
-
-pub caught : (k : K) (v w : Value) (c : CatalogueView) (old new : RepliesView) (n : ℕ) (p : L) → k.progress.catalogue ≡ c → HasRest k.progress v → HasReplayed c v w old new → n ≡ tail_in w → Extends k.progress p → n ≤ p.completed
-    → HasCaughtUp k (with_progress k p) v w old new
-caught k v w c old new n p same rest played is grown done =
-    let r : HasReplayed k.progress.catalogue v w old new = subst (λ z. HasReplayed z v w old new) (sym same) played in
-    let all = has_all k.progress v w old new rest r in
-    let tail = all_tail k.progress w all in
-    let long = grown_long store_meaning k.progress p grown in
-    record {
-      goes = record { session = refl; held = refl; extends = grown };
-      note = refl;
-      completed = omega (arith, is, tail, done);
-      agrees = all_agrees k.progress p w grown (omega (arith, is, tail, done)) all;
-      within = omega (arith, tail, long);
-      replies = keeps k.progress v w old new rest r;
-    }
 
 pub holds_on : (k t : K) (w : Value) → GoesOn k t → HoldsReplica k w → HoldsReplica t w
 holds_on k t w g h = record {
@@ -97,7 +70,7 @@ holds_on k t w g h = record {
 
 keeps_sizes : (config : Config) (c : CatalogueView) (w v : Value) → IsReplica w → IsReplica v → IsSized config c w → IsSized config c v → KeepsSizes store_meaning view_of IsSized w v
 keeps_sizes config c (Replica n) (Replica m) a b s t d e u =
-    (t.0 ∙ (sym s.0 ∙ u.0), t.1 ∙ (λ i. record { begin = m.replica.tail; records = []; window = (sym (ap (λ z. z.window) s.1) ∙ ap (λ z. z.window) u.1) i; limit = (sym (ap (λ z. z.limit) s.1) ∙ ap (λ z. z.limit) u.1) i }))
+    (t.0 ∙ (sym s.0 ∙ u.0), t.1 ∙ (λ i. record { begin = m.value.replica.tail; records = []; window = (sym (ap (λ z. z.window) s.1) ∙ ap (λ z. z.window) u.1) i }))
 keeps_sizes config c (Log n) v a b s t d e u = absurd a
 keeps_sizes config c (Replica n) (Log m) a b s t d e u = absurd b
 
@@ -155,9 +128,11 @@ module _ (k : K) (w : Value) (h : HoldsReplica k w) (sessions : List K) (is : se
   back v q e a low l ns may = subst (λ z. Back k (put_back sessions v k z l)) (same_place q e) (back_zero v a low l ns may)
 
 -- the reply of the session's record is kept
-pub reply_kept : (k a : K) (r : Record) (i : ℕ) (v w : Value) (old new : RepliesView) → At i r a.progress.history → tail_in v ≤ i → old.first ≡ i → 0 < length old.outcomes → KeepsOutcomesOf a.progress (tail_in v) old new
-    → slice_get new.outcomes 0 ≡ Some (Some (outcome_of (effect_at store_meaning a.progress.catalogue a.progress.history i r.op)))
-reply_kept k a r i v w old new at low is some kept = kept 0 i r some low at (omega (arith, is))
+pub reply_kept : (k a : K) (r : Record) (i t : ℕ) (old new : RepliesView) → At i r a.progress.history → t ≤ i → old.first ≡ i → 0 < length old.outcomes → KeepsOutcomesOf a.progress t old new
+    → (o : Outcome) × (slice_get new.outcomes 0 ≡ Some (Some o)) × (reply_at store_meaning a.progress.catalogue a.progress.history i r.op ≡ Some o.reply)
+reply_kept k a r i t old new at low is some kept =
+    let one = kept 0 i r some low at (omega (arith, is)) in
+    (one.0, one.1, ap (λ e. option_map (λ z. z.reply) e) one.2.takes ∙ ap (λ (o : Outcome). Some o.reply) (sym one.2.outcome))
 
 module _ (p : ℕ) (k t a r f : K) (w : Value) (next : Record) (took : TookReplica p k t w) (is : next ≡ next_record k.session k.note next.op) (idle : k.note.pending ≡ None) (goes : GoesOn t a) (rose : GoesOn a r) (note : r.note ≡ a.note)
     (completed : length a.progress.history ≤ r.progress.completed) (end : Back r f) where
@@ -170,7 +145,7 @@ module _ (p : ℕ) (k t a r f : K) (w : Value) (next : Record) (took : TookRepli
   session : f.session ≡ k.session
   session = end.session ∙ (rose.session ∙ (goes.session ∙ took.session))
 
-  pub updated : (i reply : ℕ) → length t.progress.history ≤ i → i < 1000000 → At i next a.progress.history → a.note ≡ note_with t.note i next.op → reply ≡ reply_at store_meaning a.progress.catalogue a.progress.history i next.op
+  pub updated : (i reply : ℕ) → length t.progress.history ≤ i → i < MAX_LIMIT → At i next a.progress.history → a.note ≡ note_with t.note i next.op → reply_at store_meaning a.progress.catalogue a.progress.history i next.op ≡ Some reply
       → IsUpdated k f next.op (Ok (record { index = i; reply = reply }))
   updated i reply far small at noted same =
       let up = end.extends.completed in
@@ -181,6 +156,7 @@ module _ (p : ℕ) (k t a r f : K) (w : Value) (next : Record) (took : TookRepli
         session = session;
         held = end.held;
         extends = store_laws.extends_on k.progress a.progress f.progress from_k to_f;
+        well_formed = well_formed f.progress end.stands.notes end.stands.accounts;
         tells = (
           placed_tells store_meaning a.progress f.progress k.session (length k.note.answered) i reply (request_of k.progress next.op) to_f (subst (λ z. At i z a.progress.history) is at) same (omega (arith, far, long)) (omega (arith, below, completed, up)),
           end.note ∙ (note ∙ (noted ∙ ap (λ z. note_with z i next.op) took.note)),
@@ -197,6 +173,7 @@ module _ (p : ℕ) (k t a r f : K) (w : Value) (next : Record) (took : TookRepli
         session = session;
         held = end.held;
         extends = store_laws.extends_on k.progress a.progress f.progress from_k to_f;
+        well_formed = well_formed f.progress end.stands.notes end.stands.accounts;
         tells = (
           ended_tells store_meaning f.progress end.stands.notes k.session k.note (request_of k.progress next.op) end.stands.accounts (subst (λ z. At z k.note end.stands.notes) session (subst (λ z. At f.session z end.stands.notes) kept end.stands.here)) idle
               (omega (arith, full, completed, up, same)),
@@ -205,29 +182,12 @@ module _ (p : ℕ) (k t a r f : K) (w : Value) (next : Record) (took : TookRepli
         longer = tt;
       }
 
-pub next_taken : (p : ℕ) (k t : K) (w : Value) → TookReplica p k t w → (r : Record) → IsNext k r → IsNext t r
-next_taken p k t w b r n = (
-  n.0 ∙ (ap (λ z. next_record z k.note r.op) (sym b.session) ∙ ap (λ z. next_record t.session z r.op) (sym b.note)),
-  ap (λ z. z.pending) b.note ∙ n.1,
-  ap (λ z. z.batch) b.note ∙ n.2,
-  subst (λ (z : CatalogueView). store_meaning.Allowed z r.op) b.extends.catalogue n.3,
-)
-
 pub is_catalogue : (p : ℕ) (k t a : K) (w : Value) (c : CatalogueView) → TookReplica p k t w → GoesOn t a → k.progress.catalogue ≡ c → a.progress.catalogue ≡ c
 is_catalogue p k t a w c b g is = sym g.extends.catalogue ∙ (sym b.extends.catalogue ∙ is)
 
-module _ (k t : K) (w x : Value) (b : TookLog k t w x) where
-  pub can_copy_known : CanCopy x w
-  can_copy_known = can_copy t.progress.history t.progress x w b.records b.agrees b.stands.accounts.completed
-
+module _ (k t : K) (y x : Value) (b : TookLog k t y x) where
   pub log_catalogue : (c : CatalogueView) → k.progress.catalogue ≡ c → t.progress.catalogue ≡ c
   log_catalogue c is = sym b.extends.catalogue ∙ is
-
-  pub has_rest_known : (z : Value) → HasCopied x w z → HasRest t.progress z
-  has_rest_known z copied = has_rest t.progress t.progress x w z (store_laws.extends_self t.progress) b.stands.accounts.completed b.records b.agrees copied (let a = b.stands.accounts.limit in let f = b.few in omega (arith, a, f))
-
-  pub replay_known : (z : Value) → HasRest t.progress z → CanReplay t.progress.catalogue z
-  replay_known z rest = can_replay t.progress b.stands.notes z b.stands.accounts rest
 
   module _ (sessions : List K) (is : sessions ≡ t ∷ []) where
     at_log : At 0 (0, x) t.held
@@ -236,6 +196,7 @@ module _ (k t : K) (w x : Value) (b : TookLog k t w x) where
     put_zero : Picked sessions x t 0
     put_zero = same_picked store_meaning view_of IsSized sessions t 0 0 x x at_log refl (λ config c s. s) is
 
+    -- the log goes back as it was taken
     pub same_put : (q : ℕ) → q ≡ leader → Picked sessions x t q
     same_put q e = subst (λ z. Picked sessions x t z) (sym e) put_zero
 
@@ -252,40 +213,39 @@ module _ (k t : K) (w x : Value) (b : TookLog k t w x) where
     pub same_back : (q : ℕ) → q ≡ leader → (l : L) (ns : List SessionNote) → Possible store_rules t l ns → Same k t (put_back sessions x t q l)
     same_back q e l ns may = subst (λ z. Same k t (put_back sessions x t z l)) (sym e) (back_at_zero l ns may)
 
-  module _ (z v : Value) (c : CatalogueView) (old new : RepliesView) (f : K) (s : Same k t f) (n : ℕ) where
-    pub long_enough : HasRest t.progress z → t.progress.catalogue ≡ c → HasReplayed c z v old new → n ≡ tail_in v → n ≤ length f.progress.history
-    long_enough rest same played is = let tail = played_tail t.progress z v c old new same rest played in let long = grown_long store_meaning t.progress f.progress s.on in omega (arith, is, tail, long)
+  module _ (v : Value) (f after : K) (s : Same k t f) (all : HasAllIn t.progress v) where
+    pub long_enough : tail_in v ≤ length f.progress.history
+    long_enough = let tail = all_tail t.progress v all in let long = grown_long store_meaning t.progress f.progress s.on in omega (arith, tail, long)
 
-    pub refreshed : (p : L) → Extends f.progress p → n ≤ p.completed → HasRest t.progress z → t.progress.catalogue ≡ c → HasReplayed c z v old new → n ≡ tail_in v → IsBroughtUp k (with_progress f p) k.progress.completed v
-    refreshed p grown done rest same played is =
-        let tail = played_tail t.progress z v c old new same rest played in
-        let on = store_laws.extends_on t.progress f.progress p s.on grown in
-        let long = grown_long store_meaning t.progress p on in
-        let up = b.extends.completed in
+    pub refreshed : HasRaised f after (tail_in v) → IsBroughtUp k after k.progress.completed v
+    refreshed up =
+        let tail = all_tail t.progress v all in
+        let on = store_laws.extends_on t.progress f.progress after.progress s.on up.goes.extends in
+        let long = grown_long store_meaning t.progress after.progress on in
+        let done = up.completed in
+        let rise = b.extends.completed in
         let low = b.stands.accounts.completed in
         record {
-          goes = record { session = s.goes.session; held = s.goes.held; extends = store_laws.extends_on k.progress f.progress p s.goes.extends grown };
-          note = s.note;
-          agrees = all_agrees t.progress p v on (omega (arith, is, tail, done)) (has_all t.progress z v old new rest (subst (λ y. HasReplayed y z v old new) (sym same) played));
+          goes = record { session = up.goes.session ∙ s.goes.session; held = up.goes.held ∙ s.goes.held; extends = store_laws.extends_on k.progress f.progress after.progress s.goes.extends up.goes.extends };
+          note = up.note ∙ s.note;
+          agrees = all_agrees t.progress after.progress v on (omega (arith, tail, done)) all;
           within = omega (arith, tail, long);
-          reached = omega (arith, tail, up, low);
+          reached = omega (arith, tail, rise, low);
         }
 
-pub placed_ok : (k a : K) (r : Record) (result : Result ℕ Ended) (v : Value) (i : ℕ) → HasAppended k a r result v → result ≡ Ok i → (length k.progress.history ≤ i) × (i < 1000000) × At i r a.progress.history × (a.note ≡ note_with k.note i r.op)
-placed_ok k a r result v i h e = subst (λ z. MatchResult z (λ i. (length k.progress.history ≤ i) × (i < 1000000) × At i r a.progress.history × (a.note ≡ note_with k.note i r.op)) (λ _. (a.note ≡ k.note) × (a.progress.config.limit ≤ length a.progress.history))) e h.placed
+pub placed_ok : (k a : K) (r : Record) (result : Result ℕ Ended) (v : Value) (i : ℕ) → HasAppended k a r result v → result ≡ Ok i → (length k.progress.history ≤ i) × (tail_in v ≤ i) × (i < MAX_LIMIT) × At i r a.progress.history × (a.note ≡ note_with k.note i r.op)
+placed_ok k a r result v i h e = subst (λ z. MatchResult z (λ i. (length k.progress.history ≤ i) × (tail_in v ≤ i) × (i < MAX_LIMIT) × At i r a.progress.history × (a.note ≡ note_with k.note i r.op)) (λ _. (a.note ≡ k.note) × (a.progress.config.limit ≤ length a.progress.history))) e h.placed
 
 pub placed_err : (k a : K) (r : Record) (result : Result ℕ Ended) (v : Value) (x : Ended) → HasAppended k a r result v → result ≡ Err x → (a.note ≡ k.note) × (a.progress.config.limit ≤ length a.progress.history)
-placed_err k a r result v x h e = subst (λ z. MatchResult z (λ i. (length k.progress.history ≤ i) × (i < 1000000) × At i r a.progress.history × (a.note ≡ note_with k.note i r.op)) (λ _. (a.note ≡ k.note) × (a.progress.config.limit ≤ length a.progress.history))) e h.placed
+placed_err k a r result v x h e = subst (λ z. MatchResult z (λ i. (length k.progress.history ≤ i) × (tail_in v ≤ i) × (i < MAX_LIMIT) × At i r a.progress.history × (a.note ≡ note_with k.note i r.op)) (λ _. (a.note ≡ k.note) × (a.progress.config.limit ≤ length a.progress.history))) e h.placed
 
 pub first_kept : (k a b : K) (r : Record) (result : Result ℕ Ended) (v w : Value) (i j : ℕ) (old new : RepliesView) → HasAppended k a r result v → result ≡ Ok i → HasCaughtUp a b v w old new → old ≡ no_replies j 1 → IfOk result (λ n. j ≡ n)
-    → slice_get new.outcomes 0 ≡ Some (Some (outcome_of (effect_at store_meaning a.progress.catalogue a.progress.history i r.op)))
+    → (o : Outcome) × (slice_get new.outcomes 0 ≡ Some (Some o)) × (reply_at store_meaning a.progress.catalogue a.progress.history i r.op ≡ Some o.reply)
 first_kept k a b r result v w i j old new h e c o p =
     let t = placed_ok k a r result v i h e in
-    let far = t.0 in
-    let low = h.low in
     let one : length old.outcomes ≡ 1 = ap (λ z. length z.outcomes) o in
     let here : j ≡ i = subst (λ z. IfOk z (λ n. j ≡ n)) e p in
-    reply_kept k a r i v w old new t.2 (omega (arith, far, low)) (ap (λ z. z.first) o ∙ here) (omega (arith, one)) c.replies
+    reply_kept k a r i (tail_in v) old new t.3 t.1 (ap (λ z. z.first) o ∙ here) (omega (arith, one)) c.replies
 
 pub is_up : (k : K) (v : Value) (done : ℕ) → AgreesIn k.progress v → Stands k → done ≤ tail_in v → IsBroughtUp k k done v
 is_up k v done a s far =
@@ -297,23 +257,24 @@ pub up_enough : (k f : K) (v : Value) (done : ℕ) → done ≤ k.progress.compl
 up_enough k f v done low u = let far = u.reached in record { goes = u.goes; note = u.note; agrees = u.agrees; within = u.within; reached = omega (arith, low, far) }
 
 pub of_shapes : (l : L) (v : Value) (c : CatalogueView) → l.catalogue ≡ c → AgreesIn l v → IsReplicaOf c v
-of_shapes l (Replica n) c e a = a.1.0 ∙ ap (λ z. z.shapes) e
+of_shapes l (Replica n) c e a = a.1.0 ∙ ap (λ (z : CatalogueView). z.shapes) e
 of_shapes l (Log g) c e a = absurd a
 
-told_read : (l m : L) (v : Value) (op : Operation) (c : CatalogueView) (begun reply : ℕ) → Extends l m → AgreesIn l v → tail_in v ≤ length l.history → begun ≤ tail_in v → reply ≡ reply_on c op v → l.catalogue ≡ c → ReadTells store_meaning m begun op (tail_in v) reply
+told_read : (l m : L) (v : Value) (op : Operation) (c : CatalogueView) (begun reply : ℕ) → Extends l m → AgreesIn l v → tail_in v ≤ length l.history → begun ≤ tail_in v → Replies c op v reply → l.catalogue ≡ c → ReadTells store_meaning m begun op (tail_in v) reply
 told_read l m (Replica n) op c begun reply grown a low first is same =
     let t = a.0.tail in let up = grown.completed in
-    reads_tell store_meaning l m begun reply op (record { tail = n.replica.tail; maps = n.replica.maps }) grown low a.0.maps (is ∙ ap (λ z. reply_on z op (Replica n)) (sym same)) first (omega (arith, t, up))
+    reads_tell store_meaning l m begun reply op (replica_value n.value.replica) grown low a.0.maps (ap (λ z. option_map (λ e. e.reply) (store_meaning.read z op n.value.replica.maps)) same ∙ is) first (omega (arith, t, up))
 told_read l m (Log g) op c begun reply grown a low first is same = absurd a
 
 pub is_read : (p : ℕ) (k t b f : K) (from : L) (w v : Value) (done : ℕ) (op : Operation) (c : CatalogueView) (answer : ReadAnswer) → Extends k.progress from → done ≡ from.completed → TookReplica p (with_progress k from) t w → IsBroughtUp t b done v → Back b f
-    → b.progress.catalogue ≡ c → answer.point ≡ tail_in v → answer.reply ≡ reply_on c op v → IsReadBy k f op answer
+    → b.progress.catalogue ≡ c → answer.point ≡ tail_in v → Replies c op v answer.reply → IsReadBy k f op answer
 is_read p k t b f from w v done op c answer grown is took up end same point reply =
     let far = up.reached in let rise = grown.completed in
     record {
       session = end.session ∙ (up.goes.session ∙ took.session);
       held = end.held;
       note = end.note ∙ (up.note ∙ took.note);
+      well_formed = well_formed f.progress end.stands.notes end.stands.accounts;
       extends = store_laws.extends_on k.progress from f.progress grown (store_laws.extends_on from t.progress f.progress took.extends (store_laws.extends_on t.progress b.progress f.progress up.goes.extends end.extends));
       tells = subst (λ z. ReadTells store_meaning f.progress k.progress.completed op z answer.reply) (sym point) (told_read b.progress f.progress v op c k.progress.completed answer.reply end.extends up.agrees up.within (omega (arith, far, rise, is)) reply same);
     }

@@ -1,7 +1,11 @@
 pub mod StoreLaws
-pub mod Copied
-pub mod Played
+pub mod Places
+pub mod Followed
+pub mod Asked
 pub mod Taken
+pub mod Played
+pub mod Rooms
 pub mod Finished
+pub mod Appended
 pub mod Opened
 pub mod Closing

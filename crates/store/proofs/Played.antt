@@ -1,113 +1,186 @@
--- A replica applies the records in its hand.
-use Rattle.std.proofs.Common.{◌≡◌, ℕ, zero, suc, ◌+◌, ◌-◌, ◌≤◌, List, [], ◌∷◌, length, take, drop, sym, refl, ap, ◌∙◌, subst, arith, Some, None, slice_get}
-use mathlib.Core.Option as kernel
-use mathlib.Core.Option.{some-injective, some-ne-none}
-use Rattle.ownlock.specs.Seats.{At}
+-- A replica applies the records in its hand, and what it has applied is completed.
+use Rattle.std.proofs.Common.{◌≡◌, ℕ, ◌+◌, ◌-◌, ◌≤◌, [], List, length, take, drop, sym, refl, ap, ◌∙◌, subst, arith, Some, slice_get}
+use Rattle.std.proofs.Math.Nat.{le-max_right}
+use Rattle.maps.specs.Maps.{shapes_of}
+use Rattle.ownlock.specs.Rules.{leader}
+use Rattle.ownlock.specs.Seats.{At, with_progress}
+use Rattle.ownlock.specs.Knowledge.{Possible}
 use Rattle.loader.specs.CatalogueView.{CatalogueView}
+use Rattle.oplog.specs.Logs.{HandView}
 use Rattle.oplog.specs.History.{after, maps_after}
-use Rattle.replica.specs.StoreMeaning.{store_meaning, effect_of, outcome_of}
+use Rattle.replica.specs.StoreMeaning.{store_meaning}
+use Rattle.replica.specs.Replaying.{IsAnswered, KeepsOutcomes}
 use Rattle.replica.specs.Views.{RepliesView}
 use Rattle.progress.specs.declared.sessions.Progress.{Progress}
 use Rattle.progress.specs.declared.sessions.SessionNote.{SessionNote}
-use Rattle.progress.specs.Accounts.{Accounts}
-use Rattle.progress.proofs.AlonePuts.{replays}
-use Rattle.progress.proofs.Moved.{some_none}
-use Rattle.progress.proofs.Keeps.{some_one}
-use Rattle.progress.proofs.Lists.{at_none}
+use Rattle.progress.specs.Accounts.{Extends, IsWellFormed}
+use Rattle.progress.specs.Moves.{raised}
+use Rattle.progress.proofs.AlonePuts.{replays, replayed_agrees}
+use Rattle.progress.proofs.Finish.{grown_long}
+use Rattle.store.specs.declared.values.NodeReplica.{NodeReplica}
 use Rattle.store.specs.declared.values.Value.{Value}
 use Rattle.store.specs.declared.values.Value.TheVariants.{Log, Replica}
-use Rattle.store.specs.Shelving.{IsSized}
-use Rattle.store.specs.Lent.{CanReplay, HasReplayed, tail_in}
-use Rattle.store.specs.Standing.{HasRest, KeepsOutcomesOf}
+use Rattle.store.specs.Shelving.{replica_value, store_rules}
+use Rattle.store.specs.Lent.{copied, replayed, CanReplay}
+use Rattle.store.specs.Held.{IsReplica, CanKeepUp, IsKeptUp, CanFollowIn, HasFollowed, CanReplayIn, HasReplayed, tail_in}
+use Rattle.store.specs.Standing.{SessionKnown, AgreesIn, LogIs, FollowsIn, HasOthers, HasRest, HasRaised, KeepsOutcomesOf, HasCaughtUp}
+use Rattle.store.proofs.Places.{at_of, get_of, at_drop, drop_at, long_drop, take_whole}
+use Rattle.store.proofs.Followed.{HasAll, kept_up, others, can_follow}
 
 abbrev L : Type 0
 L = Progress CatalogueView
 
-module _ {A : Type 0} where
-  pub at_of : (xs : List A) (i : ℕ) (a : A) → slice_get xs i ≡ Some a → At i a xs
-  at_of [] i a e = absurd (some_none a None e refl)
-  at_of (x ∷ xs) zero a e = ap kernel.some (some_one x a e)
-  at_of (x ∷ xs) (suc i) a e = at_of xs i a e
+abbrev K : Type 0
+K = SessionKnown
 
-  pub get_of : (xs : List A) (i : ℕ) (a : A) → At i a xs → slice_get xs i ≡ Some a
-  get_of [] i a e = absurd (at_none i a e)
-  get_of (x ∷ xs) zero a e = ap Some (some-injective x a e)
-  get_of (x ∷ xs) (suc i) a e = get_of xs i a e
+-- the replica has the maps after a beginning of the history, and its hand has all other records
+pub record Rest (l : L) (n : NodeReplica) : Type 0 where
+  within : n.replica.tail ≤ length l.history
+  maps : n.replica.maps ≡ maps_after store_meaning l.catalogue l.history n.replica.tail
+  shapes : shapes_of n.replica.maps ≡ l.catalogue.shapes
+  hand : n.hand ≡ (let full : HandView = record { begin = n.replica.tail; records = drop n.replica.tail l.history; window = l.config.window } in full)
 
-  pub at_drop : (t : ℕ) (xs : List A) (i : ℕ) (a : A) → At i a (drop t xs) → At (t + i) a xs
-  at_drop zero xs i a e = subst (λ z. At z a xs) (plus i) e
-    where
-      plus : (i : ℕ) → i ≡ 0 + i
-      plus i = omega arith
-  at_drop (suc t) [] i a e = absurd (at_none i a e)
-  at_drop (suc t) (x ∷ xs) i a e = subst (λ z. At z a (x ∷ xs)) (plus t i) (at_drop t xs i a e)
-    where
-      plus : (t i : ℕ) → suc (t + i) ≡ suc t + i
-      plus t i = omega arith
+rest_of : (l : L) (n : NodeReplica) → HasOthers l n → Rest l n
+rest_of l n h = record { within = h.within; maps = h.maps; shapes = h.shapes; hand = h.hand }
 
-  pub drop_at : (t : ℕ) (xs : List A) (i : ℕ) (a : A) → At (t + i) a xs → At i a (drop t xs)
-  drop_at zero xs i a e = subst (λ z. At z a xs) (plus i) e
-    where
-      plus : (i : ℕ) → 0 + i ≡ i
-      plus i = omega arith
-  drop_at (suc t) [] i a e = absurd (at_none (suc t + i) a e)
-  drop_at (suc t) (x ∷ xs) i a e = drop_at t xs i a (subst (λ z. At z a (x ∷ xs)) (plus t i) e)
-    where
-      plus : (t i : ℕ) → suc t + i ≡ suc (t + i)
-      plus t i = omega arith
+module _ (l : L) (n : NodeReplica) (h : Rest l n) where
+  abbrev t : ℕ
+  t = n.replica.tail
 
-  pub long_drop : (k : ℕ) (xs : List A) → k ≤ length xs → k + length (drop k xs) ≡ length xs
-  long_drop zero xs h = omega arith
-  long_drop (suc k) [] h = absurd (omega arith)
-  long_drop (suc k) (x ∷ xs) h = let e = long_drop k xs (omega arith) in omega (arith, e)
+  records : n.hand.records ≡ drop t l.history
+  records = ap (λ (z : HandView). z.records) h.hand
 
-  pub take_whole : (xs : List A) → take (length xs) xs ≡ xs
-  take_whole [] = refl
-  take_whole (x ∷ xs) = ap (λ z. x ∷ z) (take_whole xs)
+  all : t + length n.hand.records ≡ length l.history
+  all = let long = ap length records in let rest = long_drop t l.history h.within in omega (arith, long, rest)
 
--- the replica has applied the whole history
-abbrev pub HasAll : L → Value → Type 0
-HasAll l (Log g) = ⊥
-HasAll l (Replica n) = (n.replica.tail ≡ length l.history) × (n.replica.maps ≡ maps_after store_meaning l.catalogue l.history n.replica.tail) × IsSized l.config l.catalogue (Replica n)
+  -- the maps after the first k of the hand's records are those after so many more operations
+  maps_in : (k : ℕ) → after store_meaning l.catalogue n.replica.maps (take k n.hand.records) ≡ maps_after store_meaning l.catalogue l.history (t + k)
+  maps_in k = ap (λ z. after store_meaning l.catalogue z (take k n.hand.records)) h.maps
+      ∙ (ap (λ z. after store_meaning l.catalogue (maps_after store_meaning l.catalogue l.history t) (take k z)) records ∙ replays store_meaning l.catalogue l.history t k)
 
-pub can_replay : (l : L) (ns : List SessionNote) (v : Value) → Accounts store_meaning l ns → HasRest l v → CanReplay l.catalogue v
-can_replay l ns (Replica n) w h =
-    let top = h.3 in
-    let low = h.0 in
-    let long = ap (λ z. length z.records) h.4 in
-    let all = long_drop n.replica.tail l.history low in (
-      ap (λ z. z.begin) h.4,
-      h.2,
-      (λ k r e. w.allowed (n.replica.tail + k) r (at_drop n.replica.tail l.history k r (at_of (drop n.replica.tail l.history) k r (subst (λ z. slice_get z k ≡ Some r) (ap (λ z. z.records) h.4) e)))),
-      omega (arith, top, all, long),
+  pub has_all : (shapes_of (replayed l.catalogue n).replica.maps ≡ shapes_of n.replica.maps) → HasAll l (replayed l.catalogue n)
+  has_all same = record {
+    tail = all;
+    maps = ap (λ z. after store_meaning l.catalogue n.replica.maps z) (sym (take_whole n.hand.records)) ∙ maps_in (length n.hand.records);
+    shapes = same ∙ h.shapes;
+    hand = λ i. record { begin = t + length n.hand.records; records = []; window = (ap (λ (z : HandView). z.window) h.hand) i };
+  }
+
+  pub keeps : (old new : RepliesView) → KeepsOutcomes l.catalogue n.replica.maps n.replica.tail n.hand.records old new → KeepsOutcomesOf l t old new
+  keeps old new r k i s within from at is =
+      let split : i ≡ t + (i - t) = omega (arith, from) in
+      let one = r.replayed k (i - t) s within (subst (λ z. slice_get z (i - t) ≡ Some s) (sym records) (get_of (drop t l.history) (i - t) s (drop_at t l.history (i - t) s (subst (λ z. At z s l.history) split at)))) (is ∙ split) in
+      (one.0, one.1, subst (λ m. IsAnswered l.catalogue s.op m one.0) (maps_in (i - t) ∙ ap (maps_after store_meaning l.catalogue l.history) (sym split)) one.2)
+
+can_replay : (l : L) (n : NodeReplica) → HasOthers l n → IsWellFormed store_meaning l → CanReplay l.catalogue n
+can_replay l n h w =
+    let rest = rest_of l n h in
+    let full = all l n rest in record {
+      begins = ap (λ (z : HandView). z.begin) h.hand;
+      shapes = h.shapes;
+      updates = λ k r e.
+          w.allowed (n.replica.tail + k) r (at_drop n.replica.tail l.history k r (at_of (drop n.replica.tail l.history) k r (subst (λ z. slice_get z k ≡ Some r) (records l n rest) e)));
+      fits = let top = h.few in omega (arith, top, full);
+    }
+
+-- ---- the same of values
+
+abbrev pub HasAllIn : L → Value → Type 0
+HasAllIn l (Log g) = ⊥
+HasAllIn l (Replica n) = HasAll l n.value
+
+pub can_replay_in : (l : L) (v : Value) → IsWellFormed store_meaning l → HasRest l v → CanReplayIn l.catalogue v
+can_replay_in l (Replica n) w h = can_replay l n.value h w
+can_replay_in l (Log g) w h = absurd h
+
+pub has_all_in : (l : L) (v w : Value) (old new : RepliesView) → HasRest l v → HasReplayed l.catalogue v w old new → HasAllIn l w
+has_all_in l (Replica n) (Replica m) old new h r =
+    subst (λ z. HasAll l z) (sym r.0) (has_all l n.value (rest_of l n.value h) (ap (λ (z : NodeReplica). shapes_of z.replica.maps) (sym r.0) ∙ r.2))
+has_all_in l (Replica n) (Log g) old new h r = absurd r
+has_all_in l (Log g) w old new h r = absurd h
+
+pub keeps_in : (l : L) (v w : Value) (old new : RepliesView) → HasRest l v → HasReplayed l.catalogue v w old new → KeepsOutcomesOf l (tail_in v) old new
+keeps_in l (Replica n) (Replica m) old new h r = keeps l n.value (rest_of l n.value h) old new r.1
+keeps_in l (Replica n) (Log g) old new h r = absurd r
+keeps_in l (Log g) w old new h r = absurd h
+
+pub all_replica : (l : L) (w : Value) → HasAllIn l w → IsReplica w
+all_replica l (Replica n) a = tt
+all_replica l (Log g) a = absurd a
+
+pub all_tail : (l : L) (w : Value) → HasAllIn l w → tail_in w ≡ length l.history
+all_tail l (Replica n) a = a.tail
+all_tail l (Log g) a = absurd a
+
+-- what was replayed as far as the known history agrees, once that is completed
+pub all_agrees : (l m : L) (w : Value) → Extends l m → length l.history ≤ m.completed → HasAllIn l w → AgreesIn m w
+all_agrees l m (Replica n) g done h =
+    let t = h.tail in (
+      replayed_agrees store_meaning l m (replica_value n.value.replica) g (omega (arith, t)) h.maps (omega (arith, t, done)),
+      (h.shapes ∙ ap (λ (c : CatalogueView). c.shapes) g.catalogue, h.hand ∙ (λ i. record { begin = n.value.replica.tail; records = []; window = (ap (λ c. c.window) g.config) i })),
     )
-can_replay l ns (Log g) w h = absurd h
+all_agrees l m (Log g) grown done h = absurd h
 
-pub has_all : (l : L) (v w : Value) (old new : RepliesView) → HasRest l v → HasReplayed l.catalogue v w old new → HasAll l w
-has_all l (Replica n) (Replica m) old new h r =
-    let t = n.replica.tail in
-    let low = h.0 in
-    let records = ap (λ z. z.records) h.4 in
-    let all = long_drop t l.history low in
-    let long = ap length records in
-    let tail = r.tail in
-    let to : m.replica.tail ≡ length l.history = omega (arith, all, long, tail) in (
-      to,
-      r.maps ∙ (ap (λ z. after store_meaning l.catalogue z n.hand.records) h.1 ∙ (ap (λ z. after store_meaning l.catalogue (maps_after store_meaning l.catalogue l.history t) z) (records ∙ sym (take_whole (drop t l.history)))
-          ∙ (replays store_meaning l.catalogue l.history t (length (drop t l.history)) ∙ ap (maps_after store_meaning l.catalogue l.history) (all ∙ sym to)))),
-      (r.shapes ∙ h.2, r.hand ∙ (λ i. record { begin = m.replica.tail; records = []; window = (ap (λ z. z.window) h.4) i; limit = (ap (λ z. z.limit) h.4) i })),
-    )
-has_all l (Replica n) (Log g) old new h r = absurd r
-has_all l (Log g) w old new h r = absurd h
+-- ---- a replica with the log beside it
 
-pub keeps : (l : L) (v w : Value) (old new : RepliesView) → HasRest l v → HasReplayed l.catalogue v w old new → KeepsOutcomesOf l (tail_in v) old new
-keeps l (Replica n) (Replica m) old new h r k i s within from at is =
-    let t = n.replica.tail in
-    let split : i ≡ t + (i - t) = omega (arith, from) in
-    let records = ap (λ z. z.records) h.4 in
-    r.replies.replayed k (i - t) s within
-    (subst (λ z. slice_get z (i - t) ≡ Some s) (sym records) (get_of (drop t l.history) (i - t) s (drop_at t l.history (i - t) s (subst (λ z. At z s l.history) split at)))) (is ∙ split)
-    ∙ ap (λ z. Some (Some (outcome_of (effect_of l.catalogue s.op z)))) (ap (λ z. after store_meaning l.catalogue z (take (i - t) n.hand.records)) h.1 ∙ (ap (λ z. after store_meaning l.catalogue (maps_after store_meaning l.catalogue l.history t) (take (i - t) z)) records
-    ∙ (replays store_meaning l.catalogue l.history t (i - t) ∙ ap (maps_after store_meaning l.catalogue l.history) (sym split))))
-keeps l (Replica n) (Log g) old new h r k i s within from at is = absurd r
-keeps l (Log g) w old new h r k i s within from at is = absurd h
+pub can_keep_up : (l : L) (x y : Value) → LogIs l x → FollowsIn l y → CanKeepUp x y
+can_keep_up l (Log g) (Replica n) is f = (f.empty, is.sizes.2 ∙ sym f.shapes)
+can_keep_up l (Log g) (Log n) is f = absurd f
+can_keep_up l (Replica g) y is f = absurd is
+
+abbrev pub IsAbove : Value → Value → Type 0
+IsAbove (Log g) (Replica n) = g.value.base ≤ n.value.replica.tail
+IsAbove _ _ = ⊥
+
+pub kept_up_in : (l : L) (x y z : Value) → LogIs l x → FollowsIn l y → IsKeptUp x y z → FollowsIn l z × IsAbove x z
+kept_up_in l (Log g) (Replica n) (Replica m) is f k = kept_up l g.value n.value is f m.value k.0 k.1
+kept_up_in l (Log g) (Replica n) (Log m) is f k = absurd k
+kept_up_in l (Log g) (Log n) z is f k = absurd f
+kept_up_in l (Replica g) y z is f k = absurd is
+
+pub can_follow_in : (l : L) (x y : Value) → LogIs l x → FollowsIn l y → IsAbove x y → IsWellFormed store_meaning l → CanFollowIn l.catalogue x y
+can_follow_in l (Log g) (Replica n) is f low w = can_follow l g.value n.value is f low w
+can_follow_in l (Log g) (Log n) is f low w = absurd f
+can_follow_in l (Replica g) y is f low w = absurd is
+
+pub followed_all : (l : L) (x y z : Value) → LogIs l x → FollowsIn l y → IsAbove x y → HasFollowed l.catalogue x y z → HasAllIn l z
+followed_all l (Log g) (Replica n) (Replica m) is f low h =
+    let full : Rest l (copied g.value n.value) = record {
+      within = f.within;
+      maps = f.maps;
+      shapes = f.shapes;
+      hand = λ i. record { begin = n.value.replica.tail; records = others l g.value n.value is f low i; window = f.window i };
+    } in
+    subst (λ z. HasAll l z) (sym h.0) (has_all l (copied g.value n.value) full (ap (λ (z : NodeReplica). shapes_of z.replica.maps) (sym h.0) ∙ h.1))
+followed_all l (Log g) (Replica n) (Log m) is f low h = absurd h
+followed_all l (Log g) (Log n) z is f low h = absurd f
+followed_all l (Replica g) y z is f low h = absurd is
+
+-- ---- what is told of the replay and the raise
+
+-- once the completed tail is raised to m
+pub has_raised : (k : K) (before : L) (n m : ℕ) → m ≡ n → ((notes : List SessionNote) × Possible store_rules k (raised before m) notes) → HasRaised k (with_progress k (raised before m)) n
+has_raised k before n m is (notes, may) = record {
+  goes = record { session = refl; held = refl; extends = may.0.0 };
+  note = refl;
+  stands = record { notes = notes; accounts = may.2; here = may.1 };
+  completed = omega (arith, is, le-max_right before.completed m);
+  still = λ h. may.0.1 h.1 (leader, h.0) h.2 refl;
+}
+
+-- the replica has applied all that the session k knew, and that is completed
+pub caught : (k after : K) (v w : Value) (c : CatalogueView) (old new : RepliesView) (n : ℕ) → k.progress.catalogue ≡ c → HasRest k.progress v → HasReplayed c v w old new → HasRaised k after n → n ≡ tail_in w → HasCaughtUp k after v w old new
+caught k after v w c old new n same rest played up is =
+    let r : HasReplayed k.progress.catalogue v w old new = subst (λ z. HasReplayed z v w old new) (sym same) played in
+    let all = has_all_in k.progress v w old new rest r in
+    let tail = all_tail k.progress w all in
+    let done = up.completed in
+    let long = grown_long store_meaning k.progress after.progress up.goes.extends in
+    record {
+      goes = up.goes;
+      note = up.note;
+      completed = omega (arith, is, tail, done);
+      agrees = all_agrees k.progress after.progress w up.goes.extends (omega (arith, is, tail, done)) all;
+      within = omega (arith, tail, long);
+      replies = keeps_in k.progress v w old new rest r;
+    }

@@ -1,70 +1,71 @@
--- What a session does with the values that are lent to it.
-use Rattle.std.specs.Prelude.{◌≡◌, ℕ, ◌+◌, ◌<◌, ◌≤◌, ◌^◌, [], ◌∷◌, ◌++◌, length}
+-- What a session does with the log and its node's replica while both are lent to it: each call is a step of these two.
+use Rattle.std.specs.Prelude.{◌≡◌, ◌+◌, ◌<◌, ◌≤◌, ◌^◌, [], ◌++◌, length, take, min}
 use Rattle.maps.specs.Maps.{shapes_of}
 use Rattle.loader.specs.CatalogueView.{CatalogueView}
-use Rattle.oplog.specs.declared.records.Record.{Record}
-use Rattle.oplog.specs.Operations.{Operation}
-use Rattle.oplog.specs.Logs.{tail_of, records_from}
-use Rattle.oplog.specs.History.{after}
-use Rattle.replica.specs.StoreMeaning.{store_meaning, effect_of, AreUpdates}
-use Rattle.replica.specs.Views.{RepliesView}
-use Rattle.replica.specs.Replaying.{KeepsOutcomes}
+use Rattle.oplog.specs.Logs.{Log, tail_of, left_of, room_in, records_from}
+use Rattle.oplog.specs.History.{History, after}
+use Rattle.replica.specs.StoreMeaning.{store_meaning, AreUpdates}
 use Rattle.store.specs.declared.values.NodeReplica.{NodeReplica}
-use Rattle.store.specs.declared.values.Value.{Value}
-use Rattle.store.specs.declared.values.Value.TheVariants.{Log, Replica}
 
--- a replica, and how many records it has applied
-abbrev pub IsReplica : Value → Type 0
-IsReplica (Log g) = ⊥
-IsReplica (Replica n) = Unit {0}
+-- ---- append: as much of a batch as the history may still have, and the hand has what the replica has still to apply
 
-abbrev pub tail_in : Value → ℕ
-tail_in (Log g) = 0
-tail_in (Replica n) = n.replica.tail
+-- the log with the batch, and the node with the log's records from its replica's tail on in its hand
+abbrev pub appended : History → Log → Log
+appended batch g = record g { records = g.records ++ take (min (length batch) (left_of g)) batch }
 
--- the second log is the first with the record r at its end, which is the i-th of the history
-abbrev pub IsAppended : Value → Record → ℕ → Value → Type 0
-IsAppended (Log g) r i (Log h) = (i ≡ tail_of g) × (i < g.limit) × (g.limit ≤ 1000000) × (h ≡ record g { records = g.records ++ r ∷ [] })
-IsAppended _ r i _ = ⊥
+abbrev pub copied : Log → NodeReplica → NodeReplica
+copied g n = record n { hand = record n.hand { begin = n.replica.tail; records = records_from g n.replica.tail } }
 
--- the log has all its records
-abbrev pub IsAtLimit : Value → Type 0
-IsAtLimit (Log g) = tail_of g ≡ g.limit
-IsAtLimit (Replica n) = ⊥
+-- the log has all that the replica has still to apply, and the hand room for it
+pub record CanCopy (g : Log) (n : NodeReplica) : Type 0 where
+  pub above : g.base ≤ n.replica.tail
+  pub below : n.replica.tail ≤ tail_of g
+  pub window : n.hand.window ≡ g.window
 
--- the log has the records that the replica has still to apply, and the hand room for them
-abbrev pub CanCopy : Value → Value → Type 0
-CanCopy (Log g) (Replica n) = (g.base ≤ n.replica.tail) × (n.replica.tail ≤ tail_of g) × (n.hand.window ≡ g.window) × (n.hand.limit ≡ g.limit)
-CanCopy _ _ = ⊥
+-- what is appended of the batch fits
+pub record CanAppend (batch : History) (g : Log) (n : NodeReplica) : Type 0 where
+  pub room : min (length batch) (left_of g) ≤ room_in g
+  pub copy : CanCopy g n
 
--- the hand has these records then
-abbrev pub HasCopied : Value → Value → Value → Type 0
-HasCopied (Log g) (Replica n) (Replica m) = m ≡ record { replica = n.replica; hand = record n.hand { begin = n.replica.tail; records = records_from g n.replica.tail } }
-HasCopied _ _ _ = ⊥
+-- ---- replay: the hand's records are run on the replica
+
+abbrev pub replayed : CatalogueView → NodeReplica → NodeReplica
+replayed c n =
+    let tail = n.replica.tail + length n.hand.records in
+    record {
+      replica = record { tail = tail; maps = after store_meaning c n.replica.maps n.hand.records };
+      hand = record n.hand { begin = tail; records = [] };
+    }
 
 -- the records in the hand are the next that the replica has to apply
-abbrev pub CanReplay : CatalogueView → Value → Type 0
-CanReplay c (Log g) = ⊥
-CanReplay c (Replica n) =
-    (n.hand.begin ≡ n.replica.tail) × (shapes_of n.replica.maps ≡ c.shapes) × AreUpdates c n.hand.records × (n.replica.tail + length n.hand.records < 2 ^ 64)
+pub record CanReplay (c : CatalogueView) (n : NodeReplica) : Type 0 where
+  pub begins : n.hand.begin ≡ n.replica.tail
+  pub shapes : shapes_of n.replica.maps ≡ c.shapes
+  pub updates : AreUpdates c n.hand.records
+  pub fits : n.replica.tail + length n.hand.records < 2 ^ 64
 
--- the replica has applied them, and their outcomes are kept
-pub record IsReplayed (c : CatalogueView) (n m : NodeReplica) (old new : RepliesView) : Type 0 where
-  pub tail : m.replica.tail ≡ n.replica.tail + length n.hand.records
-  pub maps : m.replica.maps ≡ after store_meaning c n.replica.maps n.hand.records
-  pub shapes : shapes_of m.replica.maps ≡ shapes_of n.replica.maps
-  pub hand : m.hand ≡ record n.hand { begin = m.replica.tail; records = [] }
-  pub replies : KeepsOutcomes c n.replica.maps n.replica.tail n.hand.records old new
+-- what the replica has still to apply is in the log, and updates of the catalogue
+pub record CanFollow (c : CatalogueView) (g : Log) (n : NodeReplica) : Type 0 where
+  pub copy : CanCopy g n
+  pub shapes : shapes_of n.replica.maps ≡ c.shapes
+  pub updates : AreUpdates c (records_from g n.replica.tail)
 
-abbrev pub HasReplayed : CatalogueView → Value → Value → RepliesView → RepliesView → Type 0
-HasReplayed c (Replica n) (Replica m) old new = IsReplayed c n m old new
-HasReplayed c _ _ old new = ⊥
+-- ---- reclaim: the replica becomes the log's base, and the records before it are dropped
 
--- a replica of these shapes, and what the operation replies on its maps
-abbrev pub IsReplicaOf : CatalogueView → Value → Type 0
-IsReplicaOf c (Log g) = ⊥
-IsReplicaOf c (Replica n) = shapes_of n.replica.maps ≡ c.shapes
+abbrev pub reclaimed : NodeReplica → Log → Log
+reclaimed n g = record g { base = n.replica.tail; base_maps = n.replica.maps; records = records_from g n.replica.tail }
 
-abbrev pub reply_on : CatalogueView → Operation → Value → ℕ
-reply_on c op (Log g) = 0
-reply_on c op (Replica n) = (effect_of c op n.replica.maps).reply
+pub record CanReclaim (n : NodeReplica) (g : Log) : Type 0 where
+  pub above : g.base < n.replica.tail
+  pub completed : n.replica.tail ≤ g.done
+  pub shapes : shapes_of n.replica.maps ≡ shapes_of g.base_maps
+
+-- ---- rebase: the log's base becomes the replica
+
+abbrev pub rebased : Log → NodeReplica → NodeReplica
+rebased g n = record { replica = record { tail = g.base; maps = g.base_maps }; hand = record n.hand { begin = g.base } }
+
+pub record CanRebase (g : Log) (n : NodeReplica) : Type 0 where
+  pub upwards : n.replica.tail < g.base
+  pub empty : n.hand.records ≡ []
+  pub shapes : shapes_of g.base_maps ≡ shapes_of n.replica.maps

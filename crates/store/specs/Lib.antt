@@ -1,6 +1,7 @@
 pub mod Refusals
 pub mod Shelving
 pub mod Lent
+pub mod Held
 pub mod Standing
 pub mod Sessions
 pub mod Opening

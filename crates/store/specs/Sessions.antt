@@ -11,7 +11,9 @@ use Rattle.progress.specs.declared.sessions.Progress.{Progress}
 use Rattle.progress.specs.declared.sessions.Pending.{Pending}
 use Rattle.progress.specs.declared.sessions.SessionNote.{SessionNote}
 use Rattle.progress.specs.Values.{PlacedAt, Ended as EndedAnswer}
-use Rattle.progress.specs.Accounts.{Extends, IsSessionOf}
+use Rattle.oplog.specs.Sessions.{IsSessionOf}
+use Rattle.oplog.specs.declared.configuration.TheConstants.{MAX_LIMIT}
+use Rattle.progress.specs.Accounts.{Extends, IsWellFormed}
 use Rattle.progress.specs.LogSteps.{first_progress, fresh_note}
 use Rattle.progress.specs.Single.{note_with}
 use Rattle.progress.specs.Told.{Tells, ReadTells}
@@ -73,6 +75,8 @@ pub record IsIdle (s : SeatView (Progress CatalogueView) SessionNote Value) (nod
   pub own : IsSessionOf known.progress.config node known.session
   pub number : author ≡ known.session
   pub counted : answered ≡ length known.note.answered
+  -- what the session knows is a history of the store's catalogue, within its limit
+  pub well_formed : IsWellFormed store_meaning known.progress
   -- each answered update has its place in the history
   pub within : length known.note.answered ≤ length known.progress.history
 
@@ -85,11 +89,12 @@ pub record IsUpdated (k after : SessionKnown) (op : Operation) (result : Result 
   pub session : after.session ≡ k.session
   pub held : after.held ≡ []
   pub extends : Extends k.progress after.progress
+  pub well_formed : IsWellFormed store_meaning after.progress
   pub tells : MatchResult result
       (λ a. Tells store_meaning after.progress k.session (length k.note.answered) (request_of k.progress op) (PlacedAt a.index a.reply) × (after.note ≡ note_with k.note a.index op))
       (λ _. Tells store_meaning after.progress k.session (length k.note.answered) (request_of k.progress op) EndedAnswer × (after.note ≡ k.note))
   -- the history has more than the session knew, if the update has a place
-  pub longer : MatchResult result (λ a. (a.index < 1000000) × (length k.progress.history < length after.progress.history)) (λ _. Unit {0})
+  pub longer : MatchResult result (λ a. (a.index < MAX_LIMIT) × (length k.progress.history < length after.progress.history)) (λ _. Unit {0})
 
 -- a session's read
 pub record IsReadBy (k after : SessionKnown) (op : Operation) (answer : ReadAnswer) : Type 0 where
@@ -97,6 +102,7 @@ pub record IsReadBy (k after : SessionKnown) (op : Operation) (answer : ReadAnsw
   pub held : after.held ≡ []
   pub note : after.note ≡ k.note
   pub extends : Extends k.progress after.progress
+  pub well_formed : IsWellFormed store_meaning after.progress
   pub tells : ReadTells store_meaning after.progress k.progress.completed op answer.point answer.reply
 
 -- the answer to an update that was not refused early: Ok with its place and its reply there, the update counted; or S4, where the

@@ -4,29 +4,44 @@ use Rattle.ownlock.specs.Rules.{Rules}
 use Rattle.maps.specs.Maps.{Maps, shapes_of}
 use Rattle.loader.specs.CatalogueView.{CatalogueView}
 use Rattle.oplog.specs.declared.configuration.Config.{Config}
-use Rattle.oplog.specs.Limits.{IsLimit}
-use Rattle.oplog.specs.Logs.{opened_log, opened_hand}
+use Rattle.oplog.specs.Logs.{Log as LogView, HandView, opened_log, opened_hand}
+use Rattle.replica.specs.Views.{ReplicaView}
+use Rattle.maps.specs.declared.shapes.Shape.{Shape}
 use Rattle.maps.specs.MapSets.{opening_maps}
 use Rattle.replica.specs.StoreMeaning.{store_meaning}
 use Rattle.progress.specs.declared.sessions.Progress.{Progress}
 use Rattle.progress.specs.declared.sessions.SessionNote.{SessionNote}
-use Rattle.progress.specs.Values.{StoreValue, TheLog, TheReplica}
+use Rattle.progress.specs.Values.{LogValue, ReplicaValue, StoreValue, TheLog, TheReplica}
 use Rattle.progress.specs.LogSteps.{first_progress, fresh_note}
-use Rattle.progress.specs.Seen.{IsSeenLog, seen_done, IsSeenRaised}
 use Rattle.progress.specs.SinglePuts.{the_rules}
 use Rattle.store.specs.declared.values.Setup.{Setup}
+use Rattle.store.specs.declared.values.NodeReplica.{NodeReplica}
 use Rattle.store.specs.declared.values.Value.{Value}
 use Rattle.store.specs.declared.values.Value.TheVariants.{Log, Replica}
 
--- what the rules see of a value
-abbrev pub view_of : Value → StoreValue Maps
-view_of (Log g) = TheLog (record { base = g.base; base_maps = g.base_maps; records = g.records; done = g.done })
-view_of (Replica n) = TheReplica (record { tail = n.replica.tail; maps = n.replica.maps })
+-- what the rules see of a log, of a replica, and of a value
+abbrev pub log_value : LogView → LogValue Maps
+log_value g = record { base = g.base; base_maps = g.base_maps; records = g.records; done = g.done }
 
--- the sizes of a value are those of the configuration and the catalogue, the log keeps every record, and a hand on the shelf is empty
+abbrev pub replica_value : ReplicaView → ReplicaValue Maps
+replica_value r = record { tail = r.tail; maps = r.maps }
+
+abbrev pub view_of : Value → StoreValue Maps
+view_of (Log g) = TheLog (log_value g.value)
+view_of (Replica n) = TheReplica (replica_value n.value.replica)
+
+-- the log has the window, the limit and the shapes that the store was opened with
+abbrev pub HasLogSizes : Config → CatalogueView → LogView → Type 0
+HasLogSizes config c g = (g.window ≡ config.window) × (g.limit ≡ config.limit) × (shapes_of g.base_maps ≡ c.shapes)
+
+-- a hand that has no record, and begins at the tail of its replica
+abbrev pub resting_hand : Config → ℕ → HandView
+resting_hand config tail = record { begin = tail; records = []; window = config.window }
+
+-- the sizes of a value are those of the configuration and the catalogue, and a hand on the shelf is empty
 abbrev pub IsSized : Config → CatalogueView → Value → Type 0
-IsSized config c (Log g) = (g.base ≡ 0) × (g.window ≡ config.window) × (g.limit ≡ config.limit) × IsLimit config.limit
-IsSized config c (Replica n) = (shapes_of n.replica.maps ≡ c.shapes) × (n.hand ≡ record { begin = n.replica.tail; records = []; window = config.window; limit = config.limit })
+IsSized config c (Log g) = HasLogSizes config c g.value
+IsSized config c (Replica n) = (shapes_of n.value.replica.maps ≡ c.shapes) × (n.value.hand ≡ resting_hand config n.value.replica.tail)
 
 abbrev pub store_rules : Rules (Progress CatalogueView) SessionNote Value
 store_rules = the_rules store_meaning view_of IsSized
@@ -41,18 +56,17 @@ opening_progress s = first_progress s.config s.catalogue
 abbrev pub opening_notes : Setup → List SessionNote
 opening_notes s = replicate (sessions_of s.config) fresh_note
 
--- the log, its completed tail, and the same log with a completed tail raised to n, where it reaches so far
-abbrev pub IsLog : Value → Type 0
-IsLog v = IsSeenLog view_of IsSized v
-
-abbrev pub done_of : Value → ℕ
-done_of v = seen_done view_of IsSized v
-
-abbrev pub IsRaised : Value → ℕ → Value → Type 0
-IsRaised v n w = IsSeenRaised view_of IsSized v n w
-
 -- what the shelf is opened with: the log, and each node's replica
-abbrev pub opened_values : Config → CatalogueView → List (Option Value)
-opened_values config c =
-    Some (Log (opened_log c.shapes config.window config.limit))
-    ∷ Some (Replica (record { replica = record { tail = 0; maps = opening_maps c.shapes }; hand = opened_hand config.window config.limit })) ∷ []
+abbrev pub IsOpenedLog : List Shape → ℕ → ℕ → Value → Type 0
+IsOpenedLog shapes window limit (Log g) = g.value ≡ opened_log shapes window limit
+IsOpenedLog shapes window limit (Replica n) = ⊥
+
+abbrev pub opened_node : List Shape → ℕ → NodeReplica
+opened_node shapes window = record { replica = record { tail = 0; maps = opening_maps shapes }; hand = opened_hand window }
+
+abbrev pub IsOpenedReplica : List Shape → ℕ → Value → Type 0
+IsOpenedReplica shapes window (Log g) = ⊥
+IsOpenedReplica shapes window (Replica n) = n.value ≡ opened_node shapes window
+
+abbrev pub AreOpened : Config → CatalogueView → List (Option Value) → Type 0
+AreOpened config c values = (log node : Value) × (values ≡ Some log ∷ Some node ∷ []) × IsOpenedLog c.shapes config.window config.limit log × IsOpenedReplica c.shapes config.window node

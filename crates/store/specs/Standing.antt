@@ -1,23 +1,30 @@
 -- What a session knows, and what its calls on the shelf make of that.
-use Rattle.std.specs.Prelude.{◌≡◌, ℕ, ◌+◌, ◌<◌, ◌≤◌, List, [], ◌∷◌, length, drop, Result, MatchResult, Some, None, slice_get}
+use Rattle.std.specs.Prelude.{◌≡◌, ℕ, ◌+◌, ◌<◌, ◌≤◌, min, List, [], ◌∷◌, length, drop, Result, MatchResult, Some, None, slice_get}
 use Rattle.maps.specs.Maps.{shapes_of}
 use Rattle.ownlock.specs.declared.known.Known.{Known}
+use Rattle.ownlock.specs.Rules.{leader}
 use Rattle.ownlock.specs.Seats.{At}
 use Rattle.loader.specs.CatalogueView.{CatalogueView}
 use Rattle.oplog.specs.declared.records.Record.{Record}
 use Rattle.oplog.specs.declared.answers.Ended.{Ended}
-use Rattle.oplog.specs.History.{maps_after, effect_at}
-use Rattle.replica.specs.StoreMeaning.{store_meaning, outcome_of}
+use Rattle.oplog.specs.declared.configuration.TheConstants.{MAX_LIMIT}
+use Rattle.oplog.specs.Logs.{Log as LogView, tail_of, left_of, room_in}
+use Rattle.oplog.specs.History.{maps_after}
+use Rattle.oplog.specs.Sessions.{IsSessionOf}
+use Rattle.machine.specs.declared.running.Outcome.{Outcome}
+use Rattle.replica.specs.StoreMeaning.{store_meaning}
 use Rattle.replica.specs.Views.{RepliesView}
+use Rattle.replica.specs.Replaying.{IsAnswered}
 use Rattle.progress.specs.declared.sessions.Progress.{Progress}
 use Rattle.progress.specs.declared.sessions.SessionNote.{SessionNote}
-use Rattle.progress.specs.Accounts.{Accounts, Extends, IsSessionOf}
-use Rattle.progress.specs.Agreement.{ReplicaAgrees, replica_place}
+use Rattle.progress.specs.Accounts.{Accounts, Extends, IsAllowed, IsWellFormed}
+use Rattle.progress.specs.Agreement.{LogAgrees, ReplicaAgrees, replica_place}
 use Rattle.progress.specs.Single.{next_record, note_with}
+use Rattle.store.specs.declared.values.NodeReplica.{NodeReplica}
 use Rattle.store.specs.declared.values.Value.{Value}
 use Rattle.store.specs.declared.values.Value.TheVariants.{Log, Replica}
-use Rattle.store.specs.Shelving.{IsSized}
-use Rattle.store.specs.Lent.{IsReplica, tail_in}
+use Rattle.store.specs.Shelving.{IsSized, HasLogSizes, log_value, replica_value}
+use Rattle.store.specs.Held.{IsReplica, tail_in}
 
 -- what a session of a store knows
 abbrev pub SessionKnown : Type 0
@@ -29,10 +36,48 @@ pub record Stands (k : SessionKnown) : Type 0 where
   pub accounts : Accounts store_meaning k.progress notes
   pub here : At k.session k.note notes
 
+-- ---- the values that it holds
+
 -- the value is a replica that agrees with the progress
 abbrev pub AgreesIn : Progress CatalogueView → Value → Type 0
 AgreesIn l (Log g) = ⊥
-AgreesIn l (Replica n) = ReplicaAgrees store_meaning l (record { tail = n.replica.tail; maps = n.replica.maps }) × IsSized l.config l.catalogue (Replica n)
+AgreesIn l (Replica n) = ReplicaAgrees store_meaning l (replica_value n.value.replica) × IsSized l.config l.catalogue (Replica n)
+
+-- the replica has the maps after a beginning of the history, completed or not, and its hand is empty
+pub record Follows (l : Progress CatalogueView) (n : NodeReplica) : Type 0 where
+  pub within : n.replica.tail ≤ length l.history
+  pub maps : n.replica.maps ≡ maps_after store_meaning l.catalogue l.history n.replica.tail
+  pub shapes : shapes_of n.replica.maps ≡ l.catalogue.shapes
+  pub window : n.hand.window ≡ l.config.window
+  pub empty : n.hand.records ≡ []
+
+abbrev pub FollowsIn : Progress CatalogueView → Value → Type 0
+FollowsIn l (Log g) = ⊥
+FollowsIn l (Replica n) = Follows l n.value
+
+-- the replica has the maps after a beginning of the history, and its hand has all other records
+pub record HasOthers (l : Progress CatalogueView) (n : NodeReplica) : Type 0 where
+  pub within : n.replica.tail ≤ length l.history
+  pub maps : n.replica.maps ≡ maps_after store_meaning l.catalogue l.history n.replica.tail
+  pub shapes : shapes_of n.replica.maps ≡ l.catalogue.shapes
+  pub few : length l.history ≤ MAX_LIMIT
+  pub hand : n.hand ≡ record { begin = n.replica.tail; records = drop n.replica.tail l.history; window = l.config.window }
+
+abbrev pub HasRest : Progress CatalogueView → Value → Type 0
+HasRest l (Log g) = ⊥
+HasRest l (Replica n) = HasOthers l n.value
+
+-- the log is that of the progress, and ends where the history ends
+pub record IsLogOf (l : Progress CatalogueView) (g : LogView) : Type 0 where
+  pub agrees : LogAgrees store_meaning l (log_value g)
+  pub tail : tail_of g ≡ length l.history
+  pub sizes : HasLogSizes l.config l.catalogue g
+
+abbrev pub LogIs : Progress CatalogueView → Value → Type 0
+LogIs l (Log g) = IsLogOf l g.value
+LogIs l (Replica n) = ⊥
+
+-- ---- which values it holds
 
 -- the session holds its node's replica alone, which it took as w
 pub record HoldsReplica (k : SessionKnown) (w : Value) : Type 0 where
@@ -42,6 +87,10 @@ pub record HoldsReplica (k : SessionKnown) (w : Value) : Type 0 where
   pub replica : IsReplica w
   pub sized : IsSized k.progress.config k.progress.catalogue w
 
+-- the session holds the log
+abbrev pub HoldsLog : SessionKnown → Type 0
+HoldsLog k = (x : Value) × (a : ℕ) × At a (leader, x) k.held
+
 -- the session holds nothing, and that place of the shelf has its node's replica
 pub record IsFree (place : ℕ) (k : SessionKnown) : Type 0 where
   pub node : ℕ
@@ -49,17 +98,11 @@ pub record IsFree (place : ℕ) (k : SessionKnown) : Type 0 where
   pub own : IsSessionOf k.progress.config node k.session
   pub held : k.held ≡ []
 
--- the replica has the maps after a beginning of the history, and its hand has all other records
-abbrev pub HasRest : Progress CatalogueView → Value → Type 0
-HasRest l (Log g) = ⊥
-HasRest l (Replica n) =
-    (n.replica.tail ≤ length l.history) × (n.replica.maps ≡ maps_after store_meaning l.catalogue l.history n.replica.tail) × (shapes_of n.replica.maps ≡ l.catalogue.shapes)
-    × (length l.history ≤ 1000000)
-    × (n.hand ≡ record { begin = n.replica.tail; records = drop n.replica.tail l.history; window = l.config.window; limit = l.config.limit })
-
 -- the record is the next one of the session, which waits for nothing, and the operation is allowed
 abbrev pub IsNext : SessionKnown → Record → Type 0
-IsNext k r = (r ≡ next_record k.session k.note r.op) × (k.note.pending ≡ None) × (k.note.batch ≡ []) × store_meaning.Allowed k.progress.catalogue r.op
+IsNext k r = (r ≡ next_record k.session k.note r.op) × (k.note.pending ≡ None) × (k.note.batch ≡ []) × IsAllowed store_meaning k.progress.catalogue r.op
+
+-- ---- what its calls leave
 
 -- the session has not let go of anything, and its note may have changed
 pub record GoesOn (k after : SessionKnown) : Type 0 where
@@ -67,20 +110,49 @@ pub record GoesOn (k after : SessionKnown) : Type 0 where
   pub held : after.held ≡ k.held
   pub extends : Extends k.progress after.progress
 
+-- the session knows that so many operations are completed; while it holds the log, the history stands still
+pub record HasRaised (k after : SessionKnown) (n : ℕ) : Type 0 where
+  pub goes : GoesOn k after
+  pub note : after.note ≡ k.note
+  pub stands : Stands after
+  pub completed : n ≤ after.progress.completed
+  pub still : HoldsLog k → k.progress.history ≡ after.progress.history
+
+-- the second log has the sizes of the first
+abbrev pub KeepsLogSizes : LogView → LogView → Type 0
+KeepsLogSizes g h = (h.window ≡ g.window) × (h.limit ≡ g.limit) × (shapes_of h.base_maps ≡ shapes_of g.base_maps)
+
+-- the log h has room for a record, if the history may have one more; it is g with a base that may have risen to the replica's tail
+pub record HasPlace (k after : SessionKnown) (g h : LogView) (n : NodeReplica) : Type 0 where
+  pub goes : GoesOn k after
+  pub note : after.note ≡ k.note
+  pub well : IsWellFormed store_meaning after.progress
+  pub same : after.progress.history ≡ k.progress.history
+  pub log : IsLogOf after.progress h
+  pub keeps : KeepsLogSizes g h
+  pub follows : Follows after.progress n
+  pub above : h.base ≤ n.replica.tail
+  pub room : min 1 (left_of h) ≤ room_in h
+  pub ended : left_of g ≡ 0 → h ≡ g
+
+abbrev pub HasRoom : SessionKnown → SessionKnown → Value → Value → Value → Type 0
+HasRoom k after (Log g) (Log h) (Replica n) = HasPlace k after g.value h.value n.value
+HasRoom k after _ _ _ = ⊥
+
 -- the log was taken and put back with the record r, or as it was where it had all its records; the hand of v has what its replica has still to apply
 pub record HasAppended (k after : SessionKnown) (r : Record) (result : Result ℕ Ended) (v : Value) : Type 0 where
   pub goes : GoesOn k after
   pub stands : Stands after
   pub rest : HasRest after.progress v
-  pub low : tail_in v ≤ length k.progress.history
   pub placed : MatchResult result
-      (λ i. (length k.progress.history ≤ i) × (i < 1000000) × At i r after.progress.history × (after.note ≡ note_with k.note i r.op))
+      (λ i. (length k.progress.history ≤ i) × (tail_in v ≤ i) × (i < MAX_LIMIT) × At i r after.progress.history × (after.note ≡ note_with k.note i r.op))
       (λ _. (after.note ≡ k.note) × (after.progress.config.limit ≤ length after.progress.history))
 
 -- of each record from the place t on, the outcome is kept, if its place is one of those that are kept
 abbrev pub KeepsOutcomesOf : Progress CatalogueView → ℕ → RepliesView → RepliesView → Type 0
 KeepsOutcomesOf l t old new =
-    (k i : ℕ) (r : Record) → k < length old.outcomes → t ≤ i → At i r l.history → old.first + k ≡ i → slice_get new.outcomes k ≡ Some (Some (outcome_of (effect_at store_meaning l.catalogue l.history i r.op)))
+    (k i : ℕ) (r : Record) → k < length old.outcomes → t ≤ i → At i r l.history → old.first + k ≡ i
+    → (o : Outcome) × (slice_get new.outcomes k ≡ Some (Some o)) × IsAnswered l.catalogue r.op (maps_after store_meaning l.catalogue l.history i) o
 
 -- the replica was brought up to the whole history that the session k knew, and all that is completed
 pub record HasCaughtUp (k after : SessionKnown) (v w : Value) (old new : RepliesView) : Type 0 where

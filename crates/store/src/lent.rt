@@ -1,99 +1,88 @@
-// What a session does with the values that are lent to it. No call here takes a lock or memory.
+//! What a session does with the log and its node's replica while both are lent to it: each call is a step of these two. No call
+//! here takes a lock or memory.
 
-ghost use Rattle.std.specs.Prelude.{◌≡◌, ◌↔◌, ◌≤◌, IsTrue, IfOk, OnErr};
-ghost use Rattle.verifier.specs.declared.refusal.Mode.TheVariants.{Read};
-ghost use Rattle.store.specs.Shelving.{IsLog};
-ghost use Rattle.store.specs.Refusals.{early_refusal};
-ghost use Rattle.store.specs.Lent.{IsReplica, tail_in, IsAppended, IsAtLimit, CanCopy, HasCopied, CanReplay, HasReplayed, IsReplicaOf, reply_on};
-ghost use Rattle.std.specs.Prelude.{None};
+ghost use Rattle.std.specs.Prelude.{◌≡◌, ◌↔◌, ◌≤◌, length, min, IfOk, IsErr};
+ghost use Rattle.maps.specs.Maps.{shapes_of};
+ghost use Rattle.oplog.specs.declared.configuration.TheConstants.{MAX_LIMIT};
+ghost use Rattle.oplog.specs.Logs.{tail_of, left_of};
+ghost use Rattle.replica.specs.Replaying.{KeepsOutcomes};
+ghost use Rattle.store.specs.Lent.{appended, copied, replayed, reclaimed, rebased, CanAppend, CanCopy, CanFollow, CanReplay, CanReclaim, CanRebase};
 
-use crate::values::Value;
+use crate::values::NodeReplica;
 use loader::Catalogue;
-use oplog::{Ended, Record};
-use readpath::{ReadAnswer, answer, ready};
+use oplog::{Appended, Ended, LogState, Record};
 use replica::Replies;
 
-// Appends a record, and answers its place in the history.
-pub(crate) fn append_one(value: &mut Value, next: Record) -> Result<u64, Ended>
-    requires log { IsLog value.old }
-    ensures appended { IfOk result (λ i. IsAppended value.old next i value.new) }
-    ensures ended { OnErr result (IsAtLimit value.old × (value.new ≡ value.old)) }
+/// Appends as many records of a batch, from its front, as the history may still have, and copies into the node's hand what its
+/// replica has still to apply.
+///
+/// # Errors
+///
+/// L1 where the history has all its records. The hand is filled then too.
+pub fn append(
+    log: &mut LogState,
+    node: &mut NodeReplica,
+    batch: &[Record],
+) -> Result<Appended, Ended>
+    requires can { CanAppend batch.now log.old node.old }
+    ensures log { log.new ≡ appended batch.now log.old }
+    ensures node { node.new ≡ copied log.new node.old }
+    ensures first { IfOk result (λ a. a.first ≡ tail_of log.old) }
+    ensures count { IfOk result (λ a. a.count ≡ min (length batch.now) (left_of log.old)) }
+    ensures ended { IsErr result ↔ (tail_of log.old ≡ log.old.limit) }
+    ensures within { tail_of log.new ≤ MAX_LIMIT }
 {
-    match value {
-        Value::Log(log) => {
-            let index = log.tail();
-            match log.append(&[next]) {
-                Ok(_) => Ok(index),
-                Err(ended) => Err(ended),
-            }
-        }
-        Value::Replica(_) => unreachable!(),
-    }
+    let appended = log.append(batch);
+    copy(log, node);
+    appended
 }
 
-// Copies the records that the replica has still to apply into its hand.
-pub(crate) fn copy_on(log: &Value, node: &mut Value)
+/// Copies into the node's hand what its replica has still to apply.
+pub fn copy(log: &LogState, node: &mut NodeReplica)
     requires can { CanCopy log.now node.old }
-    ensures copied { HasCopied log.now node.old node.new }
+    ensures node { node.new ≡ copied log.now node.old }
+    ensures within { tail_of log.now ≤ MAX_LIMIT }
 {
-    match (log, node) {
-        (Value::Log(log), Value::Replica(node)) => {
-            let _ = log.copy_from(node.replica.tail(), &mut node.hand);
-        }
-        _ => unreachable!(),
-    }
+    let _ = log.copy_from(node.replica.tail(), &mut node.hand);
 }
 
-// Applies the records in the hand, and keeps their outcomes.
-pub(crate) fn replay_node(node: &mut Value, catalogue: &Catalogue, replies: &mut Replies)
+/// Runs the records in the node's hand on its replica, and keeps their outcomes.
+pub fn replay(node: &mut NodeReplica, catalogue: &Catalogue, replies: &mut Replies)
     requires can { CanReplay catalogue.now node.old }
-    ensures replayed { HasReplayed catalogue.now node.old node.new replies.old replies.new }
+    ensures node { node.new ≡ replayed catalogue.now node.old }
+    ensures shapes { shapes_of node.new.replica.maps ≡ shapes_of node.old.replica.maps }
+    ensures replies { KeepsOutcomes catalogue.now node.old.replica.maps node.old.replica.tail node.old.hand.records replies.old replies.new }
 {
-    match node {
-        Value::Replica(node) => {
-            node.replica.replay(&mut node.hand, catalogue, replies);
-        }
-        Value::Log(_) => unreachable!(),
-    }
+    node.replica.replay(&mut node.hand, catalogue, replies);
 }
 
-// How many records the replica has applied.
-pub(crate) fn replica_tail(node: &Value) -> u64
-    requires replica { IsReplica node.now }
-    ensures tail { result ≡ tail_in node.now }
+/// Copies what the node's replica has still to apply, and runs it, all while the log is lent.
+pub fn follow(log: &LogState, node: &mut NodeReplica, catalogue: &Catalogue)
+    requires can { CanFollow catalogue.now log.now node.old }
+    ensures node { node.new ≡ replayed catalogue.now (copied log.now node.old) }
+    ensures shapes { shapes_of node.new.replica.maps ≡ shapes_of node.old.replica.maps }
+    ensures within { tail_of log.now ≤ MAX_LIMIT }
 {
-    match node {
-        Value::Replica(node) => node.replica.tail(),
-        Value::Log(_) => unreachable!(),
-    }
+    copy(log, node);
+    let mut replies = Replies::new(0, 0);
+    replay(node, catalogue, &mut replies);
 }
 
-// Whether the replica has reached a completed tail.
-pub(crate) fn is_ready(node: &Value, done: u64) -> bool
-    requires replica { IsReplica node.now }
-    ensures ready { IsTrue result ↔ (done ≤ tail_in node.now) }
+/// Makes the node's replica the log's base, and drops the records before it. The replica lies above the base that was, and is
+/// completed as far as the log was told.
+pub fn reclaim(log: &mut LogState, node: &NodeReplica)
+    requires can { CanReclaim node.now log.old }
+    ensures log { log.new ≡ reclaimed node.now log.old }
 {
-    match node {
-        Value::Replica(node) => ready(&node.replica, done),
-        Value::Log(_) => unreachable!(),
-    }
+    log.reclaim(node.replica.tail(), node.replica.maps());
 }
 
-// What a read program answers on the replica's maps.
-pub(crate) fn answer_in(
-    node: &mut Value,
-    catalogue: &Catalogue,
-    program: u16,
-    argument: &[u8],
-) -> ReadAnswer
-    requires replica { IsReplicaOf catalogue.now node.old }
-    requires asked { early_refusal catalogue.now Read program argument.now ≡ None }
-    ensures point { result.point ≡ tail_in node.old }
-    ensures reply { result.reply ≡ reply_on catalogue.now (record { program = program; argument = argument.now }) node.old }
-    ensures same { node.new ≡ node.old }
+/// Makes the log's base the node's replica, which lies below it. The node's hand is empty.
+pub fn rebase(log: &LogState, node: &mut NodeReplica)
+    requires can { CanRebase log.now node.old }
+    ensures node { node.new ≡ rebased log.now node.old }
 {
-    match (node, catalogue.program(program)) {
-        (Value::Replica(node), Some(accepted)) => { answer(accepted, &mut node.replica, argument) }
-        _ => unreachable!(),
-    }
+    let base = log.base();
+    node.replica.rebase(base, log.base_maps());
+    node.hand.clear(base);
 }

@@ -3,7 +3,8 @@
 #![tactic(auto)]
 
 mod answers;
-mod lent;
+mod held;
+pub mod lent;
 mod session;
 mod steps;
 mod store;

@@ -1,11 +1,11 @@
 // A session's calls.
 
-ghost use Rattle.std.specs.Prelude.{◌≡◌, ◌≤◌, [], ◌∷◌, length, None, Some, Err, MatchResult};
+ghost use Rattle.std.specs.Prelude.{◌≡◌, ◌≤◌, true, [], ◌∷◌, length, None, Some, Err, MatchResult};
 ghost use Rattle.verifier.specs.declared.refusal.Mode.TheVariants.{Update, Read};
 ghost use Rattle.loader.specs.CatalogueView.{CatalogueView};
 ghost use Rattle.oplog.specs.declared.configuration.Config.{Config};
-ghost use Rattle.progress.specs.Accounts.{Extends};
-ghost use Rattle.replica.specs.StoreMeaning.{IsUpdate};
+ghost use Rattle.progress.specs.Accounts.{Extends, IsWellFormed};
+ghost use Rattle.replica.specs.StoreMeaning.{store_meaning, is_operation};
 ghost use Rattle.store.specs.declared.answers.StoreRefused.{StoreRefused};
 ghost use Rattle.store.specs.declared.answers.StoreRefused.TheVariants.{Ended};
 ghost use Rattle.store.specs.Refusals.{early_refusal};
@@ -17,14 +17,14 @@ use crate::store::Store;
 use crate::values::Value;
 use loader::Catalogue;
 use oplog::{Op, Record};
-use ownlock::seat::Seat;
+use ownlock::Seat;
 use readpath::ReadAnswer;
 use std::marker::Model;
 use std::sync::Wait;
 use verifier::Mode;
 
-/// What a thread updates and reads a store with: one slot of one node. It moves to a thread, and ends in `Store::close`.
-#[derive(Drop)]
+/// What a thread updates and reads a store with: one slot of one node. It moves to a thread, and has no `Drop`: it ends in
+/// `Store::close`.
 pub struct Session {
     seat: Seat<Value>,
     node: u32,
@@ -43,7 +43,12 @@ impl Model for Session {
 }
 
 // Why a program and its argument are refused before anything is done.
-fn refusal(catalogue: &Catalogue, mode: Mode, program: u16, argument: &[u8]) -> Option<StoreRefused>
+pub(crate) fn refusal(
+    catalogue: &Catalogue,
+    mode: Mode,
+    program: u16,
+    argument: &[u8],
+) -> Option<StoreRefused>
     ensures refusal { result ≡ early_refusal catalogue.now mode program argument.now }
     ensures short { result ≡ None → length argument.now ≤ 64 }
 {
@@ -79,7 +84,12 @@ impl Session {
         ensures known { result.sessions ≡ known_of self ∷ [] }
         ensures idle { self.note.pending ≡ None }
     {
-        let Session { seat, .. } = self;
+        let Session {
+            seat,
+            node: _,
+            author: _,
+            answered: _,
+        } = self;
         seat
     }
 
@@ -99,21 +109,25 @@ impl Session {
         requires own { IsOf store.now self.old }
         ensures same { (self.new.shelf ≡ self.old.shelf) × (self.new.session ≡ self.old.session) }
         ensures grown { Extends self.old.progress self.new.progress }
-        ensures early { (r : StoreRefused) → early_refusal store.now.catalogue Update program argument.now ≡ Some r → (result ≡ Err r) × (self.new.note ≡ self.old.note) }
-        ensures answered { early_refusal store.now.catalogue Update program argument.now ≡ None → TellsUpdate self.old self.new (record { program = program; argument = argument.now }) result }
+        ensures well_formed { early_refusal store.now.catalogue Update program argument.now ≡ None → IsWellFormed store_meaning self.new.progress }
+        ensures early { (r : StoreRefused) → early_refusal store.now.catalogue Update program argument.now ≡ Some r → (result ≡ Err r)
+            × (self.new.note ≡ self.old.note) }
+        ensures answered { early_refusal store.now.catalogue Update program argument.now ≡ None
+            → TellsUpdate self.old self.new (record { program = program; argument = argument.now }) result }
     {
         match refusal(store.catalogue(), Mode::Update, program, argument) {
             Some(refused) => Err(refused),
-            None => self.append(rt, store, Op::new(program, argument)),
+            None => self.submit(rt, store, Op::new(program, argument)),
         }
     }
 
     // The operation as the session's next record.
-    fn append<R: Wait>(&mut self, rt: &R, store: &Store, op: Op) -> Result<Answer, StoreRefused>
+    fn submit<R: Wait>(&mut self, rt: &R, store: &Store, op: Op) -> Result<Answer, StoreRefused>
         requires own { IsOf store.now self.old }
-        requires update { IsUpdate store.now.catalogue op }
+        requires update { is_operation Update store.now.catalogue op ≡ true }
         ensures same { (self.new.shelf ≡ self.old.shelf) × (self.new.session ≡ self.old.session) }
         ensures grown { Extends self.old.progress self.new.progress }
+        ensures well_formed { IsWellFormed store_meaning self.new.progress }
         ensures answered { TellsUpdate self.old self.new op result }
     {
         let next = Record {
@@ -154,8 +168,10 @@ impl Session {
         requires own { IsOf store.now self.old }
         ensures same { (self.new.shelf ≡ self.old.shelf) × (self.new.session ≡ self.old.session) × (self.new.note ≡ self.old.note) }
         ensures grown { Extends self.old.progress self.new.progress }
+        ensures well_formed { IsWellFormed store_meaning self.new.progress }
         ensures early { (r : StoreRefused) → early_refusal store.now.catalogue Read program argument.now ≡ Some r → result ≡ Err r }
-        ensures answered { early_refusal store.now.catalogue Read program argument.now ≡ None → TellsRead self.old self.new (record { program = program; argument = argument.now }) result }
+        ensures answered { early_refusal store.now.catalogue Read program argument.now ≡ None
+            → TellsRead self.old self.new (record { program = program; argument = argument.now }) result }
     {
         match refusal(store.catalogue(), Mode::Read, program, argument) {
             Some(refused) => Err(refused),

@@ -4,49 +4,86 @@ ghost use Rattle.std.specs.Prelude.{◌≡◌, ◌+◌, ◌<◌, ◌≤◌, ℕ,
 ghost use Rattle.verifier.specs.declared.refusal.Mode.TheVariants.{Read};
 ghost use Rattle.machine.specs.declared.running.Outcome.{Outcome as TheOutcome};
 ghost use Rattle.ownlock.specs.Seats.{IsSession};
-ghost use Rattle.progress.specs.Accounts.{IsSessionOf};
-ghost use Rattle.progress.specs.Agreement.{replica_place};
+ghost use Rattle.replica.specs.StoreMeaning.{store_meaning};
+ghost use Rattle.progress.specs.Accounts.{IsWellFormed};
 ghost use Rattle.store.specs.Refusals.{early_refusal};
-ghost use Rattle.store.specs.Lent.{tail_in, IsReplica};
+ghost use Rattle.store.specs.Held.{tail_in, IsReplica};
 ghost use Rattle.store.specs.Sessions.{IsUpdated, IsReadBy};
-ghost use Rattle.store.specs.Standing.{SessionKnown, Stands, AgreesIn, HoldsReplica, IsFree, HasRest, IsNext, HasAppended, HasCaughtUp, IsBroughtUp};
+ghost use Rattle.store.specs.Standing.{SessionKnown, Stands, LogIs, FollowsIn, AgreesIn, HoldsLog, HoldsReplica, IsFree, HasRest, IsNext, HasRaised, HasRoom, HasAppended, HasCaughtUp, IsBroughtUp};
 
 use crate::answers::Answer;
-use crate::lent::{answer_in, append_one, copy_on, is_ready, replay_node, replica_tail};
+use crate::held::{
+    answer_in, append, follow, is_full, is_ready, keep_up, reclaim, replay, replica_tail,
+};
 use crate::values::Value;
 use loader::Catalogue;
 use oplog::{Ended, Record};
-use ownlock::seat::Seat;
-use ownlock::shelf::{LEADER, Shelf};
+use ownlock::{LEADER, Seat, Shelf};
 use readpath::ReadAnswer;
 use replica::Replies;
 use std::marker::Brand;
 use std::sync::Wait;
 
-// Takes the log and appends the record, copies what the replica has still to apply into its hand, and puts the log back.
+// Raises the completed tail to the replica's. The session may hold the log meanwhile.
+fn raise_to(shelf: &Shelf<Value>, seat: &mut Seat<Value>, node: &Value)
+    requires own { seat.old.shelf ≡ shelf.now.id }
+    requires known { (k : SessionKnown) × IsSession seat.old k × IsReplica node.now × (tail_in node.now ≤ length k.progress.history) }
+    ensures same { seat.new.shelf ≡ seat.old.shelf }
+    ensures raised { (k : SessionKnown) → IsSession seat.old k → (after : SessionKnown) × IsSession seat.new after × HasRaised k after (tail_in node.now) }
+{
+    shelf.raise(seat, replica_tail(node));
+}
+
+// While the log is held: a replica below its base becomes the base, and a log without room gets the replica as its base, once
+// that has applied everything and all is completed.
+fn make_room(
+    shelf: &Shelf<Value>,
+    seat: &mut Seat<Value>,
+    log: &mut Value,
+    node: &mut Value,
+    catalogue: &Catalogue,
+)
+    requires own { seat.old.shelf ≡ shelf.now.id }
+    requires holds { (k : SessionKnown) × IsSession seat.old k × HoldsLog k × LogIs k.progress log.old × FollowsIn k.progress node.old
+        × IsWellFormed store_meaning k.progress × (k.progress.catalogue ≡ catalogue.now) }
+    ensures same { seat.new.shelf ≡ seat.old.shelf }
+    ensures room { (k : SessionKnown) → IsSession seat.old k → (after : SessionKnown) × IsSession seat.new after × HasRoom k after log.old log.new node.new }
+{
+    keep_up(log, node);
+    if is_full(log) {
+        follow(log, node, catalogue);
+        raise_to(shelf, seat, node);
+        reclaim(log, node);
+    }
+}
+
+// Takes the log, makes room and appends the record, copies what the replica has still to apply into its hand, and puts the log
+// back.
 fn append_and_copy<R: Wait>(
     rt: &R,
     shelf: &Shelf<Value>,
     seat: &mut Seat<Value>,
     node: &mut Value,
+    catalogue: &Catalogue,
     next: Record,
 ) -> Result<u64, Ended>
     requires own { seat.old.shelf ≡ shelf.now.id }
     requires there { 0 < shelf.now.places }
-    requires holds { (k : SessionKnown) × IsSession seat.old k × HoldsReplica k node.old × AgreesIn k.progress node.old × Stands k × IsNext k next }
+    requires holds { (k : SessionKnown) × IsSession seat.old k × HoldsReplica k node.old × AgreesIn k.progress node.old × Stands k
+        × IsNext k next × (k.progress.catalogue ≡ catalogue.now) }
     ensures same { seat.new.shelf ≡ seat.old.shelf }
-    ensures appended { (k : SessionKnown) → IsSession seat.old k → (after : SessionKnown) × IsSession seat.new after × HasAppended k after next result node.new }
+    ensures appended { (k : SessionKnown) → IsSession seat.old k → (after : SessionKnown) × IsSession seat.new after
+        × HasAppended k after next result node.new }
 {
     let mut log = shelf.take(rt, seat, LEADER);
-    let appended = append_one(&mut log.value, next);
-    copy_on(&log.value, node);
+    make_room(shelf, seat, &mut log.value, node, catalogue);
+    let appended = append(&mut log.value, node, next);
     shelf.put::<Brand>(seat, log);
     appended
 }
 
 // Replays the records in the hand, and raises the completed tail to the replica's.
-fn catch_up<R: Wait>(
-    rt: &R,
+fn catch_up(
     shelf: &Shelf<Value>,
     seat: &mut Seat<Value>,
     node: &mut Value,
@@ -54,14 +91,13 @@ fn catch_up<R: Wait>(
     replies: &mut Replies,
 )
     requires own { seat.old.shelf ≡ shelf.now.id }
-    requires there { 0 < shelf.now.places }
-    requires holds { (k : SessionKnown) × (w : Value) × IsSession seat.old k × HoldsReplica k w × HasRest k.progress node.old × Stands k × (k.progress.catalogue ≡ catalogue.now) }
+    requires known { (k : SessionKnown) × IsSession seat.old k × HasRest k.progress node.old × Stands k × (k.progress.catalogue ≡ catalogue.now) }
     ensures same { seat.new.shelf ≡ seat.old.shelf }
-    ensures caught { (k : SessionKnown) → IsSession seat.old k → (after : SessionKnown) × IsSession seat.new after × HasCaughtUp k after node.old node.new replies.old replies.new }
+    ensures caught { (k : SessionKnown) → IsSession seat.old k → (after : SessionKnown) × IsSession seat.new after
+        × HasCaughtUp k after node.old node.new replies.old replies.new }
 {
-    replay_node(node, catalogue, replies);
-    let tail = replica_tail(node);
-    shelf.raise(rt, seat, tail);
+    replay(node, catalogue, replies);
+    raise_to(shelf, seat, node);
 }
 
 // The place of a record that was appended, and 0 for one that was not.
@@ -101,9 +137,9 @@ pub(crate) fn update<R: Wait>(
     ensures updated { (k : SessionKnown) → IsSession seat.old k → (after : SessionKnown) × IsSession seat.new after × IsUpdated k after next.op result }
 {
     let mut node = shelf.take(rt, seat, place);
-    let appended = append_and_copy(rt, shelf, seat, &mut node.value, next);
+    let appended = append_and_copy(rt, shelf, seat, &mut node.value, catalogue, next);
     let mut replies = Replies::new(place_of(&appended), 1);
-    catch_up(rt, shelf, seat, &mut node.value, catalogue, &mut replies);
+    catch_up(shelf, seat, &mut node.value, catalogue, &mut replies);
     shelf.put::<Brand>(seat, node);
     match appended {
         Ok(index) => Ok(Answer {
@@ -114,7 +150,7 @@ pub(crate) fn update<R: Wait>(
     }
 }
 
-// Takes the log, copies and replays while it is held, puts it back, and raises the completed tail to the replica's.
+// Takes the log, brings the replica up to its end while it is held, puts it back, and raises the completed tail to the replica's.
 fn refresh<R: Wait>(
     rt: &R,
     shelf: &Shelf<Value>,
@@ -124,17 +160,17 @@ fn refresh<R: Wait>(
 )
     requires own { seat.old.shelf ≡ shelf.now.id }
     requires there { 0 < shelf.now.places }
-    requires holds { (k : SessionKnown) × IsSession seat.old k × HoldsReplica k node.old × AgreesIn k.progress node.old × Stands k × (k.progress.catalogue ≡ catalogue.now) }
+    requires holds { (k : SessionKnown) × (w : Value) × IsSession seat.old k × HoldsReplica k w × AgreesIn k.progress node.old × Stands k
+        × (k.progress.catalogue ≡ catalogue.now) }
     ensures same { seat.new.shelf ≡ seat.old.shelf }
-    ensures up { (k : SessionKnown) → IsSession seat.old k → (after : SessionKnown) × IsSession seat.new after × IsBroughtUp k after k.progress.completed node.new }
+    ensures up { (k : SessionKnown) → IsSession seat.old k → (after : SessionKnown) × IsSession seat.new after
+        × IsBroughtUp k after k.progress.completed node.new }
 {
     let log = shelf.take(rt, seat, LEADER);
-    copy_on(&log.value, node);
-    let mut replies = Replies::new(0, 0);
-    replay_node(node, catalogue, &mut replies);
+    keep_up(&log.value, node);
+    follow(&log.value, node, catalogue);
     shelf.put::<Brand>(seat, log);
-    let tail = replica_tail(node);
-    shelf.raise(rt, seat, tail);
+    raise_to(shelf, seat, node);
 }
 
 // Runs a read program on the replica at that place of the shelf, once it has reached the tail that is completed now.
@@ -152,9 +188,10 @@ pub(crate) fn query<R: Wait>(
     requires idle { (k : SessionKnown) × IsSession seat.old k × IsFree place k × (k.progress.catalogue ≡ catalogue.now) }
     requires asked { early_refusal catalogue.now Read program argument.now ≡ None }
     ensures same { seat.new.shelf ≡ seat.old.shelf }
-    ensures read { (k : SessionKnown) → IsSession seat.old k → (after : SessionKnown) × IsSession seat.new after × IsReadBy k after (record { program = program; argument = argument.now }) result }
+    ensures read { (k : SessionKnown) → IsSession seat.old k → (after : SessionKnown) × IsSession seat.new after
+        × IsReadBy k after (record { program = program; argument = argument.now }) result }
 {
-    let done = shelf.done(rt, seat);
+    let done = shelf.done(seat);
     let mut node = shelf.take(rt, seat, place);
     bring_up(rt, shelf, seat, &mut node.value, catalogue, done);
     let answer = answer_in(&mut node.value, catalogue, program, argument);
@@ -173,7 +210,8 @@ fn bring_up<R: Wait>(
 )
     requires own { seat.old.shelf ≡ shelf.now.id }
     requires there { 0 < shelf.now.places }
-    requires holds { (k : SessionKnown) × IsSession seat.old k × HoldsReplica k node.old × AgreesIn k.progress node.old × Stands k × (k.progress.catalogue ≡ catalogue.now) × (done ≤ k.progress.completed) }
+    requires holds { (k : SessionKnown) × IsSession seat.old k × HoldsReplica k node.old × AgreesIn k.progress node.old × Stands k
+        × (k.progress.catalogue ≡ catalogue.now) × (done ≤ k.progress.completed) }
     ensures same { seat.new.shelf ≡ seat.old.shelf }
     ensures up { (k : SessionKnown) → IsSession seat.old k → (after : SessionKnown) × IsSession seat.new after × IsBroughtUp k after done node.new }
 {

@@ -2,41 +2,41 @@
 
 ghost use Rattle.std.specs.Prelude.{◌≡◌, ◌≢◌, ◌↔◌, ◌+◌, [], ◌∷◌, length, IsTrue, IfOk, IfErr, MatchResult, option_map, Some, None};
 ghost use Rattle.oplog.specs.declared.configuration.OpenError.TheVariants.{OutOfLimits};
+ghost use Rattle.std.specs.Global.{Box};
 ghost use Rattle.oplog.specs.Logs.{Log};
 ghost use Rattle.store.specs.declared.values.NodeReplica.{NodeReplica as TheNode};
 ghost use Rattle.store.specs.declared.values.Value.TheVariants.{Log as LogPlace, Replica as ReplicaPlace};
-ghost use Rattle.store.specs.Shelving.{sessions_of, opened_values};
+ghost use Rattle.store.specs.Shelving.{sessions_of};
 ghost use Rattle.store.specs.Sessions.{fresh_session};
 ghost use Rattle.store.specs.Opening.{IsOpenable, AreOf, IsClosed};
 
 use crate::session::Session;
-use crate::values::{NodeReplica, Setup, Value};
+use crate::values::{NodeReplica, Setup, Value, shelved_values};
 use loader::Catalogue;
-use oplog::{Config, Hand, LogState, OpenError};
-use ownlock::seat::Seat;
-use ownlock::shelf::Shelf;
+use oplog::{Config, LogState, OpenError};
+use ownlock::{Seat, Shelf};
 use replica::Replica;
-use std::alloc::{AllocError, Global};
+use std::alloc::Global;
 use std::marker::Model;
 
 /// What a closed store leaves.
 #[derive(Drop)]
 pub struct Closed {
-    log: LogState,
-    node: NodeReplica,
+    log: Box<LogState>,
+    node: Box<NodeReplica>,
 }
 
 impl Closed {
     /// The log.
     pub fn log(&self) -> &LogState
-        ensures log { result.now ≡ self.now.log }
+        ensures log { result.now ≡ self.now.log.value }
     {
         &self.log
     }
 
     /// The replica of a node.
     pub fn replica(&self, node: u32) -> Option<&Replica>
-        ensures first { node ≡ 0 → option_map (λ r. r.now) result ≡ Some self.now.node.replica }
+        ensures first { node ≡ 0 → option_map (λ r. r.now) result ≡ Some self.now.node.value.replica }
         ensures others { node ≢ 0 → option_map (λ r. r.now) result ≡ None }
     {
         if node == 0 {
@@ -73,38 +73,13 @@ impl Model for Store {
 fn is_openable(config: &Config) -> bool
     ensures openable { IsTrue result ↔ IsOpenable config.now }
 {
-    config.nodes == 1
-        && config.slots == 1
-        && config.window >= 16
-        && config.window <= 4096
-        && config.limit >= 1
-        && config.limit <= 65_536
-}
-
-// The log and the node's replica, in the order of their places.
-fn open_values(
-    alloc: Global,
-    config: &Config,
-    catalogue: &Catalogue,
-) -> Result<Vec<Option<Value>>, AllocError>
-    requires openable { IsOpenable config.now }
-    ensures values { IfOk result (λ v. v.items ≡ opened_values config.now catalogue.now) }
-{
-    let window = config.window as usize;
-    let limit = config.limit as usize;
-    let mut values = Vec::with_capacity(alloc, 2)?;
-    let log = LogState::open(alloc, catalogue.shapes(), window, limit)?;
-    values.push_reserved(Some(Value::Log(log)));
-    let replica = Replica::open(alloc, catalogue.shapes())?;
-    let hand = Hand::open(alloc, window, limit)?;
-    values.push_reserved(Some(Value::Replica(NodeReplica { replica, hand })));
-    Ok(values)
+    config.nodes == 1 && config.slots == 1 && config.is_within_limits()
 }
 
 // The log that a place of the shelf gave back.
-fn log_in(value: Option<Option<Value>>) -> LogState
-    requires log { (g : Log) × (value ≡ Some (Some (LogPlace g))) }
-    ensures log { (g : Log) → value ≡ Some (Some (LogPlace g)) → result ≡ g }
+fn log_in(value: Option<Option<Value>>) -> Box<LogState>
+    requires log { (g : Box Log) × (value ≡ Some (Some (LogPlace g))) }
+    ensures log { (g : Box Log) → value ≡ Some (Some (LogPlace g)) → result ≡ g }
 {
     match value {
         Some(Some(Value::Log(log))) => log,
@@ -113,9 +88,9 @@ fn log_in(value: Option<Option<Value>>) -> LogState
 }
 
 // The replica that a place of the shelf gave back.
-fn replica_in(value: Option<Option<Value>>) -> NodeReplica
-    requires replica { (n : TheNode) × (value ≡ Some (Some (ReplicaPlace n))) }
-    ensures replica { (n : TheNode) → value ≡ Some (Some (ReplicaPlace n)) → result ≡ n }
+fn replica_in(value: Option<Option<Value>>) -> Box<NodeReplica>
+    requires replica { (n : Box TheNode) × (value ≡ Some (Some (ReplicaPlace n))) }
+    ensures replica { (n : Box TheNode) → value ≡ Some (Some (ReplicaPlace n)) → result ≡ n }
 {
     match value {
         Some(Some(Value::Replica(node))) => node,
@@ -125,7 +100,7 @@ fn replica_in(value: Option<Option<Value>>) -> NodeReplica
 
 impl Store {
     /// A store without an operation, and its sessions: one for each slot of each node, in ascending order. For now it is built
-    /// for one node of one slot, and a limit of 65,536 at most. No later call takes memory.
+    /// for one node of one slot. No later call takes memory.
     ///
     /// # Errors
     ///
@@ -143,7 +118,7 @@ impl Store {
         if !is_openable(&config) {
             return Err(OpenError::OutOfLimits);
         }
-        let Ok(values) = open_values(alloc, &config, &catalogue) else {
+        let Ok(values) = shelved_values(alloc, &config, &catalogue) else {
             return Err(OpenError::NoMemory);
         };
         let Ok(seats) = Vec::with_capacity(alloc, 1) else {
@@ -154,6 +129,7 @@ impl Store {
         };
         let setup = Setup { config, catalogue };
         let Ok((shelf, seat)) = Shelf::open(alloc, values, &setup) else {
+            sessions.destroy_empty();
             return Err(OpenError::NoMemory);
         };
         sessions.push_reserved(Session::first(seat));
@@ -176,7 +152,7 @@ impl Store {
         requires own { AreOf self sessions.items }
         ensures whole { MatchResult result (λ _. length sessions.items ≡ sessions_of self.config) (λ _. length sessions.items ≢ sessions_of self.config) }
         ensures back { IfErr result (λ t. (t.0 ≡ self) × (t.1.items ≡ sessions.items)) }
-        ensures closed { IfOk result (λ r. IsClosed sessions.items r.log r.node.replica) }
+        ensures closed { IfOk result (λ r. IsClosed self sessions.items r.log.value r.node.value.replica) }
     {
         if sessions.len() != 1 {
             return Err((self, sessions));

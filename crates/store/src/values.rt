@@ -1,9 +1,16 @@
 // The values on a store's shelf: the log, and the replica of each node.
 
+ghost use Rattle.std.specs.Prelude.{◌≡◌, IfOk};
+ghost use Rattle.maps.specs.Shapes.{AreShapesOk};
+ghost use Rattle.oplog.specs.Limits.{IsConfig, IsWindow, IsLimit};
+ghost use Rattle.store.specs.Shelving.{IsOpenedLog, IsOpenedReplica, AreOpened};
+
 use loader::Catalogue;
+use maps::Shape;
 use oplog::{Config, Hand, LogState};
-use ownlock::shelved::Shelved;
+use ownlock::Shelved;
 use replica::Replica;
+use std::alloc::{AllocError, Global};
 
 /// What a store is opened with.
 #[derive(Drop)]
@@ -22,11 +29,11 @@ pub struct NodeReplica {
     pub hand: Hand,
 }
 
-/// What a place of the shelf has.
+/// What a place of the shelf has. Each is boxed, so that taking a place moves a pointer.
 #[derive(Drop)]
 pub enum Value {
-    Log(LogState),
-    Replica(NodeReplica),
+    Log(Box<LogState>),
+    Replica(Box<NodeReplica>),
 }
 
 impl Shelved for Value {
@@ -37,8 +44,8 @@ impl Shelved for Value {
     type Setup = Setup;
 
     ghost use Rattle.replica.specs.StoreMeaning.{store_meaning};
-    ghost use Rattle.progress.proofs.StoreLaws.{single_laws_seen, single_completed_laws_seen};
-    ghost use Rattle.store.specs.Shelving.{view_of, IsSized, store_rules, opening_progress, opening_notes, IsLog, done_of, IsRaised};
+    ghost use Rattle.progress.proofs.StoreLaws.{single_laws_seen};
+    ghost use Rattle.store.specs.Shelving.{view_of, IsSized, store_rules, opening_progress, opening_notes};
 
     ghost rules = { store_rules };
 
@@ -46,31 +53,51 @@ impl Shelved for Value {
 
     ghost first_notes = { opening_notes };
 
-    ghost leads = { IsLog };
-
-    ghost completed_of = { done_of };
-
-    ghost is_raised = { IsRaised };
-
-    fn done(&self) -> u64 {
-        match self {
-            Value::Log(log) => log.done(),
-            Value::Replica(_) => unreachable!(),
-        }
-    }
-
-    fn raise_done(&mut self, n: u64) {
-        match self {
-            Value::Log(log) => {
-                if n <= log.tail() {
-                    log.raise_done(n);
-                }
-            }
-            Value::Replica(_) => unreachable!(),
-        }
-    }
-
     ghost laws = { single_laws_seen store_meaning view_of IsSized };
+}
 
-    ghost completed_laws = { single_completed_laws_seen store_meaning view_of IsSized };
+// A new log, as a value of the shelf.
+fn shelved_log(
+    alloc: Global,
+    shapes: &[Shape],
+    window: usize,
+    limit: usize,
+) -> Result<Value, AllocError>
+    requires shapes { AreShapesOk shapes.now }
+    requires window { IsWindow window }
+    requires limit { IsLimit limit }
+    ensures log { IfOk result (λ v. IsOpenedLog shapes.now window limit v) }
+{
+    let log = LogState::open(alloc, shapes, window, limit)?;
+    Ok(Value::Log(Box::new(alloc, log)?))
+}
+
+// A new replica with its empty hand, as a value of the shelf.
+fn shelved_replica(alloc: Global, shapes: &[Shape], window: usize) -> Result<Value, AllocError>
+    requires shapes { AreShapesOk shapes.now }
+    requires window { IsWindow window }
+    ensures replica { IfOk result (λ v. IsOpenedReplica shapes.now window v) }
+{
+    let replica = Replica::open(alloc, shapes)?;
+    let hand = Hand::open(alloc, window)?;
+    Ok(Value::Replica(Box::new(alloc, NodeReplica { replica, hand })?))
+}
+
+// The log and the node's replica, in the order of their places.
+pub(crate) fn shelved_values(
+    alloc: Global,
+    config: &Config,
+    catalogue: &Catalogue,
+) -> Result<Vec<Option<Value>>, AllocError>
+    requires config { IsConfig config.now }
+    ensures values { IfOk result (λ v. AreOpened config.now catalogue.now v.items) }
+{
+    let window = config.window as usize;
+    let shapes = catalogue.shapes();
+    let mut values = Vec::with_capacity(alloc, 2)?;
+    let log = shelved_log(alloc, shapes, window, config.limit as usize)?;
+    values.push_reserved(Some(log));
+    let replica = shelved_replica(alloc, shapes, window)?;
+    values.push_reserved(Some(replica));
+    Ok(values)
 }

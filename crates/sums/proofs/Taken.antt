@@ -3,14 +3,14 @@ use Rattle.std.proofs.Common.{◌≡◌, ℕ, ◌≤◌, List, [], ◌∷◌, le
 use mathlib.Core.Option.{some-ne-none}
 use lib.ListN.{get_elem?}
 use Rattle.ownlock.specs.declared.known.Known.{Known}
-use Rattle.ownlock.specs.Seats.{At, IsNotHeld, without}
-use Rattle.ownlock.specs.Knowledge.{Acquired, Possible}
+use Rattle.ownlock.specs.Seats.{At, without}
+use Rattle.ownlock.specs.Knowledge.{Acquired}
 use Rattle.sums.specs.declared.kinds.Progress.{Progress}
 use Rattle.sums.specs.declared.kinds.Value.{Value}
 use Rattle.sums.specs.declared.kinds.Value.TheVariants.{List as TheList, Sum}
-use Rattle.sums.specs.Sums.{sum_rules, Accounts, AgreesWith, IsList, Follows, moved_progress, items_of, StartsWith}
+use Rattle.sums.specs.Sums.{sum_rules, Accounts, AgreesWith, IsList, IsExtended, Follows, StartsWith}
 use Rattle.sums.specs.Laws.{starts_on}
-use Rattle.sums.proofs.Puts.{Goes, IsSumOf, lists, follows, sum_moves_nothing}
+use Rattle.sums.proofs.Puts.{lists, follows}
 
 abbrev K : Type 0
 K = Known Progress ℕ Value
@@ -54,73 +54,12 @@ module _ (k u : K) (w x : Value) (b : Both k u w x) where
   pub is_list : IsList x
   is_list = lists u.progress b.notes x b.list
 
-  pub may_follow : (y : Value) (more : List ℕ) → Goes x y more → Follows y w
+  pub may_follow : (y : Value) (more : List ℕ) → IsExtended x y more → Follows y w
   may_follow y more goes = follows u.progress b.notes x y w more b.accounts b.list b.sum goes
 
   -- once the list is back, the sum is held
   pub sum_left : (q : ℕ) → q ≡ 0 → At 0 (1, w) (without q u.held)
   sum_left q e = ap (λ (z : ℕ × List (ℕ × Value)). get_elem? (without z.0 z.1) 0) (λ i. (e i, b.held i))
 
-  -- once the sum is back, the list is held
-  pub list_left : (q : ℕ) → q ≡ 1 → At 0 (0, x) (without q u.held)
-  list_left q e = ap (λ (z : ℕ × List (ℕ × Value)). get_elem? (without z.0 z.1) 0) (λ i. (e i, b.held i))
-
   pub nothing_left : (p q : ℕ) → p ≡ 0 → q ≡ 1 → k.held ≡ [] → without q (without p u.held) ≡ []
   nothing_left p q e f idle = ap (λ (z : ℕ × ℕ × List (ℕ × Value)). without z.1 (without z.0 z.2)) (λ i. (e i, f i, b.held i)) ∙ idle
-
-  pub nothing_left_too : (p q : ℕ) → p ≡ 1 → q ≡ 0 → k.held ≡ [] → without q (without p u.held) ≡ []
-  nothing_left_too p q e f idle = ap (λ (z : ℕ × ℕ × List (ℕ × Value)). without z.1 (without z.0 z.2)) (λ i. (e i, f i, b.held i)) ∙ idle
-
-  -- the list still agrees once the sum is back
-  pub list_agrees : (y : Value) (l progress : Progress) → IsSumOf l y → ((notes : List ℕ) × Possible sum_rules u progress notes) → (notes : List ℕ) × Accounts (moved_progress y progress) notes × AgreesWith 0 (moved_progress y progress) notes x
-  list_agrees y l progress is m = (m.0, subst (λ z. Accounts z m.0) (sym (sum_moves_nothing l y progress is)) m.1.2, subst (λ z. AgreesWith 0 z m.0 x) (sym (sum_moves_nothing l y progress is)) (m.1.3 0 (0, x) list_at))
-
--- what k is by then, having taken x at the list's place
-pub record Alone (k u : K) (x : Value) : Type 0 where
-  pub notes : List ℕ
-  pub accounts : Accounts u.progress notes
-  pub list : AgreesWith 0 u.progress notes x
-  pub held : u.held ≡ (0, x) ∷ k.held
-  pub session : u.session ≡ k.session
-  pub note : u.note ≡ k.note
-  pub start : StartsWith k.progress.items u.progress.items
-
-pub alone : (k u : K) (x : Value) → Acquired sum_rules 0 k u x → Alone k u x
-alone k u x one = record {
-  notes = one.3.0;
-  accounts = subst (λ l. Accounts l one.3.0) (sym here) one.3.1.2;
-  list = subst (λ l. AgreesWith 0 l one.3.0 x) (sym here) (one.3.1.3 0 (0, x) (ap (λ l. get_elem? l 0) held));
-  held = held;
-  session = ap (λ (z : K). z.session) one.1;
-  note = ap (λ (z : K). z.note) one.1;
-  start = subst (λ l. StartsWith k.progress.items l.items) (sym here) one.2.0.0;
-}
-  where
-    here : u.progress ≡ one.0
-    here = ap (λ (z : K). z.progress) one.1
-
-    held : u.held ≡ (0, x) ∷ k.held
-    held = ap (λ (z : K). z.held) one.1
-
-module _ (k u : K) (x : Value) (b : Alone k u x) where
-  pub alone_at : At 0 (0, x) u.held
-  alone_at = ap (λ l. get_elem? l 0) b.held
-
-  pub alone_list : IsList x
-  alone_list = lists u.progress b.notes x b.list
-
-  pub none_left : (q : ℕ) → q ≡ 0 → k.held ≡ [] → without q u.held ≡ []
-  none_left q e idle = ap (λ (z : ℕ × List (ℕ × Value)). without z.0 z.1) (λ i. (e i, b.held i)) ∙ idle
-
--- who holds nothing doesn't hold the list
-pub not_held : (held : List (ℕ × Value)) → held ≡ [] → IsNotHeld 0 held
-not_held held idle a u at e = some-ne-none u (sym (subst (λ l. At a u l) idle at))
-
--- so long is the list, once it is back
-pub list_length : (l : Progress) (y : Value) → IsList y → length (moved_progress y l).items ≡ length (items_of y)
-list_length l (TheList y) h = refl
-list_length l (Sum y) h = absurd h
-
--- who knew the list's beginning knew no more numbers
-pub no_longer : (known items : List ℕ) → StartsWith known items → length known ≤ length items
-no_longer known items start = let long = ap length start.1 ∙ length-append known start.0 in omega (arith, long)

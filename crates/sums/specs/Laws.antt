@@ -5,11 +5,11 @@ use Rattle.std.proofs.Math.Nat.{le-max_left, max-le}
 use mathlib.Core.Option as kernel
 use mathlib.Core.Option.{some-injective, some-ne-none}
 use lib.ListN.{get_elem?}
-use Rattle.ownlock.specs.Rules.{Laws, CompletedLaws}
+use Rattle.ownlock.specs.Rules.{Laws}
 use Rattle.sums.specs.declared.kinds.Progress.{Progress}
 use Rattle.sums.specs.declared.kinds.Value.{Value}
 use Rattle.sums.specs.declared.kinds.Value.TheVariants.{List as TheList, Sum}
-use Rattle.sums.specs.Sums.{total, StartsWith, AgreesWith, Accounts, Moves, IsList, completed_of, IsRaised, sum_rules}
+use Rattle.sums.specs.Sums.{total, StartsWith, AgreesWith, Accounts, Moves, raised, sum_rules}
 
 sum_set : (ns : List ℕ) (i n k : ℕ) → get_elem? ns i ≡ kernel.some n → total (set ns i (n + k)) ≡ total ns + k
 sum_set [] i n k e = absurd (some-ne-none n (sym e))
@@ -31,10 +31,14 @@ pub starts_on : (a b c : List ℕ) → StartsWith a b → StartsWith b c → Sta
 starts_on a b c f g = (f.0 ++ g.0, g.1 ∙ (ap (λ l. l ++ g.0) f.1 ∙ append_assoc a f.0 g.0))
 
 others_agree : (p q : ℕ) (l l' : Progress) (n n' : ℕ) (ns ns' : List ℕ) (y : Value) → q ≢ p → l.completed ≤ length l.items → Moves p l n l' n' → AgreesWith q l ns y → AgreesWith q l' ns' y
-others_agree p q l l' n n' ns ns' (TheList x) ne low m a = let same = (m.5 (λ e. ne (a.0 ∙ sym e))).0 in (a.0, a.1 ∙ ap (λ (z : Progress). z.items) (sym same), a.2 ∙ ap (λ (z : Progress). z.completed) (sym same))
+others_agree p q l l' n n' ns ns' (TheList x) ne low m a = let same = (m.4 (λ e. ne (a.0 ∙ sym e))).0 in (a.0, a.1 ∙ ap (λ (z : Progress). z.items) (sym same))
 others_agree p q l l' n n' ns ns' (Sum x) ne low m a =
-    let small = a.1 in let up = m.2 in
+    let small = a.1 in let as_before = m.2 in
     (a.0, omega arith, a.2 ∙ ap (λ z. total z % 2 ^ 64) (sym (ap (take x.tail) m.1 ∙ take_front x.tail l.items m.0 (omega arith))))
+
+raised_agrees : (p : ℕ) (x : Value) (l : Progress) (n : ℕ) (ns : List ℕ) → AgreesWith p l ns x → AgreesWith p (raised l n) ns x
+raised_agrees p (TheList x) l n ns a = a
+raised_agrees p (Sum x) l n ns a = let small = a.1 in (a.0, omega (arith, small, le-max_left l.completed n), a.2)
 
 pub sum_laws : Laws sum_rules
 sum_laws = record {
@@ -45,39 +49,18 @@ sum_laws = record {
   allows_none = λ _ _. tt;
   allows_part = λ _ _ _ _ _ _. tt;
   allows_on = λ _ _ _ _ _ _. tt;
-  moves_extend = λ p i x l l' n n' m. ((m.0, m.1), m.2);
-  moves_same = λ p i x l l' n n' ne m. ap (λ (z : Progress). z.items) (sym (m.5 ne).0);
+  moves_extend = λ p i x l l' n n' m. ((m.0, m.1), (let as_before = m.2 in omega arith));
+  moves_same = λ p i x l l' n n' ne m. ap (λ (z : Progress). z.items) (sym (m.4 ne).0);
   moves_account = λ p i x l l' n n' ns w e a m.
-      let count = ap (λ z. total (set ns i z)) m.4 ∙ sum_set ns i n (length m.0) e in
-      let long = ap length m.1 ∙ length-append l.items m.0 in let was = w.0 in
-      (omega (arith, count, long, was), m.3);
+      let count = ap (λ z. total (set ns i z)) m.3 ∙ sum_set ns i n (length m.0) e in
+      let long = ap length m.1 ∙ length-append l.items m.0 in let was = w.0 in let low = w.1 in let as_before = m.2 in
+      (omega (arith, count, long, was), omega (arith, long, low, as_before));
   moves_others = λ p i x l l' n n' ns w e a m q y ne b. others_agree p q l l' n n' ns (set ns i n') y ne w.1 m b;
-}
-
-lists : (l : Progress) (ns : List ℕ) (x : Value) → AgreesWith 0 l ns x → IsList x
-lists l ns (TheList x) a = tt
-lists l ns (Sum x) a = a.0 refl
-
-completed_agrees : (l : Progress) (ns : List ℕ) (x : Value) → AgreesWith 0 l ns x → completed_of x ≡ l.completed
-completed_agrees l ns (TheList x) a = a.2
-completed_agrees l ns (Sum x) a = absurd (a.0 refl)
-
-raised_agrees : (x y : Value) (l : Progress) (m : ℕ) (ns : List ℕ) (n : ℕ) → Accounts l ns → AgreesWith 0 l ns x → n ≤ length l.items → IsRaised x n y
-    → Moves 0 l m (record { items = l.items; completed = max l.completed n }) m × AgreesWith 0 (record { items = l.items; completed = max l.completed n }) ns y
-raised_agrees (TheList x) (TheList y) l m ns n whole a far r =
-    let low = whole.1 in (
-      (([], sym (append-nil l.items), le-max_left l.completed n, max-le low far, omega arith, (λ ne. absurd (ne refl)))),
-      (refl, r.0 ∙ a.1, r.1 ∙ ap (λ z. max z n) a.2),
-    )
-raised_agrees (TheList x) (Sum y) l m ns n whole a far r = absurd r
-raised_agrees (Sum x) y l m ns n whole a far r = absurd (a.0 refl)
-
-pub sum_completed_laws : CompletedLaws sum_rules IsList completed_of IsRaised
-sum_completed_laws = record {
-  leader_leads = lists;
-  completed_is = completed_agrees;
-  with_completed_is = λ l n. refl;
-  length_on = λ a b n g far. let long = ap length g.0.1 ∙ length-append a.items g.0.0 in omega (arith, long, far);
-  stays = λ p i x l n ns w a. ([], sym (append-nil l.items), omega arith, w.1, omega arith, (λ _. (refl, refl)));
-  rises = λ i x y l m ns n w a far r. raised_agrees x y l m ns n w a far r;
+  moves_completed = λ p i x l l' n n' m. m.2;
+  raised_completed = λ l n. refl;
+  raised_extends = λ l n. (([], sym (append-nil l.items)), le-max_left l.completed n);
+  raised_same = λ l n. refl;
+  raised_account = λ l n ns far w. (w.0, max-le w.1 far);
+  raised_agrees = λ p x l n ns far w a. raised_agrees p x l n ns a;
+  reaches_on = λ a b n g far. let long = ap length g.0.1 ∙ length-append a.items g.0.0 in omega (arith, long, far);
 }

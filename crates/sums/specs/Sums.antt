@@ -1,5 +1,5 @@
 -- How a list, the sum that follows it, and the notes of who appends fit together.
-use Rattle.std.specs.Prelude.{◌≡◌, ◌≢◌, ℕ, ◌+◌, ◌-◌, ◌%◌, ◌^◌, ◌≤◌, max, List, [], ◌∷◌, ◌++◌, length, take}
+use Rattle.std.specs.Prelude.{◌≡◌, ◌≢◌, ℕ, ◌+◌, ◌-◌, ◌%◌, ◌^◌, ◌<◌, ◌≤◌, max, List, [], ◌∷◌, ◌++◌, length, take}
 use Rattle.ownlock.specs.declared.known.Known.{Known}
 use Rattle.ownlock.specs.Seats.{SeatView, IsSession}
 use Rattle.ownlock.specs.Rules.{Rules}
@@ -19,12 +19,8 @@ empty_progress = record { items = []; completed = 0 }
 abbrev pub StartsWith : List ℕ → List ℕ → Type 0
 StartsWith xs ys = (more : List ℕ) × (ys ≡ xs ++ more)
 
--- the item stands among these, behind all that was known
-abbrev pub HasBehind : List ℕ → ℕ → List ℕ → Type 0
-HasBehind known item items = (before more : List ℕ) × StartsWith known before × (items ≡ before ++ item ∷ more)
-
 abbrev pub AgreesWith : ℕ → Progress → List ℕ → Value → Type 0
-AgreesWith p l notes (TheList x) = (p ≡ 0) × (x.items.items ≡ l.items) × (x.completed ≡ l.completed)
+AgreesWith p l notes (TheList x) = (p ≡ 0) × (x.items.items ≡ l.items)
 AgreesWith p l notes (Sum x) = (p ≢ 0) × (x.tail ≤ l.completed) × (x.sum ≡ total (take x.tail l.items) % 2 ^ 64)
 
 -- the list is as long as all notes together
@@ -33,22 +29,11 @@ Accounts l notes = (length l.items ≡ total notes) × (l.completed ≤ length l
 
 -- who holds the list appends to it, and counts that; who holds the sum changes neither progress nor note
 abbrev pub Moves : ℕ → Progress → ℕ → Progress → ℕ → Type 0
-Moves p l n l' n' =
-    (more : List ℕ) × (l'.items ≡ l.items ++ more) × (l.completed ≤ l'.completed) × (l'.completed ≤ length l'.items) × (n' ≡ n + length more)
-    × (p ≢ 0 → (l' ≡ l) × (n' ≡ n))
+Moves p l n l' n' = (more : List ℕ) × (l'.items ≡ l.items ++ more) × (l'.completed ≡ l.completed) × (n' ≡ n + length more) × (p ≢ 0 → (l' ≡ l) × (n' ≡ n))
 
-abbrev pub IsList : Value → Type 0
-IsList (TheList x) = Unit {0}
-IsList (Sum x) = ⊥
-
-abbrev pub completed_of : Value → ℕ
-completed_of (TheList x) = x.completed
-completed_of (Sum x) = 0
-
--- the same list, whose completed tail is the greater of the two
-abbrev pub IsRaised : Value → ℕ → Value → Type 0
-IsRaised (TheList x) n (TheList y) = (y.items.items ≡ x.items.items) × (y.completed ≡ max x.completed n)
-IsRaised _ n _ = ⊥
+-- the progress, all of whose first n numbers are completed
+abbrev pub raised : Progress → ℕ → Progress
+raised l n = record { items = l.items; completed = max l.completed n }
 
 abbrev pub sum_rules : Rules Progress ℕ Value
 sum_rules = record {
@@ -59,13 +44,21 @@ sum_rules = record {
   Allows = λ _ _ _. Unit {0};
   Moves = λ p _ _ l n l' n'. Moves p l n l' n';
   completed = λ l. l.completed;
-  with_completed = λ l n. record { items = l.items; completed = n };
-  HasLength = λ l n. n ≤ length l.items;
+  raised = raised;
+  Reaches = λ l n. n ≤ length l.items;
 }
+
+abbrev pub IsList : Value → Type 0
+IsList (TheList x) = Unit {0}
+IsList (Sum x) = ⊥
+
+abbrev pub IsSum : Value → Type 0
+IsSum (TheList x) = ⊥
+IsSum (Sum x) = Unit {0}
 
 -- the progress once this value is back
 abbrev pub moved_progress : Value → Progress → Progress
-moved_progress (TheList x) l = record { items = x.items.items; completed = x.completed }
+moved_progress (TheList x) l = record { items = x.items.items; completed = l.completed }
 moved_progress (Sum x) l = l
 
 abbrev pub items_of : Value → List ℕ
@@ -80,34 +73,29 @@ known_items (k ∷ ks) = k.progress.items
 abbrev pub counted : List (Known Progress ℕ Value) → Value → ℕ → ℕ
 counted known value n = n + (length (items_of value) - length (known_items known))
 
--- the list, with more behind it, all of it completed
+-- the list, with more behind it
 abbrev pub IsExtended : Value → Value → List ℕ → Type 0
-IsExtended (TheList x) (TheList y) more = (y.items.items ≡ x.items.items ++ more) × (y.completed ≡ length y.items.items)
+IsExtended (TheList x) (TheList y) more = y.items.items ≡ x.items.items ++ more
 IsExtended _ _ more = ⊥
 
--- the list, with more behind it, and the same completed tail
-abbrev pub IsAppended : Value → Value → List ℕ → Type 0
-IsAppended (TheList x) (TheList y) more = (y.items.items ≡ x.items.items ++ more) × (y.completed ≡ x.completed)
-IsAppended _ _ more = ⊥
-
--- the same list, with the same completed tail
-abbrev pub IsSameList : Value → Value → Type 0
-IsSameList (TheList x) (TheList y) = (y.items.items ≡ x.items.items) × (y.completed ≡ x.completed)
-IsSameList _ _ = ⊥
-
--- the second is the sum of some of the completed numbers of the first
+-- the second is the sum of the first numbers of the list
 abbrev pub Follows : Value → Value → Type 0
-Follows (TheList x) (Sum y) = (y.tail ≤ x.completed) × (x.completed ≤ length x.items.items) × (y.sum ≡ total (take y.tail x.items.items) % 2 ^ 64)
+Follows (TheList x) (Sum y) = (y.tail ≤ length x.items.items) × (y.sum ≡ total (take y.tail x.items.items) % 2 ^ 64)
 Follows _ _ = ⊥
 
--- the second is the sum of all completed numbers of the first
+-- the second is the sum of all numbers of the list
 abbrev pub CaughtUp : Value → Value → Type 0
-CaughtUp (TheList x) (Sum y) = (y.tail ≡ x.completed) × (y.sum ≡ total (take x.completed x.items.items) % 2 ^ 64)
+CaughtUp (TheList x) (Sum y) = (y.tail ≡ length x.items.items) × (y.sum ≡ total x.items.items % 2 ^ 64)
 CaughtUp _ _ = ⊥
 
-abbrev pub sum_of : Value → ℕ
-sum_of (TheList x) = 0
-sum_of (Sum x) = x.sum
+-- the tail and the sum of the follower
+abbrev pub IsTold : Value → ℕ → ℕ → Type 0
+IsTold (TheList x) tail sum = ⊥
+IsTold (Sum x) tail sum = (tail ≡ x.tail) × (sum ≡ x.sum)
+
+-- the item is in the list, behind all that was known, and completed, and this is the sum of the numbers up to it
+abbrev pub IsAppended : List ℕ → ℕ → Progress → ℕ → Type 0
+IsAppended known item l sum = (before more : List ℕ) × StartsWith known before × (l.items ≡ before ++ item ∷ more) × (length before < l.completed) × (sum ≡ total (before ++ item ∷ []) % 2 ^ 64)
 
 -- the seat is one session, which holds no place
 abbrev pub IsIdle : SeatView Progress ℕ Value → Type 0

@@ -3,10 +3,9 @@ ghost use Rattle.std.specs.Prelude.{◌≡◌, ◌+◌, ◌*◌, ◌<◌, ◌≤
 ghost use Rattle.ownlock.specs.Seats.{IsSession};
 ghost use Rattle.sums.specs.Sums.{Counted, fresh, total};
 
-use crate::append::append_many;
+use crate::appending::append_many;
 use crate::kinds::{Numbers, RunningSum, Value};
-use ownlock::seat::Seat;
-use ownlock::shelf::Shelf;
+use ownlock::{Seat, Shelf};
 use std::alloc::{AllocError, Global};
 use std::sync::Wait;
 use std::thread;
@@ -28,7 +27,6 @@ pub fn open_two(alloc: Global) -> Result<(Shelf<Value>, Seat<Value>, Seat<Value>
     let mut values = Vec::with_capacity(alloc, 2)?;
     values.push_reserved(Some(Value::List(Numbers {
         items: Vec::new(alloc),
-        completed: 0,
     })));
     values.push_reserved(Some(Value::Sum(RunningSum { tail: 0, sum: 0 })));
     let Ok((shelf, mut other)) = Shelf::open(alloc, values, &2) else {
@@ -51,7 +49,7 @@ pub fn close_two(
     requires one { Counted one (fresh 0) count }
     requires other { Counted other (fresh 1) count }
     ensures list { IfOk result (λ r. length r.list.items.items ≡ 2 * count) }
-    ensures sum { IfOk result (λ r. (r.sum.tail ≤ r.list.completed) × (r.sum.sum ≡ total (take r.sum.tail r.list.items.items) % 2 ^ 64)) }
+    ensures sum { IfOk result (λ r. (r.sum.tail ≤ length r.list.items.items) × (r.sum.sum ≡ total (take r.sum.tail r.list.items.items) % 2 ^ 64)) }
 {
     let mut seats = Vec::with_capacity(alloc, 2)?;
     seats.push_reserved(one);
@@ -77,7 +75,7 @@ pub fn append_both<R: Threads + Wait + Sync>(
     count: u64,
 ) -> Result<Appended, AllocError>
     ensures list { IfOk result (λ r. length r.list.items.items ≡ 2 * count) }
-    ensures sum { IfOk result (λ r. (r.sum.tail ≤ r.list.completed) × (r.sum.sum ≡ total (take r.sum.tail r.list.items.items) % 2 ^ 64)) }
+    ensures sum { IfOk result (λ r. (r.sum.tail ≤ length r.list.items.items) × (r.sum.sum ≡ total (take r.sum.tail r.list.items.items) % 2 ^ 64)) }
 {
     let (shelf, one, other) = open_two(alloc)?;
     let lent = &shelf;

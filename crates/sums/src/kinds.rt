@@ -1,5 +1,5 @@
-// The leader is a list with its completed tail. The follower is a tail, and the wrapping sum of the numbers before it.
-use ownlock::shelved::Shelved;
+// The leader is a list. The follower is a tail, and the wrapping sum of the numbers before it.
+use ownlock::Shelved;
 use std::collections::LinkedList;
 
 /// What all sessions see grow. It stands in contracts alone.
@@ -8,11 +8,10 @@ pub struct Progress {
     pub completed: u64,
 }
 
-/// The leader: numbers in the order in which they were appended, and how many of them are completed.
+/// The leader: numbers in the order in which they were appended.
 #[derive(Drop)]
 pub struct Numbers {
     pub items: Vec<u64>,
-    pub completed: u64,
 }
 
 /// The follower: the sum, modulo 2^64, of the first `tail` numbers.
@@ -38,8 +37,8 @@ impl Shelved for Value {
     type Setup = u64;
 
     ghost use Rattle.std.specs.Prelude.{replicate};
-    ghost use Rattle.sums.specs.Sums.{sum_rules, empty_progress, IsList, completed_of, IsRaised};
-    ghost use Rattle.sums.specs.Laws.{sum_laws, sum_completed_laws};
+    ghost use Rattle.sums.specs.Sums.{sum_rules, empty_progress};
+    ghost use Rattle.sums.specs.Laws.{sum_laws};
 
     ghost rules = { sum_rules };
 
@@ -47,31 +46,5 @@ impl Shelved for Value {
 
     ghost first_notes = { λ sessions. replicate sessions 0 };
 
-    ghost leads = { IsList };
-
-    ghost completed_of = { completed_of };
-
-    ghost is_raised = { IsRaised };
-
-    fn done(&self) -> u64 {
-        match self {
-            Value::List(list) => list.completed,
-            Value::Sum(_) => unreachable!(),
-        }
-    }
-
-    fn raise_done(&mut self, n: u64) {
-        match self {
-            Value::List(list) => {
-                if list.completed < n {
-                    list.completed = n;
-                }
-            }
-            Value::Sum(_) => unreachable!(),
-        }
-    }
-
     ghost laws = { sum_laws };
-
-    ghost completed_laws = { sum_completed_laws };
 }

@@ -1,22 +1,23 @@
-// The follower replays what is completed and what it hasn't seen.
+// The follower replays what it hasn't seen.
 ghost use Rattle.std.specs.Prelude.{◌≡◌, ◌%◌, ◌^◌, ◌≤◌, length, take};
-ghost use Rattle.sums.specs.Sums.{total, Follows, CaughtUp, sum_of};
+ghost use Rattle.sums.specs.Sums.{total, Follows, CaughtUp, IsSum, IsTold};
 
 use crate::kinds::{Numbers, RunningSum, Value};
 
 fn replay(sum: &mut RunningSum, list: &Numbers)
-    requires tail { (sum.old.tail ≤ list.now.completed) × (list.now.completed ≤ length list.now.items.items) }
+    requires tail { sum.old.tail ≤ length list.now.items.items }
     requires sum { sum.old.sum ≡ total (take sum.old.tail list.now.items.items) % 2 ^ 64 }
-    ensures tail { sum.new.tail ≡ list.now.completed }
-    ensures sum { sum.new.sum ≡ total (take list.now.completed list.now.items.items) % 2 ^ 64 }
+    ensures tail { sum.new.tail ≡ length list.now.items.items }
+    ensures sum { sum.new.sum ≡ total list.now.items.items % 2 ^ 64 }
 {
-    for index in sum.tail..list.completed {
+    let length = list.items.len() as u64;
+    for index in sum.tail..length {
         sum.sum = sum.sum.wrapping_add(list.items[index as usize]);
     }
-    sum.tail = list.completed;
+    sum.tail = length;
 }
 
-/// The follower's tail becomes the leader's completed tail.
+/// The follower takes in all numbers of the list.
 pub fn catch_up(follower: &mut Value, leader: &Value)
     requires { Follows leader.now follower.old }
     ensures { CaughtUp leader.now follower.new }
@@ -27,12 +28,13 @@ pub fn catch_up(follower: &mut Value, leader: &Value)
     }
 }
 
-/// The sum that the follower has.
-pub fn sum_in(follower: &Value) -> u64
-    ensures { result ≡ sum_of follower.now }
+/// How many numbers the follower has taken in, and their sum.
+pub fn tail_and_sum(follower: &Value) -> (u64, u64)
+    requires { IsSum follower.now }
+    ensures { IsTold follower.now result.0 result.1 }
 {
     match follower {
-        Value::List(_) => 0,
-        Value::Sum(sum) => sum.sum,
+        Value::List(_) => unreachable!(),
+        Value::Sum(sum) => (sum.tail, sum.sum),
     }
 }

@@ -1,14 +1,8 @@
-use Rattle.progress.proofs.StoreLaws.{desk_laws_seen, desk_completed_laws_seen, single_laws_seen, single_completed_laws_seen}
+use Rattle.progress.proofs.StoreLaws.{desk_laws_seen, single_laws_seen}
 use Rattle.progress.proofs.law.seen_laws.Goals as goal
 
 pub returns-clause-desk : goal.returns-clause-desk
 returns-clause-desk g c = desk_laws_seen g.S.Viewed.meaning g.S.Viewed.view g.S.Viewed.is_sized
 
-pub returns-clause-desk_completed : goal.returns-clause-desk_completed
-returns-clause-desk_completed g c = desk_completed_laws_seen g.S.Viewed.meaning g.S.Viewed.view g.S.Viewed.is_sized
-
 pub returns-clause-single : goal.returns-clause-single
 returns-clause-single g c = single_laws_seen g.S.Viewed.meaning g.S.Viewed.view g.S.Viewed.is_sized
-
-pub returns-clause-single_completed : goal.returns-clause-single_completed
-returns-clause-single_completed g c = single_completed_laws_seen g.S.Viewed.meaning g.S.Viewed.view g.S.Viewed.is_sized

@@ -1,12 +1,9 @@
-use Rattle.progress.proofs.Alone.{single_laws, single_completed_laws}
+use Rattle.progress.proofs.Alone.{single_laws}
 use Rattle.progress.proofs.Kept.{single_keeps}
 use Rattle.progress.proofs.law.single_laws.Goals as goal
 
 pub returns-clause-laws : goal.returns-clause-laws
 returns-clause-laws g c = single_laws g.E.Effects.meaning
-
-pub returns-clause-completed : goal.returns-clause-completed
-returns-clause-completed g c = single_completed_laws g.E.Effects.meaning
 
 pub returns-clause-append : goal.returns-clause-append
 returns-clause-append g c = single_keeps g.E.Effects.meaning

@@ -1,6 +1,10 @@
+use Rattle.std.proofs.Common.{sym, ap}
+use Rattle.std.specs.Prelude.{option_map}
 use Rattle.maps.specs.MapSets.{maps_of}
+use Rattle.oplog.specs.History.{left_by}
+use Rattle.replica.specs.StoreMeaning.{as_update}
 use Rattle.replica.proofs.Afters.{after_one_more}
-use Rattle.replica.proofs.Kept.{keeps_one_more}
+use Rattle.replica.proofs.Kept.{keeps_one_more, is_answered, leaves}
 use Rattle.replica.proofs.operations.run_each.Goals as goal
 
 pub loop-k-preserved : goal.loop-k-preserved
@@ -8,9 +12,12 @@ loop-k-preserved c = record {
   shapes = c.run_one-outcome.ensures.shapes;
   maps =
       after_one_more c.args.catalogue.now (maps_of c.args.maps.now) (maps_of c.loop-k.maps) (maps_of c.run_one-outcome.new.maps) c.args.hand.now.records c.loop-k.k
-      c.record-record.result.now c.record-record.ensures.record c.loop-k.invariant.maps c.run_one-outcome.ensures.maps;
+      c.record-record.result.now c.record-record.ensures.record c.loop-k.invariant.maps
+      (leaves c.args.catalogue.now c.record-record.result.now.op (maps_of c.loop-k.maps) (maps_of c.run_one-outcome.new.maps) c.run_one-outcome.result c.run_one-outcome.ensures.run);
   kept =
       keeps_one_more c.args.catalogue.now (maps_of c.args.maps.now) (maps_of c.loop-k.maps) c.args.hand.now.begin c.begin-first.result c.args.hand.now.records
       c.args.replies.now c.loop-k.replies c.keep.new.self c.loop-k.k c.record-record.result.now c.run_one-outcome.result
-      c.loop-k.invariant.kept c.record-record.ensures.record c.loop-k.invariant.maps c.run_one-outcome.ensures.outcome c.begin-first.ensures.begin c.keep.ensures.kept;
+      c.loop-k.invariant.kept c.record-record.ensures.record c.loop-k.invariant.maps
+      (is_answered c.args.catalogue.now c.record-record.result.now.op (maps_of c.loop-k.maps) (maps_of c.run_one-outcome.new.maps) c.run_one-outcome.result c.run_one-outcome.ensures.run)
+      c.begin-first.ensures.begin c.keep.ensures.kept;
 }

@@ -9,6 +9,5 @@ loop-index-preserved c =
     let k = c.loop-index.index in
     let x = c.index.result.now in
     let near = c.loop-index-test.true in
-    let far = c.requires.tail.1 in
-    let small : k < length xs = omega (arith, near, far) in
+    let small : k < length xs = omega (arith, near) in
     ap (λ z. (z + x) % 2 ^ 64) c.loop-index.invariant ∙ (mod_add (2 ^ 64) (total (take k xs)) x ∙ ap (λ z. z % 2 ^ 64) (ap (λ z. total (take k xs) + z) c.index.ensures ∙ sym (total_next xs k (k + 1) x refl small)))

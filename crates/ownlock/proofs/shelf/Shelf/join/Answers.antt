@@ -9,7 +9,7 @@ join_seat-requires g c = (
   search rules,
   ap (λ z. z.1) c.into_pass.ensures.sessions ∙ none_out c.args.other.sessions c.requires.idle.1,
   search rules,
-  joins g.V.Shelved.rules g.met.V.Shelved.laws _ _ _ _ _,
+  joins g.V.Shelved.rules g.V.Shelved.laws _ _ _ _ _,
 )
 
 pub invariant_of-seat : goal.invariant_of-seat

@@ -16,7 +16,7 @@ split_seat-pass-requires g c =
       subst
           (λ (v : List (Known g.row.V-Progress.Denot g.row.V-SessionNote.Denot g.row.V.Denot)). Splits (LockInvariant R sessions) c.seat.inside.pass.id v (others_of v) (first_of v))
           (sym (ap (λ z. z.sessions) c.seat.view_is ∙ some.2))
-          (splits R g.met.V.Shelved.laws sessions c.seat.inside.pass.id some.0 some.1),
+          (splits R g.V.Shelved.laws sessions c.seat.inside.pass.id some.0 some.1),
     )
 
 pub invariant_of-seat : goal.invariant_of-seat

@@ -1,5 +1,8 @@
 use Rattle.std.proofs.Common.{rules, sym, ap, subst, length, ◌≡◌, ◌∙◌, ◌++◌, ◌∷◌, [], arith}
 use lib.ListN.{get_elem?}
+use Rattle.std.specs.Global.{Box}
+use Rattle.oplog.specs.Logs.{Log as LogView}
+use Rattle.store.specs.declared.values.NodeReplica.{NodeReplica}
 use Rattle.store.specs.Opening.{IsClosed}
 use Rattle.store.proofs.Closing.{one_item, one_idle, is_pair, is_closed, pop_two, pop_one}
 use Rattle.store.proofs.store.Store.close.Goals as goal
@@ -51,5 +54,5 @@ returns-clause-closed c =
     let l = c.log_in-log.ensures.log p.log (pop_one c.pop-2.new.self.items c.pop-3.new.self.items c.pop-3.result _ c.pop-3.ensures.items (c.pop-3.ensures.variant.1 (omega (arith, left, one_left))) t.1) in
     let n = c.replica_in-node.ensures.replica p.node t.0 in
     let one = one_item c.args.sessions.items c.pop.new.self.items c.in-Some.session (search rules) c.in-Some.ensures.items in
-    subst (λ z. IsClosed c.args.sessions.items z c.replica_in-node.result.replica) (sym l) (subst (λ z. IsClosed c.args.sessions.items p.log z.replica) (sym n)
-    (is_closed c.args.sessions.items c.in-Some.session c.push_reserved.new.self.items c.into_seat.result c.close-values.result.items one (c.push_reserved.ensures.items ∙ ap (λ z. z ++ c.into_seat.result ∷ []) c.self.invariant.3) c.into_seat.ensures.known c.into_seat.ensures.idle two a p))
+    subst (λ (z : Box LogView × Box NodeReplica). IsClosed c.args.self c.args.sessions.items z.0.value z.1.value.replica) (λ i. (sym l i, sym n i))
+    (is_closed c.args.self c.args.sessions.items c.in-Some.session c.push_reserved.new.self.items c.into_seat.result c.close-values.result.items c.requires.own one (c.push_reserved.ensures.items ∙ ap (λ z. z ++ c.into_seat.result ∷ []) c.self.invariant.3) c.into_seat.ensures.known c.into_seat.ensures.idle two a p)

@@ -1,0 +1,83 @@
+// The slots of a desk.
+
+ghost use Rattle.std.specs.Prelude.{◌≡◌};
+ghost use Rattle.combiner.specs.declared.slots.Stage.TheVariants.{Empty};
+ghost use Rattle.combiner.specs.Slots.{slot, refusal_number};
+
+use oplog::Op;
+use thiserror::Error;
+
+/// What became of an update.
+#[derive(Clone, Copy, PartialEq, Eq, Debug)]
+pub enum Reply {
+    /// It stands in the history.
+    Placed {
+        /// Its place there, from 0.
+        index: u64,
+        /// What its program replied.
+        reply: u64,
+    },
+    /// The history had all its records before this one could be added.
+    Ended,
+}
+
+/// Where the request of a slot is.
+#[derive(Clone, Copy)]
+pub enum Stage {
+    /// There is none.
+    Empty,
+    /// It waits for a combiner.
+    Posted(Op),
+    /// A combiner has it in its batch.
+    Claimed,
+    /// It is answered, and the answer waits for whom it is for.
+    Answered(Reply),
+}
+
+/// A slot of a desk: one session's request at a time.
+#[derive(Clone, Copy)]
+pub struct Slot {
+    /// Where its request is.
+    pub stage: Stage,
+    /// How many answers with a place were collected here: the number of its next record among the session's.
+    pub count: u64,
+}
+
+impl Default for Slot {
+    /// A slot without a request, at which no answer was collected.
+    fn default() -> Slot
+        ensures empty { result ≡ slot Empty 0 }
+    {
+        Slot {
+            stage: Stage::Empty,
+            count: 0,
+        }
+    }
+}
+
+/// Why a desk refuses.
+#[derive(Clone, Copy, PartialEq, Eq, Debug, Error)]
+pub enum DeskRefused {
+    /// The slot has a request that isn't collected yet.
+    #[error("B1: the slot has a request already")]
+    SlotBusy,
+    /// No slot has a request without an answer.
+    #[error("B2: no slot has a request without an answer")]
+    NothingPosted,
+    /// A combiner has a batch of this desk.
+    #[error("B3: a combiner is at work")]
+    CombinerAtWork,
+}
+
+impl DeskRefused {
+    /// The number, from 1 to 3, that a refusal shows after its letter B.
+    pub fn number(self) -> u8
+        ensures number { result ≡ refusal_number self }
+    {
+        match self {
+            DeskRefused::SlotBusy => 1,
+            DeskRefused::NothingPosted => 2,
+            DeskRefused::CombinerAtWork => 3,
+        }
+    }
+}

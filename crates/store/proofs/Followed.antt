@@ -1,0 +1,81 @@
+-- A replica that follows the history, the log of a progress, and what the steps on both leave.
+use Rattle.std.proofs.Common.{◌≡◌, ◌+◌, ◌-◌, ◌<◌, ◌≤◌, [], length, drop, sym, ap, ◌∙◌, subst, arith, Some, slice_get, ⊎_elim}
+use Rattle.std.proofs.lemmas.Bool.{cases_lt}
+use Rattle.maps.specs.Maps.{shapes_of}
+use Rattle.loader.specs.CatalogueView.{CatalogueView}
+use Rattle.oplog.specs.Logs.{Log as LogView, HandView, records_from}
+use Rattle.oplog.specs.History.{maps_after}
+use Rattle.replica.specs.StoreMeaning.{store_meaning}
+use Rattle.progress.specs.declared.sessions.Progress.{Progress}
+use Rattle.progress.specs.Accounts.{Extends, IsWellFormed}
+use Rattle.progress.proofs.AlonePuts.{maps_on}
+use Rattle.progress.proofs.Finish.{grown_long}
+use Rattle.store.specs.declared.values.NodeReplica.{NodeReplica}
+use Rattle.store.specs.Lent.{copied, rebased, CanCopy, CanFollow}
+use Rattle.store.specs.Standing.{Follows, HasOthers, IsLogOf}
+use Rattle.store.proofs.Places.{at_of, at_drop, drop_drop}
+
+abbrev L : Type 0
+L = Progress CatalogueView
+
+-- what follows a progress follows each later one
+pub follows_on : (l m : L) (n : NodeReplica) → Extends l m → Follows l n → Follows m n
+follows_on l m n grown f =
+    let low = f.within in let long = grown_long store_meaning l m grown in
+    record {
+      within = omega (arith, low, long);
+      maps = f.maps ∙ maps_on store_meaning l m n.replica.tail grown f.within;
+      shapes = f.shapes ∙ ap (λ (c : CatalogueView). c.shapes) grown.catalogue;
+      window = f.window ∙ ap (λ c. c.window) grown.config;
+      empty = f.empty;
+    }
+
+module _ (l : L) (g : LogView) (n : NodeReplica) (is : IsLogOf l g) (f : Follows l n) where
+  -- the base is a replica too
+  pub follows_rebased : Follows l (rebased g n)
+  follows_rebased = let t = is.tail in record {
+    within = omega (arith, t);
+    maps = is.agrees.base_maps;
+    shapes = is.sizes.2;
+    window = f.window;
+    empty = f.empty;
+  }
+
+  pub kept_up : (m : NodeReplica) → (g.base ≤ n.replica.tail → m ≡ n) → (n.replica.tail < g.base → m ≡ rebased g n) → Follows l m × (g.base ≤ m.replica.tail)
+  kept_up m above below = ⊎_elim
+      (λ lt. let e = below lt in (subst (Follows l) (sym e) follows_rebased, (let t : m.replica.tail ≡ g.base = ap (λ (z : NodeReplica). z.replica.tail) e in omega (arith, t))))
+      (λ le. let e = above le in (subst (Follows l) (sym e) f, (let t : m.replica.tail ≡ n.replica.tail = ap (λ (z : NodeReplica). z.replica.tail) e in omega (arith, t, le))))
+      (cases_lt n.replica.tail g.base)
+
+  module _ (low : g.base ≤ n.replica.tail) where
+    pub can_copy : CanCopy g n
+    can_copy = let t = is.tail in let w = f.within in record { above = low; below = omega (arith, t, w); window = f.window ∙ sym is.sizes.0 }
+
+    pub others : records_from g n.replica.tail ≡ drop n.replica.tail l.history
+    others = ap (drop (n.replica.tail - g.base)) is.agrees.records ∙ drop_drop g.base n.replica.tail l.history low
+
+    pub has_others : length l.history ≤ 1000000 → HasOthers l (copied g n)
+    has_others few = record {
+      within = f.within;
+      maps = f.maps;
+      shapes = f.shapes;
+      few = few;
+      hand = λ i. record { begin = n.replica.tail; records = others i; window = f.window i };
+    }
+
+    pub can_follow : IsWellFormed store_meaning l → CanFollow l.catalogue g n
+    can_follow w = record {
+      copy = can_copy;
+      shapes = f.shapes;
+      updates = λ k r e. w.allowed (n.replica.tail + k) r (at_drop n.replica.tail l.history k r (at_of (drop n.replica.tail l.history) k r (subst (λ z. slice_get z k ≡ Some r) others e)));
+    }
+
+-- the replica has applied the whole history, and its hand rests
+pub record HasAll (l : L) (n : NodeReplica) : Type 0 where
+  pub tail : n.replica.tail ≡ length l.history
+  pub maps : n.replica.maps ≡ maps_after store_meaning l.catalogue l.history n.replica.tail
+  pub shapes : shapes_of n.replica.maps ≡ l.catalogue.shapes
+  pub hand : n.hand ≡ (let rest : HandView = record { begin = n.replica.tail; records = []; window = l.config.window } in rest)
+
+pub all_follows : (l : L) (n : NodeReplica) → HasAll l n → Follows l n
+all_follows l n a = let t = a.tail in record { within = omega (arith, t); maps = a.maps; shapes = a.shapes; window = ap (λ (h : HandView). h.window) a.hand; empty = ap (λ (h : HandView). h.records) a.hand }

@@ -1,0 +1,13 @@
+use Rattle.std.proofs.Common.{ap, refl}
+use lib.ListN.{get_elem?}
+use Rattle.replica.specs.StoreMeaning.{store_meaning}
+use Rattle.progress.proofs.AlonePuts.{same_may_put}
+use Rattle.store.specs.Shelving.{view_of, IsSized}
+use Rattle.store.proofs.Opened.{put_same}
+use Rattle.store.proofs.tests.read_beside.Goals as goal
+
+pub put-requires-clause-may : goal.put-requires-clause-may
+put-requires-clause-may g c =
+    let i = c.requires.one in
+    let t = c.take-log.ensures.taken i.0 i.1 in
+    (t.0, t.2, put_same t.0 _ c.take-log.result.value 0 c.take-log.ensures.same.1 (ap (λ z. get_elem? z.held 0) t.1.1))

@@ -1,0 +1,115 @@
+-- The steps on the log and a node's replica as values that were taken from the shelf.
+use Rattle.std.specs.Prelude.{◌≡◌, ℕ, max, ◌<◌, ◌≤◌, [], ◌∷◌, Some, option_map, Result, MatchResult}
+use Rattle.maps.specs.Maps.{shapes_of}
+use Rattle.loader.specs.CatalogueView.{CatalogueView}
+use Rattle.oplog.specs.Operations.{Operation}
+use Rattle.oplog.specs.declared.records.Record.{Record}
+use Rattle.oplog.specs.declared.answers.Ended.{Ended}
+use Rattle.oplog.specs.declared.configuration.TheConstants.{MAX_LIMIT}
+use Rattle.oplog.specs.Limits.{IsWindow}
+use Rattle.oplog.specs.Logs.{Log as LogView, tail_of, left_of, room_in}
+use Rattle.replica.specs.StoreMeaning.{store_meaning}
+use Rattle.replica.specs.Views.{RepliesView}
+use Rattle.replica.specs.Replaying.{KeepsOutcomes}
+use Rattle.store.specs.declared.values.NodeReplica.{NodeReplica}
+use Rattle.store.specs.declared.values.Value.{Value}
+use Rattle.store.specs.declared.values.Value.TheVariants.{Log, Replica}
+use Rattle.store.specs.Lent.{appended, copied, replayed, reclaimed, rebased, CanAppend, CanFollow, CanReplay}
+
+-- a replica, and how many records it has applied
+abbrev pub IsReplica : Value → Type 0
+IsReplica (Log g) = ⊥
+IsReplica (Replica n) = Unit {0}
+
+abbrev pub tail_in : Value → ℕ
+tail_in (Log g) = 0
+tail_in (Replica n) = n.value.replica.tail
+
+abbrev pub IsLog : Value → Type 0
+IsLog (Log g) = Unit {0}
+IsLog (Replica n) = ⊥
+
+-- the history may have more records, and there is no room for one
+abbrev pub IsFull : Value → Type 0
+IsFull (Log g) = (room_in g.value ≡ 0) × (0 < left_of g.value)
+IsFull (Replica n) = ⊥
+
+-- a window that a log may have
+abbrev pub IsWide : Value → Type 0
+IsWide (Log g) = IsWindow g.value.window
+IsWide (Replica n) = ⊥
+
+-- ---- the replica is no more below the log's base
+
+abbrev pub CanKeepUp : Value → Value → Type 0
+CanKeepUp (Log g) (Replica n) = (n.value.hand.records ≡ []) × (shapes_of g.value.base_maps ≡ shapes_of n.value.replica.maps)
+CanKeepUp _ _ = ⊥
+
+abbrev pub IsKeptUp : Value → Value → Value → Type 0
+IsKeptUp (Log g) (Replica n) (Replica m) =
+    (g.value.base ≤ n.value.replica.tail → m.value ≡ n.value) × (n.value.replica.tail < g.value.base → m.value ≡ rebased g.value n.value)
+IsKeptUp _ _ _ = ⊥
+
+-- ---- the replica applies all that the log has
+
+abbrev pub CanFollowIn : CatalogueView → Value → Value → Type 0
+CanFollowIn c (Log g) (Replica n) = CanFollow c g.value n.value
+CanFollowIn c _ _ = ⊥
+
+abbrev pub HasFollowed : CatalogueView → Value → Value → Value → Type 0
+HasFollowed c (Log g) (Replica n) (Replica m) =
+    (m.value ≡ replayed c (copied g.value n.value)) × (shapes_of m.value.replica.maps ≡ shapes_of n.value.replica.maps) × (tail_of g.value ≤ MAX_LIMIT)
+HasFollowed c _ _ _ = ⊥
+
+-- ---- the replica, completed as far as it is, becomes the log's base
+
+abbrev pub CanReclaimIn : Value → Value → Type 0
+CanReclaimIn (Log g) (Replica n) =
+    (g.value.base < n.value.replica.tail) × (n.value.replica.tail ≤ tail_of g.value) × (shapes_of n.value.replica.maps ≡ shapes_of g.value.base_maps)
+CanReclaimIn _ _ = ⊥
+
+-- the log with a completed tail of at least n
+abbrev pub told : ℕ → LogView → LogView
+told n g = record g { done = max g.done n }
+
+abbrev pub IsReclaimed : Value → Value → Value → Type 0
+IsReclaimed (Log g) (Replica n) (Log h) = h.value ≡ reclaimed n.value (told n.value.replica.tail g.value)
+IsReclaimed _ _ _ = ⊥
+
+-- ---- a record is appended, and the hand has what the replica has still to apply
+
+abbrev pub CanAppendIn : Record → Value → Value → Type 0
+CanAppendIn r (Log g) (Replica n) = CanAppend (r ∷ []) g.value n.value
+CanAppendIn r _ _ = ⊥
+
+pub record IsAppended (r : Record) (g h : LogView) (n m : NodeReplica) (result : Result ℕ Ended) : Type 0 where
+  pub log : h ≡ appended (r ∷ []) g
+  pub node : m ≡ copied h n
+  pub within : tail_of h ≤ MAX_LIMIT
+  pub placed : MatchResult result (λ i. (i ≡ tail_of g) × (tail_of g < g.limit)) (λ _. tail_of g ≡ g.limit)
+
+abbrev pub HasAppendedIn : Record → Value → Value → Value → Value → Result ℕ Ended → Type 0
+HasAppendedIn r (Log g) (Log h) (Replica n) (Replica m) result = IsAppended r g.value h.value n.value m.value result
+HasAppendedIn r _ _ _ _ result = ⊥
+
+-- ---- the hand's records are run
+
+abbrev pub CanReplayIn : CatalogueView → Value → Type 0
+CanReplayIn c (Log g) = ⊥
+CanReplayIn c (Replica n) = CanReplay c n.value
+
+abbrev pub HasReplayed : CatalogueView → Value → Value → RepliesView → RepliesView → Type 0
+HasReplayed c (Replica n) (Replica m) old new =
+    (m.value ≡ replayed c n.value) × KeepsOutcomes c n.value.replica.maps n.value.replica.tail n.value.hand.records old new × (shapes_of m.value.replica.maps ≡ shapes_of n.value.replica.maps)
+HasReplayed c _ _ old new = ⊥
+
+-- ---- a read is answered
+
+-- a replica of these shapes, and what the operation replies on its maps
+abbrev pub IsReplicaOf : CatalogueView → Value → Type 0
+IsReplicaOf c (Log g) = ⊥
+IsReplicaOf c (Replica n) = shapes_of n.value.replica.maps ≡ c.shapes
+
+abbrev pub Replies : CatalogueView → Operation → Value → ℕ → Type 0
+Replies c op (Log g) reply = ⊥
+Replies c op (Replica n) reply = option_map (λ e. e.reply) (store_meaning.read c op n.value.replica.maps) ≡ Some reply

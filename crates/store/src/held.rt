@@ -1,0 +1,140 @@
+// The steps on the log and a node's replica as values that were taken from the shelf. No call here takes a lock or memory.
+
+ghost use Rattle.std.specs.Prelude.{◌≡◌, ◌↔◌, ◌≤◌, IsTrue, None, [], ◌∷◌};
+ghost use Rattle.verifier.specs.declared.refusal.Mode.TheVariants.{Read};
+ghost use Rattle.store.specs.Refusals.{early_refusal};
+ghost use Rattle.store.specs.Lent.{CanAppend};
+ghost use Rattle.store.specs.Held.{IsAppended, IsReplica, IsLog, IsFull, IsWide, tail_in, CanKeepUp, IsKeptUp, CanFollowIn, HasFollowed, CanReclaimIn, IsReclaimed, CanAppendIn, HasAppendedIn, CanReplayIn, HasReplayed, IsReplicaOf, Replies as RepliesIn};
+
+use crate::lent;
+use crate::values::{NodeReplica, Value};
+use loader::Catalogue;
+use oplog::{Ended, LogState, Record};
+use readpath::{ReadAnswer, answer, ready};
+use replica::Replies;
+
+// Makes the log's base the replica, where that lies below it.
+pub(crate) fn keep_up(log: &Value, node: &mut Value)
+    requires can { CanKeepUp log.now node.old }
+    ensures kept { IsKeptUp log.now node.old node.new }
+{
+    match (log, node) {
+        (Value::Log(log), Value::Replica(node)) => {
+            if node.replica.tail() < log.base() {
+                lent::rebase(log, node);
+            }
+        }
+        _ => unreachable!(),
+    }
+}
+
+// Brings the replica up to the end of the log.
+pub(crate) fn follow(log: &Value, node: &mut Value, catalogue: &Catalogue)
+    requires can { CanFollowIn catalogue.now log.now node.old }
+    ensures followed { HasFollowed catalogue.now log.now node.old node.new }
+{
+    match (log, node) {
+        (Value::Log(log), Value::Replica(node)) => lent::follow(log, node, catalogue),
+        _ => unreachable!(),
+    }
+}
+
+// Whether the history may have more records, but the log has no room for one.
+pub(crate) fn is_full(log: &Value) -> bool
+    requires log { IsLog log.now }
+    ensures full { IsTrue result ↔ IsFull log.now }
+    ensures wide { IsWide log.now }
+{
+    match log {
+        Value::Log(log) => log.room() == 0 && log.left() > 0,
+        Value::Replica(_) => unreachable!(),
+    }
+}
+
+// Tells the log that all is completed that the replica has applied, and makes the replica its base.
+pub(crate) fn reclaim(log: &mut Value, node: &Value)
+    requires can { CanReclaimIn log.old node.now }
+    ensures reclaimed { IsReclaimed log.old node.now log.new }
+{
+    match (log, node) {
+        (Value::Log(log), Value::Replica(node)) => {
+            log.raise_done(node.replica.tail());
+            lent::reclaim(log, node);
+        }
+        _ => unreachable!(),
+    }
+}
+
+// Appends a record, answers its place in the history, and copies what the replica has still to apply.
+pub(crate) fn append(log: &mut Value, node: &mut Value, next: Record) -> Result<u64, Ended>
+    requires can { CanAppendIn next log.old node.old }
+    ensures appended { HasAppendedIn next log.old log.new node.old node.new result }
+{
+    match (log, node) {
+        (Value::Log(log), Value::Replica(node)) => append_one(log, node, next),
+        _ => unreachable!(),
+    }
+}
+
+fn append_one(log: &mut LogState, node: &mut NodeReplica, next: Record) -> Result<u64, Ended>
+    requires can { CanAppend (next ∷ []) log.old node.old }
+    ensures appended { IsAppended next log.old log.new node.old node.new result }
+{
+    let index = log.tail();
+    match lent::append(log, node, &[next]) {
+        Ok(_) => Ok(index),
+        Err(ended) => Err(ended),
+    }
+}
+
+// Runs the records in the hand, and keeps their outcomes.
+pub(crate) fn replay(node: &mut Value, catalogue: &Catalogue, replies: &mut Replies)
+    requires can { CanReplayIn catalogue.now node.old }
+    ensures replayed { HasReplayed catalogue.now node.old node.new replies.old replies.new }
+{
+    match node {
+        Value::Replica(node) => lent::replay(node, catalogue, replies),
+        Value::Log(_) => unreachable!(),
+    }
+}
+
+// How many records the replica has applied.
+pub(crate) fn replica_tail(node: &Value) -> u64
+    requires replica { IsReplica node.now }
+    ensures tail { result ≡ tail_in node.now }
+{
+    match node {
+        Value::Replica(node) => node.replica.tail(),
+        Value::Log(_) => unreachable!(),
+    }
+}
+
+// Whether the replica has reached a completed tail.
+pub(crate) fn is_ready(node: &Value, done: u64) -> bool
+    requires replica { IsReplica node.now }
+    ensures ready { IsTrue result ↔ (done ≤ tail_in node.now) }
+{
+    match node {
+        Value::Replica(node) => ready(&node.replica, done),
+        Value::Log(_) => unreachable!(),
+    }
+}
+
+// What a read program answers on the replica's maps.
+pub(crate) fn answer_in(
+    node: &mut Value,
+    catalogue: &Catalogue,
+    program: u16,
+    argument: &[u8],
+) -> ReadAnswer
+    requires replica { IsReplicaOf catalogue.now node.old }
+    requires asked { early_refusal catalogue.now Read program argument.now ≡ None }
+    ensures point { result.point ≡ tail_in node.old }
+    ensures reply { RepliesIn catalogue.now (record { program = program; argument = argument.now }) node.old result.reply }
+    ensures same { node.new ≡ node.old }
+{
+    match (node, catalogue.program(program)) {
+        (Value::Replica(node), Some(accepted)) => answer(accepted, &mut node.replica, argument),
+        _ => unreachable!(),
+    }
+}
