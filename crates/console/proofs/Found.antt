@@ -3,10 +3,10 @@ use Rattle.std.proofs.Common.{◌≡◌, ℕ, Bool, true, false, List, Option, S
 use Rattle.std.specs.Prelude.{IfSome}
 use Rattle.std.specs.Str.{IsUtf8, is_utf8}
 use Rattle.std.proofs.lemmas.Str.{IsUtf8-from_is_utf8}
-use Rattle.console.specs.declared.reading.Stop.{Stop}
-use Rattle.console.specs.declared.reading.Stop.TheVariants as stops
+use Rattle.console.specs.declared.input.InputFault.{InputFault}
+use Rattle.console.specs.declared.input.InputFault.TheVariants as faults
 use Rattle.console.specs.Files.{Contents, is_text, IsFile}
-use Rattle.console.specs.Reading.{StopsAs, TextIs, FoundAs, IsNoText}
+use Rattle.console.specs.Input.{FailsAs, TextIs, FoundAs, IsNoText}
 
 pub text_found : {Y : Type 0} (o : Option (List ℕ)) (s : String Y) (bs : List ℕ) → IfSome o (λ b. bs ≡ b) → string_bytes s ≡ bs → is_text bs ≡ true → IfSome o (TextIs (Ok s))
 text_found None s bs known same text = tt
@@ -28,12 +28,12 @@ file_found None r name s opened read = tt
 file_found (Some h) None name s opened read = absurd opened
 file_found (Some h) (Some b) name s opened read = (opened ∙ ap Some (sym read.0), subst (λ x. is_text x ≡ true) (sym read.0) read.1)
 
-stop_of : (e : Stop) (found : Option (List ℕ)) (b : List ℕ) → found ≡ Some b → StopsAs e (is_text b ≡ false) → StopsAs e (IsNoText found)
-stop_of stops.NoMemory found b is read = tt
-stop_of stops.CannotRead found b is read = tt
-stop_of stops.NotText found b is read = (b, is, read)
+stop_of : (e : InputFault) (found : Option (List ℕ)) (b : List ℕ) → found ≡ Some b → FailsAs e (is_text b ≡ false) → FailsAs e (IsNoText found)
+stop_of faults.NoMemory found b is read = tt
+stop_of faults.CannotRead found b is read = tt
+stop_of faults.NotText found b is read = (b, is, read)
 
-pub file_stopped : (o : Option Contents) (r : Option (List ℕ)) (name : List ℕ) (e : Stop) → IfSome o (λ h. IsFile r (h name)) → IfSome r (λ b. StopsAs e (is_text b ≡ false)) → IfSome o (λ h. StopsAs e (IsNoText (h name)))
+pub file_stopped : (o : Option Contents) (r : Option (List ℕ)) (name : List ℕ) (e : InputFault) → IfSome o (λ h. IsFile r (h name)) → IfSome r (λ b. FailsAs e (is_text b ≡ false)) → IfSome o (λ h. FailsAs e (IsNoText (h name)))
 file_stopped None r name e opened read = tt
 file_stopped (Some h) None name e opened read = absurd opened
 file_stopped (Some h) (Some b) name e opened read = stop_of e (h name) b opened read

@@ -3,10 +3,10 @@ use Rattle.std.proofs.Common.{◌≡◌, ℕ, ◌+◌, ◌<◌, ◌≤◌, true,
 use Rattle.std.specs.Prelude.{IfSome}
 use Rattle.std.proofs.lemmas.List.{at_drop_more, at_drop_all, map-append, append-nil}
 use Rattle.loader.specs.ProgramFiles.{Files}
-use Rattle.console.specs.declared.reading.Stop.{Stop}
-use Rattle.console.specs.declared.reading.Stop.TheVariants as stops
+use Rattle.console.specs.declared.input.InputFault.{InputFault}
+use Rattle.console.specs.declared.input.InputFault.TheVariants as faults
 use Rattle.console.specs.Files.{Contents, present, are_texts, is_text}
-use Rattle.console.specs.Reading.{StopsAs, FoundAs, IsNoText, owned_files}
+use Rattle.console.specs.Input.{FailsAs, FoundAs, IsNoText, owned_files}
 
 -- the files so far, and what is left of all names
 pub record Kept (h : Contents) (files : Files) (rest all : List (List ℕ)) : Type 0 where
@@ -35,10 +35,7 @@ without h files name rest all found kept =
       texts = subst (λ x. are_texts x ≡ are_texts (present h all)) here kept.texts;
     }
 
-module _ {Y : Type 0} (names : List (Bor (List ℕ))) (i : ℕ) (name : Bor (List ℕ)) (files : List (Bor (List ℕ) × String Y)) (lt : i < length names) (is : name ≡ get_or names i name) where
-  abbrev all : List (List ℕ)
-  all = map name_of names
-
+module _ {Y : Type 0} (all : List (List ℕ)) (names : List (Bor (List ℕ))) (i : ℕ) (name : Bor (List ℕ)) (files : List (Bor (List ℕ) × String Y)) (lt : i < length names) (is : name ≡ get_or names i name) where
   abbrev rest : List (List ℕ)
   rest = map name_of (drop (i + 1) names)
 
@@ -57,24 +54,24 @@ module _ {Y : Type 0} (names : List (Bor (List ℕ))) (i : ℕ) (name : Bor (Lis
   next_without None kept found = tt
   next_without (Some h) kept found = without h (owned_files files) name.now rest all found (at h kept)
 
-  stops_here : (h : Contents) (e : Stop) → Kept h (owned_files files) (name.now ∷ rest) all → StopsAs e (IsNoText (h name.now)) → StopsAs e (are_texts (present h all) ≡ false)
-  stops_here h stops.NoMemory kept stop = tt
-  stops_here h stops.CannotRead kept stop = tt
-  stops_here h stops.NotText kept stop =
+  stops_here : (h : Contents) (e : InputFault) → Kept h (owned_files files) (name.now ∷ rest) all → FailsAs e (IsNoText (h name.now)) → FailsAs e (are_texts (present h all) ≡ false)
+  stops_here h faults.NoMemory kept stop = tt
+  stops_here h faults.CannotRead kept stop = tt
+  stops_here h faults.NotText kept stop =
       let here : present h (name.now ∷ rest) ≡ (name.now, stop.0) ∷ present h rest = rw stop.1 refl in
       let off : are_texts ((name.now, stop.0) ∷ present h rest) ≡ false = rw stop.2 refl in
       sym kept.texts ∙ ap are_texts here ∙ off
 
-  pub fails : (o : Option Contents) (e : Stop) → IfSome o (λ h. Kept h (owned_files files) (map name_of (drop i names)) all) → IfSome o (λ h. StopsAs e (IsNoText (h name.now)))
-      → IfSome o (λ h. StopsAs e (are_texts (present h all) ≡ false))
+  pub fails : (o : Option Contents) (e : InputFault) → IfSome o (λ h. Kept h (owned_files files) (map name_of (drop i names)) all) → IfSome o (λ h. FailsAs e (IsNoText (h name.now)))
+      → IfSome o (λ h. FailsAs e (are_texts (present h all) ≡ false))
   fails None e kept stop = tt
   fails (Some h) e kept stop = stops_here h e (at h kept) stop
 
-pub gathered : {Y : Type 0} (names : List (Bor (List ℕ))) (i : ℕ) (files : List (Bor (List ℕ) × String Y)) (o : Option Contents) → length names ≤ i
-    → IfSome o (λ h. Kept h (owned_files files) (map name_of (drop i names)) (map name_of names))
-    → IfSome o (λ h. (owned_files files ≡ present h (map name_of names)) × (are_texts (present h (map name_of names)) ≡ true))
-gathered names i files None le kept = tt
-gathered names i files (Some h) le kept =
+pub gathered : {Y : Type 0} (all : List (List ℕ)) (names : List (Bor (List ℕ))) (i : ℕ) (files : List (Bor (List ℕ) × String Y)) (o : Option Contents) → length names ≤ i
+    → IfSome o (λ h. Kept h (owned_files files) (map name_of (drop i names)) all)
+    → IfSome o (λ h. (owned_files files ≡ present h all) × (are_texts (present h all) ≡ true))
+gathered all names i files None le kept = tt
+gathered all names i files (Some h) le kept =
     let none : map name_of (drop i names) ≡ [] = at_drop_all (map name_of) names i le in
-    let k : Kept h (owned_files files) [] (map name_of names) = subst (λ x. Kept h (owned_files files) x (map name_of names)) none kept in
+    let k : Kept h (owned_files files) [] all = subst (λ x. Kept h (owned_files files) x all) none kept in
     (sym (append-nil (owned_files files)) ∙ k.joined, sym k.texts)

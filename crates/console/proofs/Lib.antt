@@ -2,8 +2,12 @@ pub mod Appended
 pub mod Found
 pub mod Gathers
 pub mod Answers
+pub mod Reported
 pub mod ProgramLines
-pub mod Opened
-pub mod OneUpdate
 pub mod RunLines
 pub mod RunAnswers
+pub mod Opened
+pub mod OneUpdate
+pub mod Turns
+pub mod OneText
+pub mod RunsOfLines

@@ -1,143 +1,98 @@
--- A node after one update: the record is appended, copied and replayed.
-use Rattle.std.proofs.Common.{◌≡◌, ℕ, ◌+◌, ◌-◌, ◌<◌, [], ◌∷◌, ◌++◌, length, take, Option, Some, None, slice_get, refl, sym, ap, ap₂, ◌∙◌, arith, lit<}
-use Rattle.std.specs.Prelude.{min, max, IfSome}
-use Rattle.std.proofs.lemmas.List.{length-append, take_all}
+-- One update of a node: the record is appended, copied and replayed.
+use Rattle.std.proofs.Common.{◌≡◌, ℕ, zero, suc, ◌+◌, ◌-◌, ◌<◌, true, [], ◌∷◌, ◌++◌, length, take, Option, Some, slice_get, refl, sym, ap, subst, ◌∙◌, arith, lit<}
+use Rattle.std.specs.Prelude.{min, max, IfSome, IfNone}
+use Rattle.std.proofs.lemmas.List.{length-append}
 use Rattle.std.proofs.Math.Seq.{drop-append_seam}
-use Rattle.maps.specs.Maps.{Maps, shapes_of}
+use Rattle.maps.specs.Maps.{Maps}
 use Rattle.machine.specs.declared.running.Outcome.{Outcome}
+use Rattle.verifier.specs.declared.refusal.Mode.TheVariants.{Update}
+use Rattle.maps.specs.Maps.{AreBytes}
 use Rattle.loader.specs.CatalogueView.{CatalogueView}
+use Rattle.oplog.specs.declared.configuration.TheConstants.{MAX_LIMIT}
 use Rattle.oplog.specs.Operations.{Operation}
 use Rattle.oplog.specs.declared.records.Record.{Record}
-use Rattle.oplog.specs.Logs.{Log, HandView, tail_of, room_left, records_from}
-use Rattle.oplog.specs.History.{Meaning, History, after, maps_after, effect_at}
-use Rattle.replica.specs.StoreMeaning.{effect_of, outcome_of, store_meaning}
+use Rattle.oplog.specs.Logs.{Log, HandView, IsLog, tail_of, left_of, records_from}
+use Rattle.oplog.specs.History.{Effect, History, left_by, after}
+use Rattle.replica.specs.StoreMeaning.{is_operation, store_meaning}
 use Rattle.replica.specs.Views.{ReplicaView, RepliesView, no_replies}
-use Rattle.replica.specs.Replaying.{KeepsOutcomes}
-use Rattle.maps.specs.MapSets.{opening_maps}
+use Rattle.replica.specs.Replaying.{IsAnswered, KeepsOutcomes}
+use Rattle.replica.proofs.Tested.{tests_true}
 use Rattle.console.specs.declared.node.SingleNode.{SingleNode}
-use Rattle.console.specs.RunAnswer.{run_limit}
-use Rattle.console.specs.Running.{history_of, IsAtRest}
-
--- the maps after one history and then another
-after_append : {C M : Type 0} (E : Meaning C M) (c : C) (maps : M) (h : History) (rs : History) → after E c maps (h ++ rs) ≡ after E c (after E c maps h) rs
-after_append E c maps [] rs = refl
-after_append E c maps (x ∷ h) rs = after_append E c (E.effect c x.op maps).maps h rs
+use Rattle.console.specs.Running.{IsCallOf, IsUpdated, HasEnded}
 
 some_same : {A : Type 0} {x y : A} → Some x ≡ Some y → x ≡ y
 some_same e = cc
 
-is_given : {A : Type 0} (o : Option A) (x : A) → o ≡ Some x → IfSome o (λ y. y ≡ x)
-is_given None x e = tt
-is_given (Some y) x e = some_same e
+-- a call of an update program is an update
+pub is_update : (c : CatalogueView) (op : Operation) → IsCallOf c op Update → AreBytes op.argument → is_operation Update c op ≡ true
+is_update c op call bytes = tests_true Update c op (record { program = call.program; named = call.named; mode_is = call.allowed; length_is = call.length; bytes = bytes })
 
-module _ (c : CatalogueView) (n : SingleNode) (rest : IsAtRest c n) (r : Record) where
-  abbrev old : History
-  old = history_of n
+only_one : (c : CatalogueView) (r : Record) → is_operation Update c r.op ≡ true → (k : ℕ) (s : Record) → slice_get (r ∷ []) k ≡ Some s → is_operation Update c s.op ≡ true
+only_one c r is zero s e = subst (λ x. is_operation Update c x.op ≡ true) (some_same e) is
+only_one c r is (suc k) s e = absurd cc
 
-  taken : (k : ℕ) → k ≡ min 1 (room_left n.log) → (tail_of n.log ≡ n.log.limit → ⊥) → take k (r ∷ []) ≡ r ∷ []
-  taken k count some =
-      let base = rest.base in
-      let limit = rest.limit in
-      let within = rest.within in
-      let one : k ≡ 1 = grind (arith, base, limit, within, some, count) in
-      rw one refl
+-- the log before and after one record
+module _ (g h : Log) (r : Record) (k first : ℕ) (log : IsLog g) (some : tail_of g ≡ g.limit → ⊥) (count : k ≡ min 1 (left_of g)) (new : h ≡ record g { records = g.records ++ take k (r ∷ []) }) (is : first ≡ tail_of g) where
+  pub below : tail_of g < g.limit
+  below = let within = log.within in omega (arith, within, some)
 
-  pub appended : (g : Log) (k : ℕ) → k ≡ min 1 (room_left n.log) → (tail_of n.log ≡ n.log.limit → ⊥) → g.records ≡ old ++ take k (r ∷ []) → g.records ≡ old ++ r ∷ []
-  appended g k count some new = new ∙ ap (λ (x : History). old ++ x) (taken k count some)
+  has_one : h.records ≡ g.records ++ r ∷ []
+  has_one =
+      let low = below in
+      let one : k ≡ 1 = grind (arith, low, count) in
+      ap (λ (x : Log). x.records) new ∙ rw one refl
 
-  pub room : (tail_of n.log ≡ n.log.limit → ⊥) → length old < run_limit
-  room some =
-      let base = rest.base in
-      let limit = rest.limit in
-      let within = rest.within in
-      grind (arith, base, limit, within, some)
+  pub one_more : tail_of h ≡ tail_of g + 1
+  one_more =
+      let base = ap (λ (x : Log). x.base) new in
+      let size = ap (λ (x : History). length x) has_one ∙ length-append g.records (r ∷ []) in
+      omega (arith, base, size)
 
-  pub copied : (g : Log) (index : ℕ) → g.base ≡ n.log.base → g.records ≡ old ++ r ∷ [] → index ≡ tail_of n.log → records_from g index ≡ r ∷ []
-  copied g index base records is =
-      let zero_base = rest.base in
-      let at : index - g.base ≡ length old = omega (arith, zero_base, base, is) in
-      rw (at, records) (drop-append_seam old (r ∷ []))
+  pub from_first : records_from h first ≡ r ∷ []
+  from_first =
+      let base = ap (λ (x : Log). x.base) new in
+      let at : first - h.base ≡ length g.records = omega (arith, base, is) in
+      rw (at, has_one) (drop-append_seam g.records (r ∷ []))
 
-  module _ (g : Log) (index : ℕ) (hand : HandView) (next : HandView) (replica : ReplicaView) where
-    at_rest : g.base ≡ n.log.base → g.limit ≡ n.log.limit → g.window ≡ n.log.window → g.records ≡ old ++ r ∷ []
-        → g.done ≡ max n.log.done replica.tail
-        → (tail_of n.log ≡ n.log.limit → ⊥)
-        → hand ≡ record n.hand { begin = index; records = r ∷ [] }
-        → next ≡ record hand { begin = replica.tail; records = [] }
-        → replica.tail ≡ n.replica.tail + length hand.records
-        → replica.maps ≡ after store_meaning c n.replica.maps hand.records
-        → shapes_of replica.maps ≡ shapes_of n.replica.maps
-        → IsAtRest c (record { log = g; hand = next; replica = replica })
-    at_rest base limit window records completed some hand_is next_is tail maps shapes =
-        let one : hand.records ≡ r ∷ [] = ap (λ (x : HandView). x.records) hand_is in
-        let count : length g.records ≡ length old + 1 = ap (λ (x : History). length x) records ∙ length-append old (r ∷ []) in
-        let below = room some in
-        let by_one : length hand.records ≡ 1 = ap (λ (x : History). length x) one in
-        let so_far = rest.tail in
-        let completed_before = rest.completed in
-        let new_tail : replica.tail ≡ length g.records = omega (arith, tail, by_one, count, so_far) in
-        record {
-          base = base ∙ rest.base;
-          limit = limit ∙ rest.limit;
-          within = omega (arith, count, below);
-          completed = omega (arith, completed, completed_before, new_tail, count);
-          window = ap (λ (x : HandView). x.window) next_is ∙ ap (λ (x : HandView). x.window) hand_is ∙ rest.window ∙ sym window;
-          room = ap (λ (x : HandView). x.limit) next_is ∙ ap (λ (x : HandView). x.limit) hand_is ∙ rest.room ∙ sym limit;
-          empty = ap (λ (x : HandView). x.records) next_is;
-          begin = ap (λ (x : HandView). x.begin) next_is ∙ new_tail;
-          tail = new_tail;
-          maps = maps ∙ ap (λ (x : History). after store_meaning c n.replica.maps x) one ∙ ap (λ (m : Maps). after store_meaning c m (r ∷ [])) rest.maps
-              ∙ sym (after_append store_meaning c (opening_maps c.shapes) old (r ∷ [])) ∙ ap (λ (x : History). after store_meaning c (opening_maps c.shapes) x) (sym records);
-          shapes = shapes ∙ rest.shapes;
-        }
+  module _ (c : CatalogueView) (hand : HandView) (old : HandView) (copied : hand ≡ record old { begin = first; records = records_from h first }) where
+    pub holds_one : hand.records ≡ r ∷ []
+    holds_one = ap (λ (x : HandView). x.records) copied ∙ from_first
 
-    pub outcome : (kept : RepliesView) (got : Option Outcome) → index ≡ tail_of n.log → hand.records ≡ r ∷ []
-        → KeepsOutcomes c n.replica.maps n.replica.tail hand.records (no_replies index 1) kept → slice_get kept.outcomes 0 ≡ Some got
-        → got ≡ Some (outcome_of (effect_of c r.op (maps_after store_meaning c old (length old))))
-    outcome kept got is one keeps found =
-        let base = rest.base in
-        let tail = rest.tail in
-        let first : slice_get hand.records 0 ≡ Some r = rw one refl in
-        let place : index + 0 ≡ n.replica.tail + 0 = omega (arith, is, base, tail) in
-        let there = keeps.replayed 0 0 r (lit< tt) first place in
-        let whole : n.replica.maps ≡ maps_after store_meaning c old (length old) = rest.maps ∙ ap (λ (x : History). after store_meaning c (opening_maps c.shapes) x) (sym (take_all (length old) old (omega arith))) in
-        some_same (sym found ∙ there) ∙ ap (λ (m : Maps). Some (outcome_of (effect_of c r.op m))) whole
+    pub allowed : is_operation Update c r.op ≡ true → (n : ℕ) (s : Record) → slice_get hand.records n ≡ Some s → is_operation Update c s.op ≡ true
+    allowed update n s e = only_one c r update n s (subst (λ x. slice_get x n ≡ Some s) holds_one e)
 
-  -- from what the calls ensure
-  module _ (g : Log) (k index : ℕ) (some : tail_of n.log ≡ n.log.limit → ⊥) (count : k ≡ min 1 (room_left n.log)) (new : g ≡ record n.log { records = old ++ take k (r ∷ []) }) (is : index ≡ tail_of n.log) where
-    pub has_one : g.records ≡ old ++ r ∷ []
-    has_one = appended g k count some (ap (λ (x : Log). x.records) new)
+    module _ (before after_it : ReplicaView) (kept : RepliesView) (got : Option Outcome) (place : first ≡ before.tail)
+        (maps : after_it.maps ≡ after store_meaning c before.maps hand.records)
+        (keeps : KeepsOutcomes c before.maps before.tail hand.records (no_replies first 1) kept)
+        (found : slice_get kept.outcomes 0 ≡ Some got) where
+      answered : (o : Outcome) × (got ≡ Some o) × IsAnswered c r.op before.maps o
+      answered =
+          let at : slice_get hand.records 0 ≡ Some r = rw holds_one refl in
+          let there = keeps.replayed 0 0 r (lit< tt) at (omega (arith, place)) in
+          (there.0, some_same (sym found ∙ there.1), there.2)
 
-    from_index : records_from g index ≡ r ∷ []
-    from_index = copied g index (ap (λ (x : Log). x.base) new) has_one is
+      pub updated : (n : SingleNode) (log_after : Log) (next : HandView) (op : Operation) (done : ℕ) → r.op ≡ op → tail_of g ≡ tail_of n.log → g.limit ≡ MAX_LIMIT → before ≡ n.replica
+          → log_after ≡ record h { done = max h.done done }
+          → IfSome got (λ o. IsUpdated c op n (record { log = log_after; hand = next; replica = after_it }) o)
+      updated n log_after next op done same tail limit replica raised =
+          let a = answered in
+          let answer = a.2 in
+          let takes : store_meaning.update c op n.replica.maps ≡ Some answer.done =
+          subst (λ (m : ReplicaView). store_meaning.update c op m.maps ≡ Some answer.done) replica (subst (λ (x : Operation). store_meaning.update c x before.maps ≡ Some answer.done) same answer.takes) in
+          let low = below in
+          let left : after_it.maps ≡ answer.done.maps =
+          maps ∙ ap (λ (x : History). after store_meaning c before.maps x) holds_one ∙ ap (λ (e : Option (Effect Maps)). left_by e before.maps) answer.takes in
+          let grown : tail_of log_after ≡ tail_of h = ap (λ (x : Log). tail_of x) raised in
+          let more = one_more in
+          subst (λ (x : Option Outcome). IfSome x (λ o. IsUpdated c op n (record { log = log_after; hand = next; replica = after_it }) o)) (sym a.1)
+          (record {
+            room = omega (arith, low, tail, limit);
+            tail = omega (arith, grown, more, tail);
+            done = answer.done;
+            takes = takes;
+            outcome = answer.outcome;
+            maps = left;
+          })
 
-    module _ (hand : HandView) (copy : hand ≡ record n.hand { begin = index; records = records_from g index }) where
-      pub holds_one : hand.records ≡ r ∷ []
-      holds_one = ap (λ (x : HandView). x.records) copy ∙ from_index
-
-      pub rests : (after_all : Log) (tail : ℕ) (next : HandView) (replica : ReplicaView) → tail ≡ replica.tail → after_all ≡ record g { done = max g.done tail }
-          → next ≡ record hand { begin = replica.tail; records = [] }
-          → replica.tail ≡ n.replica.tail + length hand.records
-          → replica.maps ≡ after store_meaning c n.replica.maps hand.records
-          → shapes_of replica.maps ≡ shapes_of n.replica.maps
-          → IsAtRest c (record { log = after_all; hand = next; replica = replica })
-      rests after_all tail next replica shown raised next_is applied maps shapes =
-          at_rest after_all index hand next replica
-          (ap (λ (x : Log). x.base) raised ∙ ap (λ (x : Log). x.base) new)
-          (ap (λ (x : Log). x.limit) raised ∙ ap (λ (x : Log). x.limit) new)
-          (ap (λ (x : Log). x.window) raised ∙ ap (λ (x : Log). x.window) new)
-          (ap (λ (x : Log). x.records) raised ∙ has_one)
-          (ap (λ (x : Log). x.done) raised ∙ ap₂ max (ap (λ (x : Log). x.done) new) shown) some
-          (copy ∙ ap (λ (x : History). record n.hand { begin = index; records = x }) from_index) next_is applied maps shapes
-
-      pub answers : (kept : RepliesView) (got : Option Outcome)
-          → KeepsOutcomes c n.replica.maps n.replica.tail hand.records (no_replies index 1) kept → slice_get kept.outcomes 0 ≡ Some got
-          → got ≡ Some (outcome_of (effect_of c r.op (maps_after store_meaning c old (length old))))
-      answers kept got keeps found = outcome g index hand hand n.replica kept got is holds_one keeps found
-
-      pub answers_so : (op : Operation) (kept : RepliesView) (got : Option Outcome) → r.op ≡ op
-          → KeepsOutcomes c n.replica.maps n.replica.tail hand.records (no_replies index 1) kept → slice_get kept.outcomes 0 ≡ Some got
-          → IfSome got (λ o. o ≡ outcome_of (effect_at store_meaning c old (length old) op))
-      answers_so op kept got same keeps found =
-          is_given got (outcome_of (effect_at store_meaning c old (length old) op))
-          (answers kept got keeps found ∙ ap (λ (x : Operation). Some (outcome_of (effect_at store_meaning c old (length old) x))) same)
+      pub not_ended : (n m : SingleNode) → IfNone got (HasEnded n m)
+      not_ended n m = subst (λ (x : Option Outcome). IfNone x (HasEnded n m)) (sym answered.1) tt

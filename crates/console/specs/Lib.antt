@@ -7,5 +7,8 @@ pub mod Status
 pub mod Answer
 pub mod RunAnswer
 pub mod Running
-pub mod Reading
+pub mod Input
 pub mod Report
+pub mod Loaded
+pub mod AsmAnswer
+pub mod RunLines

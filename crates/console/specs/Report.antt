@@ -4,8 +4,8 @@ use Rattle.std.specs.Io.KnownBytes.{Appends, Keeps}
 use Rattle.console.specs.declared.status.Status.{Status}
 use Rattle.console.specs.declared.status.Status.TheVariants as statuses
 use Rattle.console.specs.declared.status.Verdict.TheVariants as verdicts
-use Rattle.console.specs.declared.reading.Stop.{Stop}
-use Rattle.console.specs.declared.reading.Stop.TheVariants as stops
+use Rattle.console.specs.declared.input.InputFault.{InputFault}
+use Rattle.console.specs.declared.input.InputFault.TheVariants as faults
 use Rattle.console.specs.declared.report.Reply.{Reply}
 use Rattle.console.specs.Transfer.{AppendsBeginning}
 use Rattle.console.specs.Texts.{no_memory_line}
@@ -20,16 +20,22 @@ Reports old new statuses.NoMemory a = Appends old new no_memory_line
 Reports old new statuses.CannotRead a = Keeps old new
 Reports old new statuses.CannotWrite a = AppendsBeginning old new a.text ⊎ AppendsBeginning old new no_memory_line
 
+-- the same for some answer of these, whatever was read: nothing new is written after a failed read, and after a failed
+-- write a beginning of that answer or of the line that no memory is left
+abbrev pub ReportsSome : (Answer → Type 0) → Option (List ℕ) → Option (List ℕ) → Status → Type 0
+ReportsSome IsOne old new status = (a : Answer) × IsOne a × Reports old new status a
+
 -- the text was written and this is the status, or the write broke off
 abbrev pub Sends : Option (List ℕ) → Option (List ℕ) → Status → List ℕ → Status → Type 0
 Sends old new got text wanted = ((got ≡ wanted) × Appends old new text) ⊎ ((got ≡ statuses.CannotWrite) × AppendsBeginning old new text)
 
+-- what is to be written, and its verdict
 abbrev pub answer_of : Reply → Answer
 answer_of r = record { text = r.text.items; verdict = r.verdict }
 
 -- what is written where this was prepared
-abbrev pub Writes : Option (List ℕ) → Option (List ℕ) → Status → Result Reply Stop → Type 0
+abbrev pub Writes : Option (List ℕ) → Option (List ℕ) → Status → Result Reply InputFault → Type 0
 Writes old new got (Ok r) = Sends old new got r.text.items (status_of r.verdict)
-Writes old new got (Err stops.NotText) = Sends old new got not_text.text statuses.Refused
-Writes old new got (Err stops.NoMemory) = Sends old new got no_memory_line statuses.NoMemory
-Writes old new got (Err stops.CannotRead) = (got ≡ statuses.CannotRead) × Keeps old new
+Writes old new got (Err faults.NotText) = Sends old new got not_text.text statuses.Refused
+Writes old new got (Err faults.NoMemory) = Sends old new got no_memory_line statuses.NoMemory
+Writes old new got (Err faults.CannotRead) = (got ≡ statuses.CannotRead) × Keeps old new

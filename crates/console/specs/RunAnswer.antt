@@ -1,24 +1,22 @@
 -- What `run` answers and writes, as a function of the manifest, of the files that are there, and of the script.
-use Rattle.std.specs.Prelude.{ℕ, ◌&&◌, List, [], ◌∷◌, ◌++◌, length, codes, decimal, Option, Some, None, option_map, Ok, Err, nat_lt, ◌==◌, if◌then◌else◌}
+use Rattle.std.specs.Prelude.{◌≡◌, ◌⊎◌, ℕ, ◌&&◌, List, [], ◌∷◌, ◌++◌, length, codes, decimal, Option, Some, None, option_map, Ok, Err, nat_lt, ◌==◌, if◌then◌else◌}
 use Rattle.maps.specs.Maps.{Maps}
 use Rattle.verifier.specs.declared.refusal.Mode.{Mode}
 use Rattle.verifier.specs.declared.refusal.Mode.TheVariants.{Update, Read}
 use Rattle.verifier.specs.Accepted.{Checked}
-use Rattle.loader.specs.Lines.{lines_of, named_in}
+use Rattle.text.specs.Lines.{lines_of, next_line}
+use Rattle.loader.specs.NamedFiles.{named_in}
 use Rattle.loader.specs.CatalogueView.{CatalogueView, number_named}
-use Rattle.loader.specs.Loading.{Outcome, next_line, loaded}
+use Rattle.loader.specs.Loading.{Outcome, loaded}
 use Rattle.oplog.specs.Operations.{Operation}
-use Rattle.oplog.specs.History.{Effect, History, effect_at}
+use Rattle.oplog.specs.declared.configuration.TheConstants.{MAX_LIMIT}
+use Rattle.oplog.specs.History.{Effect, ReadEffect, History, effect_at, read_at}
 use Rattle.replica.specs.StoreMeaning.{program_at, store_meaning}
 use Rattle.console.specs.declared.status.Verdict.TheVariants as verdicts
 use Rattle.console.specs.Files.{Contents, is_text, present, are_texts}
-use Rattle.console.specs.Texts.{refusal_text}
-use Rattle.console.specs.Answer.{Answer, not_text}
+use Rattle.console.specs.Answer.{Answer, not_text, refusal_answer}
+use Rattle.loader.specs.ProgramFiles.{Files}
 use Rattle.console.specs.Script.{ProgramCall, Meaning, Comment, Call, line_meaning}
-
--- how many updates a run has at most
-abbrev pub run_limit : ℕ
-run_limit = 65536
 
 -- ---- the texts
 
@@ -26,16 +24,18 @@ run_limit = 65536
 abbrev pub outcome_text : ℕ → ℕ → ℕ → List ℕ
 outcome_text place reply steps = decimal place ++ (codes " reply " ++ (decimal reply ++ (codes " steps " ++ (decimal steps ++ codes "\n"))))
 
-abbrev pub update_text : ℕ → Effect Maps → List ℕ
-update_text index e = codes "update " ++ outcome_text index e.reply e.steps
+-- INDEX is the update's place in the history, POINT the number of updates before a read
+abbrev pub update_text : ℕ → ℕ → ℕ → List ℕ
+update_text index reply steps = codes "update " ++ outcome_text index reply steps
 
-abbrev pub read_text : ℕ → Effect Maps → List ℕ
-read_text point e = codes "read " ++ outcome_text point e.reply e.steps
+abbrev pub read_text : ℕ → ℕ → ℕ → List ℕ
+read_text point reply steps = codes "read " ++ outcome_text point reply steps
 
 -- S1: there is no program of this name. S2: the argument has another length. S4: the history has all its records
 abbrev pub refused_text : ℕ → List ℕ
 refused_text number = codes "refused S" ++ (decimal number ++ codes "\n")
 
+-- the line behind which nothing is run
 abbrev pub bad_line_text : ℕ → List ℕ
 bad_line_text n = codes "line " ++ (decimal n ++ codes " bad\n")
 
@@ -46,6 +46,7 @@ pub record Turn : Type 0 where
   pub text : List ℕ
   pub history : History
 
+-- a call that is refused leaves the history
 abbrev pub refused : History → ℕ → Turn
 refused history number = record { text = refused_text number; history = history }
 
@@ -53,18 +54,29 @@ refused history number = record { text = refused_text number; history = history 
 abbrev pub with_operation : History → Operation → History
 with_operation history op = history ++ record { author = 0; seq = length history; op = op } ∷ []
 
+-- the line of an update, and of a read, that has this effect; without one nothing is written (`run_lines_are_runs`: each has one)
+abbrev pub update_line : ℕ → Option (Effect Maps) → List ℕ
+update_line index (Some e) = update_text index e.reply e.steps
+update_line index None = []
+
+abbrev pub read_line : ℕ → Option ReadEffect → List ℕ
+read_line point (Some e) = read_text point e.reply e.steps
+read_line point None = []
+
 -- an update stands in the history from then on; a read leaves it
 abbrev pub performed : CatalogueView → History → Operation → Mode → Turn
 performed c history op Update =
-    if nat_lt (length history) run_limit
-    then record { text = update_text (length history) (effect_at store_meaning c history (length history) op); history = with_operation history op }
+    if nat_lt (length history) MAX_LIMIT
+    then record { text = update_line (length history) (effect_at store_meaning c history (length history) op); history = with_operation history op }
     else refused history 4
-performed c history op Read = record { text = read_text (length history) (effect_at store_meaning c history (length history) op); history = history }
+performed c history op Read = record { text = read_line (length history) (read_at store_meaning c history (length history) op); history = history }
 
+-- by the program of the call
 abbrev pub performed_by : CatalogueView → History → Operation → Option Checked → Turn
 performed_by c history op None = refused history 1
 performed_by c history op (Some program) = if length op.argument == program.arg_len then performed c history op program.mode else refused history 2
 
+-- by the number of its name
 abbrev pub numbered : CatalogueView → History → List ℕ → Option ℕ → Turn
 numbered c history argument None = refused history 1
 numbered c history argument (Some k) = performed_by c history (record { program = k; argument = argument }) (program_at c k)
@@ -75,6 +87,7 @@ called c history call = numbered c history call.argument (number_named c.program
 
 -- ---- a script
 
+-- by what the line says
 abbrev pub taken : CatalogueView → History → Meaning → Turn
 taken c history Comment = record { text = []; history = history }
 taken c history (Call call) = called c history call
@@ -87,9 +100,11 @@ line_turn c history line = option_map (taken c history) (line_meaning line)
 abbrev pub behind : List ℕ → Answer → Answer
 behind text a = record { text = text ++ a.text; verdict = a.verdict }
 
+-- a bad line
 abbrev pub bad_line : ℕ → Answer
 bad_line n = record { text = bad_line_text n; verdict = verdicts.Refused }
 
+-- by whether the line is good
 abbrev pub by_turn : Answer → (Turn → Answer) → Option Turn → Answer
 by_turn bad next None = bad
 by_turn bad next (Some turn) = next turn
@@ -107,7 +122,7 @@ script_answer c script = lines_answer c 1 [] (lines_of script)
 -- a refused manifest writes only its refusal
 abbrev pub ran : Outcome → List ℕ → Answer
 ran (Ok c) script = script_answer c script
-ran (Err e) script = record { text = refusal_text e; verdict = verdicts.Refused }
+ran (Err refusal) script = refusal_answer refusal
 
 -- what `run` answers: all files are read first, then the manifest is loaded, then the lines are run
 unfoldable pub run_answer : List ℕ → Contents → List ℕ → Answer
@@ -115,3 +130,7 @@ run_answer manifest folder script =
     if is_text manifest && (are_texts (present folder (named_in manifest)) && is_text script)
     then ran (loaded manifest (present folder (named_in manifest))) script
     else not_text
+
+-- what `run` answers to some manifest, files and script
+abbrev pub IsRunAnswer : Answer → Type 0
+IsRunAnswer a = (a ≡ not_text) ⊎ ((manifest : List ℕ) × (files : Files) × (script : List ℕ) × (a ≡ ran (loaded manifest files) script))

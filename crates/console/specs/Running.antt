@@ -1,36 +1,32 @@
 -- What is kept while a script is run. Clauses of private functions alone cite this.
-use Rattle.std.specs.Prelude.{◌≡◌, ℕ, ◌≤◌, Bool, true, false, List, [], ◌++◌, length, Option, Some, None}
-use Rattle.maps.specs.Maps.{shapes_of}
+use Rattle.std.specs.Prelude.{◌≡◌, ℕ, ◌+◌, ◌<◌, Bool, true, false, List, ◌++◌, length, Option, Some, None}
+use Rattle.maps.specs.Maps.{Maps, shapes_of}
 use Rattle.maps.specs.MapSets.{opening_maps}
 use Rattle.verifier.specs.declared.refusal.Mode.{Mode}
 use Rattle.verifier.specs.Accepted.{Checked}
+use Rattle.machine.specs.declared.running.Outcome.{Outcome}
 use Rattle.loader.specs.CatalogueView.{CatalogueView}
+use Rattle.oplog.specs.declared.configuration.TheConstants.{MAX_LIMIT}
 use Rattle.oplog.specs.Operations.{Operation}
-use Rattle.oplog.specs.History.{History, after}
-use Rattle.replica.specs.StoreMeaning.{program_at, store_meaning}
+use Rattle.oplog.specs.Logs.{tail_of}
+use Rattle.oplog.specs.History.{Effect, History, after}
+use Rattle.replica.specs.StoreMeaning.{program_at, outcome_of, store_meaning}
 use Rattle.console.specs.declared.node.SingleNode.{SingleNode}
-use Rattle.console.specs.RunAnswer.{Turn, run_limit}
+use Rattle.console.specs.RunAnswer.{Turn}
 
-abbrev pub history_of : SingleNode → History
-history_of n = n.log.records
-
--- how many records the log of a run keeps at once
-abbrev pub run_window : ℕ
-run_window = 4096
-
--- the log has the whole history, and all of it is completed: the replica has applied it, and the hand is empty
-pub record IsAtRest (c : CatalogueView) (n : SingleNode) : Type 0 where
-  pub base : n.log.base ≡ 0
-  pub limit : n.log.limit ≡ run_limit
-  pub within : length (history_of n) ≤ run_limit
-  pub completed : n.log.done ≡ length (history_of n)
+-- the whole history is completed, and the replica has applied it
+pub record IsSteady (c : CatalogueView) (n : SingleNode) : Type 0 where
+  pub limit : n.log.limit ≡ MAX_LIMIT
+  pub completed : n.log.done ≡ tail_of n.log
+  pub base_shapes : shapes_of n.log.base_maps ≡ c.shapes
   pub window : n.hand.window ≡ n.log.window
-  pub room : n.hand.limit ≡ n.log.limit
-  pub empty : n.hand.records ≡ []
-  pub begin : n.hand.begin ≡ length (history_of n)
-  pub tail : n.replica.tail ≡ length (history_of n)
-  pub maps : n.replica.maps ≡ after store_meaning c (opening_maps c.shapes) (history_of n)
+  pub tail : n.replica.tail ≡ tail_of n.log
   pub shapes : shapes_of n.replica.maps ≡ c.shapes
+
+-- the node has this history behind it: so many updates, and the maps that they leave
+pub record Follows (c : CatalogueView) (h : History) (n : SingleNode) : Type 0 where
+  pub count : tail_of n.log ≡ length h
+  pub maps : n.replica.maps ≡ after store_meaning c (opening_maps c.shapes) h
 
 -- an operation of a program of this mode, with as many bytes as its argument has
 pub record IsCallOf (c : CatalogueView) (op : Operation) (mode : Mode) : Type 0 where
@@ -39,12 +35,27 @@ pub record IsCallOf (c : CatalogueView) (op : Operation) (mode : Mode) : Type 0 
   pub allowed : program.mode ≡ mode
   pub length : length op.argument ≡ program.arg_len
 
+-- the node applied one more operation, and answered this
+pub record IsUpdated (c : CatalogueView) (op : Operation) (old new : SingleNode) (o : Outcome) : Type 0 where
+  pub room : tail_of old.log < MAX_LIMIT
+  pub tail : tail_of new.log ≡ tail_of old.log + 1
+  pub done : Effect Maps
+  pub takes : store_meaning.update c op old.replica.maps ≡ Some done
+  pub outcome : o ≡ outcome_of done
+  pub maps : new.replica.maps ≡ done.maps
+
+-- the history has all its operations, and nothing was applied
+pub record HasEnded (old new : SingleNode) : Type 0 where
+  pub full : tail_of old.log ≡ MAX_LIMIT
+  pub tail : tail_of new.log ≡ tail_of old.log
+  pub replica : new.replica ≡ old.replica
+
 -- a turn was taken: its text stands behind what was written, and its history is the node's
-pub record IsTaken (turn : Turn) (n : SingleNode) (old new : List ℕ) : Type 0 where
+pub record IsTaken (c : CatalogueView) (turn : Turn) (n : SingleNode) (old new : List ℕ) : Type 0 where
   pub written : new ≡ old ++ turn.text
-  pub placed : history_of n ≡ turn.history
+  pub placed : Follows c turn.history n
 
 -- what a line does was done, and the line is good; or it is bad
-abbrev pub LineTaken : Option Turn → Bool → SingleNode → List ℕ → List ℕ → Type 0
-LineTaken None good n old new = (good ≡ false) × (new ≡ old)
-LineTaken (Some turn) good n old new = (good ≡ true) × IsTaken turn n old new
+abbrev pub LineTaken : CatalogueView → Option Turn → Bool → SingleNode → List ℕ → List ℕ → Type 0
+LineTaken c None good n old new = (good ≡ false) × (new ≡ old)
+LineTaken c (Some turn) good n old new = (good ≡ true) × IsTaken c turn n old new

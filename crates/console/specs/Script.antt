@@ -1,8 +1,9 @@
 -- What one line of a script says.
-use Rattle.std.specs.Prelude.{ℕ, ◌||◌, List, [], length, Option, Some, None, Result, Ok, Err, nat_lt, ◌==◌, if◌then◌else◌, slice_index, codes, bytes_eq}
-use Rattle.hex.specs.Hex.{decode_of}
-use Rattle.loader.specs.Lines.{split_at_space}
-use Rattle.loader.specs.Words.{◌>>=◌, is_name}
+use Rattle.std.specs.Prelude.{ℕ, List, Option, Some, None, if◌then◌else◌}
+use Rattle.text.specs.Lines.{kind_of, by_kind}
+use Rattle.text.specs.Fields.{split_at_space}
+use Rattle.text.specs.Words.{◌>>=◌, is_name}
+use Rattle.text.specs.Digits.{field_bytes}
 
 -- a call of a program: its name, and the bytes of the argument
 pub record ProgramCall : Type 0 where
@@ -14,27 +15,13 @@ pub data Meaning : Type 0 where
   Comment : Meaning
   Call : ProgramCall → Meaning
 
-abbrev pub good : {A E : Type 0} → Result A E → Option A
-good (Ok x) = Some x
-good (Err e) = None
-
--- HEX: pairs of hexadecimal digits in either case, or - for no bytes
-unfoldable pub bytes_of : List ℕ → Option (List ℕ)
-bytes_of field =
-    if bytes_eq field (codes "-") then Some []
-    else if length field == 0 then None
-    else good (decode_of field)
-
 -- NAME HEX
 unfoldable pub call_meaning : List ℕ → Option Meaning
 call_meaning line = do
   field ← split_at_space line
-  argument ← bytes_of field.1
+  argument ← field_bytes field.1
   if is_name field.0 then Some (Call (record { name = field.0; argument = argument })) else None
 
 -- a line over 512 bytes is bad whatever it holds; an empty line and one that begins with # say nothing
 unfoldable pub line_meaning : List ℕ → Option Meaning
-line_meaning line =
-    if nat_lt 512 (length line) then None
-    else if length line == 0 || slice_index line 0 == 35 then Some Comment
-    else call_meaning line
+line_meaning line = by_kind Comment (call_meaning line) (kind_of line)

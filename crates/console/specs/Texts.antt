@@ -6,7 +6,7 @@ use Rattle.insn.specs.Refusal as decoding
 use Rattle.verifier.specs.Numbers as verifying
 use Rattle.loader.specs.declared.refusals.LoadFault.{LoadFault}
 use Rattle.loader.specs.declared.refusals.LoadFault.TheVariants as faults
-use Rattle.loader.specs.declared.refusals.LoadError.{LoadError}
+use Rattle.loader.specs.declared.refusals.LoadRefusal.{LoadRefusal}
 use Rattle.loader.specs.CatalogueView.{Entry}
 use Rattle.loader.specs.Refusal.{fault_number}
 
@@ -31,7 +31,7 @@ abbrev pub fault_text : LoadFault → List ℕ
 fault_text why = codes "C" ++ (decimal (fault_number why) ++ place_text why)
 
 -- the line of a refused manifest
-abbrev pub refusal_text : LoadError → List ℕ
+abbrev pub refusal_text : LoadRefusal → List ℕ
 refusal_text e = codes "line " ++ (decimal e.line ++ (codes ": " ++ (fault_text e.why ++ codes "\n")))
 
 abbrev pub not_text_line : List ℕ

@@ -1,9 +1,11 @@
 // What a line of a script does.
 
 ghost use Rattle.std.specs.Prelude.{◌≡◌, ◌≤◌, Some, length, IfOk, OnOk};
+ghost use Rattle.oplog.specs.declared.records.TheConstants.{MAX_ARG_LEN};
+ghost use Rattle.oplog.specs.History.{History};
 ghost use Rattle.replica.specs.StoreMeaning.{program_at};
 ghost use Rattle.console.specs.RunAnswer.{performed, numbered, called, line_turn};
-ghost use Rattle.console.specs.Running.{history_of, IsAtRest, IsTaken, LineTaken};
+ghost use Rattle.console.specs.Running.{IsSteady, Follows, IsTaken, LineTaken};
 ghost use Rattle.console.specs.ScriptShown.{call_of};
 
 use crate::node::SingleNode;
@@ -22,21 +24,22 @@ fn perform(
     argument: &[u8],
     out: &mut Vec<u8>,
 ) -> Result<(), AllocError>
-    requires rest { IsAtRest catalogue.now node.old }
+    requires steady { IsSteady catalogue.now node.old }
     requires program { program_at catalogue.now k ≡ Some program.now }
     requires length { length argument.now ≡ program.now.arg_len }
-    requires fits { length argument.now ≤ 64 }
+    requires fits { length argument.now ≤ MAX_ARG_LEN }
     requires shapes { program.now.shapes ≡ catalogue.now.shapes }
-    ensures rest { IsAtRest catalogue.now node.new }
-    ensures taken { OnOk result (IsTaken (performed catalogue.now (history_of node.old) (record { program = k; argument = argument.now }) program.now.mode) node.new out.old.items out.new.items) }
+    ensures steady { IsSteady catalogue.now node.new }
+    ensures taken { (h : History) → Follows catalogue.now h node.old
+        → OnOk result (IsTaken catalogue.now (performed catalogue.now h (record { program = k; argument = argument.now }) program.now.mode) node.new out.old.items out.new.items) }
 {
     let place = node.tail();
     match program.mode() {
         Mode::Read => {
-            let outcome = node.read(program, argument);
+            let outcome = node.query(program, argument);
             put_read(out, place, outcome)
         }
-        Mode::Update => match node.update(catalogue, k, argument) {
+        Mode::Update => match node.submit(catalogue, k, argument) {
             Some(outcome) => put_update(out, place, outcome),
             None => put_refused(out, 4),
         },
@@ -44,16 +47,17 @@ fn perform(
 }
 
 // Runs the program of this number, where there is one and the argument has its length.
-fn put_numbered(
+fn run_numbered(
     node: &mut SingleNode,
     catalogue: &Catalogue,
     number: Option<u16>,
     argument: &[u8],
     out: &mut Vec<u8>,
 ) -> Result<(), AllocError>
-    requires rest { IsAtRest catalogue.now node.old }
-    ensures rest { IsAtRest catalogue.now node.new }
-    ensures taken { OnOk result (IsTaken (numbered catalogue.now (history_of node.old) argument.now number) node.new out.old.items out.new.items) }
+    requires steady { IsSteady catalogue.now node.old }
+    ensures steady { IsSteady catalogue.now node.new }
+    ensures taken { (h : History) → Follows catalogue.now h node.old
+        → OnOk result (IsTaken catalogue.now (numbered catalogue.now h argument.now number) node.new out.old.items out.new.items) }
 {
     let Some(k) = number else {
         return put_refused(out, 1);
@@ -69,17 +73,18 @@ fn put_numbered(
 
 // Runs the program that a line calls, and writes what it answers.
 #[tactic(auto, unfolding(crate::specs::RunAnswer::called))]
-fn put_call(
+fn run_call(
     node: &mut SingleNode,
     catalogue: &Catalogue,
     call: &ProgramCall,
     out: &mut Vec<u8>,
 ) -> Result<(), AllocError>
-    requires rest { IsAtRest catalogue.now node.old }
-    ensures rest { IsAtRest catalogue.now node.new }
-    ensures taken { OnOk result (IsTaken (called catalogue.now (history_of node.old) (call_of call.now)) node.new out.old.items out.new.items) }
+    requires steady { IsSteady catalogue.now node.old }
+    ensures steady { IsSteady catalogue.now node.new }
+    ensures taken { (h : History) → Follows catalogue.now h node.old
+        → OnOk result (IsTaken catalogue.now (called catalogue.now h (call_of call.now)) node.new out.old.items out.new.items) }
 {
-    put_numbered(
+    run_numbered(
         node,
         catalogue,
         catalogue.number(call.name),
@@ -96,15 +101,16 @@ pub(crate) fn take_line(
     line: &str,
     out: &mut Vec<u8>,
 ) -> Result<bool, AllocError>
-    requires rest { IsAtRest catalogue.now node.old }
-    ensures rest { IsAtRest catalogue.now node.new }
-    ensures taken { IfOk result (λ good. LineTaken (line_turn catalogue.now (history_of node.old) line.now) good node.new out.old.items out.new.items) }
+    requires steady { IsSteady catalogue.now node.old }
+    ensures steady { IsSteady catalogue.now node.new }
+    ensures taken { (h : History) → Follows catalogue.now h node.old
+        → IfOk result (λ good. LineTaken catalogue.now (line_turn catalogue.now h line.now) good node.new out.old.items out.new.items) }
 {
     match read_line(line) {
         None => Ok(false),
         Some(ScriptLine::Comment) => Ok(true),
         Some(ScriptLine::Call(call)) => {
-            put_call(node, catalogue, &call, out)?;
+            run_call(node, catalogue, &call, out)?;
             Ok(true)
         }
     }

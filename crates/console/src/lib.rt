@@ -1,22 +1,22 @@
 //! The commands of the program `nrbpf`, over any reader, any writer and any folder of files.
 #![tactic(auto)]
 
+mod asm_texts;
 mod calls;
+mod catalogues;
 mod commands;
 mod folder;
+mod input;
+mod laws;
 mod node;
-mod reading;
 mod report;
-#[cfg(test)]
-mod run_tests;
 mod run_texts;
 mod script;
 mod status;
-#[cfg(test)]
-mod tests;
 mod texts;
 mod transfer;
 
-pub use commands::{check, run};
+pub use commands::{assemble, check, disassemble, run};
 pub use folder::Folder;
+pub use laws::run_lines_are_runs;
 pub use status::Status;

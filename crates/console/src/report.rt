@@ -2,7 +2,7 @@
 
 ghost use Rattle.console.specs.Report.{Sends, Writes};
 
-use crate::reading::Stop;
+use crate::input::InputFault;
 use crate::status::{Status, Verdict, status_of};
 use crate::texts::{no_memory, not_text};
 use crate::transfer::send;
@@ -26,13 +26,13 @@ fn write_text<W: Write>(writer: &mut W, text: &[u8], status: Status) -> Status
 }
 
 // Writes what a command answers, whole, after all is read.
-pub(crate) fn report<W: Write>(writer: &mut W, answer: Result<Reply, Stop>) -> Status
+pub(crate) fn report<W: Write>(writer: &mut W, answer: Result<Reply, InputFault>) -> Status
     ensures { Writes (W.contents writer.old) (W.contents writer.new) result answer }
 {
     match answer {
         Ok(reply) => write_text(writer, &reply.text, status_of(reply.verdict)),
-        Err(Stop::NotText) => write_text(writer, not_text(), Status::Refused),
-        Err(Stop::NoMemory) => write_text(writer, no_memory(), Status::NoMemory),
-        Err(Stop::CannotRead) => Status::CannotRead,
+        Err(InputFault::NotText) => write_text(writer, not_text(), Status::Refused),
+        Err(InputFault::NoMemory) => write_text(writer, no_memory(), Status::NoMemory),
+        Err(InputFault::CannotRead) => Status::CannotRead,
     }
 }

@@ -1,12 +1,13 @@
 // What `run` writes.
 
-ghost use Rattle.std.specs.Prelude.{◌≡◌, ◌++◌, codes, OnOk};
-ghost use Rattle.console.specs.RunAnswer.{outcome_text, refused_text, bad_line_text};
+ghost use Rattle.std.specs.Prelude.{◌≡◌, ◌++◌, OnOk};
+ghost use Rattle.console.specs.RunAnswer.{outcome_text, update_text, read_text, refused_text, bad_line_text};
 
 use crate::texts::put_number;
 use machine::Outcome;
 use std::alloc::AllocError;
 
+// A place in the history, and what a program answered there.
 fn put_outcome(out: &mut Vec<u8>, place: u64, outcome: Outcome) -> Result<(), AllocError>
     ensures { OnOk result (out.new.items ≡ out.old.items ++ outcome_text place outcome.reply outcome.steps) }
 {
@@ -20,7 +21,7 @@ fn put_outcome(out: &mut Vec<u8>, place: u64, outcome: Outcome) -> Result<(), Al
 
 // The line of an update: its index in the history.
 pub(crate) fn put_update(out: &mut Vec<u8>, index: u64, outcome: Outcome) -> Result<(), AllocError>
-    ensures { OnOk result (out.new.items ≡ out.old.items ++ (codes "update " ++ outcome_text index outcome.reply outcome.steps)) }
+    ensures { OnOk result (out.new.items ≡ out.old.items ++ update_text index outcome.reply outcome.steps) }
 {
     out.extend_from_slice(b"update ")?;
     put_outcome(out, index, outcome)
@@ -28,7 +29,7 @@ pub(crate) fn put_update(out: &mut Vec<u8>, index: u64, outcome: Outcome) -> Res
 
 // The line of a read: the number of updates before it.
 pub(crate) fn put_read(out: &mut Vec<u8>, point: u64, outcome: Outcome) -> Result<(), AllocError>
-    ensures { OnOk result (out.new.items ≡ out.old.items ++ (codes "read " ++ outcome_text point outcome.reply outcome.steps)) }
+    ensures { OnOk result (out.new.items ≡ out.old.items ++ read_text point outcome.reply outcome.steps) }
 {
     out.extend_from_slice(b"read ")?;
     put_outcome(out, point, outcome)

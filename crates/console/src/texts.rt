@@ -4,7 +4,7 @@ ghost use Rattle.std.specs.Prelude.{◌≡◌, ◌++◌, OnOk, IfOk, decimal, sl
 ghost use Rattle.console.specs.Texts.{program_line, line_if_any, programs_text, fault_text, refusal_text, not_text_line, no_memory_line};
 
 use itoa::Buffer;
-use loader::{Catalogue, LoadError, LoadFault};
+use loader::{Catalogue, LoadFault, LoadRefusal};
 use std::alloc::{AllocError, Global};
 use verifier::Accepted;
 
@@ -22,6 +22,7 @@ pub(crate) fn no_memory() -> &'static [u8]
     b"no memory\n"
 }
 
+// A number in decimal.
 pub(crate) fn put_number(out: &mut Vec<u8>, n: u64) -> Result<(), AllocError>
     ensures { OnOk result (out.new.items ≡ out.old.items ++ decimal n) }
 {
@@ -29,6 +30,7 @@ pub(crate) fn put_number(out: &mut Vec<u8>, n: u64) -> Result<(), AllocError>
     out.extend_from_slice(digits.format(n).as_bytes())
 }
 
+// A program's line.
 fn put_program(out: &mut Vec<u8>, name: &str, program: &Accepted) -> Result<(), AllocError>
     ensures { OnOk result (out.new.items ≡ out.old.items ++ program_line (record { name = name.now; checked = program.now })) }
 {
@@ -41,7 +43,8 @@ fn put_program(out: &mut Vec<u8>, name: &str, program: &Accepted) -> Result<(), 
 }
 
 // The line of program k.
-pub(crate) fn put_numbered(
+// A number in decimal.
+pub(crate) fn put_program_of(
     out: &mut Vec<u8>,
     catalogue: &Catalogue,
     k: u16,
@@ -60,11 +63,12 @@ pub(crate) fn programs_text(alloc: Global, catalogue: &Catalogue) -> Result<Vec<
 {
     let mut out = Vec::new(alloc);
     for k in 0..catalogue.len() {
-        put_numbered(&mut out, catalogue, k as u16)?;
+        put_program_of(&mut out, catalogue, k as u16)?;
     }
     Ok(out)
 }
 
+// What is wrong with a line.
 fn put_fault(out: &mut Vec<u8>, why: LoadFault) -> Result<(), AllocError>
     ensures { OnOk result (out.new.items ≡ out.old.items ++ fault_text why) }
 {
@@ -88,14 +92,14 @@ fn put_fault(out: &mut Vec<u8>, why: LoadFault) -> Result<(), AllocError>
 }
 
 // The line of a refused manifest.
-pub(crate) fn refusal_text(alloc: Global, e: LoadError) -> Result<Vec<u8>, AllocError>
-    ensures { IfOk result (λ v. v.items ≡ refusal_text e) }
+pub(crate) fn refusal_text(alloc: Global, refusal: LoadRefusal) -> Result<Vec<u8>, AllocError>
+    ensures { IfOk result (λ v. v.items ≡ refusal_text refusal) }
 {
     let mut out = Vec::new(alloc);
     out.extend_from_slice(b"line ")?;
-    put_number(&mut out, e.line as u64)?;
+    put_number(&mut out, refusal.line as u64)?;
     out.extend_from_slice(b": ")?;
-    put_fault(&mut out, e.why)?;
+    put_fault(&mut out, refusal.why)?;
     out.extend_from_slice(b"\n")?;
     Ok(out)
 }

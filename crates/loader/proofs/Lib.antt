@@ -1,7 +1,5 @@
-pub mod LineLemmas
-pub mod Numbers
-pub mod Numerals
-pub mod Fields
+pub mod NameLemmas
+pub mod Entries
 pub mod Spelled
 pub mod Respelled
 pub mod ShapesFit

@@ -6,21 +6,23 @@ use Rattle.std.proofs.lemmas.Bool.{lt-ltb, le-ltb, le-leb, leb-true, and_parts, 
 use Rattle.std.proofs.lemmas.List.{map-append, append-nil, length-append}
 use Rattle.std.proofs.lemmas.List.Sums.{sum_by-append}
 use Rattle.maps.specs.declared.shapes.Shape.{Shape}
+use Rattle.maps.specs.declared.shapes.TheConstants.{MAX_MAPS, MAX_TOTAL_BYTES}
 use Rattle.maps.specs.Shapes.{room_of}
 use Rattle.loader.specs.Grammar.{ProgramLine, Meaning, Comment, Map, Program, line_meaning}
 use Rattle.loader.specs.CatalogueView.{Entry, CatalogueView, names_of}
 use Rattle.loader.specs.ProgramFiles.{Files, entry_for}
 use Rattle.loader.specs.Loading.{are_few, is_taken, with_map, with_entry, with_program, after_meaning, after_line, nothing_yet}
 use Rattle.loader.specs.Offers.{says_something, Offers}
-use Rattle.loader.proofs.Steps.{entry_of}
+use Rattle.loader.specs.declared.loading.TheConstants.{MAX_PROGRAMS}
+use Rattle.loader.proofs.Entries.{entry_from, entries_to}
 use Rattle.loader.proofs.Passed.{Passes}
 
 fewer : (xs ys : List Shape) → are_few (xs ++ ys) ≡ true → are_few xs ≡ true
 fewer xs ys few =
-    let both = and_parts (leb (length (xs ++ ys)) 16) (leb (sum_by room_of (xs ++ ys)) 16777216) few in
-    let count : length xs ≤ 16 = omega (arith, leb-true _ _ both.0, length-append xs ys) in
-    let room : sum_by room_of xs ≤ 16777216 = omega (arith, leb-true _ _ both.1, sum_by-append room_of xs ys) in
-    and_from (leb (length xs) 16) (leb (sum_by room_of xs) 16777216) (le-leb _ _ count) (le-leb _ _ room)
+    let both = and_parts (leb (length (xs ++ ys)) MAX_MAPS) (leb (sum_by room_of (xs ++ ys)) MAX_TOTAL_BYTES) few in
+    let count : length xs ≤ MAX_MAPS = omega (arith, leb-true _ _ both.0, length-append xs ys) in
+    let room : sum_by room_of xs ≤ MAX_TOTAL_BYTES = omega (arith, leb-true _ _ both.1, sum_by-append room_of xs ys) in
+    and_from (leb (length xs) MAX_MAPS) (leb (sum_by room_of xs) MAX_TOTAL_BYTES) (le-leb _ _ count) (le-leb _ _ room)
 
 -- of distinct names none stands before another that equals it
 front_all : {X : Type 0} (P : X → Type 0) (xs : List X) (y : X) (ys : List X) → AllByRecursion P (xs ++ y ∷ ys) → P y
@@ -38,7 +40,7 @@ map_step v s none few =
     let off : ltb 0 (length v.programs) ≡ false = le-ltb 0 (length v.programs) (omega (arith, ap length none)) in
     rw (off, few) refl
 
-program_step : (fs : Files) (v : CatalogueView) (p : ProgramLine) (e : Entry) → entry_for fs v.shapes p ≡ Ok e → 0 < length v.shapes → is_taken v.programs p.name ≡ false → length v.programs < 256
+program_step : (fs : Files) (v : CatalogueView) (p : ProgramLine) (e : Entry) → entry_for fs v.shapes p ≡ Ok e → 0 < length v.shapes → is_taken v.programs p.name ≡ false → length v.programs < MAX_PROGRAMS
     → with_program fs v p ≡ Ok (record { shapes = v.shapes; programs = v.programs ++ e ∷ [] })
 unfolding with_program with_entry
 program_step fs v p e read some new few =
@@ -49,7 +51,7 @@ program_step fs v p e read some new few =
 pub record IsBounded (c : CatalogueView) : Type 0 where
   pub few_maps : are_few c.shapes ≡ true
   pub distinct : IsDistinct bytes_eq (names_of c.programs)
-  pub few : length c.programs ≤ 256
+  pub few : length c.programs ≤ MAX_PROGRAMS
 
 -- what is left to add, with a list of programs that is not empty only where there are maps
 pub record Left (fs : Files) (v c : CatalogueView) (ms : List Meaning) (maps : List Shape) (ps : List ProgramLine) (es : List Entry) : Type 0 where
@@ -123,7 +125,7 @@ program_next fs v c p q e ms ps es b k =
     let all : c.programs ≡ (v.programs ++ e ∷ []) ++ es = k.all ∙ sym (append_assoc v.programs (e ∷ []) es) in
     let names : names_of c.programs ≡ names_of v.programs ++ e.name ∷ names_of es = ap names_of k.all ∙ map-append (λ x. x.name) v.programs (e ∷ es) in
     let new : list_any (λ n. bytes_eq n e.name) (names_of v.programs) ≡ false = apart (names_of v.programs) e.name (names_of es) (subst (IsDistinct bytes_eq) names b.distinct) in
-    let named : e.name ≡ p.name = (entry_of fs v.shapes p e read).name in
+    let named : e.name ≡ p.name = (entry_from fs v.shapes p e read).name in
     let some : 0 < length v.shapes = subst (λ x. 0 < length x) shapes (k.some_map (omega arith)) in
     let count : length c.programs ≡ length v.programs + length (e ∷ es) = ap length k.all ∙ length-append v.programs (e ∷ es) in
     record {
@@ -190,7 +192,7 @@ offers_to fs ls c o =
     let left : Left fs nothing_yet c o.meanings c.shapes o.programs c.programs =
     record {
       in_order = o.in_order;
-      checked = o.checked;
+      checked = entries_to fs c.shapes o.programs c.programs o.checked;
       shapes = refl;
       all = refl;
       maps_first = λ lt. absurd (omega (arith, lt));

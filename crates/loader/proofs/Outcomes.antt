@@ -5,12 +5,12 @@ use Rattle.std.proofs.Math.Nat.{min-eq_left, min-eq_right, min-le_right}
 use Rattle.std.proofs.lemmas.List.{nil_from_length, append-nil}
 use Rattle.loader.specs.declared.refusals.LoadFault.{LoadFault}
 use Rattle.loader.specs.declared.refusals.LoadFault.TheVariants as faults
-use Rattle.loader.specs.declared.refusals.LoadError.{LoadError}
-use Rattle.loader.specs.Lines.{lines_of}
+use Rattle.loader.specs.declared.refusals.LoadRefusal.{LoadRefusal}
+use Rattle.text.specs.Lines.{lines_of, next_line}
 use Rattle.loader.specs.CatalogueView.{CatalogueView}
 use Rattle.loader.specs.ProgramFiles.{Files}
-use Rattle.loader.specs.Loading.{Outcome, either, next_line, after_line, after_lines, nothing_yet, loaded}
-use Rattle.loader.specs.Offers.{line_after, IsFirstBad, HasNoMap, LoadedIsOffered, RefusedIsFirstBad}
+use Rattle.loader.specs.Loading.{Outcome, either, after_line, after_lines, nothing_yet, loaded}
+use Rattle.loader.specs.Offers.{IsFirstBad, HasNoMap, LoadedIsOffered, RefusedIsFirstBad}
 use Rattle.loader.proofs.Passed.{Passes, offers_from}
 use Rattle.loader.proofs.Offered.{offers_to}
 
@@ -80,7 +80,7 @@ loaded_is_offered text files c = (
 
 -- ---- a refusal
 
-pub record BadAt (fs : Files) (ls : List (List ℕ)) (n : ℕ) (v : CatalogueView) (e : LoadError) : Type 0 where
+pub record BadAt (fs : Files) (ls : List (List ℕ)) (n : ℕ) (v : CatalogueView) (e : LoadRefusal) : Type 0 where
   pub before : List (List ℕ)
   pub line : List ℕ
   pub rest : List (List ℕ)
@@ -90,21 +90,21 @@ pub record BadAt (fs : Files) (ls : List (List ℕ)) (n : ℕ) (v : CatalogueVie
   pub bad : after_line fs so_far line ≡ Err e.why
   pub number : e.line ≡ number_behind n before
 
-pub record NoMapAt (fs : Files) (ls : List (List ℕ)) (n : ℕ) (v : CatalogueView) (e : LoadError) : Type 0 where
+pub record NoMapAt (fs : Files) (ls : List (List ℕ)) (n : ℕ) (v : CatalogueView) (e : LoadRefusal) : Type 0 where
   pub so_far : CatalogueView
   pub good : Passes fs ls v so_far
   pub none : so_far.shapes ≡ []
   pub why : e.why ≡ faults.BadLine
   pub number : e.line ≡ number_behind n ls
 
-abbrev pub RefusedAt : Files → List (List ℕ) → ℕ → CatalogueView → LoadError → Type 0
+abbrev pub RefusedAt : Files → List (List ℕ) → ℕ → CatalogueView → LoadRefusal → Type 0
 RefusedAt fs ls n v e = BadAt fs ls n v e ⊎ NoMapAt fs ls n v e
 
-end_err : (fs : Files) (n : ℕ) (v : CatalogueView) (e : LoadError) (t : Bool) → t ≡ eqb (length v.shapes) 0 → cond {A = Outcome} t (Err (record { line = n; why = faults.BadLine })) (Ok v) ≡ Err e → NoMapAt fs [] n v e
+end_err : (fs : Files) (n : ℕ) (v : CatalogueView) (e : LoadRefusal) (t : Bool) → t ≡ eqb (length v.shapes) 0 → cond {A = Outcome} t (Err (record { line = n; why = faults.BadLine })) (Ok v) ≡ Err e → NoMapAt fs [] n v e
 end_err fs n v e true is h = record { so_far = v; good = refl; none = nil_from_length v.shapes (eqb-true _ _ (sym is)); why = cc; number = cc }
 end_err fs n v e false is h = absurd cc
 
-later : (fs : Files) (l : List ℕ) (ls : List (List ℕ)) (n : ℕ) (v w : CatalogueView) (e : LoadError) → after_line fs v l ≡ Ok w → RefusedAt fs ls (next_line n) w e → RefusedAt fs (l ∷ ls) n v e
+later : (fs : Files) (l : List ℕ) (ls : List (List ℕ)) (n : ℕ) (v w : CatalogueView) (e : LoadRefusal) → after_line fs v l ≡ Ok w → RefusedAt fs ls (next_line n) w e → RefusedAt fs (l ∷ ls) n v e
 later fs l ls n v w e step (inl b) =
     inl
     (record {
@@ -127,7 +127,7 @@ later fs l ls n v w e step (inr b) =
       number = b.number;
     })
 
-first_err : (fs : Files) (l : List ℕ) (ls : List (List ℕ)) (n : ℕ) (v : CatalogueView) (e : LoadError) (r : Result CatalogueView LoadFault) → after_line fs v l ≡ r
+first_err : (fs : Files) (l : List ℕ) (ls : List (List ℕ)) (n : ℕ) (v : CatalogueView) (e : LoadRefusal) (r : Result CatalogueView LoadFault) → after_line fs v l ≡ r
     → either (λ why. Err (record { line = n; why = why })) (λ after. after_lines fs (next_line n) after ls) r ≡ Err e
     → ((w : CatalogueView) → after_lines fs (next_line n) w ls ≡ Err e → RefusedAt fs ls (next_line n) w e) → RefusedAt fs (l ∷ ls) n v e
 first_err fs l ls n v e (Ok w) is h more = later fs l ls n v w e is (more w h)
@@ -145,7 +145,7 @@ first_err fs l ls n v e (Err why) is h more =
       number = cc;
     })
 
-pub err_from : (fs : Files) (ls : List (List ℕ)) (n : ℕ) (v : CatalogueView) (e : LoadError) → after_lines fs n v ls ≡ Err e → RefusedAt fs ls n v e
+pub err_from : (fs : Files) (ls : List (List ℕ)) (n : ℕ) (v : CatalogueView) (e : LoadRefusal) → after_lines fs n v ls ≡ Err e → RefusedAt fs ls n v e
 unfolding after_lines
 err_from fs [] n v e h = inr (end_err fs n v e (eqb (length v.shapes) 0) refl h)
 err_from fs (l ∷ ls) n v e h = first_err fs l ls n v e (after_line fs v l) refl h (λ w g. err_from fs ls (next_line n) w e g)
@@ -158,7 +158,7 @@ ends_at : (fs : Files) (n : ℕ) (v : CatalogueView) → v.shapes ≡ [] → aft
 unfolding after_lines
 ends_at fs n v none = rw none refl
 
-pub err_to : (fs : Files) (ls : List (List ℕ)) (n : ℕ) (v : CatalogueView) (e : LoadError) → RefusedAt fs ls n v e → after_lines fs n v ls ≡ Err e
+pub err_to : (fs : Files) (ls : List (List ℕ)) (n : ℕ) (v : CatalogueView) (e : LoadRefusal) → RefusedAt fs ls n v e → after_lines fs n v ls ≡ Err e
 err_to fs ls n v e (inl b) =
     ap (after_lines fs n v) b.split ∙ through fs b.before (b.line ∷ b.rest) n v b.so_far b.good ∙ stops_at fs (number_behind n b.before) b.so_far b.line b.rest e.why b.bad
     ∙ ap (λ m. Err (record { line = m; why = e.why })) (sym b.number)
@@ -166,10 +166,10 @@ err_to fs ls n v e (inr b) =
     ap (after_lines fs n v) (sym (append-nil ls)) ∙ through fs ls [] n v b.so_far b.good ∙ ends_at fs (number_behind n ls) b.so_far b.none
     ∙ ap₂ (λ m w. Err (record { line = m; why = w })) (sym b.number) (sym b.why)
 
-behind_one : (ls : List (List ℕ)) → number_behind 1 ls ≡ line_after (length ls)
+behind_one : (ls : List (List ℕ)) → number_behind 1 ls ≡ next_line (length ls)
 behind_one ls = numbered 1 ls (omega arith) ∙ ap (λ m. min m last) (omega arith)
 
-shown : (fs : Files) (ls : List (List ℕ)) (e : LoadError) → RefusedAt fs ls 1 nothing_yet e → IsFirstBad fs ls e ⊎ HasNoMap fs ls e
+shown : (fs : Files) (ls : List (List ℕ)) (e : LoadRefusal) → RefusedAt fs ls 1 nothing_yet e → IsFirstBad fs ls e ⊎ HasNoMap fs ls e
 shown fs ls e (inl b) =
     inl
     (record {
@@ -192,7 +192,7 @@ shown fs ls e (inr b) =
       number = b.number ∙ behind_one ls;
     })
 
-meant : (fs : Files) (ls : List (List ℕ)) (e : LoadError) → IsFirstBad fs ls e ⊎ HasNoMap fs ls e → RefusedAt fs ls 1 nothing_yet e
+meant : (fs : Files) (ls : List (List ℕ)) (e : LoadRefusal) → IsFirstBad fs ls e ⊎ HasNoMap fs ls e → RefusedAt fs ls 1 nothing_yet e
 meant fs ls e (inl b) =
     inl
     (record {

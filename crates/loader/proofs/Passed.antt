@@ -9,16 +9,17 @@ use Rattle.loader.specs.CatalogueView.{Entry, CatalogueView}
 use Rattle.loader.specs.ProgramFiles.{Files, entry_for}
 use Rattle.loader.specs.Loading.{after_meaning, after_line, nothing_yet}
 use Rattle.loader.specs.Offers.{says_something, Offers}
-use Rattle.loader.specs.SoFar.{IsSoFar}
-use Rattle.loader.proofs.Steps.{after_map, IsAfterProgram, after_program, stays, nothing_so_far}
+use Rattle.loader.specs.PartialView.{IsPartial}
+use Rattle.loader.proofs.Entries.{entries_from}
+use Rattle.loader.proofs.Steps.{after_map, IsAfterProgram, after_program, stays, nothing_partial}
 
 -- each line in turn is good after those before it
 abbrev pub Passes : Files → List (List ℕ) → CatalogueView → CatalogueView → Type 0
 Passes fs [] v c = v ≡ c
 Passes fs (l ∷ ls) v c = (w : CatalogueView) × (after_line fs v l ≡ Ok w) × Passes fs ls w c
 
-pub passes_stay : (fs : Files) (ls : List (List ℕ)) (v c : CatalogueView) → IsSoFar v → Passes fs ls v c → IsSoFar c
-passes_stay fs [] v c so_far p = subst IsSoFar p so_far
+pub passes_stay : (fs : Files) (ls : List (List ℕ)) (v c : CatalogueView) → IsPartial v → Passes fs ls v c → IsPartial c
+passes_stay fs [] v c so_far p = subst IsPartial p so_far
 passes_stay fs (l ∷ ls) v c so_far p = passes_stay fs ls p.0 c (stays fs v l p.0 so_far p.1) p.2
 
 -- what the lines add to the catalogue so far
@@ -123,13 +124,13 @@ adds fs (l ∷ ls) v c (w, e, p) = adds_line fs l ls v w c (line_meaning l) refl
 pub offers_from : (fs : Files) (ls : List (List ℕ)) (c : CatalogueView) → Passes fs ls nothing_yet c → Offers fs ls c
 offers_from fs ls c p =
     let a = adds fs ls nothing_yet c p in
-    let s = passes_stay fs ls nothing_yet c nothing_so_far p in
+    let s = passes_stay fs ls nothing_yet c nothing_partial p in
     record {
       meanings = a.meanings;
       each = a.each;
       programs = a.programs;
       in_order = a.in_order ∙ ap (λ m. map Map m ++ map Program a.programs) (sym a.shapes);
-      checked = a.checked ∙ ap (map Ok) (sym a.all);
+      checked = entries_from fs c.shapes a.programs c.programs (a.checked ∙ ap (map Ok) (sym a.all));
       some_map = a.some_map;
       few_maps = s.few_maps;
       distinct = s.distinct;

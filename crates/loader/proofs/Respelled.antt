@@ -1,19 +1,24 @@
 -- What is spelled so means that.
-use Rattle.std.proofs.Common.{◌≡◌, inl, inr, ℕ, ◌<◌, ◌≤◌, ◌^◌, Bool, true, false, eqb, ltb, leb, ◌&&◌, ◌||◌, List, [], ◌∷◌, ◌++◌, length, get_or, codes, decimal, Some, refl, sym, subst, arith}
+use Rattle.std.proofs.Common.{◌≡◌, inl, inr, ℕ, ◌<◌, ◌≤◌, ◌^◌, Bool, true, false, eqb, leb, ◌&&◌, List, [], ◌∷◌, ◌++◌, ◌∙◌, length, codes, decimal, Some, refl, sym, subst, arith}
 use Rattle.std.specs.List.{list_all}
-use Rattle.std.proofs.lemmas.Bool.{le-ltb, le-leb, and_parts, ne_eqb}
+use Rattle.std.proofs.lemmas.Bool.{le-leb, and_parts}
 use Rattle.std.proofs.lemmas.Bool.Decides.{nat_tests}
 use Rattle.std.proofs.lemmas.Fmt.{digits_decimal}
 use Rattle.maps.specs.declared.shapes.Shape.TheVariants.{Array, Hash}
 use Rattle.verifier.specs.declared.refusal.Mode.{Mode}
 use Rattle.verifier.specs.declared.refusal.Mode.TheVariants.{Update, Read}
-use Rattle.loader.specs.Lines.{split_at_space}
-use Rattle.loader.specs.Words.{number_within, is_name_byte, is_name, is_path}
-use Rattle.loader.specs.Grammar.{ProgramLine, Meaning, Comment, Map, Program, array_meaning, map_meaning, mode_of, program_meaning, words_meaning, line_meaning}
-use Rattle.loader.specs.Spelling.{IsFrom, mode_word, Spells}
-use Rattle.loader.proofs.Numbers.{own}
-use Rattle.loader.proofs.Numerals.{numerals_are_decimals}
-use Rattle.loader.proofs.Fields.{is_space, has_no_space, split_to}
+use Rattle.text.specs.Fields.{split_at_space}
+use Rattle.maps.specs.declared.shapes.TheConstants.{MAX_VALUE_BYTES, MAX_ENTRIES}
+use Rattle.verifier.specs.declared.signature.TheConstants.{MAX_ARG_LEN}
+use Rattle.text.specs.Words.{IsFrom, number_within, is_name_byte, is_name}
+use Rattle.text.specs.declared.lines.TheConstants.{LINE_BYTES}
+use Rattle.text.proofs.LineReadings.{by_words, by_hash, by_empty}
+use Rattle.loader.specs.Grammar.{is_path, ProgramLine, Meaning, Comment, Map, Program, array_meaning, map_meaning, mode_of, program_meaning, words_meaning, line_meaning}
+use Rattle.loader.specs.Spelling.{mode_word, Spells}
+use Rattle.text.proofs.Numbers.{own}
+use Rattle.text.proofs.Numerals.{numerals_are_decimals}
+use Rattle.text.proofs.Cuts.{split_to}
+use Rattle.text.specs.Fields.{is_space, has_no_space}
 
 small : (high n : ℕ) → n ≤ high → high < 2 ^ 64 → n < 2 ^ 64
 small high n le lt = omega (arith, le, lt)
@@ -52,12 +57,12 @@ mode_to : (m : Mode) → mode_of (mode_word m) ≡ Some m
 mode_to Update = refl
 mode_to Read = refl
 
-array_to : (v e : ℕ) → IsFrom 1 256 v → IsFrom 1 65536 e → array_meaning (decimal v ++ 32 ∷ decimal e) ≡ Some (Map (Array v e))
+array_to : (v e : ℕ) → IsFrom 1 MAX_VALUE_BYTES v → IsFrom 1 MAX_ENTRIES e → array_meaning (decimal v ++ 32 ∷ decimal e) ≡ Some (Map (Array v e))
 unfolding array_meaning
 array_to v e hv he =
-    rw (split_to (decimal v) (decimal e) (no_space_in_number v (omega (arith, hv.1))), within 1 256 v hv (omega arith), within 1 65536 e he (omega arith)) refl
+    rw (split_to (decimal v) (decimal e) (no_space_in_number v (omega (arith, hv.1))), within 1 MAX_VALUE_BYTES v hv (omega arith), within 1 MAX_ENTRIES e he (omega arith)) refl
 
-map_to : (v e : ℕ) → IsFrom 1 256 v → IsFrom 1 65536 e → words_meaning (codes "map array " ++ (decimal v ++ 32 ∷ decimal e)) ≡ Some (Map (Array v e))
+map_to : (v e : ℕ) → IsFrom 1 MAX_VALUE_BYTES v → IsFrom 1 MAX_ENTRIES e → words_meaning (codes "map array " ++ (decimal v ++ 32 ∷ decimal e)) ≡ Some (Map (Array v e))
 unfolding words_meaning map_meaning
 map_to v e hv he =
     let first : split_at_space (codes "map" ++ 32 ∷ (codes "array" ++ 32 ∷ (decimal v ++ 32 ∷ decimal e))) ≡ Some (codes "map", codes "array" ++ 32 ∷ (decimal v ++ 32 ∷ decimal e)) = split_to (codes "map") _ refl in
@@ -67,7 +72,7 @@ map_to v e hv he =
 abbrev fields : ProgramLine → List ℕ
 fields p = p.name ++ 32 ∷ (mode_word p.mode ++ 32 ∷ (decimal p.arg_len ++ 32 ∷ p.file))
 
-fields_to : (p : ProgramLine) → is_name p.name ≡ true → p.arg_len ≤ 64 → is_path p.file ≡ true → program_meaning (fields p) ≡ Some (Program p)
+fields_to : (p : ProgramLine) → is_name p.name ≡ true → p.arg_len ≤ MAX_ARG_LEN → is_path p.file ≡ true → program_meaning (fields p) ≡ Some (Program p)
 unfolding program_meaning
 fields_to p name len path =
     rw (
@@ -75,40 +80,34 @@ fields_to p name len path =
       split_to (mode_word p.mode) (decimal p.arg_len ++ 32 ∷ p.file) (no_space_in_mode p.mode),
       split_to (decimal p.arg_len) p.file (no_space_in_number p.arg_len (omega (arith, len))),
       mode_to p.mode,
-      within 0 64 p.arg_len (omega arith, len) (omega arith),
+      within 0 MAX_ARG_LEN p.arg_len (omega arith, len) (omega arith),
       name,
       path,
     ) refl
 
-program_to : (p : ProgramLine) → is_name p.name ≡ true → p.arg_len ≤ 64 → is_path p.file ≡ true → words_meaning (codes "program " ++ fields p) ≡ Some (Program p)
+program_to : (p : ProgramLine) → is_name p.name ≡ true → p.arg_len ≤ MAX_ARG_LEN → is_path p.file ≡ true → words_meaning (codes "program " ++ fields p) ≡ Some (Program p)
 unfolding words_meaning
 program_to p name len path =
     let first : split_at_space (codes "program" ++ 32 ∷ fields p) ≡ Some (codes "program", fields p) = split_to (codes "program") _ refl in
     rw first (fields_to p name len path)
 
-short_line : (line : List ℕ) → length line ≤ 512 → ltb 512 (length line) ≡ false
-short_line line le = le-ltb 512 (length line) le
-
-not_comment : (c : ℕ) (cs : List ℕ) → eqb c 35 ≡ false → (eqb (length (c ∷ cs)) 0 || eqb (get_or (c ∷ cs) 0 0) 35) ≡ false
-not_comment c cs h = let some : eqb (length (c ∷ cs)) 0 ≡ false = ne_eqb _ _ (λ e. absurd (omega (arith, e))) in rw (some, h) refl
-
-of_words : (c : ℕ) (cs : List ℕ) (x : Meaning) → length (c ∷ cs) ≤ 512 → eqb c 35 ≡ false → words_meaning (c ∷ cs) ≡ Some x → line_meaning (c ∷ cs) ≡ Some x
+of_words : (c : ℕ) (cs : List ℕ) (x : Meaning) → length (c ∷ cs) ≤ LINE_BYTES → eqb c 35 ≡ false → words_meaning (c ∷ cs) ≡ Some x → line_meaning (c ∷ cs) ≡ Some x
 unfolding line_meaning
-of_words c cs x le other e = rw (short_line (c ∷ cs) le, not_comment c cs other) e
+of_words c cs x le other e = by_words Comment (words_meaning (c ∷ cs)) c cs le other ∙ e
 
-comment_to : (cs : List ℕ) → length (35 ∷ cs) ≤ 512 → line_meaning (35 ∷ cs) ≡ Some Comment
+comment_to : (cs : List ℕ) → length (35 ∷ cs) ≤ LINE_BYTES → line_meaning (35 ∷ cs) ≡ Some Comment
 unfolding line_meaning
-comment_to cs le = let some : eqb (length (35 ∷ cs)) 0 ≡ false = ne_eqb _ _ (λ e. absurd (omega (arith, e))) in rw (short_line (35 ∷ cs) le, some) refl
+comment_to cs le = by_hash Comment (words_meaning (35 ∷ cs)) cs le
 
 empty_to : line_meaning [] ≡ Some Comment
 unfolding line_meaning
-empty_to = refl
+empty_to = by_empty Comment (words_meaning [])
 
-pub respelled : (line : List ℕ) (x : Meaning) → length line ≤ 512 → Spells x line → line_meaning line ≡ Some x
+pub respelled : (line : List ℕ) (x : Meaning) → length line ≤ LINE_BYTES → Spells x line → line_meaning line ≡ Some x
 respelled line Comment le (inl empty) = subst (λ l. line_meaning l ≡ Some Comment) (sym empty) empty_to
-respelled line Comment le (inr (rest, whole)) = subst (λ l. length l ≤ 512 → line_meaning l ≡ Some Comment) (sym whole) (comment_to rest) le
+respelled line Comment le (inr (rest, whole)) = subst (λ l. length l ≤ LINE_BYTES → line_meaning l ≡ Some Comment) (sym whole) (comment_to rest) le
 respelled line (Map (Array v e)) le h =
-    subst (λ l. length l ≤ 512 → line_meaning l ≡ Some (Map (Array v e))) (sym h.0) (λ s. of_words _ _ _ s refl (map_to v e h.1 h.2)) le
+    subst (λ l. length l ≤ LINE_BYTES → line_meaning l ≡ Some (Map (Array v e))) (sym h.0) (λ s. of_words _ _ _ s refl (map_to v e h.1 h.2)) le
 respelled line (Map (Hash k v e)) le h = absurd h
 respelled line (Program p) le h =
-    subst (λ l. length l ≤ 512 → line_meaning l ≡ Some (Program p)) (sym h.0) (λ s. of_words _ _ _ s refl (program_to p h.1 h.2 h.3)) le
+    subst (λ l. length l ≤ LINE_BYTES → line_meaning l ≡ Some (Program p)) (sym h.0) (λ s. of_words _ _ _ s refl (program_to p h.1 h.2 h.3)) le

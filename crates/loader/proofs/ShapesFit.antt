@@ -5,16 +5,17 @@ use Rattle.std.proofs.lemmas.List.Elements.{All-push}
 use Rattle.std.proofs.lemmas.Bool.{leb-true, and_parts}
 use Rattle.std.proofs.lemmas.List.{length_push}
 use Rattle.maps.specs.declared.shapes.Shape.{Shape}
+use Rattle.maps.specs.declared.shapes.TheConstants.{MAX_MAPS, MAX_TOTAL_BYTES}
 use Rattle.maps.specs.Shapes.{room_of, IsShapeOk, AreShapesOk}
 use Rattle.loader.specs.declared.refusals.LoadFault.TheVariants as faults
 use Rattle.loader.specs.CatalogueView.{CatalogueView}
 use Rattle.loader.specs.Loading.{are_few, with_map}
-use Rattle.loader.specs.SoFar.{IsSoFar}
+use Rattle.loader.specs.PartialView.{IsPartial}
 
 -- maps within their limits are what a store may have, where there are some, and few
 pub shapes_are_ok : (ss : List Shape) → 0 < length ss → All IsShapeOk ss → are_few ss ≡ true → AreShapesOk ss
 shapes_are_ok ss some within few =
-    let both = and_parts (leb (length ss) 16) (leb (sum_by room_of ss) 16777216) few in
+    let both = and_parts (leb (length ss) MAX_MAPS) (leb (sum_by room_of ss) MAX_TOTAL_BYTES) few in
     record { many = (omega (arith, some), leb-true _ _ both.0); each = within; room = leb-true _ _ both.1 }
 
 pub all_push : {X : Type 0} (P : X → Type 0) (xs : List X) (y : X) → AllByRecursion P xs → P y → AllByRecursion P (xs ++ y ∷ [])
@@ -26,7 +27,7 @@ by_bool true h = absurd (h refl)
 by_bool false h = refl
 
 -- a map that goes past the limits
-pub too_many : (v : CatalogueView) (s : Shape) → ltb 0 (length v.programs) ≡ false → IsSoFar v → IsShapeOk s → (AreShapesOk (v.shapes ++ s ∷ []) → ⊥) → with_map v s ≡ Err faults.TooMany
+pub too_many : (v : CatalogueView) (s : Shape) → ltb 0 (length v.programs) ≡ false → IsPartial v → IsShapeOk s → (AreShapesOk (v.shapes ++ s ∷ []) → ⊥) → with_map v s ≡ Err faults.TooMany
 unfolding with_map
 too_many v s none so_far within bad =
     let some : 0 < length (v.shapes ++ s ∷ []) = omega (arith, length_push v.shapes s) in

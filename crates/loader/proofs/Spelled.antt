@@ -1,16 +1,20 @@
 -- What a line means is how it is spelled.
-use Rattle.std.proofs.Common.{◌≡◌, ◌⊎◌, inl, inr, ℕ, ◌≤◌, Bool, true, false, cond, eqb, ltb, leb, ◌&&◌, ◌||◌, List, [], ◌∷◌, ◌++◌, length, get_or, codes, bytes_eq, decimal, Some, None, refl, sym, ap, ap₂, subst, ◌∙◌, arith}
-use Rattle.std.proofs.lemmas.Bool.{ltb-false, leb-true, and_parts, or_cases, eqb-true}
+use Rattle.std.proofs.Common.{◌≡◌, ◌⊎◌, inl, inr, ℕ, ◌≤◌, Bool, true, false, cond, leb, ◌&&◌, List, ◌∷◌, ◌++◌, length, codes, bytes_eq, decimal, Some, None, refl, sym, ap, ap₂, subst, ◌∙◌}
+use Rattle.std.proofs.lemmas.Bool.{leb-true, and_parts}
 use Rattle.std.proofs.lemmas.Slice.Eq.{bytes_eq-Decides}
 use Rattle.maps.specs.declared.shapes.Shape.TheVariants.{Array}
 use Rattle.verifier.specs.declared.refusal.Mode.{Mode}
 use Rattle.verifier.specs.declared.refusal.Mode.TheVariants.{Update, Read}
-use Rattle.loader.specs.Lines.{split_at_space}
-use Rattle.loader.specs.Words.{number_of, number_within, is_name, is_path}
-use Rattle.loader.specs.Grammar.{Meaning, Comment, Map, Program, array_meaning, map_meaning, mode_of, program_meaning, words_meaning, line_meaning}
-use Rattle.loader.specs.Spelling.{IsFrom, mode_word, Spells}
-use Rattle.loader.proofs.Numerals.{numerals_are_decimals}
-use Rattle.loader.proofs.Fields.{steps, where_true, if_true, unless, split_from}
+use Rattle.text.specs.Fields.{split_at_space}
+use Rattle.maps.specs.declared.shapes.TheConstants.{MAX_VALUE_BYTES, MAX_ENTRIES}
+use Rattle.verifier.specs.declared.signature.TheConstants.{MAX_ARG_LEN}
+use Rattle.text.specs.Words.{IsFrom, number_of, number_within, is_name}
+use Rattle.text.proofs.LineReadings.{IsSilent, by_kind_from}
+use Rattle.text.specs.declared.lines.TheConstants.{LINE_BYTES}
+use Rattle.loader.specs.Grammar.{is_path, Meaning, Comment, Map, Program, array_meaning, map_meaning, mode_of, program_meaning, words_meaning, line_meaning}
+use Rattle.loader.specs.Spelling.{mode_word, Spells}
+use Rattle.text.proofs.Numerals.{numerals_are_decimals}
+use Rattle.text.proofs.Cuts.{steps, where_true, if_true, split_from}
 
 within : (low high : ℕ) (t : List ℕ) (n : ℕ) → number_within low high t ≡ Some n → (t ≡ decimal n) × IsFrom low high n
 unfolding number_within
@@ -25,11 +29,11 @@ array_from : (t : List ℕ) (x : Meaning) → array_meaning t ≡ Some x → Spe
 unfolding array_meaning
 array_from t x e =
     let value = steps (split_at_space t) _ x e in
-    let size = steps (number_within 1 256 value.0.0) _ x value.2 in
-    let entries = steps (number_within 1 65536 value.0.1) _ x size.2 in
+    let size = steps (number_within 1 MAX_VALUE_BYTES value.0.0) _ x value.2 in
+    let entries = steps (number_within 1 MAX_ENTRIES value.0.1) _ x size.2 in
     let is : Map (Array size.0 entries.0) ≡ x = cc in
-    let v = within 1 256 value.0.0 size.0 size.1 in
-    let n = within 1 65536 value.0.1 entries.0 entries.1 in
+    let v = within 1 MAX_VALUE_BYTES value.0.0 size.0 size.1 in
+    let n = within 1 MAX_ENTRIES value.0.1 entries.0 entries.1 in
     let whole : t ≡ decimal size.0 ++ 32 ∷ decimal entries.0 = split_from t value.0 value.1 ∙ ap₂ (λ a b. a ++ 32 ∷ b) v.0 n.0 in
     subst (λ y. Spells y (codes "map array " ++ t)) is (ap (λ u. codes "map array " ++ u) whole, v.1, n.1)
 
@@ -61,10 +65,10 @@ program_from t x e =
     let mode = steps (split_at_space name.0.1) _ x name.2 in
     let len = steps (split_at_space mode.0.1) _ x mode.2 in
     let m = steps (mode_of mode.0.0) _ x len.2 in
-    let n = steps (number_within 0 64 len.0.0) _ x m.2 in
+    let n = steps (number_within 0 MAX_ARG_LEN len.0.0) _ x m.2 in
     let last = where_true (is_name name.0.0 && is_path len.0.1) (Program (record { name = name.0.0; mode = m.0; arg_len = n.0; file = len.0.1 })) x n.2 in
     let good = and_parts (is_name name.0.0) (is_path len.0.1) last.0 in
-    let number = within 0 64 len.0.0 n.0 n.1 in
+    let number = within 0 MAX_ARG_LEN len.0.0 n.0 n.1 in
     let third : mode.0.1 ≡ decimal n.0 ++ 32 ∷ len.0.1 = split_from mode.0.1 len.0 len.1 ∙ ap (λ w. w ++ 32 ∷ len.0.1) number.0 in
     let second : name.0.1 ≡ mode_word m.0 ++ 32 ∷ (decimal n.0 ++ 32 ∷ len.0.1) = split_from name.0.1 mode.0 mode.1 ∙ ap₂ (λ a b. a ++ 32 ∷ b) (mode_from mode.0.0 m.0 m.1) third in
     let whole : t ≡ name.0.0 ++ 32 ∷ (mode_word m.0 ++ 32 ∷ (decimal n.0 ++ 32 ∷ len.0.1)) = split_from t name.0 name.1 ∙ ap (λ b. name.0.0 ++ 32 ∷ b) second in
@@ -81,23 +85,10 @@ words_from t x e =
     by_word w r false true e f g whole = subst (λ u. Spells x u) (sym (whole ∙ ap (λ u. u ++ 32 ∷ r) (g refl))) (program_from r x e)
     by_word w r false false e f g whole = absurd cc
 
-comment_from : (line : List ℕ) → (eqb (length line) 0 || eqb (get_or line 0 0) 35) ≡ true → Spells Comment line
-comment_from [] h = inl refl
-comment_from (c ∷ cs) h = inr (cs, ap (λ b. b ∷ cs) (is_hash (or_cases _ _ h)))
-  where
-    is_hash : ((eqb (length (c ∷ cs)) 0 ≡ true) ⊎ (eqb c 35 ≡ true)) → c ≡ 35
-    is_hash (inl e) = absurd (omega (arith, eqb-true _ _ e))
-    is_hash (inr e) = eqb-true _ _ e
-
-pub spelled : (line : List ℕ) (x : Meaning) → line_meaning line ≡ Some x → (length line ≤ 512) × Spells x line
+pub spelled : (line : List ℕ) (x : Meaning) → line_meaning line ≡ Some x → (length line ≤ LINE_BYTES) × Spells x line
 unfolding line_meaning
-spelled line x e =
-    let short = unless (ltb 512 (length line)) _ x e in
-    (ltb-false _ _ short.0, by_start (eqb (length line) 0 || eqb (get_or line 0 0) 35) short.1 (comment_from line))
+spelled line x e = let read = by_kind_from Comment (words_meaning line) line x e in (read.0, by_start read.1)
   where
-    by_start : (c : Bool) → cond c (Some Comment) (words_meaning line) ≡ Some x → (c ≡ true → Spells Comment line) → Spells x line
-    by_start true e f = subst (λ y. Spells y line) (inside e) (f refl)
-      where
-        inside : Some Comment ≡ Some x → Comment ≡ x
-        inside e = cc
-    by_start false e f = words_from line x e
+    by_start : (IsSilent line × (Comment ≡ x)) ⊎ (words_meaning line ≡ Some x) → Spells x line
+    by_start (inl silent) = subst (λ y. Spells y line) silent.1 silent.0
+    by_start (inr words) = words_from line x words

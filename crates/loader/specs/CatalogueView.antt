@@ -4,6 +4,7 @@ use Rattle.std.specs.List.{All, IsDistinct, position_from}
 use Rattle.maps.specs.declared.shapes.Shape.{Shape}
 use Rattle.maps.specs.Shapes.{AreShapesOk}
 use Rattle.verifier.specs.Accepted.{Checked, IsAccepted}
+use Rattle.loader.specs.declared.loading.TheConstants.{MAX_PROGRAMS}
 
 -- an accepted program and its name
 pub record Entry : Type 0 where
@@ -15,6 +16,7 @@ pub record CatalogueView : Type 0 where
   pub shapes : List Shape
   pub programs : List Entry
 
+-- the names of programs
 abbrev pub names_of : List Entry → List (List ℕ)
 names_of entries = map (λ e. e.name) entries
 
@@ -32,7 +34,7 @@ pub record IsCatalogue (c : CatalogueView) : Type 0 where
   pub accepted : AreFor c.shapes c.programs
   pub checked : AreAccepted c.programs
   pub distinct : IsDistinct bytes_eq (names_of c.programs)
-  pub few : length c.programs ≤ 256
+  pub few : length c.programs ≤ MAX_PROGRAMS
 
 -- the number of the first program of this name, from 0
 abbrev pub number_named : List Entry → List ℕ → Option ℕ

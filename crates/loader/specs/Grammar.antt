@@ -1,11 +1,24 @@
 -- What one line of a manifest means.
-use Rattle.std.specs.Prelude.{ℕ, ◌&&◌, ◌||◌, List, length, Option, Some, None, nat_lt, ◌==◌, if◌then◌else◌, slice_index, codes, bytes_eq}
+use Rattle.std.specs.Prelude.{ℕ, Bool, ◌&&◌, List, length, Option, Some, None, nat_lt, nat_le, if◌then◌else◌, codes, bytes_eq}
+use Rattle.std.specs.List.{list_all}
 use Rattle.maps.specs.declared.shapes.Shape.{Shape}
 use Rattle.maps.specs.declared.shapes.Shape.TheVariants as shapes
 use Rattle.verifier.specs.declared.refusal.Mode.{Mode}
 use Rattle.verifier.specs.declared.refusal.Mode.TheVariants as modes
-use Rattle.loader.specs.Lines.{split_at_space}
-use Rattle.loader.specs.Words.{◌>>=◌, number_within, is_name, is_path}
+use Rattle.text.specs.Lines.{kind_of, by_kind}
+use Rattle.text.specs.Fields.{split_at_space}
+use Rattle.text.specs.Words.{◌>>=◌, number_within, is_name}
+use Rattle.maps.specs.declared.shapes.TheConstants.{MAX_VALUE_BYTES, MAX_ENTRIES}
+use Rattle.verifier.specs.declared.signature.TheConstants.{MAX_ARG_LEN}
+use Rattle.loader.specs.declared.paths.TheConstants.{PATH_BYTES}
+
+-- a printable character of ASCII, but no space
+abbrev pub is_path_byte : ℕ → Bool
+is_path_byte c = nat_le 33 c && nat_le c 126
+
+-- a path: 1 to 255 of these
+unfoldable pub is_path : List ℕ → Bool
+is_path text = nat_lt 0 (length text) && nat_le (length text) PATH_BYTES && list_all is_path_byte text
 
 -- a program: its name, whether it may change maps, how long its argument is, and where its bytes lie
 pub record ProgramLine : Type 0 where
@@ -24,8 +37,8 @@ pub data Meaning : Type 0 where
 unfoldable pub array_meaning : List ℕ → Option Meaning
 array_meaning text = do
   value ← split_at_space text
-  size ← number_within 1 256 value.0
-  entries ← number_within 1 65536 value.1
+  size ← number_within 1 MAX_VALUE_BYTES value.0
+  entries ← number_within 1 MAX_ENTRIES value.1
   Some (Map (shapes.Array size entries))
 
 -- array VALUE ENTRIES; hash maps cannot be had yet
@@ -47,7 +60,7 @@ program_meaning text = do
   mode ← split_at_space name.1
   len ← split_at_space mode.1
   m ← mode_of mode.0
-  n ← number_within 0 64 len.0
+  n ← number_within 0 MAX_ARG_LEN len.0
   if is_name name.0 && is_path len.1 then Some (Program (record { name = name.0; mode = m; arg_len = n; file = len.1 })) else None
 
 abbrev pub by_first_word : List ℕ → List ℕ → Option Meaning
@@ -63,7 +76,4 @@ words_meaning line = do
 
 -- a line over 512 bytes is bad whatever it holds; an empty line and one that begins with # say nothing
 unfoldable pub line_meaning : List ℕ → Option Meaning
-line_meaning line =
-    if nat_lt 512 (length line) then None
-    else if length line == 0 || slice_index line 0 == 35 then Some Comment
-    else words_meaning line
+line_meaning line = by_kind Comment (words_meaning line) (kind_of line)

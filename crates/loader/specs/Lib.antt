@@ -1,5 +1,4 @@
-pub mod Lines
-pub mod Words
+pub mod NamedFiles
 pub mod Grammar
 pub mod Spelling
 pub mod LineShown
@@ -8,4 +7,4 @@ pub mod ProgramFiles
 pub mod Loading
 pub mod Offers
 pub mod Refusal
-pub mod SoFar
+pub mod PartialView

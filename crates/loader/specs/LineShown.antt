@@ -1,6 +1,8 @@
 -- What a line that was read means, without where its text lies. Clauses of private functions alone cite this.
 use Rattle.std.specs.Prelude.{◌≤◌, length}
+use Rattle.text.specs.declared.words.TheConstants.{NAME_BYTES}
 use Rattle.maps.specs.Shapes.{IsShapeOk}
+use Rattle.verifier.specs.declared.signature.TheConstants.{MAX_ARG_LEN}
 use Rattle.loader.specs.declared.grammar.ProgramLine.{ProgramLine as TheLine}
 use Rattle.loader.specs.declared.grammar.Line.{Line}
 use Rattle.loader.specs.declared.grammar.Line.TheVariants as lines
@@ -18,4 +20,4 @@ meaning_of (lines.Program p) = Program (program_of p)
 abbrev pub LineFits : Line → Type 0
 LineFits lines.Comment = Unit {0}
 LineFits (lines.Map shape) = IsShapeOk shape
-LineFits (lines.Program p) = (p.arg_len ≤ 64) × (length p.name.now ≤ 32)
+LineFits (lines.Program p) = (p.arg_len ≤ MAX_ARG_LEN) × (length p.name.now ≤ NAME_BYTES)

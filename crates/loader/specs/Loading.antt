@@ -1,19 +1,21 @@
 -- Line by line: the catalogue so far, and the first bad line.
-use Rattle.std.specs.Prelude.{ℕ, ◌+◌, ◌-◌, ◌^◌, min, Bool, ◌&&◌, ◌||◌, List, [], ◌∷◌, ◌++◌, length, Option, Some, None, Result, Ok, Err, nat_lt, nat_le, ◌==◌, if◌then◌else◌, sum_by, bytes_eq}
+use Rattle.std.specs.Prelude.{ℕ, Bool, ◌&&◌, ◌||◌, List, [], ◌∷◌, ◌++◌, length, Option, Some, None, Result, Ok, Err, nat_lt, nat_le, ◌==◌, if◌then◌else◌, sum_by, bytes_eq}
 use Rattle.std.specs.List.{list_any}
 use Rattle.maps.specs.declared.shapes.Shape.{Shape}
+use Rattle.maps.specs.declared.shapes.TheConstants.{MAX_MAPS, MAX_TOTAL_BYTES}
 use Rattle.maps.specs.Shapes.{room_of}
 use Rattle.loader.specs.declared.refusals.LoadFault.{LoadFault}
 use Rattle.loader.specs.declared.refusals.LoadFault.TheVariants as faults
-use Rattle.loader.specs.declared.refusals.LoadError.{LoadError}
-use Rattle.loader.specs.Lines.{lines_of}
+use Rattle.loader.specs.declared.refusals.LoadRefusal.{LoadRefusal}
+use Rattle.loader.specs.declared.loading.TheConstants.{MAX_PROGRAMS}
+use Rattle.text.specs.Lines.{lines_of, next_line}
 use Rattle.loader.specs.Grammar.{ProgramLine, Meaning, Comment, Map, Program, line_meaning}
 use Rattle.loader.specs.CatalogueView.{Entry, CatalogueView, names_of}
 use Rattle.loader.specs.ProgramFiles.{◌>>=◌, Files, entry_for}
 
 -- at most 16 maps, of at most 16,777,216 bytes together
 abbrev pub are_few : List Shape → Bool
-are_few shapes = nat_le (length shapes) 16 && nat_le (sum_by room_of shapes) 16777216
+are_few shapes = nat_le (length shapes) MAX_MAPS && nat_le (sum_by room_of shapes) MAX_TOTAL_BYTES
 
 -- with one more map: C1 behind a program, C5 where the maps are then too many or too large
 unfoldable pub with_map : CatalogueView → Shape → Result CatalogueView LoadFault
@@ -28,7 +30,7 @@ is_taken entries name = list_any (λ n. bytes_eq n name) (names_of entries)
 -- C5 at a 257th program
 unfoldable pub with_entry : CatalogueView → Entry → Result CatalogueView LoadFault
 with_entry so_far entry =
-    if nat_lt (length so_far.programs) 256
+    if nat_lt (length so_far.programs) MAX_PROGRAMS
     then Ok (record { shapes = so_far.shapes; programs = so_far.programs ++ entry ∷ [] })
     else Err faults.TooMany
 
@@ -48,12 +50,8 @@ after_meaning files so_far (Some (Program line)) = with_program files so_far lin
 unfoldable pub after_line : Files → CatalogueView → List ℕ → Result CatalogueView LoadFault
 after_line files so_far line = after_meaning files so_far (line_meaning line)
 
--- a line's number, from 1, as far as 32 bits go
-abbrev pub next_line : ℕ → ℕ
-next_line n = min (n + 1) (2 ^ 32 - 1)
-
 abbrev pub Outcome : Type 0
-Outcome = Result CatalogueView LoadError
+Outcome = Result CatalogueView LoadRefusal
 
 abbrev pub either : {Y : Type 0} → (LoadFault → Y) → (CatalogueView → Y) → Result CatalogueView LoadFault → Y
 either bad good (Ok so_far) = good so_far

@@ -1,17 +1,40 @@
 -- What a whole manifest offers, and where it fails first.
-use Rattle.std.specs.Prelude.{◌≡◌, ◌↔◌, ◌⊎◌, ℕ, ◌+◌, ◌-◌, ◌^◌, ◌<◌, ◌≤◌, min, Bool, true, false, List, [], ◌∷◌, ◌++◌, length, map, Some, Ok, Err, filter, bytes_eq}
-use Rattle.std.specs.List.{IsDistinct}
+use Rattle.std.specs.Prelude.{◌≡◌, ◌↔◌, ◌⊎◌, ℕ, ◌<◌, ◌≤◌, Bool, true, false, List, [], ◌∷◌, ◌++◌, length, map, Some, Ok, Err, filter, bytes_eq}
+use Rattle.std.specs.List.{IsDistinct, AllZip}
 use Rattle.loader.specs.declared.refusals.LoadFault.TheVariants as faults
-use Rattle.loader.specs.declared.refusals.LoadError.{LoadError}
-use Rattle.loader.specs.Lines.{lines_of}
+use Rattle.loader.specs.declared.refusals.LoadRefusal.{LoadRefusal}
+use Rattle.text.specs.Lines.{lines_of, next_line}
 use Rattle.loader.specs.Grammar.{ProgramLine, Meaning, Comment, Map, Program, line_meaning}
-use Rattle.loader.specs.CatalogueView.{CatalogueView, names_of}
-use Rattle.loader.specs.ProgramFiles.{Files, entry_for}
+use Rattle.loader.specs.declared.loading.TheConstants.{MAX_PROGRAMS}
+use Rattle.text.specs.Digits.{spaced_bytes}
+use Rattle.insn.specs.Refusal.{Decodes}
+use Rattle.maps.specs.declared.shapes.Shape.{Shape}
+use Rattle.verifier.specs.Signature.{signature}
+use Rattle.verifier.specs.Typing.{IsTypable}
+use Rattle.verifier.specs.Accepted.{checked}
+use Rattle.loader.specs.CatalogueView.{Entry, CatalogueView, names_of}
+use Rattle.loader.specs.ProgramFiles.{Files, file_named}
 use Rattle.loader.specs.Loading.{are_few, after_line, loaded}
 
+-- neither a comment nor an empty line
 abbrev pub says_something : Meaning → Bool
 says_something Comment = false
 says_something m = true
+
+-- a file of this name was handed in, and its text, without blanks, is the hexadecimal digits of these bytes
+pub record IsFileOf (files : Files) (name bytes : List ℕ) : Type 0 where
+  pub text : List ℕ
+  pub file : file_named files name ≡ Some text
+  pub digits : spaced_bytes text ≡ Some bytes
+
+-- the bytes of the line's file spell the entry's program, which is typable for these maps and the line's argument length and mode
+pub record IsEntryFor (files : Files) (shapes : List Shape) (line : ProgramLine) (e : Entry) : Type 0 where
+  pub name : e.name ≡ line.name
+  pub bytes : List ℕ
+  pub file : IsFileOf files line.file bytes
+  pub spelled : Decodes bytes e.checked.program
+  pub checked_for : e.checked ≡ checked e.checked.program shapes line.arg_len line.mode
+  pub typable : IsTypable e.checked.program (signature shapes line.arg_len line.mode)
 
 -- these lines are the catalogue's maps and then its programs, beside comments and empty lines
 pub record Offers (files : Files) (lines : List (List ℕ)) (c : CatalogueView) : Type 0 where
@@ -19,22 +42,18 @@ pub record Offers (files : Files) (lines : List (List ℕ)) (c : CatalogueView) 
   pub each : map line_meaning lines ≡ map Some meanings
   pub programs : List ProgramLine
   pub in_order : filter says_something meanings ≡ map Map c.shapes ++ map Program programs
-  pub checked : map (entry_for files c.shapes) programs ≡ map Ok c.programs
+  pub checked : AllZip (IsEntryFor files c.shapes) programs c.programs
   pub some_map : 0 < length programs → 0 < length c.shapes
   pub few_maps : are_few c.shapes ≡ true
   pub distinct : IsDistinct bytes_eq (names_of c.programs)
-  pub few_programs : length c.programs ≤ 256
+  pub few_programs : length c.programs ≤ MAX_PROGRAMS
 
 -- a manifest offers a catalogue of at least one map
 abbrev pub IsOffered : List ℕ → Files → CatalogueView → Type 0
 IsOffered text files c = Offers files (lines_of text) c × (0 < length c.shapes)
 
--- the number of the line behind so many, as far as 32 bits go
-abbrev pub line_after : ℕ → ℕ
-line_after n = min (n + 1) (2 ^ 32 - 1)
-
 -- the lines before this one are good, and this one is not, for this reason
-pub record IsFirstBad (files : Files) (lines : List (List ℕ)) (e : LoadError) : Type 0 where
+pub record IsFirstBad (files : Files) (lines : List (List ℕ)) (e : LoadRefusal) : Type 0 where
   pub before : List (List ℕ)
   pub line : List ℕ
   pub rest : List (List ℕ)
@@ -42,17 +61,18 @@ pub record IsFirstBad (files : Files) (lines : List (List ℕ)) (e : LoadError) 
   pub so_far : CatalogueView
   pub good : Offers files before so_far
   pub bad : after_line files so_far line ≡ Err e.why
-  pub number : e.line ≡ line_after (length before)
+  pub number : e.line ≡ next_line (length before)
 
 -- all lines are good, and none is a map
-pub record HasNoMap (files : Files) (lines : List (List ℕ)) (e : LoadError) : Type 0 where
+pub record HasNoMap (files : Files) (lines : List (List ℕ)) (e : LoadRefusal) : Type 0 where
   pub so_far : CatalogueView
   pub good : Offers files lines so_far
   pub none : so_far.shapes ≡ []
   pub why : e.why ≡ faults.BadLine
-  pub number : e.line ≡ line_after (length lines)
+  pub number : e.line ≡ next_line (length lines)
 
-abbrev pub IsRefused : List ℕ → Files → LoadError → Type 0
+-- the manifest is refused at this line for this reason
+abbrev pub IsRefused : List ℕ → Files → LoadRefusal → Type 0
 IsRefused text files e = IsFirstBad files (lines_of text) e ⊎ HasNoMap files (lines_of text) e
 
 -- what is loaded is what the manifest offers, and nothing else
@@ -61,4 +81,4 @@ LoadedIsOffered = (text : List ℕ) (files : Files) (c : CatalogueView) → (loa
 
 -- what is refused is refused at the first bad line
 abbrev pub RefusedIsFirstBad : Type 0
-RefusedIsFirstBad = (text : List ℕ) (files : Files) (e : LoadError) → (loaded text files ≡ Err e) ↔ IsRefused text files e
+RefusedIsFirstBad = (text : List ℕ) (files : Files) (e : LoadRefusal) → (loaded text files ≡ Err e) ↔ IsRefused text files e

@@ -1,9 +1,9 @@
 -- The program that a file spells, and whether it is accepted.
-use Rattle.std.specs.Prelude.{ℕ, Bool, ◌||◌, not, List, [], ◌∷◌, map, Option, Some, None, Result, Ok, Err, ◌==◌, if◌then◌else◌, filter, bytes_eq}
+use Rattle.std.specs.Prelude.{ℕ, List, [], ◌∷◌, map, Option, Some, None, Result, Ok, Err, if◌then◌else◌, bytes_eq}
 use Rattle.std.specs.Borrow.{Bor}
-use Rattle.hex.specs.Hex.{decode_of}
+use Rattle.text.specs.Digits.{spaced_bytes}
 use Rattle.insn.specs.declared.instruction.Form.{Form}
-use Rattle.insn.specs.declared.decoding.DecodeError.{DecodeError}
+use Rattle.insn.specs.declared.decoding.DecodeRefusal.{DecodeRefusal}
 use Rattle.insn.specs.Decoded.{decoded}
 use Rattle.maps.specs.declared.shapes.Shape.{Shape}
 use Rattle.verifier.specs.declared.refusal.Mode.{Mode}
@@ -16,6 +16,7 @@ use Rattle.loader.specs.declared.refusals.LoadFault.TheVariants as faults
 use Rattle.loader.specs.Grammar.{ProgramLine}
 use Rattle.loader.specs.CatalogueView.{Entry}
 
+-- the next step, where the one before did not fail
 infixl 10 ◌>>=◌
 abbrev pub ◌>>=◌ : {A B : Type 0} → Result A LoadFault → (A → Result B LoadFault) → Result B LoadFault
 (Ok x) >>= f = f x
@@ -34,22 +35,21 @@ abbrev pub file_named : Files → List ℕ → Option (List ℕ)
 file_named [] name = None
 file_named (f ∷ fs) name = if bytes_eq f.0 name then Some f.1 else file_named fs name
 
--- a space, a tab, a carriage return or a line feed
-abbrev pub is_blank : ℕ → Bool
-is_blank c = c == 32 || c == 9 || c == 13 || c == 10
+-- ---- the program of a text
 
-abbrev pub or_bad_hex : {E : Type 0} → Result (List ℕ) E → Result (List ℕ) LoadFault
-or_bad_hex (Ok bytes) = Ok bytes
-or_bad_hex (Err e) = Err faults.BadHex
+abbrev pub or_bad_hex : Option (List ℕ) → Result (List ℕ) LoadFault
+or_bad_hex (Some bytes) = Ok bytes
+or_bad_hex None = Err faults.BadHex
 
 -- the bytes of a text of hex digits in pairs, blanks skipped
 unfoldable pub bytes_of_hex : List ℕ → Result (List ℕ) LoadFault
-bytes_of_hex text = or_bad_hex (decode_of (filter (λ c. not (is_blank c)) text))
+bytes_of_hex text = or_bad_hex (spaced_bytes text)
 
-abbrev pub or_decode : {E : Type 0} → Result E DecodeError → Result E LoadFault
+abbrev pub or_decode : {E : Type 0} → Result E DecodeRefusal → Result E LoadFault
 or_decode (Ok program) = Ok program
 or_decode (Err e) = Err (faults.Decode e)
 
+-- the program that bytes spell
 unfoldable pub instructions_of : List ℕ → Result (List Form) LoadFault
 instructions_of bytes = or_decode (decoded bytes)
 

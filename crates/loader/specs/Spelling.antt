@@ -4,17 +4,16 @@ use Rattle.maps.specs.declared.shapes.Shape.{Shape}
 use Rattle.maps.specs.declared.shapes.Shape.TheVariants.{Array, Hash}
 use Rattle.verifier.specs.declared.refusal.Mode.{Mode}
 use Rattle.verifier.specs.declared.refusal.Mode.TheVariants.{Update, Read}
-use Rattle.loader.specs.Words.{is_name, is_path}
-use Rattle.loader.specs.Grammar.{ProgramLine, Meaning, Comment, Map, Program, line_meaning}
-
--- n stands between these limits
-abbrev pub IsFrom : ℕ → ℕ → ℕ → Type 0
-IsFrom low high n = (low ≤ n) × (n ≤ high)
+use Rattle.text.specs.declared.lines.TheConstants.{LINE_BYTES}
+use Rattle.maps.specs.declared.shapes.TheConstants.{MAX_VALUE_BYTES, MAX_ENTRIES}
+use Rattle.verifier.specs.declared.signature.TheConstants.{MAX_ARG_LEN}
+use Rattle.text.specs.Words.{IsFrom, is_name}
+use Rattle.loader.specs.Grammar.{is_path, ProgramLine, Meaning, Comment, Map, Program, line_meaning}
 
 -- how a map is spelled; a hash map cannot be had yet
 abbrev pub SpellsMap : Shape → List ℕ → Type 0
 SpellsMap (Array value entries) line =
-    (line ≡ codes "map array " ++ (decimal value ++ (codes " " ++ decimal entries))) × IsFrom 1 256 value × IsFrom 1 65536 entries
+    (line ≡ codes "map array " ++ (decimal value ++ (codes " " ++ decimal entries))) × IsFrom 1 MAX_VALUE_BYTES value × IsFrom 1 MAX_ENTRIES entries
 SpellsMap (Hash key value entries) line = ⊥
 
 abbrev pub mode_word : Mode → List ℕ
@@ -27,7 +26,7 @@ program_spelling p =
 
 -- how a program is spelled
 abbrev pub SpellsProgram : ProgramLine → List ℕ → Type 0
-SpellsProgram p line = (line ≡ program_spelling p) × (is_name p.name ≡ true) × (p.arg_len ≤ 64) × (is_path p.file ≡ true)
+SpellsProgram p line = (line ≡ program_spelling p) × (is_name p.name ≡ true) × (p.arg_len ≤ MAX_ARG_LEN) × (is_path p.file ≡ true)
 
 -- the line spells this
 abbrev pub Spells : Meaning → List ℕ → Type 0
@@ -37,4 +36,4 @@ Spells (Program p) line = SpellsProgram p line
 
 -- a line means this exactly where it is spelled so, in at most 512 bytes
 abbrev pub EachLineIsItsSpelling : Type 0
-EachLineIsItsSpelling = (line : List ℕ) (x : Meaning) → (line_meaning line ≡ Some x) ↔ ((length line ≤ 512) × Spells x line)
+EachLineIsItsSpelling = (line : List ℕ) (x : Meaning) → (line_meaning line ≡ Some x) ↔ ((length line ≤ LINE_BYTES) × Spells x line)

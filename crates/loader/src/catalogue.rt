@@ -2,18 +2,19 @@
 
 ghost use Rattle.std.specs.Prelude.{◌≡◌, ◌≤◌, length, option_map, slice_get, IfSome};
 ghost use Rattle.maps.specs.Shapes.{AreShapesOk};
-ghost use Rattle.verifier.specs.Accepted.{IsAccepted};
 ghost use Rattle.loader.specs.CatalogueView.{IsCatalogue, number_named};
 
+use crate::loading::MAX_PROGRAMS;
 use arrayvec::ArrayString;
 use maps::Shape;
 use std::marker::Model;
+use text::NAME_BYTES;
 use verifier::Accepted;
 
 // An accepted program and its name.
 #[derive(Debug, Drop)]
 pub(crate) struct NamedProgram {
-    name: ArrayString<32>,
+    name: ArrayString<{ NAME_BYTES }>,
     program: Accepted,
 }
 
@@ -26,7 +27,7 @@ impl Model for NamedProgram {
 }
 
 impl NamedProgram {
-    pub(crate) fn new(name: ArrayString<32>, program: Accepted) -> NamedProgram
+    pub(crate) fn new(name: ArrayString<{ NAME_BYTES }>, program: Accepted) -> NamedProgram
         ensures { result ≡ record { name = name.bytes; checked = program } }
     {
         NamedProgram { name, program }
@@ -42,16 +43,6 @@ impl NamedProgram {
         ensures { result.now ≡ self.now.checked }
     {
         &self.program
-    }
-
-    // The program was accepted.
-    pub(crate) fn see_accepted(&self)
-        ensures { IsAccepted self.now.checked }
-    {
-        let program = self.program();
-        let _instructions = program.program();
-        let _shapes = program.shapes();
-        let _length = program.arg_len();
     }
 }
 
@@ -85,7 +76,7 @@ impl Catalogue {
     /// How many programs there are.
     pub fn len(&self) -> usize
         ensures count { result ≡ length self.now.programs }
-        ensures few { result ≤ 256 }
+        ensures few { result ≤ MAX_PROGRAMS }
     {
         self.programs.len()
     }

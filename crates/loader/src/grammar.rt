@@ -4,10 +4,10 @@ ghost use Rattle.std.specs.Prelude.{◌≡◌, IfSome, option_map};
 ghost use Rattle.loader.specs.Grammar.{mode_of, array_meaning, map_meaning, program_meaning, words_meaning, line_meaning};
 ghost use Rattle.loader.specs.LineShown.{meaning_of, LineFits};
 
-use crate::lines::split_at_space;
-use crate::words::{is_name, is_path, number_within};
-use maps::Shape;
-use verifier::Mode;
+use crate::paths::is_path;
+use maps::{MAX_ENTRIES, MAX_VALUE_BYTES, Shape};
+use text::{LineKind, is_name, kind_of, number_within, split_at_space};
+use verifier::{MAX_ARG_LEN, Mode};
 
 // A program: its name, mode, argument length and file.
 #[derive(Clone, Copy, Debug, PartialEq, Eq)]
@@ -32,8 +32,8 @@ fn array_line(text: &str) -> Option<Line<'_>>
     ensures fits { IfSome result LineFits }
 {
     let (value, entries) = split_at_space(text)?;
-    let value = number_within(1, 256, value)?;
-    let entries = number_within(1, 65536, entries)?;
+    let value = number_within(1, MAX_VALUE_BYTES as u64, value)?;
+    let entries = number_within(1, MAX_ENTRIES as u64, entries)?;
     Some(Line::Map(Shape::Array {
         value: value as u32,
         entries: entries as u32,
@@ -75,7 +75,7 @@ fn program_line(text: &str) -> Option<Line<'_>>
     let (how, rest) = split_at_space(rest)?;
     let (len, file) = split_at_space(rest)?;
     let mode = mode(how)?;
-    let arg_len = number_within(0, 64, len)?;
+    let arg_len = number_within(0, MAX_ARG_LEN as u64, len)?;
     if is_name(name) && is_path(file) {
         Some(Line::Program(ProgramLine {
             name,
@@ -109,11 +109,9 @@ pub(crate) fn read_line(line: &str) -> Option<Line<'_>>
     ensures meaning { option_map meaning_of result ≡ line_meaning line.now }
     ensures fits { IfSome result LineFits }
 {
-    if line.len() > 512 {
-        return None;
+    match kind_of(line) {
+        LineKind::TooLong => None,
+        LineKind::Comment => Some(Line::Comment),
+        LineKind::Words => words_line(line),
     }
-    if line.is_empty() || line.as_bytes()[0] == b'#' {
-        return Some(Line::Comment);
-    }
-    words_line(line)
 }

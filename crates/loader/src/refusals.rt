@@ -1,9 +1,12 @@
 // Why a manifest is refused.
 
 ghost use Rattle.std.specs.Prelude.{◌≡◌};
-ghost use Rattle.loader.specs.Refusal.{fault_number, refusal_at};
+ghost use Rattle.loader.specs.declared.refusals.LoadError.TheVariants as errors;
+ghost use Rattle.loader.specs.declared.refusals.LineError.TheVariants as steps;
+ghost use Rattle.loader.specs.Refusal.{fault_number, line_of, number_of, at_line};
 
-use insn::DecodeError;
+use insn::DecodeRefusal;
+use std::alloc::{AllocError, AllocFailed};
 use thiserror::Error;
 use verifier::Refused;
 
@@ -18,16 +21,13 @@ pub enum LoadFault {
     BadHex,
     /// The bytes of the program file are no program.
     #[error("C3: the bytes of the program file are no program: {0}")]
-    Decode(DecodeError),
+    Decode(DecodeRefusal),
     /// The program is not safe for these maps, this argument length and this mode.
     #[error("C4: the program is not accepted: {0}")]
     Verify(Refused),
     /// There are too many maps or programs, or the maps are too large together.
     #[error("C5: a store has at most 16 maps of 16777216 bytes together, and 256 programs")]
     TooMany,
-    /// Memory ran out.
-    #[error("C6: memory ran out")]
-    NoMemory,
 }
 
 impl LoadFault {
@@ -41,27 +41,92 @@ impl LoadFault {
             LoadFault::Decode(_) => 3,
             LoadFault::Verify(_) => 4,
             LoadFault::TooMany => 5,
-            LoadFault::NoMemory => 6,
         }
     }
 }
 
-/// The first bad line, counted from 1, and what is wrong with it. Want of memory has line 0.
+/// The first bad line, counted from 1, and what is wrong with it.
 #[derive(Clone, Copy, Debug, PartialEq, Eq, Error)]
 #[error("line {line}: {why}")]
-pub struct LoadError {
+pub struct LoadRefusal {
     /// The line's number.
     pub line: u32,
     /// What is wrong with it.
     pub why: LoadFault,
 }
 
-/// Want of memory is no line's fault.
-pub(crate) fn refusal_at(line: u32, why: LoadFault) -> LoadError
-    ensures at { result ≡ refusal_at line why }
-{
-    match why {
-        LoadFault::NoMemory => LoadError { line: 0, why },
-        _ => LoadError { line, why },
+/// Why there is no catalogue.
+#[derive(Clone, Copy, Debug, PartialEq, Eq, Error)]
+pub enum LoadError {
+    /// There is no memory left, which says nothing of the manifest.
+    #[error("line 0: C6: memory ran out")]
+    NoMemory,
+    /// The manifest is refused.
+    #[error("{0}")]
+    Refused(LoadRefusal),
+}
+
+impl LoadError {
+    /// The number n of Cn; 6 where there is no memory left.
+    pub fn number(self) -> u8
+        ensures number { result ≡ number_of self }
+    {
+        match self {
+            LoadError::NoMemory => 6,
+            LoadError::Refused(refusal) => refusal.why.number(),
+        }
+    }
+
+    /// The line that is refused, from 1; 0 where there is no memory left.
+    pub fn line(self) -> u32
+        ensures line { result ≡ line_of self }
+    {
+        match self {
+            LoadError::NoMemory => 0,
+            LoadError::Refused(refusal) => refusal.line,
+        }
+    }
+}
+
+impl From<AllocError> for LoadError {
+    ghost from_gives = { λ _ e. e ≡ errors.NoMemory };
+
+    fn from(_e: AllocError) -> LoadError {
+        LoadError::NoMemory
+    }
+}
+
+// Why a line adds nothing.
+#[derive(Clone, Copy, Debug, PartialEq, Eq)]
+pub(crate) enum LineError {
+    NoMemory,
+    Refused(LoadFault),
+}
+
+impl From<AllocError> for LineError {
+    ghost from_gives = { λ _ e. e ≡ steps.NoMemory };
+
+    fn from(_e: AllocError) -> LineError {
+        LineError::NoMemory
+    }
+}
+
+impl<T: Drop> From<AllocFailed<T>> for LineError {
+    ghost from_gives = { λ _ e. e ≡ steps.NoMemory };
+
+    fn from(_e: AllocFailed<T>) -> LineError {
+        LineError::NoMemory
+    }
+}
+
+impl LineError {
+    // With the line's number.
+    pub(crate) fn at(self, line: u32) -> LoadError
+        ensures { result ≡ at_line line self }
+    {
+        match self {
+            LineError::NoMemory => LoadError::NoMemory,
+            LineError::Refused(why) => LoadError::Refused(LoadRefusal { line, why }),
+        }
     }
 }

@@ -9,6 +9,10 @@ use std::alloc::{AllocError, Global};
 pub enum Call<'a> {
     /// Check the manifest of this path.
     Check(&'a str),
+    /// Assemble the text of this path.
+    Assemble(&'a str),
+    /// Disassemble the program file of this path.
+    Disassemble(&'a str),
     /// Run a script.
     Run {
         /// The path of the manifest.
@@ -40,6 +44,22 @@ fn run_command<'a>(alloc: Global) -> Result<Command<'a>, AllocError> {
         .arg(script)
 }
 
+fn asm_command<'a>(alloc: Global) -> Result<Command<'a>, AllocError> {
+    let file = Arg::new(alloc, "FILE").required(true).help(help::SOURCE);
+    Command::new(alloc, "asm")
+        .about(help::ASM)
+        .after_help(help::AFTER_ASM)
+        .arg(file)
+}
+
+fn dis_command<'a>(alloc: Global) -> Result<Command<'a>, AllocError> {
+    let file = Arg::new(alloc, "FILE").required(true).help(help::PROGRAM);
+    Command::new(alloc, "dis")
+        .about(help::DIS)
+        .after_help(help::AFTER_DIS)
+        .arg(file)
+}
+
 fn command<'a>(alloc: Global) -> Result<Command<'a>, AllocError> {
     Command::new(alloc, "nrbpf")
         .about(help::ABOUT)
@@ -47,6 +67,8 @@ fn command<'a>(alloc: Global) -> Result<Command<'a>, AllocError> {
         .subcommand_required(true)
         .arg_required_else_help(true)
         .subcommand(check_command(alloc)?)?
+        .subcommand(asm_command(alloc)?)?
+        .subcommand(dis_command(alloc)?)?
         .subcommand(run_command(alloc)?)
 }
 
@@ -54,7 +76,14 @@ fn command<'a>(alloc: Global) -> Result<Command<'a>, AllocError> {
 pub fn read<'a>(alloc: Global, words: &'a [String]) -> Result<Call<'a>, Error> {
     let mut command = command(alloc)?;
     let matches = command.try_get_matches_from_mut(words)?;
-    if let Some((_, inner)) = matches.subcommand() {
+    if let Some((name, inner)) = matches.subcommand() {
+        if let Some(file) = inner.get_str("FILE") {
+            return if name == "asm" {
+                Ok(Call::Assemble(file))
+            } else {
+                Ok(Call::Disassemble(file))
+            };
+        }
         match (inner.get_str("MANIFEST"), inner.get_str("SCRIPT")) {
             (Some(manifest), Some(script)) => return Ok(Call::Run { manifest, script }),
             (Some(manifest), None) => return Ok(Call::Check(manifest)),

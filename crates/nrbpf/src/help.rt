@@ -13,7 +13,8 @@ A manifest is a text that names the maps of a store and its programs:
 
 `map array VALUE ENTRIES` is a map of ENTRIES values of VALUE bytes each. `program NAME MODE ARGLEN FILE`
 is a program in the file FILE, as hexadecimal digits; its MODE is update or read, and its argument has
-ARGLEN bytes. `nrbpf check --help` says more, and `nrbpf run --help` how programs are called.
+ARGLEN bytes. `nrbpf check --help` says more, `nrbpf run --help` how programs are called, and
+`nrbpf asm --help` how they are written as text.
 
 Exit statuses: 0 all is well, 2 wrong words on the command line, 3 refused, 4 no memory,
 5 a file cannot be read or the output cannot be written.";
@@ -50,6 +51,76 @@ Refusals:
 Exit statuses: 0 all is well, 2 wrong words on the command line, 3 refused, 4 `no memory`,
 5 `cannot read` or `cannot write` (on standard error).";
 
+/// What `asm` does, in a line.
+pub const ASM: &str = "Assembles a program";
+
+/// What stands behind the argument of `asm`.
+pub const AFTER_ASM: &str = "\
+Reads a program as text and writes its bytes as hexadecimal digits in one line, as a manifest's program file has
+them. A line has one instruction or one label; `;` begins a comment.
+
+    mov64 r0, 5
+    exit
+
+is `b7000000050000009500000000000000`.
+
+    WORDS                                                        OPERANDS
+    add sub mul div or and lsh rsh mod xor mov arsh sdiv smod,   rD, rS or rD, IMM
+      each with 32 or 64 behind it
+    neg32 neg64                                                  rD
+    movsx32 movsx64                                              rD, rS, BITS
+    le16 le32 le64 be16 be32 be64 swap16 swap32 swap64           rD
+    ldxb ldxh ldxw ldxdw ldxsb ldxsh ldxsw                       rD, [rS+OFF]
+    stb sth stw stdw                                             [rD+OFF], IMM
+    stxb stxh stxw stxdw                                         [rD+OFF], rS
+    lddw                                                         rD, NUMBER
+    ldmap                                                        rD, MAP
+    ja ja32                                                      TARGET
+    jeq jgt jge jset jne jsgt jsge jlt jle jslt jsle,            rD, rS, TARGET or rD, IMM, TARGET
+      each plain or with 32 behind it
+    call                                                         HELPER
+    exit
+
+Registers are r0 to r10. Numbers are decimal, or 0x and hexadecimal digits, with or without - before them. A label
+is `name:` on a line of its own, 1 to 32 of a-z 0-9 _, the first no digit. A TARGET is a label, or +N or -N slots.
+
+Refusals:
+    line N: A1          an unknown word               line N: A5     the label stands twice
+    line N: A2          a bad operand                 line N: A6     the jump goes too far
+    line N: A3          a number out of its range     line N: A7     more than 4096 slots
+    line N: A4          an unknown label              line N: A8     text behind the instruction
+    not UTF-8           the file is not UTF-8
+
+Exit statuses: 0 all is well, 2 wrong words on the command line, 3 refused, 4 `no memory`,
+5 `cannot read` or `cannot write` (on standard error).";
+
+/// What the path of an assembler text is.
+pub const SOURCE: &str = "The path of the assembler text";
+
+/// What `dis` does, in a line.
+pub const DIS: &str = "Disassembles a program";
+
+/// What stands behind the argument of `dis`.
+pub const AFTER_DIS: &str = "\
+Reads a program file, hexadecimal digits in which white space is skipped, and writes the program as text, one
+instruction a line, as `nrbpf asm` reads it (`nrbpf asm --help` has the words). Jumps are written as +N or -N.
+
+`b7000000050000009500000000000000` is
+
+    mov64 r0, 5
+    exit
+
+Refusals:
+    bad hex             the file is not pairs of hexadecimal digits
+    Dn slot S           the bytes are no program: the reason n, and the slot
+    not UTF-8           the file is not UTF-8
+
+Exit statuses: 0 all is well, 2 wrong words on the command line, 3 refused, 4 `no memory`,
+5 `cannot read` or `cannot write` (on standard error).";
+
+/// What the path of a program file is.
+pub const PROGRAM: &str = "The path of the program file";
+
 /// What the manifest's path is.
 pub const MANIFEST: &str = "The path of the manifest";
 
@@ -75,7 +146,7 @@ Writes, for each call:
     read POINT reply REPLY steps STEPS      the program only reads; POINT updates were before it
     refused S1                              there is no program of this name
     refused S2                              the argument has not the program's length
-    refused S4                              an update, after 65536 updates
+    refused S4                              an update, after 1000000 updates
 
 A refused call changes nothing, and the run goes on. With the manifest of examples/counter the script above
 writes `update 0 reply 1 steps 9` and `read 1 reply 1 steps 6`.

@@ -6,7 +6,7 @@ mod disk;
 mod help;
 
 use command_line::Call;
-use console::{Status, check, run};
+use console::{Status, assemble, check, disassemble, run};
 use disk::{Disk, LateFile};
 use std::io;
 use std::process::ExitCode;
@@ -32,9 +32,29 @@ fn run_files(rt: &HostRuntime, manifest: &str, script: &str) -> Status {
     )
 }
 
+// Runs `asm` on a text's file and standard output.
+fn assemble_file(rt: &HostRuntime, file: &str) -> Status {
+    assemble(
+        rt.alloc(),
+        &mut LateFile::new(rt, file),
+        &mut io::writer(rt),
+    )
+}
+
+// Runs `dis` on a program's file and standard output.
+fn disassemble_file(rt: &HostRuntime, file: &str) -> Status {
+    disassemble(
+        rt.alloc(),
+        &mut LateFile::new(rt, file),
+        &mut io::writer(rt),
+    )
+}
+
 fn answer(rt: &HostRuntime, call: Call) -> ExitCode {
     let status = match call {
         Call::Check(manifest) => check_file(rt, manifest),
+        Call::Assemble(file) => assemble_file(rt, file),
+        Call::Disassemble(file) => disassemble_file(rt, file),
         Call::Run { manifest, script } => run_files(rt, manifest, script),
     };
     if let Some(complaint) = status.complaint() {

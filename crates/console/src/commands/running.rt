@@ -1,24 +1,24 @@
 // The command `run`.
 
 ghost use Rattle.std.specs.Prelude.{◌≡◌, IfOk, IfSome, MatchResult};
-ghost use Rattle.loader.specs.ProgramFiles.{files_of};
 ghost use Rattle.loader.specs.Loading.{loaded};
 ghost use Rattle.console.specs.Answer.{not_text};
-ghost use Rattle.console.specs.RunAnswer.{script_answer, ran, run_answer};
-ghost use Rattle.console.specs.Report.{answer_of, Reports};
-ghost use Rattle.console.specs.Reading.{StopsAs, owned_files};
+ghost use Rattle.console.specs.RunAnswer.{script_answer, ran, run_answer, IsRunAnswer};
+ghost use Rattle.console.specs.Report.{answer_of, Reports, ReportsSome};
+ghost use Rattle.console.specs.Input.{FailsAs, owned_files};
 
 use crate::calls::take_line;
+use crate::catalogues::{Loaded, load};
 use crate::folder::Folder;
+use crate::input::{InputFault, gather, read_text};
 use crate::node::SingleNode;
-use crate::reading::{Stop, gather, lent, read_text};
 use crate::report::{Reply, report};
 use crate::run_texts::put_bad_line;
 use crate::status::{Status, Verdict};
-use crate::texts::refusal_text;
-use loader::{Catalogue, LoadFault, first_line, load_manifest, named_files};
+use loader::Catalogue;
 use std::alloc::{AllocError, Global};
 use std::io::{Read, Write};
+use text::NumberedLines;
 
 // What a catalogue's programs answer to a script.
 fn script_reply(alloc: Global, catalogue: &Catalogue, script: &str) -> Result<Reply, AllocError>
@@ -26,10 +26,8 @@ fn script_reply(alloc: Global, catalogue: &Catalogue, script: &str) -> Result<Re
 {
     let mut node = SingleNode::open(alloc, catalogue)?;
     let mut text = Vec::new(alloc);
-    let mut number = 1u32;
-    let mut rest = script;
-    while !rest.is_empty() {
-        let (line, after) = first_line(rest);
+    let mut lines = NumberedLines::new(script);
+    while let Some((number, line)) = lines.take_line() {
         let is_good = take_line(&mut node, catalogue, line, &mut text)?;
         if !is_good {
             put_bad_line(&mut text, number)?;
@@ -38,8 +36,6 @@ fn script_reply(alloc: Global, catalogue: &Catalogue, script: &str) -> Result<Re
                 verdict: Verdict::Refused,
             });
         }
-        number = number.saturating_add(1);
-        rest = after;
     }
     Ok(Reply {
         text,
@@ -51,36 +47,15 @@ fn script_reply(alloc: Global, catalogue: &Catalogue, script: &str) -> Result<Re
 fn loaded_reply(
     alloc: Global,
     manifest: &str,
-    files: &[(&str, &str)],
-    script: &str,
-) -> Result<Reply, AllocError>
-    ensures { IfOk result (λ r. answer_of r ≡ ran (loaded manifest.now (files_of files.now)) script.now) }
-{
-    match load_manifest(alloc, manifest, files) {
-        Ok(catalogue) => script_reply(alloc, &catalogue, script),
-        Err(e) => match e.why {
-            LoadFault::NoMemory => Err(AllocError),
-            _ => {
-                let text = refusal_text(alloc, e)?;
-                Ok(Reply {
-                    text,
-                    verdict: Verdict::Refused,
-                })
-            }
-        },
-    }
-}
-
-fn files_reply(
-    alloc: Global,
-    manifest: &str,
     files: &[(&str, String)],
     script: &str,
 ) -> Result<Reply, AllocError>
     ensures { IfOk result (λ r. answer_of r ≡ ran (loaded manifest.now (owned_files files.now)) script.now) }
 {
-    let files = lent(alloc, files)?;
-    loaded_reply(alloc, manifest, &files, script)
+    match load(alloc, manifest, files)? {
+        Loaded::Catalogue(catalogue) => script_reply(alloc, &catalogue, script),
+        Loaded::Refused(reply) => Ok(reply),
+    }
 }
 
 // What `run` has to write: the manifest is read first, then the files that it names, then the script.
@@ -89,39 +64,25 @@ fn prepare<F: Folder, R: Read, S: Read>(
     folder: &F,
     manifest: &mut R,
     script: &mut S,
-) -> Result<Reply, Stop>
-    ensures { IfSome (R.remaining manifest.old) (λ m. IfSome (F.holds folder.now) (λ h. IfSome (S.remaining script.old) (λ s. MatchResult result
-        (λ r. answer_of r ≡ run_answer m h s) (λ e. StopsAs e (run_answer m h s ≡ not_text))))) }
+) -> Result<Reply, InputFault>
+    ensures known { IfSome (R.remaining manifest.old) (λ m. IfSome (F.holds folder.now) (λ h. IfSome (S.remaining script.old) (λ s. MatchResult result
+        (λ r. answer_of r ≡ run_answer m h s) (λ e. FailsAs e (run_answer m h s ≡ not_text))))) }
+    ensures some { IfOk result (λ r. IsRunAnswer (answer_of r)) }
 {
-    let text = match read_text(alloc, manifest) {
-        Ok(text) => text,
-        Err(stop) => return Err(stop),
-    };
-    let names = match named_files(alloc, text.as_str()) {
-        Ok(names) => names,
-        Err(_) => return Err(Stop::NoMemory),
-    };
-    let files = match gather(alloc, folder, &names) {
-        Ok(files) => files,
-        Err(stop) => return Err(stop),
-    };
-    let lines = match read_text(alloc, script) {
-        Ok(lines) => lines,
-        Err(stop) => return Err(stop),
-    };
-    match files_reply(alloc, text.as_str(), &files, lines.as_str()) {
-        Ok(reply) => Ok(reply),
-        Err(_) => Err(Stop::NoMemory),
-    }
+    let text = read_text(alloc, manifest)?;
+    let files = gather(alloc, folder, text.as_str())?;
+    let lines = read_text(alloc, script)?;
+    Ok(loaded_reply(alloc, text.as_str(), &files, lines.as_str())?)
 }
 
-/// Runs a script on a new store with the maps and the programs of a manifest: one log of at most 65,536
+/// Runs a script on a new store with the maps and the programs of a manifest: one log of at most 1,000,000
 /// updates and one replica, on one thread.
 ///
 /// Writes for each call of the script `update INDEX reply REPLY steps STEPS`, `read POINT reply REPLY
 /// steps STEPS`, or `refused S1`, `refused S2` or `refused S4`, which changes nothing; a line that is no
 /// call, comment or empty line writes `line N bad` and ends the run. A refused manifest writes only its
-/// refusal. Says how it ended. Each file is read whole before anything is written.
+/// refusal. Says how it ended. Each file is read whole before anything is written. Where a read fails, nothing is
+/// written.
 pub fn run<F: Folder, R: Read, S: Read, W: Write>(
     alloc: Global,
     folder: &F,
@@ -129,8 +90,11 @@ pub fn run<F: Folder, R: Read, S: Read, W: Write>(
     script: &mut S,
     writer: &mut W,
 ) -> Status
+    // Where the readers and the folder tell their bytes, those are run.
     ensures written { IfSome (R.remaining manifest.old) (λ m. IfSome (F.holds folder.now) (λ h. IfSome (S.remaining script.old) (λ s.
         Reports (W.contents writer.old) (W.contents writer.new) result (run_answer m h s)))) }
+    // Whatever they give, or where they fail.
+    ensures ended { ReportsSome IsRunAnswer (W.contents writer.old) (W.contents writer.new) result }
 {
     report(writer, prepare(alloc, folder, manifest, script))
 }

@@ -1,5 +1,5 @@
 use Rattle.std.proofs.Common.{rules, tests}
-use Rattle.loader.specs.SoFar.{view_of}
+use Rattle.loader.specs.PartialView.{view_of}
 use Rattle.loader.proofs.ShapesFit.{too_many}
 use Rattle.loader.proofs.loading.add_map.Goals as goal
 

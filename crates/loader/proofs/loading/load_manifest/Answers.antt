@@ -1,32 +1,40 @@
-use Rattle.std.proofs.Common.{◌∙◌, ◌<◌, length, refl, sym, subst, rules, arith, tests}
-use Rattle.loader.specs.CatalogueView.{AreAccepted}
+use Rattle.std.proofs.Common.{◌∙◌, refl, sym, rules}
 use Rattle.loader.specs.Loading.{loaded}
 use Rattle.loader.specs.ProgramFiles.{files_of}
-use Rattle.loader.specs.SoFar.{view_of}
-use Rattle.loader.proofs.Steps.{stays, is_catalogue, nothing_so_far}
+use Rattle.loader.specs.PartialView.{view_of}
+use Rattle.loader.proofs.Steps.{stays, nothing_partial}
 use Rattle.loader.proofs.LoopLemmas.{one_on, fails_here, no_map, is_done}
 use Rattle.loader.proofs.loading.load_manifest.Goals as goal
 
-pub loop-rest-init : goal.loop-rest-init
+pub loop-number-init : goal.loop-number-init
 unfolding loaded
-loop-rest-init c = (c.utf8.text, rw (c.new.ensures.items, c.new-2.ensures.items) nothing_so_far, rw (c.new.ensures.items, c.new-2.ensures.items) refl)
+loop-number-init c = (rw (c.new.ensures.items, c.new-2.ensures.items) nothing_partial, rw (c.new.ensures.items, c.new-2.ensures.items, c.new-lines.ensures.all) refl)
+
+pub loop-number-preserved : goal.loop-number-preserved
+loop-number-preserved c =
+    let taken = c.in-Some.ensures.taken in
+    let next = one_on (files_of c.args.files.now) c.loop-number.lines.number c.take_line.new.self.number _ _ c.loop-number.lines.lines c.in-Some.line.now c.take_line.new.self.lines taken.0 taken.2 c.in-Ok.ensures in
+    (stays (files_of c.args.files.now) _ _ _ c.loop-number.invariant.0 c.in-Ok.ensures, sym next ∙ c.loop-number.invariant.1)
 
 pub returns-in-Err : goal.returns-in-Err
 returns-in-Err c =
-    record { loaded = rw c.refusal_at.ensures.at (fails_here c.in-Err.why (files_of c.args.files.now) c.loop-rest.number _ c.loop-rest.rest.now _ c.first_line.result.1.now _ c.first_line.ensures.line c.in-Err.ensures c.loop-rest.invariant.2) }
-
-pub loop-rest-preserved : goal.loop-rest-preserved
-loop-rest-preserved c =
-    (c.first_line.ensures.text, stays (files_of c.args.files.now) _ _ _ c.loop-rest.invariant.1 c.in-Ok.ensures, rw c.saturating_add-number.ensures (sym (one_on (files_of c.args.files.now) c.loop-rest.number _ _ c.loop-rest.rest.now _ c.first_line.result.1.now c.first_line.ensures.line c.in-Ok.ensures) ∙ c.loop-rest.invariant.2))
+    let taken = c.in-Some.ensures.taken in
+    record {
+      loaded =
+          rw (c.at.ensures, taken.1)
+          (fails_here c.in-Err.e (files_of c.args.files.now) c.loop-number.lines.number _ c.loop-number.lines.lines c.in-Some.line.now c.take_line.new.self.lines _ taken.0 c.in-Err.ensures c.loop-number.invariant.1);
+    }
 
 pub returns-then-is_empty : goal.returns-then-is_empty
 returns-then-is_empty c =
-    record { loaded = rw c.refusal_at-then-is_empty.ensures.at (no_map (files_of c.args.files.now) c.loop-rest.number _ c.loop-rest.rest.now _ (search rules) (search rules) c.loop-rest.invariant.2) }
-
-pub new-requires-3 : goal.new-requires-3
-new-requires-3 c =
-    let some : 0 < length c.loop-rest.so_far.shapes.items = grind (arith, tests, c.is_empty-2.ensures, c.if-is_empty.ensures) in
-    is_catalogue (view_of c.loop-rest.so_far) c.loop-rest.invariant.1 some (subst AreAccepted c.deref.ensures.value c.see_accepted.ensures.accepted)
+    let taken = c.in_default.ensures.taken in
+    record {
+      loaded =
+          rw (c.at-then-is_empty.ensures, c.number.ensures.number, taken.1)
+          (no_map (files_of c.args.files.now) c.loop-number.lines.number (view_of c.loop-number.so_far) c.loop-number.lines.lines _ taken.0 (search rules) c.loop-number.invariant.1);
+    }
 
 pub returns : goal.returns
-returns c = record { loaded = is_done (files_of c.args.files.now) c.loop-rest.number _ c.loop-rest.rest.now _ (search rules) (search rules) c.loop-rest.invariant.2 ∙ search rules }
+returns c =
+    let taken = c.in_default.ensures.taken in
+    record { loaded = is_done (files_of c.args.files.now) c.loop-number.lines.number _ c.loop-number.lines.lines _ taken.0 (search rules) c.loop-number.invariant.1 ∙ search rules }

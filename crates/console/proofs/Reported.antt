@@ -1,0 +1,39 @@
+-- What a command did, from what it had prepared.
+use Rattle.std.proofs.Common.{◌≡◌, inl, inr, ℕ, List, Option, Result, Ok, Err, refl, sym, subst}
+use Rattle.std.specs.Prelude.{IfOk}
+use Rattle.std.specs.Io.KnownBytes.{Keeps}
+use Rattle.console.specs.declared.status.Status.{Status}
+use Rattle.console.specs.declared.status.Status.TheVariants as statuses
+use Rattle.console.specs.declared.status.Verdict.{Verdict}
+use Rattle.console.specs.declared.status.Verdict.TheVariants as verdicts
+use Rattle.console.specs.declared.input.InputFault.{InputFault}
+use Rattle.console.specs.declared.input.InputFault.TheVariants as faults
+use Rattle.console.specs.declared.report.Reply.{Reply}
+use Rattle.console.specs.Status.{status_of}
+use Rattle.console.specs.Texts.{no_memory_line}
+use Rattle.console.specs.Answer.{Answer, not_text}
+use Rattle.console.specs.Report.{Reports, ReportsSome, Sends, Writes, answer_of}
+
+-- an answer that was sent, or broke off
+sent : (old new : Option (List ℕ)) (got : Status) (a : Answer) → Sends old new got a.text (status_of a.verdict) → Reports old new got a
+sent old new got a (inr broke) = subst (λ s. Reports old new s a) (sym broke.0) (inl broke.1)
+sent old new got a (inl whole) = by_verdict a.verdict refl
+  where
+    by_verdict : (v : Verdict) → a.verdict ≡ v → Reports old new got a
+    by_verdict verdicts.Good is = subst (λ s. Reports old new s a) (sym (rw is at whole.0)) (is, whole.1)
+    by_verdict verdicts.Refused is = subst (λ s. Reports old new s a) (sym (rw is at whole.0)) (is, whole.1)
+
+-- the line that no memory is left was sent, or broke off
+no_memory_sent : (old new : Option (List ℕ)) (got : Status) (a : Answer) → Sends old new got no_memory_line statuses.NoMemory → Reports old new got a
+no_memory_sent old new got a (inl whole) = subst (λ s. Reports old new s a) (sym whole.0) whole.1
+no_memory_sent old new got a (inr broke) = subst (λ s. Reports old new s a) (sym broke.0) (inr broke.1)
+
+none_read : (old new : Option (List ℕ)) (got : Status) (a : Answer) → (got ≡ statuses.CannotRead) × Keeps old new → Reports old new got a
+none_read old new got a h = subst (λ s. Reports old new s a) (sym h.0) h.1
+
+pub reports_some : (IsOne : Answer → Type 0) → IsOne not_text → (old new : Option (List ℕ)) (got : Status) (prepared : Result Reply InputFault) → Writes old new got prepared
+    → IfOk prepared (λ r. IsOne (answer_of r)) → ReportsSome IsOne old new got
+reports_some IsOne bad old new got (Ok r) wrote one = (answer_of r, one, sent old new got (answer_of r) wrote)
+reports_some IsOne bad old new got (Err faults.NotText) wrote one = (not_text, bad, sent old new got not_text wrote)
+reports_some IsOne bad old new got (Err faults.NoMemory) wrote one = (not_text, bad, no_memory_sent old new got not_text wrote)
+reports_some IsOne bad old new got (Err faults.CannotRead) wrote one = (not_text, bad, none_read old new got not_text wrote)

@@ -1,0 +1,223 @@
+-- Each line that a run writes for a call is a run of its program.
+use Rattle.std.proofs.Common.{◌≡◌, ◌⊎◌, inl, inr, ℕ, zero, suc, ◌+◌, ◌<◌, Bool, true, false, cond, eqb, ltb, List, [], ◌∷◌, ◌++◌, length, Option, Some, None, Result, Ok, Err, slice_get, refl, sym, ap, subst, ◌∙◌, arith}
+use Rattle.std.specs.Prelude.{option_map}
+use Rattle.std.proofs.lemmas.Bool.{ltb-true, eqb-true}
+use Rattle.hex.specs.Hex.{IsBytes, decode_of}
+use Rattle.hex.proofs.HexLemmas.{decode_of-ok}
+use Rattle.maps.specs.Maps.{Maps, AreBytes}
+use Rattle.maps.specs.MapSets.{opening_maps}
+use Rattle.insn.proofs.Slots.{are_bytes}
+use Rattle.verifier.specs.declared.refusal.Mode.{Mode}
+use Rattle.verifier.specs.declared.refusal.Mode.TheVariants.{Update, Read}
+use Rattle.verifier.specs.Accepted.{Checked}
+use Rattle.text.specs.Lines.{lines_of, next_line}
+use Rattle.text.specs.Fields.{split_at_space}
+use Rattle.text.specs.Words.{is_name}
+use Rattle.text.specs.Digits.{good, field_bytes}
+use Rattle.text.proofs.LineReadings.{IsSilent, by_kind_from}
+use Rattle.text.proofs.Cuts.{steps, where_true}
+use Rattle.loader.specs.CatalogueView.{CatalogueView, IsCatalogue, number_named}
+use Rattle.loader.specs.ProgramFiles.{Files}
+use Rattle.loader.specs.Loading.{nothing_yet, loaded}
+use Rattle.loader.proofs.Outcomes.{ok_from}
+use Rattle.loader.proofs.Passed.{passes_stay}
+use Rattle.loader.proofs.Steps.{is_catalogue, nothing_partial}
+use Rattle.oplog.specs.declared.configuration.TheConstants.{MAX_LIMIT}
+use Rattle.oplog.specs.declared.records.Record.{Record}
+use Rattle.oplog.specs.Operations.{Operation}
+use Rattle.oplog.specs.History.{Effect, History, left_by, after, maps_after, effect_at, read_at}
+use Rattle.replica.specs.StoreMeaning.{program_at, is_operation, AreUpdates, store_meaning}
+use Rattle.replica.specs.HistoryLaws.{HasRun, HasEffects}
+use Rattle.replica.proofs.Tested.{tests_true}
+use Rattle.replica.proofs.Histories.{have_effects}
+use Rattle.console.specs.Answer.{Answer}
+use Rattle.console.specs.Script.{ProgramCall, Meaning, Comment, Call, call_meaning, line_meaning}
+use Rattle.console.specs.RunAnswer.{Turn, refused, with_operation, update_line, read_line, performed, performed_by, numbered, called, taken, line_turn, behind, bad_line, by_turn, lines_answer, ran}
+use Rattle.console.specs.RunLines.{CallRuns, IsUpdateTurn, IsReadTurn, IsRefusedTurn, CallTurn, LineTurn, ScriptRuns, RunLinesAreRuns}
+use Rattle.console.proofs.Turns.{after_append, whole}
+
+-- ---- the bytes of a call
+
+good_from : {E : Type 0} (r : Result (List ℕ) E) (bytes : List ℕ) → good r ≡ Some bytes → r ≡ Ok bytes
+good_from (Ok b) bytes e = cc
+good_from (Err why) bytes e = absurd cc
+
+decoded_bytes : (field bytes : List ℕ) → good (decode_of field) ≡ Some bytes → AreBytes bytes
+decoded_bytes field bytes e = are_bytes bytes (decode_of-ok field bytes (good_from (decode_of field) bytes e)).3
+
+field_are_bytes : (field bytes : List ℕ) → field_bytes field ≡ Some bytes → AreBytes bytes
+unfolding field_bytes
+field_are_bytes field bytes e = by_tests _ _ e
+  where
+    by_tests : (none empty : Bool) → cond none (Some []) (cond empty None (good (decode_of field))) ≡ Some bytes → AreBytes bytes
+    by_tests true empty e = subst AreBytes (let same : [] ≡ bytes = cc in same) tt
+    by_tests false true e = absurd cc
+    by_tests false false e = decoded_bytes field bytes e
+
+call_bytes : (line : List ℕ) (call : ProgramCall) → call_meaning line ≡ Some (Call call) → AreBytes call.argument
+unfolding call_meaning
+call_bytes line call e =
+    let field = steps (split_at_space line) _ (Call call) e in
+    let argument = steps (field_bytes field.0.1) _ (Call call) field.2 in
+    let last = where_true (is_name field.0.0) (Call (record { name = field.0.0; argument = argument.0 })) (Call call) argument.2 in
+    subst AreBytes (inside _ call last.1) (field_are_bytes field.0.1 argument.0 argument.1)
+  where
+    inside : (a b : ProgramCall) → Call a ≡ Call b → a.argument ≡ b.argument
+    inside a b e = cc
+
+line_bytes : (line : List ℕ) (call : ProgramCall) → line_meaning line ≡ Some (Call call) → AreBytes call.argument
+unfolding line_meaning
+line_bytes line call e = by_kind (by_kind_from Comment (call_meaning line) line (Call call) e).1
+  where
+    by_kind : (IsSilent line × (Comment ≡ Call call)) ⊎ (call_meaning line ≡ Some (Call call)) → AreBytes call.argument
+    by_kind (inl silent) = absurd (let same : Comment ≡ Call call = silent.1 in cc)
+    by_kind (inr words) = call_bytes line call words
+
+-- ---- one more update
+
+pushed : (c : CatalogueView) (h : History) (r : Record) → AreUpdates c h → is_operation Update c r.op ≡ true → AreUpdates c (h ++ r ∷ [])
+pushed c [] r updates is zero s e = subst (λ x. is_operation Update c x.op ≡ true) (let same : Some r ≡ Some s = e in (let inner : r ≡ s = cc in inner)) is
+pushed c [] r updates is (suc k) s e = absurd cc
+pushed c (x ∷ h) r updates is zero s e = updates 0 s e
+pushed c (x ∷ h) r updates is (suc k) s e = pushed c h r (λ i t f. updates (suc i) t f) is k s e
+
+module _ (c : CatalogueView) (is_whole : IsCatalogue c) (h : History) (updates : AreUpdates c h) (k : ℕ) (argument : List ℕ) (bytes : AreBytes argument) (program : Checked) (named : program_at c k ≡ Some program)
+    (fits : length argument ≡ program.arg_len) where
+  abbrev op : Operation
+  op = record { program = k; argument = argument }
+
+  has_effects : HasEffects c h
+  has_effects = have_effects c is_whole h updates
+
+  is_of : (mode : Mode) → program.mode ≡ mode → is_operation mode c op ≡ true
+  is_of mode m = tests_true mode c op (record { program = program; named = named; mode_is = m; length_is = fits; bytes = bytes })
+
+  same_program : (other : Checked) → program_at c k ≡ Some other → program ≡ other
+  same_program other e = let same : Some program ≡ Some other = sym named ∙ e in cc
+
+  update_turn : program.mode ≡ Update → length h < MAX_LIMIT → IsUpdateTurn c h op (record { text = update_line (length h) (effect_at store_meaning c h (length h) op); history = with_operation h op })
+  update_turn mode room =
+      let u = has_effects.updates (length h) op (is_of Update mode) in
+      let run = u.0 in
+      let r : Record = record { author = 0; seq = length h; op = op } in
+      record {
+        run =
+            record {
+              program = run.program;
+              named = run.named;
+              mode_is = subst (λ p. p.mode ≡ Update) (same_program run.program run.named) mode;
+              steps = run.done.steps;
+              reply = run.done.reply;
+              left = run.done.maps;
+              runs = run.run.runs;
+            };
+        room = room;
+        text = ap (update_line (length h)) u.1;
+        next = refl;
+        left =
+            whole c (with_operation h op) ∙ after_append store_meaning c (opening_maps c.shapes) h (r ∷ []) ∙ ap (λ (m : Maps). after store_meaning c m (r ∷ [])) (sym (whole c h))
+            ∙ ap (λ (e : Option (Effect Maps)). left_by e (maps_after store_meaning c h (length h))) u.1;
+      }
+
+  read_turn : program.mode ≡ Read → IsReadTurn c h op (record { text = read_line (length h) (read_at store_meaning c h (length h) op); history = h })
+  read_turn mode =
+      let u = has_effects.reads (length h) op (is_of Read mode) in
+      let run = u.0 in
+      record {
+        run =
+            record {
+              program = run.program;
+              named = run.named;
+              mode_is = subst (λ p. p.mode ≡ Read) (same_program run.program run.named) mode;
+              steps = run.done.steps;
+              reply = run.done.reply;
+              left = run.done.maps;
+              runs = run.run.runs;
+            };
+        text = ap (read_line (length h)) u.1;
+        same = refl;
+        left = u.2;
+      }
+
+  -- the history that a turn leaves has updates alone
+  grown : program.mode ≡ Update → AreUpdates c (with_operation h op)
+  grown mode = pushed c h (record { author = 0; seq = length h; op = op }) updates (is_of Update mode)
+
+refused_turn : (h : History) (number : ℕ) → IsRefusedTurn h (refused h number)
+refused_turn h number = record { number = number; text = refl; same = refl }
+
+-- ---- one call
+
+-- a turn of the call, and updates alone behind it
+abbrev Goes : CatalogueView → History → ProgramCall → Turn → Type 0
+Goes c h call turn = CallTurn c h call turn × AreUpdates c turn.history
+
+module _ (c : CatalogueView) (is_whole : IsCatalogue c) (h : History) (updates : AreUpdates c h) (call : ProgramCall) (bytes : AreBytes call.argument) where
+  stops : (number : ℕ) → Goes c h call (refused h number)
+  stops number = (inl (refused_turn h number), updates)
+
+  module _ (k : ℕ) (numbered_so : number_named c.programs call.name ≡ Some k) where
+    abbrev op_of : Operation
+    op_of = record { program = k; argument = call.argument }
+
+    goes_with : (program : Checked) (mode : Mode) → program_at c k ≡ Some program → length call.argument ≡ program.arg_len → program.mode ≡ mode → Goes c h call (performed c h op_of mode)
+    goes_with program Read named fits is = (inr (k, numbered_so, inr (read_turn c is_whole h updates k call.argument bytes program named fits is)), updates)
+    goes_with program Update named fits is = by_room (ltb (length h) MAX_LIMIT) refl
+      where
+        by_room : (b : Bool) → ltb (length h) MAX_LIMIT ≡ b
+            → Goes c h call (cond b (record { text = update_line (length h) (effect_at store_meaning c h (length h) op_of); history = with_operation h op_of }) (refused h 4))
+        by_room true room =
+            (inr (k, numbered_so, inl (update_turn c is_whole h updates k call.argument bytes program named fits is (ltb-true _ _ room))), grown c is_whole h updates k call.argument bytes program named fits is)
+        by_room false room = stops 4
+
+    by_program : (o : Option Checked) → program_at c k ≡ o → Goes c h call (performed_by c h op_of o)
+    by_program None e = stops 1
+    by_program (Some program) e = by_length (eqb (length call.argument) program.arg_len) refl
+      where
+        by_length : (b : Bool) → eqb (length call.argument) program.arg_len ≡ b → Goes c h call (cond b (performed c h op_of program.mode) (refused h 2))
+        by_length true fits = goes_with program program.mode e (eqb-true _ _ fits) refl
+        by_length false fits = stops 2
+
+  by_number : (o : Option ℕ) → number_named c.programs call.name ≡ o → Goes c h call (numbered c h call.argument o)
+  by_number None e = stops 1
+  by_number (Some k) e = by_program k e (program_at c k) refl
+
+  pub call_goes : Goes c h call (called c h call)
+  unfolding called
+  call_goes = by_number (number_named c.programs call.name) refl
+
+-- ---- the lines
+
+module _ (c : CatalogueView) (is_whole : IsCatalogue c) (l : List ℕ) (ls : List (List ℕ)) (n : ℕ) (h : History) (updates : AreUpdates c h)
+    (more : (g : History) → AreUpdates c g → ScriptRuns c (next_line n) g ls (lines_answer c (next_line n) g ls)) where
+  abbrev next : Turn → Answer
+  next turn = behind turn.text (lines_answer c (next_line n) turn.history ls)
+
+  line_runs : (o : Option Meaning) → line_meaning l ≡ o
+      → ((line_meaning l ≡ None) × (by_turn (bad_line n) next (option_map (taken c h) o) ≡ bad_line n))
+      ⊎ ((turn : Turn) × (rest : Answer) × LineTurn c h l turn × ScriptRuns c (next_line n) turn.history ls rest × (by_turn (bad_line n) next (option_map (taken c h) o) ≡ behind turn.text rest))
+  line_runs None e = inl (e, refl)
+  line_runs (Some Comment) e = inr (record { text = []; history = h }, lines_answer c (next_line n) h ls, inl (e, refl, refl), more h updates, refl)
+  line_runs (Some (Call call)) e =
+      let g = call_goes c is_whole h updates call (line_bytes l call e) in
+      inr (called c h call, lines_answer c (next_line n) (called c h call).history ls, inr (call, e, g.0), more (called c h call).history g.1, refl)
+
+pub lines_run : (c : CatalogueView) → IsCatalogue c → (ls : List (List ℕ)) (n : ℕ) (h : History) → AreUpdates c h → ScriptRuns c n h ls (lines_answer c n h ls)
+unfolding lines_answer line_turn
+lines_run c is_whole [] n h updates = refl
+lines_run c is_whole (l ∷ ls) n h updates = line_runs c is_whole l ls n h updates (λ g u. lines_run c is_whole ls (next_line n) g u) (line_meaning l) refl
+
+-- ---- the law
+
+loaded_catalogue : (text : List ℕ) (files : Files) (c : CatalogueView) → loaded text files ≡ Ok c → IsCatalogue c
+unfolding loaded
+loaded_catalogue text files c e =
+    let p = ok_from files (lines_of text) 1 nothing_yet c e in
+    is_catalogue c (passes_stay files (lines_of text) nothing_yet c nothing_partial p.0) p.1
+
+no_updates : (c : CatalogueView) → AreUpdates c []
+no_updates c k r e = absurd cc
+
+pub run_lines_are_runs : RunLinesAreRuns
+run_lines_are_runs manifest files c script e =
+    subst (λ o. ScriptRuns c 1 [] (lines_of script) (ran o script)) (sym e) (lines_run c (loaded_catalogue manifest files c e) (lines_of script) 1 [] (no_updates c))

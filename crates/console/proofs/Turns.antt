@@ -1,0 +1,57 @@
+-- What a call writes and leaves, from what the node answers.
+use Rattle.std.proofs.Common.{◌≡◌, ℕ, ◌+◌, true, List, [], ◌∷◌, ◌++◌, length, Option, Some, Result, Ok, Err, refl, sym, ap, ap₂, subst, ◌∙◌, arith, ltb}
+use Rattle.std.specs.Prelude.{OnOk}
+use Rattle.std.proofs.lemmas.Bool.{lt-ltb}
+use Rattle.std.proofs.lemmas.List.{length-append, take_all}
+use Rattle.maps.specs.Maps.{Maps}
+use Rattle.maps.specs.MapSets.{opening_maps}
+use Rattle.verifier.specs.declared.refusal.Mode.TheVariants.{Update}
+use Rattle.verifier.specs.Accepted.{Checked}
+use Rattle.machine.specs.declared.running.Outcome.{Outcome}
+use Rattle.loader.specs.CatalogueView.{CatalogueView}
+use Rattle.oplog.specs.declared.configuration.TheConstants.{MAX_LIMIT}
+use Rattle.oplog.specs.Operations.{Operation}
+use Rattle.oplog.specs.Logs.{tail_of}
+use Rattle.oplog.specs.History.{Meaning, Effect, History, left_by, after, maps_after, effect_at}
+use Rattle.replica.specs.StoreMeaning.{store_meaning}
+use Rattle.console.specs.declared.node.SingleNode.{SingleNode}
+use Rattle.console.specs.RunAnswer.{with_operation, update_line, update_text, performed}
+use Rattle.console.specs.Running.{Follows, IsUpdated, IsTaken}
+
+-- the maps after one history and then another
+pub after_append : {C M : Type 0} (E : Meaning C M) (c : C) (maps : M) (h : History) (rs : History) → after E c maps (h ++ rs) ≡ after E c (after E c maps h) rs
+after_append E c maps [] rs = refl
+after_append E c maps (x ∷ h) rs = after_append E c (left_by (E.update c x.op maps) maps) h rs
+
+-- the maps after a whole history
+pub whole : (c : CatalogueView) (h : History) → maps_after store_meaning c h (length h) ≡ after store_meaning c (opening_maps c.shapes) h
+whole c h = ap (λ (x : History). after store_meaning c (opening_maps c.shapes) x) (take_all (length h) h (omega arith))
+
+on_ok : {A E : Type 0} (r : Result A E) (P Q : Type 0) → (P → Q) → OnOk r P → OnOk r Q
+on_ok (Ok x) P Q f p = f p
+on_ok (Err e) P Q f p = tt
+
+module _ (c : CatalogueView) (h : History) (n : SingleNode) (follows : Follows c h n) where
+  here : maps_after store_meaning c h (length h) ≡ n.replica.maps
+  here = whole c h ∙ sym follows.maps
+
+  module _ (op : Operation) (program : Checked) where
+    -- an update
+    pub update_turn : {A E : Type 0} (r : Result A E) (place : ℕ) (m : SingleNode) (o : Outcome) (old new : List ℕ) → place ≡ tail_of n.log → program.mode ≡ Update → IsUpdated c op n m o
+        → OnOk r (new ≡ old ++ update_text place o.reply o.steps) → OnOk r (IsTaken c (performed c h op program.mode) m old new)
+    update_turn r place m o old new is mode u wrote =
+        let at : place ≡ length h = is ∙ follows.count in
+        let low = u.room in
+        let count = follows.count in
+        let room : ltb (length h) MAX_LIMIT ≡ true = lt-ltb (length h) MAX_LIMIT (omega (arith, low, count)) in
+        let effect_here : effect_at store_meaning c h (length h) op ≡ Some u.done = ap (λ (x : Maps). store_meaning.update c op x) here ∙ u.takes in
+        let text : update_line (length h) (effect_at store_meaning c h (length h) op) ≡ update_text place o.reply o.steps =
+        ap (update_line (length h)) effect_here ∙ ap₂ (λ (p : ℕ) (x : Outcome). update_text p x.reply x.steps) (sym at) (sym u.outcome) in
+        let grown = u.tail in
+        let size : length (with_operation h op) ≡ length h + 1 = length-append h (record { author = 0; seq = length h; op = op } ∷ []) in
+        let left : m.replica.maps ≡ after store_meaning c (opening_maps c.shapes) (with_operation h op) =
+        u.maps ∙ sym (ap (λ (e : Option (Effect Maps)). left_by e n.replica.maps) u.takes) ∙ ap (λ (x : Maps). after store_meaning c x (record { author = 0; seq = length h; op = op } ∷ [])) follows.maps
+        ∙ sym (after_append store_meaning c (opening_maps c.shapes) h (record { author = 0; seq = length h; op = op } ∷ [])) in
+        on_ok r (new ≡ old ++ update_text place o.reply o.steps) (IsTaken c (performed c h op program.mode) m old new)
+        (λ w. subst (λ x. IsTaken c (performed c h op x) m old new) (sym mode)
+        (rw room (record { written = w ∙ ap (λ t. old ++ t) (sym text); placed = record { count = omega (arith, grown, count, size); maps = left } }))) wrote

@@ -1,0 +1,39 @@
+// The catalogue that a manifest and its files say.
+
+ghost use Rattle.std.specs.Prelude.{IfOk};
+ghost use Rattle.loader.specs.Loading.{loaded};
+ghost use Rattle.console.specs.Input.{owned_files};
+ghost use Rattle.console.specs.Loaded.{LoadedIs};
+
+use crate::input::lent;
+use crate::report::Reply;
+use crate::status::Verdict;
+use crate::texts::refusal_text;
+use loader::{Catalogue, LoadError, load_manifest};
+use std::alloc::{AllocError, Global};
+
+// The catalogue; or what a command answers to a refused manifest.
+#[derive(Drop)]
+pub(crate) enum Loaded {
+    Catalogue(Catalogue),
+    Refused(Reply),
+}
+
+// Loads a manifest with its files.
+pub(crate) fn load(
+    alloc: Global,
+    manifest: &str,
+    files: &[(&str, String)],
+) -> Result<Loaded, AllocError>
+    ensures { IfOk result (LoadedIs (loaded manifest.now (owned_files files.now))) }
+{
+    let files = lent(alloc, files)?;
+    match load_manifest(alloc, manifest, &files) {
+        Ok(catalogue) => Ok(Loaded::Catalogue(catalogue)),
+        Err(LoadError::NoMemory) => Err(AllocError),
+        Err(LoadError::Refused(refusal)) => Ok(Loaded::Refused(Reply {
+            text: refusal_text(alloc, refusal)?,
+            verdict: Verdict::Refused,
+        })),
+    }
+}

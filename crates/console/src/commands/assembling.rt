@@ -1,0 +1,58 @@
+// The command `asm`.
+
+ghost use Rattle.std.specs.Prelude.{◌≡◌, IfOk, IfSome, MatchResult};
+ghost use Rattle.asm.specs.Assembled.{assembled};
+ghost use Rattle.console.specs.Answer.{not_text};
+ghost use Rattle.console.specs.AsmAnswer.{assembled_answer, asm_answer, IsAsmAnswer};
+ghost use Rattle.console.specs.Report.{answer_of, Reports, ReportsSome};
+ghost use Rattle.console.specs.Input.{FailsAs};
+
+use crate::asm_texts::{asm_refusal_text, hex_line};
+use crate::input::{InputFault, read_text};
+use crate::report::{Reply, report};
+use crate::status::{Status, Verdict};
+use asm::AsmError;
+use std::alloc::{AllocError, Global};
+use std::io::{Read, Write};
+
+// What an assembler text gets.
+fn source_reply(alloc: Global, source: &str) -> Result<Reply, AllocError>
+    ensures { IfOk result (λ r. answer_of r ≡ assembled_answer (assembled source.now)) }
+{
+    match asm::assemble(alloc, source) {
+        Ok(program) => Ok(Reply {
+            text: hex_line(alloc, &program)?,
+            verdict: Verdict::Good,
+        }),
+        Err(AsmError::NoMemory) => Err(AllocError),
+        Err(AsmError::Refused(refusal)) => Ok(Reply {
+            text: asm_refusal_text(alloc, refusal)?,
+            verdict: Verdict::Refused,
+        }),
+    }
+}
+
+// What `asm` has to write.
+fn prepare<R: Read>(alloc: Global, source: &mut R) -> Result<Reply, InputFault>
+    ensures known { IfSome (R.remaining source.old) (λ s. MatchResult result
+        (λ r. answer_of r ≡ asm_answer s) (λ e. FailsAs e (asm_answer s ≡ not_text))) }
+    ensures some { IfOk result (λ r. IsAsmAnswer (answer_of r)) }
+{
+    let text = read_text(alloc, source)?;
+    Ok(source_reply(alloc, text.as_str())?)
+}
+
+/// Assembles a text.
+///
+/// Writes the program's bytes in hexadecimal digits with lower-case letters, in one line, or the one line of the first
+/// refusal, `line N: A4`, and says how it ended. The text is read whole before anything is written. Where a read fails,
+/// nothing is written.
+pub fn assemble<R: Read, W: Write>(alloc: Global, source: &mut R, writer: &mut W) -> Status
+    // Where the reader tells its bytes, those are assembled.
+    ensures written { IfSome (R.remaining source.old) (λ s.
+        Reports (W.contents writer.old) (W.contents writer.new) result (asm_answer s)) }
+    // Whatever it gives, or where it fails.
+    ensures ended { ReportsSome IsAsmAnswer (W.contents writer.old) (W.contents writer.new) result }
+{
+    report(writer, prepare(alloc, source))
+}

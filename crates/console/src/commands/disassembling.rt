@@ -1,0 +1,73 @@
+// The command `dis`.
+
+ghost use Rattle.std.specs.Prelude.{◌≡◌, IfOk, IfSome, MatchResult};
+ghost use Rattle.insn.specs.Decoded.{decoded};
+ghost use Rattle.text.specs.Digits.{spaced_bytes};
+ghost use Rattle.console.specs.Answer.{not_text};
+ghost use Rattle.console.specs.AsmAnswer.{decoded_answer, bytes_answer, dis_answer, IsDisAnswer};
+ghost use Rattle.console.specs.Report.{answer_of, Reports, ReportsSome};
+ghost use Rattle.console.specs.Input.{FailsAs};
+
+use crate::asm_texts::{bad_hex, decode_refusal_text};
+use crate::input::{InputFault, read_text};
+use crate::report::{Reply, report};
+use crate::status::{Status, Verdict};
+use insn::{DecodeError, decode};
+use std::alloc::{AllocError, Global};
+use std::io::{Read, Write};
+use text::spaced_hex;
+
+// What the bytes of a program file get.
+fn bytes_reply(alloc: Global, bytes: &[u8]) -> Result<Reply, AllocError>
+    ensures { IfOk result (λ r. answer_of r ≡ decoded_answer (decoded bytes.now)) }
+{
+    match decode(alloc, bytes) {
+        Ok(program) => Ok(Reply {
+            text: asm::disassemble(alloc, &program)?.into_bytes(),
+            verdict: Verdict::Good,
+        }),
+        Err(DecodeError::NoMemory) => Err(AllocError),
+        Err(DecodeError::Refused(refusal)) => Ok(Reply {
+            text: decode_refusal_text(alloc, refusal)?,
+            verdict: Verdict::Refused,
+        }),
+    }
+}
+
+// What a program file gets.
+fn file_reply(alloc: Global, digits: &str) -> Result<Reply, AllocError>
+    ensures { IfOk result (λ r. answer_of r ≡ bytes_answer (spaced_bytes digits.now)) }
+{
+    match spaced_hex(alloc, digits)? {
+        Some(bytes) => bytes_reply(alloc, &bytes),
+        None => Ok(Reply {
+            text: bad_hex(alloc)?,
+            verdict: Verdict::Refused,
+        }),
+    }
+}
+
+// What `dis` has to write.
+fn prepare<R: Read>(alloc: Global, program: &mut R) -> Result<Reply, InputFault>
+    ensures known { IfSome (R.remaining program.old) (λ s. MatchResult result
+        (λ r. answer_of r ≡ dis_answer s) (λ e. FailsAs e (dis_answer s ≡ not_text))) }
+    ensures some { IfOk result (λ r. IsDisAnswer (answer_of r)) }
+{
+    let text = read_text(alloc, program)?;
+    Ok(file_reply(alloc, text.as_str())?)
+}
+
+/// Disassembles a program file, in which spaces, tabs, carriage returns and line feeds are skipped.
+///
+/// Writes the program's canonical text, an instruction a line, or one line that says why there is no program, `bad hex` or
+/// `D8 slot 0`, and says how it ended. The file is read whole before anything is written. Where a read fails, nothing is
+/// written.
+pub fn disassemble<R: Read, W: Write>(alloc: Global, program: &mut R, writer: &mut W) -> Status
+    // Where the reader tells its bytes, those are disassembled.
+    ensures written { IfSome (R.remaining program.old) (λ s.
+        Reports (W.contents writer.old) (W.contents writer.new) result (dis_answer s)) }
+    // Whatever it gives, or where it fails.
+    ensures ended { ReportsSome IsDisAnswer (W.contents writer.old) (W.contents writer.new) result }
+{
+    report(writer, prepare(alloc, program))
+}
