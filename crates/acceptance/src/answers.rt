@@ -52,7 +52,7 @@ pub(crate) fn answer_to(alloc: Global, text: &[u8], arg_len: usize, mode: Mode) 
     };
     match decode(alloc, &bytes) {
         Ok(program) => judged(alloc, program, arg_len, mode),
-        Err(e) => decoder(e.why.number(), e.slot),
+        Err(e) => decoder(e.number(), e.slot()),
     }
 }
 
@@ -66,7 +66,7 @@ fn judged(alloc: Global, program: Vec<Insn>, arg_len: usize, mode: Mode) -> Answ
     }
     match verify(alloc, program, &shapes, arg_len, mode) {
         Ok(program) => accepted(program.slots(), program.instructions()),
-        Err(e) => verifier(e.why.number(), e.slot),
+        Err(e) => verifier(e.number(), e.slot()),
     }
 }
 

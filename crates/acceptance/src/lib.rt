@@ -4,6 +4,24 @@
 #[cfg(test)]
 mod answers;
 #[cfg(test)]
+mod assembler;
+#[cfg(test)]
+mod commands;
+#[cfg(test)]
 mod counter;
 #[cfg(test)]
-mod runs;
+mod frames;
+#[cfg(test)]
+mod helper_answers;
+#[cfg(test)]
+mod instructions;
+#[cfg(test)]
+mod machine_rows;
+#[cfg(test)]
+mod manifests;
+#[cfg(test)]
+mod map_calls;
+#[cfg(test)]
+mod structure;
+#[cfg(test)]
+mod verdicts;

@@ -1,0 +1,7 @@
+//! What the machine computes.
+
+mod arithmetic;
+mod conversions;
+mod narrow;
+mod runs;
+mod wide;

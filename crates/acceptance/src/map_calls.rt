@@ -1,0 +1,168 @@
+//! Which shapes maps may have, how refusals read, and maps as they are opened, written and copied.
+
+use maps::{MapError, MapSet, Shape, ShapeFault, shapes_ok};
+use std::test::Fail;
+
+const SMALL: Shape = Shape::Array {
+    value: 8,
+    entries: 16,
+};
+
+const SINGLE: Shape = Shape::Array {
+    value: 1,
+    entries: 1,
+};
+
+const LARGE: Shape = Shape::Array {
+    value: 256,
+    entries: 65_536,
+};
+
+const HASH: Shape = Shape::Hash {
+    key: 4,
+    value: 8,
+    entries: 1,
+};
+
+fn hash(key: u32, value: u32, entries: u32) -> Shape {
+    Shape::Hash {
+        key,
+        value,
+        entries,
+    }
+}
+
+#[test]
+fn answers_by_shapes(rt: HostRuntime) {
+    let long_key = hash(65, 8, 1);
+    assert_eq!(rt;
+        [
+            shapes_ok(&[]),
+            shapes_ok(&[long_key]),
+            shapes_ok(&[LARGE]),
+            shapes_ok(&[LARGE, SINGLE]),
+            shapes_ok(&[SMALL; 16]),
+            shapes_ok(&[SMALL; 17]),
+            shapes_ok(&[long_key; 17]),
+            shapes_ok(&[LARGE, long_key]),
+        ],
+        [
+            Err(ShapeFault::NoMapOrTooMany),
+            Err(ShapeFault::SizeOutOfLimits),
+            Ok(()),
+            Err(ShapeFault::TooManyBytes),
+            Ok(()),
+            Err(ShapeFault::NoMapOrTooMany),
+            Err(ShapeFault::NoMapOrTooMany),
+            Err(ShapeFault::SizeOutOfLimits),
+        ]
+    );
+}
+
+// Keys of 1 to 64 bytes, values of 1 to 256, 1 to 65,536 entries; the first of each row is good, the others aren't.
+#[test]
+fn sizes_have_limits(rt: HostRuntime) {
+    assert_eq!(rt;
+        [
+            hash(64, 8, 1).is_ok(),
+            hash(65, 8, 1).is_ok(),
+            hash(0, 8, 1).is_ok(),
+            hash(1, 256, 1).is_ok(),
+            hash(1, 257, 1).is_ok(),
+            hash(1, 0, 1).is_ok(),
+            hash(1, 1, 65_536).is_ok(),
+            hash(1, 1, 65_537).is_ok(),
+            hash(1, 1, 0).is_ok(),
+        ],
+        [true, false, false, true, false, false, true, false, false]
+    );
+}
+
+// A hash counts its keys too: 65,536 times 64 and 192 bytes are 16,777,216.
+#[test]
+fn counts_keys(rt: HostRuntime) {
+    assert_eq!(rt;
+        [
+            shapes_ok(&[hash(64, 192, 65_536)]),
+            shapes_ok(&[hash(64, 193, 65_536)]),
+        ],
+        [Ok(()), Err(ShapeFault::TooManyBytes)]
+    );
+}
+
+#[test]
+fn tells_each_error(rt: HostRuntime) -> Result<(), Fail> {
+    for (error, number, text) in [
+        (
+            MapError::Refused(ShapeFault::NoMapOrTooMany),
+            1,
+            "M1: there is no map, or there are more than 16",
+        ),
+        (
+            MapError::Refused(ShapeFault::SizeOutOfLimits),
+            2,
+            "M2: a key has not 1 to 64 bytes, a value not 1 to 256 or a map not 1 to 65536 entries",
+        ),
+        (
+            MapError::Refused(ShapeFault::TooManyBytes),
+            3,
+            "M3: the maps have more than 16777216 bytes together",
+        ),
+        (MapError::NoMemory, 4, "M4: memory ran out"),
+    ] {
+        let shown = format!(in rt.alloc(); "{error}")?;
+        assert_eq!(rt; (error.number(), shown.as_str()), (number, text));
+    }
+    Ok(())
+}
+
+#[test]
+fn refuses_shapes(rt: HostRuntime) {
+    let refused = MapSet::open(rt.alloc(), &[]).err();
+    assert_eq!(rt;
+        refused,
+        Some(MapError::Refused(ShapeFault::NoMapOrTooMany))
+    );
+}
+
+// An array of 16 values of 8 zeros has the indices 0 to 15, and a hash has no key yet.
+#[test]
+fn opens_arrays_of_zeros(rt: HostRuntime) {
+    let maps = MapSet::open(rt.alloc(), &[SMALL, HASH]).expect(&rt, "open");
+    let last = maps.lookup(0, &[15, 0, 0, 0]).expect(&rt, "last");
+    assert!(&rt; maps.value(last) == [0; 8].as_slice());
+    assert_eq!(rt;
+        [
+            last == maps.entry(0, 15),
+            maps.lookup(0, &[16, 0, 0, 0]).is_none(),
+            maps.lookup(0, &[0, 1, 0, 0]).is_none(),
+            maps.lookup(1, &[15, 0, 0, 0]).is_none(),
+        ],
+        [true; 4]
+    );
+    assert_eq!(rt; [maps.len(0), maps.len(1)], [16, 0]);
+}
+
+// The values of an array stand one after another: the fourth is the bytes 24 to 31.
+#[test]
+fn a_block_has_the_values(rt: HostRuntime) {
+    let mut maps = MapSet::open(rt.alloc(), &[SMALL]).expect(&rt, "open");
+    let third = maps.lookup(0, &[2, 0, 0, 0]).expect(&rt, "third");
+    let fourth = maps.lookup(0, &[3, 0, 0, 0]).expect(&rt, "fourth");
+    maps.value_mut(fourth).fill(7);
+    maps.block_mut(0)[24] = 9;
+    assert!(&rt; maps.value(third) == [0; 8].as_slice());
+    assert!(&rt; maps.value(fourth) == [9, 7, 7, 7, 7, 7, 7, 7].as_slice());
+    assert!(&rt; maps.block(0)[23..33] == [0, 9, 7, 7, 7, 7, 7, 7, 7, 0]);
+    assert_eq!(rt; maps.block(0).len(), 128);
+}
+
+#[test]
+fn copies_values(rt: HostRuntime) {
+    let mut maps = MapSet::open(rt.alloc(), &[SMALL]).expect(&rt, "open");
+    let mut copy = MapSet::open(rt.alloc(), &[SMALL]).expect(&rt, "copy");
+    let third = maps.lookup(0, &[3, 0, 0, 0]).expect(&rt, "third");
+    maps.value_mut(third).fill(7);
+    copy.copy_from(&maps);
+    assert!(&rt; copy.value(third) == [7; 8].as_slice());
+}

@@ -1,0 +1,38 @@
+//! Desks: one request a slot, one combiner at a time, and each answer at its own slot.
+
+use combiner::{Desk, DeskRefused, Reply};
+use oplog::Op;
+
+#[test]
+fn one_request_a_slot(rt: HostRuntime) {
+    let mut desk = Desk::new(0, 2);
+    let first = desk.post(0, Op::new(3, &[1]));
+    assert!(&rt; first == Ok(()));
+    let second = desk.post(0, Op::new(3, &[2]));
+    assert!(&rt; second == Err(DeskRefused::SlotBusy));
+}
+
+#[test]
+fn nothing_to_claim(rt: HostRuntime) {
+    let mut desk = Desk::new(0, 2);
+    match desk.claim() {
+        Ok(_) => assert!(&rt; false),
+        Err(refused) => assert_eq!(rt; refused.number(), 2),
+    }
+}
+
+#[test]
+fn one_combiner_at_a_time(rt: HostRuntime) {
+    let mut desk = Desk::new(1, 2);
+    assert!(&rt; desk.post(1, Op::new(3, &[1])).is_ok());
+    let first = desk.claim();
+    assert!(&rt; first.is_ok());
+    assert!(&rt; desk.claimed());
+    match desk.claim() {
+        Ok(_) => assert!(&rt; false),
+        Err(refused) => assert_eq!(rt; refused.number(), 3),
+    }
+    let Ok(batch) = first else { return };
+    let authors: u16 = batch.records()[0].author;
+    assert_eq!(rt; (batch.records().len(), authors), (1, 3));
+}

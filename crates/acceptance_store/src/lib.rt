@@ -1,0 +1,14 @@
+//! The store and the crates below it, by calls from outside. There is no code here but tests: their expected values are the
+//! requirement's own.
+#![tactic(auto)]
+
+#[cfg(test)]
+mod desk;
+#[cfg(test)]
+mod lock;
+#[cfg(test)]
+mod replicas;
+#[cfg(test)]
+mod single_store;
+#[cfg(test)]
+mod window;

@@ -1,0 +1,131 @@
+//! A store of one node of one slot, call by call.
+
+ghost use Rattle.std.specs.Prelude.{◌≡◌, ◌≤◌, [], vec_capacity};
+ghost use Rattle.store.specs.Sessions.{IsOf};
+
+use loader::{Catalogue, load_manifest};
+use oplog::Config;
+use readpath::ReadAnswer;
+use std::alloc::Global;
+use std::sync::Wait;
+use store::{Answer, Closed, Session, Store, StoreRefused};
+
+const BUMP: &str =
+    "bf12000000000000 1851000000000000 0000000000000000 8500000001000000 1500050000000000 7906000000000000 0706000001000000 7b60000000000000 bf60000000000000 9500000000000000 b7000000ffffffff 9500000000000000";
+
+const PEEK: &str =
+    "bf12000000000000 1851000000000000 0000000000000000 8500000001000000 1500020000000000 7900000000000000 9500000000000000 b7000000ffffffff 9500000000000000";
+
+const MANIFEST: &str =
+    "map array 8 16\nprogram bump update 4 bump.hex\nprogram peek read 4 peek.hex\n";
+
+const ZERO: [u8; 4] = [0; 4];
+
+fn counter(alloc: Global) -> Option<Catalogue> {
+    let files = [("bump.hex", BUMP), ("peek.hex", PEEK)];
+    load_manifest(alloc, MANIFEST, &files).ok()
+}
+
+fn single(window: u32, limit: u32) -> Config
+    ensures { (result.nodes ≡ 1) × (result.slots ≡ 1) }
+{
+    Config {
+        nodes: 1,
+        slots: 1,
+        window,
+        limit,
+    }
+}
+
+// An update, after which the session is still one of the store.
+fn update<R: Wait>(
+    rt: &R,
+    store: &Store,
+    session: &mut Session,
+    program: u16,
+    argument: &[u8],
+) -> Result<Answer, StoreRefused>
+    requires own { IsOf store.now session.old }
+    ensures own { IsOf store.now session.new }
+{
+    session.invoke(rt, store, program, argument)
+}
+
+// A read, after which the session is still one of the store.
+fn read<R: Wait>(
+    rt: &R,
+    store: &Store,
+    session: &mut Session,
+    program: u16,
+    argument: &[u8],
+) -> Result<ReadAnswer, StoreRefused>
+    requires own { IsOf store.now session.old }
+    ensures own { IsOf store.now session.new }
+{
+    session.read(rt, store, program, argument)
+}
+
+// Ends the store, once its session is back.
+fn close(store: Store, session: Session, mut sessions: Vec<Session>) -> Closed
+    requires own { IsOf store session }
+    requires one { (store.config.nodes ≡ 1) × (store.config.slots ≡ 1) }
+    requires room { (sessions.items ≡ []) × (1 ≤ vec_capacity sessions) }
+{
+    sessions.push_reserved(session);
+    match store.close(sessions) {
+        Ok(closed) => closed,
+        Err(_) => unreachable!(),
+    }
+}
+
+#[test]
+fn one_update_at_most(rt: HostRuntime) {
+    let catalogue = counter(rt.alloc()).expect(&rt, "catalogue");
+    let room = Vec::with_capacity(rt.alloc(), 1).expect(&rt, "room");
+    let opened = Store::open(rt.alloc(), single(16, 1), catalogue);
+    let (store, mut sessions) = opened.expect(&rt, "store");
+    let mut session = sessions.pop().expect(&rt, "session");
+    let first = Answer { index: 0, reply: 1 };
+    assert_eq!(rt; update(&rt, &store, &mut session, 0, &ZERO), Ok(first));
+    let short = update(&rt, &store, &mut session, 0, &[0]);
+    let reader = update(&rt, &store, &mut session, 1, &ZERO);
+    let unknown = update(&rt, &store, &mut session, 2, &[]);
+    let ended = update(&rt, &store, &mut session, 0, &ZERO);
+    assert_eq!(rt; short, Err(StoreRefused::ArgumentLength));
+    assert_eq!(rt; reader, Err(StoreRefused::WrongMode));
+    assert_eq!(rt; unknown, Err(StoreRefused::UnknownProgram));
+    assert_eq!(rt; ended, Err(StoreRefused::Ended));
+    assert_eq!(rt;
+        read(&rt, &store, &mut session, 0, &ZERO),
+        Err(StoreRefused::WrongMode)
+    );
+    let seen = ReadAnswer { point: 1, reply: 1 };
+    assert_eq!(rt; read(&rt, &store, &mut session, 1, &ZERO), Ok(seen));
+    let Err((store, sessions)) = store.close(sessions) else {
+        unreachable!()
+    };
+    sessions.destroy_empty();
+    assert_eq!(rt; close(store, session, room).log().tail(), 1);
+}
+
+// The log keeps sixteen records: it moves its base twice.
+#[test]
+fn forty_updates_in_a_window_of_sixteen(rt: HostRuntime) {
+    let catalogue = counter(rt.alloc()).expect(&rt, "catalogue");
+    let room = Vec::with_capacity(rt.alloc(), 1).expect(&rt, "room");
+    let opened = Store::open(rt.alloc(), single(16, 40), catalogue);
+    let (store, mut sessions) = opened.expect(&rt, "store");
+    let mut session = sessions.pop().expect(&rt, "session");
+    sessions.destroy_empty();
+    for index in 0..40 {
+        let want = Answer {
+            index,
+            reply: index + 1,
+        };
+        assert_eq!(rt; update(&rt, &store, &mut session, 0, &ZERO), Ok(want));
+    }
+    let ended = update(&rt, &store, &mut session, 0, &ZERO);
+    assert_eq!(rt; ended, Err(StoreRefused::Ended));
+    let closed = close(store, session, room);
+    assert_eq!(rt; (closed.log().base(), closed.log().tail()), (32, 40));
+}

@@ -1,0 +1,113 @@
+//! The log with its window, and the hands that its records are copied into.
+
+ghost use Rattle.std.specs.Prelude.{◌≡◌, ◌≤◌};
+
+use maps::{MapSet, Shape, shapes_ok};
+use oplog::{Appended, Config, CopyAnswer, Ended, Hand, LogState, Op, OpenError, Record};
+use std::test::Fail;
+
+const SHAPES: [Shape; 1] = [Shape::Array {
+    value: 8,
+    entries: 4,
+}];
+
+fn third_program(author: u16, seq: u64) -> Record {
+    Record {
+        author,
+        seq,
+        op: Op::new(2, &[7, 0, 0, 255]),
+    }
+}
+
+#[test]
+fn appends_up_to_the_limit(rt: HostRuntime) {
+    assert!(&rt; shapes_ok(&SHAPES).is_ok());
+    let mut log = LogState::open(rt.alloc(), &SHAPES, 16, 3).expect(&rt, "log");
+    let batch = [third_program(1, 0), third_program(0, 0)];
+    assert!(&rt; log.append(&[]) == Ok(Appended { first: 0, count: 0 }));
+    assert!(&rt; log.append(&batch) == Ok(Appended { first: 0, count: 2 }));
+    assert!(&rt; log.append(&batch) == Ok(Appended { first: 2, count: 1 }));
+    assert!(&rt; log.append(&batch) == Err(Ended));
+    assert_eq!(rt;
+        (log.room(), log.left(), log.base(), log.tail()),
+        (13, 0, 0, 3)
+    );
+}
+
+#[test]
+fn copies_records(rt: HostRuntime) {
+    assert!(&rt; shapes_ok(&SHAPES).is_ok());
+    let mut log = LogState::open(rt.alloc(), &SHAPES, 16, 3).expect(&rt, "log");
+    let mut hand = Hand::open(rt.alloc(), 16).expect(&rt, "hand");
+    let batch = [third_program(1, 0), third_program(0, 0)];
+    assert!(&rt; log.append(&batch).is_ok());
+    assert!(&rt; log.copy_from(1, &mut hand) == CopyAnswer::Copied);
+    assert_eq!(rt; (hand.begin(), hand.len()), (1, 1));
+    let copied = hand.record(0);
+    assert_eq!(rt; (copied.author, copied.seq, copied.op.program()), (0, 0, 2));
+    assert!(&rt; copied.op.argument() == [7, 0, 0, 255].as_slice());
+}
+
+// The first record is dropped; what lies below the base is copied no more.
+#[test]
+fn reclaims(rt: HostRuntime) {
+    assert!(&rt; shapes_ok(&SHAPES).is_ok());
+    let mut log = LogState::open(rt.alloc(), &SHAPES, 16, 3).expect(&rt, "log");
+    let mut hand = Hand::open(rt.alloc(), 16).expect(&rt, "hand");
+    let maps = MapSet::open(rt.alloc(), &SHAPES).expect(&rt, "maps");
+    let batch = [third_program(1, 0), third_program(0, 0)];
+    assert!(&rt; log.append(&batch).is_ok());
+    log.raise_done(2);
+    log.raise_done(1);
+    log.reclaim(1, &maps);
+    assert!(&rt; log.copy_from(0, &mut hand) == CopyAnswer::Below(1));
+    assert!(&rt; log.copy_from(1, &mut hand) == CopyAnswer::Copied);
+    assert_eq!(rt;
+        (log.base(), log.tail(), log.done(), log.room(), hand.len()),
+        (1, 2, 2, 15, 1)
+    );
+}
+
+// Below and above what a window, a limit, nodes and slots may be.
+#[test]
+fn knows_its_limits(rt: HostRuntime) {
+    for (nodes, slots, window, limit, want) in [
+        (1, 1, 16, 1, true),
+        (8, 16, 4_096, 1_000_000, true),
+        (0, 1, 16, 1, false),
+        (9, 1, 16, 1, false),
+        (1, 0, 16, 1, false),
+        (1, 17, 16, 1, false),
+        (1, 1, 15, 1, false),
+        (1, 1, 4_097, 1, false),
+        (1, 1, 16, 0, false),
+        (1, 1, 16, 1_000_001, false),
+    ] {
+        let config = Config {
+            nodes,
+            slots,
+            window,
+            limit,
+        };
+        assert_eq!(rt; config.is_within_limits(), want);
+    }
+}
+
+#[test]
+fn tells_each_refusal(rt: HostRuntime) -> Result<(), Fail> {
+    for (error, number, text) in [
+        (
+            OpenError::OutOfLimits,
+            1,
+            "O1: a number of the configuration is out of its limits",
+        ),
+        (OpenError::NoMemory, 2, "O2: no memory"),
+    ] {
+        assert_eq!(rt; error.number(), number);
+        let shown = format!(in rt.alloc(); "{error}")?;
+        assert_eq!(rt; shown.as_str(), text);
+    }
+    let ended = format!(in rt.alloc(); "{Ended}")?;
+    assert_eq!(rt; ended.as_str(), "L1: the history has all its records");
+    Ok(())
+}
