@@ -12,7 +12,7 @@ use text::NAME_BYTES;
 use verifier::Accepted;
 
 // An accepted program and its name.
-#[derive(Debug, Drop)]
+#[derive(Drop)]
 pub(crate) struct NamedProgram {
     name: ArrayString<{ NAME_BYTES }>,
     program: Accepted,
@@ -48,7 +48,7 @@ impl NamedProgram {
 
 /// The maps of a store, and the accepted programs that it offers, numbered from 0 in the
 /// manifest's order. Names are distinct, and there are at most 256 programs.
-#[derive(Debug, Drop)]
+#[derive(Drop)]
 pub struct Catalogue {
     shapes: Vec<Shape>,
     programs: Vec<NamedProgram>,
