@@ -1,5 +1,5 @@
 -- Lists by their places, and numbers by node and slot.
-use Rattle.std.proofs.Common.{◌≡◌, ℕ, zero, suc, ◌+◌, ◌*◌, ◌<◌, ◌≤◌, ◌⊎◌, List, [], ◌∷◌, ◌++◌, length, take, sym, refl, ap, ◌∙◌, subst, inl, inr, ⊎_elim, arith, mul-le-mul_right, suc-mul}
+use Rattle.std.proofs.Common.{◌≡◌, ℕ, zero, suc, ◌+◌, ◌*◌, ◌<◌, ◌≤◌, ◌⊎◌, List, [], ◌∷◌, ◌++◌, length, take, drop, sym, refl, ap, ◌∙◌, subst, inl, inr, ⊎_elim, arith, mul-le-mul_right, suc-mul}
 use Rattle.std.proofs.lemmas.Bool.{cases_lt}
 use mathlib.Core.Option.{some-injective, some-ne-none}
 use Rattle.ownlock.specs.Seats.{At}
@@ -26,6 +26,11 @@ module _ {A : Type 0} where
   take_front zero xs ys h = refl
   take_front (suc t) [] ys h = absurd (omega arith)
   take_front (suc t) (x ∷ xs) ys h = ap (λ l. x ∷ l) (take_front t xs ys (omega arith))
+
+  pub drop_front : (k : ℕ) (xs ys : List A) → k ≤ length xs → drop k (xs ++ ys) ≡ drop k xs ++ ys
+  drop_front zero xs ys h = refl
+  drop_front (suc k) [] ys h = absurd (omega arith)
+  drop_front (suc k) (x ∷ xs) ys h = drop_front k xs ys (omega arith)
 
   -- an element of a joined list is of the first, or of the second
   pub at_joined : (xs ys : List A) (i : ℕ) (a : A) → At i a (xs ++ ys) → At i a xs ⊎ ((j : ℕ) × (i ≡ length xs + j) × At j a ys)

@@ -5,7 +5,7 @@ use Rattle.ownlock.specs.Seats.{At}
 use Rattle.oplog.specs.Operations.{Operation}
 use Rattle.oplog.specs.declared.records.Record.{Record}
 use Rattle.oplog.specs.declared.configuration.Config.{Config}
-use Rattle.oplog.specs.History.{Meaning}
+use Rattle.oplog.specs.History.{Meaning, History}
 use Rattle.progress.specs.declared.sessions.Progress.{Progress}
 use Rattle.progress.specs.declared.sessions.Pending.{Pending}
 use Rattle.progress.specs.declared.sessions.Claim.{Claim}
@@ -14,6 +14,10 @@ use Rattle.progress.specs.Values.{DeskValue, SlotValue, Stage, Empty, Posted, Cl
 use Rattle.oplog.specs.Sessions.{session, IsSessionOf}
 use Rattle.progress.specs.Accounts.{Accounts, Extends, IsAllowed}
 use Rattle.progress.specs.Agreement.{AgreesWith, log_place, replica_place, desk_place}
+
+-- the progress with these records at its end
+abbrev pub with_records : {C : Type 0} → Progress C → History → Progress C
+with_records l more = record { config = l.config; catalogue = l.catalogue; history = l.history ++ more; completed = l.completed }
 
 -- a batch whose first k requests were appended, from this place on
 abbrev pub placed_from : ℕ → ℕ → List Claim → List Claim

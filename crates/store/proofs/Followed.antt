@@ -8,7 +8,7 @@ use Rattle.oplog.specs.History.{maps_after}
 use Rattle.replica.specs.StoreMeaning.{store_meaning}
 use Rattle.progress.specs.declared.sessions.Progress.{Progress}
 use Rattle.progress.specs.Accounts.{Extends, IsWellFormed}
-use Rattle.progress.proofs.AlonePuts.{maps_on}
+use Rattle.progress.proofs.Tellings.{maps_on}
 use Rattle.progress.proofs.Finish.{grown_long}
 use Rattle.store.specs.declared.values.NodeReplica.{NodeReplica}
 use Rattle.store.specs.Lent.{copied, rebased, CanCopy, CanFollow}

@@ -15,7 +15,7 @@ use Rattle.progress.specs.declared.sessions.Progress.{Progress}
 use Rattle.progress.specs.declared.sessions.SessionNote.{SessionNote}
 use Rattle.progress.specs.Accounts.{Extends, IsWellFormed}
 use Rattle.progress.specs.Moves.{raised}
-use Rattle.progress.proofs.AlonePuts.{replays, replayed_agrees}
+use Rattle.progress.proofs.Tellings.{replays, replayed_agrees}
 use Rattle.progress.proofs.Finish.{grown_long}
 use Rattle.store.specs.declared.values.NodeReplica.{NodeReplica}
 use Rattle.store.specs.declared.values.Value.{Value}

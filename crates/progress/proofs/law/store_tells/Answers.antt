@@ -1,8 +1,8 @@
-use Rattle.progress.proofs.AlonePuts.{one_more_steps, tail_is, replays, replayed_agrees, placed_tells, ended_tells, reads_tell}
-use Rattle.progress.proofs.law.single_tells.Goals as goal
+use Rattle.progress.proofs.Tellings.{tail_is, replays, replayed_agrees, placed_tells, ended_tells, reads_tell}
+use Rattle.progress.proofs.law.store_tells.Goals as goal
 
-pub returns-clause-step : goal.returns-clause-step
-returns-clause-step g c = one_more_steps g.E.Effects.meaning
+pub returns-clause-tail : goal.returns-clause-tail
+returns-clause-tail g c = tail_is g.E.Effects.meaning
 
 pub returns-clause-replays : goal.returns-clause-replays
 returns-clause-replays g c = replays g.E.Effects.meaning
@@ -18,6 +18,3 @@ returns-clause-ended g c = ended_tells g.E.Effects.meaning
 
 pub returns-clause-read : goal.returns-clause-read
 returns-clause-read g c = reads_tell g.E.Effects.meaning
-
-pub returns-clause-tail : goal.returns-clause-tail
-returns-clause-tail g c = tail_is g.E.Effects.meaning
