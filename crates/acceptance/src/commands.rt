@@ -4,6 +4,7 @@
 ghost use Rattle.std.specs.Prelude.{Some, None, if◌then◌else◌, bytes_eq};
 
 use console::{Folder, Status, assemble, check, disassemble};
+use std::alloc::Global;
 use std::io;
 use std::io::{ErrorKind, Read, Write};
 
@@ -129,13 +130,23 @@ fn writes_whole_or_says_so(rt: HostRuntime) {
     }
 }
 
+// How `check` ends, and how much it writes, where the manifest gives so many letters before its read fails.
+fn failed_read(alloc: Global, left: usize) -> (Status, usize) {
+    let mut out = of_room(64, 64);
+    let ended = check(alloc, &five(), &mut Failing { left }, &mut out);
+    (ended, out.len)
+}
+
 #[test]
 fn stops_at_a_failed_read(rt: HostRuntime) {
-    for left in [0, 3, 600] {
-        let mut out = of_room(64, 64);
-        let ended = check(rt.alloc(), &five(), &mut Failing { left }, &mut out);
-        assert_eq!(rt; (ended, out.len), (Status::CannotRead, 0));
-    }
+    assert_eq!(rt;
+        [0, 3, 600].map(|left| failed_read(rt.alloc(), left)),
+        [(Status::CannotRead, 0); 3]
+    );
+}
+
+#[test]
+fn stops_at_an_unreadable_program(rt: HostRuntime) {
     let mut out = of_room(64, 64);
     let ended = check(rt.alloc(), &Unreadable, &mut MANIFEST.as_bytes(), &mut out);
     assert_eq!(rt; (ended, out.len), (Status::CannotRead, 0));
