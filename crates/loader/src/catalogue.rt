@@ -81,7 +81,7 @@ impl Catalogue {
         self.programs.len()
     }
 
-    /// The number of the program of this name.
+    /// The number of the program of this name. It looks at the names one after another, 256 at most.
     pub fn number(&self, name: &str) -> Option<u16>
         ensures number { result ≡ number_named self.now.programs name.now }
     {

@@ -1,12 +1,8 @@
-#!/usr/bin/env python3
-"""Expected values of eBPF arithmetic (RFC 9669, sections 4.1 to 4.3), from Python's integers alone.
+"""Operands at the edges of both widths, and what RFC 9669 (sections 4.1 to 4.3) says of them, from Python's integers alone.
 
 Written from the text of the standard, without a look at the Rattle code or its definitions: Python's integers have no width, so
-each row is computed on whole numbers and cut off at the end. Prints a file of src/machine/ below its head:
-python3 generate.py 64, python3 generate.py 32, python3 generate.py conversions
-"""
+each result is computed on whole numbers and cut off at the end. rows.py makes programs of these."""
 
-import sys
 
 def cut(width, n):
     return n & ((1 << width) - 1)
@@ -49,7 +45,7 @@ def holds(condition, width, a, b):
 
 def swap(order, bits, n):
     data = cut(bits, n).to_bytes(bits // 8, "little")
-    return int.from_bytes(data, "little" if order == "Little" else "big")
+    return int.from_bytes(data, "little" if order == "le" else "big")
 
 # minus one, at each width
 MINUS = {64: (1 << 64) - 1, 32: (1 << 32) - 1}
@@ -70,51 +66,26 @@ def pairs(op, width):
 OPERATIONS = ["Add", "Sub", "Mul", "Div", "Mod", "Sdiv", "Smod", "Or", "And", "Xor", "Lsh", "Rsh", "Arsh", "Mov"]
 CONDITIONS = ["Jeq", "Jne", "Jgt", "Jge", "Jlt", "Jle", "Jset", "Jsgt", "Jsge", "Jslt", "Jsle"]
 
-def number(n):
-    return f"{n:#x}" if n > 999 else str(n)
-
-def table(name, kind, rows):
-    print(f"pub const {name}: [{kind}; {len(rows)}] = [")
-    for row in rows:
-        print("    (" + ", ".join(row) + "),")
-    print("];\n")
-
 # of operations that have no edge of their own, a few pairs
 PLAIN = (0, 2, 4, 6, 7, 9, 10, 11, 15, 18, 19, 20)
 
 def operation_rows(width, op):
+    """Two operands and the result."""
     chosen = pairs(op, width)
     if op in ("Add", "Sub", "Mul", "Mov", "Or", "And", "Xor"):
         chosen = [pair for i, pair in enumerate(chosen) if i in PLAIN]
-    return [(number(a), number(b), number(alu(op, width, a, b))) for a, b in chosen]
+    return [(a, b, alu(op, width, a, b)) for a, b in chosen]
 
 def condition_rows(width):
+    """Two operands, and for each condition whether it holds."""
     chosen = pairs("", width)
-    kind = []
-    for i in (0, 1, 2, 4, 5, 6, 7, 8, 9, 11, 13, 15, 19, 20):
-        a, b = chosen[i]
-        held = ["true" if holds(condition, width, a, b) else "false" for condition in CONDITIONS]
-        kind.append((number(a), number(b), "[" + ", ".join(held) + "]"))
-    return kind
+    return [(*chosen[i], [holds(condition, width, *chosen[i]) for condition in CONDITIONS]) for i in (0, 1, 2, 4, 5, 6, 7, 8, 9, 11, 13, 15, 19, 20)]
 
 WORDS = (0, 1, 0x7f, 0x80, 0xff, 258, 0x7fff, 0x8000, 0xffff, 0x7fffffff, 0x80000000, 0xffffffff, 0x0123456789abcdef, 1 << 63, MINUS[64])
 
-def extension_rows():
-    return [(number(n), *(number(cut(width, signed(bits, n))) for width, bits in ((64, 8), (64, 16), (64, 32), (32, 8), (32, 16)))) for n in WORDS]
+# the results of one operand: its sign extended from so many bits to a width, its low bits in an order, and its negative
+def extended(width, bits, n):
+    return cut(width, signed(bits, n))
 
-def swap_rows():
-    return [(number(n), *(number(swap(order, bits, n)) for order in ("Little", "Big") for bits in (16, 32, 64))) for n in WORDS]
-
-def negation_rows():
-    return [(number(n), number(cut(64, -n)), number(cut(32, -n))) for n in WORDS]
-
-if __name__ == "__main__":
-    part = sys.argv[1]
-    if part == "conversions":
-        table("EXTENSIONS", "(u64, u64, u64, u64, u64, u64)", extension_rows())
-        table("SWAPS", "(u64, u64, u64, u64, u64, u64, u64)", swap_rows())
-        table("NEGATIONS", "(u64, u64, u64)", negation_rows())
-    else:
-        for op in OPERATIONS:
-            table(op.upper(), "(u64, u64, u64)", operation_rows(int(part), op))
-        table("CONDITIONS", "(u64, u64, [bool; 11])", condition_rows(int(part)))
+def negated(width, n):
+    return cut(width, -n)
