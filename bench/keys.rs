@@ -1,6 +1,6 @@
 //! Keys to time maps with: any, or chosen so that they share a bucket of the proved map, which hashes with no seed.
 
-use std::collections::HashSet;
+use std::collections::BTreeSet;
 
 const BUCKETS: u64 = 65_536;
 
@@ -70,7 +70,7 @@ impl Asked {
 impl Keys {
     /// So many keys that nobody chose.
     pub fn any(size: usize, count: usize, random: &mut Random) -> Keys {
-        let mut seen = HashSet::new();
+        let mut seen = BTreeSet::new();
         let mut keys = Vec::new();
         while keys.len() < count {
             let key: Vec<u8> = (0..size).map(|_| random.byte()).collect();

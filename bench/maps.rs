@@ -1,5 +1,6 @@
 //! Times the helpers on a proved hash map beside `HashMap` (with its own hasher) and `BTreeMap` on the same keys, and checks that all
-//! answer the same.
+//! answer the same. With the bytes of a key, a fill, a kind of work, a map and a number it goes so often through the keys of that map alone,
+//! for a tool that counts processor instructions.
 
 mod keys;
 
@@ -105,7 +106,7 @@ impl Row<'_> {
     }
 
     // The sum of a map of plain Rust, and the time of the work.
-    fn timed_plain<const N: usize>(&self, map: &mut impl Plain<[u8; N]>) -> (u64, Duration) {
+    fn timed_plain<const N: usize>(&self, map: &mut impl Plain<[u8; N]>, times: u64) -> (u64, Duration) {
         let keys = self.keys.arrays::<N>();
         for (i, key) in keys[..self.keys.fill].iter().enumerate() {
             map.put(*key, i as u64);
@@ -113,7 +114,7 @@ impl Row<'_> {
         let asked = &keys[self.from..self.to];
         let mut sum = 0u64;
         let start = Instant::now();
-        for _ in 0..self.times() {
+        for _ in 0..times {
             for (i, key) in asked.iter().enumerate() {
                 sum = sum.wrapping_add(work_on(map, black_box(key), (self.from + i) as u64, self.work));
             }
@@ -131,8 +132,8 @@ impl Row<'_> {
         let mut best = [Duration::MAX; 4];
         for _ in 0..5 {
             let (proved, [idle, proved_time]) = self.timed_proved();
-            let (hashed, hashed_time) = self.timed_plain::<N>(&mut HashMap::with_capacity(ENTRIES as usize));
-            let (sorted, sorted_time) = self.timed_plain::<N>(&mut BTreeMap::new());
+            let (hashed, hashed_time) = self.timed_plain::<N>(&mut HashMap::with_capacity(ENTRIES as usize), self.times());
+            let (sorted, sorted_time) = self.timed_plain::<N>(&mut BTreeMap::new(), self.times());
             assert!(proved == hashed && proved == sorted, "the answers differ");
             for (best, time) in best.iter_mut().zip([idle, proved_time, hashed_time, sorted_time]) {
                 *best = (*best).min(time);
@@ -188,7 +189,26 @@ fn print_size<const N: usize>(random: &mut Random) {
     print_rows::<N>("one path", &Keys::on_one_path(N, random).deepest());
 }
 
+// One map alone, with keys that nobody chose: the sum of what it answers.
+fn alone<const N: usize>(fill: usize, work: &str, map: &str, times: u64) -> u64 {
+    let mut random = Random(0x1234_5678_9abc_def1);
+    let keys = Keys::any(N, ENTRIES as usize + MISSES, &mut random).asked(fill, MISSES, &mut random);
+    let rows = rows(&keys);
+    let (_, row) = rows.iter().find(|row| row.0 == work).expect("a kind of work");
+    match map {
+        "proved" => row.proved(times),
+        "hashed" => row.timed_plain::<N>(&mut HashMap::with_capacity(ENTRIES as usize), times).0,
+        _ => row.timed_plain::<N>(&mut BTreeMap::new(), times).0,
+    }
+}
+
 fn main() {
+    let words: Vec<String> = std::env::args().collect();
+    if let [_, size, fill, work, map, times] = &words[..] {
+        let (fill, times) = (fill.parse().expect("a number"), times.parse().expect("a number"));
+        let sum = if size == "4" { alone::<4>(fill, work, map, times) } else { alone::<64>(fill, work, map, times) };
+        return println!("{sum}");
+    }
     let mut random = Random(0x1234_5678_9abc_def1);
     println!("{:<4}{:<11}{:>7}  {:<18}{:>9}{:>9}{:>9}{:>9}{:>9}", "key", "keys", "fill", "ns for each", "proved", "HashMap", "BTreeMap", "to Hash", "to BTree");
     print_size::<4>(&mut random);

@@ -44,7 +44,9 @@ fn sizes_in(words: &[String]) -> Option<Sizes> {
 
 fn catalogue(alloc: Global, sizes: &Sizes) -> Option<Catalogue> {
     let (entries, value) = (sizes.entries, sizes.value);
-    let manifest = format!(in alloc; "map array 8 {entries}\nmap array {value} {entries}\nprogram bump update 4 bump.hex\nprogram peek read 4 peek.hex\n").ok()?;
+    let manifest = format!(in alloc;
+        "map array 8 {entries}\nmap array {value} {entries}\nprogram bump update 4 bump.hex\nprogram peek read 4 peek.hex\n"
+    ).ok()?;
     let files = [("bump.hex", BUMP), ("peek.hex", PEEK)];
     load_manifest(alloc, manifest.as_str(), &files).ok()
 }
