@@ -39,6 +39,13 @@ pub trait Twin {
     fn read(&self, argument: [u8; 4]) -> u64;
 }
 
+// Zeros that are written, so that they lie in memory of their own, as those of the proved store do; `vec![0; n]` leaves that for later.
+fn zeros(count: usize) -> Vec<u8> {
+    let mut zeros = Vec::with_capacity(count);
+    zeros.resize(count, black_box(0));
+    zeros
+}
+
 // The counters, and the second map.
 struct Maps {
     counters: Array,
@@ -47,8 +54,8 @@ struct Maps {
 
 impl Maps {
     fn new(sizes: Sizes) -> Maps {
-        let counters = Array { values: vec![0; 8 * sizes.entries as usize], entries: sizes.entries };
-        Maps { counters, others: vec![0; sizes.value * sizes.entries as usize] }
+        let entries = sizes.entries as usize;
+        Maps { counters: Array { values: zeros(8 * entries), entries: sizes.entries }, others: zeros(sizes.value * entries) }
     }
 
     fn copy_from(&mut self, source: &Maps) {
