@@ -11,7 +11,8 @@ use Rattle.oplog.specs.declared.configuration.Config.{Config}
 use Rattle.oplog.specs.History.{Meaning}
 use Rattle.progress.specs.declared.sessions.Progress.{Progress}
 use Rattle.progress.specs.declared.sessions.SessionNote.{SessionNote}
-use Rattle.progress.specs.Values.{LogValue, ReplicaValue, DeskValue, StoreValue, TheLog, TheReplica, TheDesk}
+use Rattle.combiner.specs.Desks.{DeskView}
+use Rattle.progress.specs.Values.{LogValue, ReplicaValue, StoreValue, TheLog, TheReplica, TheDesk}
 use Rattle.progress.specs.Accounts.{Extends}
 use Rattle.progress.specs.Agreement.{AgreesWith, log_place, replica_place, LogAgrees, ReplicaAgrees}
 use Rattle.progress.specs.Moves.{HoldsLog, HoldsReplica, HoldsBoth, with_records}
