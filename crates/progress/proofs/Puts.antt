@@ -256,8 +256,8 @@ module _ {C M : Type 0} (E : Meaning C M) where
         found s k u at is = answer_is (first_author x + s) b.records b.answers k u.request (gives k u at).0 (subst (λ z. At k u.request z) (sym records) (at_map record_of n.batch k u at))
             (is ∙ sym (author_is l.config x s desk.slots)) (gives k u at).1
             (λ j q there e.
-                let v = at_mapped record_of n.batch j q (subst (λ z. At j q z) records there) in
-                (w.once c c j k v.0 u (n, here, v.1) (n, here, at) (ap (λ (z : Record). z.author) (sym v.2) ∙ (e ∙ (author_is l.config x s desk.slots ∙ sym is)))).1)
+            let v = at_mapped record_of n.batch j q (subst (λ z. At j q z) records there) in
+            (w.once c c j k v.0 u (n, here, v.1) (n, here, at) (ap (λ (z : Record). z.author) (sym v.2) ∙ (e ∙ (author_is l.config x s desk.slots ∙ sym is)))).1)
 
         stage : (s : ℕ) (m o : SessionNote) → At (session l.config x.node s) m ns → Alike m o → (st : Stage) → StageAgrees E l ns desk.combiner (session l.config x.node s) m st
             → StageAgrees E l (set ns c n') c (session l.config x.node s) o (answered_stage (answer_for (first_author x + s) b.records b.answers) st)

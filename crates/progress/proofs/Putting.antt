@@ -112,7 +112,7 @@ module _ {C M V : Type 0} {E : Meaning C M} {R : Rules (Progress C) SessionNote 
   takes_its_replica p node k now v is lt won =
       let same = (taken p k now v won).extends.config in
       takes_replica p k now v (λ e. far node (sym is ∙ e))
-          (subst (λ z. HasNoDesk R z now.progress) (sym (is ∙ ap (λ z. replica_place z node) same)) (replica_places now.progress node (subst (λ (z : Config). node < z.nodes) same lt))) won
+      (subst (λ z. HasNoDesk R z now.progress) (sym (is ∙ ap (λ z. replica_place z node) same)) (replica_places now.progress node (subst (λ (z : Config). node < z.nodes) same lt))) won
     where
       far : (n : ℕ) → 1 + n ≢ log_place
       far n e = omega (arith, e)
