@@ -1,5 +1,5 @@
 -- The puts of the log and of replicas, the completed tail, and what a store opens with.
-use Rattle.std.proofs.Common.{replicate, ◌≡◌, ℕ, zero, suc, ◌+◌, ◌*◌, ◌<◌, ◌≤◌, List, [], ◌∷◌, ◌++◌, map, length, take, sym, refl, ap, ◌∙◌, subst, arith, length-append}
+use Rattle.std.proofs.Common.{replicate, ◌≡◌, ℕ, zero, suc, ◌+◌, ◌*◌, ◌<◌, ◌≤◌, map, length, take, sym, refl, ap, ◌∙◌, subst, arith, length-append}
 use mathlib.Core.Option.{some-injective}
 use Rattle.std.proofs.lemmas.List.{length-replicate}
 use Rattle.oplog.specs.History.{Meaning, maps_after}

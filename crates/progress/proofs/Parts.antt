@@ -2,7 +2,7 @@
 use Rattle.std.proofs.Common.{◌≡◌, ◌≢◌, ℕ, zero, suc, ◌+◌, ◌*◌, ◌<◌, ◌≤◌, ◌⊎◌, List, [], ◌∷◌, ◌++◌, map, length, take, set, sym, refl, ap, ◌∙◌, subst, inl, inr, ⊎_elim, arith, Some, None, option_map}
 use Rattle.std.proofs.lemmas.Bool.{cases_lt}
 use mathlib.Core.Option as kernel
-use mathlib.Core.Option.{some-injective, some-ne-none}
+use mathlib.Core.Option.{some-injective}
 use Rattle.atomic_table.proofs.Lists.{at_set, set_here, set_else}
 use Rattle.oplog.specs.History.{Meaning, after, maps_after, reply_at, read_reply_at}
 use Rattle.oplog.specs.Operations.{Operation}

@@ -1,5 +1,5 @@
 -- What is put back at a desk agrees.
-use Rattle.std.proofs.Common.{length-set, ◌≡◌, ◌≢◌, ℕ, zero, suc, ◌+◌, ◌*◌, ◌<◌, ◌≤◌, List, [], ◌∷◌, map, length, set, sym, refl, ap, ◌∙◌, subst, inr, ⊎_elim, arith, length-append, Some, None, Option, slice_get}
+use Rattle.std.proofs.Common.{length-set, ◌≡◌, ◌≢◌, ℕ, zero, suc, ◌+◌, ◌*◌, ◌<◌, ◌≤◌, List, [], ◌∷◌, map, length, set, sym, refl, ap, ◌∙◌, subst, inr, ⊎_elim, arith, length-append, Some, None, slice_get}
 use Rattle.std.proofs.lemmas.List.{length-map}
 use mathlib.Core.Option.{some-injective}
 use native.Mathlib.Decide.{ℕ_discrete}
@@ -16,16 +16,16 @@ use Rattle.progress.proofs.Others.{Undisturbed, same_progress, slot_stays}
 use Rattle.progress.proofs.Parts.{Alike, alike_on, alike_self, batch_back, batch_else, batch_here, note_else, note_here, posted_back, reply_front, same_batches, author_is}
 use Rattle.oplog.specs.Sessions.{IsSessionOf, session}
 use Rattle.progress.specs.Accounts.{Accounts, Extends, HasNoRecord, IsInBatch, IsPlacedIn, IsAllowed}
-use Rattle.progress.specs.Agreement.{Answers, DeskAgrees, IsUnclaimed, SlotAgrees, StageAgrees, desk_place}
+use Rattle.progress.specs.Agreement.{Answers, DeskAgrees, IsUnclaimed, SlotAgrees, StageAgrees, desk_place, AgreesWith}
 use Rattle.progress.specs.DeskSteps.{ClaimStep, CollectStep, DeskMayPut, DeskPuts, DeskStep, Gives, PostStep, ReplyStep}
-use Rattle.progress.specs.Moves.{Claims, Collects, DeskMove, Posts, Replies, answered_with, record_of, unplaced}
+use Rattle.progress.specs.Moves.{Claims, Collects, DeskMove, Posts, Replies, answered_with, record_of, unplaced, Moves}
 use Rattle.combiner.specs.Desks.{DeskView, BatchView, answer_for, answered_from, batch_of, claimed, first_author, replied}
 use Rattle.combiner.specs.declared.slots.Slot.{Slot}
 use Rattle.combiner.specs.declared.slots.Stage.{Stage}
 use Rattle.combiner.specs.declared.slots.Stage.TheVariants.{Answered, Claimed, Empty, Posted}
 use Rattle.combiner.specs.declared.slots.Reply.{Reply}
 use Rattle.combiner.specs.declared.slots.Reply.TheVariants.{Ended, Placed}
-use Rattle.progress.specs.Values.{TheDesk}
+use Rattle.progress.specs.Values.{TheDesk, StoreValue}
 use Rattle.progress.specs.declared.sessions.Claim.{Claim}
 use Rattle.progress.specs.declared.sessions.Pending.{Pending}
 use Rattle.progress.specs.declared.sessions.Progress.{Progress}
@@ -33,6 +33,7 @@ use Rattle.progress.specs.declared.sessions.SessionNote.{SessionNote}
 use mathlib.Core.Option as kernel
 use Rattle.combiner.specs.Slots.{answered_stage, claimed_slot, claimed_stage, counted, with_answer}
 use Rattle.progress.proofs.Desks.{answer_is, answered_at, answered_long, collected_is, none_claimed, posted_is, posted_on}
+use Rattle.progress.specs.Putting.{SeenDeskMayPut}
 
 abbrev IsStage : Stage → Stage → Type 0
 IsStage Empty Empty = Unit {0}
@@ -317,4 +318,25 @@ module _ {C M : Type 0} (E : Meaning C M) where
         let t = desk_puts k.progress line notes k.session k.note n' x y low grown may.2 may.1 own agrees.2 step in
         let node = same_node k.progress k.session k.note n' x y step in
         ((refl, inr (own, t.0)), (subst (λ z. z < line.config.nodes) node agrees.0, agrees.1 ∙ ap (λ z. desk_place line.config z) node, t.1)),
+  )
+
+module _ {C M V : Type 0} (E : Meaning C M) (view : V → StoreValue M) (IsSized : Config → C → V → Type 0) where
+  pub seen_desk_may_put : SeenDeskMayPut E view IsSized
+  seen_desk_may_put k p a v w x y n' held isx isy keeps low mine step = (
+    v,
+    a,
+    held,
+    λ line notes may.
+        let grown = may.0.0 in
+        let own : IsSessionOf line.config x.node k.session = subst (λ z. IsSessionOf z x.node k.session) grown.config mine in
+        let was = may.3 a (p, v) held in
+        let agrees = subst (λ z. AgreesWith E p line notes z) isx was.0 in
+        let t = desk_puts E k.progress line notes k.session k.note n' x y low grown may.2 may.1 own agrees.2 step in
+        let node = same_node E k.progress k.session k.note n' x y step in (
+          subst (λ z. Moves E p k.session z line k.note line n') (sym isx) (refl, inr (own, t.0)),
+          (
+            subst (λ z. AgreesWith E p line (set notes k.session n') z) (sym isy) (subst (λ z. z < line.config.nodes) node agrees.0, agrees.1 ∙ ap (λ z. desk_place line.config z) node, t.1),
+            keeps line.config line.catalogue was.1,
+          ),
+        ),
   )

@@ -4,7 +4,6 @@ use Rattle.ownlock.specs.Rules.{Rules}
 use Rattle.ownlock.specs.Seats.{At}
 use Rattle.oplog.specs.Operations.{Operation}
 use Rattle.oplog.specs.declared.records.Record.{Record}
-use Rattle.oplog.specs.declared.configuration.Config.{Config}
 use Rattle.oplog.specs.History.{Meaning, History}
 use Rattle.progress.specs.declared.sessions.Progress.{Progress}
 use Rattle.progress.specs.declared.sessions.Pending.{Pending}
