@@ -1,5 +1,5 @@
 -- The puts of the log and of replicas, the completed tail, and what a store opens with.
-use Rattle.std.proofs.Common.{replicate, ◌≡◌, ℕ, zero, suc, ◌+◌, ◌*◌, ◌<◌, ◌≤◌, List, [], ◌∷◌, ◌++◌, map, length, take, sym, refl, ap, ◌∙◌, subst, arith, length-append}
+use Rattle.std.proofs.Common.{replicate, ◌≡◌, ℕ, zero, suc, ◌+◌, ◌*◌, ◌<◌, ◌≤◌, map, length, take, sym, refl, ap, ◌∙◌, subst, arith, length-append}
 use mathlib.Core.Option.{some-injective}
 use Rattle.std.proofs.lemmas.List.{length-replicate}
 use Rattle.oplog.specs.History.{Meaning, maps_after}
@@ -12,12 +12,14 @@ use Rattle.progress.proofs.Tellings.{log_after}
 use Rattle.oplog.specs.Sessions.{session}
 use Rattle.progress.specs.Accounts.{Extends, IsInBatch}
 use Rattle.progress.specs.Agreement.{StageAgrees}
-use Rattle.progress.specs.LogSteps.{LogPuts, Opens, ReplicaPuts, empty_slot, first_progress, fresh_note}
+use Rattle.progress.specs.LogSteps.{LogPuts, Opens, ReplicaPuts, first_progress, fresh_note}
 use Rattle.progress.specs.Moves.{record_of}
-use Rattle.progress.specs.Values.{SlotValue}
+use Rattle.combiner.specs.declared.slots.Slot.{Slot}
 use Rattle.progress.specs.declared.sessions.Claim.{Claim}
 use Rattle.progress.specs.declared.sessions.Progress.{Progress}
 use Rattle.progress.specs.declared.sessions.SessionNote.{SessionNote}
+use Rattle.combiner.specs.Slots.{slot}
+use Rattle.combiner.specs.declared.slots.Stage.TheVariants.{Empty}
 
 module _ {A : Type 0} where
   at_replicate : (n i : ℕ) (a b : A) → At i b (replicate n a) → (b ≡ a) × (i < n)
@@ -65,13 +67,13 @@ module _ {C M : Type 0} (E : Meaning C M) where
     record { done = omega arith; base = omega arith; base_maps = refl; records = refl },
     record { tail = omega arith; maps = refl },
     (λ node fits. record {
-      slots = length-replicate config.slots empty_slot;
+      slots = length-replicate config.slots (slot Empty 0);
       combiner = 0;
-      each = λ s slot at. let t = at_replicate config.slots s empty_slot slot at in let lt = t.1 in (
+      each = λ s one at. let t = at_replicate config.slots s (slot Empty 0) one at in let lt = t.1 in (
         fresh_note,
         replicate_at count (session config node s) fresh_note (inside (node * config.slots) s lt fits),
-        ap (λ (z : SlotValue). z.count) t.0,
-        subst (λ (z : SlotValue). StageAgrees E (first_progress config c) (replicate count fresh_note) 0 (session config node s) fresh_note z.stage) (sym t.0) refl,
+        ap (λ (z : Slot). z.count) t.0,
+        subst (λ (z : Slot). StageAgrees E (first_progress config c) (replicate count fresh_note) 0 (session config node s) fresh_note z.stage) (sym t.0) refl,
       );
     }),
   )

@@ -4,6 +4,7 @@ pub mod Keeps
 pub mod Moved
 pub mod Appended
 pub mod Others
+pub mod Desks
 pub mod Puts
 pub mod Ended
 pub mod Kept

@@ -1,8 +1,10 @@
 -- Lists by their places, and numbers by node and slot.
-use Rattle.std.proofs.Common.{◌≡◌, ℕ, zero, suc, ◌+◌, ◌*◌, ◌<◌, ◌≤◌, ◌⊎◌, List, [], ◌∷◌, ◌++◌, length, take, drop, sym, refl, ap, ◌∙◌, subst, inl, inr, ⊎_elim, arith, mul-le-mul_right, suc-mul}
+use Rattle.std.proofs.Common.{◌≡◌, ℕ, zero, suc, ◌+◌, ◌*◌, ◌<◌, ◌≤◌, ◌⊎◌, List, [], ◌∷◌, ◌++◌, length, take, drop, sym, refl, ap, ◌∙◌, subst, inl, inr, ⊎_elim, arith, mul-le-mul_right, suc-mul, Some, slice_get}
 use Rattle.std.proofs.lemmas.Bool.{cases_lt}
 use mathlib.Core.Option.{some-injective, some-ne-none}
 use Rattle.ownlock.specs.Seats.{At}
+use mathlib.Core.Option as kernel
+use Rattle.std.proofs.lemmas.Option.{none-some, same_Some}
 
 zero_plus : (j : ℕ) → j ≡ 0 + j
 zero_plus j = omega arith
@@ -51,6 +53,17 @@ module _ {A : Type 0} where
   at_front_only [] ys i a h e = absurd (omega arith)
   at_front_only (x ∷ xs) ys zero a h e = e
   at_front_only (x ∷ xs) ys (suc i) a h e = at_front_only xs ys i a (omega arith) e
+
+  -- an element that is read stands at its place
+  pub at_of : (xs : List A) (i : ℕ) (a : A) → slice_get xs i ≡ Some a → At i a xs
+  at_of [] i a e = absurd (none-some a e)
+  at_of (x ∷ xs) zero a e = ap kernel.some (same_Some x a e)
+  at_of (x ∷ xs) (suc i) a e = at_of xs i a e
+
+  pub get_of : (xs : List A) (i : ℕ) (a : A) → At i a xs → slice_get xs i ≡ Some a
+  get_of [] i a e = absurd (at_none i a e)
+  get_of (x ∷ xs) zero a e = ap Some (some-injective x a e)
+  get_of (x ∷ xs) (suc i) a e = get_of xs i a e
 
 -- a node's slots stand between its first number and the next node's
 further : (x y n : ℕ) → x < y → x * n + n ≤ y * n

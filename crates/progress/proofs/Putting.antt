@@ -1,5 +1,5 @@
 -- What a session of a store is told, and what it may put back, under any rules of a store.
-use Rattle.std.proofs.Common.{◌≡◌, ◌≢◌, ℕ, zero, suc, ◌+◌, ◌<◌, ◌≤◌, [], ◌∷◌, length, set, sym, refl, ap, ◌∙◌, subst, arith, replicate, map}
+use Rattle.std.proofs.Common.{◌≡◌, ◌≢◌, ℕ, zero, suc, ◌+◌, ◌<◌, [], ◌∷◌, set, sym, refl, ap, ◌∙◌, subst, arith, replicate, map}
 use lib.ListN.{get_elem?}
 use mathlib.Core.Option.{some-injective}
 use Rattle.atomic_table.proofs.Lists.{set_again}
@@ -11,16 +11,17 @@ use Rattle.oplog.specs.declared.configuration.Config.{Config}
 use Rattle.oplog.specs.History.{Meaning}
 use Rattle.progress.specs.declared.sessions.Progress.{Progress}
 use Rattle.progress.specs.declared.sessions.SessionNote.{SessionNote}
-use Rattle.progress.specs.Values.{LogValue, ReplicaValue, DeskValue, StoreValue, TheLog, TheReplica, TheDesk}
+use Rattle.progress.specs.Values.{LogValue, ReplicaValue, StoreValue, TheLog, TheReplica, TheDesk}
 use Rattle.progress.specs.Accounts.{Extends}
-use Rattle.progress.specs.Agreement.{AgreesWith, log_place, replica_place, LogAgrees, ReplicaAgrees}
-use Rattle.progress.specs.Moves.{HoldsLog, HoldsReplica, HoldsBoth, with_records}
+use Rattle.progress.specs.Agreement.{AgreesWith, log_place, replica_place, LogAgrees, ReplicaAgrees, DeskAgrees, desk_place}
+use Rattle.progress.specs.Moves.{HoldsLog, HoldsReplica, HoldsBoth, with_records, HoldsDesk}
 use Rattle.progress.specs.LogSteps.{first_progress, fresh_note}
 use Rattle.progress.specs.StoreRules.{IsStoreRules, HasNoDesk}
-use Rattle.progress.specs.Putting.{the_rules, KeepsSizes, IsTaken, MayTakeFirst, MayTakeSecond, StoreOpens, AgreesLog, AgreesReplica, TakesLog, TakesReplica, TakesItsReplica, SameMayPut, LogMayPut, ReplicaMayPut}
+use Rattle.progress.specs.Putting.{the_rules, KeepsSizes, IsTaken, MayTakeFirst, MayTakeSecond, StoreOpens, AgreesLog, AgreesReplica, TakesLog, TakesReplica, TakesItsReplica, SameMayPut, LogMayPut, ReplicaMayPut, MayTakeDesk, TakesDesk}
 use Rattle.progress.proofs.Lists.{at_none}
 use Rattle.progress.proofs.Finish.{opens}
 use Rattle.progress.proofs.Tellings.{log_after, replayed_agrees}
+use Rattle.combiner.specs.Desks.{DeskView}
 
 module _ {C M V : Type 0} {E : Meaning C M} {R : Rules (Progress C) SessionNote (StoreValue M)} (ok : IsStoreRules E R) (view : V → StoreValue M) (IsSized : Config → C → V → Type 0) where
   pub may_take_first : MayTakeFirst E R view IsSized
@@ -42,6 +43,12 @@ module _ {C M V : Type 0} {E : Meaning C M} {R : Rules (Progress C) SessionNote 
       apart : (a : ℕ) (u : ℕ × V) → At a u ((replica_place k.progress.config node, v) ∷ []) → u.0 ≢ log_place
       apart zero u at e = far node (ap (λ z. z.0) (some-injective (replica_place k.progress.config node, v) u at) ∙ e)
       apart (suc a) u at e = at_none a u at
+
+  pub may_take_desk : MayTakeDesk E R view IsSized
+  may_take_desk k node none own = (
+    (λ a u at. absurd (at_none a u (subst (λ h. At a u h) none at))),
+    ok.allows k.progress k.session _ (HoldsDesk node own (ap (λ h. desk_place k.progress.config node ∷ map place_of h) none)),
+  )
 
   -- what is told of the value that was taken
   agreed : (p : ℕ) (k now : Known (Progress C) SessionNote V) (v : V) (won : Acquired (the_rules E R view IsSized) p k now v) → R.AgreesWith p now.progress won.3.0 (view v) × IsSized now.progress.config now.progress.catalogue v
@@ -77,6 +84,21 @@ module _ {C M V : Type 0} {E : Meaning C M} {R : Rules (Progress C) SessionNote 
   replica_of l ns p v (TheReplica y) ne bare e a = (y, e, (ok.agrees p l ns (TheReplica y) a).3)
   replica_of l ns p v (TheDesk y) ne bare e a = absurd (bare ns y a)
 
+  -- what agrees at a desk's place is the desk of that node
+  desk_of : (l : Progress C) (ns : _) (p node : ℕ) (v x : StoreValue M) → p ≡ desk_place l.config node → v ≡ x → AgreesWith E p l ns x → (y : DeskView) × (v ≡ TheDesk y) × (y.node ≡ node) × DeskAgrees E l ns y
+  desk_of l ns p node v (TheLog y) is e a = absurd (far l.config.nodes node (sym is ∙ a.0))
+    where
+      far : (m n : ℕ) → 1 + m + n ≡ log_place → ⊥
+      far m n e = omega (arith, e)
+  desk_of l ns p node v (TheReplica y) is e a = absurd (far a.0 l.config.nodes node a.1 (sym a.2 ∙ is))
+    where
+      far : (i m n : ℕ) → i < m → 1 + i ≡ 1 + m + n → ⊥
+      far i m n lt e = omega (arith, lt, e)
+  desk_of l ns p node v (TheDesk y) is e a = (y, e, same l.config.nodes y.node node (sym a.1 ∙ is), a.2)
+    where
+      same : (m i n : ℕ) → 1 + m + i ≡ 1 + m + n → i ≡ n
+      same m i n e = omega (arith, e)
+
   -- a replica's place is no desk's
   replica_places : (l : Progress C) (node : ℕ) → node < l.config.nodes → HasNoDesk R (replica_place l.config node) l
   replica_places l node lt ns x a = apart node l.config.nodes x.node lt (ok.agrees (replica_place l.config node) l ns (TheDesk x) a).1
@@ -111,10 +133,18 @@ module _ {C M V : Type 0} {E : Meaning C M} {R : Rules (Progress C) SessionNote 
   takes_its_replica p node k now v is lt won =
       let same = (taken p k now v won).extends.config in
       takes_replica p k now v (λ e. far node (sym is ∙ e))
-          (subst (λ z. HasNoDesk R z now.progress) (sym (is ∙ ap (λ z. replica_place z node) same)) (replica_places now.progress node (subst (λ (z : Config). node < z.nodes) same lt))) won
+      (subst (λ z. HasNoDesk R z now.progress) (sym (is ∙ ap (λ z. replica_place z node) same)) (replica_places now.progress node (subst (λ (z : Config). node < z.nodes) same lt))) won
     where
       far : (n : ℕ) → 1 + n ≢ log_place
       far n e = omega (arith, e)
+
+  pub takes_desk : TakesDesk E R view IsSized
+  unfolding taken
+  takes_desk p node k now v is won =
+      let t = taken p k now v won in
+      let a = ok.agrees p now.progress won.3.0 (view v) (agreed p k now v won).0 in
+      let d = desk_of now.progress won.3.0 p node (view v) (view v) (is ∙ ap (λ z. desk_place z node) t.extends.config) refl a in
+      (t, d.0, d.1, d.2, d.3)
 
   pub same_move : (k : Known (Progress C) SessionNote V) (p a : ℕ) (v w : V) → At a (p, v) k.held → view w ≡ view v → KeepsSizes IsSized v w → (l : Progress C) (ns : _) → Possible (the_rules E R view IsSized) k l ns
       → R.Moves p k.session (view v) l k.note l k.note × (the_rules E R view IsSized).AgreesWith p l (set ns k.session k.note) w

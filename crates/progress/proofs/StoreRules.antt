@@ -1,5 +1,5 @@
 -- The rules with desks and those without are a store's.
-use Rattle.std.proofs.Common.{◌≡◌, ℕ, ◌<◌, ◌≤◌, [], ◌∷◌, ◌++◌, map, length, take, drop, sym, refl, ap, ◌∙◌, subst, inl, inr, arith}
+use Rattle.std.proofs.Common.{ℕ, ◌<◌, ◌≤◌, [], ◌∷◌, ◌++◌, map, length, take, drop, sym, refl, ap, ◌∙◌, subst, inl, inr, arith}
 use Rattle.oplog.specs.declared.configuration.Config.{Config}
 use Rattle.oplog.specs.Sessions.{IsSessionOf}
 use Rattle.oplog.specs.History.{Meaning, maps_after}
@@ -66,37 +66,43 @@ module _ {C M : Type 0} (E : Meaning C M) where
       }
 
   pub own_appends : OwnAppends E
-  own_appends known c n op y s l x grown same = (refl, record {
-    config = refl;
-    catalogue = refl;
-    completed = refl;
-    appends = inr (record {
-      op = op;
-      node = s.node;
-      own = subst (λ z. IsSessionOf z s.node c) grown.config s.own;
-      idle = s.idle;
-      alone = s.alone;
-      allowed = subst (λ z. IsAllowed E z op) grown.catalogue s.allowed;
-      room = subst (λ (z : Config). length l.history < z.limit) grown.config (subst (λ h. length h < known.config.limit) same s.room);
-      history = refl;
-      note = ap (λ h. note_with n (length h) op) same;
-    });
-  })
+  own_appends known c n op y s l x grown same = (
+    refl,
+    record {
+      config = refl;
+      catalogue = refl;
+      completed = refl;
+      appends = inr (record {
+        op = op;
+        node = s.node;
+        own = subst (λ z. IsSessionOf z s.node c) grown.config s.own;
+        idle = s.idle;
+        alone = s.alone;
+        allowed = subst (λ z. IsAllowed E z op) grown.catalogue s.allowed;
+        room = subst (λ (z : Config). length l.history < z.limit) grown.config (subst (λ h. length h < known.config.limit) same s.room);
+        history = refl;
+        note = ap (λ h. note_with n (length h) op) same;
+      });
+    },
+  )
 
   pub batch_appends : BatchAppends E
-  batch_appends known c n x y k s l v grown same = (refl, record {
-    config = refl;
-    catalogue = refl;
-    completed = refl;
-    appends = inr (record {
-      count = k;
-      unplaced = s.unplaced;
-      within = s.count;
-      history = refl;
-      limit = subst (λ (z : Config). length (l.history ++ map record_of (take k n.batch)) ≤ z.limit) grown.config (subst (λ h. length (h ++ map record_of (take k n.batch)) ≤ known.config.limit) same s.limit);
-      note = ap (λ h. record n { batch = placed_from (length h) k n.batch }) same;
-    });
-  })
+  batch_appends known c n x y k s l v grown same = (
+    refl,
+    record {
+      config = refl;
+      catalogue = refl;
+      completed = refl;
+      appends = inr (record {
+        count = k;
+        unplaced = s.unplaced;
+        within = s.count;
+        history = refl;
+        limit = subst (λ (z : Config). length (l.history ++ map record_of (take k n.batch)) ≤ z.limit) grown.config (subst (λ h. length (h ++ map record_of (take k n.batch)) ≤ known.config.limit) same s.limit);
+        note = ap (λ h. record n { batch = placed_from (length h) k n.batch }) same;
+      });
+    },
+  )
 
 -- who has no desk notes nothing of one
 pub single_notes : {C M V : Type 0} (view : V → StoreValue M) → IsNoting {C = C} view single_noting

@@ -6,11 +6,12 @@ use Rattle.oplog.specs.History.{Meaning}
 use Rattle.progress.specs.declared.sessions.Progress.{Progress}
 use Rattle.progress.specs.declared.sessions.Claim.{Claim}
 use Rattle.progress.specs.declared.sessions.SessionNote.{SessionNote}
-use Rattle.progress.specs.Values.{LogValue, ReplicaValue, SlotValue, Empty}
+use Rattle.progress.specs.Values.{LogValue, ReplicaValue}
 use Rattle.progress.specs.Accounts.{Accounts, Extends}
 use Rattle.progress.specs.Agreement.{LogAgrees, ReplicaAgrees, DeskAgrees}
 use Rattle.progress.specs.Moves.{LogMove, desk_rules, placed_from, record_of, with_records}
 use Rattle.progress.specs.StoreRules.{IsLogAfter, MayAppend}
+use Rattle.combiner.specs.Desks.{opened_desk}
 
 abbrev pub fresh_note : SessionNote
 fresh_note = record { answered = []; pending = None; batch = [] }
@@ -18,9 +19,6 @@ fresh_note = record { answered = []; pending = None; batch = [] }
 -- no operation yet
 abbrev pub first_progress : {C : Type 0} → Config → C → Progress C
 first_progress config c = record { config = config; catalogue = c; history = []; completed = 0 }
-
-abbrev pub empty_slot : SlotValue
-empty_slot = record { stage = Empty; count = 0 }
 
 module _ {C M : Type 0} (E : Meaning C M) where
   abbrev pub first_log : C → LogValue M
@@ -62,4 +60,4 @@ module _ {C M : Type 0} (E : Meaning C M) where
       → Accounts E (first_progress config c) (replicate count fresh_note)
       × LogAgrees E (first_progress config c) (first_log c)
       × ReplicaAgrees E (first_progress config c) (first_replica c)
-      × ((node : ℕ) → node * config.slots + config.slots ≤ count → DeskAgrees E (first_progress config c) (replicate count fresh_note) (record { node = node; slots = replicate config.slots empty_slot }))
+      × ((node : ℕ) → node * config.slots + config.slots ≤ count → DeskAgrees E (first_progress config c) (replicate count fresh_note) (opened_desk node config.slots))

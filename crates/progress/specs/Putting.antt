@@ -9,14 +9,16 @@ use Rattle.oplog.specs.declared.configuration.Config.{Config}
 use Rattle.oplog.specs.History.{Meaning, History}
 use Rattle.progress.specs.declared.sessions.Progress.{Progress}
 use Rattle.progress.specs.declared.sessions.SessionNote.{SessionNote}
-use Rattle.progress.specs.Values.{LogValue, ReplicaValue, StoreValue, TheLog, TheReplica}
+use Rattle.progress.specs.Values.{LogValue, ReplicaValue, StoreValue, TheLog, TheReplica, TheDesk}
 use Rattle.oplog.specs.Sessions.{IsSessionOf}
 use Rattle.progress.specs.Accounts.{Accounts, Extends}
-use Rattle.progress.specs.Agreement.{log_place, replica_place, LogAgrees, ReplicaAgrees}
+use Rattle.progress.specs.Agreement.{log_place, replica_place, LogAgrees, ReplicaAgrees, DeskAgrees, desk_place}
 use Rattle.progress.specs.LogSteps.{first_progress, fresh_note, first_log, first_replica}
-use Rattle.progress.specs.Moves.{with_records}
+use Rattle.progress.specs.Moves.{with_records, desk_rules}
 use Rattle.progress.specs.Seen.{seen_rules}
 use Rattle.progress.specs.StoreRules.{HasNoDesk, MayAppend, IsLogAfter}
+use Rattle.combiner.specs.Desks.{DeskView}
+use Rattle.progress.specs.DeskSteps.{DeskStep}
 
 -- the second value has the sizes that the first has
 abbrev pub KeepsSizes : {C V : Type 0} → (Config → C → V → Type 0) → V → V → Type 0
@@ -33,6 +35,10 @@ module _ {C M V : Type 0} (E : Meaning C M) (R : Rules (Progress C) SessionNote 
 
   abbrev pub MayTakeSecond : Type 0
   MayTakeSecond = (k : Known (Progress C) SessionNote V) (node : ℕ) (v : V) → k.held ≡ (replica_place k.progress.config node, v) ∷ [] → IsSessionOf k.progress.config node k.session → MayTake the_rules log_place k
+
+  -- who holds nothing may take the desk of its node
+  abbrev pub MayTakeDesk : Type 0
+  MayTakeDesk = (k : Known (Progress C) SessionNote V) (node : ℕ) → k.held ≡ [] → IsSessionOf k.progress.config node k.session → MayTake the_rules (desk_place k.progress.config node) k
 
   -- what the session k has become, now that it has the value v of the place p; and what all progress and notes may be
   pub record IsTaken (p : ℕ) (k now : Known (Progress C) SessionNote V) (v : V) : Type 0 where
@@ -60,6 +66,12 @@ module _ {C M V : Type 0} (E : Meaning C M) (R : Rules (Progress C) SessionNote 
   TakesItsReplica =
       (p node : ℕ) (k now : Known (Progress C) SessionNote V) (v : V) → p ≡ replica_place k.progress.config node → node < k.progress.config.nodes → Acquired the_rules p k now v
       → IsTaken p k now v × ((x : ReplicaValue M) × (view v ≡ TheReplica x) × ReplicaAgrees E now.progress x)
+
+  -- who takes the place of a node's desk has that desk
+  abbrev pub TakesDesk : Type 0
+  TakesDesk =
+      (p node : ℕ) (k now : Known (Progress C) SessionNote V) (v : V) → p ≡ desk_place k.progress.config node → Acquired the_rules p k now v
+      → (t : IsTaken p k now v) × (x : DeskView) × (view v ≡ TheDesk x) × (x.node ≡ node) × DeskAgrees E now.progress t.notes x
 
   -- the log and the replicas that a store opens with agree
   abbrev pub StoreOpens : Type 0
@@ -92,3 +104,10 @@ module _ {C M V : Type 0} (E : Meaning C M) (R : Rules (Progress C) SessionNote 
   ReplicaMayPut =
       (k : Known (Progress C) SessionNote V) (p a : ℕ) (v w : V) (x y : ReplicaValue M) → At a (p, v) k.held → view v ≡ TheReplica x → view w ≡ TheReplica y → KeepsSizes IsSized v w → y.tail ≤ length k.progress.history → ReplicaAgrees E k.progress y
       → MayPut the_rules (λ l. l) (λ n. n) k p w
+
+module _ {C M V : Type 0} (E : Meaning C M) (view : V → StoreValue M) (IsSized : Config → C → V → Type 0) where
+  -- with desks: a desk after one of its steps may be put back
+  abbrev pub SeenDeskMayPut : Type 0
+  SeenDeskMayPut =
+      (k : Known (Progress C) SessionNote V) (p a : ℕ) (v w : V) (x y : DeskView) (n' : SessionNote) → At a (p, v) k.held → view v ≡ TheDesk x → view w ≡ TheDesk y → KeepsSizes IsSized v w → k.progress.completed ≤ length k.progress.history
+      → IsSessionOf k.progress.config x.node k.session → DeskStep E k.progress k.session k.note x n' y → MayPut (the_rules E (desk_rules E) view IsSized) (λ l. l) (λ _. n') k p w

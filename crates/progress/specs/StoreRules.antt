@@ -6,7 +6,8 @@ use Rattle.ownlock.specs.Seats.{At}
 use Rattle.oplog.specs.History.{Meaning, History, maps_after}
 use Rattle.progress.specs.declared.sessions.Progress.{Progress}
 use Rattle.progress.specs.declared.sessions.SessionNote.{SessionNote}
-use Rattle.progress.specs.Values.{LogValue, ReplicaValue, DeskValue, StoreValue, TheLog, TheReplica, TheDesk}
+use Rattle.combiner.specs.Desks.{DeskView}
+use Rattle.progress.specs.Values.{LogValue, ReplicaValue, StoreValue, TheLog, TheReplica, TheDesk}
 use Rattle.progress.specs.Accounts.{Accounts, Extends}
 use Rattle.progress.specs.Agreement.{AgreesWith, log_place}
 use Rattle.progress.specs.Moves.{MayHold, with_records}
@@ -28,7 +29,7 @@ module _ {C M : Type 0} (E : Meaning C M) (R : Rules (Progress C) SessionNote (S
 module _ {C M : Type 0} (R : Rules (Progress C) SessionNote (StoreValue M)) where
   -- no desk agrees at that place
   abbrev pub HasNoDesk : ℕ → Progress C → Type 0
-  HasNoDesk p l = (ns : List SessionNote) (x : DeskValue) → R.AgreesWith p l ns (TheDesk x) → ⊥
+  HasNoDesk p l = (ns : List SessionNote) (x : DeskView) → R.AgreesWith p l ns (TheDesk x) → ⊥
 
   -- wherever the others are by then, who holds the log may go on with these records at the history's end, and with the note n'
   abbrev pub MayAppend : Progress C → ℕ → SessionNote → History → SessionNote → Type 0
@@ -37,12 +38,12 @@ module _ {C M : Type 0} (R : Rules (Progress C) SessionNote (StoreValue M)) wher
 -- what a session notes when it puts a value back: of the records that it appended from that place on, and, by what it knew, of a desk
 pub record Noting (C V : Type 0) : Type 0 where
   pub appended : ℕ → History → SessionNote → SessionNote
-  pub at_desk : Known (Progress C) SessionNote V → DeskValue → SessionNote → SessionNote
+  pub at_desk : Known (Progress C) SessionNote V → DeskView → SessionNote → SessionNote
 
 -- of no records, and of a desk that is as it was taken, a session notes nothing
 pub record IsNoting {C M V : Type 0} (view : V → StoreValue M) (noting : Noting C V) : Type 0 where
   pub none : (i : ℕ) (n : SessionNote) → noting.appended i [] n ≡ n
-  pub same : (k : Known (Progress C) SessionNote V) (a p : ℕ) (v : V) (y : DeskValue) → At a (p, v) k.held → view v ≡ TheDesk y → noting.at_desk k y k.note ≡ k.note
+  pub same : (k : Known (Progress C) SessionNote V) (a p : ℕ) (v : V) (y : DeskView) → At a (p, v) k.held → view v ≡ TheDesk y → noting.at_desk k y k.note ≡ k.note
 
 module _ {C M : Type 0} (E : Meaning C M) where
   -- the log y has the known history from its base on, and these records; the base and its own completed tail may have risen, as far as is known to be completed

@@ -6,7 +6,8 @@ use Rattle.oplog.specs.History.{Meaning, History, after, maps_after, reply_at}
 use Rattle.progress.specs.declared.sessions.Progress.{Progress}
 use Rattle.progress.specs.declared.sessions.Pending.{Pending}
 use Rattle.progress.specs.declared.sessions.SessionNote.{SessionNote}
-use Rattle.progress.specs.Values.{LogValue, ReplicaValue, PlacedAt, Ended}
+use Rattle.combiner.specs.declared.slots.Reply.TheVariants.{Placed, Ended}
+use Rattle.progress.specs.Values.{LogValue, ReplicaValue}
 use Rattle.progress.specs.Accounts.{Accounts, Extends}
 use Rattle.progress.specs.Agreement.{LogAgrees, ReplicaAgrees}
 use Rattle.progress.specs.Told.{Tells, ReadTells}
@@ -29,7 +30,7 @@ module _ {C M : Type 0} (E : Meaning C M) where
   abbrev pub PlacedTells : Type 0
   PlacedTells =
       (known l : Progress C) (c seq i reply : ℕ) (o : Pending) → Extends known l → At i (record { author = c; seq = seq; op = o.op }) known.history → reply_at E known.catalogue known.history i o.op ≡ Some reply
-      → o.seen ≤ i → i < l.completed → Tells E l c seq o (PlacedAt i reply)
+      → o.seen ≤ i → i < l.completed → Tells E l c seq o (Placed i reply)
 
   -- the reply on the maps of a replica that was replayed is what a read may answer, once that far is completed
   abbrev pub ReadsTell : Type 0

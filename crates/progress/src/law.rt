@@ -7,7 +7,7 @@ ghost use Rattle.progress.specs.Told.{DeskTells, Ends};
 ghost use Rattle.progress.specs.StoreRules.{IsStoreRules, IsNoting};
 ghost use Rattle.progress.specs.Single.{single_rules, single_noting, SingleKeeps, OneMoreSteps, OwnAppends};
 ghost use Rattle.progress.specs.Tellings.{TailIs, Replays, ReplayedAgrees, PlacedTells, ReadsTell, EndedTells};
-ghost use Rattle.progress.specs.Putting.{the_rules, StoreOpens, AgreesLog, AgreesReplica, MayTakeFirst, MayTakeSecond, TakesLog, TakesReplica, TakesItsReplica, SameMayPut, LogMayPut, ReplicaMayPut};
+ghost use Rattle.progress.specs.Putting.{the_rules, StoreOpens, AgreesLog, AgreesReplica, MayTakeFirst, MayTakeSecond, MayTakeDesk, TakesLog, TakesReplica, TakesItsReplica, TakesDesk, SameMayPut, LogMayPut, ReplicaMayPut, SeenDeskMayPut};
 ghost use Rattle.progress.specs.Picks.{SamePicked, LogPicked, ReplicaPicked, PutsAccount, SameIs, LogIs, ReplicaIs};
 
 use crate::meanings::{Effects, Viewed};
@@ -79,18 +79,21 @@ pub fn store_takes<S: Viewed>()
     ensures opens { StoreOpens S.meaning S.rules S.view S.is_sized }
     ensures first { MayTakeFirst S.meaning S.rules S.view S.is_sized }
     ensures second { MayTakeSecond S.meaning S.rules S.view S.is_sized }
+    ensures desk_first { MayTakeDesk S.meaning S.rules S.view S.is_sized }
     ensures log { TakesLog S.meaning S.rules S.view S.is_sized }
     ensures replica { TakesReplica S.meaning S.rules S.view S.is_sized }
     ensures its_replica { TakesItsReplica S.meaning S.rules S.view S.is_sized }
+    ensures desk { TakesDesk S.meaning S.rules S.view S.is_sized }
     ensures is_log { AgreesLog S.meaning S.rules S.view S.is_sized }
     ensures is_replica { AgreesReplica S.meaning S.rules S.view S.is_sized }
 {}
 
-/// What a session may put back, wherever the others are by then.
+/// What a session may put back, wherever the others are by then; a desk, after one of its steps, under the rules with desks.
 pub fn store_puts<S: Viewed>()
     ensures same { SameMayPut S.meaning S.rules S.view S.is_sized }
     ensures log { LogMayPut S.meaning S.rules S.view S.is_sized }
     ensures replica { ReplicaMayPut S.meaning S.rules S.view S.is_sized }
+    ensures desk { SeenDeskMayPut S.meaning S.view S.is_sized }
 {}
 
 /// The same for one pick of what every put of a function changes, read off the value and what the session knows.

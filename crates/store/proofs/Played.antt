@@ -24,8 +24,9 @@ use Rattle.store.specs.Shelving.{replica_value, store_rules}
 use Rattle.store.specs.Lent.{copied, replayed, CanReplay}
 use Rattle.store.specs.Held.{IsReplica, CanKeepUp, IsKeptUp, CanFollowIn, HasFollowed, CanReplayIn, HasReplayed, tail_in}
 use Rattle.store.specs.Standing.{SessionKnown, AgreesIn, LogIs, FollowsIn, HasOthers, HasRest, HasRaised, KeepsOutcomesOf, HasCaughtUp}
-use Rattle.store.proofs.Places.{at_of, get_of, at_drop, drop_at, long_drop, take_whole}
+use Rattle.store.proofs.Places.{at_drop, drop_at, long_drop, take_whole}
 use Rattle.store.proofs.Followed.{HasAll, kept_up, others, can_follow}
+use Rattle.progress.proofs.Lists.{at_of, get_of}
 
 abbrev L : Type 0
 L = Progress CatalogueView

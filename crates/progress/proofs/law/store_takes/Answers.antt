@@ -1,4 +1,4 @@
-use Rattle.progress.proofs.Putting.{store_opens, may_take_first, may_take_second, takes_log, takes_replica, takes_its_replica, agrees_log, agrees_replica}
+use Rattle.progress.proofs.Putting.{store_opens, may_take_first, may_take_second, takes_log, takes_replica, takes_its_replica, may_take_desk, takes_desk, agrees_log, agrees_replica}
 use Rattle.progress.proofs.law.store_takes.Goals as goal
 
 pub returns-clause-opens : goal.returns-clause-opens
@@ -24,3 +24,9 @@ returns-clause-is_log g c = agrees_log g.S.Viewed.are_rules g.S.Viewed.view g.S.
 
 pub returns-clause-is_replica : goal.returns-clause-is_replica
 returns-clause-is_replica g c = agrees_replica g.S.Viewed.are_rules g.S.Viewed.view g.S.Viewed.is_sized
+
+pub returns-clause-desk_first : goal.returns-clause-desk_first
+returns-clause-desk_first g c = may_take_desk g.S.Viewed.are_rules g.S.Viewed.view g.S.Viewed.is_sized
+
+pub returns-clause-desk : goal.returns-clause-desk
+returns-clause-desk g c = takes_desk g.S.Viewed.are_rules g.S.Viewed.view g.S.Viewed.is_sized
