@@ -22,7 +22,8 @@ const BUMP: &str = "bf1200000000000018510000000000000000000000000000850000000100
 const PEEK: &str = "bf1200000000000018510000000000000000000000000000850000000100000015000200000000007900000000000000\
     9500000000000000b7000000ffffffff9500000000000000";
 
-const ROUNDS: usize = 7;
+// Many short rounds, of which the best counts, so that other work of the machine matters less.
+const ROUNDS: usize = 24;
 
 fn bytes(hex: &str) -> Vec<u8> {
     (0..hex.len() / 2).map(|i| u8::from_str_radix(&hex[2 * i..2 * i + 2], 16).expect("hexadecimal digits")).collect()
@@ -94,6 +95,9 @@ fn compared(path: &str, sizes: Sizes, call: Call, times: u64) -> [f64; 3] {
     let mut proved = Proved::start(path, sizes);
     let replicated = Replicated::new(programs(), sizes);
     let locked = Locked::new(programs(), sizes);
+    // So that reads have counts to tell.
+    let counted = proved.calls(Call::Update, 1_000);
+    assert!(counted == twin_calls(&replicated, Call::Update, 1_000) && counted == twin_calls(&locked, Call::Update, 1_000), "the replies differ");
     let mut best = [Duration::MAX; 4];
     for _ in 0..ROUNDS {
         let measured = [
@@ -114,7 +118,7 @@ fn compared(path: &str, sizes: Sizes, call: Call, times: u64) -> [f64; 3] {
 
 /// Nanoseconds a run of a program alone, in the proved machine and in the twins' interpreter.
 fn machines(code: &str) -> [f64; 2] {
-    let (code, argument, entries, times) = (bytes(code), [3u8, 0, 0, 0], 64, 1_000_000);
+    let (code, argument, entries, times) = (bytes(code), [3u8, 0, 0, 0], 64, 100_000);
     let instructions = interpreter::decode(&code);
     let mut best = [Duration::MAX; 2];
     for _ in 0..ROUNDS {
@@ -138,14 +142,14 @@ fn print_calls(path: &str) {
         println!("{name:<28}{proved:>9.1}{plain:>12.1}{plain:>9.1}{:>10.2}{:>10.2}", proved / plain, proved / plain);
     }
     for (name, call) in [("an update", Call::Update), ("a ready read", Call::Read)] {
-        let [proved, replicated, locked] = compared(path, Sizes { window: 4_096, entries: 64, value: 8 }, call, 98_304);
+        let [proved, replicated, locked] = compared(path, Sizes { window: 4_096, entries: 64, value: 8 }, call, 28_672);
         println!("{name:<28}{proved:>9.1}{replicated:>12.1}{locked:>9.1}{:>10.2}{:>10.2}", proved / replicated, proved / locked);
     }
 }
 
 fn print_sizes(path: &str) {
     println!("\n{:<10}{:>8}{:>14}{:>12}{:>12}{:>10}", "maps", "window", "bytes/window", "proved ns", "unproved", "to unpr.");
-    for (name, entries, value, times) in [("1 KiB", 64, 8, 98_304), ("1 MiB", 65_536, 8, 98_304), ("16 MiB", 65_536, 248, 16_384)] {
+    for (name, entries, value, times) in [("1 KiB", 64, 8, 28_672), ("1 MiB", 65_536, 8, 28_672), ("16 MiB", 65_536, 248, 4_096)] {
         for window in [64, 4_096] {
             let sizes = Sizes { window, entries, value };
             let [proved, replicated, _] = compared(path, sizes, Call::Update, times);
