@@ -31,7 +31,7 @@ use Rattle.replica.specs.HistoryLaws.{HasRun, HasEffects}
 use Rattle.replica.proofs.Tested.{tests_true}
 use Rattle.replica.proofs.Histories.{have_effects}
 use Rattle.console.specs.Answer.{Answer}
-use Rattle.console.specs.Script.{ProgramCall, Meaning, Comment, Call, call_meaning, line_meaning}
+use Rattle.console.specs.Script.{ProgramCall, Meaning, Comment, Call, named_call, call_meaning, line_meaning}
 use Rattle.console.specs.RunAnswer.{Turn, refused, with_operation, update_line, read_line, performed, performed_by, numbered, called, taken, line_turn, behind, bad_line, by_turn, lines_answer, ran}
 use Rattle.console.specs.RunLines.{CallRuns, IsUpdateTurn, IsReadTurn, IsRefusedTurn, CallTurn, LineTurn, ScriptRuns, RunLinesAreRuns}
 use Rattle.console.proofs.Turns.{after_append, whole}
@@ -54,15 +54,21 @@ field_are_bytes field bytes e = by_tests _ _ e
     by_tests false true e = absurd cc
     by_tests false false e = decoded_bytes field bytes e
 
+named_bytes : (name digits : List ℕ) (call : ProgramCall) → named_call name digits ≡ Some call → AreBytes call.argument
+unfolding named_call
+named_bytes name digits call e =
+    let argument = steps (field_bytes digits) _ call e in
+    let last = where_true (is_name name) (record { name = name; argument = argument.0 }) call argument.2 in
+    subst (λ (x : ProgramCall). AreBytes x.argument) last.1 (field_are_bytes digits argument.0 argument.1)
+
 call_bytes : (line : List ℕ) (call : ProgramCall) → call_meaning line ≡ Some (Call call) → AreBytes call.argument
 unfolding call_meaning
 call_bytes line call e =
     let field = steps (split_at_space line) _ (Call call) e in
-    let argument = steps (field_bytes field.0.1) _ (Call call) field.2 in
-    let last = where_true (is_name field.0.0) (Call (record { name = field.0.0; argument = argument.0 })) (Call call) argument.2 in
-    subst AreBytes (inside _ call last.1) (field_are_bytes field.0.1 argument.0 argument.1)
+    let named = steps (named_call field.0.0 field.0.1) _ (Call call) field.2 in
+    subst (λ (x : ProgramCall). AreBytes x.argument) (inside named.0 call named.2) (named_bytes field.0.0 field.0.1 named.0 named.1)
   where
-    inside : (a b : ProgramCall) → Call a ≡ Call b → a.argument ≡ b.argument
+    inside : (a b : ProgramCall) → Some (Call a) ≡ Some (Call b) → a ≡ b
     inside a b e = cc
 
 line_bytes : (line : List ℕ) (call : ProgramCall) → line_meaning line ≡ Some (Call call) → AreBytes call.argument

@@ -1,6 +1,8 @@
 -- To be believed: what each command answers and writes, how it ends, and what was written where a read or a write fails.
 pub mod Files
 pub mod Script
+pub mod StepLine
+pub mod Transcript
 pub mod Texts
 pub mod Status
 pub mod Answer

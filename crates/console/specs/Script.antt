@@ -15,12 +15,18 @@ pub data Meaning : Type 0 where
   Comment : Meaning
   Call : ProgramCall → Meaning
 
+-- the fields NAME and HEX
+unfoldable pub named_call : List ℕ → List ℕ → Option ProgramCall
+named_call name digits = do
+  argument ← field_bytes digits
+  if is_name name then Some (record { name = name; argument = argument }) else None
+
 -- NAME HEX
 unfoldable pub call_meaning : List ℕ → Option Meaning
 call_meaning line = do
   field ← split_at_space line
-  argument ← field_bytes field.1
-  if is_name field.0 then Some (Call (record { name = field.0; argument = argument })) else None
+  call ← named_call field.0 field.1
+  Some (Call call)
 
 -- a line over 512 bytes is bad whatever it holds; an empty line and one that begins with # say nothing
 unfoldable pub line_meaning : List ℕ → Option Meaning

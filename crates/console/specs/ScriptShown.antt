@@ -1,8 +1,19 @@
--- What a line of a script that was read says, without where its text lies. Clauses of private functions alone cite this.
+-- What a line that was read says, without where its text lies. Clauses of private functions alone cite this.
 use Rattle.console.specs.declared.script.ProgramCall.{ProgramCall as TheCall}
 use Rattle.console.specs.declared.script.ScriptLine.{ScriptLine}
 use Rattle.console.specs.declared.script.ScriptLine.TheVariants as lines
+use Rattle.console.specs.declared.step_lines.SlotAt.{SlotAt as TheSlotAt}
+use Rattle.console.specs.declared.step_lines.CallAt.{CallAt as TheCallAt}
+use Rattle.console.specs.declared.step_lines.StepLine.{StepLine}
+use Rattle.console.specs.declared.step_lines.StepLine.TheVariants as steps
+use Rattle.console.specs.declared.transcripts.AnsweredCall.{AnsweredCall as TheAnsweredCall}
+use Rattle.console.specs.declared.transcripts.TranscriptLine.{TranscriptLine}
+use Rattle.console.specs.declared.transcripts.TranscriptLine.TheVariants as told
 use Rattle.console.specs.Script.{ProgramCall, Meaning, Comment, Call}
+use Rattle.console.specs.StepLine as said
+use Rattle.console.specs.StepLine.{StepMeaning, SlotAt, CallAt}
+use Rattle.console.specs.Transcript as telling
+use Rattle.console.specs.Transcript.{TranscriptMeaning, AnsweredCall}
 
 abbrev pub call_of : TheCall → ProgramCall
 call_of c = record { name = c.name.now; argument = c.argument.items }
@@ -10,3 +21,35 @@ call_of c = record { name = c.name.now; argument = c.argument.items }
 abbrev pub meaning_of : ScriptLine → Meaning
 meaning_of lines.Comment = Comment
 meaning_of (lines.Call c) = Call (call_of c)
+
+-- ---- steps
+
+abbrev pub slot_of : TheSlotAt → SlotAt
+slot_of at = record { node = at.node; slot = at.slot }
+
+abbrev pub slot_call_of : TheCallAt → CallAt
+slot_call_of at = record { node = at.node; slot = at.slot; call = call_of at.call }
+
+abbrev pub step_of : StepLine → StepMeaning
+step_of steps.Comment = said.Comment
+step_of (steps.Post at) = said.Post (slot_call_of at)
+step_of (steps.ReadBegin at) = said.ReadBegin (slot_call_of at)
+step_of (steps.Collect at) = said.Collect (slot_of at)
+step_of (steps.ReadAnswer at) = said.ReadAnswer (slot_of at)
+step_of (steps.Claim node) = said.Claim node
+step_of (steps.Append node) = said.Append node
+step_of (steps.Replay node) = said.Replay node
+step_of (steps.Finish node) = said.Finish node
+step_of (steps.Reply node) = said.Reply node
+step_of (steps.Reclaim node) = said.Reclaim node
+step_of (steps.Rebase node) = said.Rebase node
+
+-- ---- transcripts
+
+abbrev pub answered_of : TheAnsweredCall → AnsweredCall
+answered_of a = record { mode = a.mode; place = a.place; call = call_of a.call; reply = a.reply }
+
+abbrev pub told_of : TranscriptLine → TranscriptMeaning
+told_of told.Comment = telling.Comment
+told_of (told.Answered a) = telling.Answered (answered_of a)
+told_of (told.Ended c) = telling.Ended (call_of c)

@@ -13,7 +13,9 @@ mod report;
 mod run_texts;
 mod script;
 mod status;
+mod step_lines;
 mod texts;
+mod transcripts;
 mod transfer;
 
 pub use commands::{assemble, check, disassemble, run};

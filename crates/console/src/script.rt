@@ -1,8 +1,8 @@
 // The lines of a script.
 
 ghost use Rattle.std.specs.Prelude.{◌≡◌, ◌≤◌, length, option_map};
-ghost use Rattle.console.specs.Script.{call_meaning, line_meaning};
-ghost use Rattle.console.specs.ScriptShown.{meaning_of};
+ghost use Rattle.console.specs.Script.{named_call, call_meaning, line_meaning};
+ghost use Rattle.console.specs.ScriptShown.{call_of, meaning_of};
 
 use arrayvec::ArrayVec;
 use text::{FIELD_BYTES, LINE_BYTES, LineKind, hex_field, is_name, kind_of, split_at_space};
@@ -21,19 +21,29 @@ pub(crate) enum ScriptLine<'a> {
     Call(ProgramCall<'a>),
 }
 
+// The call that the fields NAME and HEX say.
+#[tactic(auto, unfolding(crate::specs::Script::named_call))]
+pub(crate) fn named_call<'a>(name: &'a str, digits: &str) -> Option<ProgramCall<'a>>
+    requires { length digits.now ≤ LINE_BYTES }
+    ensures { option_map call_of result ≡ named_call name.now digits.now }
+{
+    let argument = hex_field(digits)?;
+    if is_name(name) {
+        Some(ProgramCall { name, argument })
+    } else {
+        None
+    }
+}
+
 // The call that the words of a line say.
 #[tactic(auto, unfolding(crate::specs::Script::call_meaning))]
 fn call_line(line: &str) -> Option<ScriptLine<'_>>
     requires { length line.now ≤ LINE_BYTES }
     ensures { option_map meaning_of result ≡ call_meaning line.now }
 {
-    let (name, field) = split_at_space(line)?;
-    let argument = hex_field(field)?;
-    if is_name(name) {
-        Some(ScriptLine::Call(ProgramCall { name, argument }))
-    } else {
-        None
-    }
+    let (name, digits) = split_at_space(line)?;
+    let call = named_call(name, digits)?;
+    Some(ScriptLine::Call(call))
 }
 
 // What a line says; `None` where it is bad.

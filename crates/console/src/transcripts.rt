@@ -1,0 +1,86 @@
+// The lines of a transcript.
+
+ghost use Rattle.std.specs.Prelude.{◌≡◌, ◌≤◌, length, option_map};
+ghost use Rattle.console.specs.Transcript.{answered_call, ended_call, transcript_meaning, transcript_line_meaning};
+ghost use Rattle.console.specs.ScriptShown.{call_of, answered_of, told_of};
+
+use crate::script::{ProgramCall, named_call};
+use text::{LINE_BYTES, LineKind, kind_of, number, split_at_space};
+use verifier::Mode;
+
+// A call that was answered: the number of updates before it, and the reply.
+#[derive(Drop)]
+pub(crate) struct AnsweredCall<'a> {
+    pub mode: Mode,
+    pub place: u64,
+    pub call: ProgramCall<'a>,
+    pub reply: u64,
+}
+
+// What a line says.
+#[derive(Drop)]
+pub(crate) enum TranscriptLine<'a> {
+    Comment,
+    Answered(AnsweredCall<'a>),
+    Ended(ProgramCall<'a>),
+}
+
+// PLACE NAME HEX REPLY
+#[tactic(auto, unfolding(crate::specs::Transcript::answered_call))]
+fn answered_call(mode: Mode, text: &str) -> Option<AnsweredCall<'_>>
+    requires { length text.now ≤ LINE_BYTES }
+    ensures { option_map answered_of result ≡ answered_call mode text.now }
+{
+    let (place, rest) = split_at_space(text)?;
+    let (name, rest) = split_at_space(rest)?;
+    let (digits, reply) = split_at_space(rest)?;
+    let place = number(place)?;
+    let call = named_call(name, digits)?;
+    let reply = number(reply)?;
+    Some(AnsweredCall {
+        mode,
+        place,
+        call,
+        reply,
+    })
+}
+
+// NAME HEX
+#[tactic(auto, unfolding(crate::specs::Transcript::ended_call))]
+fn ended_call(text: &str) -> Option<ProgramCall<'_>>
+    requires { length text.now ≤ LINE_BYTES }
+    ensures { option_map call_of result ≡ ended_call text.now }
+{
+    let (name, digits) = split_at_space(text)?;
+    named_call(name, digits)
+}
+
+// What the words of a line say.
+#[tactic(auto, unfolding(crate::specs::Transcript::transcript_meaning))]
+fn transcript_words(line: &str) -> Option<TranscriptLine<'_>>
+    requires { length line.now ≤ LINE_BYTES }
+    ensures { option_map told_of result ≡ transcript_meaning line.now }
+{
+    let (letter, rest) = split_at_space(line)?;
+    if letter == "u" {
+        Some(TranscriptLine::Answered(answered_call(Mode::Update, rest)?))
+    } else if letter == "r" {
+        Some(TranscriptLine::Answered(answered_call(Mode::Read, rest)?))
+    } else if letter == "e" {
+        Some(TranscriptLine::Ended(ended_call(rest)?))
+    } else {
+        None
+    }
+}
+
+// What a line says; `None` where it is bad.
+#[tactic(auto, unfolding(crate::specs::Transcript::transcript_line_meaning))]
+pub(crate) fn read_transcript_line(line: &str) -> Option<TranscriptLine<'_>>
+    ensures { option_map told_of result ≡ transcript_line_meaning line.now }
+{
+    match kind_of(line) {
+        LineKind::TooLong => None,
+        LineKind::Comment => Some(TranscriptLine::Comment),
+        LineKind::Words => transcript_words(line),
+    }
+}
