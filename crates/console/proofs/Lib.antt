@@ -5,7 +5,7 @@ pub mod Answers
 pub mod Reported
 pub mod ProgramLines
 pub mod RunLines
-pub mod RunAnswers
+pub mod InputTexts
 pub mod Opened
 pub mod OneUpdate
 pub mod Turns

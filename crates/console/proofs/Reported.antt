@@ -22,6 +22,7 @@ sent old new got a (inl whole) = by_verdict a.verdict refl
     by_verdict : (v : Verdict) → a.verdict ≡ v → Reports old new got a
     by_verdict verdicts.Good is = subst (λ s. Reports old new s a) (sym (rw is at whole.0)) (is, whole.1)
     by_verdict verdicts.Refused is = subst (λ s. Reports old new s a) (sym (rw is at whole.0)) (is, whole.1)
+    by_verdict verdicts.Differs is = subst (λ s. Reports old new s a) (sym (rw is at whole.0)) (is, whole.1)
 
 -- the line that no memory is left was sent, or broke off
 no_memory_sent : (old new : Option (List ℕ)) (got : Status) (a : Answer) → Sends old new got no_memory_line statuses.NoMemory → Reports old new got a

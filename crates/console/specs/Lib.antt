@@ -6,8 +6,10 @@ pub mod Transcript
 pub mod Texts
 pub mod Status
 pub mod Answer
+pub mod Inputs
 pub mod RunAnswer
 pub mod AsmAnswer
+pub mod ReplayAnswer
 pub mod Report
 pub mod Transfer
 -- Laws: each line that a run writes for a call is a run of its program.
@@ -17,3 +19,5 @@ pub mod ScriptShown
 pub mod Running
 pub mod Input
 pub mod Loaded
+pub mod Gathering
+pub mod Replaying

@@ -16,6 +16,7 @@ use Rattle.console.specs.Answer.{Answer, not_text}
 abbrev pub Reports : Option (List ℕ) → Option (List ℕ) → Status → Answer → Type 0
 Reports old new statuses.Good a = (a.verdict ≡ verdicts.Good) × Appends old new a.text
 Reports old new statuses.Refused a = (a.verdict ≡ verdicts.Refused) × Appends old new a.text
+Reports old new statuses.Differs a = (a.verdict ≡ verdicts.Differs) × Appends old new a.text
 Reports old new statuses.NoMemory a = Appends old new no_memory_line
 Reports old new statuses.CannotRead a = Keeps old new
 Reports old new statuses.CannotWrite a = AppendsBeginning old new a.text ⊎ AppendsBeginning old new no_memory_line

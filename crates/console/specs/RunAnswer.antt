@@ -1,21 +1,20 @@
 -- What `run` answers and writes, as a function of the manifest, of the files that are there, and of the script.
-use Rattle.std.specs.Prelude.{◌≡◌, ◌⊎◌, ℕ, ◌&&◌, List, [], ◌∷◌, ◌++◌, length, codes, decimal, Option, Some, None, option_map, Ok, Err, nat_lt, ◌==◌, if◌then◌else◌}
+use Rattle.std.specs.Prelude.{ℕ, List, [], ◌∷◌, ◌++◌, length, codes, decimal, Option, Some, None, option_map, Ok, Err, nat_lt, ◌==◌, if◌then◌else◌}
 use Rattle.maps.specs.Maps.{Maps}
 use Rattle.verifier.specs.declared.refusal.Mode.{Mode}
 use Rattle.verifier.specs.declared.refusal.Mode.TheVariants.{Update, Read}
 use Rattle.verifier.specs.Accepted.{Checked}
 use Rattle.text.specs.Lines.{lines_of, next_line}
-use Rattle.loader.specs.NamedFiles.{named_in}
 use Rattle.loader.specs.CatalogueView.{CatalogueView, number_named}
-use Rattle.loader.specs.Loading.{Outcome, loaded}
+use Rattle.loader.specs.Loading.{Outcome}
 use Rattle.oplog.specs.Operations.{Operation}
 use Rattle.oplog.specs.declared.configuration.TheConstants.{MAX_LIMIT}
 use Rattle.oplog.specs.History.{Effect, ReadEffect, History, effect_at, read_at}
 use Rattle.replica.specs.StoreMeaning.{program_at, store_meaning}
 use Rattle.console.specs.declared.status.Verdict.TheVariants as verdicts
-use Rattle.console.specs.Files.{Contents, is_text, present, are_texts}
-use Rattle.console.specs.Answer.{Answer, not_text, refusal_answer}
-use Rattle.loader.specs.ProgramFiles.{Files}
+use Rattle.console.specs.Files.{Contents}
+use Rattle.console.specs.Answer.{Answer, refusal_answer}
+use Rattle.console.specs.Inputs.{texts_answer, IsTextsAnswer}
 use Rattle.console.specs.Script.{ProgramCall, Meaning, Comment, Call, line_meaning}
 
 -- ---- the texts
@@ -125,12 +124,9 @@ ran (Ok c) script = script_answer c script
 ran (Err refusal) script = refusal_answer refusal
 
 -- what `run` answers: all files are read first, then the manifest is loaded, then the lines are run
-unfoldable pub run_answer : List ℕ → Contents → List ℕ → Answer
-run_answer manifest folder script =
-    if is_text manifest && (are_texts (present folder (named_in manifest)) && is_text script)
-    then ran (loaded manifest (present folder (named_in manifest))) script
-    else not_text
+abbrev pub run_answer : List ℕ → Contents → List ℕ → Answer
+run_answer = texts_answer ran
 
 -- what `run` answers to some manifest, files and script
 abbrev pub IsRunAnswer : Answer → Type 0
-IsRunAnswer a = (a ≡ not_text) ⊎ ((manifest : List ℕ) × (files : Files) × (script : List ℕ) × (a ≡ ran (loaded manifest files) script))
+IsRunAnswer = IsTextsAnswer ran

@@ -12,6 +12,7 @@ code_of statuses.Refused = 3
 code_of statuses.NoMemory = 4
 code_of statuses.CannotRead = 5
 code_of statuses.CannotWrite = 5
+code_of statuses.Differs = 6
 
 -- what is written to standard error
 abbrev pub complaint_of : Status → Option (List ℕ)
@@ -23,3 +24,4 @@ complaint_of status = None
 abbrev pub status_of : Verdict → Status
 status_of verdicts.Good = statuses.Good
 status_of verdicts.Refused = statuses.Refused
+status_of verdicts.Differs = statuses.Differs

@@ -17,9 +17,9 @@ use verifier::{Accepted, Mode};
 
 // A program of the catalogue, and its number there.
 #[derive(Clone, Copy)]
-struct Numbered<'a> {
-    number: u16,
-    program: &'a Accepted,
+pub(crate) struct Numbered<'a> {
+    pub number: u16,
+    pub program: &'a Accepted,
 }
 
 // Runs a program on an argument of its length.

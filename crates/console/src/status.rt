@@ -16,6 +16,8 @@ pub enum Status {
     CannotRead,
     /// A write failed. What went out is a beginning of what was to be written.
     CannotWrite,
+    /// What was read tells something else than what is so, and where it does is written.
+    Differs,
 }
 
 // Whether what was read is good.
@@ -23,6 +25,7 @@ pub enum Status {
 pub(crate) enum Verdict {
     Good,
     Refused,
+    Differs,
 }
 
 impl Status {
@@ -35,6 +38,7 @@ impl Status {
             Status::Refused => 3,
             Status::NoMemory => 4,
             Status::CannotRead | Status::CannotWrite => 5,
+            Status::Differs => 6,
         }
     }
 
@@ -57,5 +61,6 @@ pub(crate) fn status_of(verdict: Verdict) -> Status
     match verdict {
         Verdict::Good => Status::Good,
         Verdict::Refused => Status::Refused,
+        Verdict::Differs => Status::Differs,
     }
 }

@@ -1,16 +1,18 @@
 // The command `run`.
 
 ghost use Rattle.std.specs.Prelude.{◌≡◌, IfOk, IfSome, MatchResult};
-ghost use Rattle.loader.specs.Loading.{loaded};
+ghost use Rattle.loader.specs.Loading.{Outcome};
 ghost use Rattle.console.specs.Answer.{not_text};
 ghost use Rattle.console.specs.RunAnswer.{script_answer, ran, run_answer, IsRunAnswer};
 ghost use Rattle.console.specs.Report.{answer_of, Reports, ReportsSome};
-ghost use Rattle.console.specs.Input.{FailsAs, owned_files};
+ghost use Rattle.console.specs.Input.{FailsAs};
+ghost use Rattle.console.specs.Loaded.{LoadedIs};
 
 use crate::calls::take_line;
-use crate::catalogues::{Loaded, load};
+use crate::catalogues::Loaded;
 use crate::folder::Folder;
-use crate::input::{InputFault, gather, read_text};
+use crate::input::InputFault;
+use crate::inputs::read_inputs;
 use crate::node::SingleNode;
 use crate::report::{Reply, report};
 use crate::run_texts::put_bad_line;
@@ -43,22 +45,17 @@ fn script_reply(alloc: Global, catalogue: &Catalogue, script: &str) -> Result<Re
     })
 }
 
-// What a manifest, its files and a script get.
-fn loaded_reply(
-    alloc: Global,
-    manifest: &str,
-    files: &[(&str, String)],
-    script: &str,
-) -> Result<Reply, AllocError>
-    ensures { IfOk result (λ r. answer_of r ≡ ran (loaded manifest.now (owned_files files.now)) script.now) }
+// What a manifest that was loaded and a script get.
+fn loaded_reply(alloc: Global, loaded: Loaded, script: &str) -> Result<Reply, AllocError>
+    ensures { IfOk result (λ r. (outcome : Outcome) → LoadedIs outcome loaded → answer_of r ≡ ran outcome script.now) }
 {
-    match load(alloc, manifest, files)? {
+    match loaded {
         Loaded::Catalogue(catalogue) => script_reply(alloc, &catalogue, script),
         Loaded::Refused(reply) => Ok(reply),
     }
 }
 
-// What `run` has to write: the manifest is read first, then the files that it names, then the script.
+// What `run` has to write.
 fn prepare<F: Folder, R: Read, S: Read>(
     alloc: Global,
     folder: &F,
@@ -69,10 +66,8 @@ fn prepare<F: Folder, R: Read, S: Read>(
         (λ r. answer_of r ≡ run_answer m h s) (λ e. FailsAs e (run_answer m h s ≡ not_text))))) }
     ensures some { IfOk result (λ r. IsRunAnswer (answer_of r)) }
 {
-    let text = read_text(alloc, manifest)?;
-    let files = gather(alloc, folder, text.as_str())?;
-    let lines = read_text(alloc, script)?;
-    Ok(loaded_reply(alloc, text.as_str(), &files, lines.as_str())?)
+    let inputs = read_inputs(alloc, folder, manifest, script)?;
+    Ok(loaded_reply(alloc, inputs.loaded, inputs.text.as_str())?)
 }
 
 /// Runs a script on a new store with the maps and the programs of a manifest: one log of at most 1,000,000

@@ -1,0 +1,115 @@
+-- What a command answers, from what was read.
+use Rattle.std.proofs.Common.{◌≡◌, inl, inr, ℕ, Bool, true, false, ◌&&◌, List, Option, Some, None, Ok, String, string_bytes, refl, sym, ap, subst, ◌∙◌}
+use Rattle.std.specs.Prelude.{IfSome}
+use Rattle.loader.specs.NamedFiles.{named_in}
+use Rattle.loader.specs.ProgramFiles.{Files}
+use Rattle.loader.specs.Loading.{Outcome, loaded}
+use Rattle.console.specs.declared.catalogues.Loaded.{Loaded}
+use Rattle.console.specs.declared.inputs.Inputs.{Inputs}
+use Rattle.console.specs.declared.input.InputFault.{InputFault}
+use Rattle.console.specs.declared.input.InputFault.TheVariants as faults
+use Rattle.console.specs.Files.{Contents, present, are_texts, is_text}
+use Rattle.console.specs.Answer.{Answer, not_text}
+use Rattle.console.specs.Inputs.{all_texts, texts_answer, IsTextsAnswer}
+use Rattle.console.specs.Input.{FailsAs, TextIs}
+use Rattle.console.specs.Loaded.{LoadedIs}
+use Rattle.console.specs.Gathering.{AreInputs, IsOfSome}
+
+-- a test fails where one of its parts does
+first_off : (a b c : Bool) → a ≡ false → a && (b && c) ≡ false
+first_off false b c e = refl
+first_off true b c e = absurd cc
+
+second_off : (a b c : Bool) → b ≡ false → a && (b && c) ≡ false
+second_off true false c e = refl
+second_off false b c e = refl
+second_off true true c e = absurd cc
+
+third_off : (a b c : Bool) → c ≡ false → a && (b && c) ≡ false
+third_off true true false e = refl
+third_off false b c e = refl
+third_off true false c e = refl
+third_off true true true e = absurd cc
+
+fails_as : (e : InputFault) (P Q : Type 0) → (P → Q) → FailsAs e P → FailsAs e Q
+fails_as faults.NoMemory P Q f p = tt
+fails_as faults.CannotRead P Q f p = tt
+fails_as faults.NotText P Q f p = f p
+
+-- where it may be unknown what there was to read
+module _ (r : Option (List ℕ)) (o : Option Contents) (q : Option (List ℕ)) where
+  abbrev Known : (List ℕ → Contents → List ℕ → Type 0) → Type 0
+  Known P = IfSome r (λ m. IfSome o (λ h. IfSome q (λ s. P m h s)))
+
+pub manifest_failed : (r : Option (List ℕ)) (o : Option Contents) (q : Option (List ℕ)) (e : InputFault) → IfSome r (λ m. FailsAs e (is_text m ≡ false))
+    → Known r o q (λ m h s. FailsAs e (all_texts m h s ≡ false))
+manifest_failed None o q e read = tt
+manifest_failed (Some m) None q e read = tt
+manifest_failed (Some m) (Some h) None e read = tt
+manifest_failed (Some m) (Some h) (Some s) e read = fails_as e _ _ (first_off (is_text m) (are_texts (present h (named_in m))) (is_text s)) read
+
+module _ {Y : Type 0} (text : String Y) where
+  -- the files that the text names
+  abbrev names : List (List ℕ)
+  names = named_in (string_bytes text)
+
+  abbrev AreGathered : Contents → Files → List (List ℕ) → Type 0
+  AreGathered h files ns = (files ≡ present h ns) × (are_texts (present h ns) ≡ true)
+
+  pub files_failed : (r : Option (List ℕ)) (o : Option Contents) (q : Option (List ℕ)) (e : InputFault) → IfSome r (TextIs (Ok text))
+      → IfSome o (λ h. FailsAs e (are_texts (present h names) ≡ false)) → Known r o q (λ m h s. FailsAs e (all_texts m h s ≡ false))
+  files_failed None o q e read stop = tt
+  files_failed (Some m) None q e read stop = tt
+  files_failed (Some m) (Some h) None e read stop = tt
+  files_failed (Some m) (Some h) (Some s) e read stop =
+      fails_as e _ _ (second_off (is_text m) (are_texts (present h (named_in m))) (is_text s)) (subst (λ t. FailsAs e (are_texts (present h (named_in t)) ≡ false)) read.0 stop)
+
+  pub text_failed : (r : Option (List ℕ)) (o : Option Contents) (q : Option (List ℕ)) (e : InputFault) → IfSome q (λ s. FailsAs e (is_text s ≡ false))
+      → Known r o q (λ m h s. FailsAs e (all_texts m h s ≡ false))
+  text_failed None o q e stop = tt
+  text_failed (Some m) None q e stop = tt
+  text_failed (Some m) (Some h) None e stop = tt
+  text_failed (Some m) (Some h) (Some s) e stop = fails_as e _ _ (third_off (is_text m) (are_texts (present h (named_in m))) (is_text s)) stop
+
+  pub all_read : (r : Option (List ℕ)) (o : Option Contents) (q : Option (List ℕ)) (files : Files) (i : Inputs) → IfSome r (TextIs (Ok text))
+      → IfSome o (λ h. AreGathered h files names) → IfSome q (TextIs (Ok i.text))
+      → LoadedIs (loaded (string_bytes text) files) i.loaded → Known r o q (λ m h s. AreInputs m h s i)
+  all_read None o q files i read gathered lines load = tt
+  all_read (Some m) None q files i read gathered lines load = tt
+  all_read (Some m) (Some h) None files i read gathered lines load = tt
+  all_read (Some m) (Some h) (Some s) files i read gathered lines load =
+      let found : AreGathered h files (named_in m) = subst (λ t. AreGathered h files (named_in t)) read.0 gathered in
+      record {
+        texts = rw (read.1, found.1, lines.1) refl;
+        catalogue = subst (λ (f : Files). LoadedIs (loaded m f) i.loaded) found.0 (subst (λ t. LoadedIs (loaded t files) i.loaded) read.0 load);
+        same = lines.0;
+      }
+
+-- ---- the answers of a command
+
+module _ (answers : Outcome → List ℕ → Answer) where
+  not_text_at : (e : InputFault) (m : List ℕ) (h : Contents) (s : List ℕ) → FailsAs e (all_texts m h s ≡ false) → FailsAs e (texts_answer answers m h s ≡ not_text)
+  unfolding texts_answer
+  not_text_at e m h s stop = fails_as e (all_texts m h s ≡ false) (texts_answer answers m h s ≡ not_text) (λ off. rw off refl) stop
+
+  pub stopped : (r : Option (List ℕ)) (o : Option Contents) (q : Option (List ℕ)) (e : InputFault) → Known r o q (λ m h s. FailsAs e (all_texts m h s ≡ false))
+      → Known r o q (λ m h s. FailsAs e (texts_answer answers m h s ≡ not_text))
+  stopped None o q e stop = tt
+  stopped (Some m) None q e stop = tt
+  stopped (Some m) (Some h) None e stop = tt
+  stopped (Some m) (Some h) (Some s) e stop = not_text_at e m h s stop
+
+  module _ (i : Inputs) (a : Answer) (made : (outcome : Outcome) → LoadedIs outcome i.loaded → a ≡ answers outcome (string_bytes i.text)) where
+    answered_at : (m : List ℕ) (h : Contents) (s : List ℕ) → AreInputs m h s i → a ≡ texts_answer answers m h s
+    unfolding texts_answer
+    answered_at m h s read =
+        made (loaded m (present h (named_in m))) read.catalogue ∙ ap (λ t. answers (loaded m (present h (named_in m))) t) read.same ∙ sym (rw read.texts refl)
+
+    pub answered : (r : Option (List ℕ)) (o : Option Contents) (q : Option (List ℕ)) → Known r o q (λ m h s. AreInputs m h s i) → Known r o q (λ m h s. a ≡ texts_answer answers m h s)
+    answered None o q read = tt
+    answered (Some m) None q read = tt
+    answered (Some m) (Some h) None read = tt
+    answered (Some m) (Some h) (Some s) read = answered_at m h s read
+
+    pub is_some_answer : IsOfSome i.loaded → IsTextsAnswer answers a
+    is_some_answer some = inr (some.0, some.1, string_bytes i.text, made (loaded some.0 some.1) some.2)

@@ -1,0 +1,134 @@
+-- What `replay` answers and writes, as a function of the manifest, of the files that are there, and of the transcript.
+use Rattle.std.specs.Prelude.{◌≡◌, ◌⊎◌, ℕ, ◌+◌, ◌-◌, ◌^◌, min, Bool, true, false, ◌&&◌, List, [], ◌∷◌, ◌++◌, length, codes, decimal, Option, Some, None, option_and_then, Ok, Err, nat_lt, ◌==◌, if◌then◌else◌}
+use Rattle.verifier.specs.declared.refusal.Mode.{Mode}
+use Rattle.verifier.specs.declared.refusal.Mode.TheVariants.{Update, Read}
+use Rattle.verifier.specs.Accepted.{Checked}
+use Rattle.text.specs.Lines.{lines_of, next_line}
+use Rattle.loader.specs.CatalogueView.{CatalogueView, number_named}
+use Rattle.loader.specs.Loading.{Outcome}
+use Rattle.oplog.specs.Operations.{Operation}
+use Rattle.oplog.specs.declared.configuration.TheConstants.{MAX_LIMIT}
+use Rattle.oplog.specs.History.{History, reply_at, read_reply_at}
+use Rattle.replica.specs.StoreMeaning.{program_at, store_meaning, is_mode}
+use Rattle.console.specs.declared.status.Verdict.TheVariants as verdicts
+use Rattle.console.specs.Files.{Contents}
+use Rattle.console.specs.Answer.{Answer, refusal_answer}
+use Rattle.console.specs.Script.{ProgramCall}
+use Rattle.console.specs.Transcript.{AnsweredCall, TranscriptMeaning, Comment, Answered, Ended, transcript_line_meaning}
+use Rattle.console.specs.RunAnswer.{bad_line, with_operation}
+use Rattle.console.specs.Inputs.{texts_answer, IsTextsAnswer}
+
+-- ---- the texts
+
+-- the numbers of updates, of reads, and of updates that were told that the history has ended
+abbrev pub good_text : ℕ → ℕ → ℕ → List ℕ
+good_text updates reads ended = codes "good " ++ (decimal updates ++ (codes " " ++ (decimal reads ++ (codes " " ++ (decimal ended ++ codes "\n")))))
+
+-- the line whose place or reply is another
+abbrev pub differs_text : ℕ → List ℕ
+differs_text n = codes "line " ++ (decimal n ++ codes " differs\n")
+
+-- ---- one line
+
+-- what was replayed: the updates in their order, how many reads there were, and how many updates after the history's end
+pub record Replayed : Type 0 where
+  pub history : History
+  pub reads : ℕ
+  pub ended : ℕ
+
+-- the line is bad, or it tells something else than the operation does, or it agrees
+pub data LineOutcome : Type 0 where
+  Bad : LineOutcome
+  Differs : LineOutcome
+  Agrees : Replayed → LineOutcome
+
+-- one more, as far as 64 bits go
+abbrev pub next_count : ℕ → ℕ
+next_count n = min (n + 1) (2 ^ 64 - 1)
+
+-- a program of that mode, whose argument has this length
+abbrev pub may_call : Mode → List ℕ → Option Checked → Bool
+may_call mode argument None = false
+may_call mode argument (Some p) = is_mode p.mode mode && (length argument == p.arg_len)
+
+-- the operation that is called: of a program that the catalogue has, of that mode, with an argument of its length
+abbrev pub operation_of : CatalogueView → Mode → ProgramCall → Option Operation
+operation_of c mode call =
+    option_and_then (λ k. if may_call mode call.argument (program_at c k) then Some (record { program = k; argument = call.argument }) else None)
+    (number_named c.programs call.name)
+
+abbrev pub is_reply : ℕ → Option ℕ → Bool
+is_reply told None = false
+is_reply told (Some reply) = reply == told
+
+-- the update has the next place of a history, and this reply there
+abbrev pub update_agrees : CatalogueView → History → Operation → ℕ → ℕ → Bool
+update_agrees c h op place reply = (place == length h) && (nat_lt (length h) MAX_LIMIT && is_reply reply (reply_at store_meaning c h (length h) op))
+
+-- the read has the end of the history as its point, and this reply there
+abbrev pub read_agrees : CatalogueView → History → Operation → ℕ → ℕ → Bool
+read_agrees c h op point reply = (point == length h) && is_reply reply (read_reply_at store_meaning c h (length h) op)
+
+abbrev pub with_update : Replayed → Operation → Replayed
+with_update at op = record at { history = with_operation at.history op }
+
+-- an update stands in the history from then on; a read leaves it
+abbrev pub compared : CatalogueView → Replayed → Mode → ℕ → ℕ → Operation → LineOutcome
+compared c at Update place reply op = if update_agrees c at.history op place reply then Agrees (with_update at op) else Differs
+compared c at Read place reply op = if read_agrees c at.history op place reply then Agrees (record at { reads = next_count at.reads }) else Differs
+
+-- a call that names no operation makes its line bad, whatever it tells
+abbrev pub by_operation : (Operation → LineOutcome) → Option Operation → LineOutcome
+by_operation agrees None = Bad
+by_operation agrees (Some op) = agrees op
+
+abbrev pub answered_outcome : CatalogueView → Replayed → AnsweredCall → LineOutcome
+answered_outcome c at a = by_operation (compared c at a.mode a.place a.reply) (operation_of c a.mode a.call)
+
+-- an update that was told that the history has ended changes nothing
+abbrev pub ended_outcome : CatalogueView → Replayed → ProgramCall → LineOutcome
+ended_outcome c at call = by_operation (λ op. Agrees (record at { ended = next_count at.ended })) (operation_of c Update call)
+
+-- by what the line says
+abbrev pub told : CatalogueView → Replayed → Option TranscriptMeaning → LineOutcome
+told c at None = Bad
+told c at (Some Comment) = Agrees at
+told c at (Some (Answered a)) = answered_outcome c at a
+told c at (Some (Ended call)) = ended_outcome c at call
+
+unfoldable pub line_outcome : CatalogueView → Replayed → List ℕ → LineOutcome
+line_outcome c at line = told c at (transcript_line_meaning line)
+
+-- ---- a transcript
+
+abbrev pub good_answer : Replayed → Answer
+good_answer at = record { text = good_text (length at.history) at.reads at.ended; verdict = verdicts.Good }
+
+abbrev pub differing_line : ℕ → Answer
+differing_line n = record { text = differs_text n; verdict = verdicts.Differs }
+
+abbrev pub by_outcome : ℕ → (Replayed → Answer) → LineOutcome → Answer
+by_outcome n next Bad = bad_line n
+by_outcome n next Differs = differing_line n
+by_outcome n next (Agrees at) = next at
+
+-- the first line that does not agree ends the replay; where all do, they are counted
+unfoldable pub transcript_answer : CatalogueView → ℕ → Replayed → List (List ℕ) → Answer
+transcript_answer c n at [] = good_answer at
+transcript_answer c n at (l ∷ ls) = by_outcome n (λ next. transcript_answer c (next_line n) next ls) (line_outcome c at l)
+
+abbrev pub nothing_replayed : Replayed
+nothing_replayed = record { history = []; reads = 0; ended = 0 }
+
+-- a refused manifest writes only its refusal
+abbrev pub replayed : Outcome → List ℕ → Answer
+replayed (Ok c) transcript = transcript_answer c 1 nothing_replayed (lines_of transcript)
+replayed (Err refusal) transcript = refusal_answer refusal
+
+-- what `replay` answers: all files are read first, then the manifest is loaded, then the lines are replayed
+abbrev pub replay_answer : List ℕ → Contents → List ℕ → Answer
+replay_answer = texts_answer replayed
+
+-- what `replay` answers to some manifest, files and transcript
+abbrev pub IsReplayAnswer : Answer → Type 0
+IsReplayAnswer = IsTextsAnswer replayed

@@ -1,0 +1,37 @@
+// What a command reads beside a manifest and its files.
+
+ghost use Rattle.std.specs.Prelude.{◌≡◌, false, IfOk, IfSome, MatchResult};
+ghost use Rattle.console.specs.Input.{FailsAs};
+ghost use Rattle.console.specs.Inputs.{all_texts};
+ghost use Rattle.console.specs.Gathering.{AreInputs, IsOfSome};
+
+use crate::catalogues::{Loaded, load};
+use crate::folder::Folder;
+use crate::input::{InputFault, gather, read_text};
+use std::alloc::Global;
+use std::io::Read;
+
+// The catalogue of a manifest, and another text.
+#[derive(Drop)]
+pub(crate) struct Inputs {
+    pub loaded: Loaded,
+    pub text: String,
+}
+
+// Reads the manifest first, then the files that it names, then the other text; then loads the manifest.
+pub(crate) fn read_inputs<F: Folder, R: Read, S: Read>(
+    alloc: Global,
+    folder: &F,
+    manifest: &mut R,
+    text: &mut S,
+) -> Result<Inputs, InputFault>
+    ensures known { IfSome (R.remaining manifest.old) (λ m. IfSome (F.holds folder.now) (λ h. IfSome (S.remaining text.old) (λ s. MatchResult result
+        (AreInputs m h s) (λ e. FailsAs e (all_texts m h s ≡ false))))) }
+    ensures some { IfOk result (λ i. IsOfSome i.loaded) }
+{
+    let lines = read_text(alloc, manifest)?;
+    let files = gather(alloc, folder, lines.as_str())?;
+    let text = read_text(alloc, text)?;
+    let loaded = load(alloc, lines.as_str(), &files)?;
+    Ok(Inputs { loaded, text })
+}

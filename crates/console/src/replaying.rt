@@ -1,0 +1,162 @@
+// The replay of a transcript, line by line.
+
+ghost use Rattle.std.specs.Prelude.{◌≡◌, ◌≤◌, [], length, Some, option_map, IfSome, IfOk};
+ghost use Rattle.verifier.specs.declared.refusal.Mode.TheVariants.{Update, Read};
+ghost use Rattle.oplog.specs.declared.records.TheConstants.{MAX_ARG_LEN};
+ghost use Rattle.replica.specs.StoreMeaning.{program_at};
+ghost use Rattle.console.specs.ReplayAnswer.{Replayed, operation_of, update_agrees, read_agrees, with_update, answered_outcome, ended_outcome, line_outcome, nothing_replayed, next_count};
+ghost use Rattle.oplog.specs.Operations.{Operation as TheOperation};
+ghost use Rattle.console.specs.Replaying.{HasReplayed, IsCompared, LineReplayed};
+ghost use Rattle.console.specs.Running.{IsSteady, IsCallOf};
+ghost use Rattle.console.specs.ScriptShown.{call_of, answered_of};
+
+use crate::calls::Numbered;
+use crate::node::SingleNode;
+use crate::script::ProgramCall;
+use crate::transcripts::{AnsweredCall, TranscriptLine, read_transcript_line};
+use loader::Catalogue;
+use std::alloc::{AllocError, Global};
+use verifier::Mode;
+
+// One node, and how many reads and ended calls there were beside its updates.
+#[derive(Drop)]
+pub(crate) struct Replaying {
+    pub node: SingleNode,
+    pub reads: u64,
+    pub ended: u64,
+}
+
+// What a line is found to be.
+#[derive(Clone, Copy)]
+pub(crate) enum LineVerdict {
+    Bad,
+    Differs,
+    Agrees,
+}
+
+// The program that a call names, where it has this mode and the argument has its length.
+fn find<'a>(catalogue: &'a Catalogue, mode: Mode, call: &ProgramCall) -> Option<Numbered<'a>>
+    ensures found { option_map (λ n. record { program = n.number; argument = call.now.argument.items }) result ≡ operation_of catalogue.now mode (call_of call.now) }
+    ensures fits { IfSome result (λ n. IsCallOf catalogue.now (record { program = n.number; argument = call.now.argument.items }) mode) }
+    ensures program { IfSome result (λ n. program_at catalogue.now n.number ≡ Some n.program.now) }
+    ensures length { IfSome result (λ n. (length call.now.argument.items ≡ n.program.now.arg_len) × (length call.now.argument.items ≤ MAX_ARG_LEN)) }
+    ensures mode { IfSome result (λ n. (n.program.now.mode ≡ mode) × (n.program.now.shapes ≡ catalogue.now.shapes)) }
+{
+    let number = catalogue.number(call.name)?;
+    let program = catalogue.program(number)?;
+    let is_mode = match (program.mode(), mode) {
+        (Mode::Update, Mode::Update) | (Mode::Read, Mode::Read) => true,
+        _ => false,
+    };
+    if is_mode && call.argument.len() == program.arg_len() {
+        Some(Numbered { number, program })
+    } else {
+        None
+    }
+}
+
+impl Replaying {
+    // Takes all room that a replay needs.
+    pub(crate) fn open(alloc: Global, catalogue: &Catalogue) -> Result<Replaying, AllocError>
+        ensures steady { IfOk result (λ r. IsSteady catalogue.now r.node) }
+        ensures nothing { IfOk result (λ r. HasReplayed catalogue.now nothing_replayed r) }
+    {
+        Ok(Replaying {
+            node: SingleNode::open(alloc, catalogue)?,
+            reads: 0,
+            ended: 0,
+        })
+    }
+
+    // Whether an update has this place and this reply.
+    fn update(&mut self, catalogue: &Catalogue, number: u16, call: &AnsweredCall) -> bool
+        requires steady { IsSteady catalogue.now self.old.node }
+        requires call { IsCallOf catalogue.now (record { program = number; argument = call.now.call.argument.items }) Update }
+        requires fits { length call.now.call.argument.items ≤ MAX_ARG_LEN }
+        ensures steady { IsSteady catalogue.now self.new.node }
+        ensures compared { (at : Replayed) (op : TheOperation) → op ≡ record { program = number; argument = call.now.call.argument.items }
+            → HasReplayed catalogue.now at self.old
+            → IsCompared catalogue.now (update_agrees catalogue.now at.history op call.now.place call.now.reply) (with_update at op) result self.new }
+    {
+        if call.place != self.node.tail() {
+            return false;
+        }
+        match self.node.submit(catalogue, number, call.call.argument.as_slice()) {
+            Some(outcome) => outcome.reply == call.reply,
+            None => false,
+        }
+    }
+
+    // Whether a read has this point and this reply.
+    fn read(&mut self, catalogue: &Catalogue, found: Numbered<'_>, call: &AnsweredCall) -> bool
+        requires steady { IsSteady catalogue.now self.old.node }
+        requires call { IsCallOf catalogue.now (record { program = found.number; argument = call.now.call.argument.items }) Read }
+        requires program { program_at catalogue.now found.number ≡ Some found.program.now }
+        requires length { length call.now.call.argument.items ≡ found.program.now.arg_len }
+        requires mode { (found.program.now.mode ≡ Read) × (found.program.now.shapes ≡ catalogue.now.shapes) }
+        ensures steady { IsSteady catalogue.now self.new.node }
+        ensures compared { (at : Replayed) (op : TheOperation) → op ≡ record { program = found.number; argument = call.now.call.argument.items }
+            → HasReplayed catalogue.now at self.old
+            → IsCompared catalogue.now (read_agrees catalogue.now at.history op call.now.place call.now.reply) (record at { reads = next_count at.reads }) result self.new }
+    {
+        if call.place != self.node.tail() {
+            return false;
+        }
+        let outcome = self.node.query(found.program, call.call.argument.as_slice());
+        self.reads = self.reads.saturating_add(1);
+        outcome.reply == call.reply
+    }
+
+    // What a call that was answered is found to be.
+    fn answered(&mut self, catalogue: &Catalogue, call: &AnsweredCall) -> LineVerdict
+        requires steady { IsSteady catalogue.now self.old.node }
+        ensures steady { IsSteady catalogue.now self.new.node }
+        ensures replayed { (at : Replayed) → HasReplayed catalogue.now at self.old
+            → LineReplayed catalogue.now (answered_outcome catalogue.now at (answered_of call.now)) result self.new }
+    {
+        let Some(found) = find(catalogue, call.mode, &call.call) else {
+            return LineVerdict::Bad;
+        };
+        let agrees = match call.mode {
+            Mode::Update => self.update(catalogue, found.number, call),
+            Mode::Read => self.read(catalogue, found, call),
+        };
+        if agrees {
+            LineVerdict::Agrees
+        } else {
+            LineVerdict::Differs
+        }
+    }
+
+    // What an update after the end of the history is found to be.
+    fn after_end(&mut self, catalogue: &Catalogue, call: &ProgramCall) -> LineVerdict
+        requires steady { IsSteady catalogue.now self.old.node }
+        ensures steady { IsSteady catalogue.now self.new.node }
+        ensures replayed { (at : Replayed) → HasReplayed catalogue.now at self.old
+            → LineReplayed catalogue.now (ended_outcome catalogue.now at (call_of call.now)) result self.new }
+    {
+        match find(catalogue, Mode::Update, call) {
+            Some(_) => {
+                self.ended = self.ended.saturating_add(1);
+                LineVerdict::Agrees
+            }
+            None => LineVerdict::Bad,
+        }
+    }
+
+    // What a line is found to be.
+    #[tactic(auto, unfolding(crate::specs::ReplayAnswer::line_outcome))]
+    pub(crate) fn take_line(&mut self, catalogue: &Catalogue, line: &str) -> LineVerdict
+        requires steady { IsSteady catalogue.now self.old.node }
+        ensures steady { IsSteady catalogue.now self.new.node }
+        ensures replayed { (at : Replayed) → HasReplayed catalogue.now at self.old
+            → LineReplayed catalogue.now (line_outcome catalogue.now at line.now) result self.new }
+    {
+        match read_transcript_line(line) {
+            None => LineVerdict::Bad,
+            Some(TranscriptLine::Comment) => LineVerdict::Agrees,
+            Some(TranscriptLine::Answered(call)) => self.answered(catalogue, &call),
+            Some(TranscriptLine::Ended(call)) => self.after_end(catalogue, &call),
+        }
+    }
+}
