@@ -9,5 +9,6 @@ pub mod InputTexts
 pub mod Opened
 pub mod OneUpdate
 pub mod Turns
+pub mod Replays
 pub mod OneText
 pub mod RunsOfLines

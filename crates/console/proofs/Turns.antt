@@ -32,8 +32,29 @@ on_ok (Ok x) P Q f p = f p
 on_ok (Err e) P Q f p = tt
 
 module _ (c : CatalogueView) (h : History) (n : SingleNode) (follows : Follows c h n) where
-  here : maps_after store_meaning c h (length h) ≡ n.replica.maps
+  pub here : maps_after store_meaning c h (length h) ≡ n.replica.maps
   here = whole c h ∙ sym follows.maps
+
+  -- the effect of an update that the node applied, and the history that it then has behind it
+  module _ (op : Operation) (m : SingleNode) (o : Outcome) (u : IsUpdated c op n m o) where
+    pub effect_here : effect_at store_meaning c h (length h) op ≡ Some u.done
+    effect_here = ap (λ (x : Maps). store_meaning.update c op x) here ∙ u.takes
+
+    pub has_room : ltb (length h) MAX_LIMIT ≡ true
+    has_room =
+        let low = u.room in
+        let count = follows.count in
+        lt-ltb (length h) MAX_LIMIT (omega (arith, low, count))
+
+    pub updated_follows : Follows c (with_operation h op) m
+    updated_follows =
+        let count = follows.count in
+        let grown = u.tail in
+        let size : length (with_operation h op) ≡ length h + 1 = length-append h (record { author = 0; seq = length h; op = op } ∷ []) in
+        let left : m.replica.maps ≡ after store_meaning c (opening_maps c.shapes) (with_operation h op) =
+        u.maps ∙ sym (ap (λ (e : Option (Effect Maps)). left_by e n.replica.maps) u.takes) ∙ ap (λ (x : Maps). after store_meaning c x (record { author = 0; seq = length h; op = op } ∷ [])) follows.maps
+        ∙ sym (after_append store_meaning c (opening_maps c.shapes) h (record { author = 0; seq = length h; op = op } ∷ [])) in
+        record { count = omega (arith, grown, count, size); maps = left }
 
   module _ (op : Operation) (program : Checked) where
     -- an update
@@ -41,17 +62,9 @@ module _ (c : CatalogueView) (h : History) (n : SingleNode) (follows : Follows c
         → OnOk r (new ≡ old ++ update_text place o.reply o.steps) → OnOk r (IsTaken c (performed c h op program.mode) m old new)
     update_turn r place m o old new is mode u wrote =
         let at : place ≡ length h = is ∙ follows.count in
-        let low = u.room in
-        let count = follows.count in
-        let room : ltb (length h) MAX_LIMIT ≡ true = lt-ltb (length h) MAX_LIMIT (omega (arith, low, count)) in
-        let effect_here : effect_at store_meaning c h (length h) op ≡ Some u.done = ap (λ (x : Maps). store_meaning.update c op x) here ∙ u.takes in
+        let room = has_room op m o u in
         let text : update_line (length h) (effect_at store_meaning c h (length h) op) ≡ update_text place o.reply o.steps =
-        ap (update_line (length h)) effect_here ∙ ap₂ (λ (p : ℕ) (x : Outcome). update_text p x.reply x.steps) (sym at) (sym u.outcome) in
-        let grown = u.tail in
-        let size : length (with_operation h op) ≡ length h + 1 = length-append h (record { author = 0; seq = length h; op = op } ∷ []) in
-        let left : m.replica.maps ≡ after store_meaning c (opening_maps c.shapes) (with_operation h op) =
-        u.maps ∙ sym (ap (λ (e : Option (Effect Maps)). left_by e n.replica.maps) u.takes) ∙ ap (λ (x : Maps). after store_meaning c x (record { author = 0; seq = length h; op = op } ∷ [])) follows.maps
-        ∙ sym (after_append store_meaning c (opening_maps c.shapes) h (record { author = 0; seq = length h; op = op } ∷ [])) in
+        ap (update_line (length h)) (effect_here op m o u) ∙ ap₂ (λ (p : ℕ) (x : Outcome). update_text p x.reply x.steps) (sym at) (sym u.outcome) in
         on_ok r (new ≡ old ++ update_text place o.reply o.steps) (IsTaken c (performed c h op program.mode) m old new)
         (λ w. subst (λ x. IsTaken c (performed c h op x) m old new) (sym mode)
-        (rw room (record { written = w ∙ ap (λ t. old ++ t) (sym text); placed = record { count = omega (arith, grown, count, size); maps = left } }))) wrote
+        (rw room (record { written = w ∙ ap (λ t. old ++ t) (sym text); placed = updated_follows op m o u }))) wrote

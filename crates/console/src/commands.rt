@@ -3,9 +3,11 @@
 mod assembling;
 mod checking;
 mod disassembling;
+mod replaying;
 mod running;
 
 pub use assembling::assemble;
 pub use checking::check;
 pub use disassembling::disassemble;
+pub use replaying::replay;
 pub use running::run;

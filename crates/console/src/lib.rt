@@ -10,6 +10,7 @@ mod input;
 mod inputs;
 mod laws;
 mod node;
+mod replay_texts;
 mod replaying;
 mod report;
 mod run_texts;
@@ -20,7 +21,7 @@ mod texts;
 mod transcripts;
 mod transfer;
 
-pub use commands::{assemble, check, disassemble, run};
+pub use commands::{assemble, check, disassemble, replay, run};
 pub use folder::Folder;
 pub use laws::run_lines_are_runs;
 pub use status::Status;

@@ -95,7 +95,7 @@ impl Replaying {
         requires length { length call.now.call.argument.items ≡ found.program.now.arg_len }
         requires mode { (found.program.now.mode ≡ Read) × (found.program.now.shapes ≡ catalogue.now.shapes) }
         ensures steady { IsSteady catalogue.now self.new.node }
-        ensures compared { (at : Replayed) (op : TheOperation) → op ≡ record { program = found.number; argument = call.now.call.argument.items }
+        ensures compared { (at : Replayed) (op : TheOperation) → op ≡ record { program = found.entry.number; argument = call.now.call.argument.items }
             → HasReplayed catalogue.now at self.old
             → IsCompared catalogue.now (read_agrees catalogue.now at.history op call.now.place call.now.reply) (record at { reads = next_count at.reads }) result self.new }
     {

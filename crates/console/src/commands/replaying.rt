@@ -1,0 +1,110 @@
+// The command `replay`.
+
+ghost use Rattle.std.specs.Prelude.{◌≡◌, IfOk, IfSome, MatchResult};
+ghost use Rattle.loader.specs.Loading.{Outcome};
+ghost use Rattle.text.specs.Lines.{lines_of};
+ghost use Rattle.console.specs.Answer.{not_text};
+ghost use Rattle.console.specs.ReplayAnswer.{transcript_answer, nothing_replayed, replayed, replay_answer, IsReplayAnswer};
+ghost use Rattle.console.specs.Report.{answer_of, Reports, ReportsSome};
+ghost use Rattle.console.specs.Input.{FailsAs};
+ghost use Rattle.console.specs.Loaded.{LoadedIs};
+
+use crate::catalogues::Loaded;
+use crate::folder::Folder;
+use crate::input::InputFault;
+use crate::inputs::read_inputs;
+use crate::replay_texts::{bad_line, differs_text, good_text};
+use crate::replaying::{LineVerdict, Replaying};
+use crate::report::{Reply, report};
+use crate::status::{Status, Verdict};
+use loader::Catalogue;
+use std::alloc::{AllocError, Global};
+use std::io::{Read, Write};
+use text::NumberedLines;
+
+// What a catalogue's programs answer to a transcript.
+fn transcript_reply(
+    alloc: Global,
+    catalogue: &Catalogue,
+    transcript: &str,
+) -> Result<Reply, AllocError>
+    ensures { IfOk result (λ r. answer_of r ≡ transcript_answer catalogue.now 1 nothing_replayed (lines_of transcript.now)) }
+{
+    let mut replaying = Replaying::open(alloc, catalogue)?;
+    let mut lines = NumberedLines::new(transcript);
+    while let Some((number, line)) = lines.take_line() {
+        match replaying.take_line(catalogue, line) {
+            LineVerdict::Agrees => {}
+            LineVerdict::Bad => {
+                return Ok(Reply {
+                    text: bad_line(alloc, number)?,
+                    verdict: Verdict::Refused,
+                });
+            }
+            LineVerdict::Differs => {
+                return Ok(Reply {
+                    text: differs_text(alloc, number)?,
+                    verdict: Verdict::Differs,
+                });
+            }
+        }
+    }
+    Ok(Reply {
+        text: good_text(
+            alloc,
+            replaying.node.tail(),
+            replaying.reads,
+            replaying.ended,
+        )?,
+        verdict: Verdict::Good,
+    })
+}
+
+// What a manifest that was loaded and a transcript get.
+fn loaded_reply(alloc: Global, loaded: Loaded, transcript: &str) -> Result<Reply, AllocError>
+    ensures { IfOk result (λ r. (outcome : Outcome) → LoadedIs outcome loaded → answer_of r ≡ replayed outcome transcript.now) }
+{
+    match loaded {
+        Loaded::Catalogue(catalogue) => transcript_reply(alloc, &catalogue, transcript),
+        Loaded::Refused(reply) => Ok(reply),
+    }
+}
+
+// What `replay` has to write.
+fn prepare<F: Folder, R: Read, S: Read>(
+    alloc: Global,
+    folder: &F,
+    manifest: &mut R,
+    transcript: &mut S,
+) -> Result<Reply, InputFault>
+    ensures known { IfSome (R.remaining manifest.old) (λ m. IfSome (F.holds folder.now) (λ h. IfSome (S.remaining transcript.old) (λ s. MatchResult result
+        (λ r. answer_of r ≡ replay_answer m h s) (λ e. FailsAs e (replay_answer m h s ≡ not_text))))) }
+    ensures some { IfOk result (λ r. IsReplayAnswer (answer_of r)) }
+{
+    let inputs = read_inputs(alloc, folder, manifest, transcript)?;
+    Ok(loaded_reply(alloc, inputs.loaded, inputs.text.as_str())?)
+}
+
+/// Replays a transcript on one replica with the maps and the programs of a manifest: the updates in the order of their
+/// places, and each read after the updates before its point.
+///
+/// Writes `good UPDATES READS ENDED`, the numbers of the lines of each kind, where each update has the next place and each
+/// read the number of updates before it as its point, and each reply is what the program replies there. Else it writes one
+/// line for the first line that is not so: `line N bad` where it is no line of a transcript or names no program of its mode
+/// with an argument of its length, and otherwise `line N differs`. A refused manifest writes only its refusal. Says how it
+/// ended. Each file is read whole before anything is written. Where a read fails, nothing is written.
+pub fn replay<F: Folder, R: Read, S: Read, W: Write>(
+    alloc: Global,
+    folder: &F,
+    manifest: &mut R,
+    transcript: &mut S,
+    writer: &mut W,
+) -> Status
+    // Where the readers and the folder tell their bytes, those are replayed.
+    ensures written { IfSome (R.remaining manifest.old) (λ m. IfSome (F.holds folder.now) (λ h. IfSome (S.remaining transcript.old) (λ s.
+        Reports (W.contents writer.old) (W.contents writer.new) result (replay_answer m h s)))) }
+    // Whatever they give, or where they fail.
+    ensures ended { ReportsSome IsReplayAnswer (W.contents writer.old) (W.contents writer.new) result }
+{
+    report(writer, prepare(alloc, folder, manifest, transcript))
+}
