@@ -6,6 +6,8 @@ mod answers;
 #[cfg(test)]
 mod assembler;
 #[cfg(test)]
+mod call_verdicts;
+#[cfg(test)]
 mod commands;
 #[cfg(test)]
 mod counter;
