@@ -11,7 +11,7 @@ use Rattle.verifier.specs.declared.signature.TheConstants.{MAX_ARG_LEN}
 use Rattle.text.specs.Words.{IsFrom, number_of, number_within, is_name}
 use Rattle.text.proofs.LineReadings.{IsSilent, by_kind_from}
 use Rattle.text.specs.declared.lines.TheConstants.{LINE_BYTES}
-use Rattle.loader.specs.Grammar.{is_path, Meaning, Comment, Map, Program, array_meaning, hash_meaning, by_kind_of_map, map_meaning, mode_of, program_meaning, words_meaning, line_meaning}
+use Rattle.loader.specs.Grammar.{is_path, Meaning, Comment, Map, Program, array_meaning, hash_meaning, map_meaning, mode_of, program_meaning, words_meaning, line_meaning}
 use Rattle.loader.specs.Spelling.{mode_word, Spells}
 use Rattle.text.proofs.Numerals.{numerals_are_decimals}
 use Rattle.text.proofs.Cuts.{steps, where_true, split_from}
