@@ -1,5 +1,5 @@
-// Calls of the helpers that change a map (bpf-helpers(7)). The bytes of a key and of a value are read before the change: they may
-// lie in that map.
+// Calls of helpers (RFC 9669, section 4.3.1), and those that change a map (bpf-helpers(7)). The bytes of a key and of a value are
+// read before the change: they may lie in that map.
 
 ghost use Rattle.std.specs.Prelude.{◌≡◌, ◌<◌, ◌≤◌, ℕ, pos, List, take};
 ghost use Rattle.insn.specs.declared.instruction.Form.TheVariants as form;
@@ -8,12 +8,32 @@ ghost use Rattle.maps.specs.MapSets.{stored_shapes};
 ghost use Rattle.machine.specs.Accesses.{IsRead};
 ghost use Rattle.machine.specs.Executing.{Stands, Executes};
 
+use crate::executing::call_lookup;
 use crate::memory::{Base, locate, part};
 use crate::registers::Machine;
 use helpers::{delete, update};
 use insn::Edge;
 use maps::MapSet;
 use regkind::Kind;
+
+/// A call of a helper by its number. A program that calls another than these three isn't accepted.
+#[inline(always)]
+pub(crate) fn call_helper(
+    machine: &mut Machine,
+    maps: &mut MapSet,
+    argument: &[u8],
+    kinds: &[Kind; 11],
+    id: i32,
+) -> Option<Edge>
+    requires told { Stands (form.Call id) kinds.now machine.old maps.old argument.now }
+    ensures executes { Executes (form.Call id) kinds.now machine.old maps.old argument.now machine.new maps.new result }
+{
+    match id {
+        1 => call_lookup(machine, maps, argument, kinds),
+        2 => call_update(machine, maps, argument, kinds),
+        _ => call_delete(machine, maps, argument, kinds),
+    }
+}
 
 /// A copy of so many bytes at a pointer, in an array that has room for a value.
 fn fetch(
@@ -35,8 +55,9 @@ fn fetch(
     copy
 }
 
-/// A call of bpf_map_update_elem (4.3.1).
-pub(crate) fn call_update(
+/// A call of bpf_map_update_elem.
+#[inline(never)]
+fn call_update(
     machine: &mut Machine,
     maps: &mut MapSet,
     argument: &[u8],
@@ -68,8 +89,9 @@ pub(crate) fn call_update(
     Some(Edge::Fall)
 }
 
-/// A call of bpf_map_delete_elem (4.3.1).
-pub(crate) fn call_delete(
+/// A call of bpf_map_delete_elem.
+#[inline(never)]
+fn call_delete(
     machine: &mut Machine,
     maps: &mut MapSet,
     argument: &[u8],

@@ -7,7 +7,7 @@ use Rattle.maps.specs.Shapes.{key_size, value_size}
 use Rattle.machine.proofs.Looking.{same_map}
 use Rattle.machine.proofs.Changing.{OthersAreKept}
 use Rattle.machine.proofs.Altering.{shape_ok, updates, update_key_told, update_value_told, updated_leads}
-use Rattle.machine.proofs.changes.call_update.Goals as goal
+use Rattle.machine.proofs.calls.call_update.Goals as goal
 
 pub unreachable-requires : goal.unreachable-requires
 unreachable-requires c =

@@ -1,6 +1,6 @@
 use Rattle.std.proofs.Common.{◌≡◌, ℕ, List, ◌++◌, length, take, refl, sym, ap, ◌∙◌, subst}
 use Rattle.std.proofs.Math.Seq.{take-append_seam}
-use Rattle.machine.proofs.changes.fetch.Goals as goal
+use Rattle.machine.proofs.calls.fetch.Goals as goal
 
 -- what is copied to the begin is what the first bytes are
 copied_first : (n : ℕ) (xs ys bs : List ℕ) → length xs ≡ n → xs ≡ bs → take n (xs ++ ys) ≡ bs

@@ -3,7 +3,7 @@ use Rattle.std.proofs.lemmas.Grind.{common_steps}
 use Rattle.machine.proofs.Looking.{same_map}
 use Rattle.machine.proofs.Changing.{OthersAreKept}
 use Rattle.machine.proofs.Altering.{shape_ok, delete_key_told, deleted_leads}
-use Rattle.machine.proofs.changes.call_delete.Goals as goal
+use Rattle.machine.proofs.calls.call_delete.Goals as goal
 
 pub fetch-key-requires-clause-told : goal.fetch-key-requires-clause-told
 fetch-key-requires-clause-told c =
