@@ -1,24 +1,15 @@
-//! The worked examples, over all crates. There is no code here but tests: their expected values are the requirement's own.
+//! The public calls, from outside, of what no text can say: readers and writers that fail, frames, maps, and values as Rust has them.
+//! There is no code here but tests: their expected values are the requirement's own. Texts and their answers are in crates/command_rows.
 #![tactic(auto)]
 
 #[cfg(test)]
-mod answers;
-#[cfg(test)]
-mod assembler;
-#[cfg(test)]
-mod call_verdicts;
-#[cfg(test)]
 mod commands;
-#[cfg(test)]
-mod counter;
 #[cfg(test)]
 mod frames;
 #[cfg(test)]
 mod helper_answers;
 #[cfg(test)]
 mod instructions;
-#[cfg(test)]
-mod machine_rows;
 #[cfg(test)]
 mod manifests;
 #[cfg(test)]

@@ -1,7 +1,6 @@
-//! Which shapes maps may have, how refusals read, and maps as they are opened, written and copied.
+//! Which shapes maps may have, and maps as they are opened, written and copied.
 
 use maps::{MapError, MapSet, Shape, ShapeFault, shapes_ok};
-use std::test::Fail;
 
 const SMALL: Shape = Shape::Array {
     value: 8,
@@ -88,32 +87,6 @@ fn counts_keys(rt: HostRuntime) {
         ],
         [Ok(()), Err(ShapeFault::TooManyBytes)]
     );
-}
-
-#[test]
-fn tells_each_error(rt: HostRuntime) -> Result<(), Fail> {
-    for (error, number, text) in [
-        (
-            MapError::Refused(ShapeFault::NoMapOrTooMany),
-            1,
-            "M1: there is no map, or there are more than 16",
-        ),
-        (
-            MapError::Refused(ShapeFault::SizeOutOfLimits),
-            2,
-            "M2: a key has not 1 to 64 bytes, a value not 1 to 256 or a map not 1 to 65536 entries",
-        ),
-        (
-            MapError::Refused(ShapeFault::TooManyBytes),
-            3,
-            "M3: the maps have more than 16777216 bytes together",
-        ),
-        (MapError::NoMemory, 4, "M4: memory ran out"),
-    ] {
-        let shown = format!(in rt.alloc(); "{error}")?;
-        assert_eq!(rt; (error.number(), shown.as_str()), (number, text));
-    }
-    Ok(())
 }
 
 #[test]

@@ -1,9 +1,13 @@
+-- To be believed: the canonical text of a program, and the numbers of refusals.
+pub mod Text
 pub mod Refusal
+-- How a text is read, rule by rule: what `assemble` promises. That these are the intended rules is shown by the rows of
+-- crates/command_rows, and that they read the canonical text back by the law.
 pub mod Words
 pub mod Tokens
 pub mod Operands
 pub mod Labels
 pub mod Forms
 pub mod Assembled
-pub mod Text
+-- Laws: what text and programs are to one another.
 pub mod Laws

@@ -23,7 +23,7 @@ pub(crate) enum Line<'a> {
 }
 
 // The instruction's slot, and the line, that a label names and stands on.
-#[derive(Clone, Copy, PartialEq, Eq, Debug)]
+#[derive(Clone, Copy)]
 pub(crate) struct Mark {
     pub slot: u64,
     pub line: u32,

@@ -10,21 +10,21 @@ use crate::tokens::{Stop, split};
 use std::str;
 
 // A second operand, as it is written.
-#[derive(Clone, Copy, PartialEq, Eq, Debug)]
+#[derive(Clone, Copy)]
 pub(crate) enum Written {
     Reg(u8),
     Number(i128),
 }
 
 // A base register, and how far from it.
-#[derive(Clone, Copy, PartialEq, Eq, Debug)]
+#[derive(Clone, Copy)]
 pub(crate) struct Address {
     pub base: u8,
     pub off: i128,
 }
 
 // Where a jump goes: so many slots on, or to a label.
-#[derive(Clone, Copy, PartialEq, Eq, Debug)]
+#[derive(Clone, Copy)]
 pub(crate) enum Target<'a> {
     By(i128),
     Label(&'a [u8]),

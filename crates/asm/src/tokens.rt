@@ -6,7 +6,7 @@ ghost use Rattle.asm.specs.Tokens.{is_blank, stops, before, rest_from, operand_o
 use crate::refusals::AsmFault;
 
 // What ends a part of a text.
-#[derive(Clone, Copy, PartialEq, Eq, Debug)]
+#[derive(Clone, Copy)]
 pub(crate) enum Stop {
     LineFeed,
     Semicolon,

@@ -7,7 +7,7 @@ ghost use Rattle.asm.specs.Words.{meaning_in, meaning_of, word_of, operand_count
 use insn::{Condition, Operation, Order, Size};
 
 // What a word says of an instruction: all but its operands.
-#[derive(Clone, Copy, PartialEq, Eq, Debug)]
+#[derive(Clone, Copy, PartialEq, Eq)]
 pub(crate) enum Mnemonic {
     // Whether it works on 64 bits, and the operation.
     Alu(bool, Operation),

@@ -1,14 +1,17 @@
-pub mod Transfer
+-- To be believed: what each command answers and writes, how it ends, and what was written where a read or a write fails.
 pub mod Files
 pub mod Script
-pub mod ScriptShown
 pub mod Texts
 pub mod Status
 pub mod Answer
 pub mod RunAnswer
+pub mod AsmAnswer
+pub mod Report
+pub mod Transfer
+-- Laws: each line that a run writes for a call is a run of its program.
+pub mod RunLines
+-- Scaffolding: the steps between reading and writing; clauses of private functions alone cite these.
+pub mod ScriptShown
 pub mod Running
 pub mod Input
-pub mod Report
 pub mod Loaded
-pub mod AsmAnswer
-pub mod RunLines

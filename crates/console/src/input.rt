@@ -13,7 +13,7 @@ use std::alloc::{AllocError, AllocFailed, Global};
 use std::io::Read;
 
 // Why there is no answer to what was read.
-#[derive(Clone, Copy, Debug, PartialEq, Eq)]
+#[derive(Clone, Copy)]
 pub(crate) enum InputFault {
     NoMemory,
     CannotRead,

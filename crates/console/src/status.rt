@@ -19,7 +19,7 @@ pub enum Status {
 }
 
 // Whether what was read is good.
-#[derive(Clone, Copy, Debug, PartialEq, Eq)]
+#[derive(Clone, Copy)]
 pub(crate) enum Verdict {
     Good,
     Refused,

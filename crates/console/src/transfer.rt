@@ -8,11 +8,11 @@ use std::alloc::Global;
 use std::io::{Read, Write};
 
 // A write failed, or took no byte.
-#[derive(Clone, Copy, Debug, PartialEq, Eq)]
+#[derive(Clone, Copy)]
 pub(crate) struct CannotWrite;
 
 // Why a file was not read.
-#[derive(Clone, Copy, Debug, PartialEq, Eq)]
+#[derive(Clone, Copy)]
 pub(crate) enum ReadFault {
     NoMemory,
     CannotRead,

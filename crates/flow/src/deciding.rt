@@ -84,7 +84,7 @@ fn check_each(program: &[Insn], end: usize) -> Result<(), Broken>
     for insn in program {
         let form = insn.form();
         let next = slot + insn.slot_count();
-        if let Some(rule) = broken_rule(form, slot, next, end, &halves, reached.contains(slot)) {
+        if let Some(rule) = broken_rule(form, slot, end, &halves, reached.contains(slot)) {
             return Err(broken(slot, rule));
         }
         insert_targets(&mut reached, form, slot, next);
@@ -93,16 +93,14 @@ fn check_each(program: &[Insn], end: usize) -> Result<(), Broken>
     Ok(())
 }
 
-// The first rule that the instruction at this slot breaks; the next one stands at `next`.
+// The first rule that the instruction at this slot breaks.
 fn broken_rule(
     form: Form,
     slot: usize,
-    next: usize,
     end: usize,
     halves: &SlotSet,
     is_reached: bool,
 ) -> Option<StructureRule>
-    requires next { next ≡ slot + slot_count form }
     requires within { slot < end }
     requires few { end ≤ MAX_SLOTS }
     ensures { result ≡ first_rule end (has_slot halves.now) is_reached form slot }
@@ -110,7 +108,7 @@ fn broken_rule(
     if let Some(rule) = broken_by_jump(form, slot, end, halves) {
         return Some(rule);
     }
-    if runs_off(form, next, end) {
+    if runs_off(form, slot, end) {
         return Some(StructureRule::RunsOffTheEnd);
     }
     if !is_reached {
@@ -120,10 +118,11 @@ fn broken_rule(
 }
 
 // Whether the next instruction follows it, and there is none.
-fn runs_off(form: Form, next: usize, end: usize) -> bool
-    ensures { result ≡ (falls_through form && nat_eq next end) }
+fn runs_off(form: Form, slot: usize, end: usize) -> bool
+    requires { slot < MAX_SLOTS }
+    ensures { result ≡ (falls_through form && nat_eq (slot + slot_count form) end) }
 {
-    form.falls_through() && next == end
+    form.falls_through() && slot + form.slot_count() == end
 }
 
 // The first rule that its jump breaks.

@@ -61,7 +61,9 @@ swap_form f = option_and_then (λ order. option_map (λ bits. Swap order bits f.
 -- RFC 9669, section 4.1: an arithmetic operation with this code; MOV from a register with an offset extends a sign
 abbrev pub operation_form : Bool → ℕ → Fields → Option Form
 operation_form w64 code f =
-    if code == 11 && f.opcode / 8 % 2 == 1 && not (int_eq f.offset (pos 0)) then option_map (λ bits. MovSx w64 bits f.dst f.src) (bits_of f.offset) else option_map (λ op. Alu w64 op f.dst (operand f)) (operation_of code f.offset)
+    if code == 11 && f.opcode / 8 % 2 == 1 && not (int_eq f.offset (pos 0))
+    then option_map (λ bits. MovSx w64 bits f.dst f.src) (bits_of f.offset)
+    else option_map (λ op. Alu w64 op f.dst (operand f)) (operation_of code f.offset)
 
 -- RFC 9669, sections 4.1 and 4.2: classes ALU and ALU64, where code 8 is NEG and 13 a swap
 abbrev pub arithmetic_form : Bool → ℕ → Fields → Option Form
@@ -71,7 +73,10 @@ arithmetic_form w64 code f =
 -- RFC 9669, section 4.3: classes JMP and JMP32, where code 0 is JA, 8 is CALL and 9 is EXIT
 abbrev pub jump_form : Bool → ℕ → Fields → Option Form
 jump_form w64 code f =
-    if code == 0 then Some (if w64 then Ja false f.offset else Ja true f.imm) else (if code == 8 then Some (Call f.imm) else (if code == 9 then Some Exit else option_map (λ cond. Branch w64 cond f.dst (operand f) f.offset) (condition_of code)))
+    if code == 0 then Some (if w64 then Ja false f.offset else Ja true f.imm)
+    else (if code == 8 then Some (Call f.imm)
+    else (if code == 9 then Some Exit
+    else option_map (λ cond. Branch w64 cond f.dst (operand f) f.offset) (condition_of code)))
 
 -- RFC 9669, sections 5.1 and 5.2: class LDX, in mode MEM or in mode MEMSX, which is 4
 abbrev pub load_form : Fields → Option Form
@@ -84,7 +89,14 @@ store_form src f = option_map (λ size. Store size f.dst f.offset src) (size_of 
 -- RFC 9669, section 3.3: LDX is class 1, ST 2, STX 3, ALU 4, JMP 5, JMP32 6, ALU64 7
 abbrev pub class_form : ℕ → Fields → Option Form
 class_form class f =
-    if class == 1 then load_form f else (if class == 2 then store_form (Imm f.imm) f else (if class == 3 then store_form (Reg f.src) f else (if class == 4 then arithmetic_form false (f.opcode / 16) f else (if class == 5 then jump_form true (f.opcode / 16) f else (if class == 6 then jump_form false (f.opcode / 16) f else (if class == 7 then arithmetic_form true (f.opcode / 16) f else None))))))
+    if class == 1 then load_form f
+    else (if class == 2 then store_form (Imm f.imm) f
+    else (if class == 3 then store_form (Reg f.src) f
+    else (if class == 4 then arithmetic_form false (f.opcode / 16) f
+    else (if class == 5 then jump_form true (f.opcode / 16) f
+    else (if class == 6 then jump_form false (f.opcode / 16) f
+    else (if class == 7 then arithmetic_form true (f.opcode / 16) f
+    else None))))))
 
 -- ---- whole instructions
 

@@ -1,8 +1,11 @@
+-- To be believed: which bytes an instruction has, where it stands and leads, and what is refused first.
 pub mod Encoding
-pub mod Flat
+pub mod Layout
 pub mod Sizes
 pub mod Moves
-pub mod Layout
 pub mod Table
 pub mod Refusal
+-- The same as a function, which two laws tie to those: the crates above cite it.
 pub mod Decoded
+-- Scaffolding: how an instruction lies in memory. A law says that forms lie there one for one; no promise stands on more of it.
+pub mod Flat

@@ -8,7 +8,7 @@ use crate::decoding::DecodeFault;
 use crate::instruction::Fields;
 
 /// What may stand in a field of a slot.
-#[derive(Clone, Copy, PartialEq, Eq, Debug)]
+#[derive(Clone, Copy, PartialEq, Eq)]
 pub(crate) enum Use {
     /// Zero, since the field is not in use.
     Unused,
@@ -29,7 +29,7 @@ pub(crate) enum Use {
 }
 
 /// What may stand in the fields of a slot behind its opcode.
-#[derive(Clone, Copy, PartialEq, Eq, Debug)]
+#[derive(Clone, Copy)]
 pub(crate) struct Uses {
     pub dst: Use,
     pub src: Use,

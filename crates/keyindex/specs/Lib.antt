@@ -1,5 +1,5 @@
--- what the public contracts say
+-- To be believed: where a key stands, for each call.
 pub mod Places
--- scaffolding of the proofs: no public contract cites these
+-- Scaffolding: the index as a tree, and the way through it; no public clause cites these.
 pub mod Indexes
 pub mod Walks

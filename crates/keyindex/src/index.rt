@@ -39,7 +39,7 @@ pub struct KeyIndex {
 }
 
 /// A key was taken from `place`. Where `from` is another place, the key that was there is at `place` now.
-#[derive(Clone, Copy, Debug, PartialEq, Eq)]
+#[derive(Clone, Copy)]
 pub struct Removed {
     /// Where the key stood.
     pub place: u32,

@@ -1,10 +1,14 @@
-pub mod NamedFiles
+-- To be believed: the lines of a manifest and what each means, what a program file spells, what a catalogue is and a manifest offers, and
+-- the numbers of refusals.
 pub mod Grammar
-pub mod Spelling
-pub mod LineShown
+pub mod NamedFiles
 pub mod CatalogueView
 pub mod ProgramFiles
-pub mod Loading
 pub mod Offers
 pub mod Refusal
+-- The same as functions, line by line, which laws tie to those: the crates above cite them.
+pub mod Loading
+pub mod Spelling
+-- Scaffolding: what is kept of the lines before the one that is read; clauses of private functions alone cite these.
+pub mod LineShown
 pub mod PartialView

@@ -12,7 +12,7 @@ use text::NAME_BYTES;
 use verifier::Accepted;
 
 // An accepted program and its name.
-#[derive(Debug, Drop)]
+#[derive(Drop)]
 pub(crate) struct NamedProgram {
     name: ArrayString<{ NAME_BYTES }>,
     program: Accepted,
@@ -48,7 +48,7 @@ impl NamedProgram {
 
 /// The maps of a store, and the accepted programs that it offers, numbered from 0 in the
 /// manifest's order. Names are distinct, and there are at most 256 programs.
-#[derive(Debug, Drop)]
+#[derive(Drop)]
 pub struct Catalogue {
     shapes: Vec<Shape>,
     programs: Vec<NamedProgram>,
@@ -81,7 +81,7 @@ impl Catalogue {
         self.programs.len()
     }
 
-    /// The number of the program of this name.
+    /// The number of the program of this name. It looks at the names one after another, 256 at most.
     pub fn number(&self, name: &str) -> Option<u16>
         ensures number { result ≡ number_named self.now.programs name.now }
     {

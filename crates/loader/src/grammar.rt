@@ -10,7 +10,7 @@ use text::{LineKind, is_name, kind_of, number_within, split_at_space};
 use verifier::{MAX_ARG_LEN, Mode};
 
 // A program: its name, mode, argument length and file.
-#[derive(Clone, Copy, Debug, PartialEq, Eq)]
+#[derive(Clone, Copy)]
 pub(crate) struct ProgramLine<'a> {
     pub name: &'a str,
     pub mode: Mode,
@@ -19,7 +19,7 @@ pub(crate) struct ProgramLine<'a> {
 }
 
 // What a line means.
-#[derive(Clone, Copy, Debug, PartialEq, Eq)]
+#[derive(Clone, Copy)]
 pub(crate) enum Line<'a> {
     Comment,
     Map(Shape),

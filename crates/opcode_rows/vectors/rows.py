@@ -1,5 +1,6 @@
 # Expected values from the tables of RFC 9669 on Python's whole numbers; nothing of this repository is used.
 import struct
+import edges
 M64=(1<<64)-1
 def slot(op,dst=0,src=0,off=0,imm=0):
     return (bytes([op,src<<4|dst])+struct.pack('<h',off)+struct.pack('<i',imm if imm<1<<31 else imm-(1<<32))).hex()
@@ -116,6 +117,24 @@ for t,r,n in P:
         # ldxw r0, [r1+0]; jeq32 r0, 7, +1; mov32 r0, 1; exit: the argument's first word is 0x048302f1
         t=' '.join(t[i:i+16] for i in range(0,len(t),16)); r,n=1,4
     rows.append(('ROWS',t,r,n))
+# the edges of both widths, in registers
+CODES=dict(Add=0,Sub=1,Mul=2,Div=3,Sdiv=3,Or=4,And=5,Lsh=6,Rsh=7,Mod=9,Smod=9,Xor=10,Mov=11,Arsh=12)
+TESTS=dict(Jeq=1,Jgt=2,Jge=3,Jset=4,Jne=5,Jsgt=6,Jsge=7,Jlt=10,Jle=11,Jslt=12,Jsle=13)
+for w,alu_class,test_class in ((64,7,5),(32,4,6)):
+    for op in edges.OPERATIONS:
+        for a,b,r in edges.operation_rows(w,op):
+            row('EDGE',lddw(0,a)+lddw(3,b)+[slot(16*CODES[op]+8+alu_class,0,3,1 if op in ('Sdiv','Smod') else 0),EXIT],r,4)
+    for a,b,held in edges.condition_rows(w):
+        for condition,t in zip(edges.CONDITIONS,held):
+            row('EDGE',lddw(3,a)+lddw(4,b)+mov(0,1)+[slot(16*TESTS[condition]+8+test_class,3,4,1)]+mov(0,0)+[EXIT],1 if t else 0,5 if t else 6)
+for n in edges.WORDS:
+    for w,bits in ((64,8),(64,16),(64,32),(32,8),(32,16)):
+        row('EDGE',lddw(3,n)+[slot(0xbf if w==64 else 0xbc,0,3,bits),EXIT],edges.extended(w,bits,n),3)
+    for op,order in ((0xd4,'le'),(0xdc,'be'),(0xd7,'be')):
+        for bits in (16,32,64):
+            row('EDGE',lddw(0,n)+[slot(op,0,0,0,bits),EXIT],edges.swap(order,bits,n),3)
+    for op,w in ((0x87,64),(0x84,32)):
+        row('EDGE',lddw(0,n)+[slot(op),EXIT],edges.negated(w,n),3)
 assert len(seen) == 117
 # `rows.py programs` writes the file stdin, `rows.py replies` the file stdout
 import sys

@@ -97,7 +97,7 @@ module _ {C M : Type 0} (E : Meaning C M) where
     reaches_on = s.reaches_on;
   }
 
-  pub stays : (p i : ℕ) (x : StoreValue M) (l : Progress C) (n : SessionNote) (ns : List SessionNote) → Accounts E l ns → AgreesWith E p l ns x → SingleMoves E p i x l n l n
-  stays p i (TheLog x) l n ns w a = (a.0, record { config = refl; catalogue = refl; completed = refl; appends = inl (refl, refl) })
-  stays p i (TheReplica x) l n ns w a = (refl, refl)
-  stays p i (TheDesk x) l n ns w a = (refl, refl)
+  pub stays : (p i : ℕ) (x : StoreValue M) (l : Progress C) (n : SessionNote) (ns : List SessionNote) → AgreesWith E p l ns x → SingleMoves E p i x l n l n
+  stays p i (TheLog x) l n ns a = (a.0, record { config = refl; catalogue = refl; completed = refl; appends = inl (refl, refl) })
+  stays p i (TheReplica x) l n ns a = (refl, refl)
+  stays p i (TheDesk x) l n ns a = (refl, refl)

@@ -15,7 +15,11 @@ use Rattle.oplog.specs.Sessions.{IsSessionOf, session}
 use Rattle.progress.specs.Accounts.{Accounts, HasNoRecord, IsInBatch, IsNoted, IsPlacedIn, IsRequest, IsAllowed}
 use Rattle.progress.specs.Agreement.{AgreesWith, Answers, DeskAgrees, IsUnclaimed, StageAgrees}
 use Rattle.progress.specs.Moves.{Claims, Collects, DeskMove, LogMove, Moves, Posts, Replies, placed_from, record_of}
-use Rattle.progress.specs.Values.{Answer, Answered, DeskValue, SlotValue, StoreValue, TheDesk, TheLog, TheReplica}
+use Rattle.combiner.specs.Desks.{DeskView}
+use Rattle.combiner.specs.declared.slots.Slot.{Slot}
+use Rattle.combiner.specs.declared.slots.Stage.TheVariants.{Answered}
+use Rattle.combiner.specs.declared.slots.Reply.{Reply}
+use Rattle.progress.specs.Values.{StoreValue, TheDesk, TheLog, TheReplica}
 use Rattle.progress.specs.declared.sessions.AnsweredUpdate.{AnsweredUpdate}
 use Rattle.progress.specs.declared.sessions.Claim.{Claim}
 use Rattle.progress.specs.declared.sessions.Pending.{Pending}
@@ -124,8 +128,8 @@ module _ {C M : Type 0} (E : Meaning C M) where
       m.appends
 
   -- what a desk tells of a slot that is answered
-  pub collected : (l : Progress C) (ns : List SessionNote) (c : ℕ) (n : SessionNote) → Accounts E l ns → At c n ns → (x : DeskValue) → DeskAgrees E l ns x
-      → (s : ℕ) (slot : SlotValue) (o : Pending) (reply : Answer) → c ≡ session l.config x.node s → At s slot x.slots → slot.stage ≡ Answered reply → n.pending ≡ Some o → Answers E l c (length n.answered) o.op reply × IsUnclaimed ns c
+  pub collected : (l : Progress C) (ns : List SessionNote) (c : ℕ) (n : SessionNote) → Accounts E l ns → At c n ns → (x : DeskView) → DeskAgrees E l ns x
+      → (s : ℕ) (slot : Slot) (o : Pending) (reply : Reply) → c ≡ session l.config x.node s → At s slot x.slots → slot.stage ≡ Answered reply → n.pending ≡ Some o → Answers E l c (length n.answered) o.op reply × IsUnclaimed ns c
   collected l ns c n w here x desk s slot o reply is at stage asked =
       let told = desk.each s slot at in
       let there : At c told.0 ns = subst (λ z. At z told.0 ns) (sym is) told.1 in
@@ -134,7 +138,7 @@ module _ {C M : Type 0} (E : Meaning C M) where
       let one : st.0 ≡ o = some_one st.0 o (sym st.1 ∙ asked) in
       (subst (λ (z : Pending). Answers E l c (length n.answered) z.op reply) one st.2, st.3)
 
-  desk_accounts : (l : Progress C) (ns : List SessionNote) (c : ℕ) (n n' : SessionNote) (x : DeskValue) → Accounts E l ns → At c n ns → DeskAgrees E l ns x → IsSessionOf l.config x.node c → DeskMove E x c l n n' → Accounts E l (set ns c n')
+  desk_accounts : (l : Progress C) (ns : List SessionNote) (c : ℕ) (n n' : SessionNote) (x : DeskView) → Accounts E l ns → At c n ns → DeskAgrees E l ns x → IsSessionOf l.config x.node c → DeskMove E x c l n n' → Accounts E l (set ns c n')
   desk_accounts l ns c n n' x w here desk mine (Posts o idle may seen e) = subst (λ z. Accounts E l (set ns c z)) (sym e) (post_accounts E l ns c n w here o idle may seen)
   desk_accounts l ns c n n' x w here desk mine (Claims empty e) = subst (λ z. Accounts E l (set ns c z)) (sym e) (claim_accounts E l ns c n w here x desk mine empty)
   desk_accounts l ns c n n' x w here desk mine (Replies e) = subst (λ z. Accounts E l (set ns c z)) (sym e) (reply_accounts E l ns c n w here)

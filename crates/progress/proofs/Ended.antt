@@ -12,7 +12,8 @@ use Rattle.progress.proofs.Lists.{at_below, at_none, at_one}
 use Rattle.progress.proofs.Moved.{some_none}
 use Rattle.progress.specs.Agreement.{Answers}
 use Rattle.progress.specs.Told.{DeskTells, Ends, Tells, numbered, records_of}
-use Rattle.progress.specs.Values.{Answer, Ended, PlacedAt}
+use Rattle.combiner.specs.declared.slots.Reply.{Reply}
+use Rattle.combiner.specs.declared.slots.Reply.TheVariants.{Ended, Placed}
 use Rattle.progress.specs.declared.sessions.AnsweredUpdate.{AnsweredUpdate}
 use Rattle.progress.specs.declared.sessions.Pending.{Pending}
 use Rattle.progress.specs.declared.sessions.SessionNote.{SessionNote}
@@ -118,8 +119,8 @@ module _ {C M : Type 0} (E : Meaning C M) where
           ⊎_elim (λ h. let b = at_below n.answered (length n.answered) _ (subst (λ (z : SessionNote). At (length n.answered) (record { place = i; op = o.op }) z.answered) same h) in absurd (omega (arith, b)))
           (λ h. subst (λ (z : Pending). z.seen ≤ i) (some_one h.0 o (sym h.1 ∙ (ap (λ (z : SessionNote). z.pending) same ∙ asked))) h.4) t.2
 
-      tell : (r : Answer) → Answers E l c (length n.answered) o.op r → Tells E l c (length n.answered) o r
-      tell (PlacedAt i reply) h = (seen i h.1, h.0, h.1, h.2)
+      tell : (r : Reply) → Answers E l c (length n.answered) o.op r → Tells E l c (length n.answered) o r
+      tell (Placed i reply) h = (seen i h.1, h.0, h.1, h.2)
       tell Ended h = h
 
   pub ends : Ends E

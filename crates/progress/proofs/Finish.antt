@@ -1,29 +1,27 @@
 -- The puts of the log and of replicas, the completed tail, and what a store opens with.
-use Rattle.std.proofs.Common.{replicate, ◌≡◌, ℕ, zero, suc, ◌+◌, ◌*◌, ◌<◌, ◌≤◌, List, [], ◌∷◌, ◌++◌, map, length, take, drop, sym, refl, ap, ◌∙◌, subst, inr, arith, length-append}
+use Rattle.std.proofs.Common.{replicate, ◌≡◌, ℕ, zero, suc, ◌+◌, ◌*◌, ◌<◌, ◌≤◌, map, length, take, sym, refl, ap, ◌∙◌, subst, arith, length-append}
 use mathlib.Core.Option.{some-injective}
 use Rattle.std.proofs.lemmas.List.{length-replicate}
 use Rattle.oplog.specs.History.{Meaning, maps_after}
-use Rattle.oplog.specs.declared.configuration.Config.{Config}
 use Rattle.ownlock.specs.Seats.{At}
 use Rattle.progress.proofs.Lists.{at_none}
 use Rattle.progress.proofs.Moved.{some_none}
 use Rattle.progress.proofs.Parts.{maps_front}
+use Rattle.progress.proofs.StoreRules.{batch_appends}
+use Rattle.progress.proofs.Tellings.{log_after}
 use Rattle.oplog.specs.Sessions.{session}
 use Rattle.progress.specs.Accounts.{Extends, IsInBatch}
 use Rattle.progress.specs.Agreement.{StageAgrees}
-use Rattle.progress.specs.LogSteps.{LogPuts, Opens, ReplicaPuts, empty_slot, first_progress, fresh_note}
-use Rattle.progress.specs.Moves.{placed_from, record_of}
-use Rattle.progress.specs.Values.{SlotValue}
+use Rattle.progress.specs.LogSteps.{LogPuts, Opens, ReplicaPuts, first_progress, fresh_note}
+use Rattle.progress.specs.Moves.{record_of}
+use Rattle.combiner.specs.declared.slots.Slot.{Slot}
 use Rattle.progress.specs.declared.sessions.Claim.{Claim}
 use Rattle.progress.specs.declared.sessions.Progress.{Progress}
 use Rattle.progress.specs.declared.sessions.SessionNote.{SessionNote}
+use Rattle.combiner.specs.Slots.{slot}
+use Rattle.combiner.specs.declared.slots.Stage.TheVariants.{Empty}
 
 module _ {A : Type 0} where
-  pub drop_front : (k : ℕ) (xs ys : List A) → k ≤ length xs → drop k (xs ++ ys) ≡ drop k xs ++ ys
-  drop_front zero xs ys h = refl
-  drop_front (suc k) [] ys h = absurd (omega arith)
-  drop_front (suc k) (x ∷ xs) ys h = drop_front k xs ys (omega arith)
-
   at_replicate : (n i : ℕ) (a b : A) → At i b (replicate n a) → (b ≡ a) × (i < n)
   at_replicate zero i a b h = absurd (at_none i b h)
   at_replicate (suc n) zero a b h = (sym (some-injective a b h), omega arith)
@@ -39,28 +37,7 @@ module _ {C M : Type 0} (E : Meaning C M) where
   grown_long a b g = let long = ap length g.history.1 ∙ length-append a.history g.history.0 in omega (arith, long)
 
   pub log_puts : LogPuts E
-  log_puts known l n x y k grown same a s = (
-    record {
-      config = refl;
-      catalogue = refl;
-      completed = refl;
-      appends = inr (record {
-        count = k;
-        unplaced = s.unplaced;
-        within = s.count;
-        history = refl;
-        limit = subst (λ (z : Config). length (l.history ++ map record_of (take k n.batch)) ≤ z.limit) grown.config (subst (λ h. length (h ++ map record_of (take k n.batch)) ≤ known.config.limit) same s.limit);
-        note = ap (λ h. record n { batch = placed_from (length h) k n.batch }) same;
-      });
-    },
-    record {
-      done = let low = s.done in let up = grown.completed in omega (arith, low, up);
-      base = s.base;
-      base_maps = s.base_maps ∙ (ap (λ z. maps_after E z known.history y.base) grown.catalogue
-          ∙ (ap (λ h. maps_after E l.catalogue h y.base) same ∙ sym (maps_front E l.catalogue l.history (map record_of (take k n.batch)) y.base (subst (λ h. y.base ≤ length h) same s.below))));
-      records = s.records ∙ (ap (λ h. drop y.base h ++ map record_of (take k n.batch)) same ∙ sym (drop_front y.base l.history (map record_of (take k n.batch)) (subst (λ h. y.base ≤ length h) same s.below)));
-    },
-  )
+  log_puts known l n x y k grown same a s = ((batch_appends E known 0 n x y k s l x grown same).1, log_after E known l (map record_of (take k n.batch)) y grown same s.log)
 
   pub replica_puts : ReplicaPuts E
   replica_puts known l y low grown a = record {
@@ -90,13 +67,13 @@ module _ {C M : Type 0} (E : Meaning C M) where
     record { done = omega arith; base = omega arith; base_maps = refl; records = refl },
     record { tail = omega arith; maps = refl },
     (λ node fits. record {
-      slots = length-replicate config.slots empty_slot;
+      slots = length-replicate config.slots (slot Empty 0);
       combiner = 0;
-      each = λ s slot at. let t = at_replicate config.slots s empty_slot slot at in let lt = t.1 in (
+      each = λ s one at. let t = at_replicate config.slots s (slot Empty 0) one at in let lt = t.1 in (
         fresh_note,
         replicate_at count (session config node s) fresh_note (inside (node * config.slots) s lt fits),
-        ap (λ (z : SlotValue). z.count) t.0,
-        subst (λ (z : SlotValue). StageAgrees E (first_progress config c) (replicate count fresh_note) 0 (session config node s) fresh_note z.stage) (sym t.0) refl,
+        ap (λ (z : Slot). z.count) t.0,
+        subst (λ (z : Slot). StageAgrees E (first_progress config c) (replicate count fresh_note) 0 (session config node s) fresh_note z.stage) (sym t.0) refl,
       );
     }),
   )

@@ -4,12 +4,15 @@ pub mod Keeps
 pub mod Moved
 pub mod Appended
 pub mod Others
+pub mod Desks
 pub mod Puts
-pub mod Finish
 pub mod Ended
 pub mod Kept
 pub mod Seen
 pub mod Alone
-pub mod AlonePuts
+pub mod StoreRules
+pub mod Tellings
+pub mod Finish
+pub mod Putting
 pub mod StoreLaws
 pub mod Picked

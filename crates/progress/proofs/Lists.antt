@@ -1,8 +1,10 @@
 -- Lists by their places, and numbers by node and slot.
-use Rattle.std.proofs.Common.{◌≡◌, ℕ, zero, suc, ◌+◌, ◌*◌, ◌<◌, ◌≤◌, ◌⊎◌, List, [], ◌∷◌, ◌++◌, length, take, sym, refl, ap, ◌∙◌, subst, inl, inr, ⊎_elim, arith, mul-le-mul_right, suc-mul}
+use Rattle.std.proofs.Common.{◌≡◌, ℕ, zero, suc, ◌+◌, ◌*◌, ◌<◌, ◌≤◌, ◌⊎◌, List, [], ◌∷◌, ◌++◌, length, take, drop, sym, refl, ap, ◌∙◌, subst, inl, inr, ⊎_elim, arith, mul-le-mul_right, suc-mul, Some, slice_get}
 use Rattle.std.proofs.lemmas.Bool.{cases_lt}
 use mathlib.Core.Option.{some-injective, some-ne-none}
 use Rattle.ownlock.specs.Seats.{At}
+use mathlib.Core.Option as kernel
+use Rattle.std.proofs.lemmas.Option.{none-some, same_Some}
 
 zero_plus : (j : ℕ) → j ≡ 0 + j
 zero_plus j = omega arith
@@ -27,6 +29,11 @@ module _ {A : Type 0} where
   take_front (suc t) [] ys h = absurd (omega arith)
   take_front (suc t) (x ∷ xs) ys h = ap (λ l. x ∷ l) (take_front t xs ys (omega arith))
 
+  pub drop_front : (k : ℕ) (xs ys : List A) → k ≤ length xs → drop k (xs ++ ys) ≡ drop k xs ++ ys
+  drop_front zero xs ys h = refl
+  drop_front (suc k) [] ys h = absurd (omega arith)
+  drop_front (suc k) (x ∷ xs) ys h = drop_front k xs ys (omega arith)
+
   -- an element of a joined list is of the first, or of the second
   pub at_joined : (xs ys : List A) (i : ℕ) (a : A) → At i a (xs ++ ys) → At i a xs ⊎ ((j : ℕ) × (i ≡ length xs + j) × At j a ys)
   at_joined [] ys i a e = inr (i, omega arith, e)
@@ -46,6 +53,17 @@ module _ {A : Type 0} where
   at_front_only [] ys i a h e = absurd (omega arith)
   at_front_only (x ∷ xs) ys zero a h e = e
   at_front_only (x ∷ xs) ys (suc i) a h e = at_front_only xs ys i a (omega arith) e
+
+  -- an element that is read stands at its place
+  pub at_of : (xs : List A) (i : ℕ) (a : A) → slice_get xs i ≡ Some a → At i a xs
+  at_of [] i a e = absurd (none-some a e)
+  at_of (x ∷ xs) zero a e = ap kernel.some (same_Some x a e)
+  at_of (x ∷ xs) (suc i) a e = at_of xs i a e
+
+  pub get_of : (xs : List A) (i : ℕ) (a : A) → At i a xs → slice_get xs i ≡ Some a
+  get_of [] i a e = absurd (at_none i a e)
+  get_of (x ∷ xs) zero a e = ap Some (some-injective x a e)
+  get_of (x ∷ xs) (suc i) a e = get_of xs i a e
 
 -- a node's slots stand between its first number and the next node's
 further : (x y n : ℕ) → x < y → x * n + n ≤ y * n

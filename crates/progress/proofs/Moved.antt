@@ -9,12 +9,16 @@ use Rattle.oplog.specs.declared.records.Record.{Record}
 use Rattle.ownlock.specs.Seats.{At}
 use Rattle.progress.proofs.Keeps.{Batches, IsNew, batch_changes, request_changes, some_one}
 use Rattle.progress.proofs.Lists.{at_behind, at_below, at_front, at_joined, at_none, at_one}
-use Rattle.progress.proofs.Parts.{Alike, alike_on, alike_request, batch_back, posted_back, posted_once}
+use Rattle.progress.proofs.Parts.{Alike, alike_on, alike_request, batch_back, posted_back, posted_once, author_is}
 use Rattle.oplog.specs.Sessions.{IsSessionOf, session}
 use Rattle.progress.specs.Accounts.{Accounts, HasNoRecord, IsInBatch, IsNoted, IsRequest, IsAllowed}
 use Rattle.progress.specs.Agreement.{Answers, DeskAgrees, IsUnclaimed, StageAgrees}
-use Rattle.progress.specs.Moves.{answered_with, posted_from}
-use Rattle.progress.specs.Values.{Answer, DeskValue, Ended, PlacedAt, Posted, Stage}
+use Rattle.progress.specs.Moves.{answered_with, unplaced}
+use Rattle.combiner.specs.Desks.{DeskView, batch_of, first_author}
+use Rattle.combiner.specs.declared.slots.Stage.{Stage}
+use Rattle.combiner.specs.declared.slots.Stage.TheVariants.{Posted}
+use Rattle.combiner.specs.declared.slots.Reply.{Reply}
+use Rattle.combiner.specs.declared.slots.Reply.TheVariants.{Ended, Placed}
 use Rattle.progress.specs.declared.sessions.AnsweredUpdate.{AnsweredUpdate}
 use Rattle.progress.specs.declared.sessions.Claim.{Claim}
 use Rattle.progress.specs.declared.sessions.Pending.{Pending}
@@ -74,10 +78,10 @@ module _ {C M : Type 0} (E : Meaning C M) where
         accounted i r at e (inr h) = absurd (some_none h.0 n.pending h.1 idle)
 
     -- the session is answered
-    pub placed_accounts : (o : Pending) (i reply : ℕ) → n.pending ≡ Some o → At i (record { author = c; seq = length n.answered; op = o.op }) l.history → IsUnclaimed ns c → Accounts E l (set ns c (answered_with n o.op (PlacedAt i reply)))
-    placed_accounts o i reply asked there free = request_changes E l l ns c n (answered_with n o.op (PlacedAt i reply)) w here refl free accounted answered (λ o2 e. absurd (some_none o2 None e refl))
+    pub placed_accounts : (o : Pending) (i reply : ℕ) → n.pending ≡ Some o → At i (record { author = c; seq = length n.answered; op = o.op }) l.history → IsUnclaimed ns c → Accounts E l (set ns c (answered_with n o.op (Placed i reply)))
+    placed_accounts o i reply asked there free = request_changes E l l ns c n (answered_with n o.op (Placed i reply)) w here refl free accounted answered (λ o2 e. absurd (some_none o2 None e refl))
       where
-        accounted : (j : ℕ) (r : Record) → At j r l.history → r.author ≡ c → IsNoted n j r → IsNoted (answered_with n o.op (PlacedAt i reply)) j r
+        accounted : (j : ℕ) (r : Record) → At j r l.history → r.author ≡ c → IsNoted n j r → IsNoted (answered_with n o.op (Placed i reply)) j r
         accounted j r at e (inl h) = inl (at_front n.answered _ r.seq _ h)
         accounted j r at e (inr h) =
             let same : h.0 ≡ o = some_one h.0 o (sym h.1 ∙ asked) in
@@ -107,14 +111,14 @@ module _ {C M : Type 0} (E : Meaning C M) where
         accounted j r at e (inl h) = inl h
         accounted j r at e (inr h) = absurd (none j r at e h.3)
 
-    pub collect_accounts : (o : Pending) (reply : Answer) → n.pending ≡ Some o → Answers E l c (length n.answered) o.op reply → IsUnclaimed ns c → Accounts E l (set ns c (answered_with n o.op reply))
-    collect_accounts o (PlacedAt i reply) asked h free = placed_accounts o i reply asked h.1 free
+    pub collect_accounts : (o : Pending) (reply : Reply) → n.pending ≡ Some o → Answers E l c (length n.answered) o.op reply → IsUnclaimed ns c → Accounts E l (set ns c (answered_with n o.op reply))
+    collect_accounts o (Placed i reply) asked h free = placed_accounts o i reply asked h.1 free
     collect_accounts o Ended asked h free = ended_accounts o asked h.1 free
 
     -- the posted requests of its desk go to the session's batch
-    module _ (x : DeskValue) (desk : DeskAgrees E l ns x) (mine : IsSessionOf l.config x.node c) (empty : n.batch ≡ []) where
+    module _ (x : DeskView) (desk : DeskAgrees E l ns x) (mine : IsSessionOf l.config x.node c) (empty : n.batch ≡ []) where
       abbrev claimed : SessionNote
-      claimed = record n { batch = posted_from l.config x.node 0 x.slots }
+      claimed = record n { batch = unplaced (batch_of x).records }
 
       -- what the desk tells of a request that is posted
       record Asked (t : Claim) : Type 0 where
@@ -129,12 +133,12 @@ module _ {C M : Type 0} (E : Meaning C M) where
       stage_tells : (m : SessionNote) (a : ℕ) (st : Stage) (op : Operation) → st ≡ Posted op → StageAgrees E l ns desk.combiner a m st → StageAgrees E l ns desk.combiner a m (Posted op)
       stage_tells m a st op e h = subst (λ z. StageAgrees E l ns desk.combiner a m z) e h
 
-      asked : (k : ℕ) (t : Claim) → At k t (posted_from l.config x.node 0 x.slots) → Asked t
+      asked : (k : ℕ) (t : Claim) → At k t (unplaced (batch_of x).records) → Asked t
       asked k t h =
-          let p = posted_back l.config x.node 0 x.slots k t h in
+          let p = posted_back (first_author x) x.slots k t h in
           let told = desk.each p.slot p.posted p.at in
           let st = stage_tells told.0 (session l.config x.node p.slot) p.posted.stage p.op p.stage told.3 in
-          let is0 = p.is ∙ ap (λ z. record { request = record { author = session l.config x.node z; seq = p.posted.count; op = p.op }; place = None }) (zero_plus p.slot) in
+          let is0 = p.is ∙ ap (λ z. record { request = record { author = z; seq = p.posted.count; op = p.op }; place = None }) (author_is l.config x p.slot desk.slots) in
           subst Asked (sym is0) (record {
             note = told.0;
             at = told.1;
@@ -144,16 +148,13 @@ module _ {C M : Type 0} (E : Meaning C M) where
             free = st.4;
             near = (p.slot, (let b = at_below x.slots p.slot p.posted p.at in let long = desk.slots in omega (arith, b, long)), refl, mine.3);
           })
-        where
-          zero_plus : (j : ℕ) → 0 + j ≡ j
-          zero_plus j = omega arith
 
-      back : (d k : ℕ) (t : Claim) → IsInBatch (set ns c claimed) d k t → ((d ≡ c) × At k t (posted_from l.config x.node 0 x.slots)) ⊎ ((d ≢ c) × IsInBatch ns d k t)
+      back : (d k : ℕ) (t : Claim) → IsInBatch (set ns c claimed) d k t → ((d ≡ c) × At k t (unplaced (batch_of x).records)) ⊎ ((d ≢ c) × IsInBatch ns d k t)
       back d k t h = batch_back ns c n claimed here d k t h
 
       claim_once : (d e k j : ℕ) (t u : Claim) → IsInBatch (set ns c claimed) d k t → IsInBatch (set ns c claimed) e j u → t.request.author ≡ u.request.author → (d ≡ e) × (k ≡ j)
       claim_once d e k j t u h g q =
-          ⊎_elim (λ a. ⊎_elim (λ b. (a.0 ∙ sym b.0, posted_once l.config x.node 0 x.slots k j t u a.1 b.1 q))
+          ⊎_elim (λ a. ⊎_elim (λ b. (a.0 ∙ sym b.0, posted_once (first_author x) x.slots k j t u a.1 b.1 q))
           (λ b. absurd ((asked k t a.1).free e j u b.1 (sym q))) (back e j u g))
           (λ a. ⊎_elim (λ b. absurd ((asked j u b.1).free d k t a.1 q)) (λ b. w.once d e k j t u a.1 b.1 q) (back e j u g))
           (back d k t h)

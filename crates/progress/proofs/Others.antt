@@ -16,7 +16,13 @@ use Rattle.oplog.specs.Sessions.{IsSessionOf, session}
 use Rattle.progress.specs.Accounts.{Accounts, Extends, HasNoRecord, IsInBatch}
 use Rattle.progress.specs.Agreement.{AgreesWith, Answers, DeskAgrees, IsClaimedBy, IsUnclaimed, ReplicaAgrees, SlotAgrees, StageAgrees, desk_place, replica_place}
 use Rattle.progress.specs.Moves.{HoldsBoth, HoldsDesk, HoldsLog, HoldsNothing, HoldsReplica, LogMove, BatchAppended, MayHold, Moves, desk_rules, placed_from, raised, record_of}
-use Rattle.progress.specs.Values.{Answer, Answered, Claimed, DeskValue, Empty, Ended, PlacedAt, Posted, ReplicaValue, SlotValue, Stage, StoreValue, TheDesk, TheLog, TheReplica}
+use Rattle.combiner.specs.Desks.{DeskView}
+use Rattle.combiner.specs.declared.slots.Slot.{Slot}
+use Rattle.combiner.specs.declared.slots.Stage.{Stage}
+use Rattle.combiner.specs.declared.slots.Stage.TheVariants.{Answered, Claimed, Empty, Posted}
+use Rattle.combiner.specs.declared.slots.Reply.{Reply}
+use Rattle.combiner.specs.declared.slots.Reply.TheVariants.{Ended, Placed}
+use Rattle.progress.specs.Values.{ReplicaValue, StoreValue, TheDesk, TheLog, TheReplica}
 use Rattle.progress.specs.declared.sessions.Claim.{Claim}
 use Rattle.progress.specs.declared.sessions.Progress.{Progress}
 use Rattle.progress.specs.declared.sessions.SessionNote.{SessionNote}
@@ -50,8 +56,8 @@ module _ {C M : Type 0} (E : Meaning C M) where
     pub claimed : IsClaimedBy ns combiner a → IsClaimedBy ns' combiner a
     pub unheard : (seq : ℕ) → IsUnclaimed ns a → HasNoRecord l.history a seq → HasNoRecord l'.history a seq
 
-  answer_stays : (l l' : Progress C) (more : List Record) → l.completed ≤ length l.history → Grown l l' more → (a seq : ℕ) (op : Operation) (reply : Answer) → (HasNoRecord l.history a seq → HasNoRecord l'.history a seq) → Answers E l a seq op reply → Answers E l' a seq op reply
-  answer_stays l l' more low g a seq op (PlacedAt i reply) none h =
+  answer_stays : (l l' : Progress C) (more : List Record) → l.completed ≤ length l.history → Grown l l' more → (a seq : ℕ) (op : Operation) (reply : Reply) → (HasNoRecord l.history a seq → HasNoRecord l'.history a seq) → Answers E l a seq op reply → Answers E l' a seq op reply
+  answer_stays l l' more low g a seq op (Placed i reply) none h =
       let lt = h.0 in let up = g.rises in
       (omega (arith, lt, up), subst (λ z. At i (record { author = a; seq = seq; op = op }) z) (sym g.history) (at_front l.history more i _ h.1), reply_stays l l' more g i op (omega (arith, lt, low)) ∙ h.2)
   answer_stays l l' more low g a seq op Ended none h =
@@ -71,10 +77,10 @@ module _ {C M : Type 0} (E : Meaning C M) where
     u.free h.3,
   )
 
-  pub slot_stays : (l l' : Progress C) (more : List Record) (ns ns' : List SessionNote) (combiner a : ℕ) (slot : SlotValue) → l.completed ≤ length l.history → Grown l l' more → Undisturbed l l' ns ns' combiner a → SlotAgrees E l ns combiner a slot → SlotAgrees E l' ns' combiner a slot
+  pub slot_stays : (l l' : Progress C) (more : List Record) (ns ns' : List SessionNote) (combiner a : ℕ) (slot : Slot) → l.completed ≤ length l.history → Grown l l' more → Undisturbed l l' ns ns' combiner a → SlotAgrees E l ns combiner a slot → SlotAgrees E l' ns' combiner a slot
   slot_stays l l' more ns ns' combiner a slot low g u t = let o = u.note t.0 t.1 in (o.0, o.1, t.2 ∙ ap length o.2.answered, stage_stays l l' more ns ns' combiner a t.0 o.0 low g u o.2 slot.stage t.3)
 
-  pub desk_stays : (l l' : Progress C) (more : List Record) (ns ns' : List SessionNote) (y : DeskValue) → l.completed ≤ length l.history → Grown l l' more → (a : DeskAgrees E l ns y)
+  pub desk_stays : (l l' : Progress C) (more : List Record) (ns ns' : List SessionNote) (y : DeskView) → l.completed ≤ length l.history → Grown l l' more → (a : DeskAgrees E l ns y)
       → ((s : ℕ) → s < l.config.slots → Undisturbed l l' ns ns' a.combiner (session l.config y.node s)) → DeskAgrees E l' ns' y
   desk_stays l l' more ns ns' y low g a u = record {
     slots = a.slots ∙ ap (λ (z : Config). z.slots) (sym g.config);

@@ -2,7 +2,7 @@
 use Rattle.std.proofs.Common.{◌≡◌, ◌≢◌, ℕ, zero, suc, ◌+◌, ◌*◌, ◌<◌, ◌≤◌, ◌⊎◌, List, [], ◌∷◌, ◌++◌, map, length, take, set, sym, refl, ap, ◌∙◌, subst, inl, inr, ⊎_elim, arith, Some, None, option_map}
 use Rattle.std.proofs.lemmas.Bool.{cases_lt}
 use mathlib.Core.Option as kernel
-use mathlib.Core.Option.{some-injective, some-ne-none}
+use mathlib.Core.Option.{some-injective}
 use Rattle.atomic_table.proofs.Lists.{at_set, set_here, set_else}
 use Rattle.oplog.specs.History.{Meaning, after, maps_after, reply_at, read_reply_at}
 use Rattle.oplog.specs.Operations.{Operation}
@@ -12,10 +12,14 @@ use Rattle.ownlock.specs.Seats.{At}
 use Rattle.progress.proofs.Lists.{at_below, at_none, at_one, take_front}
 use Rattle.oplog.specs.Sessions.{session}
 use Rattle.progress.specs.Accounts.{IsInBatch, IsNoted, IsRequest}
-use Rattle.progress.specs.Moves.{placed_from, posted_at, posted_from, record_of}
-use Rattle.progress.specs.Values.{Answered, Claimed, Empty, Posted, SlotValue, Stage}
+use Rattle.progress.specs.Moves.{placed_from, record_of, unplaced}
+use Rattle.combiner.specs.declared.slots.Slot.{Slot}
+use Rattle.combiner.specs.declared.slots.Stage.{Stage}
+use Rattle.combiner.specs.declared.slots.Stage.TheVariants.{Answered, Claimed, Empty, Posted}
 use Rattle.progress.specs.declared.sessions.Claim.{Claim}
 use Rattle.progress.specs.declared.sessions.SessionNote.{SessionNote}
+use Rattle.combiner.specs.Slots.{requested, requests_from}
+use Rattle.combiner.specs.Desks.{DeskView, first_author}
 
 module _ {C M : Type 0} (E : Meaning C M) where
   -- more records change nothing of the maps after the first k
@@ -112,18 +116,18 @@ taken_on (suc k) [] j t h lt = absurd (at_none j t h)
 taken_on (suc k) (x ∷ xs) zero t h lt = ap (λ (o : Claim). kernel.some o.request) (some-injective x t h)
 taken_on (suc k) (x ∷ xs) (suc j) t h lt = taken_on k xs j t h (omega arith)
 
--- the requests that are posted on a desk
-pub record IsPosted (config : Config) (node s : ℕ) (xs : List SlotValue) (t : Claim) : Type 0 where
+-- a request that is posted in one of these slots, the first of which is session a's
+pub record IsPosted (a : ℕ) (xs : List Slot) (t : Claim) : Type 0 where
   pub slot : ℕ
-  pub posted : SlotValue
+  pub posted : Slot
   pub op : Operation
   pub at : At slot posted xs
   pub stage : posted.stage ≡ Posted op
-  pub is : t ≡ record { request = record { author = session config node (s + slot); seq = posted.count; op = op }; place = None }
+  pub is : t ≡ record { request = record { author = a + slot; seq = posted.count; op = op }; place = None }
 
-pub posted_back : (config : Config) (node s : ℕ) (xs : List SlotValue) (k : ℕ) (t : Claim) → At k t (posted_from config node s xs) → IsPosted config node s xs t
-posted_back config node s [] k t h = absurd (at_none k t h)
-posted_back config node s (x ∷ xs) k t h = by_stage (λ k h. posted_back config node (suc s) xs k t h) x.stage refl k h
+pub posted_back : (a : ℕ) (xs : List Slot) (k : ℕ) (t : Claim) → At k t (unplaced (requests_from a xs)) → IsPosted a xs t
+posted_back a [] k t h = absurd (at_none k t h)
+posted_back a (x ∷ xs) k t h = by_stage (λ k h. posted_back (suc a) xs k t h) x.stage refl k h
   where
     plus_zero : (n : ℕ) → n ≡ n + 0
     plus_zero n = omega arith
@@ -131,42 +135,40 @@ posted_back config node s (x ∷ xs) k t h = by_stage (λ k h. posted_back confi
     moved : (n j : ℕ) → suc n + j ≡ n + suc j
     moved n j = omega arith
 
-    later : IsPosted config node (suc s) xs t → IsPosted config node s (x ∷ xs) t
-    later r =
-        record {
-          slot = suc r.slot;
-          posted = r.posted;
-          op = r.op;
-          at = r.at;
-          stage = r.stage;
-          is = r.is ∙ ap (λ z. record { request = record { author = session config node z; seq = r.posted.count; op = r.op }; place = None }) (moved s r.slot);
-        }
+    later : IsPosted (suc a) xs t → IsPosted a (x ∷ xs) t
+    later r = record {
+      slot = suc r.slot;
+      posted = r.posted;
+      op = r.op;
+      at = r.at;
+      stage = r.stage;
+      is = r.is ∙ ap (λ z. record { request = record { author = z; seq = r.posted.count; op = r.op }; place = None }) (moved a r.slot);
+    }
 
-    by_stage : ((k : ℕ) → At k t (posted_from config node (suc s) xs) → IsPosted config node (suc s) xs t) → (st : Stage) → st ≡ x.stage → (k : ℕ) → At k t (posted_at config node s x.count st (posted_from config node (suc s) xs)) → IsPosted config node s (x ∷ xs) t
+    by_stage : ((k : ℕ) → At k t (unplaced (requests_from (suc a) xs)) → IsPosted (suc a) xs t) → (st : Stage) → st ≡ x.stage → (k : ℕ) → At k t (unplaced (requested a x.count st (requests_from (suc a) xs))) → IsPosted a (x ∷ xs) t
     by_stage rest Empty e k h = later (rest k h)
     by_stage rest Claimed e k h = later (rest k h)
     by_stage rest (Answered reply) e k h = later (rest k h)
-    by_stage rest (Posted op) e zero h =
-        record {
-          slot = 0;
-          posted = x;
-          op = op;
-          at = refl;
-          stage = sym e;
-          is = sym (some-injective _ t h) ∙ ap (λ z. record { request = record { author = session config node z; seq = x.count; op = op }; place = None }) (plus_zero s);
-        }
+    by_stage rest (Posted op) e zero h = record {
+      slot = 0;
+      posted = x;
+      op = op;
+      at = refl;
+      stage = sym e;
+      is = sym (some-injective _ t h) ∙ ap (λ z. record { request = record { author = z; seq = x.count; op = op }; place = None }) (plus_zero a);
+    }
     by_stage rest (Posted op) e (suc k) h = later (rest k h)
 
 -- the requests of a desk are of different sessions
-posted_rises : (config : Config) (node s : ℕ) (xs : List SlotValue) (k j : ℕ) (t u : Claim) → At k t (posted_from config node s xs) → At j u (posted_from config node s xs) → k < j → t.request.author < u.request.author
-posted_rises config node s [] k j t u h g lt = absurd (at_none k t h)
-posted_rises config node s (x ∷ xs) k j t u h g lt = by_stage (λ k j h g lt. posted_rises config node (suc s) xs k j t u h g lt) x.stage k j h g lt
+posted_rises : (a : ℕ) (xs : List Slot) (k j : ℕ) (t u : Claim) → At k t (unplaced (requests_from a xs)) → At j u (unplaced (requests_from a xs)) → k < j → t.request.author < u.request.author
+posted_rises a [] k j t u h g lt = absurd (at_none k t h)
+posted_rises a (x ∷ xs) k j t u h g lt = by_stage (λ k j h g lt. posted_rises (suc a) xs k j t u h g lt) x.stage k j h g lt
   where
-    above : (b z : ℕ) → b + s < b + (suc s + z)
+    above : (b z : ℕ) → b < suc b + z
     above b z = omega arith
 
-    by_stage : ((k j : ℕ) → At k t (posted_from config node (suc s) xs) → At j u (posted_from config node (suc s) xs) → k < j → t.request.author < u.request.author)
-        → (st : Stage) (k j : ℕ) → At k t (posted_at config node s x.count st (posted_from config node (suc s) xs)) → At j u (posted_at config node s x.count st (posted_from config node (suc s) xs)) → k < j → t.request.author < u.request.author
+    by_stage : ((k j : ℕ) → At k t (unplaced (requests_from (suc a) xs)) → At j u (unplaced (requests_from (suc a) xs)) → k < j → t.request.author < u.request.author) → (st : Stage) (k j : ℕ)
+        → At k t (unplaced (requested a x.count st (requests_from (suc a) xs))) → At j u (unplaced (requested a x.count st (requests_from (suc a) xs))) → k < j → t.request.author < u.request.author
     by_stage later Empty k j h g lt = later k j h g lt
     by_stage later Claimed k j h g lt = later k j h g lt
     by_stage later (Answered reply) k j h g lt = later k j h g lt
@@ -174,11 +176,15 @@ posted_rises config node s (x ∷ xs) k j t u h g lt = by_stage (λ k j h g lt. 
     by_stage later (Posted op) (suc k) zero h g lt = absurd (omega arith)
     by_stage later (Posted op) (suc k) (suc j) h g lt = later k j h g (omega arith)
     by_stage later (Posted op) zero (suc j) h g lt =
-        let r = posted_back config node (suc s) xs j u g in
-        let a = ap (λ (z : Claim). z.request.author) (sym (some-injective _ t h)) in let b = ap (λ (z : Claim). z.request.author) r.is in
-        subst (λ z. z < u.request.author) (sym a) (subst (λ z. session config node s < z) (sym b) (above (node * config.slots) r.slot))
+        let r = posted_back (suc a) xs j u g in
+        let first = ap (λ (z : Claim). z.request.author) (sym (some-injective _ t h)) in let other = ap (λ (z : Claim). z.request.author) r.is in
+        subst (λ z. z < u.request.author) (sym first) (subst (λ z. a < z) (sym other) (above a r.slot))
 
-pub posted_once : (config : Config) (node s : ℕ) (xs : List SlotValue) (k j : ℕ) (t u : Claim) → At k t (posted_from config node s xs) → At j u (posted_from config node s xs) → t.request.author ≡ u.request.author → k ≡ j
-posted_once config node s xs k j t u h g e =
-    ⊎_elim (λ lt. let b = posted_rises config node s xs k j t u h g lt in absurd (omega (arith, b, e)))
-    (λ le. ⊎_elim (λ lt. let b = posted_rises config node s xs j k u t g h lt in absurd (omega (arith, b, e))) (λ le2. omega arith) (cases_lt j k)) (cases_lt k j)
+pub posted_once : (a : ℕ) (xs : List Slot) (k j : ℕ) (t u : Claim) → At k t (unplaced (requests_from a xs)) → At j u (unplaced (requests_from a xs)) → t.request.author ≡ u.request.author → k ≡ j
+posted_once a xs k j t u h g e =
+    ⊎_elim (λ lt. let b = posted_rises a xs k j t u h g lt in absurd (omega (arith, b, e)))
+    (λ le. ⊎_elim (λ lt. let b = posted_rises a xs j k u t g h lt in absurd (omega (arith, b, e))) (λ le2. omega arith) (cases_lt j k)) (cases_lt k j)
+
+-- the sessions of a desk's slots follow the first's
+pub author_is : (config : Config) (x : DeskView) (s : ℕ) → length x.slots ≡ config.slots → first_author x + s ≡ session config x.node s
+author_is config x s long = ap (λ z. x.node * z + s) long

@@ -1,5 +1,5 @@
 -- What is put back at a desk agrees.
-use Rattle.std.proofs.Common.{length-set, ◌≡◌, ◌≢◌, ℕ, zero, suc, ◌+◌, ◌*◌, ◌<◌, ◌≤◌, List, [], ◌∷◌, map, length, set, sym, refl, ap, ◌∙◌, subst, inr, ⊎_elim, arith, length-append, Some, None}
+use Rattle.std.proofs.Common.{length-set, ◌≡◌, ◌≢◌, ℕ, zero, suc, ◌+◌, ◌*◌, ◌<◌, ◌≤◌, List, [], ◌∷◌, map, length, set, sym, refl, ap, ◌∙◌, subst, inr, ⊎_elim, arith, length-append, Some, None, slice_get}
 use Rattle.std.proofs.lemmas.List.{length-map}
 use mathlib.Core.Option.{some-injective}
 use native.Mathlib.Decide.{ℕ_discrete}
@@ -13,17 +13,27 @@ use Rattle.progress.proofs.Keeps.{some_one}
 use Rattle.progress.proofs.Lists.{at_below, at_none, at_one, one_node}
 use Rattle.progress.proofs.Moved.{some_none}
 use Rattle.progress.proofs.Others.{Undisturbed, same_progress, slot_stays}
-use Rattle.progress.proofs.Parts.{Alike, alike_on, alike_self, batch_back, batch_else, batch_here, note_else, note_here, posted_back, reply_front, same_batches}
+use Rattle.progress.proofs.Parts.{Alike, alike_on, alike_self, batch_back, batch_else, batch_here, note_else, note_here, posted_back, reply_front, same_batches, author_is}
 use Rattle.oplog.specs.Sessions.{IsSessionOf, session}
 use Rattle.progress.specs.Accounts.{Accounts, Extends, HasNoRecord, IsInBatch, IsPlacedIn, IsAllowed}
-use Rattle.progress.specs.Agreement.{Answers, DeskAgrees, IsUnclaimed, SlotAgrees, StageAgrees, desk_place}
-use Rattle.progress.specs.DeskSteps.{ClaimStep, CollectStep, DeskMayPut, DeskPuts, DeskStep, Gives, PostStep, ReplyStep, claimed_slot, claimed_stage, counted, replied_slot, replied_stage}
-use Rattle.progress.specs.Moves.{Claims, Collects, DeskMove, Posts, Replies, answered_with, posted_at, posted_from}
-use Rattle.progress.specs.Values.{Answer, Answered, Claimed, DeskValue, Empty, Ended, PlacedAt, Posted, SlotValue, Stage, TheDesk}
+use Rattle.progress.specs.Agreement.{Answers, DeskAgrees, IsUnclaimed, SlotAgrees, StageAgrees, desk_place, AgreesWith}
+use Rattle.progress.specs.DeskSteps.{ClaimStep, CollectStep, DeskMayPut, DeskPuts, DeskStep, Gives, PostStep, ReplyStep}
+use Rattle.progress.specs.Moves.{Claims, Collects, DeskMove, Posts, Replies, answered_with, record_of, unplaced, Moves}
+use Rattle.combiner.specs.Desks.{DeskView, BatchView, answer_for, answered_from, batch_of, claimed, first_author, replied}
+use Rattle.combiner.specs.declared.slots.Slot.{Slot}
+use Rattle.combiner.specs.declared.slots.Stage.{Stage}
+use Rattle.combiner.specs.declared.slots.Stage.TheVariants.{Answered, Claimed, Empty, Posted}
+use Rattle.combiner.specs.declared.slots.Reply.{Reply}
+use Rattle.combiner.specs.declared.slots.Reply.TheVariants.{Ended, Placed}
+use Rattle.progress.specs.Values.{TheDesk, StoreValue}
 use Rattle.progress.specs.declared.sessions.Claim.{Claim}
 use Rattle.progress.specs.declared.sessions.Pending.{Pending}
 use Rattle.progress.specs.declared.sessions.Progress.{Progress}
 use Rattle.progress.specs.declared.sessions.SessionNote.{SessionNote}
+use mathlib.Core.Option as kernel
+use Rattle.combiner.specs.Slots.{answered_stage, claimed_slot, claimed_stage, counted, with_answer}
+use Rattle.progress.proofs.Desks.{answer_is, answered_at, answered_long, collected_is, none_claimed, posted_is, posted_on}
+use Rattle.progress.specs.Putting.{SeenDeskMayPut}
 
 abbrev IsStage : Stage → Stage → Type 0
 IsStage Empty Empty = Unit {0}
@@ -42,26 +52,10 @@ at_mapped f [] i b h = absurd (at_none i b h)
 at_mapped f (x ∷ xs) zero b h = (x, refl, sym (some-injective (f x) b h))
 at_mapped f (x ∷ xs) (suc i) b h = at_mapped f xs i b h
 
--- a posted slot's request is among those that are claimed
-posted_on : (config : Config) (node s : ℕ) (xs : List SlotValue) (j : ℕ) (slot : SlotValue) (op : Operation) → At j slot xs → slot.stage ≡ Posted op → (k : ℕ) × (t : Claim) × At k t (posted_from config node s xs) × (t.request.author ≡ session config node (s + j))
-posted_on config node s [] j slot op h e = absurd (at_none j slot h)
-posted_on config node s (x ∷ xs) zero slot op h e =
-    subst (λ st. (k : ℕ) × (t : Claim) × At k t (posted_at config node s x.count st (posted_from config node (suc s) xs)) × (t.request.author ≡ session config node (s + 0))) (sym (ap (λ (z : SlotValue). z.stage) (some-injective x slot h) ∙ e))
-    (0, record { request = record { author = session config node s; seq = x.count; op = op }; place = None }, refl, ap (λ z. session config node z) (plus_zero s))
-  where
-    plus_zero : (n : ℕ) → n ≡ n + 0
-    plus_zero n = omega arith
-posted_on config node s (x ∷ xs) (suc j) slot op h e = by_stage x.stage (posted_on config node (suc s) xs j slot op h e)
-  where
-    moved : (n j : ℕ) → suc n + j ≡ n + suc j
-    moved n j = omega arith
-
-    by_stage : (st : Stage) → ((k : ℕ) × (t : Claim) × At k t (posted_from config node (suc s) xs) × (t.request.author ≡ session config node (suc s + j)))
-        → (k : ℕ) × (t : Claim) × At k t (posted_at config node s x.count st (posted_from config node (suc s) xs)) × (t.request.author ≡ session config node (s + suc j))
-    by_stage Empty r = (r.0, r.1, r.2, r.3 ∙ ap (λ z. session config node z) (moved s j))
-    by_stage Claimed r = (r.0, r.1, r.2, r.3 ∙ ap (λ z. session config node z) (moved s j))
-    by_stage (Answered reply) r = (r.0, r.1, r.2, r.3 ∙ ap (λ z. session config node z) (moved s j))
-    by_stage (Posted op2) r = (suc r.0, r.1, r.2, r.3 ∙ ap (λ z. session config node z) (moved s j))
+at_map : {A B : Type 0} (f : A → B) (xs : List A) (i : ℕ) (a : A) → At i a xs → At i (f a) (map f xs)
+at_map f [] i a h = absurd (at_none i a h)
+at_map f (x ∷ xs) zero a h = ap (λ z. kernel.some (f z)) (some-injective x a h)
+at_map f (x ∷ xs) (suc i) a h = at_map f xs i a h
 
 one_slot : (config : Config) (node s t : ℕ) → session config node s ≡ session config node t → s ≡ t
 one_slot config node s t e = cancel (node * config.slots) e
@@ -70,9 +64,9 @@ one_slot config node s t e = cancel (node * config.slots) e
     cancel b e = omega (arith, e)
 
 module _ {C M : Type 0} (E : Meaning C M) where
-  module _ (l : Progress C) (ns : List SessionNote) (c : ℕ) (n n' : SessionNote) (w : Accounts E l ns) (here : At c n ns) (x : DeskValue) (desk : DeskAgrees E l ns x) where
+  module _ (l : Progress C) (ns : List SessionNote) (c : ℕ) (n n' : SessionNote) (w : Accounts E l ns) (here : At c n ns) (x : DeskView) (desk : DeskAgrees E l ns x) where
     -- a session's own slot changes, and no batch
-    own_slot : n'.batch ≡ n.batch → (s : ℕ) (slot : SlotValue) → c ≡ session l.config x.node s → SlotAgrees E l (set ns c n') desk.combiner c slot → DeskAgrees E l (set ns c n') (record { node = x.node; slots = set x.slots s slot })
+    own_slot : n'.batch ≡ n.batch → (s : ℕ) (slot : Slot) → c ≡ session l.config x.node s → SlotAgrees E l (set ns c n') desk.combiner c slot → DeskAgrees E l (set ns c n') (record { node = x.node; slots = set x.slots s slot })
     own_slot batch s slot mine agrees = record {
       slots = length-set x.slots s slot ∙ desk.slots;
       combiner = desk.combiner;
@@ -98,8 +92,8 @@ module _ {C M : Type 0} (E : Meaning C M) where
     free_now batch free d k u h = free d k u (same_batches ns c n n' here batch d k u h)
 
   module _ (known l : Progress C) (ns : List SessionNote) (c : ℕ) (n : SessionNote) (low : known.completed ≤ length known.history) (grown : Extends known l) (w : Accounts E l ns) (here : At c n ns)
-      (x : DeskValue) (mine : IsSessionOf l.config x.node c) (desk : DeskAgrees E l ns x) where
-    told : (s : ℕ) (slot : SlotValue) → c ≡ session l.config x.node s → At s slot x.slots → (slot.count ≡ length n.answered) × StageAgrees E l ns desk.combiner c n slot.stage
+      (x : DeskView) (mine : IsSessionOf l.config x.node c) (desk : DeskAgrees E l ns x) where
+    told : (s : ℕ) (slot : Slot) → c ≡ session l.config x.node s → At s slot x.slots → (slot.count ≡ length n.answered) × StageAgrees E l ns desk.combiner c n slot.stage
     told s slot is at =
         let t = desk.each s slot at in
         let same : t.0 ≡ n = at_one ns c t.0 n (subst (λ z. At z t.0 ns) (sym is) t.1) here in
@@ -108,7 +102,7 @@ module _ {C M : Type 0} (E : Meaning C M) where
     own : (s : ℕ) → c ≡ session known.config x.node s → c ≡ session l.config x.node s
     own s e = e ∙ ap (λ z. session z x.node s) grown.config
 
-    post_puts : (s : ℕ) (slot : SlotValue) (op : Operation) → c ≡ session known.config x.node s → At s slot x.slots → slot.stage ≡ Empty → IsAllowed E known.catalogue op → (n' : SessionNote) → n' ≡ record n { pending = Some (record { op = op; seen = length known.history }) }
+    post_puts : (s : ℕ) (slot : Slot) (op : Operation) → c ≡ session known.config x.node s → At s slot x.slots → slot.stage ≡ Empty → IsAllowed E known.catalogue op → (n' : SessionNote) → n' ≡ record n { pending = Some (record { op = op; seen = length known.history }) }
         → DeskMove E x c l n n' × DeskAgrees E l (set ns c n') (record { node = x.node; slots = set x.slots s (record { stage = Posted op; count = slot.count }) })
     post_puts s slot op is at empty may n' e = (
       Posts asked idle (subst (λ z. IsAllowed E z op) grown.catalogue may) seen e,
@@ -151,7 +145,7 @@ module _ {C M : Type 0} (E : Meaning C M) where
             let same : r.0 ≡ n = at_one ns c r.0 n (subst (λ z. At z r.0 ns) e r.1) here in
             some_none r.2.0 r.0.pending r.2.1 (ap (λ (z : SessionNote). z.pending) same ∙ idle)
 
-    collect_puts : (s : ℕ) (slot : SlotValue) (o : Pending) (reply : Answer) → c ≡ session known.config x.node s → At s slot x.slots → slot.stage ≡ Answered reply → n.pending ≡ Some o → (n' : SessionNote) → n' ≡ answered_with n o.op reply
+    collect_puts : (s : ℕ) (slot : Slot) (o : Pending) (reply : Reply) → c ≡ session known.config x.node s → At s slot x.slots → slot.stage ≡ Answered reply → n.pending ≡ Some o → (n' : SessionNote) → n' ≡ answered_with n o.op reply
         → DeskMove E x c l n n' × DeskAgrees E l (set ns c n') (record { node = x.node; slots = set x.slots s (record { stage = Empty; count = counted reply slot.count }) })
     collect_puts s slot o reply is at stage asked n' e = (
       Collects s slot o reply (own s is) at stage asked e,
@@ -159,52 +153,45 @@ module _ {C M : Type 0} (E : Meaning C M) where
           (n', note_here ns c n n' here, count reply ∙ ap (λ (z : SessionNote). length z.answered) (sym e), ap (λ (z : SessionNote). z.pending) e ∙ none reply),
     )
       where
-        batch : (r : Answer) → (answered_with n o.op r).batch ≡ n.batch
-        batch (PlacedAt i r) = refl
+        batch : (r : Reply) → (answered_with n o.op r).batch ≡ n.batch
+        batch (Placed i r) = refl
         batch Ended = refl
 
-        none : (r : Answer) → (answered_with n o.op r).pending ≡ None
-        none (PlacedAt i r) = refl
+        none : (r : Reply) → (answered_with n o.op r).pending ≡ None
+        none (Placed i r) = refl
         none Ended = refl
 
         one_more : (a b c : ℕ) → a ≡ b → c ≡ b + 1 → suc a ≡ c
         one_more a b c e f = omega (arith, e, f)
 
-        count : (r : Answer) → counted r slot.count ≡ length (answered_with n o.op r).answered
-        count (PlacedAt i r) = one_more slot.count (length n.answered) _ (told s slot (own s is) at).0 (length-append n.answered (record { place = i; op = o.op } ∷ []))
+        count : (r : Reply) → counted r slot.count ≡ length (answered_with n o.op r).answered
+        count (Placed i r) = one_more slot.count (length n.answered) _ (told s slot (own s is) at).0 (length-append n.answered (record { place = i; op = o.op } ∷ []))
         count Ended = (told s slot (own s is) at).0
 
-    claim_puts : ((s : ℕ) (slot : SlotValue) → At s slot x.slots → slot.stage ≢ Claimed) → n.batch ≡ [] → (n' : SessionNote) → n' ≡ record n { batch = posted_from known.config x.node 0 x.slots }
-        → DeskMove E x c l n n' × DeskAgrees E l (set ns c n') (record { node = x.node; slots = map claimed_slot x.slots })
-    claim_puts idle empty n' e = (Claims empty e', record { slots = length-map x.slots claimed_slot ∙ desk.slots; combiner = c; each = each })
+    claim_puts : ((s : ℕ) (slot : Slot) → At s slot x.slots → slot.stage ≢ Claimed) → n.batch ≡ [] → (n' : SessionNote) → n' ≡ record n { batch = unplaced (batch_of x).records } → DeskMove E x c l n n' × DeskAgrees E l (set ns c n') (claimed x)
+    claim_puts idle empty n' e = (Claims empty e, record { slots = length-map x.slots claimed_slot ∙ desk.slots; combiner = c; each = each })
       where
-        e' : n' ≡ record n { batch = posted_from l.config x.node 0 x.slots }
-        e' = e ∙ ap (λ z. record n { batch = posted_from z x.node 0 x.slots }) grown.config
-
         like : Alike n n'
         like = record { answered = ap (λ (z : SessionNote). z.answered) (sym e); pending = ap (λ (z : SessionNote). z.pending) (sym e) }
 
-        zero_plus : (j : ℕ) → 0 + j ≡ j
-        zero_plus j = omega arith
-
-        free : (s : ℕ) (slot : SlotValue) (reply : Answer) → At s slot x.slots → slot.stage ≡ Answered reply → IsUnclaimed ns (session l.config x.node s) → IsUnclaimed (set ns c n') (session l.config x.node s)
+        free : (s : ℕ) (slot : Slot) (reply : Reply) → At s slot x.slots → slot.stage ≡ Answered reply → IsUnclaimed ns (session l.config x.node s) → IsUnclaimed (set ns c n') (session l.config x.node s)
         free s slot reply at st old d k u h q = ⊎_elim
-            (λ b. let p = posted_back l.config x.node 0 x.slots k u (subst (λ (z : SessionNote). At k u z.batch) e' b.1) in
-            let same : p.slot ≡ s = one_slot l.config x.node p.slot s (ap (λ z. session l.config x.node z) (sym (zero_plus p.slot)) ∙ (ap (λ (z : Claim). z.request.author) (sym p.is) ∙ q)) in
+            (λ b. let p = posted_back (first_author x) x.slots k u (subst (λ (z : SessionNote). At k u z.batch) e b.1) in
+            let same : p.slot ≡ s = one_slot l.config x.node p.slot s (sym (author_is l.config x p.slot desk.slots) ∙ (ap (λ (z : Claim). z.request.author) (sym p.is) ∙ q)) in
             let one : p.posted ≡ slot = at_one x.slots s p.posted slot (subst (λ z. At z p.posted x.slots) same p.at) at in
-            subst (λ z. IsStage (Posted p.op) z) (sym p.stage ∙ (ap (λ (z : SlotValue). z.stage) one ∙ st)) tt)
+            subst (λ z. IsStage (Posted p.op) z) (sym p.stage ∙ (ap (λ (z : Slot). z.stage) one ∙ st)) tt)
             (λ b. old d k u b.1 q) (batch_back ns c n n' here d k u h)
 
-        stage : (s : ℕ) (slot : SlotValue) (m o : SessionNote) → At s slot x.slots → Alike m o → (st : Stage) → slot.stage ≡ st → StageAgrees E l ns desk.combiner (session l.config x.node s) m st → StageAgrees E l (set ns c n') c (session l.config x.node s) o (claimed_stage st)
+        stage : (s : ℕ) (slot : Slot) (m o : SessionNote) → At s slot x.slots → Alike m o → (st : Stage) → slot.stage ≡ st → StageAgrees E l ns desk.combiner (session l.config x.node s) m st → StageAgrees E l (set ns c n') c (session l.config x.node s) o (claimed_stage st)
         stage s slot m o at same_as Empty is h = sym same_as.pending ∙ h
         stage s slot m o at same_as (Posted op) is h =
-            let p = posted_on l.config x.node 0 x.slots s slot op at is in
-            (h.0, sym same_as.pending ∙ h.1, (p.0, p.1, batch_here ns c n n' here p.0 p.1 (subst (λ (z : SessionNote). At p.0 p.1 z.batch) (sym e') p.2), p.3 ∙ ap (λ z. session l.config x.node z) (zero_plus s)))
+            let p = posted_on (first_author x) x.slots s slot op at is in
+            (h.0, sym same_as.pending ∙ h.1, (p.0, p.1, batch_here ns c n n' here p.0 p.1 (subst (λ (z : SessionNote). At p.0 p.1 z.batch) (sym e) p.2), p.3 ∙ author_is l.config x s desk.slots))
         stage s slot m o at same_as Claimed is h = absurd (idle s slot at is)
         stage s slot m o at same_as (Answered reply) is h =
             (h.0, sym same_as.pending ∙ h.1, subst (λ us. Answers E l (session l.config x.node s) us h.0.op reply) (ap length same_as.answered) h.2, free s slot reply at is h.3)
 
-        each : (s : ℕ) (slot : SlotValue) → At s slot (map claimed_slot x.slots) → SlotAgrees E l (set ns c n') c (session l.config x.node s) slot
+        each : (s : ℕ) (slot : Slot) → At s slot (map claimed_slot x.slots) → SlotAgrees E l (set ns c n') c (session l.config x.node s) slot
         each s slot at =
             let b = at_mapped claimed_slot x.slots s slot at in
             let t = desk.each s b.0 b.1 in
@@ -228,7 +215,7 @@ module _ {C M : Type 0} (E : Meaning C M) where
         is : t.request.author ≡ session l.config x.node mate.2.0
         is = mate.2.2 ∙ ap (λ z. session l.config z mate.2.0) same_node
 
-        slot : (a : SlotValue) × At mate.2.0 a x.slots
+        slot : (a : Slot) × At mate.2.0 a x.slots
         slot = at_there x.slots mate.2.0 (let lt = mate.2.1 in let long = desk.slots in omega (arith, lt, long))
 
         there : SlotAgrees E l ns desk.combiner (session l.config x.node mate.2.0) slot.0
@@ -243,10 +230,9 @@ module _ {C M : Type 0} (E : Meaning C M) where
         by_stage (Answered reply) h = absurd (h.3 c k t (n, here, at) is)
         by_stage Claimed h = (w.once desk.combiner c h.2.0 k h.2.1 t h.2.2 (n, here, at) (h.2.3 ∙ sym is)).0
 
-    reply_puts : (answer : ℕ → Answer) (k : ℕ) (t : Claim) → At k t n.batch → ((k : ℕ) (t : Claim) → At k t n.batch → Gives E known t (answer t.request.author)) → (n' : SessionNote) → n' ≡ record n { batch = [] } → (y : DeskValue)
-        → y.node ≡ x.node → length y.slots ≡ length x.slots → ((s : ℕ) (slot : SlotValue) → At s slot x.slots → At s (replied_slot (answer (session known.config x.node s)) slot) y.slots)
-        → DeskMove E x c l n n' × DeskAgrees E l (set ns c n') y
-    reply_puts answer k0 t0 first gives n' e y node long now = (Replies e, record { slots = long ∙ desk.slots; combiner = c; each = each })
+    reply_puts : (b : BatchView) (k : ℕ) (t : Claim) → At k t n.batch → b.records ≡ map record_of n.batch → ((k : ℕ) (t : Claim) → At k t n.batch → (reply : Reply) × (slice_get b.answers k ≡ Some (Some reply)) × Gives E known t reply)
+        → (n' : SessionNote) → n' ≡ record n { batch = [] } → DeskMove E x c l n n' × DeskAgrees E l (set ns c n') (replied b x)
+    reply_puts b k0 t0 first records gives n' e = (Replies e, record { slots = answered_long (first_author x) b x.slots ∙ desk.slots; combiner = c; each = each })
       where
         like : Alike n n'
         like = record { answered = ap (λ (z : SessionNote). z.answered) (sym e); pending = ap (λ (z : SessionNote). z.pending) (sym e) }
@@ -254,8 +240,8 @@ module _ {C M : Type 0} (E : Meaning C M) where
         back : (d k : ℕ) (u : Claim) → IsInBatch (set ns c n') d k u → (d ≢ c) × IsInBatch ns d k u
         back d k u h = ⊎_elim (λ b. absurd (at_none k u (subst (λ (z : SessionNote). At k u z.batch) e b.1))) (λ b. b) (batch_back ns c n n' here d k u h)
 
-        answers : (a : ℕ) (u : Claim) (o : Pending) (seq : ℕ) (r : Answer) → u.request ≡ record { author = a; seq = seq; op = o.op } → IsPlacedIn l.history u → Gives E known u r → Answers E l a seq o.op r
-        answers a u o seq (PlacedAt i r) is p g =
+        answers : (a : ℕ) (u : Claim) (o : Pending) (seq : ℕ) (r : Reply) → u.request ≡ record { author = a; seq = seq; op = o.op } → IsPlacedIn l.history u → Gives E known u r → Answers E l a seq o.op r
+        answers a u o seq (Placed i r) is p g =
             let up = grown.completed in let lt = g.1 in (
               omega (arith, up, lt),
               subst (λ z. At i z l.history) is (p.0 i g.0),
@@ -266,8 +252,16 @@ module _ {C M : Type 0} (E : Meaning C M) where
             let up = grown.completed in let at = g.1 in let same = ap (λ (z : Config). z.limit) grown.config in let top = w.limit in let end = w.completed in
             (omega (arith, up, at, same, top, end), subst (λ (z : Record). HasNoRecord l.history z.author z.seq) is (p.1 g.0))
 
+        -- the answer to a request of slot s
+        found : (s k : ℕ) (u : Claim) (at : At k u n.batch) → u.request.author ≡ session l.config x.node s → answer_for (first_author x + s) b.records b.answers ≡ Some (gives k u at).0
+        found s k u at is = answer_is (first_author x + s) b.records b.answers k u.request (gives k u at).0 (subst (λ z. At k u.request z) (sym records) (at_map record_of n.batch k u at))
+            (is ∙ sym (author_is l.config x s desk.slots)) (gives k u at).1
+            (λ j q there e.
+            let v = at_mapped record_of n.batch j q (subst (λ z. At j q z) records there) in
+            (w.once c c j k v.0 u (n, here, v.1) (n, here, at) (ap (λ (z : Record). z.author) (sym v.2) ∙ (e ∙ (author_is l.config x s desk.slots ∙ sym is)))).1)
+
         stage : (s : ℕ) (m o : SessionNote) → At (session l.config x.node s) m ns → Alike m o → (st : Stage) → StageAgrees E l ns desk.combiner (session l.config x.node s) m st
-            → StageAgrees E l (set ns c n') c (session l.config x.node s) o (replied_stage (answer (session known.config x.node s)) st)
+            → StageAgrees E l (set ns c n') c (session l.config x.node s) o (answered_stage (answer_for (first_author x + s) b.records b.answers) st)
         stage s m o there same_as Empty h = sym same_as.pending ∙ h
         stage s m o there same_as (Posted op) h = (h.0, sym same_as.pending ∙ h.1, h.2, subst (λ us. HasNoRecord l.history (session l.config x.node s) us) (ap length same_as.answered) h.3, (λ d k u g. h.4 d k u (back d k u g).1))
         stage s m o there same_as (Answered reply) h = (h.0, sym same_as.pending ∙ h.1, subst (λ us. Answers E l (session l.config x.node s) us h.0.op reply) (ap length same_as.answered) h.2, (λ d k u g. h.3 d k u (back d k u g).1))
@@ -279,37 +273,38 @@ module _ {C M : Type 0} (E : Meaning C M) where
             let note : r.0 ≡ m = at_one ns a r.0 m (subst (λ z. At z r.0 ns) h.2.3 r.1) there in
             let asked : r.2.0 ≡ h.0 = some_one r.2.0 h.0 (sym r.2.1 ∙ (ap (λ (z : SessionNote). z.pending) note ∙ h.1)) in
             let is : h.2.1.request ≡ record { author = a; seq = length o.answered; op = h.0.op } =
-            λ k. record { author = h.2.3 k; seq = (r.2.3 ∙ (ap (λ (z : SessionNote). length z.answered) note ∙ ap length same_as.answered)) k; op = (r.2.2 ∙ ap (λ (z : Pending). z.op) asked) k } in (
+            λ k. record { author = h.2.3 k; seq = (r.2.3 ∙ (ap (λ (z : SessionNote). length z.answered) note ∙ ap length same_as.answered)) k; op = (r.2.2 ∙ ap (λ (z : Pending). z.op) asked) k } in
+            let g = gives h.2.0 h.2.1 at in
+            subst (λ z. StageAgrees E l (set ns c n') c a o (with_answer z)) (sym (found s h.2.0 h.2.1 at h.2.3)) (
               h.0,
               sym same_as.pending ∙ h.1,
-              subst (λ z. Answers E l a (length o.answered) h.0.op (answer z)) (h.2.3 ∙ ap (λ z. session z x.node s) (sym grown.config))
-                  (answers a h.2.1 h.0 (length o.answered) (answer h.2.1.request.author) is (w.placed c h.2.0 h.2.1 by) (gives h.2.0 h.2.1 at)),
+              answers a h.2.1 h.0 (length o.answered) g.0 is (w.placed c h.2.0 h.2.1 by) g.2,
               (λ d k u g q. let b = back d k u g in b.0 (w.once d c k h.2.0 u h.2.1 b.1 by (q ∙ sym h.2.3)).0),
             )
 
-        each : (s : ℕ) (slot : SlotValue) → At s slot y.slots → SlotAgrees E l (set ns c n') c (session l.config y.node s) slot
+        each : (s : ℕ) (slot : Slot) → At s slot (answered_from (first_author x) b x.slots) → SlotAgrees E l (set ns c n') c (session l.config x.node s) slot
         each s slot at =
-            let b = at_there x.slots s (let lt = at_below y.slots s slot at in omega (arith, lt, long)) in
-            let t = desk.each s b.0 b.1 in
+            let f = at_there x.slots s (let lt = at_below (answered_from (first_author x) b x.slots) s slot at in let long = answered_long (first_author x) b x.slots in omega (arith, lt, long)) in
+            let t = desk.each s f.0 f.1 in
             let o = alike_on ns c n n' here like (session l.config x.node s) t.0 t.1 (ℕ_discrete (session l.config x.node s) c) in
-            subst (λ z. SlotAgrees E l (set ns c n') c (session l.config z s) slot) (sym node)
-            (subst (λ z. SlotAgrees E l (set ns c n') c (session l.config x.node s) z) (at_one y.slots s _ slot (now s b.0 b.1) at)
-            (o.0, o.1, t.2 ∙ ap length o.2.answered, stage s t.0 o.0 t.1 o.2 b.0.stage t.3))
+            subst (λ z. SlotAgrees E l (set ns c n') c (session l.config x.node s) z) (at_one (answered_from (first_author x) b x.slots) s _ slot (answered_at (first_author x) b x.slots s f.0 f.1) at)
+            (o.0, o.1, t.2 ∙ ap length o.2.answered, stage s t.0 o.0 t.1 o.2 f.0.stage t.3)
 
   pub desk_puts : DeskPuts E
-  desk_puts known l ns c n n' x y low grown w here mine desk (PostStep s slot op is at empty may e f) =
-      let t = post_puts known l ns c n low grown w here x mine desk s slot op is at empty may n' e in (t.0, subst (λ z. DeskAgrees E l (set ns c n') z) (sym f) t.1)
+  desk_puts known l ns c n n' x y low grown w here mine desk (PostStep s op is may e f) =
+      let p = posted_is s op x y f in let t = post_puts known l ns c n low grown w here x mine desk s p.0 op is p.1 p.2 may n' e in (t.0, subst (λ z. DeskAgrees E l (set ns c n') z) (sym p.3) t.1)
   desk_puts known l ns c n n' x y low grown w here mine desk (ClaimStep idle empty e f) =
-      let t = claim_puts known l ns c n low grown w here x mine desk idle empty n' e in (t.0, subst (λ z. DeskAgrees E l (set ns c n') z) (sym f) t.1)
-  desk_puts known l ns c n n' x y low grown w here mine desk (ReplyStep answer k t first gives e node long now) = reply_puts known l ns c n low grown w here x mine desk answer k t first gives n' e y node long now
-  desk_puts known l ns c n n' x y low grown w here mine desk (CollectStep s slot o reply is at stage asked e f) =
-      let t = collect_puts known l ns c n low grown w here x mine desk s slot o reply is at stage asked n' e in (t.0, subst (λ z. DeskAgrees E l (set ns c n') z) (sym f) t.1)
+      let t = claim_puts known l ns c n low grown w here x mine desk (none_claimed x.slots idle) empty n' e in (t.0, subst (λ z. DeskAgrees E l (set ns c n') z) (sym f) t.1)
+  desk_puts known l ns c n n' x y low grown w here mine desk (ReplyStep b k t first records gives e f) =
+      let t = reply_puts known l ns c n low grown w here x mine desk b k t first records gives n' e in (t.0, subst (λ z. DeskAgrees E l (set ns c n') z) (sym f) t.1)
+  desk_puts known l ns c n n' x y low grown w here mine desk (CollectStep s o reply is asked e f) =
+      let p = collected_is s reply x y f in let t = collect_puts known l ns c n low grown w here x mine desk s p.0 o reply is p.1 p.2 asked n' e in (t.0, subst (λ z. DeskAgrees E l (set ns c n') z) (sym p.3) t.1)
 
-  same_node : (known : Progress C) (c : ℕ) (n n' : SessionNote) (x y : DeskValue) → DeskStep E known c n x n' y → x.node ≡ y.node
-  same_node known c n n' x y (PostStep s slot op is at empty may e f) = ap (λ (z : DeskValue). z.node) (sym f)
-  same_node known c n n' x y (ClaimStep idle empty e f) = ap (λ (z : DeskValue). z.node) (sym f)
-  same_node known c n n' x y (ReplyStep answer k t first gives e node long now) = sym node
-  same_node known c n n' x y (CollectStep s slot o reply is at stage asked e f) = ap (λ (z : DeskValue). z.node) (sym f)
+  same_node : (known : Progress C) (c : ℕ) (n n' : SessionNote) (x y : DeskView) → DeskStep E known c n x n' y → x.node ≡ y.node
+  same_node known c n n' x y (PostStep s op is may e f) = ap (λ (z : DeskView). z.node) (sym (posted_is s op x y f).3)
+  same_node known c n n' x y (ClaimStep idle empty e f) = ap (λ (z : DeskView). z.node) (sym f)
+  same_node known c n n' x y (ReplyStep b k t first records gives e f) = ap (λ (z : DeskView). z.node) (sym f)
+  same_node known c n n' x y (CollectStep s o reply is asked e f) = ap (λ (z : DeskView). z.node) (sym (collected_is s reply x y f).3)
 
   pub desk_may_put : DeskMayPut E
   desk_may_put k p a x y n' held low mine step = (
@@ -323,4 +318,25 @@ module _ {C M : Type 0} (E : Meaning C M) where
         let t = desk_puts k.progress line notes k.session k.note n' x y low grown may.2 may.1 own agrees.2 step in
         let node = same_node k.progress k.session k.note n' x y step in
         ((refl, inr (own, t.0)), (subst (λ z. z < line.config.nodes) node agrees.0, agrees.1 ∙ ap (λ z. desk_place line.config z) node, t.1)),
+  )
+
+module _ {C M V : Type 0} (E : Meaning C M) (view : V → StoreValue M) (IsSized : Config → C → V → Type 0) where
+  pub seen_desk_may_put : SeenDeskMayPut E view IsSized
+  seen_desk_may_put k p a v w x y n' held isx isy keeps low mine step = (
+    v,
+    a,
+    held,
+    λ line notes may.
+        let grown = may.0.0 in
+        let own : IsSessionOf line.config x.node k.session = subst (λ z. IsSessionOf z x.node k.session) grown.config mine in
+        let was = may.3 a (p, v) held in
+        let agrees = subst (λ z. AgreesWith E p line notes z) isx was.0 in
+        let t = desk_puts E k.progress line notes k.session k.note n' x y low grown may.2 may.1 own agrees.2 step in
+        let node = same_node E k.progress k.session k.note n' x y step in (
+          subst (λ z. Moves E p k.session z line k.note line n') (sym isx) (refl, inr (own, t.0)),
+          (
+            subst (λ z. AgreesWith E p line (set notes k.session n') z) (sym isy) (subst (λ z. z < line.config.nodes) node agrees.0, agrees.1 ∙ ap (λ z. desk_place line.config z) node, t.1),
+            keeps line.config line.catalogue was.1,
+          ),
+        ),
   )

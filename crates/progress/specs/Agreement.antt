@@ -9,7 +9,13 @@ use Rattle.progress.specs.declared.sessions.Progress.{Progress}
 use Rattle.progress.specs.declared.sessions.Pending.{Pending}
 use Rattle.progress.specs.declared.sessions.Claim.{Claim}
 use Rattle.progress.specs.declared.sessions.SessionNote.{SessionNote}
-use Rattle.progress.specs.Values.{LogValue, ReplicaValue, DeskValue, SlotValue, Stage, Empty, Posted, Claimed, Answered, Answer, PlacedAt, Ended, StoreValue, TheLog, TheReplica, TheDesk}
+use Rattle.combiner.specs.Desks.{DeskView}
+use Rattle.combiner.specs.declared.slots.Slot.{Slot}
+use Rattle.combiner.specs.declared.slots.Stage.{Stage}
+use Rattle.combiner.specs.declared.slots.Stage.TheVariants.{Empty, Posted, Claimed, Answered}
+use Rattle.combiner.specs.declared.slots.Reply.{Reply}
+use Rattle.combiner.specs.declared.slots.Reply.TheVariants.{Placed, Ended}
+use Rattle.progress.specs.Values.{LogValue, ReplicaValue, StoreValue, TheLog, TheReplica, TheDesk}
 use Rattle.oplog.specs.Sessions.{session}
 use Rattle.progress.specs.Accounts.{HasNoRecord, IsInBatch}
 
@@ -33,8 +39,8 @@ IsClaimedBy ns c a = (k : ℕ) × (t : Claim) × IsInBatch ns c k t × (t.reques
 
 module _ {C M : Type 0} (E : Meaning C M) where
   -- the answer is right for the request op, of that number, of session a
-  abbrev pub Answers : Progress C → ℕ → ℕ → Operation → Answer → Type 0
-  Answers l a seq op (PlacedAt i reply) = (i < l.completed) × At i (record { author = a; seq = seq; op = op }) l.history × (reply_at E l.catalogue l.history i op ≡ Some reply)
+  abbrev pub Answers : Progress C → ℕ → ℕ → Operation → Reply → Type 0
+  Answers l a seq op (Placed i reply) = (i < l.completed) × At i (record { author = a; seq = seq; op = op }) l.history × (reply_at E l.catalogue l.history i op ≡ Some reply)
   Answers l a seq op Ended = (l.completed ≡ l.config.limit) × HasNoRecord l.history a seq
 
   -- the stage of the slot of session a, whose note is n; who combines for the desk is session c
@@ -44,14 +50,14 @@ module _ {C M : Type 0} (E : Meaning C M) where
   StageAgrees l ns c a n Claimed = (o : Pending) × (n.pending ≡ Some o) × IsClaimedBy ns c a
   StageAgrees l ns c a n (Answered answer) = (o : Pending) × (n.pending ≡ Some o) × Answers l a (length n.answered) o.op answer × IsUnclaimed ns a
 
-  abbrev pub SlotAgrees : Progress C → List SessionNote → ℕ → ℕ → SlotValue → Type 0
+  abbrev pub SlotAgrees : Progress C → List SessionNote → ℕ → ℕ → Slot → Type 0
   SlotAgrees l ns c a slot = (n : SessionNote) × At a n ns × (slot.count ≡ length n.answered) × StageAgrees l ns c a n slot.stage
 
-  pub record DeskAgrees (l : Progress C) (ns : List SessionNote) (x : DeskValue) : Type 0 where
+  pub record DeskAgrees (l : Progress C) (ns : List SessionNote) (x : DeskView) : Type 0 where
     pub slots : length x.slots ≡ l.config.slots
     -- who combines for this desk, if its slots are claimed
     pub combiner : ℕ
-    pub each : (s : ℕ) (slot : SlotValue) → At s slot x.slots → SlotAgrees l ns combiner (session l.config x.node s) slot
+    pub each : (s : ℕ) (slot : Slot) → At s slot x.slots → SlotAgrees l ns combiner (session l.config x.node s) slot
 
   -- a replica has applied no more than what is completed
   pub record ReplicaAgrees (l : Progress C) (x : ReplicaValue M) : Type 0 where

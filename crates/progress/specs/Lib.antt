@@ -3,9 +3,11 @@ pub mod Accounts
 pub mod Agreement
 pub mod Moves
 pub mod Seen
+pub mod StoreRules
 pub mod DeskSteps
 pub mod LogSteps
 pub mod Told
+pub mod Tellings
 pub mod Single
-pub mod SinglePuts
+pub mod Putting
 pub mod Picks

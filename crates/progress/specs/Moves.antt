@@ -4,16 +4,24 @@ use Rattle.ownlock.specs.Rules.{Rules}
 use Rattle.ownlock.specs.Seats.{At}
 use Rattle.oplog.specs.Operations.{Operation}
 use Rattle.oplog.specs.declared.records.Record.{Record}
-use Rattle.oplog.specs.declared.configuration.Config.{Config}
-use Rattle.oplog.specs.History.{Meaning}
+use Rattle.oplog.specs.History.{Meaning, History}
 use Rattle.progress.specs.declared.sessions.Progress.{Progress}
 use Rattle.progress.specs.declared.sessions.Pending.{Pending}
 use Rattle.progress.specs.declared.sessions.Claim.{Claim}
 use Rattle.progress.specs.declared.sessions.SessionNote.{SessionNote}
-use Rattle.progress.specs.Values.{DeskValue, SlotValue, Stage, Empty, Posted, Claimed, Answered, Answer, PlacedAt, Ended, StoreValue, TheLog, TheReplica, TheDesk}
-use Rattle.oplog.specs.Sessions.{session, IsSessionOf}
+use Rattle.combiner.specs.Desks.{DeskView, batch_of}
+use Rattle.combiner.specs.declared.slots.Slot.{Slot}
+use Rattle.combiner.specs.declared.slots.Stage.TheVariants.{Answered}
+use Rattle.combiner.specs.declared.slots.Reply.{Reply}
+use Rattle.combiner.specs.declared.slots.Reply.TheVariants.{Placed, Ended}
+use Rattle.progress.specs.Values.{StoreValue, TheLog, TheReplica, TheDesk}
+use Rattle.oplog.specs.Sessions.{IsSessionOf, session}
 use Rattle.progress.specs.Accounts.{Accounts, Extends, IsAllowed}
 use Rattle.progress.specs.Agreement.{AgreesWith, log_place, replica_place, desk_place}
+
+-- the progress with these records at its end
+abbrev pub with_records : {C : Type 0} → Progress C → History → Progress C
+with_records l more = record { config = l.config; catalogue = l.catalogue; history = l.history ++ more; completed = l.completed }
 
 -- a batch whose first k requests were appended, from this place on
 abbrev pub placed_from : ℕ → ℕ → List Claim → List Claim
@@ -24,20 +32,13 @@ placed_from from (suc k) (t ∷ ts) = record { request = t.request; place = Some
 abbrev pub record_of : Claim → Record
 record_of t = t.request
 
--- the requests that are posted on a desk, by ascending slots from s on
-abbrev pub posted_at : Config → ℕ → ℕ → ℕ → Stage → List Claim → List Claim
-posted_at config node s count (Posted op) ts = record { request = record { author = session config node s; seq = count; op = op }; place = None } ∷ ts
-posted_at config node s count Empty ts = ts
-posted_at config node s count Claimed ts = ts
-posted_at config node s count (Answered answer) ts = ts
-
-abbrev pub posted_from : Config → ℕ → ℕ → List SlotValue → List Claim
-posted_from config node s [] = []
-posted_from config node s (x ∷ xs) = posted_at config node s x.count x.stage (posted_from config node (suc s) xs)
+-- requests, none of which has a place
+abbrev pub unplaced : List Record → List Claim
+unplaced rs = map (λ r. record { request = r; place = None }) rs
 
 -- the note once the session has its answer
-abbrev pub answered_with : SessionNote → Operation → Answer → SessionNote
-answered_with n op (PlacedAt i reply) = record n { answered = n.answered ++ record { place = i; op = op } ∷ []; pending = None }
+abbrev pub answered_with : SessionNote → Operation → Reply → SessionNote
+answered_with n op (Placed i reply) = record n { answered = n.answered ++ record { place = i; op = op } ∷ []; pending = None }
 answered_with n op Ended = record n { pending = None }
 
 -- what session c may hold at once, the one taken last first: nothing, the desk of its node alone, the replica of its node, the log, or these two
@@ -54,11 +55,11 @@ raised l n = record l { completed = max l.completed n }
 
 module _ {C M : Type 0} (E : Meaning C M) where
   -- at the desk of its node a session changes nothing but its note
-  pub data DeskMove (x : DeskValue) (c : ℕ) (l : Progress C) (n n' : SessionNote) : Type 0 where
+  pub data DeskMove (x : DeskView) (c : ℕ) (l : Progress C) (n n' : SessionNote) : Type 0 where
     Posts : (o : Pending) → n.pending ≡ None → IsAllowed E l.catalogue o.op → o.seen ≤ length l.history → n' ≡ record n { pending = Some o } → DeskMove x c l n n'
-    Claims : n.batch ≡ [] → n' ≡ record n { batch = posted_from l.config x.node 0 x.slots } → DeskMove x c l n n'
+    Claims : n.batch ≡ [] → n' ≡ record n { batch = unplaced (batch_of x).records } → DeskMove x c l n n'
     Replies : n' ≡ record n { batch = [] } → DeskMove x c l n n'
-    Collects : (s : ℕ) (slot : SlotValue) (o : Pending) (answer : Answer) → c ≡ session l.config x.node s → At s slot x.slots → slot.stage ≡ Answered answer → n.pending ≡ Some o → n' ≡ answered_with n o.op answer → DeskMove x c l n n'
+    Collects : (s : ℕ) (slot : Slot) (o : Pending) (answer : Reply) → c ≡ session l.config x.node s → At s slot x.slots → slot.stage ≡ Answered answer → n.pending ≡ Some o → n' ≡ answered_with n o.op answer → DeskMove x c l n n'
 
   -- the log is put back with the first k requests of the session's batch
   pub record BatchAppended (l : Progress C) (n : SessionNote) (l' : Progress C) (n' : SessionNote) : Type 0 where

@@ -1,9 +1,10 @@
--- What the put of a value changes, read off the value and what the session knows: what a caller of `put` picks, without desks.
-use Rattle.std.specs.Prelude.{◌≡◌, ℕ, ◌-◌, ◌≤◌, List, [], ◌∷◌, ◌++◌, length, drop}
+-- What the put of a value changes, read off the value and what the session knows: what a caller of `put` picks, under any rules R of a store
+-- and whatever its sessions note.
+use Rattle.std.specs.Prelude.{◌≡◌, ℕ, ◌-◌, ◌≤◌, List, [], ◌∷◌, length, drop}
 use Rattle.ownlock.specs.declared.known.Known.{Known}
+use Rattle.ownlock.specs.Rules.{Rules}
 use Rattle.ownlock.specs.Seats.{At, without, left_with}
 use Rattle.ownlock.specs.Knowledge.{Possible, MayPut}
-use Rattle.oplog.specs.Operations.{Operation}
 use Rattle.oplog.specs.declared.configuration.Config.{Config}
 use Rattle.oplog.specs.History.{Meaning, History}
 use Rattle.progress.specs.declared.sessions.Progress.{Progress}
@@ -11,13 +12,9 @@ use Rattle.progress.specs.declared.sessions.SessionNote.{SessionNote}
 use Rattle.progress.specs.Values.{LogValue, ReplicaValue, StoreValue, TheLog, TheReplica, TheDesk}
 use Rattle.progress.specs.Accounts.{Accounts, Extends}
 use Rattle.progress.specs.Agreement.{log_place, ReplicaAgrees}
-use Rattle.progress.specs.Single.{next_record, progress_with, note_with}
-use Rattle.progress.specs.SinglePuts.{OwnStep, the_rules, KeepsSizes}
-
--- the note, once the session has counted its record at place i, if there is one
-abbrev pub counts_from : ℕ → History → SessionNote → SessionNote
-counts_from i [] n = n
-counts_from i (r ∷ rs) n = note_with n i r.op
+use Rattle.progress.specs.Moves.{with_records}
+use Rattle.progress.specs.Putting.{the_rules, KeepsSizes}
+use Rattle.progress.specs.StoreRules.{Noting, MayAppend, IsLogAfter}
 
 -- the records of the log that lie behind the known history
 abbrev pub appended_by : {C M : Type 0} → Progress C → LogValue M → History
@@ -27,37 +24,38 @@ module _ {C M V : Type 0} where
   -- the progress, once the session that knows this has put the value back
   abbrev pub put_progress : List (Known (Progress C) SessionNote V) → StoreValue M → Progress C → Progress C
   put_progress [] v l = l
-  put_progress (k ∷ ks) (TheLog y) l = record { config = l.config; catalogue = l.catalogue; history = l.history ++ appended_by k.progress y; completed = l.completed }
+  put_progress (k ∷ ks) (TheLog y) l = with_records l (appended_by k.progress y)
   put_progress (k ∷ ks) (TheReplica y) l = l
   put_progress (k ∷ ks) (TheDesk y) l = l
 
   -- and its note
-  abbrev pub put_note : List (Known (Progress C) SessionNote V) → StoreValue M → SessionNote → SessionNote
-  put_note [] v n = n
-  put_note (k ∷ ks) (TheLog y) n = counts_from (length k.progress.history) (appended_by k.progress y) n
-  put_note (k ∷ ks) (TheReplica y) n = n
-  put_note (k ∷ ks) (TheDesk y) n = n
+  abbrev pub put_note : Noting C V → List (Known (Progress C) SessionNote V) → StoreValue M → SessionNote → SessionNote
+  put_note noting [] v n = n
+  put_note noting (k ∷ ks) (TheLog y) n = noting.appended (length k.progress.history) (appended_by k.progress y) n
+  put_note noting (k ∷ ks) (TheReplica y) n = n
+  put_note noting (k ∷ ks) (TheDesk y) n = noting.at_desk k y n
 
-module _ {C M V : Type 0} (E : Meaning C M) (view : V → StoreValue M) (IsSized : Config → C → V → Type 0) where
+module _ {C M V : Type 0} (E : Meaning C M) (R : Rules (Progress C) SessionNote (StoreValue M)) (noting : Noting C V) (view : V → StoreValue M) (IsSized : Config → C → V → Type 0) where
   -- the session k, whose seat has these sessions, may put w back and change what the picks say
   abbrev pub MayPutPicked : List (Known (Progress C) SessionNote V) → Known (Progress C) SessionNote V → ℕ → V → Type 0
-  MayPutPicked sessions k p w = (sessions ≡ k ∷ []) → MayPut (the_rules E view IsSized) (put_progress sessions (view w)) (put_note sessions (view w)) k p w
+  MayPutPicked sessions k p w = (sessions ≡ k ∷ []) → MayPut (the_rules E R view IsSized) (put_progress sessions (view w)) (put_note noting sessions (view w)) k p w
 
-  -- any value that is seen as it was, the log with the session's own request, and a replica that was replayed
+  -- any value that is seen as it was, the log with records that the session may append, and a replica that was replayed
   abbrev pub SamePicked : Type 0
   SamePicked =
       (sessions : List (Known (Progress C) SessionNote V)) (k : Known (Progress C) SessionNote V) (p a : ℕ) (v w : V)
-      → At a (p, v) k.held → view w ≡ view v → KeepsSizes E view IsSized v w → MayPutPicked sessions k p w
+      → At a (p, v) k.held → view w ≡ view v → KeepsSizes IsSized v w → MayPutPicked sessions k p w
 
-  abbrev pub OwnPicked : Type 0
-  OwnPicked =
-      (sessions : List (Known (Progress C) SessionNote V)) (k : Known (Progress C) SessionNote V) (a : ℕ) (v w : V) (x y : LogValue M) (op : Operation)
-      → At a (log_place, v) k.held → view v ≡ TheLog x → view w ≡ TheLog y → KeepsSizes E view IsSized v w → OwnStep E k.progress k.session k.note op y → MayPutPicked sessions k log_place w
+  abbrev pub LogPicked : Type 0
+  LogPicked =
+      (sessions : List (Known (Progress C) SessionNote V)) (k : Known (Progress C) SessionNote V) (a : ℕ) (v w : V) (x y : LogValue M) (more : History)
+      → At a (log_place, v) k.held → view v ≡ TheLog x → view w ≡ TheLog y → KeepsSizes IsSized v w
+      → MayAppend R k.progress k.session k.note more (noting.appended (length k.progress.history) more k.note) → IsLogAfter E k.progress more y → MayPutPicked sessions k log_place w
 
   abbrev pub ReplicaPicked : Type 0
   ReplicaPicked =
       (sessions : List (Known (Progress C) SessionNote V)) (k : Known (Progress C) SessionNote V) (p a : ℕ) (v w : V) (x y : ReplicaValue M)
-      → At a (p, v) k.held → view v ≡ TheReplica x → view w ≡ TheReplica y → KeepsSizes E view IsSized v w → y.tail ≤ length k.progress.history → ReplicaAgrees E k.progress y → MayPutPicked sessions k p w
+      → At a (p, v) k.held → view v ≡ TheReplica x → view w ≡ TheReplica y → KeepsSizes IsSized v w → y.tail ≤ length k.progress.history → ReplicaAgrees E k.progress y → MayPutPicked sessions k p w
 
   -- what the session k is after a put at the place p
   pub record IsPut (p : ℕ) (k now : Known (Progress C) SessionNote V) : Type 0 where
@@ -72,20 +70,20 @@ module _ {C M V : Type 0} (E : Meaning C M) (view : V → StoreValue M) (IsSized
   abbrev pub PutsAccount : Type 0
   PutsAccount =
       (f : Progress C → Progress C) (g : SessionNote → SessionNote) (k : Known (Progress C) SessionNote V) (p : ℕ) (w : V) (l : Progress C) (ns : List SessionNote)
-      → MayPut (the_rules E view IsSized) f g k p w → Possible (the_rules E view IsSized) k l ns → IsPut p k (left_with k p (f l) (g k.note))
+      → MayPut (the_rules E R view IsSized) f g k p w → Possible (the_rules E R view IsSized) k l ns → IsPut p k (left_with k p (f l) (g k.note))
 
   -- what the picks come to
   abbrev pub SameIs : Type 0
   SameIs =
-      (sessions : List (Known (Progress C) SessionNote V)) (k : Known (Progress C) SessionNote V) (p a : ℕ) (v w : V) (l : Progress C) (ns : List SessionNote) → sessions ≡ k ∷ [] → At a (p, v) k.held → view w ≡ view v → Possible (the_rules E view IsSized) k l ns
-      → (put_progress sessions (view w) l ≡ l) × (put_note sessions (view w) k.note ≡ k.note)
+      (sessions : List (Known (Progress C) SessionNote V)) (k : Known (Progress C) SessionNote V) (p a : ℕ) (v w : V) (l : Progress C) (ns : List SessionNote) → sessions ≡ k ∷ [] → At a (p, v) k.held → view w ≡ view v → Possible (the_rules E R view IsSized) k l ns
+      → (put_progress sessions (view w) l ≡ l) × (put_note noting sessions (view w) k.note ≡ k.note)
 
-  abbrev pub OwnIs : Type 0
-  OwnIs =
-      (sessions : List (Known (Progress C) SessionNote V)) (k : Known (Progress C) SessionNote V) (w : V) (x y : LogValue M) (op : Operation) → sessions ≡ k ∷ [] → view w ≡ TheLog y → OwnStep E k.progress k.session k.note op y
-      → (put_progress sessions (view w) ≡ (λ l. progress_with l (next_record k.session k.note op))) × (put_note sessions (view w) ≡ (λ n. note_with n (length k.progress.history) op))
+  abbrev pub LogIs : Type 0
+  LogIs =
+      (sessions : List (Known (Progress C) SessionNote V)) (k : Known (Progress C) SessionNote V) (w : V) (y : LogValue M) (more : History) → sessions ≡ k ∷ [] → view w ≡ TheLog y → IsLogAfter E k.progress more y
+      → (put_progress sessions (view w) ≡ (λ l. with_records l more)) × (put_note noting sessions (view w) ≡ (λ n. noting.appended (length k.progress.history) more n))
 
   abbrev pub ReplicaIs : Type 0
   ReplicaIs =
       (sessions : List (Known (Progress C) SessionNote V)) (k : Known (Progress C) SessionNote V) (w : V) (y : ReplicaValue M) → sessions ≡ k ∷ [] → view w ≡ TheReplica y
-      → (put_progress sessions (view w) ≡ (λ l. l)) × (put_note sessions (view w) ≡ (λ n. n))
+      → (put_progress sessions (view w) ≡ (λ l. l)) × (put_note noting sessions (view w) ≡ (λ n. n))

@@ -8,7 +8,11 @@ use Rattle.progress.specs.declared.sessions.Progress.{Progress}
 use Rattle.progress.specs.declared.sessions.Pending.{Pending}
 use Rattle.progress.specs.declared.sessions.AnsweredUpdate.{AnsweredUpdate}
 use Rattle.progress.specs.declared.sessions.SessionNote.{SessionNote}
-use Rattle.progress.specs.Values.{DeskValue, SlotValue, Answered, Answer, PlacedAt, Ended}
+use Rattle.combiner.specs.Desks.{DeskView}
+use Rattle.combiner.specs.declared.slots.Slot.{Slot}
+use Rattle.combiner.specs.declared.slots.Stage.TheVariants.{Answered}
+use Rattle.combiner.specs.declared.slots.Reply.{Reply}
+use Rattle.combiner.specs.declared.slots.Reply.TheVariants.{Placed, Ended}
 use Rattle.oplog.specs.Sessions.{session}
 use Rattle.progress.specs.Accounts.{HasNoRecord, Accounts}
 use Rattle.progress.specs.Agreement.{DeskAgrees}
@@ -25,8 +29,8 @@ numbered a seq (u ∷ us) = record { author = a; seq = seq; op = u.op } ∷ numb
 module _ {C M : Type 0} (E : Meaning C M) where
   -- the answer to the request o of session c, its next by this number: the place is not before the history's length at the call, is
   -- completed, and has the session's record of it, and the reply is the one of there; or the history has its last record and none is of that number
-  abbrev pub Tells : Progress C → ℕ → ℕ → Pending → Answer → Type 0
-  Tells l c seq o (PlacedAt i reply) =
+  abbrev pub Tells : Progress C → ℕ → ℕ → Pending → Reply → Type 0
+  Tells l c seq o (Placed i reply) =
       (o.seen ≤ i) × (i < l.completed) × At i (record { author = c; seq = seq; op = o.op }) l.history × (reply_at E l.catalogue l.history i o.op ≡ Some reply)
   Tells l c seq o Ended = (l.completed ≡ l.config.limit) × HasNoRecord l.history c seq
 
@@ -38,7 +42,7 @@ module _ {C M : Type 0} (E : Meaning C M) where
   -- what a desk has for a session is so
   abbrev pub DeskTells : Type 0
   DeskTells =
-      (l : Progress C) (ns : List SessionNote) (c : ℕ) (n : SessionNote) (x : DeskValue) (s : ℕ) (slot : SlotValue) (o : Pending) (answer : Answer) → Accounts E l ns → At c n ns → DeskAgrees E l ns x
+      (l : Progress C) (ns : List SessionNote) (c : ℕ) (n : SessionNote) (x : DeskView) (s : ℕ) (slot : Slot) (o : Pending) (answer : Reply) → Accounts E l ns → At c n ns → DeskAgrees E l ns x
       → c ≡ session l.config x.node s → At s slot x.slots → slot.stage ≡ Answered answer → n.pending ≡ Some o → Tells l c (length n.answered) o answer
 
   -- the records of a session that waits for nothing are its answered updates in order, and each record is some session's

@@ -1,13 +1,14 @@
 // The laws of what a store's sessions know of its history.
 ghost use Rattle.ownlock.specs.Rules.{Laws};
 ghost use Rattle.progress.specs.Moves.{desk_rules};
-ghost use Rattle.progress.specs.Seen.{seen_rules};
 ghost use Rattle.progress.specs.DeskSteps.{DeskPuts, DeskMayPut};
-ghost use Rattle.progress.specs.LogSteps.{LogPuts, ReplicaPuts, Opens};
+ghost use Rattle.progress.specs.LogSteps.{LogPuts, ReplicaPuts, Opens, BatchAppends};
 ghost use Rattle.progress.specs.Told.{DeskTells, Ends};
-ghost use Rattle.progress.specs.Single.{single_rules, SingleKeeps};
-ghost use Rattle.progress.specs.SinglePuts.{the_rules, OneMoreSteps, TailIs, Replays, ReplayedAgrees, PlacedTells, ReadsTell, EndedTells, SingleOpens, AgreesLog, AgreesReplica, MayTakeFirst, MayTakeSecond, TakesLog, TakesReplica, SameMayPut, OwnMayPut, ReplicaMayPut};
-ghost use Rattle.progress.specs.Picks.{SamePicked, OwnPicked, ReplicaPicked, PutsAccount, SameIs, OwnIs, ReplicaIs};
+ghost use Rattle.progress.specs.StoreRules.{IsStoreRules, IsNoting};
+ghost use Rattle.progress.specs.Single.{single_rules, single_noting, SingleKeeps, OneMoreSteps, OwnAppends};
+ghost use Rattle.progress.specs.Tellings.{TailIs, Replays, ReplayedAgrees, PlacedTells, ReadsTell, EndedTells};
+ghost use Rattle.progress.specs.Putting.{the_rules, StoreOpens, AgreesLog, AgreesReplica, MayTakeFirst, MayTakeSecond, MayTakeDesk, TakesLog, TakesReplica, TakesItsReplica, TakesDesk, SameMayPut, LogMayPut, ReplicaMayPut, SeenDeskMayPut};
+ghost use Rattle.progress.specs.Picks.{SamePicked, LogPicked, ReplicaPicked, PutsAccount, SameIs, LogIs, ReplicaIs};
 
 use crate::meanings::{Effects, Viewed};
 
@@ -44,12 +45,22 @@ pub fn tells<E: Effects>()
 pub fn single_laws<E: Effects>()
     ensures laws { Laws (single_rules E.meaning) }
     ensures append { SingleKeeps E.meaning }
+    ensures step { OneMoreSteps E.meaning }
 {}
 
-/// Without desks: one more record is a step of the log, replaying records is what the history means, and from where a record
-/// stands and what the history's limit is follows what its session may say.
-pub fn single_tells<E: Effects>()
-    ensures step { OneMoreSteps E.meaning }
+/// Both kinds of rules are a store's: what is said below of any rules is said of these. What a session may append is one record of
+/// its own without desks, and some of its batch with them.
+pub fn store_rules<S: Viewed>()
+    ensures single { IsStoreRules S.meaning (single_rules S.meaning) }
+    ensures desks { IsStoreRules S.meaning (desk_rules S.meaning) }
+    ensures notes { IsNoting {C = S.Catalogue} S.view single_noting }
+    ensures own { OwnAppends S.meaning }
+    ensures batch { BatchAppends S.meaning }
+{}
+
+/// Replaying records is what the history means, and from where a record stands and what the history's limit is follows what its
+/// session may say.
+pub fn store_tells<E: Effects>()
     ensures tail { TailIs E.meaning }
     ensures replays { Replays E.meaning }
     ensures agrees { ReplayedAgrees E.meaning }
@@ -58,37 +69,40 @@ pub fn single_tells<E: Effects>()
     ensures read { ReadsTell E.meaning }
 {}
 
-/// Both sets of laws, for values of any type that are seen as a store's.
+/// The laws of the rules, for values of any type that are seen as a store's.
 pub fn seen_laws<S: Viewed>()
-    ensures desk { Laws (seen_rules S.view S.is_sized (desk_rules S.meaning)) }
-    ensures single { Laws (the_rules S.meaning S.view S.is_sized) }
+    ensures { Laws (the_rules S.meaning S.rules S.view S.is_sized) }
 {}
 
-/// Without desks: what a shelf opens with, what a session may take, what it is told then, and what each value is in the end.
-pub fn single_takes<S: Viewed>()
-    ensures opens { SingleOpens S.meaning S.view S.is_sized }
-    ensures first { MayTakeFirst S.meaning S.view S.is_sized }
-    ensures second { MayTakeSecond S.meaning S.view S.is_sized }
-    ensures log { TakesLog S.meaning S.view S.is_sized }
-    ensures replica { TakesReplica S.meaning S.view S.is_sized }
-    ensures is_log { AgreesLog S.meaning S.view S.is_sized }
-    ensures is_replica { AgreesReplica S.meaning S.view S.is_sized }
+/// What a shelf opens with, what a session may take, what it is told then, and what each value is in the end.
+pub fn store_takes<S: Viewed>()
+    ensures opens { StoreOpens S.meaning S.rules S.view S.is_sized }
+    ensures first { MayTakeFirst S.meaning S.rules S.view S.is_sized }
+    ensures second { MayTakeSecond S.meaning S.rules S.view S.is_sized }
+    ensures desk_first { MayTakeDesk S.meaning S.rules S.view S.is_sized }
+    ensures log { TakesLog S.meaning S.rules S.view S.is_sized }
+    ensures replica { TakesReplica S.meaning S.rules S.view S.is_sized }
+    ensures its_replica { TakesItsReplica S.meaning S.rules S.view S.is_sized }
+    ensures desk { TakesDesk S.meaning S.rules S.view S.is_sized }
+    ensures is_log { AgreesLog S.meaning S.rules S.view S.is_sized }
+    ensures is_replica { AgreesReplica S.meaning S.rules S.view S.is_sized }
 {}
 
-/// Without desks: what a session may put back, wherever the others are by then.
-pub fn single_puts<S: Viewed>()
-    ensures same { SameMayPut S.meaning S.view S.is_sized }
-    ensures own { OwnMayPut S.meaning S.view S.is_sized }
-    ensures replica { ReplicaMayPut S.meaning S.view S.is_sized }
+/// What a session may put back, wherever the others are by then; a desk, after one of its steps, under the rules with desks.
+pub fn store_puts<S: Viewed>()
+    ensures same { SameMayPut S.meaning S.rules S.view S.is_sized }
+    ensures log { LogMayPut S.meaning S.rules S.view S.is_sized }
+    ensures replica { ReplicaMayPut S.meaning S.rules S.view S.is_sized }
+    ensures desk { SeenDeskMayPut S.meaning S.view S.is_sized }
 {}
 
 /// The same for one pick of what every put of a function changes, read off the value and what the session knows.
-pub fn single_picks<S: Viewed>()
-    ensures same { SamePicked S.meaning S.view S.is_sized }
-    ensures own { OwnPicked S.meaning S.view S.is_sized }
-    ensures replica { ReplicaPicked S.meaning S.view S.is_sized }
-    ensures account { PutsAccount S.meaning S.view S.is_sized }
-    ensures same_is { SameIs S.meaning S.view S.is_sized }
-    ensures own_is { OwnIs S.meaning S.view S.is_sized }
-    ensures replica_is { ReplicaIs S.meaning S.view S.is_sized }
+pub fn store_picks<S: Viewed>()
+    ensures same { SamePicked S.meaning S.rules S.noting S.view S.is_sized }
+    ensures log { LogPicked S.meaning S.rules S.noting S.view S.is_sized }
+    ensures replica { ReplicaPicked S.meaning S.rules S.noting S.view S.is_sized }
+    ensures account { PutsAccount S.meaning S.rules S.noting S.view S.is_sized }
+    ensures same_is { SameIs S.meaning S.rules S.noting S.view S.is_sized }
+    ensures log_is { LogIs S.meaning S.rules S.noting S.view S.is_sized }
+    ensures replica_is { ReplicaIs S.meaning S.rules S.noting S.view S.is_sized }
 {}

@@ -1,4 +1,6 @@
+-- To be believed: what an operation of a catalogue means, a replica as its users see it, and which outcomes are kept.
 pub mod StoreMeaning
 pub mod Views
 pub mod Replaying
+-- Laws: in every history each operation has an effect.
 pub mod HistoryLaws

@@ -1,5 +1,5 @@
 -- A record is appended to a log that has room for it, and the log is put back.
-use Rattle.std.proofs.Common.{◌≡◌, ℕ, zero, suc, ◌+◌, ◌<◌, ◌≤◌, min, List, [], ◌∷◌, ◌++◌, length, length-append, append-nil, take, sym, refl, ap, ◌∙◌, subst, arith, Result, Ok, Err, MatchResult}
+use Rattle.std.proofs.Common.{set, ◌≡◌, ℕ, zero, suc, ◌+◌, ◌<◌, ◌≤◌, min, List, [], ◌∷◌, ◌++◌, length, length-append, append-nil, take, sym, refl, ap, ◌∙◌, subst, arith, Result, Ok, Err, MatchResult}
 use Rattle.std.specs.Global.{Box}
 use Rattle.std.proofs.Math.Nat.{min-le_left, suc-min-suc}
 use lib.ListN.{get_elem?}
@@ -19,20 +19,21 @@ use Rattle.progress.specs.declared.sessions.Progress.{Progress}
 use Rattle.progress.specs.declared.sessions.SessionNote.{SessionNote}
 use Rattle.progress.specs.Values.{TheLog}
 use Rattle.progress.specs.Accounts.{Extends}
-use Rattle.progress.specs.Single.{next_record, note_with}
-use Rattle.progress.specs.SinglePuts.{OwnStep, KeepsSizes}
+use Rattle.progress.specs.Single.{OwnStep, next_record, note_with}
+use Rattle.progress.specs.Putting.{KeepsSizes}
 use Rattle.progress.specs.Picks.{put_progress, put_note, IsPut}
-use Rattle.progress.proofs.AlonePuts.{one_more_steps, tail_is}
-use Rattle.progress.proofs.Picked.{own_picks, same_picks, own_picked, same_picked, puts_account}
+use Rattle.progress.proofs.StoreRules.{one_more_steps, own_appends}
+use Rattle.progress.proofs.Tellings.{tail_is}
+use Rattle.progress.proofs.Picked.{log_picks, same_picks, log_picked, same_picked, puts_account}
 use Rattle.progress.proofs.Finish.{grown_long}
 use Rattle.progress.proofs.Lists.{at_behind}
 use Rattle.store.specs.declared.values.NodeReplica.{NodeReplica}
 use Rattle.store.specs.declared.values.Value.{Value}
 use Rattle.store.specs.declared.values.Value.TheVariants.{Log, Replica}
-use Rattle.store.specs.Shelving.{view_of, IsSized, store_rules, log_value}
+use Rattle.store.specs.Shelving.{view_of, IsSized, session_rules, session_noting, store_rules, log_value}
 use Rattle.store.specs.Held.{CanAppendIn, IsAppended, HasAppendedIn}
 use Rattle.store.specs.Standing.{SessionKnown, HoldsReplica, IsNext, GoesOn, IsLogOf, HasOthers, HasPlace, HasRoom, HasAppended}
-use Rattle.store.proofs.StoreLaws.{store_laws}
+use Rattle.store.proofs.StoreLaws.{session_laws, session_notes, store_laws}
 use Rattle.store.proofs.Taken.{TookLog, own_on, next_on}
 use Rattle.store.proofs.Followed.{can_copy, has_others, follows_on}
 use Rattle.store.proofs.Finished.{Picked, put_back}
@@ -80,7 +81,7 @@ module _ (k t m : K) (w : Value) (g : Box LogView) (h : LogView) (h2 : Box LogVi
   own : IsSessionOf m.progress.config hold.node m.session
   own = own_on k m hold.node session_is from_k hold.own
 
-  keeps : KeepsSizes store_meaning view_of IsSized (Log g) (Log h2)
+  keeps : KeepsSizes IsSized (Log g) (Log h2)
   keeps config c s =
       (ap (λ (z : LogView). z.window) a.log ∙ (p.keeps.0 ∙ s.0), ap (λ (z : LogView). z.limit) a.log ∙ (p.keeps.1 ∙ s.1), ap (λ (z : LogView). shapes_of z.base_maps) a.log ∙ (p.keeps.2 ∙ s.2))
 
@@ -97,7 +98,7 @@ module _ (k t m : K) (w : Value) (g : Box LogView) (h : LogView) (h2 : Box LogVi
       )
 
   picked_ok : tail_of h < h.limit → Picked sessions (Log h2) m 0
-  picked_ok roomy = own_picked store_meaning view_of IsSized sessions m 0 (Log g) (Log h2) (log_value g.value) (log_value h2.value) r.op at_log refl refl keeps (own_step roomy) is
+  picked_ok roomy = log_picked session_laws view_of session_notes IsSized sessions m 0 (Log g) (Log h2) (log_value g.value) (log_value h2.value) _ at_log refl refl keeps (own_appends store_meaning m.progress m.session m.note r.op (log_value h2.value) (own_step roomy)) (own_step roomy).log is
 
   -- without it nothing is changed
   same_log : tail_of h ≡ h.limit → h2.value ≡ g.value
@@ -115,7 +116,7 @@ module _ (k t m : K) (w : Value) (g : Box LogView) (h : LogView) (h2 : Box LogVi
       appended_with rs = with_records (h.records ++ rs)
 
   picked_err : tail_of h ≡ h.limit → Picked sessions (Log h2) m 0
-  picked_err full = same_picked store_meaning view_of IsSized sessions m 0 0 (Log g) (Log h2) at_log (ap (λ z. TheLog (log_value z)) (same_log full)) keeps is
+  picked_err full = same_picked session_laws view_of session_notes IsSized sessions m 0 0 (Log g) (Log h2) at_log (ap (λ z. TheLog (log_value z)) (same_log full)) keeps is
 
   picked : Picked sessions (Log h2) m 0
   picked = by result a.placed
@@ -128,11 +129,14 @@ module _ (k t m : K) (w : Value) (g : Box LogView) (h : LogView) (h2 : Box LogVi
     abbrev f : K
     f = put_back sessions (Log h2) m 0 l
 
-    put : IsPut store_meaning view_of IsSized 0 m f
-    put = puts_account store_meaning view_of IsSized (put_progress sessions (view_of (Log h2))) (put_note sessions (view_of (Log h2))) m 0 (Log h2) l ns picked may
+    put : IsPut store_meaning session_rules session_noting view_of IsSized 0 m f
+    put = puts_account session_laws view_of session_notes IsSized (put_progress sessions (view_of (Log h2))) (put_note session_noting sessions (view_of (Log h2))) m 0 (Log h2) l ns picked may
 
     log_f : IsLogOf f.progress h2.value
-    log_f = let agree = (picked.3 l ns may).1 in record { agrees = agree.0.1.1; tail = tail_is store_meaning f.progress (log_value h2.value) put.accounts.completed agree.0.1.1; sizes = agree.1 }
+    log_f =
+        let agree = (picked.3 l ns may).1 in
+        let it = (session_laws.agrees 0 f.progress (set ns m.session (put_note session_noting sessions (view_of (Log h2)) m.note)) (view_of (Log h2)) agree.0).1 in
+        record { agrees = it; tail = tail_is store_meaning f.progress (log_value h2.value) put.accounts.completed it; sizes = agree.1 }
 
     rest : HasOthers f.progress n2.value
     rest =
@@ -155,7 +159,7 @@ module _ (k t m : K) (w : Value) (g : Box LogView) (h : LogView) (h2 : Box LogVi
     placed_ok : (i : ℕ) → i ≡ tail_of h → tail_of h < h.limit
         → (length k.progress.history ≤ i) × (n2.value.replica.tail ≤ i) × (i < MAX_LIMIT) × At i r f.progress.history × (f.note ≡ note_with k.note i r.op)
     placed_ok i at roomy =
-        let e = own_picks store_meaning view_of IsSized sessions m (Log h2) (log_value g.value) (log_value h2.value) r.op is refl (own_step roomy) in
+        let e = log_picks session_laws view_of session_notes IsSized sessions m (Log h2) (log_value h2.value) _ is refl (own_step roomy).log in
         let history : f.progress.history ≡ m.progress.history ++ r ∷ [] =
         ap (λ q. (q l).history) e.0 ∙ (ap (λ z. z ++ next_record m.session m.note r.op ∷ []) (sym same_history) ∙ ap (λ z. m.progress.history ++ z ∷ []) (sym next_m.0)) in
         let tail = p.log.tail in
@@ -178,7 +182,7 @@ module _ (k t m : K) (w : Value) (g : Box LogView) (h : LogView) (h2 : Box LogVi
 
     placed_err : tail_of h ≡ h.limit → (f.note ≡ k.note) × (f.progress.config.limit ≤ length f.progress.history)
     placed_err full =
-        let s = same_picks store_meaning view_of IsSized sessions m 0 0 (Log g) (Log h2) l ns is at_log (ap (λ z. TheLog (log_value z)) (same_log full)) may in
+        let s = same_picks session_laws view_of session_notes IsSized sessions m 0 0 (Log g) (Log h2) l ns is at_log (ap (λ z. TheLog (log_value z)) (same_log full)) may in
         let tail = p.log.tail in
         let limit = p.log.sizes.1 in
         let same = ap (λ (z : Config). z.limit) put.extends.config in

@@ -18,10 +18,11 @@ use Rattle.progress.proofs.Lists.{at_none, at_below}
 use Rattle.store.specs.declared.values.NodeReplica.{NodeReplica}
 use Rattle.store.specs.declared.values.Value.{Value}
 use Rattle.store.specs.declared.values.Value.TheVariants.{Log, Replica}
-use Rattle.store.specs.Shelving.{store_rules, log_value, replica_value, HasLogSizes}
+use Rattle.store.proofs.StoreLaws.{session_laws}
+use Rattle.store.specs.Shelving.{view_of, store_rules, log_value, replica_value, HasLogSizes}
 use Rattle.store.specs.Sessions.{StoreView, SessionView, known_of}
 use Rattle.store.specs.Opening.{AreOf, IsClosed}
-use Rattle.progress.proofs.AlonePuts.{tail_is}
+use Rattle.progress.proofs.Tellings.{tail_is}
 use Rattle.std.specs.Global.{Box}
 use Rattle.maps.specs.Maps.{shapes_of}
 use Rattle.oplog.specs.declared.configuration.Config.{Config}
@@ -60,15 +61,15 @@ pub record IsPair (l : L) (slots : List (Option Value)) : Type 0 where
   pub replica_shapes : shapes_of node.value.replica.maps ≡ l.catalogue.shapes
 
 log_at : (l : L) (ns : List SessionNote) (v : Value) → store_rules.AgreesWith 0 l ns v → (g : Box LogView) × (v ≡ Log g) × LogAgrees store_meaning l (log_value g.value) × HasLogSizes l.config l.catalogue g.value
-log_at l ns (Log g) a = (g, refl, a.0.1.1, a.1)
-log_at l ns (Replica n) a = absurd (none a.0.1.0 a.0.1.2)
+log_at l ns (Log g) a = (g, refl, (session_laws.agrees 0 l ns (view_of (Log g)) a.0).1, a.1)
+log_at l ns (Replica n) a = let it = session_laws.agrees 0 l ns (view_of (Replica n)) a.0 in absurd (none it.0 it.2)
   where
     none : (n : ℕ) → 0 ≡ 1 + n → ⊥
     none n e = omega (arith, e)
 
 replica_at : (l : L) (ns : List SessionNote) (v : Value) → store_rules.AgreesWith 1 l ns v → (n : Box NodeReplica) × (v ≡ Replica n) × ReplicaAgrees store_meaning l (replica_value n.value.replica) × (shapes_of n.value.replica.maps ≡ l.catalogue.shapes)
-replica_at l ns (Replica n) a = (n, refl, a.0.1.3, a.1.0)
-replica_at l ns (Log g) a = absurd (none a.0.1.0)
+replica_at l ns (Replica n) a = (n, refl, (session_laws.agrees 1 l ns (view_of (Replica n)) a.0).3, a.1.0)
+replica_at l ns (Log g) a = absurd (none (session_laws.agrees 1 l ns (view_of (Log g)) a.0).0)
   where
     none : ◌≡◌ {A = ℕ} 1 0 → ⊥
     none e = omega (arith, e)

@@ -20,23 +20,23 @@ use Rattle.progress.specs.declared.sessions.SessionNote.{SessionNote}
 use Rattle.progress.specs.Values.{ReplicaValue, TheReplica}
 use Rattle.progress.specs.Accounts.{Extends}
 use Rattle.progress.specs.Agreement.{replica_place}
-use Rattle.progress.specs.SinglePuts.{KeepsSizes}
+use Rattle.progress.specs.Putting.{KeepsSizes}
 use Rattle.progress.specs.Picks.{put_progress, put_note}
 use Rattle.progress.specs.Told.{ReadTells}
 use Rattle.maps.specs.Maps.{Maps}
-use Rattle.progress.proofs.AlonePuts.{placed_tells, ended_tells, reads_tell}
+use Rattle.progress.proofs.Tellings.{placed_tells, ended_tells, reads_tell}
 use Rattle.progress.proofs.Picked.{replica_picked, replica_picks, puts_account, same_picked, same_picks}
 use Rattle.progress.proofs.Finish.{grown_long}
 use Rattle.progress.proofs.Lists.{at_below}
 use Rattle.progress.proofs.Seen.{sized_on}
-use Rattle.progress.specs.Single.{single_rules, next_record, note_with}
+use Rattle.progress.specs.Single.{next_record, note_with}
 use Rattle.store.specs.declared.values.Value.{Value}
 use Rattle.store.specs.declared.values.Value.TheVariants.{Log, Replica}
-use Rattle.store.specs.Shelving.{view_of, IsSized, store_rules, replica_value}
+use Rattle.store.specs.Shelving.{view_of, IsSized, session_rules, session_noting, store_rules, replica_value}
 use Rattle.store.specs.Held.{IsReplica, IsReplicaOf, Replies, tail_in}
 use Rattle.store.specs.Standing.{SessionKnown, Stands, AgreesIn, HoldsReplica, IsFree, GoesOn, HasAppended, HasRaised, KeepsOutcomesOf, HasCaughtUp, IsBroughtUp}
 use Rattle.store.specs.Sessions.{IsUpdated, IsReadBy, request_of}
-use Rattle.store.proofs.StoreLaws.{store_laws}
+use Rattle.store.proofs.StoreLaws.{session_laws, session_notes, store_laws}
 use Rattle.store.proofs.Taken.{TookReplica, TookLog, own_on, tail_low, well_formed}
 use Rattle.store.proofs.Played.{HasAllIn, all_agrees, all_tail}
 
@@ -47,11 +47,11 @@ abbrev L : Type 0
 L = Progress CatalogueView
 
 abbrev pub Picked : List K → Value → K → ℕ → Type 0
-Picked sessions y t q = MayPut store_rules (put_progress sessions (view_of y)) (put_note sessions (view_of y)) t q y
+Picked sessions y t q = MayPut store_rules (put_progress sessions (view_of y)) (put_note session_noting sessions (view_of y)) t q y
 
 -- what the session has become, once it has put y back
 abbrev pub put_back : List K → Value → K → ℕ → Progress CatalogueView → K
-put_back sessions y t q l = left_with t q (put_progress sessions (view_of y) l) (put_note sessions (view_of y) t.note)
+put_back sessions y t q l = left_with t q (put_progress sessions (view_of y) l) (put_note session_noting sessions (view_of y) t.note)
 
 -- the session still is what it was, but for the progress that it knows
 pub record Same (k t f : K) : Type 0 where
@@ -65,10 +65,10 @@ holds_on k t w g h = record {
   own = own_on k t h.node g.session g.extends h.own;
   held = g.held ∙ h.held;
   replica = h.replica;
-  sized = sized_on view_of IsSized (single_rules store_meaning) k.progress t.progress w g.extends.config g.extends.catalogue h.sized;
+  sized = sized_on view_of IsSized session_rules k.progress t.progress w g.extends.config g.extends.catalogue h.sized;
 }
 
-keeps_sizes : (config : Config) (c : CatalogueView) (w v : Value) → IsReplica w → IsReplica v → IsSized config c w → IsSized config c v → KeepsSizes store_meaning view_of IsSized w v
+keeps_sizes : (config : Config) (c : CatalogueView) (w v : Value) → IsReplica w → IsReplica v → IsSized config c w → IsSized config c v → KeepsSizes IsSized w v
 keeps_sizes config c (Replica n) (Replica m) a b s t d e u =
     (t.0 ∙ (sym s.0 ∙ u.0), t.1 ∙ (λ i. record { begin = m.value.replica.tail; records = []; window = (sym (ap (λ z. z.window) s.1) ∙ ap (λ z. z.window) u.1) i }))
 keeps_sizes config c (Log n) v a b s t d e u = absurd a
@@ -100,19 +100,19 @@ module _ (k : K) (w : Value) (h : HoldsReplica k w) (sessions : List K) (is : se
   picked : (v : Value) → AgreesIn k.progress v → tail_in v ≤ length k.progress.history → Picked sessions v k (replica_place k.progress.config h.node)
   picked (Replica m) a low =
       let s = seen w h.replica in
-      replica_picked store_meaning view_of IsSized sessions k (replica_place k.progress.config h.node) 0 w (Replica m) s.0 _ here s.1 refl (keeps_sizes k.progress.config k.progress.catalogue w (Replica m) h.replica tt h.sized a.1) low a.0 is
+      replica_picked session_laws view_of session_notes IsSized sessions k (replica_place k.progress.config h.node) 0 w (Replica m) s.0 _ here s.1 refl (keeps_sizes k.progress.config k.progress.catalogue w (Replica m) h.replica tt h.sized a.1) low a.0 is
   picked (Log g) a low = absurd a
 
   pub may_put_replica : (v : Value) (q : ℕ) → k.held ≡ (q, w) ∷ [] → AgreesIn k.progress v → tail_in v ≤ length k.progress.history → Picked sessions v k q
   may_put_replica v q e a low = subst (λ z. Picked sessions v k z) (same_place q e) (picked v a low)
 
-  same_note : (v : Value) → AgreesIn k.progress v → put_note sessions (view_of v) k.note ≡ k.note
-  same_note (Replica m) a = ap (λ f. f k.note) (replica_picks store_meaning view_of IsSized sessions k (Replica m) _ is refl).1
+  same_note : (v : Value) → AgreesIn k.progress v → put_note session_noting sessions (view_of v) k.note ≡ k.note
+  same_note (Replica m) a = ap (λ f. f k.note) (replica_picks session_laws view_of session_notes IsSized sessions k (Replica m) _ is refl).1
   same_note (Log g) a = absurd a
 
   back_zero : (v : Value) → AgreesIn k.progress v → tail_in v ≤ length k.progress.history → (l : L) (ns : List SessionNote) → Possible store_rules k l ns → Back k (put_back sessions v k (replica_place k.progress.config h.node) l)
   back_zero v a low l ns may =
-      let p = puts_account store_meaning view_of IsSized (put_progress sessions (view_of v)) (put_note sessions (view_of v)) k (replica_place k.progress.config h.node) v l ns (picked v a low) may in
+      let p = puts_account session_laws view_of session_notes IsSized (put_progress sessions (view_of v)) (put_note session_noting sessions (view_of v)) k (replica_place k.progress.config h.node) v l ns (picked v a low) may in
       record {
         session = p.session;
         note = same_note v a;
@@ -194,7 +194,7 @@ module _ (k t : K) (y x : Value) (b : TookLog k t y x) where
     at_log = ap (λ z. get_elem? z 0) b.held
 
     put_zero : Picked sessions x t 0
-    put_zero = same_picked store_meaning view_of IsSized sessions t 0 0 x x at_log refl (λ config c s. s) is
+    put_zero = same_picked session_laws view_of session_notes IsSized sessions t 0 0 x x at_log refl (λ config c s. s) is
 
     -- the log goes back as it was taken
     pub same_put : (q : ℕ) → q ≡ leader → Picked sessions x t q
@@ -202,8 +202,8 @@ module _ (k t : K) (y x : Value) (b : TookLog k t y x) where
 
     back_at_zero : (l : L) (ns : List SessionNote) → Possible store_rules t l ns → Same k t (put_back sessions x t 0 l)
     back_at_zero l ns may =
-        let p = puts_account store_meaning view_of IsSized (put_progress sessions (view_of x)) (put_note sessions (view_of x)) t 0 x l ns put_zero may in
-        let s = same_picks store_meaning view_of IsSized sessions t 0 0 x x l ns is at_log refl may in
+        let p = puts_account session_laws view_of session_notes IsSized (put_progress sessions (view_of x)) (put_note session_noting sessions (view_of x)) t 0 x l ns put_zero may in
+        let s = same_picks session_laws view_of session_notes IsSized sessions t 0 0 x x l ns is at_log refl may in
         record {
           goes = record { session = p.session ∙ b.session; held = p.held ∙ ap (λ z. without 0 z) b.held; extends = store_laws.extends_on k.progress t.progress _ b.extends p.extends };
           note = s.1 ∙ b.note;

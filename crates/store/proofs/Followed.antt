@@ -8,12 +8,13 @@ use Rattle.oplog.specs.History.{maps_after}
 use Rattle.replica.specs.StoreMeaning.{store_meaning}
 use Rattle.progress.specs.declared.sessions.Progress.{Progress}
 use Rattle.progress.specs.Accounts.{Extends, IsWellFormed}
-use Rattle.progress.proofs.AlonePuts.{maps_on}
+use Rattle.progress.proofs.Tellings.{maps_on}
 use Rattle.progress.proofs.Finish.{grown_long}
 use Rattle.store.specs.declared.values.NodeReplica.{NodeReplica}
 use Rattle.store.specs.Lent.{copied, rebased, CanCopy, CanFollow}
 use Rattle.store.specs.Standing.{Follows, HasOthers, IsLogOf}
-use Rattle.store.proofs.Places.{at_of, at_drop, drop_drop}
+use Rattle.store.proofs.Places.{at_drop, drop_drop}
+use Rattle.progress.proofs.Lists.{at_of}
 
 abbrev L : Type 0
 L = Progress CatalogueView

@@ -11,9 +11,10 @@ use Rattle.oplog.specs.declared.configuration.Config.{Config}
 use Rattle.replica.specs.StoreMeaning.{store_meaning}
 use Rattle.progress.specs.Values.{TheLog, TheReplica}
 use Rattle.progress.specs.LogSteps.{first_progress, fresh_note, first_log, first_replica}
-use Rattle.progress.proofs.AlonePuts.{single_opens, same_may_put}
+use Rattle.progress.proofs.Putting.{store_opens, same_may_put}
 use Rattle.store.specs.Sessions.{fresh_known}
 use Rattle.store.specs.Standing.{SessionKnown}
+use Rattle.store.proofs.StoreLaws.{session_laws}
 use Rattle.store.specs.declared.values.NodeReplica.{NodeReplica}
 use Rattle.store.specs.declared.values.Value.{Value}
 use Rattle.store.specs.declared.values.Value.TheVariants.{Log, Replica}
@@ -38,8 +39,8 @@ pub agree : (config : Config) (c : CatalogueView) (values : List (Option Value))
 agree config c values fits (log, node, is, log_is, node_is) = subst (λ z. AllAgree store_rules (first_progress config c) (replicate (sessions_of config) fresh_note) z) (sym is) both
   where
     both : AllAgree store_rules (first_progress config c) (replicate (sessions_of config) fresh_note) (Some log ∷ Some node ∷ [])
-    both zero h = let t = log_opens config c log log_is in (log, refl, (single_opens store_meaning view_of IsSized config c (sessions_of config)).1 log t.0 t.1)
-    both (suc zero) h = let t = replica_opens config c node node_is in (node, refl, (single_opens store_meaning view_of IsSized config c (sessions_of config)).2 0 node (omega (arith, fits)) t.0 t.1)
+    both zero h = let t = log_opens config c log log_is in (log, refl, (store_opens session_laws view_of IsSized config c (sessions_of config)).1 log t.0 t.1)
+    both (suc zero) h = let t = replica_opens config c node node_is in (node, refl, (store_opens session_laws view_of IsSized config c (sessions_of config)).2 0 node (omega (arith, fits)) t.0 t.1)
     both (suc (suc p)) h = absurd (omega (arith, h))
 
 -- one node of two slots has two sessions
@@ -49,4 +50,4 @@ two_sessions config c one two v is = is ∙ ap (λ n. all_sessions (first_progre
 
 -- a log that is as it was taken may go back
 pub put_same : (k : SessionKnown) (q : ℕ) (x : Value) (a : ℕ) → q ≡ leader → At a (leader, x) k.held → MayPut store_rules (λ l. l) (λ n. n) k q x
-put_same k q x a e at = subst (λ z. MayPut store_rules (λ l. l) (λ n. n) k z x) (sym e) (same_may_put store_meaning view_of IsSized k leader a x x at refl (λ config c s. s))
+put_same k q x a e at = subst (λ z. MayPut store_rules (λ l. l) (λ n. n) k z x) (sym e) (same_may_put session_laws view_of IsSized k leader a x x at refl (λ config c s. s))

@@ -1,23 +1,9 @@
 -- Lists by their places.
-use Rattle.std.proofs.Common.{◌≡◌, ℕ, zero, suc, ◌+◌, ◌-◌, ◌≤◌, List, [], ◌∷◌, length, take, drop, refl, ap, ◌∙◌, subst, arith, Some, None, slice_get}
-use mathlib.Core.Option as kernel
-use mathlib.Core.Option.{some-injective}
+use Rattle.std.proofs.Common.{◌≡◌, ℕ, zero, suc, ◌+◌, ◌-◌, ◌≤◌, List, [], ◌∷◌, length, take, drop, refl, ap, ◌∙◌, subst, arith}
 use Rattle.ownlock.specs.Seats.{At}
-use Rattle.progress.proofs.Moved.{some_none}
-use Rattle.progress.proofs.Keeps.{some_one}
 use Rattle.progress.proofs.Lists.{at_none}
 
 module _ {A : Type 0} where
-  pub at_of : (xs : List A) (i : ℕ) (a : A) → slice_get xs i ≡ Some a → At i a xs
-  at_of [] i a e = absurd (some_none a None e refl)
-  at_of (x ∷ xs) zero a e = ap kernel.some (some_one x a e)
-  at_of (x ∷ xs) (suc i) a e = at_of xs i a e
-
-  pub get_of : (xs : List A) (i : ℕ) (a : A) → At i a xs → slice_get xs i ≡ Some a
-  get_of [] i a e = absurd (at_none i a e)
-  get_of (x ∷ xs) zero a e = ap Some (some-injective x a e)
-  get_of (x ∷ xs) (suc i) a e = get_of xs i a e
-
   pub at_drop : (t : ℕ) (xs : List A) (i : ℕ) (a : A) → At i a (drop t xs) → At (t + i) a xs
   at_drop zero xs i a e = subst (λ z. At z a xs) (plus i) e
     where

@@ -15,7 +15,7 @@ use Rattle.progress.specs.declared.sessions.Progress.{Progress}
 use Rattle.progress.specs.declared.sessions.SessionNote.{SessionNote}
 use Rattle.progress.specs.Accounts.{Extends, IsWellFormed}
 use Rattle.progress.specs.Moves.{raised}
-use Rattle.progress.proofs.AlonePuts.{replays, replayed_agrees}
+use Rattle.progress.proofs.Tellings.{replays, replayed_agrees}
 use Rattle.progress.proofs.Finish.{grown_long}
 use Rattle.store.specs.declared.values.NodeReplica.{NodeReplica}
 use Rattle.store.specs.declared.values.Value.{Value}
@@ -24,8 +24,9 @@ use Rattle.store.specs.Shelving.{replica_value, store_rules}
 use Rattle.store.specs.Lent.{copied, replayed, CanReplay}
 use Rattle.store.specs.Held.{IsReplica, CanKeepUp, IsKeptUp, CanFollowIn, HasFollowed, CanReplayIn, HasReplayed, tail_in}
 use Rattle.store.specs.Standing.{SessionKnown, AgreesIn, LogIs, FollowsIn, HasOthers, HasRest, HasRaised, KeepsOutcomesOf, HasCaughtUp}
-use Rattle.store.proofs.Places.{at_of, get_of, at_drop, drop_at, long_drop, take_whole}
+use Rattle.store.proofs.Places.{at_drop, drop_at, long_drop, take_whole}
 use Rattle.store.proofs.Followed.{HasAll, kept_up, others, can_follow}
+use Rattle.progress.proofs.Lists.{at_of, get_of}
 
 abbrev L : Type 0
 L = Progress CatalogueView

@@ -8,7 +8,7 @@ use Rattle.replica.specs.StoreMeaning.{store_meaning}
 use Rattle.progress.specs.declared.sessions.Progress.{Progress}
 use Rattle.progress.specs.Accounts.{IsWellFormed}
 use Rattle.progress.specs.Agreement.{LogAgrees}
-use Rattle.progress.proofs.AlonePuts.{maps_on}
+use Rattle.progress.proofs.Tellings.{maps_on}
 use Rattle.store.specs.declared.values.NodeReplica.{NodeReplica}
 use Rattle.store.specs.declared.values.Value.{Value}
 use Rattle.store.specs.declared.values.Value.TheVariants.{Log, Replica}

@@ -14,18 +14,20 @@ use Rattle.progress.specs.Values.{LogValue, ReplicaValue, StoreValue, TheLog, Th
 use Rattle.progress.specs.Accounts.{Accounts, Extends, IsWellFormed, IsAllowed}
 use Rattle.progress.specs.Agreement.{LogAgrees, ReplicaAgrees}
 use Rattle.progress.specs.Moves.{HoldsBoth, HoldsReplica as HoldsReplicaPlace}
-use Rattle.progress.specs.Single.{single_rules, next_record}
+use Rattle.progress.specs.Single.{next_record}
 use Rattle.progress.specs.declared.sessions.SessionNote.{SessionNote}
-use Rattle.progress.proofs.AlonePuts.{takes_log, takes_replica, tail_is}
+use Rattle.progress.proofs.Putting.{takes_log, takes_its_replica}
+use Rattle.progress.proofs.Tellings.{tail_is}
 use Rattle.progress.proofs.Lists.{at_none}
 use Rattle.progress.proofs.Finish.{replica_puts}
 use Rattle.progress.proofs.Seen.{sized_on}
 use Rattle.store.specs.declared.values.Value.{Value}
 use Rattle.store.specs.declared.values.Value.TheVariants.{Log, Replica}
-use Rattle.store.specs.Shelving.{view_of, IsSized, store_rules, log_value, replica_value}
+use Rattle.store.specs.Shelving.{view_of, IsSized, session_rules, store_rules, log_value, replica_value}
 use Rattle.store.specs.Held.{IsReplica, tail_in}
 use Rattle.store.specs.Standing.{SessionKnown, Stands, AgreesIn, FollowsIn, LogIs, HoldsReplica, HoldsLog, IsFree, IsNext}
 use Rattle.store.proofs.Followed.{follows_on}
+use Rattle.store.proofs.StoreLaws.{session_laws}
 use mathlib.Core.Option.{some-injective}
 use lib.ListN.{get_elem?}
 
@@ -68,7 +70,7 @@ tail_low l (Log g) a = absurd a
 pub agrees_on : (l m : L) (w : Value) → IsWellFormed store_meaning l → Extends l m → AgreesIn l w → AgreesIn m w
 agrees_on l m (Replica n) well g a =
     let t = a.0.tail in let low = well.completed in
-    (replica_puts store_meaning l m (replica_value n.value.replica) (omega (arith, t, low)) g a.0, sized_on view_of IsSized (single_rules store_meaning) l m (Replica n) g.config g.catalogue a.1)
+    (replica_puts store_meaning l m (replica_value n.value.replica) (omega (arith, t, low)) g a.0, sized_on view_of IsSized session_rules l m (Replica n) g.config g.catalogue a.1)
 agrees_on l m (Log g) well e a = absurd a
 
 pub follows_in : (l : L) (w : Value) → IsWellFormed store_meaning l → AgreesIn l w → FollowsIn l w
@@ -94,7 +96,7 @@ own_on k t node e g own = subst (λ z. IsSessionOf t.progress.config node z) (sy
 pub may_take_replica : (k : K) (p : ℕ) → IsFree p k → MayTake store_rules p k
 may_take_replica k p free = (
   (λ a u at e. at_none a u (subst (λ z. At a u z) free.held at)),
-  HoldsReplicaPlace free.node free.own (ap (λ z. p ∷ map place_of z) free.held ∙ ap (λ z. z ∷ []) free.place_is),
+  session_laws.allows k.progress k.session _ (HoldsReplicaPlace free.node free.own (ap (λ z. p ∷ map place_of z) free.held ∙ ap (λ z. z ∷ []) free.place_is)),
 )
 
 -- what it is, once it has taken it
@@ -109,7 +111,7 @@ pub record TookReplica (p : ℕ) (k t : K) (w : Value) : Type 0 where
 
 pub took_replica : (k t : K) (p : ℕ) (w : Value) → IsFree p k → Acquired store_rules p k t w → TookReplica p k t w
 took_replica k t p w free won =
-    let taken = takes_replica store_meaning view_of IsSized p k t w (λ e. no_zero p free.node free.place_is e) won in
+    let taken = takes_its_replica session_laws view_of IsSized p free.node k t w free.place_is free.own.3 won in
     let i = taken.0 in
     let agrees = agrees_in t.progress w taken.1.0 taken.1.1 taken.1.2 i.sized in
     let held = i.held ∙ ap (λ z. (p, w) ∷ z) free.held in
@@ -122,9 +124,6 @@ took_replica k t p w free won =
       agrees = agrees;
       stands = record { notes = i.notes; accounts = i.accounts; here = i.here };
     }
-  where
-    no_zero : (p n : ℕ) → p ≡ 1 + n → p ≡ 0 → ⊥
-    no_zero p n e f = omega (arith, e, f)
 
 -- ---- and the log besides
 
@@ -138,7 +137,7 @@ only_one u a v e = one a e
 pub may_take_log : (k : K) (w : Value) → HoldsReplica k w → MayTake store_rules leader k
 may_take_log k w h = (
   (λ a u at is. no_zero h.node (ap (λ z. z.0) (only_one (1 + h.node, w) a u (subst (λ z. At a u z) h.held at)) ∙ is)),
-  HoldsBoth h.node h.own (ap (λ z. leader ∷ map place_of z) h.held),
+  session_laws.allows k.progress k.session _ (HoldsBoth h.node h.own (ap (λ z. leader ∷ map place_of z) h.held)),
 )
   where
     no_zero : (n : ℕ) → 1 + n ≡ 0 → ⊥
@@ -161,7 +160,7 @@ follows_in_on l m (Log x) g f = absurd f
 
 pub took_log : (k t : K) (y x : Value) → FollowsIn k.progress y → Acquired store_rules leader k t x → TookLog k t y x
 took_log k t y x follows won =
-    let taken = takes_log store_meaning view_of IsSized k t x won in
+    let taken = takes_log session_laws view_of IsSized k t x won in
     let i = taken.0 in
     let well = well_formed t.progress i.notes i.accounts in
     record {

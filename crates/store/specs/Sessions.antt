@@ -10,7 +10,7 @@ use Rattle.replica.specs.StoreMeaning.{store_meaning}
 use Rattle.progress.specs.declared.sessions.Progress.{Progress}
 use Rattle.progress.specs.declared.sessions.Pending.{Pending}
 use Rattle.progress.specs.declared.sessions.SessionNote.{SessionNote}
-use Rattle.progress.specs.Values.{PlacedAt, Ended as EndedAnswer}
+use Rattle.combiner.specs.declared.slots.Reply.TheVariants.{Placed, Ended as EndedAnswer}
 use Rattle.oplog.specs.Sessions.{IsSessionOf}
 use Rattle.oplog.specs.declared.configuration.TheConstants.{MAX_LIMIT}
 use Rattle.progress.specs.Accounts.{Extends, IsWellFormed}
@@ -91,7 +91,7 @@ pub record IsUpdated (k after : SessionKnown) (op : Operation) (result : Result 
   pub extends : Extends k.progress after.progress
   pub well_formed : IsWellFormed store_meaning after.progress
   pub tells : MatchResult result
-      (λ a. Tells store_meaning after.progress k.session (length k.note.answered) (request_of k.progress op) (PlacedAt a.index a.reply) × (after.note ≡ note_with k.note a.index op))
+      (λ a. Tells store_meaning after.progress k.session (length k.note.answered) (request_of k.progress op) (Placed a.index a.reply) × (after.note ≡ note_with k.note a.index op))
       (λ _. Tells store_meaning after.progress k.session (length k.note.answered) (request_of k.progress op) EndedAnswer × (after.note ≡ k.note))
   -- the history has more than the session knew, if the update has a place
   pub longer : MatchResult result (λ a. (a.index < MAX_LIMIT) × (length k.progress.history < length after.progress.history)) (λ _. Unit {0})
@@ -109,7 +109,7 @@ pub record IsReadBy (k after : SessionKnown) (op : Operation) (answer : ReadAnsw
 -- history has its last record, none of this request, and nothing is counted
 abbrev pub TellsUpdate : (old new : SessionView) → Operation → Result Answer StoreRefused → Type 0
 TellsUpdate old new op result = MatchResult result
-    (λ a. Tells store_meaning new.progress old.session (length old.note.answered) (request_of old.progress op) (PlacedAt a.index a.reply) × (new.note ≡ note_with old.note a.index op))
+    (λ a. Tells store_meaning new.progress old.session (length old.note.answered) (request_of old.progress op) (Placed a.index a.reply) × (new.note ≡ note_with old.note a.index op))
     (λ e. (e ≡ TheEnd) × Tells store_meaning new.progress old.session (length old.note.answered) (request_of old.progress op) EndedAnswer × (new.note ≡ old.note))
 
 -- the answer to a read that was not refused

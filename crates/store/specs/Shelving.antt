@@ -13,7 +13,9 @@ use Rattle.progress.specs.declared.sessions.Progress.{Progress}
 use Rattle.progress.specs.declared.sessions.SessionNote.{SessionNote}
 use Rattle.progress.specs.Values.{LogValue, ReplicaValue, StoreValue, TheLog, TheReplica}
 use Rattle.progress.specs.LogSteps.{first_progress, fresh_note}
-use Rattle.progress.specs.SinglePuts.{the_rules}
+use Rattle.progress.specs.StoreRules.{Noting}
+use Rattle.progress.specs.Single.{single_rules, single_noting}
+use Rattle.progress.specs.Putting.{the_rules}
 use Rattle.store.specs.declared.values.Setup.{Setup}
 use Rattle.store.specs.declared.values.NodeReplica.{NodeReplica}
 use Rattle.store.specs.declared.values.Value.{Value}
@@ -43,8 +45,15 @@ abbrev pub IsSized : Config → CatalogueView → Value → Type 0
 IsSized config c (Log g) = HasLogSizes config c g.value
 IsSized config c (Replica n) = (shapes_of n.value.replica.maps ≡ c.shapes) × (n.value.hand ≡ resting_hand config n.value.replica.tail)
 
+-- what sessions without a desk may do, and what they note
+abbrev pub session_rules : Rules (Progress CatalogueView) SessionNote (StoreValue Maps)
+session_rules = single_rules store_meaning
+
+abbrev pub session_noting : Noting CatalogueView Value
+session_noting = single_noting
+
 abbrev pub store_rules : Rules (Progress CatalogueView) SessionNote Value
-store_rules = the_rules store_meaning view_of IsSized
+store_rules = the_rules store_meaning session_rules view_of IsSized
 
 -- how many sessions there are: one for each slot of each node
 abbrev pub sessions_of : Config → ℕ

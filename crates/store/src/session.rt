@@ -12,7 +12,7 @@ ghost use Rattle.store.specs.Refusals.{early_refusal};
 ghost use Rattle.store.specs.Sessions.{IsOf, TellsUpdate, TellsRead, fresh_known, fresh_session, known_of};
 
 use crate::answers::{Answer, StoreRefused};
-use crate::steps::{query, update};
+use crate::steps::{Question, Shared, query, update};
 use crate::store::Store;
 use crate::values::Value;
 use loader::Catalogue;
@@ -136,14 +136,7 @@ impl Session {
             op,
         };
         let place = self.node as usize + 1;
-        match update(
-            rt,
-            store.shelf(),
-            &mut self.seat,
-            place,
-            store.catalogue(),
-            next,
-        ) {
+        match update(rt, store.shared(), &mut self.seat, place, next) {
             Ok(answer) => {
                 self.answered += 1;
                 Ok(answer)
@@ -177,15 +170,8 @@ impl Session {
             Some(refused) => Err(refused),
             None => {
                 let place = self.node as usize + 1;
-                Ok(query(
-                    rt,
-                    store.shelf(),
-                    &mut self.seat,
-                    place,
-                    store.catalogue(),
-                    program,
-                    argument,
-                ))
+                let question = Question { program, argument };
+                Ok(query(rt, store.shared(), &mut self.seat, place, question))
             }
         }
     }

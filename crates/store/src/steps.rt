@@ -24,6 +24,20 @@ use replica::Replies;
 use std::marker::Brand;
 use std::sync::Wait;
 
+// What all sessions of a store share: its shelf, and its catalogue.
+#[derive(Clone, Copy)]
+pub(crate) struct Shared<'a> {
+    pub(crate) shelf: &'a Shelf<Value>,
+    pub(crate) catalogue: &'a Catalogue,
+}
+
+// What a read asks for: a program, by its number, and its argument.
+#[derive(Clone, Copy)]
+pub(crate) struct Question<'a> {
+    pub(crate) program: u16,
+    pub(crate) argument: &'a [u8],
+}
+
 // Raises the completed tail to the replica's. The session may hold the log meanwhile.
 fn raise_to(shelf: &Shelf<Value>, seat: &mut Seat<Value>, node: &Value)
     requires own { seat.old.shelf ≡ shelf.now.id }
@@ -61,20 +75,20 @@ fn make_room(
 // back.
 fn append_and_copy<R: Wait>(
     rt: &R,
-    shelf: &Shelf<Value>,
+    shared: Shared<'_>,
     seat: &mut Seat<Value>,
     node: &mut Value,
-    catalogue: &Catalogue,
     next: Record,
 ) -> Result<u64, Ended>
-    requires own { seat.old.shelf ≡ shelf.now.id }
-    requires there { 0 < shelf.now.places }
+    requires own { seat.old.shelf ≡ shared.shelf.now.id }
+    requires there { 0 < shared.shelf.now.places }
     requires holds { (k : SessionKnown) × IsSession seat.old k × HoldsReplica k node.old × AgreesIn k.progress node.old × Stands k
-        × IsNext k next × (k.progress.catalogue ≡ catalogue.now) }
+        × IsNext k next × (k.progress.catalogue ≡ shared.catalogue.now) }
     ensures same { seat.new.shelf ≡ seat.old.shelf }
     ensures appended { (k : SessionKnown) → IsSession seat.old k → (after : SessionKnown) × IsSession seat.new after
         × HasAppended k after next result node.new }
 {
+    let Shared { shelf, catalogue } = shared;
     let mut log = shelf.take(rt, seat, LEADER);
     make_room(shelf, seat, &mut log.value, node, catalogue);
     let appended = append(&mut log.value, node, next);
@@ -124,20 +138,20 @@ fn first_reply(replies: &Replies) -> u64
 // Appends the record, brings the replica at that place of the shelf up to it, and answers its place and reply.
 pub(crate) fn update<R: Wait>(
     rt: &R,
-    shelf: &Shelf<Value>,
+    shared: Shared<'_>,
     seat: &mut Seat<Value>,
     place: usize,
-    catalogue: &Catalogue,
     next: Record,
 ) -> Result<Answer, Ended>
-    requires own { seat.old.shelf ≡ shelf.now.id }
-    requires there { place < shelf.now.places }
-    requires idle { (k : SessionKnown) × IsSession seat.old k × IsFree place k × IsNext k next × (k.progress.catalogue ≡ catalogue.now) }
+    requires own { seat.old.shelf ≡ shared.shelf.now.id }
+    requires there { place < shared.shelf.now.places }
+    requires idle { (k : SessionKnown) × IsSession seat.old k × IsFree place k × IsNext k next × (k.progress.catalogue ≡ shared.catalogue.now) }
     ensures same { seat.new.shelf ≡ seat.old.shelf }
     ensures updated { (k : SessionKnown) → IsSession seat.old k → (after : SessionKnown) × IsSession seat.new after × IsUpdated k after next.op result }
 {
+    let Shared { shelf, catalogue } = shared;
     let mut node = shelf.take(rt, seat, place);
-    let appended = append_and_copy(rt, shelf, seat, &mut node.value, catalogue, next);
+    let appended = append_and_copy(rt, shared, seat, &mut node.value, next);
     let mut replies = Replies::new(place_of(&appended), 1);
     catch_up(shelf, seat, &mut node.value, catalogue, &mut replies);
     shelf.put::<Brand>(seat, node);
@@ -176,25 +190,29 @@ fn refresh<R: Wait>(
 // Runs a read program on the replica at that place of the shelf, once it has reached the tail that is completed now.
 pub(crate) fn query<R: Wait>(
     rt: &R,
-    shelf: &Shelf<Value>,
+    shared: Shared<'_>,
     seat: &mut Seat<Value>,
     place: usize,
-    catalogue: &Catalogue,
-    program: u16,
-    argument: &[u8],
+    question: Question<'_>,
 ) -> ReadAnswer
-    requires own { seat.old.shelf ≡ shelf.now.id }
-    requires there { place < shelf.now.places }
-    requires idle { (k : SessionKnown) × IsSession seat.old k × IsFree place k × (k.progress.catalogue ≡ catalogue.now) }
-    requires asked { early_refusal catalogue.now Read program argument.now ≡ None }
+    requires own { seat.old.shelf ≡ shared.shelf.now.id }
+    requires there { place < shared.shelf.now.places }
+    requires idle { (k : SessionKnown) × IsSession seat.old k × IsFree place k × (k.progress.catalogue ≡ shared.catalogue.now) }
+    requires asked { early_refusal shared.catalogue.now Read question.program question.argument.now ≡ None }
     ensures same { seat.new.shelf ≡ seat.old.shelf }
     ensures read { (k : SessionKnown) → IsSession seat.old k → (after : SessionKnown) × IsSession seat.new after
-        × IsReadBy k after (record { program = program; argument = argument.now }) result }
+        × IsReadBy k after (record { program = question.entry.program; argument = question.entry.argument.now }) result }
 {
+    let Shared { shelf, catalogue } = shared;
     let done = shelf.done(seat);
     let mut node = shelf.take(rt, seat, place);
-    bring_up(rt, shelf, seat, &mut node.value, catalogue, done);
-    let answer = answer_in(&mut node.value, catalogue, program, argument);
+    bring_up(rt, shared, seat, &mut node.value, done);
+    let answer = answer_in(
+        &mut node.value,
+        catalogue,
+        question.program,
+        question.argument,
+    );
     shelf.put::<Brand>(seat, node);
     answer
 }
@@ -202,21 +220,20 @@ pub(crate) fn query<R: Wait>(
 // Brings the replica up to that completed tail, where it has not reached it.
 fn bring_up<R: Wait>(
     rt: &R,
-    shelf: &Shelf<Value>,
+    shared: Shared<'_>,
     seat: &mut Seat<Value>,
     node: &mut Value,
-    catalogue: &Catalogue,
     done: u64,
 )
-    requires own { seat.old.shelf ≡ shelf.now.id }
-    requires there { 0 < shelf.now.places }
+    requires own { seat.old.shelf ≡ shared.shelf.now.id }
+    requires there { 0 < shared.shelf.now.places }
     requires holds { (k : SessionKnown) × IsSession seat.old k × HoldsReplica k node.old × AgreesIn k.progress node.old × Stands k
-        × (k.progress.catalogue ≡ catalogue.now) × (done ≤ k.progress.completed) }
+        × (k.progress.catalogue ≡ shared.catalogue.now) × (done ≤ k.progress.completed) }
     ensures same { seat.new.shelf ≡ seat.old.shelf }
     ensures up { (k : SessionKnown) → IsSession seat.old k → (after : SessionKnown) × IsSession seat.new after × IsBroughtUp k after done node.new }
 {
     if is_ready(node, done) {
         return;
     }
-    refresh(rt, shelf, seat, node, catalogue);
+    refresh(rt, shared.shelf, seat, node, shared.catalogue);
 }

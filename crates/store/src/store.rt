@@ -11,6 +11,7 @@ ghost use Rattle.store.specs.Sessions.{fresh_session};
 ghost use Rattle.store.specs.Opening.{IsOpenable, AreOf, IsClosed};
 
 use crate::session::Session;
+use crate::steps::Shared;
 use crate::values::{NodeReplica, Setup, Value, shelved_values};
 use loader::Catalogue;
 use oplog::{Config, LogState, OpenError};
@@ -173,11 +174,16 @@ impl Store {
         Ok(Closed { log, node })
     }
 
-    pub(crate) fn shelf(&self) -> &Shelf<Value>
-        ensures shelf { result.now.id ≡ self.now.id }
-        ensures places { result.now.places ≡ 1 + self.now.config.nodes }
+    // What its sessions share.
+    pub(crate) fn shared(&self) -> Shared<'_>
+        ensures shelf { result.shelf.now.id ≡ self.now.id }
+        ensures places { result.shelf.now.places ≡ 1 + self.now.config.nodes }
+        ensures catalogue { result.catalogue.now ≡ self.now.catalogue }
     {
-        &self.shelf
+        Shared {
+            shelf: &self.shelf,
+            catalogue: &self.setup.catalogue,
+        }
     }
 
     pub(crate) fn catalogue(&self) -> &Catalogue

@@ -9,7 +9,7 @@ ghost use Rattle.store.specs.Sessions.{fresh_known};
 ghost use Rattle.store.specs.Standing.{SessionKnown, IsFree};
 
 use crate::session::refusal;
-use crate::steps::query;
+use crate::steps::{Question, Shared, query};
 use crate::values::{Setup, Value, shelved_values};
 use loader::{Catalogue, load_manifest};
 use oplog::Config;
@@ -61,7 +61,12 @@ fn ready_read<R: Wait>(
 {
     shelf.raise(&mut seat, 0);
     let done = shelf.done(&mut seat);
-    (done, query(rt, shelf, &mut seat, 1, catalogue, 0, &ZERO))
+    let shared = Shared { shelf, catalogue };
+    let question = Question {
+        program: 0,
+        argument: &ZERO,
+    };
+    (done, query(rt, shared, &mut seat, 1, question))
 }
 
 // The log is held by one session while the other reads on a thread of its own.

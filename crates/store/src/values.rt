@@ -44,7 +44,8 @@ impl Shelved for Value {
     type Setup = Setup;
 
     ghost use Rattle.replica.specs.StoreMeaning.{store_meaning};
-    ghost use Rattle.progress.proofs.StoreLaws.{single_laws_seen};
+    ghost use Rattle.progress.proofs.StoreRules.{single_store};
+    ghost use Rattle.progress.proofs.StoreLaws.{laws_seen};
     ghost use Rattle.store.specs.Shelving.{view_of, IsSized, store_rules, opening_progress, opening_notes};
 
     ghost rules = { store_rules };
@@ -53,7 +54,7 @@ impl Shelved for Value {
 
     ghost first_notes = { opening_notes };
 
-    ghost laws = { single_laws_seen store_meaning view_of IsSized };
+    ghost laws = { laws_seen (single_store store_meaning) view_of IsSized };
 }
 
 // A new log, as a value of the shelf.

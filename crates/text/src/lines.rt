@@ -69,7 +69,7 @@ fn first_line(text: &str) -> (&str, &str)
 }
 
 /// What a line is before its words are read.
-#[derive(Clone, Copy, Debug, PartialEq, Eq)]
+#[derive(Clone, Copy)]
 pub enum LineKind {
     /// It has more than 512 bytes, and is bad whatever it holds.
     TooLong,

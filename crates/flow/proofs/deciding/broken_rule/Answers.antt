@@ -12,17 +12,17 @@ returns-in-Some c =
 
 pub returns-then-runs_off : goal.returns-then-runs_off
 returns-then-runs_off c =
-    let ends = ap (λ n. falls_through c.args.form && nat_eq n c.args.end) (sym c.requires.next) ∙ sym c.runs_off.ensures ∙ c.if-runs_off.true in
+    let ends = sym c.runs_off.ensures ∙ c.if-runs_off.true in
     end_breaks c.args.end (has_slot c.args.halves.now) c.args.is_reached c.args.form c.args.slot (sym c.in_default.is ∙ c.broken_by_jump.ensures c.args.is_reached) ends
 
 pub returns-then-not-is_reached : goal.returns-then-not-is_reached
 returns-then-not-is_reached c =
-    let goes_on = ap (λ n. falls_through c.args.form && nat_eq n c.args.end) (sym c.requires.next) ∙ sym c.runs_off.ensures ∙ c.if-runs_off.false in
+    let goes_on = sym c.runs_off.ensures ∙ c.if-runs_off.false in
     ap (λ b. cond (not b) (Some Unreachable) None) (sym c.if-not-is_reached.true)
     ∙ end_passes c.args.end (has_slot c.args.halves.now) c.args.is_reached c.args.form c.args.slot (sym c.in_default.is ∙ c.broken_by_jump.ensures c.args.is_reached) goes_on
 
 pub returns : goal.returns
 returns c =
-    let goes_on = ap (λ n. falls_through c.args.form && nat_eq n c.args.end) (sym c.requires.next) ∙ sym c.runs_off.ensures ∙ c.if-runs_off.false in
+    let goes_on = sym c.runs_off.ensures ∙ c.if-runs_off.false in
     ap (λ b. cond (not b) (Some Unreachable) None) (sym c.if-not-is_reached.false)
     ∙ end_passes c.args.end (has_slot c.args.halves.now) c.args.is_reached c.args.form c.args.slot (sym c.in_default.is ∙ c.broken_by_jump.ensures c.args.is_reached) goes_on

@@ -1,8 +1,5 @@
-use Rattle.std.proofs.Common.{ap, refl}
+use Rattle.std.proofs.Common.{ap}
 use lib.ListN.{get_elem?}
-use Rattle.replica.specs.StoreMeaning.{store_meaning}
-use Rattle.progress.proofs.AlonePuts.{same_may_put}
-use Rattle.store.specs.Shelving.{view_of, IsSized}
 use Rattle.store.proofs.Opened.{put_same}
 use Rattle.store.proofs.tests.read_beside.Goals as goal
 

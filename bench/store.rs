@@ -1,0 +1,182 @@
+//! Times the proved store (the program crates/store_bench, whose path is the first word) beside two stores in plain Rust on one thread,
+//! checks that all give the same replies, and prints what an update and a ready read cost, and an update by the bytes of the maps and
+//! the window. With `replicated` or `locked`, `update` or `read`, and a number in place of the path it makes so many calls of that twin
+//! alone, for a tool that counts processor instructions.
+
+mod interpreter;
+mod twins;
+
+use std::hint::black_box;
+use std::io::{BufRead, BufReader, Write};
+use std::process::{Child, ChildStdin, ChildStdout, Command, Stdio};
+use std::time::{Duration, Instant};
+use twins::{Locked, Programs, Replicated, Sizes, Twin};
+
+unsafe extern "C" {
+    // Runs a program so often on an array of so many counters: see crates/machine_bench.
+    fn bench_run(code: *const u8, code_len: usize, argument: *const u8, argument_len: usize, entries: u32, times: u64) -> u64;
+}
+
+const BUMP: &str = "bf120000000000001851000000000000000000000000000085000000010000001500050000000000790600000000000007060000010000007b60000000000000bf600000000000009500000000000000b7000000ffffffff9500000000000000";
+
+const PEEK: &str = "bf1200000000000018510000000000000000000000000000850000000100000015000200000000007900000000000000\
+    9500000000000000b7000000ffffffff9500000000000000";
+
+// Many short rounds, of which the best counts, so that other work of the machine matters less.
+const ROUNDS: usize = 24;
+
+fn bytes(hex: &str) -> Vec<u8> {
+    (0..hex.len() / 2).map(|i| u8::from_str_radix(&hex[2 * i..2 * i + 2], 16).expect("hexadecimal digits")).collect()
+}
+
+fn programs() -> Programs {
+    Programs::new(&bytes(BUMP), &bytes(PEEK))
+}
+
+#[derive(Clone, Copy)]
+enum Call {
+    Update,
+    Read,
+}
+
+/// The proved store, in a process of its own.
+struct Proved {
+    child: Child,
+    input: ChildStdin,
+    output: BufReader<ChildStdout>,
+}
+
+impl Proved {
+    fn start(path: &str, sizes: Sizes) -> Proved {
+        let words = [sizes.window.to_string(), sizes.entries.to_string(), sizes.value.to_string()];
+        let mut child = Command::new(path).args(words).stdin(Stdio::piped()).stdout(Stdio::piped()).spawn().expect("the program starts");
+        let input = child.stdin.take().expect("a pipe");
+        let output = BufReader::new(child.stdout.take().expect("a pipe"));
+        Proved { child, input, output }
+    }
+
+    fn calls(&mut self, call: Call, times: u64) -> u64 {
+        let word = match call {
+            Call::Update => "update",
+            Call::Read => "read",
+        };
+        writeln!(self.input, "{word} {times}").expect("the program reads");
+        let mut line = String::new();
+        self.output.read_line(&mut line).expect("the program writes");
+        line.trim().parse().expect("a sum")
+    }
+
+    fn end(mut self) {
+        drop(self.input);
+        assert!(self.child.wait().expect("the program ends").success());
+    }
+}
+
+// The sum of the replies of so many calls, on each of the first 64 counters in turn.
+fn twin_calls(twin: &impl Twin, call: Call, times: u64) -> u64 {
+    (0..times).fold(0, |sum, i| {
+        let argument = [(i % 64) as u8, 0, 0, 0];
+        let reply = match call {
+            Call::Update => twin.update(argument),
+            Call::Read => twin.read(argument),
+        };
+        sum.wrapping_add(black_box(reply))
+    })
+}
+
+fn timed(f: impl FnOnce() -> u64) -> (u64, Duration) {
+    let start = Instant::now();
+    let sum = f();
+    (sum, start.elapsed())
+}
+
+/// Nanoseconds a call of the proved store, of the same design unproved, and of the mutex: the best of some rounds.
+fn compared(path: &str, sizes: Sizes, call: Call, times: u64) -> [f64; 3] {
+    let mut proved = Proved::start(path, sizes);
+    let replicated = Replicated::new(programs(), sizes);
+    let locked = Locked::new(programs(), sizes);
+    // So that reads have counts to tell.
+    let counted = proved.calls(Call::Update, 1_000);
+    assert!(counted == twin_calls(&replicated, Call::Update, 1_000) && counted == twin_calls(&locked, Call::Update, 1_000), "the replies differ");
+    let mut best = [Duration::MAX; 4];
+    for _ in 0..ROUNDS {
+        let measured = [
+            timed(|| proved.calls(call, 0)),
+            timed(|| proved.calls(call, times)),
+            timed(|| twin_calls(&replicated, call, times)),
+            timed(|| twin_calls(&locked, call, times)),
+        ];
+        assert!(measured[2..].iter().all(|m| m.0 == measured[1].0), "the replies differ");
+        for (best, (_, time)) in best.iter_mut().zip(measured) {
+            *best = (*best).min(time);
+        }
+    }
+    proved.end();
+    let [idle, proved, replicated, locked] = best.map(|time| time.as_nanos() as f64 / times as f64);
+    [proved - idle, replicated, locked]
+}
+
+/// Nanoseconds a run of a program alone, in the proved machine and in the twins' interpreter.
+fn machines(code: &str) -> [f64; 2] {
+    let (code, argument, entries, times) = (bytes(code), [3u8, 0, 0, 0], 64, 100_000);
+    let instructions = interpreter::decode(&code);
+    let mut best = [Duration::MAX; 2];
+    for _ in 0..ROUNDS {
+        let mut array = interpreter::Array { values: vec![0; 8 * 64], entries };
+        let proved = timed(|| unsafe { bench_run(code.as_ptr(), code.len(), argument.as_ptr(), argument.len(), entries, times) });
+        let plain = timed(|| {
+            (0..times).fold(0u64, |sum, _| {
+                sum.wrapping_add(interpreter::run::<false>(black_box(&instructions), &mut array, black_box(&argument)).expect("a good program").0)
+            })
+        });
+        assert_eq!(proved.0, plain.0, "the replies differ");
+        best = [best[0].min(proved.1), best[1].min(plain.1)];
+    }
+    best.map(|time| time.as_nanos() as f64 / times as f64)
+}
+
+fn print_calls(path: &str) {
+    println!("{:<28}{:>9}{:>12}{:>9}{:>10}{:>10}", "ns, 1 KiB, window 4096", "proved", "unproved", "mutex", "to unpr.", "to mutex");
+    for (name, code) in [("a run of bump alone", BUMP), ("a run of peek alone", PEEK)] {
+        let [proved, plain] = machines(code);
+        println!("{name:<28}{proved:>9.1}{plain:>12.1}{plain:>9.1}{:>10.2}{:>10.2}", proved / plain, proved / plain);
+    }
+    for (name, call) in [("an update", Call::Update), ("a ready read", Call::Read)] {
+        let [proved, replicated, locked] = compared(path, Sizes { window: 4_096, entries: 64, value: 8 }, call, 28_672);
+        println!("{name:<28}{proved:>9.1}{replicated:>12.1}{locked:>9.1}{:>10.2}{:>10.2}", proved / replicated, proved / locked);
+    }
+}
+
+fn print_sizes(path: &str) {
+    println!("\n{:<10}{:>8}{:>14}{:>12}{:>12}{:>10}", "maps", "window", "bytes/window", "proved ns", "unproved", "to unpr.");
+    for (name, entries, value, times) in [("1 KiB", 64, 8, 28_672), ("1 MiB", 65_536, 8, 28_672), ("16 MiB", 65_536, 248, 4_096)] {
+        for window in [64, 4_096] {
+            let sizes = Sizes { window, entries, value };
+            let [proved, replicated, _] = compared(path, sizes, Call::Update, times);
+            println!("{name:<10}{window:>8}{:>14}{proved:>12.1}{replicated:>12.1}{:>10.2}", sizes.bytes() / window, proved / replicated);
+        }
+    }
+}
+
+// So many calls of one twin, for a counter of processor instructions.
+fn alone(twin: &str, call: &str, times: u64) {
+    let sizes = Sizes { window: 4_096, entries: 64, value: 8 };
+    let call = if call == "update" { Call::Update } else { Call::Read };
+    let sum = match twin {
+        "replicated" => twin_calls(&Replicated::new(programs(), sizes), call, times),
+        _ => twin_calls(&Locked::new(programs(), sizes), call, times),
+    };
+    println!("{sum}");
+}
+
+fn main() {
+    let words: Vec<String> = std::env::args().collect();
+    match &words[..] {
+        [_, path] => {
+            print_calls(path);
+            print_sizes(path);
+        }
+        [_, twin, call, times] => alone(twin, call, times.parse().expect("a number")),
+        _ => panic!("the path of store_bench"),
+    }
+}

@@ -1,7 +1,0 @@
-//! What the machine computes.
-
-mod arithmetic;
-mod conversions;
-mod narrow;
-mod runs;
-mod wide;

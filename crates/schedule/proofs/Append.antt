@@ -1,0 +1,174 @@
+-- The step that appends a batch.
+use Rattle.std.proofs.Common.{◌≡◌, ◌≢◌, ℕ, zero, suc, ◌+◌, ◌-◌, ◌<◌, ◌≤◌, List, [], ◌∷◌, ◌++◌, length, take, Some, None, refl, sym, ap, ◌∙◌, inl, inr, ⊎_elim, arith, subst, length-append, length-drop}
+use Rattle.std.specs.Prelude.{slice_get, slice_set, ◌⊎◌, ◌&&◌, replicate, nat_le, min, if◌then◌else◌}
+use Rattle.std.proofs.lemmas.Option.{same_Some}
+use Rattle.std.proofs.lemmas.Bool.{ne_eqb, eq-eqb, and_parts, leb-true}
+use Rattle.oplog.specs.History.{History}
+use Rattle.oplog.specs.Logs.{HandView, tail_of, left_of, records_from}
+use Rattle.oplog.specs.Sessions.{session}
+use Rattle.combiner.specs.Desks.{BatchView, IsBatchOf}
+use Rattle.replica.specs.Views.{ReplicaView}
+use Rattle.schedule.specs.declared.parts.NodeBatch.{NodeBatch}
+use Rattle.schedule.specs.declared.parts.NodeBatch.TheVariants.{NoBatch, ClaimedBatch, AppendedBatch}
+use Rattle.schedule.specs.Trace.{Trace, Places}
+use Rattle.schedule.specs.Explains.{Opening}
+use Rattle.schedule.specs.Worlds.{NodeView, WorldView, room_for, grown}
+use Rattle.schedule.specs.Steps.{Part, silent, append, with_appended, claimed_batch}
+use Rattle.schedule.specs.Stands.{StageStands, NodeStands, LogStands, ReplicaStands, BatchStands, Stands, batch_in}
+use Rattle.schedule.proofs.Lists.{get_more, get_drop, get_taken}
+use Rattle.schedule.proofs.Options.{cond_gives, then_gives, claimed_is}
+use Rattle.schedule.proofs.Explained.{after_more, effect_more}
+use Rattle.schedule.proofs.Calls.{nodes_put, Kept}
+use Rattle.schedule.proofs.Appends.{Grown, grown_to, grown_length, placed}
+
+get_right : {A : Type 0} (xs ys : List A) (j : ℕ) (v : A) → slice_get ys j ≡ Some v → slice_get (xs ++ ys) (length xs + j) ≡ Some v
+get_right [] ys j v g = let i : j ≡ 0 + j = omega arith in subst (λ k. slice_get ys k ≡ Some v) i g
+get_right (x ∷ xs) ys j v g = let i : suc (length xs + j) ≡ suc (length xs) + j = omega arith in subst (λ k. slice_get (x ∷ (xs ++ ys)) k ≡ Some v) i (get_right xs ys j v g)
+
+get_append : {A : Type 0} (xs ys : List A) (i : ℕ) (v : A) → slice_get (xs ++ ys) i ≡ Some v → (slice_get xs i ≡ Some v) ⊎ ((j : ℕ) × (i ≡ length xs + j) × (slice_get ys j ≡ Some v))
+get_append [] ys i v g = inr (i, omega arith, g)
+get_append (x ∷ xs) ys zero v g = inl g
+get_append (x ∷ xs) ys (suc i) v g = ⊎_elim inl (λ (j, at, is). inr (j, omega arith, is)) (get_append xs ys i v g)
+
+replicate_length : {A : Type 0} (n : ℕ) (v : A) → length (replicate n v) ≡ n
+replicate_length zero v = refl
+replicate_length (suc n) v = ap suc (replicate_length n v)
+
+min_left : (a b : ℕ) → min a b ≤ a
+min_left a b = omega arith
+
+min_right : (a b : ℕ) → min a b ≤ b
+min_right a b = omega arith
+
+min_short : (a b : ℕ) → min a b < a → min a b ≡ b
+min_short a b l = omega arith
+
+-- ---- a longer history
+
+replica_grow : (m : Opening) (h rs : History) (replica : ReplicaView) (hand : HandView) → ReplicaStands m h replica hand → ReplicaStands m (h ++ rs) replica hand
+replica_grow m h rs replica hand x = record {
+  tail = (let l = x.tail in let e = length-append h rs in omega arith);
+  maps = x.maps ∙ sym (after_more m h rs replica.tail x.tail);
+  begins = x.begins;
+  next = λ j f g. get_more h rs (replica.tail + j) f (x.next j f g);
+  window = x.window;
+}
+
+batch_grow : (m : Opening) (h rs : History) (replica : ReplicaView) (hand : HandView) (b : NodeBatch) → replica.tail ≤ length h → BatchStands m h replica hand b → BatchStands m (h ++ rs) replica hand b
+batch_grow m h rs replica hand NoBatch l x = x
+batch_grow m h rs replica hand (ClaimedBatch b) l x = x
+batch_grow m h rs replica hand (AppendedBatch b) l x = record {
+  first = x.first;
+  count = x.count;
+  placed = λ k r lt g. get_more h rs (b.first + k) r (x.placed k r lt g);
+  ahead = x.ahead;
+  known = λ k r lt g below. let e = x.known k r lt g below in (e.0, effect_more m h rs (b.first + k) r.op (omega arith) ∙ e.1, e.2);
+  ended = x.ended;
+}
+
+module _ (m : Opening) (w : WorldView) (h : History) (places : Places) (t : Trace) (n : ℕ) (node : NodeView) (b : BatchView) (at_n : slice_get w.nodes n ≡ Some node) (is_b : node.batch ≡ ClaimedBatch b)
+    (above : w.log.base ≤ node.replica.tail) (x : Stands m w h places t) where
+  few : room_for w.log b.records ≤ length b.records
+  few = min_left (length b.records) (left_of w.log)
+
+  fits : length h + room_for w.log b.records ≤ m.config.limit
+  fits = let a = min_right (length b.records) (left_of w.log) in let e = x.log.ends in let l = x.log.limit in let v = x.log.within in omega arith
+
+  end : Grown m w h places t n b (room_for w.log b.records)
+  end = grown_to m w h places t n node b at_n is_b x (room_for w.log b.records) few fits
+
+  abbrev pub all_of : History
+  all_of = h ++ take (room_for w.log b.records) b.records
+
+  len : length all_of ≡ length h + room_for w.log b.records
+  len = grown_length m w h places t n node b at_n is_b x (room_for w.log b.records) few
+
+  log_then : LogStands m (grown w.log b.records) all_of
+  log_then = record {
+    ends = (let e = x.log.ends in let a = length-append w.log.records (take (room_for w.log b.records) b.records) in let c = length-append h (take (room_for w.log b.records) b.records) in omega arith);
+    kept = λ j f g. ⊎_elim (λ old. get_more h (take (room_for w.log b.records) b.records) (w.log.base + j) f (x.log.kept j f old))
+        (λ (i, at, new). let e = x.log.ends in let same : length h + i ≡ w.log.base + j = omega arith in
+        subst (λ k. slice_get all_of k ≡ Some f) same (get_right h (take (room_for w.log b.records) b.records) i f new))
+        (get_append w.log.records (take (room_for w.log b.records) b.records) j f g);
+    reclaimed = x.log.reclaimed;
+    maps = x.log.maps ∙ sym (after_more m h (take (room_for w.log b.records) b.records) w.log.base (let a = x.log.reclaimed in let b = x.log.done in omega arith));
+    done = (let d = x.log.done in let l = len in omega arith);
+    limit = x.log.limit;
+    within = (let l = len in let f = fits in omega arith);
+    window = x.log.window;
+  }
+
+  node_then : NodeStands m w.log.done all_of (end.places_then) t n (with_appended w.log b node)
+  node_then =
+      let o = x.nodes n node at_n in
+      let r = replica_grow m h (take (room_for w.log b.records) b.records) node.replica node.hand o.replica in
+      let hand_end : node.replica.tail + length (records_from (grown w.log b.records) node.replica.tail) ≡ length h + room_for w.log b.records =
+      (let e = log_then.ends in let l = len in let d = length-drop (node.replica.tail - w.log.base) (grown w.log b.records).records in let i = o.replica.tail in let f = few in omega arith) in
+      let yes = eq-eqb n n refl in
+      let first : length h ≡ tail_of w.log = sym x.log.ends in
+      record {
+        replica = record {
+          tail = r.tail;
+          maps = r.maps;
+          begins = refl;
+          next = λ j f g. let i : w.log.base + ((node.replica.tail - w.log.base) + j) ≡ node.replica.tail + j = omega arith in
+              subst (λ k. slice_get all_of k ≡ Some f) i (log_then.kept ((node.replica.tail - w.log.base) + j) f (sym (get_drop (grown w.log b.records).records (node.replica.tail - w.log.base) j) ∙ g));
+          window = o.replica.window;
+        };
+        desk = record {
+          number = o.desk.number;
+          slots = o.desk.slots;
+          reads = o.desk.reads;
+          own = subst (λ y. IsBatchOf node.desk (batch_in y)) is_b o.desk.own;
+          answers = subst (λ y. length (batch_in y).answers ≡ length (batch_in y).records) is_b o.desk.answers;
+        };
+        batch = record {
+          first = refl;
+          count = replicate_length (room_for w.log b.records) None;
+          placed = λ k q lt g. subst (λ f. slice_get all_of (f + k) ≡ Some q) first
+              (get_right h (take (room_for w.log b.records) b.records) k q (get_taken (room_for w.log b.records) b.records k q g lt));
+          ahead = (let e = hand_end in let f = first in omega arith);
+          known = λ k q lt g below. absurd (let i = o.replica.tail in let f = first in omega arith);
+          ended = λ short. let s = min_short (length b.records) (left_of w.log) short in let e = hand_end in let a = x.log.ends in let l = x.log.within in let v = x.log.limit in omega arith;
+        };
+        seats = λ s z read there begun.
+            subst (λ f. StageStands m w.log.done all_of (end.places_then) t (session m.config n s) (placed f b (room_for w.log b.records)) z.count z.stage read) first
+            (subst (λ v. StageStands m w.log.done all_of (end.places_then) t (session m.config n s) (if v then placed (length h) b (room_for w.log b.records) else node.batch) z.count z.stage read) yes
+            (end.seats n node at_n s z read there begun));
+      }
+
+  other_then : (k : ℕ) (old : NodeView) → k ≢ n → slice_get w.nodes k ≡ Some old → NodeStands m w.log.done all_of (end.places_then) t k old
+  other_then k old ne g =
+      let o = x.nodes k old g in
+      let no = ne_eqb k n ne in
+      record {
+        replica = replica_grow m h (take (room_for w.log b.records) b.records) old.replica old.hand o.replica;
+        desk = o.desk;
+        batch = batch_grow m h (take (room_for w.log b.records) b.records) old.replica old.hand old.batch o.replica.tail o.batch;
+        seats = λ s z read there begun.
+            subst (λ v. StageStands m w.log.done all_of (end.places_then) t (session m.config k s) (if v then placed (length h) b (room_for w.log b.records) else old.batch) z.count z.stage read) no
+            (end.seats k old g s z read there begun);
+      }
+
+  pub appended_stands : Kept m w h places t n (silent (grown w.log b.records) (with_appended w.log b node))
+  appended_stands = (
+    take (room_for w.log b.records) b.records,
+    end.more,
+    subst (λ ps. Stands m (record { log = grown w.log b.records; nodes = slice_set w.nodes n (with_appended w.log b node) }) all_of ps t) end.begins (record {
+      catalogue = x.catalogue;
+      explains = end.explains;
+      log = log_then;
+      stamps = x.stamps;
+      nodes = nodes_put (λ k y. NodeStands m w.log.done all_of (end.places_then) t k y) w.nodes n (with_appended w.log b node) other_then node_then;
+    }),
+  )
+
+pub keeps_append : (m : Opening) (w : WorldView) (h : History) (places : Places) (t : Trace) (n : ℕ) (node : NodeView) (p : Part)
+    → slice_get w.nodes n ≡ Some node → append w.log node ≡ Some p → Stands m w h places t → Kept m w h places t n p
+keeps_append m w h places t n node p at_n taken x =
+    let r = then_gives _ (claimed_batch node.batch) p taken in
+    let b : BatchView = r.0 in
+    let c = cond_gives (nat_le w.log.base node.replica.tail && nat_le (length (grown w.log b.records).records) w.log.window) _ p r.2 in
+    let tests = and_parts (nat_le w.log.base node.replica.tail) (nat_le (length (grown w.log b.records).records) w.log.window) c.0 in
+    subst (λ z. Kept m w h places t n z) (same_Some _ p c.1)
+    (appended_stands m w h places t n node b at_n (claimed_is node.batch b r.1) (leb-true w.log.base node.replica.tail tests.0) x)

@@ -1,0 +1,13 @@
+pub mod Lists
+pub mod Options
+pub mod Slots
+pub mod Traces
+pub mod Explained
+pub mod Seats
+pub mod Calls
+pub mod Logs
+pub mod Replays
+pub mod Desks
+pub mod Appends
+pub mod Append
+pub mod Runs

@@ -1,0 +1,227 @@
+-- A replica applies what was copied for it.
+use Rattle.std.proofs.Common.{◌≡◌, ◌≢◌, ℕ, zero, suc, ◌+◌, ◌-◌, ◌<◌, ◌≤◌, true, false, Bool, List, [], ◌∷◌, length, take, Some, refl, sym, ap, ◌∙◌, inl, inr, ⊎_elim, arith, subst}
+use Rattle.std.specs.Prelude.{slice_get, slice_set, ◌⊎◌, ◌&&◌, ◌||◌, not, nat_lt, nat_le, if◌then◌else◌}
+use Rattle.std.proofs.lemmas.Option.{none-some, same_Some}
+use Rattle.std.proofs.lemmas.Bool.{cases_eq, le-leb, and_parts, or_cases, leb-true, ltb-true}
+use Rattle.maps.specs.Maps.{Maps}
+use Rattle.loader.specs.CatalogueView.{CatalogueView, IsCatalogue}
+use Rattle.oplog.specs.declared.records.Record.{Record}
+use Rattle.oplog.specs.History.{Effect, Meaning, History, after, maps_after, left_by, effect_at}
+use Rattle.oplog.specs.Logs.{HandView, tail_of, records_from}
+use Rattle.oplog.specs.Sessions.{session}
+use Rattle.replica.specs.StoreMeaning.{store_meaning, outcome_of, AreUpdates}
+use Rattle.replica.specs.Views.{ReplicaView, with_outcome}
+use Rattle.replica.proofs.Histories.{have_effects}
+use Rattle.combiner.specs.Desks.{BatchView, IsBatchOf}
+use Rattle.schedule.specs.declared.parts.Written.{Written}
+use Rattle.schedule.specs.declared.parts.NodeBatch.{NodeBatch}
+use Rattle.schedule.specs.declared.parts.NodeBatch.TheVariants.{NoBatch, ClaimedBatch, AppendedBatch}
+use Rattle.schedule.specs.Trace.{Trace, Places}
+use Rattle.schedule.specs.Explains.{Opening}
+use Rattle.schedule.specs.Worlds.{NodeView, WorldView, with_effect, outcomes_after, batch_after, replayed, to_run}
+use Rattle.schedule.specs.Steps.{Part, replay, is_none}
+use Rattle.schedule.specs.Stands.{DeskStands, NodeStands, LogStands, BatchStands, WrittenStands, Stands, batch_in, place_in}
+use Rattle.schedule.proofs.Lists.{get_drop, get_in, get_some, set_same, set_other, set_length}
+use Rattle.schedule.proofs.Options.{cond_gives, some_is}
+use Rattle.schedule.proofs.Seats.{stage_batch}
+use Rattle.schedule.proofs.Calls.{nodes_put, Kept, same_history}
+
+-- ---- the maps
+
+after_suc : {C M : Type 0} (E : Meaning C M) (c : C) (maps : M) (h : History) (k : ℕ) (r : Record) → slice_get h k ≡ Some r
+    → after E c maps (take (suc k) h) ≡ left_by (E.update c r.op (after E c maps (take k h))) (after E c maps (take k h))
+after_suc E c maps [] k r g = absurd (none-some r g)
+after_suc E c maps (x ∷ []) zero r g = ap (λ y. left_by (E.update c y.op maps) maps) (same_Some x r g)
+after_suc E c maps (x ∷ (y ∷ h)) zero r g = ap (λ y. left_by (E.update c y.op maps) maps) (same_Some x r g)
+after_suc E c maps (x ∷ h) (suc k) r g = after_suc E c (left_by (E.update c x.op maps) maps) h k r g
+
+-- the maps after one operation more
+pub after_next : (c : CatalogueView) (h : History) (k : ℕ) (r : Record) → slice_get h k ≡ Some r
+    → maps_after store_meaning c h (k + 1) ≡ left_by (store_meaning.update c r.op (maps_after store_meaning c h k)) (maps_after store_meaning c h k)
+after_next c h k r g = let i : k + 1 ≡ suc k = omega arith in ap (λ j. maps_after store_meaning c h j) i ∙ after_suc store_meaning c (store_meaning.opening c) h k r g
+
+first_there : (h rs : History) (r : Record) (tail : ℕ) → ((j : ℕ) (f : Record) → slice_get (r ∷ rs) j ≡ Some f → slice_get h (tail + j) ≡ Some f) → slice_get h tail ≡ Some r
+first_there h rs r tail next = let i : tail + 0 ≡ tail = omega arith in subst (λ k. slice_get h k ≡ Some r) i (next 0 r refl)
+
+later_there : (h rs : History) (r : Record) (tail : ℕ) → ((j : ℕ) (f : Record) → slice_get (r ∷ rs) j ≡ Some f → slice_get h (tail + j) ≡ Some f) → (j : ℕ) (f : Record) → slice_get rs j ≡ Some f → slice_get h ((tail + 1) + j) ≡ Some f
+later_there h rs r tail next j f g = let i : tail + suc j ≡ (tail + 1) + j = omega arith in subst (λ k. slice_get h k ≡ Some f) i (next (suc j) f g)
+
+-- a replica that applies the next records of the history is then at the end of them
+pub after_all : (c : CatalogueView) (h rs : History) (tail : ℕ) (maps : Maps) → ((j : ℕ) (f : Record) → slice_get rs j ≡ Some f → slice_get h (tail + j) ≡ Some f)
+    → maps ≡ maps_after store_meaning c h tail → tail ≤ length h
+    → (after store_meaning c maps rs ≡ maps_after store_meaning c h (tail + length rs)) × (tail + length rs ≤ length h)
+after_all c h [] tail maps next is inside = let i : tail ≡ tail + 0 = omega arith in (is ∙ ap (λ k. maps_after store_meaning c h k) i, omega arith)
+after_all c h (r ∷ rs) tail maps next is inside =
+    let there = first_there h rs r tail next in
+    let within = get_in h tail r there in
+    let step = ap (λ y. left_by (store_meaning.update c r.op y) y) is ∙ sym (after_next c h tail r there) in
+    let more = after_all c h rs (tail + 1) (left_by (store_meaning.update c r.op maps) maps) (later_there h rs r tail next) step (omega arith) in
+    let i : (tail + 1) + length rs ≡ tail + suc (length rs) = omega arith in
+    (more.0 ∙ ap (λ k. maps_after store_meaning c h k) i, (let l = more.1 in omega arith))
+
+-- ---- the batch
+
+set_at : {A : Type 0} (xs : List A) (i : ℕ) (v : A) → i < length xs → slice_get (slice_set xs i v) i ≡ Some v
+set_at xs i v l = let u = get_some xs i l in set_same xs i u.0 v u.1
+
+lengths : {A : Type 0} (b : Bool) (xs : List A) (i : ℕ) (v : A) → length (if b then slice_set xs i v else xs) ≡ length xs
+lengths true xs i v = set_length xs i v
+lengths false xs i v = refl
+
+abbrev replica_at : ℕ → Maps → ReplicaView
+replica_at tail maps = record { tail = tail; maps = maps }
+
+abbrev hand_of : HandView → History → HandView
+hand_of hand rs = record hand { records = rs }
+
+-- the record at the tail is applied, with this effect
+written_next : (m : Opening) (h : History) (tail : ℕ) (maps : Maps) (hand : HandView) (r : Record) (rs : History) (b : Written) (e : Effect Maps) (new : Maps)
+    → slice_get h tail ≡ Some r → effect_at store_meaning m.catalogue h tail r.op ≡ Some e
+    → WrittenStands m h (replica_at tail maps) (hand_of hand (r ∷ rs)) b
+    → WrittenStands m h (replica_at (tail + 1) new) (hand_of hand rs) (record b { replies = with_outcome b.replies tail (outcome_of e) })
+written_next m h tail maps hand r rs b e new there takes x =
+    let a = x.ahead in
+    let first = x.first in
+    let count = x.count in
+    record {
+      first = x.first;
+      count = lengths (nat_le b.replies.first tail) b.replies.outcomes (tail - b.replies.first) (Some (outcome_of e)) ∙ x.count;
+      placed = x.placed;
+      ahead = omega arith;
+      known = λ k q l g below. ⊎_elim
+          (λ now.
+          let yes : nat_le b.replies.first tail ≡ true = le-leb b.replies.first tail (omega arith) in
+          let at : tail - b.replies.first ≡ k = omega arith in
+          let same : r ≡ q = same_Some r q (sym there ∙ subst (λ i. slice_get h i ≡ Some q) now (x.placed k q l g)) in
+          let fits : k < length b.replies.outcomes = omega arith in (
+            e,
+            ap (λ i. effect_at store_meaning m.catalogue h i q.op) now ∙ ap (λ y. effect_at store_meaning m.catalogue h tail y.op) (sym same) ∙ takes,
+            (rw (yes, at) (set_at b.replies.outcomes k (Some (outcome_of e)) fits)),
+          ))
+          (λ other.
+          let before : b.first + k < tail = omega arith in
+          let yes : nat_le b.replies.first tail ≡ true = le-leb b.replies.first tail (omega arith) in
+          let ne : k ≢ tail - b.replies.first = λ same. absurd (omega arith) in
+          let old = x.known k q l g before in
+          (old.0, old.1, (rw yes (set_other b.replies.outcomes (tail - b.replies.first) (Some (outcome_of e)) k (Some (outcome_of old.0)) ne old.2))))
+          (cases_eq (b.first + k) tail);
+      ended = λ short. let f = x.ended short in omega arith;
+    }
+
+-- the records are applied, one by one
+pub written_all : (m : Opening) (h rs : History) (tail : ℕ) (maps : Maps) (hand : HandView) (b : Written) (new : ReplicaView) (left : HandView)
+    → IsCatalogue m.catalogue → AreUpdates m.catalogue h → ((j : ℕ) (f : Record) → slice_get rs j ≡ Some f → slice_get h (tail + j) ≡ Some f) → maps ≡ maps_after store_meaning m.catalogue h tail
+    → new.tail ≡ tail + length rs → left.records ≡ []
+    → WrittenStands m h (replica_at tail maps) (hand_of hand rs) b
+    → WrittenStands m h new left (record b { replies = outcomes_after m.catalogue maps tail rs b.replies })
+written_all m h [] tail maps hand b new left whole updates next is at empty x =
+    let a = x.ahead in
+    let nothing : length left.records ≡ 0 = ap length empty in
+    record {
+      first = x.first;
+      count = x.count;
+      placed = x.placed;
+      ahead = omega arith;
+      known = λ k r l g below. x.known k r l g (omega arith);
+      ended = λ short. let f = x.ended short in omega arith;
+    }
+written_all m h (r ∷ rs) tail maps hand b new left whole updates next is at empty x =
+    let there = first_there h rs r tail next in
+    let effects = have_effects m.catalogue whole h updates in
+    let has = effects.updates tail r.op (updates tail r there) in
+    let takes = has.1 in
+    let known = ap (λ y. store_meaning.update m.catalogue r.op y) is ∙ takes in
+    let step = ap (λ y. left_by (store_meaning.update m.catalogue r.op y) y) is ∙ sym (after_next m.catalogue h tail r there) in
+    written_all m h rs (tail + 1) (left_by (store_meaning.update m.catalogue r.op maps) maps) hand (record b { replies = with_effect b.replies tail (store_meaning.update m.catalogue r.op maps) }) new left
+    whole updates (later_there h rs r tail next) step (omega arith) empty
+    (subst (λ o. WrittenStands m h (replica_at (tail + 1) (left_by (store_meaning.update m.catalogue r.op maps) maps)) (hand_of hand rs) (record b { replies = with_effect b.replies tail o })) (sym known)
+    (written_next m h tail maps hand r rs b _ (left_by (store_meaning.update m.catalogue r.op maps) maps) there takes x))
+
+kept_records : (c : CatalogueView) (maps : Maps) (tail : ℕ) (rs : History) (b : NodeBatch) → batch_in (batch_after c maps tail rs b) ≡ batch_in b
+kept_records c maps tail rs NoBatch = refl
+kept_records c maps tail rs (ClaimedBatch b) = refl
+kept_records c maps tail rs (AppendedBatch b) = refl
+
+kept_places : (c : CatalogueView) (maps : Maps) (tail : ℕ) (rs : History) (b : NodeBatch) (k : ℕ) → place_in b k ≡ place_in (batch_after c maps tail rs b) k
+kept_places c maps tail rs NoBatch k = refl
+kept_places c maps tail rs (ClaimedBatch b) k = refl
+kept_places c maps tail rs (AppendedBatch b) k = refl
+
+batch_all : (m : Opening) (h rs : History) (tail : ℕ) (maps : Maps) (hand : HandView) (b : NodeBatch) (new : ReplicaView) (left : HandView)
+    → IsCatalogue m.catalogue → AreUpdates m.catalogue h → ((j : ℕ) (f : Record) → slice_get rs j ≡ Some f → slice_get h (tail + j) ≡ Some f) → maps ≡ maps_after store_meaning m.catalogue h tail
+    → new.tail ≡ tail + length rs → left.records ≡ []
+    → BatchStands m h (replica_at tail maps) (hand_of hand rs) b → BatchStands m h new left (batch_after m.catalogue maps tail rs b)
+batch_all m h rs tail maps hand NoBatch new left whole updates next is at empty x = tt
+batch_all m h rs tail maps hand (ClaimedBatch b) new left whole updates next is at empty x = tt
+batch_all m h rs tail maps hand (AppendedBatch b) new left whole updates next is at empty x = written_all m h rs tail maps hand b new left whole updates next is at empty x
+
+-- a hand that was empty has more records
+more_hand : (m : Opening) (h rs : History) (replica : ReplicaView) (hand : HandView) (b : NodeBatch) → hand.records ≡ [] → BatchStands m h replica hand b → BatchStands m h replica (hand_of hand rs) b
+more_hand m h rs replica hand NoBatch empty x = x
+more_hand m h rs replica hand (ClaimedBatch b) empty x = x
+more_hand m h rs replica hand (AppendedBatch b) empty x =
+    let nothing : length hand.records ≡ 0 = ap length empty in
+    let a = x.ahead in
+    record { first = x.first; count = x.count; placed = x.placed; ahead = omega arith; known = x.known; ended = λ short. let f = x.ended short in omega arith }
+
+-- what is run comes next, and the batch stands over it
+abbrev pub RunsNext : Opening → History → NodeView → History → Type 0
+RunsNext m h node rs = ((j : ℕ) (f : Record) → slice_get rs j ≡ Some f → slice_get h (node.replica.tail + j) ≡ Some f) × BatchStands m h node.replica (hand_of node.hand rs) node.batch
+
+pub runs_next : (m : Opening) (w : WorldView) (h : History) (places : Places) (t : Trace) (n : ℕ) (node : NodeView) (hand : History) → node.hand.records ≡ hand
+    → ((hand ≢ []) ⊎ ((w.log.base ≤ node.replica.tail) × (node.replica.tail < tail_of w.log))) → LogStands m w.log h → NodeStands m w.log.done h places t n node
+    → RunsNext m h node (to_run w.log node.replica.tail hand)
+runs_next m w h places t n node [] is can log x =
+    let b : w.log.base ≤ node.replica.tail = ⊎_elim (λ ne. absurd (ne refl)) (λ y. y.0) can in (
+      λ j f g. let i : w.log.base + ((node.replica.tail - w.log.base) + j) ≡ node.replica.tail + j = omega arith in
+          subst (λ k. slice_get h k ≡ Some f) i (log.kept ((node.replica.tail - w.log.base) + j) f (sym (get_drop w.log.records (node.replica.tail - w.log.base) j) ∙ g)),
+      more_hand m h (records_from w.log node.replica.tail) node.replica node.hand node.batch is x.batch,
+    )
+runs_next m w h places t n node (r ∷ rs) is can log x = (
+  subst (λ hand. (j : ℕ) (f : Record) → slice_get hand j ≡ Some f → slice_get h (node.replica.tail + j) ≡ Some f) is x.replica.next,
+  subst (λ hand. BatchStands m h node.replica (hand_of node.hand hand) node.batch) is x.batch,
+)
+
+pub keeps_replay : (m : Opening) (w : WorldView) (h : History) (places : Places) (t : Trace) (n : ℕ) (node : NodeView) (p : Part)
+    → slice_get w.nodes n ≡ Some node → replay m w.log node ≡ Some p → Stands m w h places t → Kept m w h places t n p
+keeps_replay m w h places t n node p at_n taken x =
+    let c = cond_gives (not (is_none node.hand.records) || (nat_le w.log.base node.replica.tail && nat_lt node.replica.tail (tail_of w.log))) _ p taken in
+    let can : (node.hand.records ≢ []) ⊎ ((w.log.base ≤ node.replica.tail) × (node.replica.tail < tail_of w.log)) =
+    ⊎_elim (λ y. inl (some_is node.hand.records y))
+    (λ y. let q = and_parts (nat_le w.log.base node.replica.tail) (nat_lt node.replica.tail (tail_of w.log)) y in inr (leb-true w.log.base node.replica.tail q.0, ltb-true node.replica.tail (tail_of w.log) q.1))
+    (or_cases (not (is_none node.hand.records)) (nat_le w.log.base node.replica.tail && nat_lt node.replica.tail (tail_of w.log)) c.0) in
+    let o = x.nodes n node at_n in
+    let rs : History = to_run w.log node.replica.tail node.hand.records in
+    let runs = runs_next m w h places t n node node.hand.records refl can x.log o in
+    let end = after_all m.catalogue h rs node.replica.tail node.replica.maps runs.0 o.replica.maps o.replica.tail in
+    let new : NodeView = replayed m rs node in
+    subst (λ z. Kept m w h places t n z) (same_Some _ p c.1)
+    (same_history m (record { log = w.log; nodes = slice_set w.nodes n (replayed m rs node) }) h places t (record {
+      catalogue = x.catalogue;
+      explains = x.explains;
+      log = x.log;
+      stamps = x.stamps;
+      nodes = nodes_put (λ k y. NodeStands m w.log.done h places t k y) w.nodes n (replayed m rs node) (λ k old ne g. x.nodes k old g)
+          (record {
+            replica = record { tail = end.1; maps = end.0; begins = refl; next = λ j f g. absurd (none-some f g); window = o.replica.window };
+            desk = same_desk m n node rs o.desk;
+            batch = batch_all m h rs node.replica.tail node.replica.maps node.hand node.batch new.replica new.hand x.catalogue x.explains.updates runs.0 o.replica.maps refl refl runs.1;
+            seats = λ s y read there begun. stage_batch m w.log.done h places t (session m.config n s) node.batch new.batch y.count y.stage read
+                (λ k q at is. (
+                  subst (λ b. slice_get b.records k ≡ Some q) (sym (kept_records m.catalogue node.replica.maps node.replica.tail rs node.batch)) at,
+                  kept_places m.catalogue node.replica.maps node.replica.tail rs node.batch k,
+                ))
+                (o.seats s y read there begun);
+          });
+    }))
+  where
+    same_desk : (m : Opening) (n : ℕ) (node : NodeView) (rs : History) → DeskStands m n node → DeskStands m n (replayed m rs node)
+    same_desk m n node rs d =
+        let same = kept_records m.catalogue node.replica.maps node.replica.tail rs node.batch in
+        record {
+          number = d.number;
+          slots = d.slots;
+          reads = d.reads;
+          own = subst (λ b. IsBatchOf node.desk b) (sym same) d.own;
+          answers = subst (λ (b : BatchView). length b.answers ≡ length b.records) (sym same) d.answers;
+        }

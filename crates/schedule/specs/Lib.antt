@@ -1,0 +1,8 @@
+-- What has to be believed: traces and what explains them, the store as one value, its steps, and the headline.
+pub mod Trace
+pub mod Explains
+pub mod Worlds
+pub mod Steps
+pub mod Headline
+-- What holds at each moment.
+pub mod Stands

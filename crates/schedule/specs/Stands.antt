@@ -1,0 +1,128 @@
+-- What holds of a store, its history and its trace at each moment.
+use Rattle.std.specs.Prelude.{◌≡◌, ◌≢◌, ℕ, ◌+◌, ◌<◌, ◌≤◌, true, [], length, Option, Some, None, slice_get, if◌then◌else◌, nat_lt}
+use Rattle.maps.specs.Maps.{Maps}
+use Rattle.verifier.specs.declared.refusal.Mode.{Mode}
+use Rattle.verifier.specs.declared.refusal.Mode.TheVariants.{Update, Read}
+use Rattle.loader.specs.CatalogueView.{IsCatalogue}
+use Rattle.oplog.specs.declared.records.Record.{Record}
+use Rattle.oplog.specs.Operations.{Operation}
+use Rattle.oplog.specs.History.{Effect, History, maps_after, effect_at, reply_at}
+use Rattle.oplog.specs.Logs.{Log, HandView, tail_of}
+use Rattle.oplog.specs.Sessions.{session}
+use Rattle.combiner.specs.declared.slots.Reply.{Reply}
+use Rattle.combiner.specs.declared.slots.Reply.TheVariants.{Placed, Ended}
+use Rattle.combiner.specs.declared.slots.Stage.{Stage}
+use Rattle.combiner.specs.declared.slots.Stage.TheVariants.{Empty, Posted, Claimed, Answered}
+use Rattle.combiner.specs.declared.slots.Slot.{Slot}
+use Rattle.combiner.specs.Desks.{BatchView, IsBatchOf}
+use Rattle.replica.specs.StoreMeaning.{store_meaning, outcome_of, is_operation}
+use Rattle.replica.specs.Views.{ReplicaView}
+use Rattle.schedule.specs.declared.parts.BegunRead.{BegunRead}
+use Rattle.schedule.specs.declared.parts.Written.{Written}
+use Rattle.schedule.specs.declared.parts.NodeBatch.{NodeBatch}
+use Rattle.schedule.specs.declared.parts.NodeBatch.TheVariants.{NoBatch, ClaimedBatch, AppendedBatch}
+use Rattle.schedule.specs.Trace.{Answer, Back, Trace, Places, IsOpen, IsIdle, StampBefore, stamp}
+use Rattle.schedule.specs.Explains.{Opening, Explains, count_of}
+use Rattle.schedule.specs.Worlds.{NodeView, WorldView}
+
+-- the log is the history from the base on
+pub record LogStands (m : Opening) (g : Log) (h : History) : Type 0 where
+  pub ends : tail_of g ≡ length h
+  pub kept : (j : ℕ) (r : Record) → slice_get g.records j ≡ Some r → slice_get h (g.base + j) ≡ Some r
+  pub reclaimed : g.base ≤ g.done
+  pub maps : g.base_maps ≡ maps_after store_meaning m.catalogue h g.base
+  pub done : g.done ≤ length h
+  pub limit : g.limit ≡ m.config.limit
+  pub within : length h ≤ m.config.limit
+  pub window : g.window ≡ m.config.window
+
+-- the replica is at its tail, and the records copied for it are those that come next
+pub record ReplicaStands (m : Opening) (h : History) (replica : ReplicaView) (hand : HandView) : Type 0 where
+  pub tail : replica.tail ≤ length h
+  pub maps : replica.maps ≡ maps_after store_meaning m.catalogue h replica.tail
+  pub begins : hand.begin ≡ replica.tail
+  pub next : (j : ℕ) (r : Record) → slice_get hand.records j ≡ Some r → slice_get h (replica.tail + j) ≡ Some r
+  pub window : hand.window ≡ m.config.window
+
+-- the requests that a combiner has claimed, and their answers
+abbrev pub batch_in : NodeBatch → BatchView
+batch_in NoBatch = record { records = []; answers = [] }
+batch_in (ClaimedBatch b) = b
+batch_in (AppendedBatch b) = b.batch
+
+-- the desk is this node's, with a place for a read beside each slot; its claimed slots are those of the batch
+pub record DeskStands (m : Opening) (n : ℕ) (node : NodeView) : Type 0 where
+  pub number : node.desk.node ≡ n
+  pub slots : length node.desk.slots ≡ m.config.slots
+  pub reads : length node.reads ≡ m.config.slots
+  pub own : IsBatchOf node.desk (batch_in node.batch)
+  pub answers : length (batch_in node.batch).answers ≡ length (batch_in node.batch).records
+
+-- the k-th request of a batch in the log, where it has a place, has its record there, and once the replica has come past it its outcome
+pub record WrittenStands (m : Opening) (h : History) (replica : ReplicaView) (hand : HandView) (b : Written) : Type 0 where
+  pub first : b.replies.first ≡ b.first
+  pub count : length b.replies.outcomes ≡ b.count
+  pub placed : (k : ℕ) (r : Record) → k < b.count → slice_get b.batch.records k ≡ Some r → slice_get h (b.first + k) ≡ Some r
+  pub ahead : b.first + b.count ≤ replica.tail + length hand.records
+  pub known : (k : ℕ) (r : Record) → k < b.count → slice_get b.batch.records k ≡ Some r → b.first + k < replica.tail
+      → (e : Effect Maps) × (effect_at store_meaning m.catalogue h (b.first + k) r.op ≡ Some e) × (slice_get b.replies.outcomes k ≡ Some (Some (outcome_of e)))
+  pub ended : b.count < length b.batch.records → m.config.limit ≤ replica.tail + length hand.records
+
+abbrev pub BatchStands : Opening → History → ReplicaView → HandView → NodeBatch → Type 0
+BatchStands m h replica hand NoBatch = Unit {0}
+BatchStands m h replica hand (ClaimedBatch b) = Unit {0}
+BatchStands m h replica hand (AppendedBatch b) = WrittenStands m h replica hand b
+
+-- the place of the k-th request of a batch, if it has one
+abbrev pub place_in : NodeBatch → ℕ → Option ℕ
+place_in NoBatch k = None
+place_in (ClaimedBatch b) k = None
+place_in (AppendedBatch b) k = if nat_lt k b.count then Some (b.first + k) else None
+
+-- the call has this place, or no place
+abbrev pub HasPlace : Places → ℕ → Option ℕ → Type 0
+HasPlace places c None = (i : ℕ) → slice_get places i ≢ Some c
+HasPlace places c (Some i) = slice_get places i ≡ Some c
+
+abbrev pub ones : Option ℕ → ℕ
+ones None = 0
+ones (Some i) = 1
+
+-- call c is open, with that place or none, and the history has beside it as many records of the session as its slot has counted
+pub record OpenAt (m : Opening) (h : History) (places : Places) (t : Trace) (x count : ℕ) (mode : Mode) (op : Operation) (place : Option ℕ) (c : ℕ) : Type 0 where
+  pub is_open : IsOpen t x mode op c
+  pub may : is_operation mode m.catalogue op ≡ true
+  pub has : HasPlace places c place
+  pub counts : count_of x h ≡ count + ones place
+
+-- the answer that waits for the session is the right one to its open call, and is completed
+abbrev pub ReplyStands : Opening → ℕ → History → Places → Trace → ℕ → ℕ → Reply → Type 0
+ReplyStands m done h places t x count (Placed i reply) =
+    (op : Operation) × (c : ℕ) × OpenAt m h places t x count Update op (Some i) c × (i < done) × (reply_at store_meaning m.catalogue h i op ≡ Some reply)
+ReplyStands m done h places t x count Ended = (op : Operation) × (c : ℕ) × OpenAt m h places t x count Update op None c × (m.config.limit ≤ done)
+
+-- the session's open call is where its slot says
+abbrev pub StageStands : Opening → ℕ → History → Places → Trace → ℕ → NodeBatch → ℕ → Stage → Option BegunRead → Type 0
+StageStands m done h places t x batch count Empty None = IsIdle t x × (count_of x h ≡ count)
+StageStands m done h places t x batch count Empty (Some read) =
+    (c : ℕ) × OpenAt m h places t x count Read read.op None c × (read.seen ≤ done) × ((s : ℕ) → StampBefore m.config.limit t c s → s ≤ read.seen)
+StageStands m done h places t x batch count (Posted op) None = (c : ℕ) × OpenAt m h places t x count Update op None c
+StageStands m done h places t x batch count Claimed None =
+    (c k : ℕ) × (r : Record) × (slice_get (batch_in batch).records k ≡ Some r) × (r.author ≡ x) × (r.seq ≡ count) × OpenAt m h places t x count Update r.op (place_in batch k) c
+StageStands m done h places t x batch count (Answered reply) None = ReplyStands m done h places t x count reply
+StageStands m done h places t x batch count stage (Some read) = ⊥
+
+pub record NodeStands (m : Opening) (done : ℕ) (h : History) (places : Places) (t : Trace) (n : ℕ) (node : NodeView) : Type 0 where
+  pub replica : ReplicaStands m h node.replica node.hand
+  pub desk : DeskStands m n node
+  pub batch : BatchStands m h node.replica node.hand node.batch
+  pub seats : (s : ℕ) (x : Slot) (read : Option BegunRead) → slice_get node.desk.slots s ≡ Some x → slice_get node.reads s ≡ Some read
+      → StageStands m done h places t (session m.config n s) node.batch x.count x.stage read
+
+-- the history stands for the store: it explains the trace, the log and the nodes agree with it, and what was answered is completed
+pub record Stands (m : Opening) (w : WorldView) (h : History) (places : Places) (t : Trace) : Type 0 where
+  pub catalogue : IsCatalogue m.catalogue
+  pub explains : Explains m h places t
+  pub log : LogStands m w.log h
+  pub stamps : (b x : ℕ) (answer : Answer) → slice_get t b ≡ Some (Back x answer) → stamp m.config.limit answer ≤ w.log.done
+  pub nodes : (n : ℕ) (node : NodeView) → slice_get w.nodes n ≡ Some node → NodeStands m w.log.done h places t n node

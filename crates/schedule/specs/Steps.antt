@@ -1,0 +1,213 @@
+-- The steps of a store: when each may be taken, what it makes of the log and of its node, and which event it is.
+use Rattle.std.specs.Prelude.{ℕ, ◌+◌, Bool, true, false, ◌&&◌, ◌||◌, not, List, [], ◌∷◌, ◌++◌, length, Option, Some, None, option_map, slice_get, slice_set, nat_lt, nat_le, cond}
+use Rattle.std.specs.Option.{option_and_then}
+use Rattle.verifier.specs.declared.refusal.Mode.TheVariants.{Update, Read}
+use Rattle.oplog.specs.declared.records.Record.{Record}
+use Rattle.oplog.specs.Operations.{Operation}
+use Rattle.oplog.specs.Logs.{Log, tail_of, records_from}
+use Rattle.combiner.specs.declared.slots.Slot.{Slot}
+use Rattle.combiner.specs.Slots.{is_empty}
+use Rattle.combiner.specs.Desks.{BatchView, first_author, posted, has_request, batch_of, claimed, replied, collected}
+use Rattle.replica.specs.StoreMeaning.{store_meaning, is_operation}
+use Rattle.schedule.specs.declared.parts.BegunRead.{BegunRead}
+use Rattle.schedule.specs.declared.parts.Written.{Written}
+use Rattle.schedule.specs.declared.parts.NodeBatch.{NodeBatch}
+use Rattle.schedule.specs.declared.parts.NodeBatch.TheVariants.{NoBatch, ClaimedBatch, AppendedBatch}
+use Rattle.schedule.specs.declared.steps.Step.{Step}
+use Rattle.schedule.specs.declared.steps.Step.TheVariants.{Post, Claim, Append, Replay, Finish, Reply, Collect, ReadBegin, ReadAnswer, Reclaim, Rebase}
+use Rattle.schedule.specs.Trace.{Updated, ReadBack, Event, Call, Back, Trace}
+use Rattle.schedule.specs.Explains.{Opening}
+use Rattle.schedule.specs.Worlds.{NodeView, WorldView, grown, written, replayed, to_run, answered_batch, reclaimed, rebased}
+
+-- what a step makes of the log and of its node, and the event that it is
+pub record Part : Type 0 where
+  pub log : Log
+  pub node : NodeView
+  pub event : Option Event
+
+abbrev pub silent : Log → NodeView → Part
+silent g node = record { log = g; node = node; event = None }
+
+abbrev pub says : Event → Log → NodeView → Part
+says e g node = record { log = g; node = node; event = Some e }
+
+-- ---- what guards ask
+
+-- the session of a slot of the node
+abbrev pub session_at : NodeView → ℕ → ℕ
+session_at node s = first_author node.desk + s
+
+abbrev pub is_free : Option Slot → Bool
+is_free (Some x) = is_empty x.stage
+is_free None = false
+
+abbrev pub no_read : Option (Option BegunRead) → Bool
+no_read (Some None) = true
+no_read (Some (Some read)) = false
+no_read None = false
+
+-- the slot is there, has no request, and no read was begun there
+abbrev pub is_idle : NodeView → ℕ → Bool
+is_idle node s = is_free (slice_get node.desk.slots s) && no_read (slice_get node.reads s)
+
+abbrev pub no_batch : NodeBatch → Bool
+no_batch NoBatch = true
+no_batch batch = false
+
+-- there are no records
+abbrev pub is_none : List Record → Bool
+is_none [] = true
+is_none (r ∷ rs) = false
+
+-- the requests of the batch, while they are claimed and not appended
+abbrev pub claimed_batch : NodeBatch → Option BatchView
+claimed_batch (ClaimedBatch b) = Some b
+claimed_batch batch = None
+
+-- the batch, once it is appended
+abbrev pub appended_batch : NodeBatch → Option Written
+appended_batch (AppendedBatch b) = Some b
+appended_batch batch = None
+
+-- the read that was begun at a slot
+abbrev pub read_at : NodeView → ℕ → Option BegunRead
+read_at node s = option_and_then (λ read. read) (slice_get node.reads s)
+
+abbrev pub with_read : NodeView → ℕ → Option BegunRead → NodeView
+with_read node s read = record node { reads = slice_set node.reads s read }
+
+-- ---- the steps of one node, over the log and the node; none where the step may not be taken
+
+abbrev pub post : Opening → ℕ → Operation → Log → NodeView → Option Part
+post m s op g node =
+    cond (is_idle node s && is_operation Update m.catalogue op)
+    (option_map (λ desk. says (Call (session_at node s) Update op) g (record node { desk = desk })) (posted s op node.desk))
+    None
+
+abbrev pub claim : Log → NodeView → Option Part
+claim g node =
+    cond (no_batch node.batch && has_request node.desk)
+    (Some (silent g (record node { desk = claimed node.desk; batch = ClaimedBatch (batch_of node.desk) })))
+    None
+
+-- the node with its batch in the log, and with the records of the log that its replica lacks
+abbrev pub with_appended : Log → BatchView → NodeView → NodeView
+with_appended g b node = record node {
+  batch = AppendedBatch (written g b);
+  hand = record node.hand { begin = node.replica.tail; records = records_from (grown g b.records) node.replica.tail };
+}
+
+abbrev pub append : Log → NodeView → Option Part
+append g node =
+    option_and_then (λ b.
+    cond (nat_le g.base node.replica.tail && nat_le (length (grown g b.records).records) g.window)
+    (Some (silent (grown g b.records) (with_appended g b node)))
+    None)
+    (claimed_batch node.batch)
+
+abbrev pub replay : Opening → Log → NodeView → Option Part
+replay m g node =
+    cond (not (is_none node.hand.records) || (nat_le g.base node.replica.tail && nat_lt node.replica.tail (tail_of g)))
+    (Some (silent g (replayed m (to_run g node.replica.tail node.hand.records) node)))
+    None
+
+abbrev pub finish : Log → NodeView → Option Part
+finish g node = cond (nat_lt g.done node.replica.tail) (Some (silent (record g { done = node.replica.tail }) node)) None
+
+abbrev pub reply : Log → NodeView → Option Part
+reply g node =
+    option_and_then (λ b.
+    cond (is_none node.hand.records && nat_le node.replica.tail g.done)
+    (Some (silent g (record node { desk = replied (answered_batch b) node.desk; batch = NoBatch })))
+    None)
+    (appended_batch node.batch)
+
+abbrev pub collect : ℕ → Log → NodeView → Option Part
+collect s g node = option_map (λ c. says (Back (session_at node s) (Updated c.reply)) g (record node { desk = c.desk })) (collected s node.desk)
+
+abbrev pub read_begin : Opening → ℕ → Operation → Log → NodeView → Option Part
+read_begin m s op g node =
+    cond (is_idle node s && is_operation Read m.catalogue op)
+    (Some (says (Call (session_at node s) Read op) g (with_read node s (Some (record { op = op; seen = g.done })))))
+    None
+
+abbrev pub read_answer : Opening → ℕ → Log → NodeView → Option Part
+read_answer m s g node =
+    option_and_then (λ read.
+    cond (nat_le read.seen node.replica.tail && nat_le node.replica.tail g.done)
+    (option_map (λ e. says (Back (session_at node s) (ReadBack (record { point = node.replica.tail; reply = e.reply }))) g (with_read node s None))
+    (store_meaning.read m.catalogue read.op node.replica.maps))
+    None)
+    (read_at node s)
+
+abbrev pub reclaim : Log → NodeView → Option Part
+reclaim g node =
+    cond (nat_lt g.base node.replica.tail && nat_le node.replica.tail g.done) (Some (silent (reclaimed g node.replica) node)) None
+
+abbrev pub rebase : Log → NodeView → Option Part
+rebase g node = cond (nat_lt node.replica.tail g.base && is_none node.hand.records) (Some (silent g (rebased g node))) None
+
+-- ---- the steps of a store
+
+abbrev pub node_of : Step → ℕ
+node_of (Post n s program argument) = n
+node_of (Claim n) = n
+node_of (Append n) = n
+node_of (Replay n) = n
+node_of (Finish n) = n
+node_of (Reply n) = n
+node_of (Collect n s) = n
+node_of (ReadBegin n s program argument) = n
+node_of (ReadAnswer n s) = n
+node_of (Reclaim n) = n
+node_of (Rebase n) = n
+
+-- what the step makes of the log and of its node
+abbrev pub part_of : Opening → Step → Log → NodeView → Option Part
+part_of m (Post n s program argument) = post m s (record { program = program; argument = argument.items })
+part_of m (Claim n) = claim
+part_of m (Append n) = append
+part_of m (Replay n) = replay m
+part_of m (Finish n) = finish
+part_of m (Reply n) = reply
+part_of m (Collect n s) = collect s
+part_of m (ReadBegin n s program argument) = read_begin m s (record { program = program; argument = argument.items })
+part_of m (ReadAnswer n s) = read_answer m s
+part_of m (Reclaim n) = reclaim
+part_of m (Rebase n) = rebase
+
+-- a store after a step, and the event that the step is
+pub record Took : Type 0 where
+  pub world : WorldView
+  pub event : Option Event
+
+-- the node's part of a step, in its store
+abbrev pub put_part : WorldView → ℕ → Part → Took
+put_part w n p = record { world = record { log = p.log; nodes = slice_set w.nodes n p.node }; event = p.event }
+
+-- the step of a store; none where it may not be taken
+abbrev pub took : Opening → WorldView → Step → Option Took
+took m w step = option_and_then (λ node. option_map (put_part w (node_of step)) (part_of m step w.log node)) (slice_get w.nodes (node_of step))
+
+-- a step that may not be taken changes nothing
+abbrev pub world_after : WorldView → Option Took → WorldView
+world_after w None = w
+world_after w (Some r) = r.world
+
+abbrev pub with_event : Trace → Option Event → Trace
+with_event t None = t
+with_event t (Some e) = t ++ e ∷ []
+
+abbrev pub trace_after : Trace → Option Took → Trace
+trace_after t None = t
+trace_after t (Some r) = with_event t r.event
+
+-- the store after these steps
+abbrev pub world_of : Opening → WorldView → List Step → WorldView
+world_of m w [] = w
+world_of m w (step ∷ steps) = world_of m (world_after w (took m w step)) steps
+
+-- the trace t with their events
+abbrev pub trace_of : Opening → WorldView → Trace → List Step → Trace
+trace_of m w t [] = t
+trace_of m w t (step ∷ steps) = trace_of m (world_after w (took m w step)) (trace_after t (took m w step)) steps

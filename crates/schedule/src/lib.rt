@@ -1,0 +1,12 @@
+//! Every schedule: a whole store as one value, and the steps that its actors take one after another, each with its guard. After
+//! every list of steps one list of operations explains all calls and answers so far (Calciu et al., "Black-box Concurrent Data
+//! Structures for NUMA Architectures", ASPLOS 2017; Herlihy and Wing, "Linearizability", TOPLAS 1990).
+#![tactic(auto)]
+
+mod laws;
+mod parts;
+mod steps;
+
+pub use laws::{every_schedule, standing_is_kept};
+pub use parts::{BegunRead, NodeBatch, Written};
+pub use steps::{Step, StepAnswer};

@@ -1,0 +1,38 @@
+// What a node has beside its replica and its desk.
+
+use combiner::Batch;
+use oplog::Op;
+use replica::Replies;
+
+/// A read that was called, and has no answer yet.
+#[derive(Clone, Copy)]
+pub struct BegunRead {
+    /// What it asks.
+    pub op: Op,
+    /// How many operations were completed when it was called.
+    pub seen: u64,
+}
+
+/// A batch in the log.
+#[derive(Drop)]
+pub struct Written {
+    /// Its requests.
+    pub batch: Batch,
+    /// The place of the first of them in the history.
+    pub first: u64,
+    /// How many of them, from the first on, have a place: for the others the history had no room.
+    pub count: usize,
+    /// Their outcomes, as far as the replica has applied them.
+    pub replies: Replies,
+}
+
+/// The batch of a node's combiner.
+#[derive(Drop)]
+pub enum NodeBatch {
+    /// There is none.
+    NoBatch,
+    /// Its requests are claimed at the desk.
+    ClaimedBatch(Batch),
+    /// They stand in the log.
+    AppendedBatch(Written),
+}

@@ -1,0 +1,94 @@
+// The steps of a store, and what they answer.
+
+use combiner::Reply;
+use readpath::ReadAnswer;
+
+/// A step: what one actor of a store does at once. It names a node, and where one is concerned a slot and a program, by their
+/// numbers, whether they are there or not.
+#[derive(Drop)]
+pub enum Step {
+    /// A session calls an update: its request stands in its slot of the desk.
+    Post {
+        /// The node.
+        node: u64,
+        /// The slot.
+        slot: u64,
+        /// The program's number in the catalogue.
+        program: u64,
+        /// Its argument.
+        argument: Vec<u8>,
+    },
+    /// A combiner claims the posted requests of its desk as its batch.
+    Claim {
+        /// The node.
+        node: u64,
+    },
+    /// The batch is appended to the log as far as the history may grow, and the records that the replica lacks are copied.
+    Append {
+        /// The node.
+        node: u64,
+    },
+    /// The replica applies the copied records, or where there are none those of the log that it lacks.
+    Replay {
+        /// The node.
+        node: u64,
+    },
+    /// What the replica has applied is completed.
+    Finish {
+        /// The node.
+        node: u64,
+    },
+    /// The requests of the batch are answered at the desk.
+    Reply {
+        /// The node.
+        node: u64,
+    },
+    /// A session takes its answer.
+    Collect {
+        /// The node.
+        node: u64,
+        /// The slot.
+        slot: u64,
+    },
+    /// A session calls a read, and notes how many operations are completed.
+    ReadBegin {
+        /// The node.
+        node: u64,
+        /// The slot.
+        slot: u64,
+        /// The program's number in the catalogue.
+        program: u64,
+        /// Its argument.
+        argument: Vec<u8>,
+    },
+    /// The read is answered by the replica.
+    ReadAnswer {
+        /// The node.
+        node: u64,
+        /// The slot.
+        slot: u64,
+    },
+    /// The log takes the replica as its base, and drops the records before.
+    Reclaim {
+        /// The node.
+        node: u64,
+    },
+    /// The replica takes the base of the log.
+    Rebase {
+        /// The node.
+        node: u64,
+    },
+}
+
+/// What a step answers.
+#[derive(Clone, Copy, Debug, PartialEq, Eq)]
+pub enum StepAnswer {
+    /// It was taken.
+    Done,
+    /// It may not be taken now: nothing is changed.
+    NotNow,
+    /// It was taken, and an update is answered.
+    Back(Reply),
+    /// It was taken, and a read is answered.
+    ReadBack(ReadAnswer),
+}

@@ -1,0 +1,8 @@
+-- The session stays one of the store.
+use Rattle.store.specs.Sessions.{IsOf}
+use Rattle.store_bench.proofs.serve.Given as goal
+
+abbrev pub invariant-loop-line : goal.invariant-loop-line
+invariant-loop-line g l =
+    (goal.iterator-loop-line g).can_next l.line-iterator ×
+    (goal.iterator-loop-line g).is_finite l.line-iterator × IsOf l.store l.session
