@@ -1,7 +1,5 @@
-use Rattle.std.proofs.Common.{rules, ◌≡◌, ◌<◌, ◌≤◌, ℕ, length, take, ap, ◌∙◌, sym, refl, arith, subst}
-use Rattle.std.proofs.lemmas.Grind.{common_steps}
+use Rattle.std.proofs.Common.{rules, ◌≤◌, arith}
 use Rattle.machine.proofs.Looking.{same_map}
-use Rattle.machine.proofs.Changing.{OthersAreKept}
 use Rattle.machine.proofs.Altering.{shape_ok, delete_key_told, deleted_leads}
 use Rattle.machine.proofs.calls.call_delete.Goals as goal
 

@@ -1,11 +1,8 @@
-use Rattle.std.proofs.Common.{rules, ◌≡◌, ◌<◌, ◌≤◌, ℕ, length, take, sym, ap, ◌∙◌, arith, subst}
-use Rattle.std.specs.Prelude.{slice_index_or, IfSome}
+use Rattle.std.proofs.Common.{rules, ◌≤◌, ap, ◌∙◌, arith}
+use Rattle.std.specs.Prelude.{slice_index_or}
 use Rattle.std.proofs.lemmas.Option.{slice_get_within}
-use Rattle.regkind.specs.declared.frames.Kind.{Kind}
 use Rattle.regkind.specs.declared.frames.Kind.TheVariants.{Unreadable}
-use Rattle.maps.specs.Shapes.{key_size, value_size}
 use Rattle.machine.proofs.Looking.{same_map}
-use Rattle.machine.proofs.Changing.{OthersAreKept}
 use Rattle.machine.proofs.Altering.{shape_ok, updates, update_key_told, update_value_told, updated_leads}
 use Rattle.machine.proofs.calls.call_update.Goals as goal
 
