@@ -36,13 +36,7 @@ pub(crate) fn call_helper(
 }
 
 /// A copy of so many bytes at a pointer, in an array that has room for a value.
-fn fetch(
-    stack: &[u8; 512],
-    maps: &MapSet,
-    argument: &[u8],
-    base: Base,
-    bytes: usize,
-) -> [u8; 256]
+fn fetch(stack: &[u8; 512], maps: &MapSet, argument: &[u8], base: Base, bytes: usize) -> [u8; 256]
     requires limits { AreShapesOk (stored_shapes maps.now) }
     requires some { 0 < bytes }
     requires few { bytes ≤ 256 }
