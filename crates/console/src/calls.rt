@@ -15,31 +15,39 @@ use loader::Catalogue;
 use std::alloc::AllocError;
 use verifier::{Accepted, Mode};
 
-// Runs program k, which is this, on an argument of its length.
+// A program of the catalogue, and its number there.
+#[derive(Clone, Copy)]
+struct Numbered<'a> {
+    number: u16,
+    program: &'a Accepted,
+}
+
+// Runs a program on an argument of its length.
 fn perform(
     node: &mut SingleNode,
     catalogue: &Catalogue,
-    k: u16,
-    program: &Accepted,
+    numbered: Numbered<'_>,
     argument: &[u8],
     out: &mut Vec<u8>,
 ) -> Result<(), AllocError>
     requires steady { IsSteady catalogue.now node.old }
-    requires program { program_at catalogue.now k ≡ Some program.now }
-    requires length { length argument.now ≡ program.now.arg_len }
+    requires program { program_at catalogue.now numbered.number ≡ Some numbered.program.now }
+    requires length { length argument.now ≡ numbered.program.now.arg_len }
     requires fits { length argument.now ≤ MAX_ARG_LEN }
-    requires shapes { program.now.shapes ≡ catalogue.now.shapes }
+    requires shapes { numbered.program.now.shapes ≡ catalogue.now.shapes }
     ensures steady { IsSteady catalogue.now node.new }
     ensures taken { (h : History) → Follows catalogue.now h node.old
-        → OnOk result (IsTaken catalogue.now (performed catalogue.now h (record { program = k; argument = argument.now }) program.now.mode) node.new out.old.items out.new.items) }
+        → OnOk result (IsTaken catalogue.now (performed catalogue.now h (record { program = numbered.entry.number; argument = argument.now }) numbered.entry.program.now.mode)
+        node.new out.old.items out.new.items) }
 {
+    let Numbered { number, program } = numbered;
     let place = node.tail();
     match program.mode() {
         Mode::Read => {
             let outcome = node.query(program, argument);
             put_read(out, place, outcome)
         }
-        Mode::Update => match node.submit(catalogue, k, argument) {
+        Mode::Update => match node.submit(catalogue, number, argument) {
             Some(outcome) => put_update(out, place, outcome),
             None => put_refused(out, 4),
         },
@@ -59,16 +67,16 @@ fn run_numbered(
     ensures taken { (h : History) → Follows catalogue.now h node.old
         → OnOk result (IsTaken catalogue.now (numbered catalogue.now h argument.now number) node.new out.old.items out.new.items) }
 {
-    let Some(k) = number else {
+    let Some(number) = number else {
         return put_refused(out, 1);
     };
-    let Some(program) = catalogue.program(k) else {
+    let Some(program) = catalogue.program(number) else {
         return put_refused(out, 1);
     };
     if argument.len() != program.arg_len() {
         return put_refused(out, 2);
     }
-    perform(node, catalogue, k, program, argument, out)
+    perform(node, catalogue, Numbered { number, program }, argument, out)
 }
 
 // Runs the program that a line calls, and writes what it answers.
