@@ -11,10 +11,11 @@ A manifest is a text that names the maps of a store and its programs:
     map array 8 16
     program five update 0 five.hex
 
-`map array VALUE ENTRIES` is a map of ENTRIES values of VALUE bytes each, `map hash KEY VALUE ENTRIES` one of at
-most ENTRIES keys of KEY bytes, each with such a value. `program NAME MODE ARGLEN FILE` is a program in the file FILE, as hexadecimal digits; its MODE is update or read, and its argument has
-ARGLEN bytes. `nrbpf check --help` says more, `nrbpf run --help` how programs are called, and
-`nrbpf asm --help` how they are written as text.
+`map array VALUE ENTRIES` is a map of ENTRIES values of VALUE bytes each, and `map hash KEY VALUE ENTRIES` one
+of at most ENTRIES keys of KEY bytes, each with such a value. `program NAME MODE ARGLEN FILE` is a program in
+the file FILE, as hexadecimal digits; its MODE is update or read, and its argument has ARGLEN bytes.
+`nrbpf check --help` says more, `nrbpf run --help` how programs are called, and `nrbpf asm --help` how they are
+written as text.
 
 Exit statuses: 0 all is well, 2 wrong words on the command line, 3 refused, 4 no memory,
 5 a file cannot be read or the output cannot be written.";
