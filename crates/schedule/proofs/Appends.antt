@@ -33,7 +33,7 @@ take_length (suc n) [] l = absurd (omega arith)
 take_length zero (x ∷ xs) l = refl
 take_length (suc n) (x ∷ xs) l = ap suc (take_length n xs (omega arith))
 
-take_snoc : {A : Type 0} (n : ℕ) (xs : List A) (v : A) → slice_get xs n ≡ Some v → take (suc n) xs ≡ take n xs ++ v ∷ []
+pub take_snoc : {A : Type 0} (n : ℕ) (xs : List A) (v : A) → slice_get xs n ≡ Some v → take (suc n) xs ≡ take n xs ++ v ∷ []
 take_snoc n [] v g = absurd (none-some v g)
 take_snoc zero (x ∷ []) v g = ap (λ y. y ∷ []) (same_Some x v g)
 take_snoc zero (x ∷ (y ∷ xs)) v g = ap (λ z. z ∷ []) (same_Some x v g)

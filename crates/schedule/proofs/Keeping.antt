@@ -1,19 +1,17 @@
 -- What a replay keeps, as one function of the records.
-use Rattle.std.proofs.Common.{◌≡◌, ◌≢◌, ℕ, zero, suc, ◌+◌, ◌-◌, ◌<◌, ◌≤◌, ◌^◌, true, false, Bool, List, [], ◌∷◌, ◌++◌, length, take, Option, Some, None, refl, sym, ap, ◌∙◌, inl, inr, ⊎_elim, arith, subst}
-use Rattle.std.specs.Prelude.{slice_get, ◌⊎◌, nat_le, if◌then◌else◌}
+use Rattle.std.proofs.Common.{◌≡◌, ℕ, zero, suc, ◌+◌, ◌-◌, ◌<◌, ◌≤◌, ◌^◌, List, [], ◌∷◌, length, take, Option, Some, None, refl, sym, ap, ◌∙◌, inl, inr, ⊎_elim, arith, subst}
+use Rattle.std.specs.Prelude.{slice_get, ◌⊎◌}
 use Rattle.std.proofs.lemmas.Option.{none-some, same_Some}
-use Rattle.std.proofs.lemmas.Bool.{cases_lt, cases_eq}
+use Rattle.std.proofs.lemmas.Bool.{cases_lt}
 use Rattle.maps.specs.Maps.{Maps, HasShapes, shapes_of}
-use Rattle.machine.specs.declared.running.Outcome.{Outcome}
 use Rattle.loader.specs.CatalogueView.{CatalogueView, IsCatalogue}
 use Rattle.oplog.specs.declared.records.Record.{Record}
-use Rattle.oplog.specs.Operations.{Operation}
 use Rattle.oplog.specs.History.{Effect, History, after, maps_after, left_by}
 use Rattle.oplog.specs.Logs.{HandView}
 use Rattle.replica.specs.StoreMeaning.{store_meaning, outcome_of, AreUpdates}
-use Rattle.replica.specs.Views.{ReplicaView, RepliesView, with_outcome}
+use Rattle.replica.specs.Views.{ReplicaView, RepliesView}
 use Rattle.replica.proofs.Histories.{have_effects}
-use Rattle.replica.specs.Replaying.{IsAnswered, KeepsOutcomes}
+use Rattle.replica.specs.Replaying.{KeepsOutcomes}
 use Rattle.replica.proofs.Kept.{count_with, at_with, off_with}
 use Rattle.schedule.specs.declared.parts.Written.{Written}
 use Rattle.schedule.specs.declared.parts.NodeBatch.{NodeBatch}
@@ -21,7 +19,7 @@ use Rattle.schedule.specs.declared.parts.NodeBatch.TheVariants.{NoBatch, Claimed
 use Rattle.schedule.specs.declared.parts.Opening.{Opening}
 use Rattle.schedule.specs.Worlds.{NodeView, with_effect, outcomes_after, batch_after, replayed}
 use Rattle.schedule.specs.Taking.{CanRun}
-use Rattle.schedule.proofs.Lists.{get_in, get_some}
+use Rattle.schedule.proofs.Lists.{get_some}
 use Rattle.schedule.proofs.Replays.{after_next, after_all, first_there, later_there}
 
 -- two lists that are equal at each place
@@ -116,9 +114,9 @@ keeps_after c maps place rs old new all x =
         ⊎_elim
         (λ before. x.others k (inl before) ∙ sym (after_off c maps place k rs old (inl before)))
         (λ from. ⊎_elim
-          (λ within. let at : old.first + k ≡ place + ((old.first + k) - place) = omega arith in there k ((old.first + k) - place) (omega arith) (omega arith) at)
-          (λ behind. x.others k (inr behind) ∙ sym (after_off c maps place k rs old (inr behind)))
-          (cases_lt (old.first + k) (place + length rs)))
+        (λ within. let at : old.first + k ≡ place + ((old.first + k) - place) = omega arith in there k ((old.first + k) - place) (omega arith) (omega arith) at)
+        (λ behind. x.others k (inr behind) ∙ sym (after_off c maps place k rs old (inr behind)))
+        (cases_lt (old.first + k) (place + length rs)))
         (cases_lt (old.first + k) place)
 
 -- ---- the function in the records' order
@@ -156,7 +154,7 @@ module _ {c : CatalogueView} {node : NodeView} (x : CanRun c node) where
   ran_with m replica hand batch same tail maps left is =
       let first : replica ≡ (let v : ReplicaView = record { tail = node.replica.tail + length node.hand.records; maps = after store_meaning m.catalogue node.replica.maps node.hand.records } in v) =
       ap (λ t. (let v : ReplicaView = record { tail = t; maps = replica.maps } in v)) tail
-          ∙ ap (λ k. (let v : ReplicaView = record { tail = node.replica.tail + length node.hand.records; maps = k } in v)) (maps ∙ ap (λ k. after store_meaning k node.replica.maps node.hand.records) (sym same)) in
+      ∙ ap (λ k. (let v : ReplicaView = record { tail = node.replica.tail + length node.hand.records; maps = k } in v)) (maps ∙ ap (λ k. after store_meaning k node.replica.maps node.hand.records) (sym same)) in
       let second : hand ≡ (let v : HandView = record node.hand { begin = node.replica.tail + length node.hand.records; records = [] } in v) =
       left ∙ ap (λ t. (let v : HandView = record node.hand { begin = t; records = [] } in v)) tail in
       let third : batch ≡ batch_after m.catalogue node.replica.maps node.replica.tail node.hand.records node.batch =

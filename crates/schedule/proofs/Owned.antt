@@ -1,41 +1,39 @@
 -- What is known of the log and a node of a store that stands for a history.
-use Rattle.std.proofs.Common.{◌≡◌, ◌≢◌, ℕ, zero, suc, ◌+◌, ◌-◌, ◌*◌, ◌<◌, ◌≤◌, ◌^◌, true, false, Bool, List, [], ◌∷◌, length, map, Option, Some, None, refl, sym, ap, ◌∙◌, inl, inr, ⊎_elim, arith, subst}
+use Rattle.std.proofs.Common.{◌≡◌, ◌≢◌, ℕ, suc, ◌<◌, ◌≤◌, ◌^◌, true, false, Bool, List, [], ◌∷◌, length, Option, Some, None, refl, sym, ap, ◌∙◌, inl, inr, ⊎_elim, arith, subst}
 use Rattle.std.specs.Prelude.{slice_get, ◌⊎◌, ◌&&◌, ◌||◌, ◌==◌, not, nat_le, nat_lt, cond, if◌then◌else◌}
 use Rattle.std.specs.List.{list_any}
-use Rattle.std.proofs.lemmas.Option.{none-some, same_Some}
-use Rattle.std.proofs.lemmas.Bool.{cases_Bool, and_parts, or_cases, leb-true, ltb-true, false≢true}
-use Rattle.maps.specs.Maps.{Maps, AreBytes, HasShapes, shapes_of}
+use Rattle.std.proofs.lemmas.Option.{none-some}
+use Rattle.std.proofs.lemmas.Bool.{and_parts, or_cases, leb-true, ltb-true, false≢true}
+use Rattle.maps.specs.Maps.{AreBytes, HasShapes, shapes_of}
 use Rattle.verifier.specs.declared.refusal.Mode.{Mode}
 use Rattle.verifier.specs.declared.refusal.Mode.TheVariants.{Update, Read}
 use Rattle.verifier.specs.Accepted.{Checked}
-use Rattle.loader.specs.CatalogueView.{CatalogueView, IsCatalogue}
+use Rattle.loader.specs.CatalogueView.{CatalogueView}
 use Rattle.oplog.specs.declared.configuration.TheConstants.{MAX_LIMIT}
-use Rattle.oplog.specs.declared.records.Record.{Record}
 use Rattle.oplog.specs.Operations.{Operation}
-use Rattle.oplog.specs.History.{History, maps_after}
+use Rattle.oplog.specs.History.{History}
 use Rattle.oplog.specs.Logs.{Log, tail_of}
 use Rattle.oplog.specs.Sessions.{session}
 use Rattle.combiner.specs.declared.slots.DeskRefused.{DeskRefused}
-use Rattle.combiner.specs.declared.slots.Reply.{Reply}
 use Rattle.combiner.specs.declared.slots.Reply.TheVariants.{Placed, Ended}
 use Rattle.combiner.specs.declared.slots.Stage.{Stage}
 use Rattle.combiner.specs.declared.slots.Stage.TheVariants.{Empty, Posted, Claimed, Answered}
 use Rattle.combiner.specs.declared.slots.Slot.{Slot}
-use Rattle.combiner.specs.Slots.{is_claimed, is_posted}
+use Rattle.combiner.specs.Slots.{is_claimed}
 use Rattle.combiner.specs.Desks.{DeskView, first_author, claimed_from, has_combiner, has_request, claim_refusal, claimed, batch_of, IsBatchOf}
-use Rattle.replica.specs.StoreMeaning.{store_meaning, program_at, is_mode, IsOperation, is_operation, AreUpdates}
+use Rattle.replica.specs.StoreMeaning.{program_at, is_mode, IsOperation, is_operation}
 use Rattle.replica.proofs.Tested.{is_tested, tests_true}
 use Rattle.replica.proofs.Histories.{have_effects}
 use Rattle.schedule.specs.declared.parts.BegunRead.{BegunRead}
 use Rattle.schedule.specs.declared.parts.NodeBatch.{NodeBatch}
-use Rattle.schedule.specs.declared.parts.NodeBatch.TheVariants.{NoBatch, ClaimedBatch, AppendedBatch}
+use Rattle.schedule.specs.declared.parts.NodeBatch.TheVariants.{NoBatch, ClaimedBatch}
 use Rattle.schedule.specs.declared.parts.Opening.{Opening}
 use Rattle.schedule.specs.declared.steps.StepAnswer.TheVariants as answers
 use Rattle.schedule.specs.Trace.{Trace, Places}
 use Rattle.schedule.specs.Explains.{count_of}
 use Rattle.schedule.specs.Worlds.{NodeView, to_run, replayed}
-use Rattle.schedule.specs.Steps.{Part, silent, read_at, claim, no_batch, has_next, is_none, replay}
-use Rattle.schedule.specs.Stands.{StageStands, NodeStands, batch_in}
+use Rattle.schedule.specs.Steps.{silent, read_at, claim, no_batch, has_next, is_none, replay}
+use Rattle.schedule.specs.Stands.{StageStands, batch_in}
 use Rattle.schedule.specs.Taking.{IsOfStore, TakesPart, CanRun, CanCopy, with_next}
 use Rattle.schedule.proofs.Lists.{get_in, get_some}
 use Rattle.schedule.proofs.Options.{some_is, read_is}
@@ -139,8 +137,8 @@ pub can_run : {m : Opening} {g : Log} {node : NodeView} (c : CatalogueView) → 
 can_run {m} {g} {node} c same x next =
     let can : (node.hand.records ≢ []) ⊎ ((g.base ≤ node.replica.tail) × (node.replica.tail < tail_of g)) =
     ⊎_elim (λ y. inl (some_is node.hand.records y))
-        (λ y. let q = and_parts (nat_le g.base node.replica.tail) (nat_lt node.replica.tail (tail_of g)) y in inr (leb-true g.base node.replica.tail q.0, ltb-true node.replica.tail (tail_of g) q.1))
-        (or_cases (not (is_none node.hand.records)) (nat_le g.base node.replica.tail && nat_lt node.replica.tail (tail_of g)) next) in
+    (λ y. let q = and_parts (nat_le g.base node.replica.tail) (nat_lt node.replica.tail (tail_of g)) y in inr (leb-true g.base node.replica.tail q.0, ltb-true node.replica.tail (tail_of g) q.1))
+    (or_cases (not (is_none node.hand.records)) (nat_le g.base node.replica.tail && nat_lt node.replica.tail (tail_of g)) next) in
     let runs = runs_next m (record { log = g; nodes = [] }) x.history x.places x.trace x.number node node.hand.records refl can x.log x.stands in
     subst (λ k. CanRun k (with_next g node)) same (record {
       history = x.history;

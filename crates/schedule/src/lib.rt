@@ -12,4 +12,4 @@ mod worlds;
 pub use laws::{every_schedule, standing_is_kept};
 pub use parts::{BegunRead, NodeBatch, Opening, Written};
 pub use steps::{Step, StepAnswer};
-pub use worlds::World;
+pub use worlds::{World, run_steps};

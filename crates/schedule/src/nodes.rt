@@ -181,7 +181,8 @@ impl Node {
         ensures may { result ≡ may_append log.now self.now.replica.tail self.now.batch }
     {
         match &self.batch {
-            NodeBatch::ClaimedBatch(batch) => log.base() <= self.replica.tail() && batch.records().len().min(log.left()) <= log.room(),
+            NodeBatch::ClaimedBatch(batch) => log.base() <= self.replica.tail()
+                && batch.records().len().min(log.left()) <= log.room(),
             _ => false,
         }
     }
@@ -329,7 +330,9 @@ impl Node {
         ensures ran { (m : TheOpening) → m.catalogue ≡ catalogue.now → self.new ≡ replayed m self.old.hand.records self.old }
     {
         match &mut self.batch {
-            NodeBatch::AppendedBatch(written) => self.replica.replay(&mut self.hand, catalogue, &mut written.replies),
+            NodeBatch::AppendedBatch(written) => self
+                .replica
+                .replay(&mut self.hand, catalogue, &mut written.replies),
             _ => {
                 let mut replies = Replies::new(0, 0);
                 self.replica.replay(&mut self.hand, catalogue, &mut replies);
@@ -342,7 +345,10 @@ impl Node {
         requires own { (m : TheOpening) × IsOfStore m log.now self.old }
         ensures replied { TakesPart (reply log.now self.old) log.now self.old log.now self.new result }
     {
-        if !self.hand.is_empty() || log.done() < self.replica.tail() || !matches!(self.batch, NodeBatch::AppendedBatch(_)) {
+        if !self.hand.is_empty()
+            || log.done() < self.replica.tail()
+            || !matches!(self.batch, NodeBatch::AppendedBatch(_))
+        {
             return StepAnswer::NotNow;
         }
         match mem::replace(&mut self.batch, NodeBatch::NoBatch) {
@@ -360,7 +366,12 @@ impl Node {
         ensures taken { TakesPart (part_of opening.now step.now log.old self.old) log.old self.old log.new self.new result }
     {
         match step {
-            Step::Post { slot, program, argument, .. } => match operation(&opening.catalogue, Mode::Update, *program, argument) {
+            Step::Post {
+                slot,
+                program,
+                argument,
+                ..
+            } => match operation(&opening.catalogue, Mode::Update, *program, argument) {
                 Some(op) => self.post(*slot, op),
                 None => StepAnswer::NotNow,
             },
@@ -370,11 +381,20 @@ impl Node {
             Step::Finish { .. } => self.finish(log),
             Step::Reply { .. } => self.reply(log),
             Step::Collect { slot, .. } => self.collect(*slot),
-            Step::ReadBegin { slot, program, argument, .. } => match operation(&opening.catalogue, Mode::Read, *program, argument) {
+            Step::ReadBegin {
+                slot,
+                program,
+                argument,
+                ..
+            } => match operation(&opening.catalogue, Mode::Read, *program, argument) {
                 Some(op) => self.read_begin(*slot, op, log.done()),
                 None => StepAnswer::NotNow,
             },
-            Step::ReadAnswer { slot, .. } => self.read_answer(&opening.catalogue, *slot, log.done()),
+            Step::ReadAnswer { slot, .. } => self.read_answer(
+                &opening.catalogue,
+                *slot,
+                log.done(),
+            ),
             Step::Reclaim { .. } => self.reclaim(log),
             Step::Rebase { .. } => self.rebase(log),
         }

@@ -6,8 +6,8 @@ ghost use Rattle.loader.specs.CatalogueView.{IsCatalogue};
 ghost use Rattle.oplog.specs.Limits.{IsConfig};
 ghost use Rattle.oplog.specs.declared.configuration.OpenError.TheVariants.{OutOfLimits};
 ghost use Rattle.schedule.specs.Worlds.{opened_node, opened_nodes};
-ghost use Rattle.schedule.specs.Steps.{node_of, took};
-ghost use Rattle.schedule.specs.Taking.{Takes, opened_store};
+ghost use Rattle.schedule.specs.Steps.{node_of, took, world_of};
+ghost use Rattle.schedule.specs.Taking.{Takes, KeepsStanding, opened_store, answers_to};
 
 use crate::nodes::Node;
 use crate::parts::Opening;
@@ -76,7 +76,11 @@ impl World {
         let Ok(nodes) = open_nodes(alloc, &opening) else {
             return Err(OpenError::NoMemory);
         };
-        Ok(World { opening, log, nodes })
+        Ok(World {
+            opening,
+            log,
+            nodes,
+        })
     }
 
     /// The log.
@@ -99,6 +103,7 @@ impl World {
     /// Takes a step, if it may be taken now.
     pub fn step(&mut self, step: &Step) -> StepAnswer
         ensures taken { Takes (took self.old.opening self.old.world step.now) self.old self.new result }
+        ensures stands { KeepsStanding self.old step.now self.new }
     {
         let number = step.node();
         if number >= self.nodes.len() as u64 {
@@ -106,4 +111,26 @@ impl World {
         }
         self.nodes[number as usize].take(&self.opening, &mut self.log, step)
     }
+}
+
+/// Takes the steps one after another, each if it may be taken then. All memory is taken before the first.
+///
+/// # Errors
+///
+/// The system has no memory left: no step is taken then.
+pub fn run_steps(
+    world: &mut World,
+    alloc: Global,
+    steps: &[Step],
+) -> Result<Vec<StepAnswer>, AllocError>
+    ensures world { IfOk result (λ answers. world.new ≡ record world.old { world = world_of world.old.opening world.old.world steps.now }) }
+    ensures answers { IfOk result (λ answers. answers.items ≡ answers_to world.old.opening world.old.world steps.now) }
+    ensures same { OnErr result (world.new ≡ world.old) }
+{
+    let mut answers = Vec::with_capacity(alloc, steps.len())?;
+    for step in steps {
+        let answer = world.step(step);
+        answers.push_reserved(answer);
+    }
+    Ok(answers)
 }

@@ -1,5 +1,5 @@
-use Rattle.std.proofs.Common.{◌≡◌, ◌∙◌, ◌<◌, ap, length, rules, arith}
-use Rattle.std.specs.Prelude.{slice_get, slice_set, Some}
+use Rattle.std.proofs.Common.{◌∙◌, ◌<◌, ap, length, rules}
+use Rattle.std.specs.Prelude.{slice_get, Some}
 use Rattle.schedule.proofs.Lists.{set_length}
 use Rattle.schedule.proofs.Answers.{answers_turn, answers_whole}
 use Rattle.schedule.proofs.nodes.answered.Goals as goal
@@ -12,7 +12,7 @@ loop-k-preserved c =
       answers = ap (λ b. length b.answers) c.answer.ensures.set ∙ set_length c.loop-k.batch.answers c.loop-k.k (Some c.answer_no-reply.result) ∙ c.loop-k.invariant.answers;
       set = λ j lt. ap (λ b. slice_get b.answers j) c.answer.ensures.set
           ∙ answers_turn c.args.written c.loop-k.k c.loop-k.batch.answers c.answer_no-reply.result inside c.loop-k.invariant.answers c.requires.run (λ o has at. c.answer_no-reply.ensures.placed o has at) c.answer_no-reply.ensures.ended
-              c.loop-k.invariant.set j lt;
+          c.loop-k.invariant.set j lt;
     }
 
 pub returns : goal.returns

@@ -1,6 +1,4 @@
-use Rattle.std.proofs.Common.{◌≡◌, sym, subst, true, false}
-use Rattle.oplog.specs.Logs.{Log}
-use Rattle.combiner.specs.Desks.{claim_refusal}
+use Rattle.std.proofs.Common.{sym, subst}
 use Rattle.schedule.specs.declared.steps.StepAnswer.TheVariants as answers
 use Rattle.schedule.specs.Steps.{claim}
 use Rattle.schedule.specs.Taking.{IsOfStore, TakesPart}

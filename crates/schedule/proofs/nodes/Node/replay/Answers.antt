@@ -1,6 +1,6 @@
-use Rattle.std.proofs.Common.{rules, ◌≡◌, sym, ◌∙◌, ap, subst, true, false}
+use Rattle.std.proofs.Common.{rules, sym, ◌∙◌, ap, subst}
 use Rattle.schedule.specs.Worlds.{replayed}
-use Rattle.schedule.specs.Taking.{IsOfStore, CanRun}
+use Rattle.schedule.specs.Taking.{CanRun}
 use Rattle.schedule.proofs.Owned.{can_copy, can_run, replay_taken}
 use Rattle.schedule.proofs.nodes.Node.replay.Goals as goal
 

@@ -1,6 +1,5 @@
-use Rattle.std.proofs.Common.{◌≡◌, sym, subst, rules, arith, ℕ, ◌<◌, length}
+use Rattle.std.proofs.Common.{sym, subst, rules}
 use Rattle.combiner.specs.Desks.{IsAnswered}
-use Rattle.schedule.specs.declared.parts.NodeBatch.TheVariants.{AppendedBatch}
 use Rattle.schedule.specs.Taking.{IsOfStore}
 use Rattle.schedule.proofs.Answers.{is_run, all_answered}
 use Rattle.schedule.proofs.nodes.Node.reply.Goals as goal

@@ -1,7 +1,7 @@
-use Rattle.std.proofs.Common.{◌≡◌, ◌∙◌, ap, sym, subst}
+use Rattle.std.proofs.Common.{◌∙◌, ap, sym, subst}
 use Rattle.schedule.specs.Worlds.{replayed}
 use Rattle.schedule.specs.Taking.{CanRun}
-use Rattle.schedule.proofs.Keeping.{run_shapes, run_fits, run_allowed, ran_written, ran_other}
+use Rattle.schedule.proofs.Keeping.{run_shapes, run_fits, run_allowed, ran_written}
 use Rattle.schedule.proofs.nodes.Node.run_hand.Goals as goal
 
 pub replay-requires-clause-shapes : goal.replay-requires-clause-shapes
@@ -20,6 +20,6 @@ returns-in-AppendedBatch c =
     let runs = subst (λ v. CanRun c.args.catalogue.now v) (sym c.self.view_is) c.requires.runs in
     record {
       ran = λ m same. ran_written runs m c.replay.new.self c.replay.new.hand c.in-AppendedBatch.written c.replay.new.replies same c.in-AppendedBatch.is c.replay.ensures.tail c.replay.ensures.maps c.replay.ensures.hand
-              c.replay.ensures.replies
+          c.replay.ensures.replies
           ∙ ap (λ v. replayed m v.hand.records v) c.self.view_is;
     }
