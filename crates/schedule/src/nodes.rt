@@ -1,6 +1,6 @@
 // A node, and its part of each step.
 
-ghost use Rattle.std.specs.Prelude.{◌≡◌, ◌+◌, ◌≤◌, ◌<◌, ◌^◌, true, false, length, Some, None, MatchOption, IfOk, replicate, slice_get, option_map, ◌≢◌};
+ghost use Rattle.std.specs.Prelude.{◌≡◌, ◌↔◌, IsTrue, ◌+◌, ◌≤◌, ◌<◌, ◌^◌, true, false, length, Some, None, MatchOption, IfOk, replicate, slice_get, option_map, ◌≢◌};
 ghost use Rattle.maps.specs.Maps.{shapes_of};
 ghost use Rattle.machine.specs.declared.running.Outcome.{Outcome as TheOutcome};
 ghost use Rattle.combiner.specs.declared.slots.Reply.TheVariants.{Placed, Ended};
@@ -129,7 +129,8 @@ impl Node {
     // An update is called at a slot.
     fn post(&mut self, slot: u64, op: Op) -> StepAnswer
         requires sized { length self.old.reads ≡ length self.old.desk.slots }
-        ensures posted { (m : TheOpening) (g : Log) → is_operation Update m.catalogue op ≡ true → TakesPart (post m slot op g self.old) g self.old g self.new result }
+        ensures posted { (m : TheOpening) (g : Log) → is_operation Update m.catalogue op ≡ true
+            → TakesPart (post m slot op g self.old) g self.old g self.new result }
     {
         if !self.is_idle(slot) {
             return StepAnswer::NotNow;
@@ -190,7 +191,8 @@ impl Node {
     // The replica applies the copied records, or where there are none those of the log that it lacks.
     fn replay(&mut self, catalogue: &Catalogue, log: &LogState) -> StepAnswer
         requires own { (m : TheOpening) × (m.catalogue ≡ catalogue.now) × IsOfStore m log.now self.old }
-        ensures replayed { (m : TheOpening) → m.catalogue ≡ catalogue.now → TakesPart (replay m log.now self.old) log.now self.old log.now self.new result }
+        ensures replayed { (m : TheOpening) → m.catalogue ≡ catalogue.now
+            → TakesPart (replay m log.now self.old) log.now self.old log.now self.new result }
     {
         if !self.has_next(log) {
             return StepAnswer::NotNow;
@@ -247,12 +249,14 @@ impl Node {
     // A read is called at a slot, when so many operations are completed.
     fn read_begin(&mut self, slot: u64, op: Op, seen: u64) -> StepAnswer
         requires sized { length self.old.reads ≡ length self.old.desk.slots }
-        ensures begun { (m : TheOpening) (g : Log) → g.done ≡ seen → is_operation Read m.catalogue op ≡ true → TakesPart (read_begin m slot op g self.old) g self.old g self.new result }
+        ensures begun { (m : TheOpening) (g : Log) → g.done ≡ seen → is_operation Read m.catalogue op ≡ true
+            → TakesPart (read_begin m slot op g self.old) g self.old g self.new result }
     {
         if !self.is_idle(slot) {
             return StepAnswer::NotNow;
         }
-        self.reads[slot as usize] = Some(BegunRead { op, seen });
+        let read = BegunRead { op, seen };
+        self.reads[slot as usize] = Some(read);
         StepAnswer::Done
     }
 
@@ -282,15 +286,23 @@ impl Node {
         }
     }
 
+    // Whether the replica may answer a read that saw so many operations completed, when so many are.
+    fn may_answer(&self, seen: u64, done: u64) -> bool
+        ensures may { IsTrue result ↔ ((seen ≤ self.now.replica.tail) × (self.now.replica.tail ≤ done)) }
+    {
+        ready(&self.replica, seen) && self.replica.tail() <= done
+    }
+
     // The read that was begun at a slot is answered, when so many operations are completed.
     fn read_answer(&mut self, catalogue: &Catalogue, slot: u64, done: u64) -> StepAnswer
         requires own { (m : TheOpening) × (g : Log) × (m.catalogue ≡ catalogue.now) × IsOfStore m g self.old }
-        ensures answered { (m : TheOpening) (g : Log) → m.catalogue ≡ catalogue.now → g.done ≡ done → TakesPart (read_answer m slot g self.old) g self.old g self.new result }
+        ensures answered { (m : TheOpening) (g : Log) → m.catalogue ≡ catalogue.now → g.done ≡ done
+            → TakesPart (read_answer m slot g self.old) g self.old g self.new result }
     {
         let Some(read) = self.begun(slot) else {
             return StepAnswer::NotNow;
         };
-        if !ready(&self.replica, read.seen) || done < self.replica.tail() {
+        if !self.may_answer(read.seen, done) {
             return StepAnswer::NotNow;
         }
         let given = self.answer_to(catalogue, &read.op);

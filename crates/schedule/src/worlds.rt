@@ -106,10 +106,21 @@ impl World {
         ensures stands { KeepsStanding self.old step.now self.new }
     {
         let number = step.node();
-        if number >= self.nodes.len() as u64 {
-            return StepAnswer::NotNow;
+        if number < self.nodes.len() as u64 {
+            self.step_at(number as usize, step)
+        } else {
+            StepAnswer::NotNow
         }
-        self.nodes[number as usize].take(&self.opening, &mut self.log, step)
+    }
+
+    // Takes a step of a node that is there, if it may be taken now.
+    fn step_at(&mut self, number: usize, step: &Step) -> StepAnswer
+        requires node { number ≡ node_of step.now }
+        requires there { number < length self.old.world.nodes }
+        ensures taken { Takes (took self.old.opening self.old.world step.now) self.old self.new result }
+        ensures stands { KeepsStanding self.old step.now self.new }
+    {
+        self.nodes[number].take(&self.opening, &mut self.log, step)
     }
 }
 

@@ -1,4 +1,4 @@
-use Rattle.std.proofs.Common.{◌≡◌, ◌≤◌, ◌∙◌, ap, rules, arith, Some, None}
+use Rattle.std.proofs.Common.{sym, subst, ◌≡◌, ◌≤◌, ◌∙◌, ap, rules, arith, Some, None}
 use Rattle.std.specs.Prelude.{option_map}
 use Rattle.oplog.specs.History.{ReadEffect}
 use Rattle.replica.specs.StoreMeaning.{store_meaning}
@@ -17,10 +17,9 @@ pub returns : goal.returns
 returns c = record {
   answered = λ m g same done.
       let at : read_at c.args.self.now c.args.slot ≡ Some c.in-Some.read = search rules in
-      let seen : c.in-Some.read.seen ≤ c.args.self.now.replica.tail = search rules in
-      let tail : c.tail.result ≡ c.args.self.now.replica.tail = c.tail.ensures.tail ∙ ap (λ v. v.replica.tail) c.self.view_is in
-      let late : c.args.self.now.replica.tail ≤ g.done = omega (arith, c.if-done-tail.false, tail, done) in
-      read_taken m g c.args.self.now _ c.args.slot c.in-Some.read c.answer_to-given.result at seen late c.answer_to-given.ensures.point
+      let may = c.may_answer.ensures.may.0 (search rules) in
+      let late : c.args.self.now.replica.tail ≤ g.done = subst (λ d. c.args.self.now.replica.tail ≤ d) (sym done) may.1 in
+      read_taken m g c.args.self.now _ c.args.slot c.in-Some.read c.answer_to-given.result at may.0 late c.answer_to-given.ensures.point
       (ap (λ k. option_map (λ (e : ReadEffect). e.reply) (store_meaning.read k c.in-Some.read.op c.args.self.now.replica.maps)) same ∙ c.answer_to-given.ensures.reply)
-      (ap (λ v. with_read v c.args.slot None) (c.self-2.view_is ∙ c.answer_to-given.ensures.same));
+      (ap (λ v. with_read v c.args.slot None) (c.self.view_is ∙ c.answer_to-given.ensures.same));
 }
