@@ -53,6 +53,8 @@ impl Batch {
     /// The records of the requests, in the order of their slots.
     pub fn records(&self) -> &[Record]
         ensures records { result.now ≡ self.now.records }
+        ensures few { length self.now.records ≤ 16 }
+        ensures answers { length self.now.answers ≡ length self.now.records }
     {
         self.records.as_slice()
     }

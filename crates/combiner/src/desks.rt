@@ -70,8 +70,8 @@ impl Desk {
         }
     }
 
-    // What stands in a slot.
-    fn slot(&self, slot: usize) -> Slot
+    /// What stands in a slot.
+    pub fn slot(&self, slot: usize) -> Slot
         requires slot { slot < length self.now.slots }
         ensures slot { slice_get self.now.slots slot ≡ Some result }
     {

@@ -3,7 +3,7 @@
 ghost use Rattle.std.specs.Prelude.{◌≡◌, IfOk};
 ghost use Rattle.console.specs.AsmAnswer.{hex_line, asm_refusal_text, decode_refusal_text, bad_hex_line};
 
-use crate::texts::put_number;
+use crate::texts::put_numbered;
 use asm::AsmRefusal;
 use insn::{DecodeRefusal, Insn, encode};
 use std::alloc::{AllocError, Global};
@@ -23,10 +23,8 @@ pub(crate) fn asm_refusal_text(alloc: Global, refusal: AsmRefusal) -> Result<Vec
     ensures { IfOk result (λ v. v.items ≡ asm_refusal_text refusal) }
 {
     let mut out = Vec::new(alloc);
-    out.extend_from_slice(b"line ")?;
-    put_number(&mut out, refusal.line as u64)?;
-    out.extend_from_slice(b": A")?;
-    put_number(&mut out, refusal.why.number() as u64)?;
+    put_numbered(&mut out, b"line ", refusal.line as u64)?;
+    put_numbered(&mut out, b": A", refusal.why.number() as u64)?;
     out.extend_from_slice(b"\n")?;
     Ok(out)
 }
@@ -39,10 +37,8 @@ pub(crate) fn decode_refusal_text(
     ensures { IfOk result (λ v. v.items ≡ decode_refusal_text refusal) }
 {
     let mut out = Vec::new(alloc);
-    out.extend_from_slice(b"D")?;
-    put_number(&mut out, refusal.why.number() as u64)?;
-    out.extend_from_slice(b" slot ")?;
-    put_number(&mut out, refusal.slot as u64)?;
+    put_numbered(&mut out, b"D", refusal.why.number() as u64)?;
+    put_numbered(&mut out, b" slot ", refusal.slot as u64)?;
     out.extend_from_slice(b"\n")?;
     Ok(out)
 }

@@ -3,7 +3,7 @@
 ghost use Rattle.std.specs.Prelude.{◌≡◌, ◌++◌, OnOk};
 ghost use Rattle.console.specs.RunAnswer.{outcome_text, update_text, read_text, refused_text, bad_line_text};
 
-use crate::texts::put_number;
+use crate::texts::{put_number, put_numbered};
 use machine::Outcome;
 use std::alloc::AllocError;
 
@@ -12,10 +12,8 @@ fn put_outcome(out: &mut Vec<u8>, place: u64, outcome: Outcome) -> Result<(), Al
     ensures { OnOk result (out.new.items ≡ out.old.items ++ outcome_text place outcome.reply outcome.steps) }
 {
     put_number(out, place)?;
-    out.extend_from_slice(b" reply ")?;
-    put_number(out, outcome.reply)?;
-    out.extend_from_slice(b" steps ")?;
-    put_number(out, outcome.steps as u64)?;
+    put_numbered(out, b" reply ", outcome.reply)?;
+    put_numbered(out, b" steps ", outcome.steps as u64)?;
     out.extend_from_slice(b"\n")
 }
 
@@ -39,8 +37,7 @@ pub(crate) fn put_read(out: &mut Vec<u8>, point: u64, outcome: Outcome) -> Resul
 pub(crate) fn put_refused(out: &mut Vec<u8>, number: u8) -> Result<(), AllocError>
     ensures { OnOk result (out.new.items ≡ out.old.items ++ refused_text number) }
 {
-    out.extend_from_slice(b"refused S")?;
-    put_number(out, number as u64)?;
+    put_numbered(out, b"refused S", number as u64)?;
     out.extend_from_slice(b"\n")
 }
 
@@ -48,7 +45,6 @@ pub(crate) fn put_refused(out: &mut Vec<u8>, number: u8) -> Result<(), AllocErro
 pub(crate) fn put_bad_line(out: &mut Vec<u8>, number: u32) -> Result<(), AllocError>
     ensures { OnOk result (out.new.items ≡ out.old.items ++ bad_line_text number) }
 {
-    out.extend_from_slice(b"line ")?;
-    put_number(out, number as u64)?;
+    put_numbered(out, b"line ", number as u64)?;
     out.extend_from_slice(b" bad\n")
 }

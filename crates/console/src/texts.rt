@@ -30,20 +30,25 @@ pub(crate) fn put_number(out: &mut Vec<u8>, n: u64) -> Result<(), AllocError>
     out.extend_from_slice(digits.format(n).as_bytes())
 }
 
+// A number in decimal behind a text.
+pub(crate) fn put_numbered(out: &mut Vec<u8>, before: &[u8], n: u64) -> Result<(), AllocError>
+    ensures { OnOk result (out.new.items ≡ out.old.items ++ (before.now ++ decimal n)) }
+{
+    out.extend_from_slice(before)?;
+    put_number(out, n)
+}
+
 // A program's line.
 fn put_program(out: &mut Vec<u8>, name: &str, program: &Accepted) -> Result<(), AllocError>
     ensures { OnOk result (out.new.items ≡ out.old.items ++ program_line (record { name = name.now; checked = program.now })) }
 {
     out.extend_from_slice(name.as_bytes())?;
-    out.extend_from_slice(b" ok ")?;
-    put_number(out, program.slots() as u64)?;
-    out.extend_from_slice(b" ")?;
-    put_number(out, program.instructions() as u64)?;
+    put_numbered(out, b" ok ", program.slots() as u64)?;
+    put_numbered(out, b" ", program.instructions() as u64)?;
     out.extend_from_slice(b"\n")
 }
 
 // The line of program k.
-// A number in decimal.
 pub(crate) fn put_program_of(
     out: &mut Vec<u8>,
     catalogue: &Catalogue,
@@ -72,20 +77,15 @@ pub(crate) fn programs_text(alloc: Global, catalogue: &Catalogue) -> Result<Vec<
 fn put_fault(out: &mut Vec<u8>, why: LoadFault) -> Result<(), AllocError>
     ensures { OnOk result (out.new.items ≡ out.old.items ++ fault_text why) }
 {
-    out.extend_from_slice(b"C")?;
-    put_number(out, why.number() as u64)?;
+    put_numbered(out, b"C", why.number() as u64)?;
     match why {
         LoadFault::Decode(e) => {
-            out.extend_from_slice(b" D")?;
-            put_number(out, e.why.number() as u64)?;
-            out.extend_from_slice(b" slot ")?;
-            put_number(out, e.slot as u64)
+            put_numbered(out, b" D", e.why.number() as u64)?;
+            put_numbered(out, b" slot ", e.slot as u64)
         }
         LoadFault::Verify(e) => {
-            out.extend_from_slice(b" V")?;
-            put_number(out, e.why.number() as u64)?;
-            out.extend_from_slice(b" slot ")?;
-            put_number(out, e.slot as u64)
+            put_numbered(out, b" V", e.why.number() as u64)?;
+            put_numbered(out, b" slot ", e.slot as u64)
         }
         _ => Ok(()),
     }
@@ -96,8 +96,7 @@ pub(crate) fn refusal_text(alloc: Global, refusal: LoadRefusal) -> Result<Vec<u8
     ensures { IfOk result (λ v. v.items ≡ refusal_text refusal) }
 {
     let mut out = Vec::new(alloc);
-    out.extend_from_slice(b"line ")?;
-    put_number(&mut out, refusal.line as u64)?;
+    put_numbered(&mut out, b"line ", refusal.line as u64)?;
     out.extend_from_slice(b": ")?;
     put_fault(&mut out, refusal.why)?;
     out.extend_from_slice(b"\n")?;

@@ -77,11 +77,22 @@ fn is_disassembled<R: Files>(rt: &R, alloc: Global, program: &str, text: &str) -
 
 fn main(rt: HostRuntime) -> io::Result<()> {
     let alloc = rt.alloc();
-    for folder in ["examples/five", "examples/counter", "examples/tutorial"] {
+    for folder in [
+        "examples/five",
+        "examples/counter",
+        "examples/tutorial",
+        "examples/key_value",
+        "examples/token_bucket",
+    ] {
         let same = is_checked(&rt, alloc, folder)?;
         println!(rt; "{folder}/check.out {same}")?;
     }
-    for folder in ["examples/counter", "examples/tutorial"] {
+    for folder in [
+        "examples/counter",
+        "examples/tutorial",
+        "examples/key_value",
+        "examples/token_bucket",
+    ] {
         let same = is_run(&rt, alloc, folder)?;
         println!(rt; "{folder}/run.out {same}")?;
     }
@@ -90,6 +101,12 @@ fn main(rt: HostRuntime) -> io::Result<()> {
         ("examples/counter/bump", "asm"),
         ("examples/counter/peek", "asm"),
         ("examples/tutorial/raise", "dis"),
+        ("examples/key_value/put", "dis"),
+        ("examples/key_value/get", "dis"),
+        ("examples/key_value/del", "asm"),
+        ("examples/key_value/cas", "dis"),
+        ("examples/token_bucket/take", "dis"),
+        ("examples/token_bucket/forget", "asm"),
     ] {
         let text = format!(in alloc; "{name}.asm")?;
         let program = format!(in alloc; "{name}.hex")?;

@@ -8,12 +8,12 @@ use Rattle.maps.specs.declared.shapes.Shape.TheVariants.{Array, Hash}
 use Rattle.verifier.specs.declared.refusal.Mode.{Mode}
 use Rattle.verifier.specs.declared.refusal.Mode.TheVariants.{Update, Read}
 use Rattle.text.specs.Fields.{split_at_space}
-use Rattle.maps.specs.declared.shapes.TheConstants.{MAX_VALUE_BYTES, MAX_ENTRIES}
+use Rattle.maps.specs.declared.shapes.TheConstants.{MAX_KEY_BYTES, MAX_VALUE_BYTES, MAX_ENTRIES}
 use Rattle.verifier.specs.declared.signature.TheConstants.{MAX_ARG_LEN}
 use Rattle.text.specs.Words.{IsFrom, number_within, is_name_byte, is_name}
 use Rattle.text.specs.declared.lines.TheConstants.{LINE_BYTES}
 use Rattle.text.proofs.LineReadings.{by_words, by_hash, by_empty}
-use Rattle.loader.specs.Grammar.{is_path, ProgramLine, Meaning, Comment, Map, Program, array_meaning, map_meaning, mode_of, program_meaning, words_meaning, line_meaning}
+use Rattle.loader.specs.Grammar.{is_path, ProgramLine, Meaning, Comment, Map, Program, array_meaning, hash_meaning, by_kind_of_map, map_meaning, mode_of, program_meaning, words_meaning, line_meaning}
 use Rattle.loader.specs.Spelling.{mode_word, Spells}
 use Rattle.text.proofs.Numbers.{own}
 use Rattle.text.proofs.Numerals.{numerals_are_decimals}
@@ -62,12 +62,24 @@ unfolding array_meaning
 array_to v e hv he =
     rw (split_to (decimal v) (decimal e) (no_space_in_number v (omega (arith, hv.1))), within 1 MAX_VALUE_BYTES v hv (omega arith), within 1 MAX_ENTRIES e he (omega arith)) refl
 
-map_to : (v e : ℕ) → IsFrom 1 MAX_VALUE_BYTES v → IsFrom 1 MAX_ENTRIES e → words_meaning (codes "map array " ++ (decimal v ++ 32 ∷ decimal e)) ≡ Some (Map (Array v e))
+hash_to : (k v e : ℕ) → IsFrom 1 MAX_KEY_BYTES k → IsFrom 1 MAX_VALUE_BYTES v → IsFrom 1 MAX_ENTRIES e → hash_meaning (decimal k ++ 32 ∷ (decimal v ++ 32 ∷ decimal e)) ≡ Some (Map (Hash k v e))
+unfolding hash_meaning
+hash_to k v e hk hv he =
+    rw (
+      split_to (decimal k) (decimal v ++ 32 ∷ decimal e) (no_space_in_number k (omega (arith, hk.1))),
+      split_to (decimal v) (decimal e) (no_space_in_number v (omega (arith, hv.1))),
+      within 1 MAX_KEY_BYTES k hk (omega arith),
+      within 1 MAX_VALUE_BYTES v hv (omega arith),
+      within 1 MAX_ENTRIES e he (omega arith),
+    ) refl
+
+-- a line of a map, by its second word
+map_to : (word rest : List ℕ) (x : Meaning) → has_no_space word ≡ true → by_kind_of_map word rest ≡ Some x → words_meaning (codes "map " ++ (word ++ 32 ∷ rest)) ≡ Some x
 unfolding words_meaning map_meaning
-map_to v e hv he =
-    let first : split_at_space (codes "map" ++ 32 ∷ (codes "array" ++ 32 ∷ (decimal v ++ 32 ∷ decimal e))) ≡ Some (codes "map", codes "array" ++ 32 ∷ (decimal v ++ 32 ∷ decimal e)) = split_to (codes "map") _ refl in
-    let second : split_at_space (codes "array" ++ 32 ∷ (decimal v ++ 32 ∷ decimal e)) ≡ Some (codes "array", decimal v ++ 32 ∷ decimal e) = split_to (codes "array") _ refl in
-    rw (first, second) (array_to v e hv he)
+map_to word rest x plain is =
+    let first : split_at_space (codes "map" ++ 32 ∷ (word ++ 32 ∷ rest)) ≡ Some (codes "map", word ++ 32 ∷ rest) = split_to (codes "map") _ refl in
+    let second : split_at_space (word ++ 32 ∷ rest) ≡ Some (word, rest) = split_to word rest plain in
+    rw (first, second) is
 
 abbrev fields : ProgramLine → List ℕ
 fields p = p.name ++ 32 ∷ (mode_word p.mode ++ 32 ∷ (decimal p.arg_len ++ 32 ∷ p.file))
@@ -107,7 +119,8 @@ pub respelled : (line : List ℕ) (x : Meaning) → length line ≤ LINE_BYTES �
 respelled line Comment le (inl empty) = subst (λ l. line_meaning l ≡ Some Comment) (sym empty) empty_to
 respelled line Comment le (inr (rest, whole)) = subst (λ l. length l ≤ LINE_BYTES → line_meaning l ≡ Some Comment) (sym whole) (comment_to rest) le
 respelled line (Map (Array v e)) le h =
-    subst (λ l. length l ≤ LINE_BYTES → line_meaning l ≡ Some (Map (Array v e))) (sym h.0) (λ s. of_words _ _ _ s refl (map_to v e h.1 h.2)) le
-respelled line (Map (Hash k v e)) le h = absurd h
+    subst (λ l. length l ≤ LINE_BYTES → line_meaning l ≡ Some (Map (Array v e))) (sym h.0) (λ s. of_words _ _ _ s refl (map_to (codes "array") _ _ refl (array_to v e h.1 h.2))) le
+respelled line (Map (Hash k v e)) le h =
+    subst (λ l. length l ≤ LINE_BYTES → line_meaning l ≡ Some (Map (Hash k v e))) (sym h.0) (λ s. of_words _ _ _ s refl (map_to (codes "hash") _ _ refl (hash_to k v e h.1 h.2 h.3))) le
 respelled line (Program p) le h =
     subst (λ l. length l ≤ LINE_BYTES → line_meaning l ≡ Some (Program p)) (sym h.0) (λ s. of_words _ _ _ s refl (program_to p h.1 h.2 h.3)) le

@@ -2,19 +2,19 @@
 use Rattle.std.proofs.Common.{◌≡◌, ◌⊎◌, inl, inr, ℕ, ◌≤◌, Bool, true, false, cond, leb, ◌&&◌, List, ◌∷◌, ◌++◌, length, codes, bytes_eq, decimal, Some, None, refl, sym, ap, ap₂, subst, ◌∙◌}
 use Rattle.std.proofs.lemmas.Bool.{leb-true, and_parts}
 use Rattle.std.proofs.lemmas.Slice.Eq.{bytes_eq-Decides}
-use Rattle.maps.specs.declared.shapes.Shape.TheVariants.{Array}
+use Rattle.maps.specs.declared.shapes.Shape.TheVariants.{Array, Hash}
 use Rattle.verifier.specs.declared.refusal.Mode.{Mode}
 use Rattle.verifier.specs.declared.refusal.Mode.TheVariants.{Update, Read}
 use Rattle.text.specs.Fields.{split_at_space}
-use Rattle.maps.specs.declared.shapes.TheConstants.{MAX_VALUE_BYTES, MAX_ENTRIES}
+use Rattle.maps.specs.declared.shapes.TheConstants.{MAX_KEY_BYTES, MAX_VALUE_BYTES, MAX_ENTRIES}
 use Rattle.verifier.specs.declared.signature.TheConstants.{MAX_ARG_LEN}
 use Rattle.text.specs.Words.{IsFrom, number_of, number_within, is_name}
 use Rattle.text.proofs.LineReadings.{IsSilent, by_kind_from}
 use Rattle.text.specs.declared.lines.TheConstants.{LINE_BYTES}
-use Rattle.loader.specs.Grammar.{is_path, Meaning, Comment, Map, Program, array_meaning, map_meaning, mode_of, program_meaning, words_meaning, line_meaning}
+use Rattle.loader.specs.Grammar.{is_path, Meaning, Comment, Map, Program, array_meaning, hash_meaning, map_meaning, mode_of, program_meaning, words_meaning, line_meaning}
 use Rattle.loader.specs.Spelling.{mode_word, Spells}
 use Rattle.text.proofs.Numerals.{numerals_are_decimals}
-use Rattle.text.proofs.Cuts.{steps, where_true, if_true, split_from}
+use Rattle.text.proofs.Cuts.{steps, where_true, split_from}
 
 within : (low high : ℕ) (t : List ℕ) (n : ℕ) → number_within low high t ≡ Some n → (t ≡ decimal n) × IsFrom low high n
 unfolding number_within
@@ -40,13 +40,32 @@ array_from t x e =
 word_is : (w : List ℕ) (word : List ℕ) → bytes_eq w word ≡ true → w ≡ word
 word_is w word e = (bytes_eq-Decides w word).0 e
 
+hash_from : (t : List ℕ) (x : Meaning) → hash_meaning t ≡ Some x → Spells x (codes "map hash " ++ t)
+unfolding hash_meaning
+hash_from t x e =
+    let key = steps (split_at_space t) _ x e in
+    let value = steps (split_at_space key.0.1) _ x key.2 in
+    let bytes = steps (number_within 1 MAX_KEY_BYTES key.0.0) _ x value.2 in
+    let size = steps (number_within 1 MAX_VALUE_BYTES value.0.0) _ x bytes.2 in
+    let entries = steps (number_within 1 MAX_ENTRIES value.0.1) _ x size.2 in
+    let is : Map (Hash bytes.0 size.0 entries.0) ≡ x = cc in
+    let k = within 1 MAX_KEY_BYTES key.0.0 bytes.0 bytes.1 in
+    let v = within 1 MAX_VALUE_BYTES value.0.0 size.0 size.1 in
+    let n = within 1 MAX_ENTRIES value.0.1 entries.0 entries.1 in
+    let rest : key.0.1 ≡ decimal size.0 ++ 32 ∷ decimal entries.0 = split_from key.0.1 value.0 value.1 ∙ ap₂ (λ a b. a ++ 32 ∷ b) v.0 n.0 in
+    let whole : t ≡ decimal bytes.0 ++ 32 ∷ (decimal size.0 ++ 32 ∷ decimal entries.0) = split_from t key.0 key.1 ∙ ap₂ (λ a b. a ++ 32 ∷ b) k.0 rest in
+    subst (λ y. Spells y (codes "map hash " ++ t)) is (ap (λ u. codes "map hash " ++ u) whole, k.1, v.1, n.1)
+
 map_from : (t : List ℕ) (x : Meaning) → map_meaning t ≡ Some x → Spells x (codes "map " ++ t)
 unfolding map_meaning
 map_from t x e =
     let kind = steps (split_at_space t) _ x e in
-    let is = if_true (bytes_eq kind.0.0 (codes "array")) (array_meaning kind.0.1) x kind.2 in
-    let whole : t ≡ codes "array" ++ 32 ∷ kind.0.1 = split_from t kind.0 kind.1 ∙ ap (λ w. w ++ 32 ∷ kind.0.1) (word_is _ _ is.0) in
-    subst (λ u. Spells x (codes "map " ++ u)) (sym whole) (array_from kind.0.1 x is.1)
+    by_word kind.0.0 kind.0.1 (bytes_eq kind.0.0 (codes "array")) (bytes_eq kind.0.0 (codes "hash")) kind.2 (word_is _ _) (word_is _ _) (split_from t kind.0 kind.1)
+  where
+    by_word : (w r : List ℕ) (a h : Bool) → cond a (array_meaning r) (cond h (hash_meaning r) None) ≡ Some x → (a ≡ true → w ≡ codes "array") → (h ≡ true → w ≡ codes "hash") → t ≡ w ++ 32 ∷ r → Spells x (codes "map " ++ t)
+    by_word w r true h e f g whole = subst (λ u. Spells x (codes "map " ++ u)) (sym (whole ∙ ap (λ u. u ++ 32 ∷ r) (f refl))) (array_from r x e)
+    by_word w r false true e f g whole = subst (λ u. Spells x (codes "map " ++ u)) (sym (whole ∙ ap (λ u. u ++ 32 ∷ r) (g refl))) (hash_from r x e)
+    by_word w r false false e f g whole = absurd cc
 
 mode_from : (w : List ℕ) (m : Mode) → mode_of w ≡ Some m → w ≡ mode_word m
 mode_from w m e = by_word (bytes_eq w (codes "update")) (bytes_eq w (codes "read")) m e (word_is w (codes "update")) (word_is w (codes "read"))

@@ -47,7 +47,7 @@ distinct_push (x ∷ xs) y apart new =
 
 map_within : (s : Shape) (line : List ℕ) → Spells (Map s) line → IsShapeOk s
 map_within (Array v e) line h = record { key = (omega arith, omega arith); value = h.1; entries = h.2 }
-map_within (Hash k v e) line h = absurd h
+map_within (Hash k v e) line h = record { key = h.1; value = h.2; entries = h.3 }
 
 program_within : (p : ProgramLine) (line : List ℕ) → Spells (Program p) line → p.arg_len ≤ MAX_ARG_LEN
 program_within p line h = h.2

@@ -8,7 +8,7 @@ use Rattle.verifier.specs.declared.refusal.Mode.TheVariants as modes
 use Rattle.text.specs.Lines.{kind_of, by_kind}
 use Rattle.text.specs.Fields.{split_at_space}
 use Rattle.text.specs.Words.{◌>>=◌, number_within, is_name}
-use Rattle.maps.specs.declared.shapes.TheConstants.{MAX_VALUE_BYTES, MAX_ENTRIES}
+use Rattle.maps.specs.declared.shapes.TheConstants.{MAX_KEY_BYTES, MAX_VALUE_BYTES, MAX_ENTRIES}
 use Rattle.verifier.specs.declared.signature.TheConstants.{MAX_ARG_LEN}
 use Rattle.loader.specs.declared.paths.TheConstants.{PATH_BYTES}
 
@@ -41,11 +41,27 @@ array_meaning text = do
   entries ← number_within 1 MAX_ENTRIES value.1
   Some (Map (shapes.Array size entries))
 
--- array VALUE ENTRIES; hash maps cannot be had yet
+-- KEY VALUE ENTRIES
+unfoldable pub hash_meaning : List ℕ → Option Meaning
+hash_meaning text = do
+  key ← split_at_space text
+  value ← split_at_space key.1
+  bytes ← number_within 1 MAX_KEY_BYTES key.0
+  size ← number_within 1 MAX_VALUE_BYTES value.0
+  entries ← number_within 1 MAX_ENTRIES value.1
+  Some (Map (shapes.Hash bytes size entries))
+
+abbrev pub by_kind_of_map : List ℕ → List ℕ → Option Meaning
+by_kind_of_map kind rest =
+    if bytes_eq kind (codes "array") then array_meaning rest
+    else if bytes_eq kind (codes "hash") then hash_meaning rest
+    else None
+
+-- array VALUE ENTRIES, or hash KEY VALUE ENTRIES
 unfoldable pub map_meaning : List ℕ → Option Meaning
 map_meaning text = do
   kind ← split_at_space text
-  if bytes_eq kind.0 (codes "array") then array_meaning kind.1 else None
+  by_kind_of_map kind.0 kind.1
 
 abbrev pub mode_of : List ℕ → Option Mode
 mode_of text =

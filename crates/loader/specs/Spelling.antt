@@ -5,16 +5,20 @@ use Rattle.maps.specs.declared.shapes.Shape.TheVariants.{Array, Hash}
 use Rattle.verifier.specs.declared.refusal.Mode.{Mode}
 use Rattle.verifier.specs.declared.refusal.Mode.TheVariants.{Update, Read}
 use Rattle.text.specs.declared.lines.TheConstants.{LINE_BYTES}
-use Rattle.maps.specs.declared.shapes.TheConstants.{MAX_VALUE_BYTES, MAX_ENTRIES}
+use Rattle.maps.specs.declared.shapes.TheConstants.{MAX_KEY_BYTES, MAX_VALUE_BYTES, MAX_ENTRIES}
 use Rattle.verifier.specs.declared.signature.TheConstants.{MAX_ARG_LEN}
 use Rattle.text.specs.Words.{IsFrom, is_name}
 use Rattle.loader.specs.Grammar.{is_path, ProgramLine, Meaning, Comment, Map, Program, line_meaning}
 
--- how a map is spelled; a hash map cannot be had yet
+-- how a map is spelled
 abbrev pub SpellsMap : Shape → List ℕ → Type 0
 SpellsMap (Array value entries) line =
     (line ≡ codes "map array " ++ (decimal value ++ (codes " " ++ decimal entries))) × IsFrom 1 MAX_VALUE_BYTES value × IsFrom 1 MAX_ENTRIES entries
-SpellsMap (Hash key value entries) line = ⊥
+SpellsMap (Hash key value entries) line =
+    (line ≡ codes "map hash " ++ (decimal key ++ (codes " " ++ (decimal value ++ (codes " " ++ decimal entries)))))
+    × IsFrom 1 MAX_KEY_BYTES key
+    × IsFrom 1 MAX_VALUE_BYTES value
+    × IsFrom 1 MAX_ENTRIES entries
 
 abbrev pub mode_word : Mode → List ℕ
 mode_word Update = codes "update"

@@ -1,11 +1,11 @@
 // What one line of a manifest means.
 
 ghost use Rattle.std.specs.Prelude.{◌≡◌, IfSome, option_map};
-ghost use Rattle.loader.specs.Grammar.{mode_of, array_meaning, map_meaning, program_meaning, words_meaning, line_meaning};
+ghost use Rattle.loader.specs.Grammar.{mode_of, array_meaning, hash_meaning, map_meaning, program_meaning, words_meaning, line_meaning};
 ghost use Rattle.loader.specs.LineShown.{meaning_of, LineFits};
 
 use crate::paths::is_path;
-use maps::{MAX_ENTRIES, MAX_VALUE_BYTES, Shape};
+use maps::{MAX_ENTRIES, MAX_KEY_BYTES, MAX_VALUE_BYTES, Shape};
 use text::{LineKind, is_name, kind_of, number_within, split_at_space};
 use verifier::{MAX_ARG_LEN, Mode};
 
@@ -26,6 +26,7 @@ pub(crate) enum Line<'a> {
     Program(ProgramLine<'a>),
 }
 
+// The sizes of an array.
 #[tactic(auto, unfolding(crate::specs::Grammar::array_meaning))]
 fn array_line(text: &str) -> Option<Line<'_>>
     ensures meaning { option_map meaning_of result ≡ array_meaning text.now }
@@ -40,7 +41,25 @@ fn array_line(text: &str) -> Option<Line<'_>>
     }))
 }
 
-// Hash maps cannot be had yet: their one line more is `"hash"` here.
+// The sizes of a hash.
+#[tactic(auto, unfolding(crate::specs::Grammar::hash_meaning))]
+fn hash_line(text: &str) -> Option<Line<'_>>
+    ensures meaning { option_map meaning_of result ≡ hash_meaning text.now }
+    ensures fits { IfSome result LineFits }
+{
+    let (key, rest) = split_at_space(text)?;
+    let (value, entries) = split_at_space(rest)?;
+    let key = number_within(1, MAX_KEY_BYTES as u64, key)?;
+    let value = number_within(1, MAX_VALUE_BYTES as u64, value)?;
+    let entries = number_within(1, MAX_ENTRIES as u64, entries)?;
+    Some(Line::Map(Shape::Hash {
+        key: key as u32,
+        value: value as u32,
+        entries: entries as u32,
+    }))
+}
+
+// A map, an array or a hash.
 #[tactic(auto, unfolding(crate::specs::Grammar::map_meaning))]
 fn map_line(text: &str) -> Option<Line<'_>>
     ensures meaning { option_map meaning_of result ≡ map_meaning text.now }
@@ -49,6 +68,8 @@ fn map_line(text: &str) -> Option<Line<'_>>
     let (kind, rest) = split_at_space(text)?;
     if kind == "array" {
         array_line(rest)
+    } else if kind == "hash" {
+        hash_line(rest)
     } else {
         None
     }

@@ -111,8 +111,8 @@ fn take_line(
 /// The catalogue that a manifest says, where each program's text is that of the first of `files` with
 /// its name; else the first bad line, and of its faults the one of lowest number.
 ///
-/// The manifest is lines of at most 512 bytes: `map array VALUE ENTRIES`, then `program NAME MODE ARGLEN FILE`,
-/// comments (`#`) and empty lines. Takes time in proportion to the texts, and for each program to the
+/// The manifest is lines of at most 512 bytes: `map array VALUE ENTRIES` and `map hash KEY VALUE ENTRIES`, then
+/// `program NAME MODE ARGLEN FILE`, comments (`#`) and empty lines. Takes time in proportion to the texts, and for each program to the
 /// number of programs before it.
 pub fn load_manifest(
     alloc: Global,

@@ -14,7 +14,7 @@ use verifier::Refused;
 #[derive(Clone, Copy, Debug, PartialEq, Eq, Error)]
 pub enum LoadFault {
     /// The line is none of a manifest, or not where it may stand, or its file was not handed in.
-    #[error("C1: this is no `map array VALUE ENTRIES` or `program NAME MODE ARGLEN FILE` within its limits, or a map stands behind a program, a program before any map, a name twice, or its file is missing")]
+    #[error("C1: this is no `map array VALUE ENTRIES`, `map hash KEY VALUE ENTRIES` or `program NAME MODE ARGLEN FILE` within its limits, or a map stands behind a program, a program before any map, a name twice, or its file is missing")]
     BadLine,
     /// The program file is not hex digits in pairs.
     #[error("C2: the program file holds something else than pairs of hexadecimal digits")]

@@ -12,6 +12,7 @@ mod wide;
 use insn::{Condition, Operation, Order};
 
 /// The result of an arithmetic instruction on dst and the second operand. One of 32 bits has zeros above.
+#[inline(always)]
 pub fn alu(w64: bool, op: Operation, a: u64, b: u64) -> u64
     ensures { result ≡ alu op (bits_of w64) a b }
 {
@@ -23,6 +24,7 @@ pub fn alu(w64: bool, op: Operation, a: u64, b: u64) -> u64
 }
 
 /// Whether the condition of a jump holds of dst and the second operand.
+#[inline(always)]
 pub fn holds(w64: bool, condition: Condition, a: u64, b: u64) -> bool
     ensures { result ≡ holds condition (bits_of w64) a b }
 {
@@ -34,6 +36,7 @@ pub fn holds(w64: bool, condition: Condition, a: u64, b: u64) -> bool
 }
 
 /// NEG: the low bits from zero. A result of 32 bits has zeros above.
+#[inline(always)]
 pub fn negate(w64: bool, a: u64) -> u64
     ensures { result ≡ negated (bits_of w64) a }
 {
@@ -46,6 +49,7 @@ pub fn negate(w64: bool, a: u64) -> u64
 
 /// MOVSX: the low 8, 16 or 32 bits, sign-extended to 64, or to 32 with zeros above. The same is done to the bytes that a
 /// sign-extending load reads (RFC 9669, section 5.2).
+#[inline(always)]
 pub fn sign_extend(w64: bool, bits: u8, n: u64) -> u64
     requires { MayExtend w64 bits }
     ensures { result ≡ sign_extended (bits_of w64) bits n }
@@ -63,6 +67,7 @@ pub fn sign_extend(w64: bool, bits: u8, n: u64) -> u64
 }
 
 /// The swaps: the low 16, 32 or 64 bits, as they are to little-endian and else with their bytes reversed; zeros above.
+#[inline(always)]
 pub fn swap(order: Order, bits: u8, n: u64) -> u64
     requires { ((bits ≡ 16) ⊎ (bits ≡ 32)) ⊎ (bits ≡ 64) }
     ensures { result ≡ swapped order bits n }
@@ -77,18 +82,21 @@ pub fn swap(order: Order, bits: u8, n: u64) -> u64
     }
 }
 
+#[inline(always)]
 fn low_byte(n: u64) -> u8
     ensures { result ≡ n % 2 ^ 8 }
 {
     (n % 0x100) as u8
 }
 
+#[inline(always)]
 fn low_half(n: u64) -> u16
     ensures { result ≡ n % 2 ^ 16 }
 {
     (n % 0x1_0000) as u16
 }
 
+#[inline(always)]
 fn low_word(n: u64) -> u32
     ensures { result ≡ n % 2 ^ 32 }
 {

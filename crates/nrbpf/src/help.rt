@@ -11,10 +11,11 @@ A manifest is a text that names the maps of a store and its programs:
     map array 8 16
     program five update 0 five.hex
 
-`map array VALUE ENTRIES` is a map of ENTRIES values of VALUE bytes each. `program NAME MODE ARGLEN FILE`
-is a program in the file FILE, as hexadecimal digits; its MODE is update or read, and its argument has
-ARGLEN bytes. `nrbpf check --help` says more, `nrbpf run --help` how programs are called, and
-`nrbpf asm --help` how they are written as text.
+`map array VALUE ENTRIES` is a map of ENTRIES values of VALUE bytes each, and `map hash KEY VALUE ENTRIES` one
+of at most ENTRIES keys of KEY bytes, each with such a value. `program NAME MODE ARGLEN FILE` is a program in
+the file FILE, as hexadecimal digits; its MODE is update or read, and its argument has ARGLEN bytes.
+`nrbpf check --help` says more, `nrbpf run --help` how programs are called, and `nrbpf asm --help` how they are
+written as text.
 
 Exit statuses: 0 all is well, 2 wrong words on the command line, 3 refused, 4 no memory,
 5 a file cannot be read or the output cannot be written.";
@@ -34,6 +35,7 @@ A manifest has one item a line, its fields separated by one space, at most 512 b
     program five update 0 five.hex
 
     map array VALUE ENTRIES            VALUE 1 to 256 bytes, ENTRIES 1 to 65536; at most 16 maps
+    map hash KEY VALUE ENTRIES         KEY 1 to 64 bytes
     program NAME MODE ARGLEN FILE      NAME 1 to 32 of a-z 0-9 _ -, the first a letter; MODE update or
                                        read; ARGLEN 0 to 64; FILE a path from the working folder
 

@@ -1,6 +1,6 @@
 // Operations, and the records of them.
 
-ghost use Rattle.std.specs.Prelude.{◌≡◌, ◌≤◌, length};
+ghost use Rattle.std.specs.Prelude.{◌≡◌, ◌≤◌, length, []};
 ghost use Rattle.maps.specs.Maps.{AreBytes};
 ghost use Rattle.oplog.specs.Operations.{padded};
 
@@ -68,7 +68,9 @@ impl Op {
 
 impl Default for Op {
     /// The first program, without an argument.
-    fn default() -> Op {
+    fn default() -> Op
+        ensures { result ≡ record { program = 0; argument = [] } }
+    {
         Op::new(0, &[])
     }
 }

@@ -4,14 +4,14 @@ use Rattle.std.specs.Prelude.{slice_get, slice_set, ◌⊎◌, ◌&&◌, replica
 use Rattle.std.proofs.lemmas.Option.{same_Some}
 use Rattle.std.proofs.lemmas.Bool.{ne_eqb, eq-eqb, and_parts, leb-true}
 use Rattle.oplog.specs.History.{History}
-use Rattle.oplog.specs.Logs.{HandView, tail_of, left_of, records_from}
+use Rattle.oplog.specs.Logs.{room_in, HandView, tail_of, left_of, records_from}
 use Rattle.oplog.specs.Sessions.{session}
 use Rattle.combiner.specs.Desks.{BatchView, IsBatchOf}
 use Rattle.replica.specs.Views.{ReplicaView}
 use Rattle.schedule.specs.declared.parts.NodeBatch.{NodeBatch}
 use Rattle.schedule.specs.declared.parts.NodeBatch.TheVariants.{NoBatch, ClaimedBatch, AppendedBatch}
 use Rattle.schedule.specs.Trace.{Trace, Places}
-use Rattle.schedule.specs.Explains.{Opening}
+use Rattle.schedule.specs.declared.parts.Opening.{Opening}
 use Rattle.schedule.specs.Worlds.{NodeView, WorldView, room_for, grown}
 use Rattle.schedule.specs.Steps.{Part, silent, append, with_appended, claimed_batch}
 use Rattle.schedule.specs.Stands.{StageStands, NodeStands, LogStands, ReplicaStands, BatchStands, Stands, batch_in}
@@ -168,7 +168,7 @@ pub keeps_append : (m : Opening) (w : WorldView) (h : History) (places : Places)
 keeps_append m w h places t n node p at_n taken x =
     let r = then_gives _ (claimed_batch node.batch) p taken in
     let b : BatchView = r.0 in
-    let c = cond_gives (nat_le w.log.base node.replica.tail && nat_le (length (grown w.log b.records).records) w.log.window) _ p r.2 in
-    let tests = and_parts (nat_le w.log.base node.replica.tail) (nat_le (length (grown w.log b.records).records) w.log.window) c.0 in
+    let c = cond_gives (nat_le w.log.base node.replica.tail && nat_le (room_for w.log b.records) (room_in w.log)) _ p r.2 in
+    let tests = and_parts (nat_le w.log.base node.replica.tail) (nat_le (room_for w.log b.records) (room_in w.log)) c.0 in
     subst (λ z. Kept m w h places t n z) (same_Some _ p c.1)
     (appended_stands m w h places t n node b at_n (claimed_is node.batch b r.1) (leb-true w.log.base node.replica.tail tests.0) x)

@@ -15,7 +15,8 @@ use Rattle.schedule.specs.declared.parts.BegunRead.{BegunRead}
 use Rattle.schedule.specs.declared.parts.NodeBatch.{NodeBatch}
 use Rattle.schedule.specs.declared.parts.NodeBatch.TheVariants.{ClaimedBatch, AppendedBatch}
 use Rattle.schedule.specs.Trace.{Call, Trace, Places}
-use Rattle.schedule.specs.Explains.{Opening, Explains, count_of}
+use Rattle.schedule.specs.declared.parts.Opening.{Opening}
+use Rattle.schedule.specs.Explains.{Explains, count_of}
 use Rattle.schedule.specs.Worlds.{NodeView, WorldView}
 use Rattle.schedule.specs.Stands.{OpenAt, StageStands, Stands, batch_in, place_in}
 use Rattle.schedule.proofs.Lists.{get_new, get_in, get_some}
@@ -32,7 +33,7 @@ take_length (suc n) [] l = absurd (omega arith)
 take_length zero (x ∷ xs) l = refl
 take_length (suc n) (x ∷ xs) l = ap suc (take_length n xs (omega arith))
 
-take_snoc : {A : Type 0} (n : ℕ) (xs : List A) (v : A) → slice_get xs n ≡ Some v → take (suc n) xs ≡ take n xs ++ v ∷ []
+pub take_snoc : {A : Type 0} (n : ℕ) (xs : List A) (v : A) → slice_get xs n ≡ Some v → take (suc n) xs ≡ take n xs ++ v ∷ []
 take_snoc n [] v g = absurd (none-some v g)
 take_snoc zero (x ∷ []) v g = ap (λ y. y ∷ []) (same_Some x v g)
 take_snoc zero (x ∷ (y ∷ xs)) v g = ap (λ z. z ∷ []) (same_Some x v g)
@@ -170,7 +171,7 @@ module _ (m : Opening) (w : WorldView) (h : History) (places : Places) (t : Trac
         there = c.3;
         stage = c.4;
         by = by;
-        count = ap (λ z. z.seq) (sym is_r) ∙ q.5;
+        count = subst (λ z. z.seq ≡ (c.1).count) is_r q.5;
         c = q.0;
         open_at = subst (λ v. OpenAt m (h ++ take j b.records) y.places_then t v (c.1).count Update r.op None q.0) (sym by)
             (subst (λ v. OpenAt m (h ++ take j b.records) y.places_then t (session m.config n c.0) (c.1).count Update r.op (if v then Some (length h + j) else None) q.0) no

@@ -19,7 +19,8 @@ use Rattle.replica.specs.StoreMeaning.{store_meaning, is_operation}
 use Rattle.schedule.specs.declared.parts.BegunRead.{BegunRead}
 use Rattle.schedule.specs.declared.parts.NodeBatch.{NodeBatch}
 use Rattle.schedule.specs.Trace.{Answer, Updated, ReadBack, Event, Call, Back, Trace, Places, caller, IsOpen, StampBefore, stamp}
-use Rattle.schedule.specs.Explains.{Opening, count_of}
+use Rattle.schedule.specs.declared.parts.Opening.{Opening}
+use Rattle.schedule.specs.Explains.{count_of}
 use Rattle.schedule.specs.Worlds.{NodeView, WorldView}
 use Rattle.schedule.specs.Steps.{Part, says, put_part, with_event, session_at, is_idle, is_free, no_read, post, collect, read_begin, read_answer, with_read}
 use Rattle.schedule.specs.Stands.{OpenAt, ReplyStands, StageStands, DeskStands, NodeStands, LogStands, Stands}

@@ -21,7 +21,7 @@ use Rattle.schedule.specs.declared.parts.BegunRead.{BegunRead}
 use Rattle.schedule.specs.declared.parts.Written.{Written}
 use Rattle.schedule.specs.declared.parts.NodeBatch.TheVariants.{NoBatch, ClaimedBatch, AppendedBatch}
 use Rattle.schedule.specs.Trace.{Trace, Places}
-use Rattle.schedule.specs.Explains.{Opening}
+use Rattle.schedule.specs.declared.parts.Opening.{Opening}
 use Rattle.schedule.specs.Worlds.{NodeView, WorldView, answers_from, answered_batch}
 use Rattle.schedule.specs.Steps.{Part, claim, reply, is_none, no_batch, appended_batch}
 use Rattle.schedule.specs.Stands.{OpenAt, ReplyStands, StageStands, DeskStands, NodeStands, BatchStands, WrittenStands, Stands, batch_in, place_in}

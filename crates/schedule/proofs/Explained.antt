@@ -10,7 +10,8 @@ use Rattle.oplog.specs.History.{History, after, maps_after, effect_at, reply_at,
 use Rattle.combiner.specs.declared.slots.Reply.TheVariants.{Placed, Ended}
 use Rattle.replica.specs.StoreMeaning.{store_meaning, is_operation}
 use Rattle.schedule.specs.Trace.{Answer, Updated, ReadBack, Event, Call, Back, Trace, Places, IsOpen, IsIdle, StampBefore, stamp, Suits}
-use Rattle.schedule.specs.Explains.{Opening, Explains, count_of}
+use Rattle.schedule.specs.declared.parts.Opening.{Opening}
+use Rattle.schedule.specs.Explains.{Explains, count_of}
 use Rattle.schedule.proofs.Lists.{get_more, get_snoc, get_in, get_some}
 use Rattle.schedule.proofs.Traces.{take_all_front, answers_in, answers_more, answers_less, stamp_less}
 

@@ -1,6 +1,6 @@
 -- Lists, by their elements.
 use Rattle.std.proofs.Common.{◌≡◌, ◌≢◌, ℕ, zero, suc, ◌+◌, ◌<◌, List, [], ◌∷◌, ◌++◌, length, take, drop, Some, refl, sym, ap, ◌∙◌, inl, inr, ⊎_elim, arith}
-use Rattle.std.specs.Prelude.{slice_get, slice_set, ◌⊎◌}
+use Rattle.std.specs.Prelude.{slice_get, slice_set, replicate, ◌⊎◌}
 use Rattle.std.proofs.lemmas.Option.{none-some, same_Some}
 
 pub get_more : {A : Type 0} (xs ys : List A) (i : ℕ) (v : A) → slice_get xs i ≡ Some v → slice_get (xs ++ ys) i ≡ Some v
@@ -70,3 +70,19 @@ pub set_length : {A : Type 0} (xs : List A) (i : ℕ) (v : A) → length (slice_
 set_length [] i v = refl
 set_length (x ∷ xs) zero v = refl
 set_length (x ∷ xs) (suc i) v = ap suc (set_length xs i v)
+
+pub replicate_next : {A : Type 0} (n : ℕ) (v : A) → replicate (n + 1) v ≡ replicate n v ++ v ∷ []
+replicate_next zero v = refl
+replicate_next (suc n) v = let i : suc n + 1 ≡ suc (n + 1) = omega arith in ap (λ k. replicate k v) i ∙ ap (λ xs. v ∷ xs) (replicate_next n v)
+
+pub set_off : {A : Type 0} (xs : List A) (i j : ℕ) (v : A) → j ≢ i → slice_get (slice_set xs i v) j ≡ slice_get xs j
+set_off [] i j v ne = refl
+set_off (x ∷ xs) zero zero v ne = absurd (ne refl)
+set_off (x ∷ xs) zero (suc j) v ne = refl
+set_off (x ∷ xs) (suc i) zero v ne = refl
+set_off (x ∷ xs) (suc i) (suc j) v ne = set_off xs i j v (λ e. ne (ap suc e))
+
+pub set_back : {A : Type 0} (xs : List A) (i : ℕ) (v : A) → slice_get xs i ≡ Some v → slice_set xs i v ≡ xs
+set_back [] i v g = refl
+set_back (x ∷ xs) zero v g = ap (λ y. y ∷ xs) (sym (same_Some x v g))
+set_back (x ∷ xs) (suc i) v g = ap (λ ys. x ∷ ys) (set_back xs i v g)

@@ -10,7 +10,7 @@ use Rattle.replica.specs.Views.{ReplicaView}
 use Rattle.schedule.specs.declared.parts.NodeBatch.{NodeBatch}
 use Rattle.schedule.specs.declared.parts.NodeBatch.TheVariants.{NoBatch, ClaimedBatch, AppendedBatch}
 use Rattle.schedule.specs.Trace.{Trace, Places}
-use Rattle.schedule.specs.Explains.{Opening}
+use Rattle.schedule.specs.declared.parts.Opening.{Opening}
 use Rattle.schedule.specs.Worlds.{NodeView, WorldView, reclaimed, rebased}
 use Rattle.schedule.specs.Steps.{Part, finish, reclaim, rebase, is_none}
 use Rattle.schedule.specs.Stands.{NodeStands, BatchStands, Stands}

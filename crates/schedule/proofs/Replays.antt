@@ -17,7 +17,7 @@ use Rattle.schedule.specs.declared.parts.Written.{Written}
 use Rattle.schedule.specs.declared.parts.NodeBatch.{NodeBatch}
 use Rattle.schedule.specs.declared.parts.NodeBatch.TheVariants.{NoBatch, ClaimedBatch, AppendedBatch}
 use Rattle.schedule.specs.Trace.{Trace, Places}
-use Rattle.schedule.specs.Explains.{Opening}
+use Rattle.schedule.specs.declared.parts.Opening.{Opening}
 use Rattle.schedule.specs.Worlds.{NodeView, WorldView, with_effect, outcomes_after, batch_after, replayed, to_run}
 use Rattle.schedule.specs.Steps.{Part, replay, is_none}
 use Rattle.schedule.specs.Stands.{DeskStands, NodeStands, LogStands, BatchStands, WrittenStands, Stands, batch_in, place_in}
@@ -40,10 +40,10 @@ pub after_next : (c : CatalogueView) (h : History) (k : ℕ) (r : Record) → sl
     → maps_after store_meaning c h (k + 1) ≡ left_by (store_meaning.update c r.op (maps_after store_meaning c h k)) (maps_after store_meaning c h k)
 after_next c h k r g = let i : k + 1 ≡ suc k = omega arith in ap (λ j. maps_after store_meaning c h j) i ∙ after_suc store_meaning c (store_meaning.opening c) h k r g
 
-first_there : (h rs : History) (r : Record) (tail : ℕ) → ((j : ℕ) (f : Record) → slice_get (r ∷ rs) j ≡ Some f → slice_get h (tail + j) ≡ Some f) → slice_get h tail ≡ Some r
+pub first_there : (h rs : History) (r : Record) (tail : ℕ) → ((j : ℕ) (f : Record) → slice_get (r ∷ rs) j ≡ Some f → slice_get h (tail + j) ≡ Some f) → slice_get h tail ≡ Some r
 first_there h rs r tail next = let i : tail + 0 ≡ tail = omega arith in subst (λ k. slice_get h k ≡ Some r) i (next 0 r refl)
 
-later_there : (h rs : History) (r : Record) (tail : ℕ) → ((j : ℕ) (f : Record) → slice_get (r ∷ rs) j ≡ Some f → slice_get h (tail + j) ≡ Some f) → (j : ℕ) (f : Record) → slice_get rs j ≡ Some f → slice_get h ((tail + 1) + j) ≡ Some f
+pub later_there : (h rs : History) (r : Record) (tail : ℕ) → ((j : ℕ) (f : Record) → slice_get (r ∷ rs) j ≡ Some f → slice_get h (tail + j) ≡ Some f) → (j : ℕ) (f : Record) → slice_get rs j ≡ Some f → slice_get h ((tail + 1) + j) ≡ Some f
 later_there h rs r tail next j f g = let i : tail + suc j ≡ (tail + 1) + j = omega arith in subst (λ k. slice_get h k ≡ Some f) i (next (suc j) f g)
 
 -- a replica that applies the next records of the history is then at the end of them

@@ -12,10 +12,14 @@ use Rattle.schedule.specs.declared.parts.NodeBatch.TheVariants.{NoBatch}
 use Rattle.schedule.specs.declared.steps.Step.{Step}
 use Rattle.schedule.specs.declared.steps.Step.TheVariants.{Post, Claim, Append, Replay, Finish, Reply, Collect, ReadBegin, ReadAnswer, Reclaim, Rebase}
 use Rattle.schedule.specs.Trace.{Updated, ReadBack, Call, Back, Trace, Places}
-use Rattle.schedule.specs.Explains.{Opening}
+use Rattle.schedule.specs.declared.parts.Opening.{Opening}
 use Rattle.schedule.specs.Worlds.{NodeView, WorldView, opened_node, opened_nodes, opened}
 use Rattle.schedule.specs.Steps.{Part, Took, put_part, part_of, node_of, took, world_after, trace_after, world_of, trace_of}
 use Rattle.schedule.specs.Stands.{NodeStands, StageStands, Stands}
+use Rattle.loader.specs.CatalogueView.{IsCatalogue}
+use Rattle.oplog.specs.Limits.{IsConfig}
+use Rattle.oplog.specs.Logs.{Log, opened_log}
+use Rattle.schedule.specs.Taking.{opened_store, store_of, IsStanding}
 use Rattle.schedule.specs.Headline.{EverySchedule, StepKeeps, OpeningStands, StandingIsExplained}
 use Rattle.schedule.proofs.Options.{then_gives, map_gives}
 use Rattle.schedule.proofs.Calls.{Kept, same_history, keeps_post, keeps_collect, keeps_read_begin, keeps_read_answer}
@@ -148,3 +152,23 @@ pub every_schedule : EverySchedule
 every_schedule m steps whole =
     let r = run_stands m steps (opened m) [] [] [] (opening_stands m whole) in
     standing_is_explained m (world_of m (opened m) steps) r.0 r.1 (trace_of m (opened m) [] steps) r.2
+
+-- one node more
+pub nodes_next : (m : Opening) (first count : ℕ) → opened_nodes m first (count + 1) ≡ opened_nodes m first count ++ opened_node m (first + count) ∷ []
+nodes_next m first zero = let i : first ≡ first + 0 = omega arith in ap (λ k. opened_node m k ∷ []) i
+nodes_next m first (suc count) =
+    let i : suc count + 1 ≡ suc (count + 1) = omega arith in
+    let j : suc first + count ≡ first + suc count = omega arith in
+    ap (opened_nodes m first) i ∙ ap (λ ns. opened_node m first ∷ ns) (nodes_next m (suc first) count ∙ ap (λ k. opened_nodes m (suc first) count ++ opened_node m k ∷ []) j)
+
+pub opening_is_standing : (m : Opening) → IsConfig m.config → IsCatalogue m.catalogue → IsStanding (opened_store m)
+opening_is_standing m config whole = record { config = config; history = []; places = []; trace = []; stands = opening_stands m whole }
+
+pub nodes_count : (m : Opening) (first count : ℕ) → length (opened_nodes m first count) ≡ count
+nodes_count m first zero = refl
+nodes_count m first (suc count) = ap suc (nodes_count m (suc first) count)
+
+-- a log and nodes that are new
+pub new_is_standing : (m : Opening) (g : Log) (nodes : List NodeView) → IsConfig m.config → IsCatalogue m.catalogue → g ≡ opened_log m.catalogue.shapes m.config.window m.config.limit → nodes ≡ opened_nodes m 0 m.config.nodes
+    → IsStanding (store_of m g nodes)
+new_is_standing m g nodes config whole is are = subst (λ k. IsStanding (store_of m k nodes)) (sym is) (subst (λ ns. IsStanding (store_of m (opened_log m.catalogue.shapes m.config.window m.config.limit) ns)) (sym are) (opening_is_standing m config whole))

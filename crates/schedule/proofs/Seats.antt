@@ -16,7 +16,8 @@ use Rattle.combiner.specs.declared.slots.Stage.TheVariants.{Empty, Posted, Claim
 use Rattle.schedule.specs.declared.parts.BegunRead.{BegunRead}
 use Rattle.schedule.specs.declared.parts.NodeBatch.{NodeBatch}
 use Rattle.schedule.specs.Trace.{Event, Call, Trace, Places, caller, IsOpen}
-use Rattle.schedule.specs.Explains.{Opening, count_of}
+use Rattle.schedule.specs.declared.parts.Opening.{Opening}
+use Rattle.schedule.specs.Explains.{count_of}
 use Rattle.schedule.specs.Stands.{HasPlace, OpenAt, StageStands, batch_in, place_in}
 use Rattle.schedule.proofs.Lists.{get_more, get_snoc}
 use Rattle.schedule.proofs.Traces.{open_in, open_more, idle_more, stamp_less}

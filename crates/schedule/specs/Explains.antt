@@ -3,19 +3,13 @@
 use Rattle.std.specs.Prelude.{◌≡◌, ◌≢◌, ℕ, ◌+◌, ◌≤◌, ◌==◌, true, [], ◌∷◌, length, take, Some, slice_get, if◌then◌else◌}
 use Rattle.verifier.specs.declared.refusal.Mode.{Mode}
 use Rattle.verifier.specs.declared.refusal.Mode.TheVariants.{Update}
-use Rattle.loader.specs.CatalogueView.{CatalogueView}
-use Rattle.oplog.specs.declared.configuration.Config.{Config}
 use Rattle.oplog.specs.declared.records.Record.{Record}
 use Rattle.oplog.specs.Operations.{Operation}
 use Rattle.oplog.specs.History.{History, reply_at, read_reply_at}
 use Rattle.combiner.specs.declared.slots.Reply.TheVariants.{Placed, Ended}
 use Rattle.replica.specs.StoreMeaning.{store_meaning, is_operation}
+use Rattle.schedule.specs.declared.parts.Opening.{Opening}
 use Rattle.schedule.specs.Trace.{Answer, Updated, ReadBack, Call, Back, Trace, Places, Suits, IsIdle, Answers, StampBefore}
-
--- what a store is opened with
-pub record Opening : Type 0 where
-  pub config : Config
-  pub catalogue : CatalogueView
 
 -- how many records of a list are a session's
 abbrev pub count_of : ℕ → History → ℕ

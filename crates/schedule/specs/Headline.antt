@@ -6,7 +6,8 @@ use Rattle.oplog.specs.Logs.{tail_of}
 use Rattle.replica.specs.StoreMeaning.{store_meaning}
 use Rattle.schedule.specs.declared.steps.Step.{Step}
 use Rattle.schedule.specs.Trace.{Trace, Places}
-use Rattle.schedule.specs.Explains.{Opening, Explains}
+use Rattle.schedule.specs.declared.parts.Opening.{Opening}
+use Rattle.schedule.specs.Explains.{Explains}
 use Rattle.schedule.specs.Worlds.{WorldView, NodeView, opened}
 use Rattle.schedule.specs.Steps.{world_of, trace_of, took, world_after, trace_after}
 use Rattle.schedule.specs.Stands.{Stands}

@@ -6,3 +6,6 @@ pub mod Steps
 pub mod Headline
 -- What holds at each moment.
 pub mod Stands
+-- What calls that take a step do.
+pub mod Taking
+pub mod Codes

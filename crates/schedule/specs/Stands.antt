@@ -22,7 +22,8 @@ use Rattle.schedule.specs.declared.parts.Written.{Written}
 use Rattle.schedule.specs.declared.parts.NodeBatch.{NodeBatch}
 use Rattle.schedule.specs.declared.parts.NodeBatch.TheVariants.{NoBatch, ClaimedBatch, AppendedBatch}
 use Rattle.schedule.specs.Trace.{Answer, Back, Trace, Places, IsOpen, IsIdle, StampBefore, stamp}
-use Rattle.schedule.specs.Explains.{Opening, Explains, count_of}
+use Rattle.schedule.specs.declared.parts.Opening.{Opening}
+use Rattle.schedule.specs.Explains.{Explains, count_of}
 use Rattle.schedule.specs.Worlds.{NodeView, WorldView}
 
 -- the log is the history from the base on

@@ -1,10 +1,10 @@
 -- The steps of a store: when each may be taken, what it makes of the log and of its node, and which event it is.
-use Rattle.std.specs.Prelude.{ℕ, ◌+◌, Bool, true, false, ◌&&◌, ◌||◌, not, List, [], ◌∷◌, ◌++◌, length, Option, Some, None, option_map, slice_get, slice_set, nat_lt, nat_le, cond}
+use Rattle.std.specs.Prelude.{ℕ, ◌+◌, Bool, true, false, ◌&&◌, ◌||◌, not, List, [], ◌∷◌, ◌++◌, Option, Some, None, option_map, slice_get, slice_set, nat_lt, nat_le, cond}
 use Rattle.std.specs.Option.{option_and_then}
 use Rattle.verifier.specs.declared.refusal.Mode.TheVariants.{Update, Read}
 use Rattle.oplog.specs.declared.records.Record.{Record}
 use Rattle.oplog.specs.Operations.{Operation}
-use Rattle.oplog.specs.Logs.{Log, tail_of, records_from}
+use Rattle.oplog.specs.Logs.{Log, tail_of, room_in, records_from}
 use Rattle.combiner.specs.declared.slots.Slot.{Slot}
 use Rattle.combiner.specs.Slots.{is_empty}
 use Rattle.combiner.specs.Desks.{BatchView, first_author, posted, has_request, batch_of, claimed, replied, collected}
@@ -16,8 +16,8 @@ use Rattle.schedule.specs.declared.parts.NodeBatch.TheVariants.{NoBatch, Claimed
 use Rattle.schedule.specs.declared.steps.Step.{Step}
 use Rattle.schedule.specs.declared.steps.Step.TheVariants.{Post, Claim, Append, Replay, Finish, Reply, Collect, ReadBegin, ReadAnswer, Reclaim, Rebase}
 use Rattle.schedule.specs.Trace.{Updated, ReadBack, Event, Call, Back, Trace}
-use Rattle.schedule.specs.Explains.{Opening}
-use Rattle.schedule.specs.Worlds.{NodeView, WorldView, grown, written, replayed, to_run, answered_batch, reclaimed, rebased}
+use Rattle.schedule.specs.declared.parts.Opening.{Opening}
+use Rattle.schedule.specs.Worlds.{NodeView, WorldView, room_for, grown, written, replayed, to_run, answered_batch, reclaimed, rebased}
 
 -- what a step makes of the log and of its node, and the event that it is
 pub record Part : Type 0 where
@@ -100,14 +100,18 @@ with_appended g b node = record node {
 abbrev pub append : Log → NodeView → Option Part
 append g node =
     option_and_then (λ b.
-    cond (nat_le g.base node.replica.tail && nat_le (length (grown g b.records).records) g.window)
+    cond (nat_le g.base node.replica.tail && nat_le (room_for g b.records) (room_in g))
     (Some (silent (grown g b.records) (with_appended g b node)))
     None)
     (claimed_batch node.batch)
 
+-- there is a record to apply: copied, or in the log
+abbrev pub has_next : Log → NodeView → Bool
+has_next g node = not (is_none node.hand.records) || (nat_le g.base node.replica.tail && nat_lt node.replica.tail (tail_of g))
+
 abbrev pub replay : Opening → Log → NodeView → Option Part
 replay m g node =
-    cond (not (is_none node.hand.records) || (nat_le g.base node.replica.tail && nat_lt node.replica.tail (tail_of g)))
+    cond (has_next g node)
     (Some (silent g (replayed m (to_run g node.replica.tail node.hand.records) node)))
     None
 

@@ -14,7 +14,7 @@ use Rattle.schedule.specs.declared.parts.BegunRead.{BegunRead}
 use Rattle.schedule.specs.declared.parts.Written.{Written}
 use Rattle.schedule.specs.declared.parts.NodeBatch.{NodeBatch}
 use Rattle.schedule.specs.declared.parts.NodeBatch.TheVariants.{NoBatch, ClaimedBatch, AppendedBatch}
-use Rattle.schedule.specs.Explains.{Opening}
+use Rattle.schedule.specs.declared.parts.Opening.{Opening}
 
 -- a node: its replica, the records copied for it, its desk, its batch, and for each slot the read that was begun there
 pub record NodeView : Type 0 where

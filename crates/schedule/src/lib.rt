@@ -4,9 +4,12 @@
 #![tactic(auto)]
 
 mod laws;
+mod nodes;
 mod parts;
 mod steps;
+mod worlds;
 
 pub use laws::{every_schedule, standing_is_kept};
-pub use parts::{BegunRead, NodeBatch, Written};
+pub use parts::{BegunRead, NodeBatch, Opening, Written};
 pub use steps::{Step, StepAnswer};
+pub use worlds::{World, run_steps};

@@ -1,8 +1,18 @@
 // What a node has beside its replica and its desk.
 
 use combiner::Batch;
-use oplog::Op;
+use loader::Catalogue;
+use oplog::{Config, Op};
 use replica::Replies;
+
+/// What a store is opened with.
+#[derive(Drop)]
+pub struct Opening {
+    /// Its sizes.
+    pub config: Config,
+    /// Its maps and programs.
+    pub catalogue: Catalogue,
+}
 
 /// A read that was called, and has no answer yet.
 #[derive(Clone, Copy)]

@@ -1,5 +1,8 @@
 // The steps of a store, and what they answer.
 
+ghost use Rattle.std.specs.Prelude.{◌≡◌};
+ghost use Rattle.schedule.specs.Steps.{node_of};
+
 use combiner::Reply;
 use readpath::ReadAnswer;
 
@@ -78,6 +81,27 @@ pub enum Step {
         /// The node.
         node: u64,
     },
+}
+
+impl Step {
+    /// The number of its node.
+    pub fn node(&self) -> u64
+        ensures node { result ≡ node_of self.now }
+    {
+        match self {
+            Step::Post { node, .. }
+            | Step::Claim { node }
+            | Step::Append { node }
+            | Step::Replay { node }
+            | Step::Finish { node }
+            | Step::Reply { node }
+            | Step::Collect { node, .. }
+            | Step::ReadBegin { node, .. }
+            | Step::ReadAnswer { node, .. }
+            | Step::Reclaim { node }
+            | Step::Rebase { node } => *node,
+        }
+    }
 }
 
 /// What a step answers.

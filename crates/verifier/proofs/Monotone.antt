@@ -21,12 +21,12 @@ use Rattle.regkind.specs.declared.frames.Kind.{Kind}
 use Rattle.regkind.specs.declared.frames.Kind.TheVariants.{Unreadable, Scalar, Stack, Map, ValueOrNull}
 use Rattle.regkind.specs.Frames.{Frame, Covers, CoversKind, IsFrame, kind, all_marked, with_kind}
 use Rattle.regkind.proofs.Laws as frames
-use Rattle.maps.specs.Values.{Helper, Lookup, Update, Delete}
+use Rattle.maps.specs.Values.{Helper, Lookup, Update, Delete, helper_of}
 use Rattle.verifier.specs.declared.refusal.VerifyFault.{VerifyFault}
 use Rattle.verifier.specs.declared.refusal.VerifyFault.TheVariants.{UnreadableRegister, UndefinedOperation, OutOfRegion, UninitialisedStack, UncheckedNull, HelperArgument}
 use Rattle.verifier.specs.Signature.{Signature}
 use Rattle.verifier.specs.Kinds.{is_unreadable, is_pointer, cannot_be_tested}
-use Rattle.verifier.specs.Operands.{known_helper, call_registers, reads, copied, jumps_at_null}
+use Rattle.verifier.specs.Operands.{call_registers, reads, copied, jumps_at_null}
 use Rattle.insn.specs.Moves.{distance}
 use Rattle.verifier.specs.Regions.{is_within, lies_in, is_outside, has_unmarked, is_unmarked, Access, access, stack_index, helper_reads}
 use Rattle.verifier.specs.Rules.{breaks, first_broken, rules_in_order, misuses, has_bad_argument}
@@ -113,13 +113,13 @@ same_arguments (Some Lookup) a b s = rw (s.0, s.1.0) refl
 same_arguments (Some Update) a b s = rw (s.0, s.1.0, s.1.1.0, s.1.1.1.0) refl
 same_arguments (Some Delete) a b s = rw (s.0, s.1.0) refl
 
-call_rule : (l : Signature) (id : ℤ) (a b : Frame) → Covers a b → SameKinds a b (call_registers (known_helper id)) → (v : VerifyFault) → breaks v l (Call id) a ≡ false → breaks v l (Call id) b ≡ false
-call_rule l id a b h s UnreadableRegister e = sym (same_unreadable a b (call_registers (known_helper id)) s) ∙ e
+call_rule : (l : Signature) (id : ℤ) (a b : Frame) → Covers a b → SameKinds a b (call_registers (helper_of id)) → (v : VerifyFault) → breaks v l (Call id) a ≡ false → breaks v l (Call id) b ≡ false
+call_rule l id a b h s UnreadableRegister e = sym (same_unreadable a b (call_registers (helper_of id)) s) ∙ e
 call_rule l id a b h s OutOfRegion e =
-    subst (λ xs. list_any (is_outside l) xs || false ≡ false) (same_helper_reads l (known_helper id) a b s) e
+    subst (λ xs. list_any (is_outside l) xs || false ≡ false) (same_helper_reads l (helper_of id) a b s) e
 call_rule l id a b h s UninitialisedStack e =
-    subst (λ xs. list_any (is_unmarked l b) xs ≡ false) (same_helper_reads l (known_helper id) a b s) (all_marked_too l a b (helper_reads l (known_helper id) a (kind a 1)) h e)
-call_rule l id a b h s HelperArgument e = sym (same_arguments (known_helper id) a b s) ∙ e
+    subst (λ xs. list_any (is_unmarked l b) xs ≡ false) (same_helper_reads l (helper_of id) a b s) (all_marked_too l a b (helper_reads l (helper_of id) a (kind a 1)) h e)
+call_rule l id a b h s HelperArgument e = sym (same_arguments (helper_of id) a b s) ∙ e
 call_rule l id a b h s v e = e
 
 -- ---- branches
@@ -250,7 +250,7 @@ grown-after (Ja long by) a b e s g = g
 grown-after (Branch w64 cond dst src off) a b e s g =
     let jumps = jumps_at_null w64 cond src in
     subst (λ k. Grown (after_test jumps a dst (kind a dst) e) (after_test jumps b dst k e)) s.0 (grown-after_test jumps a b dst (kind a dst) e g)
-grown-after (Call id) a b e s g = grown-after_call (known_helper id) a b s g
+grown-after (Call id) a b e s g = grown-after_call (helper_of id) a b s g
 grown-after Exit a b e s g = g
 
 -- where no rule is broken, a frame that says more leads to one that says more, by either edge

@@ -9,8 +9,8 @@ use Rattle.insn.specs.Sizes.{byte_count}
 use Rattle.regkind.specs.declared.frames.Kind.{Kind}
 use Rattle.regkind.specs.declared.frames.Kind.TheVariants.{Unreadable, Scalar, Stack, Arg, Map, Value, ValueOrNull}
 use Rattle.regkind.specs.Frames.{Frame, kind, with_kind, with_marks}
-use Rattle.maps.specs.Values.{Helper, Lookup}
-use Rattle.verifier.specs.Operands.{known_helper, copied, jumps_at_null}
+use Rattle.maps.specs.Values.{Helper, Lookup, helper_of}
+use Rattle.verifier.specs.Operands.{copied, jumps_at_null}
 use Rattle.insn.specs.Moves.{distance}
 use Rattle.verifier.specs.Regions.{stack_index}
 
@@ -94,5 +94,5 @@ frame_after (Imm64 dst value) f e = with_kind f dst Scalar
 frame_after (MapRef dst index) f e = with_kind f dst (Map (unsigned_abs index))
 frame_after (Store size dst off src) f e = after_store f (kind f dst) off (byte_count size)
 frame_after (Branch w64 cond dst src off) f e = after_test (jumps_at_null w64 cond src) f dst (kind f dst) e
-frame_after (Call id) f e = after_call (known_helper id) (kind f 1) f
+frame_after (Call id) f e = after_call (helper_of id) (kind f 1) f
 frame_after i f e = f

@@ -1,5 +1,5 @@
 -- The operands of an instruction: the registers that it reads and writes, and the pointers that it may take for numbers.
-use Rattle.std.specs.Prelude.{ℕ, zero, Bool, true, false, ◌==◌, if◌then◌else◌, ℤ, pos, negsuc, List, [], ◌∷◌, Option, Some, None}
+use Rattle.std.specs.Prelude.{ℕ, zero, Bool, true, false, if◌then◌else◌, pos, List, [], ◌∷◌, Option, Some, None}
 use Rattle.insn.specs.declared.instruction.Source.{Source}
 use Rattle.insn.specs.declared.instruction.Source.TheVariants.{Reg, Imm}
 use Rattle.insn.specs.declared.instruction.Operation.{Operation}
@@ -8,13 +8,7 @@ use Rattle.insn.specs.declared.instruction.Condition.{Condition}
 use Rattle.insn.specs.declared.instruction.Condition.TheVariants.{Jeq, Jne}
 use Rattle.insn.specs.declared.instruction.Form.{Form}
 use Rattle.insn.specs.declared.instruction.Form.TheVariants.{Alu, Neg, MovSx, Swap, Load, Store, Imm64, MapRef, Branch, Call, Exit}
-use Rattle.maps.specs.Values.{Helper, Lookup, Update, Delete}
-
--- The helpers that the rules know (RFC 9669, section 4.3.1; bpf-helpers(7)). Until hash maps are built that is
--- bpf_map_lookup_elem, helper 1, alone: any other call is a call of an unknown helper. This is the one place that says so.
-abbrev pub known_helper : ℤ → Option Helper
-known_helper (pos n) = if n == 1 then Some Lookup else None
-known_helper (negsuc n) = None
+use Rattle.maps.specs.Values.{Helper, Lookup, Update, Delete, helper_of}
 
 -- ---- the registers that are read and written
 
@@ -28,7 +22,7 @@ abbrev pub is_mov : Operation → Bool
 is_mov Mov = true
 is_mov op = false
 
--- the arguments of a helper: the map in R1, the key in R2; of update the value in R3 and the flags in R4 (bpf-helpers(7))
+-- the arguments of a helper that the rules know: the map in R1, the key in R2; of update the value in R3 and the flags in R4 (bpf-helpers(7))
 abbrev pub call_registers : Option Helper → List ℕ
 call_registers None = []
 call_registers (Some Lookup) = 1 ∷ 2 ∷ []
@@ -44,7 +38,7 @@ reads (Swap order bits dst) = dst ∷ []
 reads (Load size signed dst src off) = src ∷ []
 reads (Store size dst off src) = dst ∷ source_registers src
 reads (Branch w64 cond dst src off) = dst ∷ source_registers src
-reads (Call id) = call_registers (known_helper id)
+reads (Call id) = call_registers (helper_of id)
 reads Exit = 0 ∷ []
 reads i = []
 

@@ -9,9 +9,8 @@ use Rattle.regkind.specs.declared.frames.Kind.TheVariants.{Stack, Arg, Map, Valu
 use Rattle.regkind.specs.Frames.{Frame, kind, all_marked}
 use Rattle.maps.specs.declared.shapes.Shape.{Shape}
 use Rattle.maps.specs.Shapes.{key_size, value_size}
-use Rattle.maps.specs.Values.{Helper, Lookup, Update, Delete}
+use Rattle.maps.specs.Values.{Helper, Lookup, Update, Delete, helper_of}
 use Rattle.verifier.specs.Signature.{Signature}
-use Rattle.verifier.specs.Operands.{known_helper}
 
 -- ---- regions
 
@@ -57,7 +56,7 @@ helper_reads l h f k = []
 -- the bytes of memory that are read (RFC 9669, sections 5.1 and 5.2)
 abbrev pub memory_read : Signature → Form → Frame → List Access
 memory_read l (Load size signed dst src off) f = access (kind f src) off (byte_count size) ∷ []
-memory_read l (Call id) f = helper_reads l (known_helper id) f (kind f 1)
+memory_read l (Call id) f = helper_reads l (helper_of id) f (kind f 1)
 memory_read l i f = []
 
 -- the bytes of memory that are written (RFC 9669, section 5.1)

@@ -9,14 +9,14 @@ use Rattle.insn.specs.declared.instruction.Form.{Form}
 use Rattle.insn.specs.declared.instruction.Form.TheVariants.{Alu, Load, Store, MapRef, Branch, Call, Exit}
 use Rattle.regkind.specs.declared.frames.Kind.{Kind}
 use Rattle.regkind.specs.Frames.{Frame, kind}
-use Rattle.maps.specs.Values.{Helper, Update, Delete}
+use Rattle.maps.specs.Values.{Helper, Update, Delete, helper_of}
 use Rattle.verifier.specs.declared.refusal.Mode.{Mode}
 use Rattle.verifier.specs.declared.refusal.Mode.TheVariants.{Read}
 use Rattle.verifier.specs.declared.refusal.VerifyFault.{VerifyFault}
 use Rattle.verifier.specs.declared.refusal.VerifyFault.TheVariants.{UnreadableRegister, FramePointerWritten, UndefinedOperation, OffsetOutOfRange, OutOfRegion, UninitialisedStack, ArgumentWritten, PointerStored, UncheckedNull, HelperArgument, UnknownHelperOrMap, PointerReply, WriteInReadMode}
 use Rattle.verifier.specs.Signature.{Signature}
 use Rattle.verifier.specs.Kinds.{is_unreadable, is_pointer, is_region_pointer, is_scalar, is_map, cannot_be_dereferenced, cannot_be_moved, cannot_be_tested, is_arg, is_value, is_value_or_null}
-use Rattle.verifier.specs.Operands.{known_helper, source_registers, reads, writes}
+use Rattle.verifier.specs.Operands.{source_registers, reads, writes}
 use Rattle.insn.specs.Moves.{distance}
 use Rattle.verifier.specs.Regions.{is_within, memory_read, memory_written, is_outside, is_unmarked}
 
@@ -95,11 +95,11 @@ breaks UninitialisedStack l i f = list_any (is_unmarked l f) (memory_read l i f)
 breaks ArgumentWritten l i f = writes_through is_arg i f
 breaks PointerStored l (Store size dst off src) f = any_pointer (source_registers src) f
 breaks UncheckedNull l i f = has_unchecked_base i f
-breaks HelperArgument l (Call id) f = has_bad_argument (known_helper id) f
-breaks UnknownHelperOrMap l (Call id) f = is_none (known_helper id)
+breaks HelperArgument l (Call id) f = has_bad_argument (helper_of id) f
+breaks UnknownHelperOrMap l (Call id) f = is_none (helper_of id)
 breaks UnknownHelperOrMap l (MapRef dst index) f = not (is_map_index l index)
 breaks PointerReply l Exit f = is_pointer (kind f 0)
-breaks WriteInReadMode l (Call id) f = is_read l.mode && changes_map (known_helper id)
+breaks WriteInReadMode l (Call id) f = is_read l.mode && changes_map (helper_of id)
 breaks WriteInReadMode l i f = is_read l.mode && writes_through is_value i f
 breaks v l i f = false
 

@@ -1,6 +1,6 @@
-// The rules for loads, stores and helper calls, which reach memory through pointers.
+// The rules for loads and stores, which reach memory through pointers.
 
-ghost use Rattle.std.specs.Prelude.{◌≡◌, ◌<◌, Bool, pos};
+ghost use Rattle.std.specs.Prelude.{◌≡◌, ◌<◌, Bool};
 ghost use Rattle.std.specs.List.{list_any};
 ghost use Rattle.insn.specs.declared.instruction.Form.TheVariants as form;
 ghost use Rattle.insn.specs.Encoding.{IsSource};
@@ -12,8 +12,8 @@ ghost use Rattle.verifier.specs.Rules.{first_broken, any_pointer};
 use crate::context::Context;
 use crate::refusal::{Mode, VerifyFault};
 use crate::regions::{
-    cannot_be_dereferenced, has_unmarked, is_arg, is_pointer, is_region_pointer, is_unreadable,
-    is_value, is_value_or_null,
+    cannot_be_dereferenced, has_unmarked, is_arg, is_pointer, is_unreadable, is_value,
+    is_value_or_null,
 };
 use insn::{Size, Source};
 use regkind::{Frame, Kind};
@@ -90,40 +90,5 @@ pub(crate) fn source_kind(f: &Frame, src: Source) -> Kind
     match src {
         Source::Reg(register) => f.kind(register),
         Source::Imm(_) => Kind::Scalar,
-    }
-}
-
-// A call of a helper; the lookup in a map, helper 1, alone is known.
-pub(crate) fn broken_by_call(on: &Context, id: i32) -> Option<VerifyFault>
-    ensures { result ≡ first_broken on.now.signature.now (form.Call id) on.now.frame.now }
-{
-    match id {
-        1 => broken_by_lookup(on),
-        _ => Some(VerifyFault::UnknownHelperOrMap),
-    }
-}
-
-// A lookup of the key at R2 in the map in R1.
-fn broken_by_lookup(on: &Context) -> Option<VerifyFault>
-    ensures { result ≡ first_broken on.now.signature.now (form.Call (pos 1)) on.now.frame.now }
-{
-    let (first, key) = (on.frame.kind(1), on.frame.kind(2));
-    if is_unreadable(first) || is_unreadable(key) {
-        return Some(VerifyFault::UnreadableRegister);
-    }
-    match first {
-        Kind::Map(map) => {
-            let bytes = on.signature.key_size(map);
-            if !on.signature.is_within(key, 0, bytes) {
-                Some(VerifyFault::OutOfRegion)
-            } else if has_unmarked(on.frame, key, 0, bytes) {
-                Some(VerifyFault::UninitialisedStack)
-            } else if !is_region_pointer(key) {
-                Some(VerifyFault::HelperArgument)
-            } else {
-                None
-            }
-        }
-        _ => Some(VerifyFault::HelperArgument),
     }
 }

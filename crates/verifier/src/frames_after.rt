@@ -2,7 +2,7 @@
 
 ghost use Rattle.std.specs.Prelude.{◌≡◌, ◌<◌, ◌≤◌, ◌≤ℤ◌, ◌<ℤ◌, Some, None, IfSome, pos, unsigned_abs};
 ghost use Rattle.insn.specs.Encoding.{HasEncoding, IsSource};
-ghost use Rattle.maps.specs.Values.{Lookup};
+ghost use Rattle.maps.specs.Values.{Lookup, Update, Delete};
 ghost use Rattle.regkind.specs.declared.frames.Kind.TheVariants as kinds;
 ghost use Rattle.regkind.specs.Frames.{kind, with_kind};
 ghost use Rattle.verifier.specs.Signature.{IsSignatureOk};
@@ -10,7 +10,7 @@ ghost use Rattle.verifier.specs.Operands.{copied};
 ghost use Rattle.insn.specs.Moves.{distance};
 ghost use Rattle.verifier.specs.Regions.{IsShort, StaysInStack};
 ghost use Rattle.verifier.specs.Rules.{first_broken};
-ghost use Rattle.verifier.specs.FrameAfter.{frame_after, is_null_on, after_call, shifted, FitsShift, result_kind, after_store, after_test, without_arguments};
+ghost use Rattle.verifier.specs.FrameAfter.{frame_after, is_null_on, after_call, shifted, FitsShift, result_kind, after_store, after_test, without_arguments, forgetting, forgotten};
 
 use crate::context::Context;
 use crate::operands::{copied, jumps_at_null};
@@ -43,6 +43,7 @@ pub(crate) fn frame_after(on: &Context, i: Form, edge: Edge) -> Frame
             ..
         } => after_test(f, dst, jumps_at_null(w64, cond, src), edge),
         Form::Call { id: 1 } => after_lookup(f),
+        Form::Call { id: 2 | 3 } => after_change(f),
         Form::Call { .. } | Form::Ja { .. } | Form::Exit => *f,
     }
 }
@@ -140,6 +141,38 @@ fn after_lookup(f: &Frame) -> Frame
     match f.kind(1) {
         Kind::Map(map) => with_kind(&without_arguments(f), 0, Kind::ValueOrNull(map)),
         _ => *f,
+    }
+}
+
+// After an update or a delete R0 is a number, R1 to R5 are unreadable, and so is every pointer to a value of the map.
+fn after_change(f: &Frame) -> Frame
+    ensures update { result ≡ after_call (Some Update) (kind f.now 1) f.now }
+    ensures delete { result ≡ after_call (Some Delete) (kind f.now 1) f.now }
+{
+    match f.kind(1) {
+        Kind::Map(map) => with_kind(&forgetting(&without_arguments(f), map), 0, Kind::Scalar),
+        _ => *f,
+    }
+}
+
+// No register keeps a pointer to a value of the map.
+fn forgetting(f: &Frame, map: u8) -> Frame
+    ensures { result ≡ forgetting map f.now 11 }
+{
+    let mut after = *f;
+    for register in 0..11 {
+        after.set_kind(register, forgotten(f.kind(register), map));
+    }
+    after
+}
+
+// The kind, but of a pointer to a value of the map, tested or not, nothing is known.
+fn forgotten(kind: Kind, map: u8) -> Kind
+    ensures { result ≡ forgotten map kind }
+{
+    match kind {
+        Kind::Value(of, _) | Kind::ValueOrNull(of) if of == map => Kind::Unreadable,
+        _ => kind,
     }
 }
 

@@ -4,6 +4,7 @@
 mod accepted;
 mod accesses;
 mod arithmetic;
+mod calls;
 mod context;
 mod frames_after;
 mod laws;

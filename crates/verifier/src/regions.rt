@@ -2,7 +2,7 @@
 
 ghost use Rattle.std.specs.Prelude.{◌≡◌, ◌+◌, ◌≤◌, ◌+ℤ◌, pos, negsuc, is_some, IfSome};
 ghost use Rattle.verifier.specs.Signature.{Signature};
-ghost use Rattle.verifier.specs.Kinds.{is_unreadable, is_pointer, is_region_pointer, is_arg, is_value, is_value_or_null};
+ghost use Rattle.verifier.specs.Kinds.{is_unreadable, is_pointer, is_region_pointer, is_scalar, is_arg, is_value, is_value_or_null};
 ghost use Rattle.verifier.specs.Kinds.{cannot_be_dereferenced, cannot_be_moved, cannot_be_tested};
 ghost use Rattle.verifier.specs.Regions.{lies_in, stack_index, has_unmarked, IsShort, IsSmall};
 
@@ -27,6 +27,13 @@ pub(crate) fn is_region_pointer(kind: Kind) -> bool
     ensures { result ≡ is_region_pointer kind }
 {
     matches!(kind, Kind::Stack(_) | Kind::Arg(_) | Kind::Value(_, _))
+}
+
+// A number.
+pub(crate) fn is_scalar(kind: Kind) -> bool
+    ensures { result ≡ is_scalar kind }
+{
+    matches!(kind, Kind::Scalar)
 }
 
 // A map or the answer of a lookup, whose pointer no addition moves.

@@ -7,10 +7,11 @@ ghost use Rattle.regkind.specs.Frames as frames;
 ghost use Rattle.verifier.specs.Signature.{Signature};
 ghost use Rattle.verifier.specs.Rules.{first_broken, misuses};
 
-use crate::accesses::{broken_by_call, broken_by_load, broken_by_store, source_kind};
+use crate::accesses::{broken_by_load, broken_by_store, source_kind};
 use crate::arithmetic::{
     broken_by_immediate, broken_by_register, broken_by_unary, frame_pointer_written,
 };
+use crate::calls::broken_by_call;
 use crate::context::Context;
 use crate::operands::jumps_at_null;
 use crate::refusal::VerifyFault;

@@ -83,7 +83,7 @@ impl<'a> Signature<'a> {
     }
 
     // The bytes of a value of a map.
-    fn value_size(&self, map: u8) -> usize
+    pub(crate) fn value_size(&self, map: u8) -> usize
         ensures { result ≡ size_of sizes.value_size self.now.shapes map }
     {
         match self.shapes.get(map as usize) {

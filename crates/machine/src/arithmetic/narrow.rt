@@ -5,6 +5,7 @@ ghost use Rattle.machine.specs.Arithmetic.{alu, holds};
 
 use insn::{Condition, Operation};
 
+#[inline(always)]
 pub fn alu(op: Operation, a: u32, b: u32) -> u32
     ensures { result ≡ alu op 32 a b }
 {
@@ -50,6 +51,7 @@ fn signed_remainder(a: u32, b: u32) -> u32
     }
 }
 
+#[inline(always)]
 pub fn holds(condition: Condition, a: u32, b: u32) -> bool
     ensures { result ≡ holds condition 32 a b }
 {

@@ -5,6 +5,7 @@ ghost use Rattle.machine.specs.Arithmetic.{alu, holds};
 
 use insn::{Condition, Operation};
 
+#[inline(always)]
 pub fn alu(op: Operation, a: u64, b: u64) -> u64
     ensures { result ≡ alu op 64 a b }
 {
@@ -50,6 +51,7 @@ fn signed_remainder(a: u64, b: u64) -> u64
     }
 }
 
+#[inline(always)]
 pub fn holds(condition: Condition, a: u64, b: u64) -> bool
     ensures { result ≡ holds condition 64 a b }
 {

@@ -65,7 +65,6 @@ overflow_add-next c =
     let at = placed p k s i c.loop-insn-test.true is c.loop-insn.invariant.counted in
     omega (arith, at.within, ap slot_count c.form-form.ensures.same)
 
-
 pub insert_targets-requires-clause-next : goal.insert_targets-requires-clause-next
 insert_targets-requires-clause-next c = omega (arith, ap slot_count c.form-form.ensures.same)
 

@@ -1,0 +1,26 @@
+use Rattle.std.proofs.Common.{rules, ◌≤◌, arith}
+use Rattle.machine.proofs.Looking.{same_map}
+use Rattle.machine.proofs.Altering.{shape_ok, delete_key_told, deleted_leads}
+use Rattle.machine.proofs.calls.call_delete.Goals as goal
+
+pub fetch-key-requires-clause-told : goal.fetch-key-requires-clause-told
+fetch-key-requires-clause-told c =
+    let s = c.requires.told in
+    delete_key_told c.args.kinds.now c.args.machine.now c.args.maps.now c.args.argument.now s c.from-m.result c.key_bytes-key_bytes.result c.shape.result
+    (same_map s.frame c.args.kinds.now c.in-Map.m c.from-m.result s.same_kinds c.in-Map.is c.from-m.ensures) c.shape.ensures.shape c.key_bytes-key_bytes.ensures.key
+
+pub slice_bounds-key-end : goal.slice_bounds-key-end
+slice_bounds-key-end c =
+    let s = c.requires.told in
+    let ok = shape_ok c.args.maps.now s.signature c.from-m.result c.shape.result s.limits s.shapes c.shape.ensures.shape in
+    let few : c.key_bytes-key_bytes.result ≤ 64 = omega (arith, ok.key.1, c.key_bytes-key_bytes.ensures.key) in
+    search rules
+
+pub returns : goal.returns
+returns c = record {
+  executes = λ s.
+      deleted_leads c.args.kinds.now c.args.machine.now c.args.maps.now c.args.argument.now s c.from-m.result c.key_bytes-key_bytes.result c.shape.result
+      (same_map s.frame c.args.kinds.now c.in-Map.m c.from-m.result s.same_kinds c.in-Map.is c.from-m.ensures) c.shape.ensures.shape c.key_bytes-key_bytes.ensures.key
+      c.fetch-key.result c.delete.new.maps c.delete.result c.fetch-key.ensures.copied c.delete.ensures.answers
+      (record { maps = c.delete.ensures.others; shapes = c.delete.ensures.shapes });
+}

@@ -1,0 +1,110 @@
+// Calls of helpers (RFC 9669, section 4.3.1), and those that change a map (bpf-helpers(7)). The bytes of a key and of a value are
+// read before the change: they may lie in that map.
+
+ghost use Rattle.std.specs.Prelude.{◌≡◌, ◌<◌, ◌≤◌, ℕ, pos, List, take};
+ghost use Rattle.insn.specs.declared.instruction.Form.TheVariants as form;
+ghost use Rattle.maps.specs.Shapes.{AreShapesOk};
+ghost use Rattle.maps.specs.MapSets.{stored_shapes};
+ghost use Rattle.machine.specs.Accesses.{IsRead};
+ghost use Rattle.machine.specs.Executing.{Stands, Executes};
+
+use crate::executing::call_lookup;
+use crate::memory::{Base, locate, part};
+use crate::registers::Machine;
+use helpers::{delete, update};
+use insn::Edge;
+use maps::MapSet;
+use regkind::Kind;
+
+/// A call of a helper by its number. A program that calls another than these three isn't accepted.
+#[inline(always)]
+pub(crate) fn call_helper(
+    machine: &mut Machine,
+    maps: &mut MapSet,
+    argument: &[u8],
+    kinds: &[Kind; 11],
+    id: i32,
+) -> Option<Edge>
+    requires told { Stands (form.Call id) kinds.now machine.old maps.old argument.now }
+    ensures executes { Executes (form.Call id) kinds.now machine.old maps.old argument.now machine.new maps.new result }
+{
+    match id {
+        1 => call_lookup(machine, maps, argument, kinds),
+        2 => call_update(machine, maps, argument, kinds),
+        _ => call_delete(machine, maps, argument, kinds),
+    }
+}
+
+/// A copy of so many bytes at a pointer, in an array that has room for a value.
+fn fetch(stack: &[u8; 512], maps: &MapSet, argument: &[u8], base: Base, bytes: usize) -> [u8; 256]
+    requires limits { AreShapesOk (stored_shapes maps.now) }
+    requires some { 0 < bytes }
+    requires few { bytes ≤ 256 }
+    requires told { (bs : List ℕ) × IsRead stack.now maps.now argument.now base bytes bs }
+    ensures copied { (bs : List ℕ) → IsRead stack.now maps.now argument.now base bytes bs → take bytes result ≡ bs }
+{
+    let spot = locate(stack, maps, argument, base);
+    let mut copy = [0; 256];
+    copy[..bytes].copy_from_slice(part(spot.region, spot.at, bytes));
+    copy
+}
+
+/// A call of bpf_map_update_elem.
+#[inline(never)]
+fn call_update(
+    machine: &mut Machine,
+    maps: &mut MapSet,
+    argument: &[u8],
+    kinds: &[Kind; 11],
+) -> Option<Edge>
+    requires told { Stands (form.Call (pos 2)) kinds.now machine.old maps.old argument.now }
+    ensures executes { Executes (form.Call (pos 2)) kinds.now machine.old maps.old argument.now machine.new maps.new result }
+{
+    let Kind::Map(m) = kinds[1] else {
+        unreachable!()
+    };
+    let m = usize::from(m);
+    let shape = maps.shape(m);
+    let (key_bytes, value_bytes) = (shape.key_bytes(), shape.value_bytes());
+    let key = Base {
+        kind: kinds[2],
+        word: machine.words[2],
+        off: 0,
+    };
+    let value = Base {
+        kind: kinds[3],
+        word: machine.words[3],
+        off: 0,
+    };
+    let key = fetch(&machine.stack, maps, argument, key, key_bytes);
+    let value = fetch(&machine.stack, maps, argument, value, value_bytes);
+    let flags = machine.words[4];
+    machine.words[0] = update(maps, m, &key[..key_bytes], &value[..value_bytes], flags);
+    Some(Edge::Fall)
+}
+
+/// A call of bpf_map_delete_elem.
+#[inline(never)]
+fn call_delete(
+    machine: &mut Machine,
+    maps: &mut MapSet,
+    argument: &[u8],
+    kinds: &[Kind; 11],
+) -> Option<Edge>
+    requires told { Stands (form.Call (pos 3)) kinds.now machine.old maps.old argument.now }
+    ensures executes { Executes (form.Call (pos 3)) kinds.now machine.old maps.old argument.now machine.new maps.new result }
+{
+    let Kind::Map(m) = kinds[1] else {
+        unreachable!()
+    };
+    let m = usize::from(m);
+    let key_bytes = maps.shape(m).key_bytes();
+    let key = Base {
+        kind: kinds[2],
+        word: machine.words[2],
+        off: 0,
+    };
+    let key = fetch(&machine.stack, maps, argument, key, key_bytes);
+    machine.words[0] = delete(maps, m, &key[..key_bytes]);
+    Some(Edge::Fall)
+}

@@ -1,0 +1,206 @@
+-- The answers of a batch, and the steps that hand answers out.
+use Rattle.std.proofs.Common.{◌≡◌, ℕ, zero, suc, ◌+◌, ◌<◌, ◌≤◌, List, [], ◌∷◌, ◌++◌, length, take, Option, Some, None, refl, sym, ap, ◌∙◌, ⊎_elim, arith, subst}
+use Rattle.std.specs.Prelude.{slice_get, slice_set, ◌&&◌, nat_le, cond, option_map}
+use Rattle.std.specs.Option.{option_and_then}
+use Rattle.std.proofs.lemmas.Bool.{cases_lt, cases_eq, le-leb}
+use Rattle.machine.specs.declared.running.Outcome.{Outcome}
+use Rattle.oplog.specs.History.{ReadEffect, History}
+use Rattle.oplog.specs.Logs.{Log}
+use Rattle.combiner.specs.declared.slots.Reply.{Reply}
+use Rattle.combiner.specs.declared.slots.Reply.TheVariants.{Placed, Ended}
+use Rattle.combiner.specs.Desks.{BatchView, IsAnswered}
+use Rattle.readpath.specs.declared.reading.ReadAnswer.{ReadAnswer}
+use Rattle.replica.specs.StoreMeaning.{store_meaning, outcome_of}
+use Rattle.schedule.specs.declared.parts.BegunRead.{BegunRead}
+use Rattle.schedule.specs.declared.parts.Written.{Written}
+use Rattle.schedule.specs.declared.parts.NodeBatch.TheVariants.{AppendedBatch}
+use Rattle.schedule.specs.declared.parts.Opening.{Opening}
+use Rattle.schedule.specs.declared.steps.Step.{Step}
+use Rattle.schedule.specs.declared.steps.StepAnswer.{StepAnswer}
+use Rattle.schedule.specs.declared.steps.StepAnswer.TheVariants as answers
+use Rattle.schedule.specs.Trace.{ReadBack, Back}
+use Rattle.schedule.specs.Worlds.{NodeView, WorldView, answers_from, answered_batch}
+use Rattle.schedule.specs.Steps.{Part, Took, says, put_part, part_of, node_of, took, world_of, world_after, trace_after, with_event, session_at, read_at, with_read, read_answer}
+use Rattle.schedule.specs.Stands.{BatchStands, WrittenStands, Stands}
+use Rattle.schedule.specs.Taking.{StoreView, store_of, KeepsStanding, step_answer, answers_to, TakesPart, Takes, IsOfStore, IsStanding, IsRun}
+use Rattle.schedule.proofs.Lists.{get_some, set_same, set_off, set_back}
+use Rattle.schedule.proofs.Options.{map_gives}
+use Rattle.schedule.proofs.Desks.{answers_placed, answers_ended, is_answered}
+use Rattle.schedule.proofs.Keeping.{same_lists}
+use Rattle.schedule.proofs.Owned.{history_short}
+use Rattle.schedule.proofs.Appends.{take_snoc}
+use Rattle.schedule.proofs.Runs.{step_keeps}
+
+-- ---- the loop that sets the answers
+
+pub answers_length : (place : ℕ) (outcomes : List (Option Outcome)) (rs : History) → length (answers_from place outcomes rs) ≡ length rs
+answers_length place outcomes [] = refl
+answers_length place [] (r ∷ rs) = ap suc (answers_length place [] rs)
+answers_length place (outcome ∷ outcomes) (r ∷ rs) = ap suc (answers_length (place + 1) outcomes rs)
+
+-- the k-th answer
+answer_set : (b : Written) (k : ℕ) (reply : Reply) → k < length b.batch.records → IsRun b
+    → ((o : Outcome) → k < b.count → slice_get b.replies.outcomes k ≡ Some (Some o) → reply ≡ Placed (b.first + k) o.reply) → (b.count ≤ k → reply ≡ Ended)
+    → slice_get (answers_from b.first b.replies.outcomes b.batch.records) k ≡ Some (Some reply)
+answer_set b k reply lt run placed ended =
+    let r = get_some b.batch.records k lt in
+    let count = run.count in
+    ⊎_elim
+    (λ has. let o = run.outcomes k has lt in answers_placed b.batch.records b.replies.outcomes b.first k r.0 (Some o.0) r.1 o.1 ∙ ap (λ y. Some (Some y)) (sym (placed o.0 has o.1)))
+    (λ late. answers_ended b.batch.records b.replies.outcomes b.first k r.0 r.1 (omega arith) ∙ ap (λ y. Some (Some y)) (sym (ended late)))
+    (cases_lt k b.count)
+
+-- one turn
+pub answers_turn : (b : Written) (k : ℕ) (old : List (Option Reply)) (reply : Reply) → k < length b.batch.records → length old ≡ length b.batch.records → IsRun b
+    → ((o : Outcome) → k < b.count → slice_get b.replies.outcomes k ≡ Some (Some o) → reply ≡ Placed (b.first + k) o.reply) → (b.count ≤ k → reply ≡ Ended)
+    → ((j : ℕ) → j < k → slice_get old j ≡ slice_get (answers_from b.first b.replies.outcomes b.batch.records) j)
+    → (j : ℕ) → j < k + 1 → slice_get (slice_set old k (Some reply)) j ≡ slice_get (answers_from b.first b.replies.outcomes b.batch.records) j
+answers_turn b k old reply lt long run placed ended before j le =
+    ⊎_elim
+    (λ same. let u = get_some old k (omega arith) in
+    ap (λ i. slice_get (slice_set old k (Some reply)) i) same ∙ set_same old k u.0 (Some reply) u.1 ∙ sym (answer_set b k reply lt run placed ended) ∙ ap (λ i. slice_get (answers_from b.first b.replies.outcomes b.batch.records) i) (sym same))
+    (λ ne. set_off old k j (Some reply) ne ∙ before j (omega arith))
+    (cases_eq j k)
+
+-- all turns
+pub answers_whole : (b : Written) (batch : BatchView) (k : ℕ) → batch.records ≡ b.batch.records → length batch.answers ≡ length b.batch.records → length b.batch.records ≤ k
+    → ((j : ℕ) → j < k → slice_get batch.answers j ≡ slice_get (answers_from b.first b.replies.outcomes b.batch.records) j) → batch ≡ answered_batch b
+answers_whole b batch k records long all set =
+    let same : batch.answers ≡ answers_from b.first b.replies.outcomes b.batch.records =
+    same_lists batch.answers (answers_from b.first b.replies.outcomes b.batch.records) (long ∙ sym (answers_length b.first b.replies.outcomes b.batch.records)) (λ j lt. set j (omega arith)) in
+    ap (λ rs. (let v : BatchView = record { records = rs; answers = batch.answers } in v)) records ∙ ap (λ xs. (let v : BatchView = record { records = b.batch.records; answers = xs } in v)) same
+
+-- ---- a batch that is run
+
+pub nothing : {A : Type 0} (xs : List A) → length xs ≡ 0 → xs ≡ []
+nothing [] e = refl
+nothing (x ∷ xs) e = absurd (omega arith)
+
+module _ {m : Opening} {g : Log} {node : NodeView} (x : IsOfStore m g node) (b : Written) (is : node.batch ≡ AppendedBatch b) (empty : length node.hand.records ≡ 0) where
+  wr : WrittenStands m x.history node.replica node.hand b
+  wr = subst (λ y. BatchStands m x.history node.replica node.hand y) is x.stands.batch
+
+  pub is_run : IsRun b
+  is_run = record {
+    count = wr.count;
+    outcomes = λ k lt inside. let r = get_some b.batch.records k inside in let a = wr.ahead in let known = wr.known k r.0 lt r.1 (omega arith) in (outcome_of known.0, known.2);
+    short = (let a = wr.ahead in let t = x.stands.replica.tail in let l = history_short x in omega arith);
+  }
+
+  pub all_answered : node.replica.tail ≤ g.done → IsAnswered (answered_batch b)
+  all_answered below = is_answered m (record { log = g; nodes = [] }) x.history x.places x.trace x.number node b x.stands is (nothing node.hand.records empty) below
+
+-- ---- reads
+
+pub read_taken : (m : Opening) (g : Log) (node new : NodeView) (s : ℕ) (read : BegunRead) (given : ReadAnswer) → read_at node s ≡ Some read → read.seen ≤ node.replica.tail → node.replica.tail ≤ g.done
+    → given.point ≡ node.replica.tail → option_map (λ (e : ReadEffect). e.reply) (store_meaning.read m.catalogue read.op node.replica.maps) ≡ Some given.reply → new ≡ with_read node s None
+    → TakesPart (read_answer m s g node) g node g new (answers.ReadBack given)
+read_taken m g node new s read given at seen done point reply is =
+    let d = map_gives (λ (e : ReadEffect). e.reply) (store_meaning.read m.catalogue read.op node.replica.maps) given.reply reply in
+    let p : Part = says (Back (session_at node s) (ReadBack (record { point = node.replica.tail; reply = (d.0).reply }))) g (with_read node s None) in
+    let same : given ≡ (let v : ReadAnswer = record { point = node.replica.tail; reply = (d.0).reply } in v) =
+    ap (λ k. (let v : ReadAnswer = record { point = k; reply = given.reply } in v)) point ∙ ap (λ k. (let v : ReadAnswer = record { point = node.replica.tail; reply = k } in v)) (sym d.2) in
+    let finds : read_answer m s g node ≡ Some p =
+    ap (λ o. option_and_then (λ (r : BegunRead).
+    cond (nat_le r.seen node.replica.tail && nat_le node.replica.tail g.done)
+    (option_map (λ (e : ReadEffect). says (Back (session_at node s) (ReadBack (record { point = node.replica.tail; reply = e.reply }))) g (with_read node s None)) (store_meaning.read m.catalogue r.op node.replica.maps))
+    None) o) at
+    ∙ ap (λ c. cond (c && nat_le node.replica.tail g.done)
+    (option_map (λ (e : ReadEffect). says (Back (session_at node s) (ReadBack (record { point = node.replica.tail; reply = e.reply }))) g (with_read node s None)) (store_meaning.read m.catalogue read.op node.replica.maps))
+    None) (le-leb read.seen node.replica.tail seen)
+    ∙ ap (λ c. cond c
+    (option_map (λ (e : ReadEffect). says (Back (session_at node s) (ReadBack (record { point = node.replica.tail; reply = e.reply }))) g (with_read node s None)) (store_meaning.read m.catalogue read.op node.replica.maps))
+    None) (le-leb node.replica.tail g.done done)
+    ∙ ap (λ o. option_map (λ (e : ReadEffect). says (Back (session_at node s) (ReadBack (record { point = node.replica.tail; reply = e.reply }))) g (with_read node s None)) o) d.1 in
+    subst (λ o. TakesPart o g node g new (answers.ReadBack given)) (sym finds) (ap answers.ReadBack same, refl, is)
+
+-- ---- the whole store
+
+pub of_store : (s : StoreView) (x : IsStanding s) (n : ℕ) (node : NodeView) → slice_get s.world.nodes n ≡ Some node → IsOfStore s.opening s.world.log node
+of_store s x n node at = record {
+  history = x.history;
+  places = x.places;
+  trace = x.trace;
+  number = n;
+  config = x.config;
+  catalogue = x.stands.catalogue;
+  updates = x.stands.explains.updates;
+  log = x.stands.log;
+  stands = x.stands.nodes n node at;
+}
+
+-- the store after the node's part of a step
+pub stepped : (s : StoreView) (step : Step) (node : NodeView) (g : Log) (new : NodeView) (answer : StepAnswer) → slice_get s.world.nodes (node_of step) ≡ Some node
+    → TakesPart (part_of s.opening step s.world.log node) s.world.log node g new answer
+    → Takes (took s.opening s.world step) s (store_of s.opening g (slice_set s.world.nodes (node_of step) new)) answer
+stepped s step node g new answer at takes =
+    let finds : took s.opening s.world step ≡ option_map (put_part s.world (node_of step)) (part_of s.opening step s.world.log node) =
+    ap (λ o. option_and_then (λ k. option_map (put_part s.world (node_of step)) (part_of s.opening step s.world.log k)) o) at in
+    subst (λ o. Takes o s (store_of s.opening g (slice_set s.world.nodes (node_of step) new)) answer) (sym finds) (go (part_of s.opening step s.world.log node) takes)
+  where
+    go : (o : Option Part) → TakesPart o s.world.log node g new answer → Takes (option_map (put_part s.world (node_of step)) o) s (store_of s.opening g (slice_set s.world.nodes (node_of step) new)) answer
+    go None (is, log, same) = (
+      is,
+      ap (λ k. store_of s.opening k (slice_set s.world.nodes (node_of step) new)) log ∙ ap (λ k. store_of s.opening s.world.log (slice_set s.world.nodes (node_of step) k)) same
+          ∙ ap (λ ns. store_of s.opening s.world.log ns) (set_back s.world.nodes (node_of step) node at),
+    )
+    go (Some p) (is, log, same) = (
+      is,
+      ap (λ k. store_of s.opening k (slice_set s.world.nodes (node_of step) new)) log ∙ ap (λ k. store_of s.opening p.log (slice_set s.world.nodes (node_of step) k)) same,
+    )
+
+-- it stands too
+pub still_standing : (s new : StoreView) (step : Step) (answer : StepAnswer) → IsStanding s → Takes (took s.opening s.world step) s new answer → IsStanding new
+still_standing s new step answer x takes = go (took s.opening s.world step) takes (step_keeps s.opening s.world x.history x.places x.trace step x.stands)
+  where
+    go : (o : Option Took) → Takes o s new answer → ((more : History) × (later : List ℕ) × Stands s.opening (world_after s.world o) (x.history ++ more) (x.places ++ later) (trace_after x.trace o)) → IsStanding new
+    go None (is, same) k = subst IsStanding (sym same) x
+    go (Some r) (is, same) k = subst IsStanding (sym same) (record { config = x.config; history = x.history ++ k.0; places = x.places ++ k.1; trace = with_event x.trace r.event; stands = k.2 })
+
+-- a history that stands for the store before the step, longer, stands for it afterwards
+pub keeps_standing : (s new : StoreView) (step : Step) (answer : StepAnswer) → Takes (took s.opening s.world step) s new answer → KeepsStanding s step new
+keeps_standing s new step answer takes h places t x = go (took s.opening s.world step) takes (step_keeps s.opening s.world h places t step x)
+  where
+    go : (o : Option Took) → Takes o s new answer → ((more : History) × (later : List ℕ) × Stands s.opening (world_after s.world o) (h ++ more) (places ++ later) (trace_after t o))
+        → (more : History) × (later : List ℕ) × Stands new.opening new.world (h ++ more) (places ++ later) (trace_after t o)
+    go None (is, same) k = (k.0, k.1, subst (λ v. Stands v.opening v.world (h ++ k.0) (places ++ k.1) t) (sym same) k.2)
+    go (Some r) (is, same) k = (k.0, k.1, subst (λ v. Stands v.opening v.world (h ++ k.0) (places ++ k.1) (with_event t r.event)) (sym same) k.2)
+
+-- ---- several steps
+
+-- the store after a step, taken or not, and its answer
+pub takes_after : (o : Option Took) (old new : StoreView) (answer : StepAnswer) → Takes o old new answer → (new ≡ record old { world = world_after old.world o }) × (answer ≡ step_answer o)
+takes_after None old new answer (is, same) = (same, is)
+takes_after (Some r) old new answer (is, same) = (same, is)
+
+world_snoc : (m : Opening) (w : WorldView) (steps : List Step) (step : Step) → world_of m w (steps ++ step ∷ []) ≡ world_after (world_of m w steps) (took m (world_of m w steps) step)
+world_snoc m w [] step = refl
+world_snoc m w (s ∷ steps) step = world_snoc m (world_after w (took m w s)) steps step
+
+answers_snoc : (m : Opening) (w : WorldView) (steps : List Step) (step : Step) → answers_to m w (steps ++ step ∷ []) ≡ answers_to m w steps ++ step_answer (took m (world_of m w steps) step) ∷ []
+answers_snoc m w [] step = refl
+answers_snoc m w (s ∷ steps) step = ap (λ xs. step_answer (took m w s) ∷ xs) (answers_snoc m (world_after w (took m w s)) steps step)
+
+-- one step more
+pub steps_next : (start now new : StoreView) (steps : List Step) (i : ℕ) (step : Step) (answer : StepAnswer) (so_far : List StepAnswer) → slice_get steps i ≡ Some step
+    → now ≡ record start { world = world_of start.opening start.world (take i steps) } → so_far ≡ answers_to start.opening start.world (take i steps) → Takes (took now.opening now.world step) now new answer
+    → (new ≡ record start { world = world_of start.opening start.world (take (i + 1) steps) }) × (so_far ++ answer ∷ [] ≡ answers_to start.opening start.world (take (i + 1) steps))
+steps_next start now new steps i step answer so_far at is are takes =
+    let longer : take (i + 1) steps ≡ take i steps ++ step ∷ [] = (let e : i + 1 ≡ suc i = omega arith in ap (λ k. take k steps) e ∙ take_snoc i steps step at) in
+    let w : WorldView = world_of start.opening start.world (take i steps) in
+    let a = takes_after (took start.opening w step) (record start { world = w }) new answer (subst (λ v. Takes (took v.opening v.world step) v new answer) is takes) in (
+      a.0 ∙ ap (λ k. (let v : StoreView = record start { world = k } in v)) (sym (world_snoc start.opening start.world (take i steps) step) ∙ ap (world_of start.opening start.world) (sym longer)),
+      ap (λ xs. xs ++ answer ∷ []) are ∙ ap (λ y. answers_to start.opening start.world (take i steps) ++ y ∷ []) a.1
+          ∙ sym (answers_snoc start.opening start.world (take i steps) step) ∙ ap (answers_to start.opening start.world) (sym longer),
+    )
+
+get_beyond : {A : Type 0} (xs : List A) (i : ℕ) → length xs ≤ i → slice_get xs i ≡ None
+get_beyond [] i l = refl
+get_beyond (x ∷ xs) zero l = absurd (omega arith)
+get_beyond (x ∷ xs) (suc i) l = get_beyond xs i (omega arith)
+
+-- a step of a node that is not there
+pub not_there : (s : StoreView) (step : Step) → length s.world.nodes ≤ node_of step → Takes (took s.opening s.world step) s s answers.NotNow
+not_there s step l =
+    let finds : took s.opening s.world step ≡ None = ap (λ o. option_and_then (λ k. option_map (put_part s.world (node_of step)) (part_of s.opening step s.world.log k)) o) (get_beyond s.world.nodes (node_of step) l) in
+    subst (λ o. Takes o s s answers.NotNow) (sym finds) (refl, refl)

@@ -1,0 +1,194 @@
+-- What is known of the log and a node of a store that stands for a history.
+use Rattle.std.proofs.Common.{◌≡◌, ◌≢◌, ℕ, suc, ◌<◌, ◌≤◌, ◌^◌, true, false, Bool, List, [], ◌∷◌, length, Option, Some, None, refl, sym, ap, ◌∙◌, inl, inr, ⊎_elim, arith, subst}
+use Rattle.std.specs.Prelude.{slice_get, ◌⊎◌, ◌&&◌, ◌||◌, ◌==◌, not, nat_le, nat_lt, cond, if◌then◌else◌}
+use Rattle.std.specs.List.{list_any}
+use Rattle.std.proofs.lemmas.Option.{none-some}
+use Rattle.std.proofs.lemmas.Bool.{and_parts, or_cases, leb-true, ltb-true, false≢true}
+use Rattle.maps.specs.Maps.{AreBytes, HasShapes, shapes_of}
+use Rattle.verifier.specs.declared.refusal.Mode.{Mode}
+use Rattle.verifier.specs.declared.refusal.Mode.TheVariants.{Update, Read}
+use Rattle.verifier.specs.Accepted.{Checked}
+use Rattle.loader.specs.CatalogueView.{CatalogueView}
+use Rattle.oplog.specs.declared.configuration.TheConstants.{MAX_LIMIT}
+use Rattle.oplog.specs.Operations.{Operation}
+use Rattle.oplog.specs.History.{History}
+use Rattle.oplog.specs.Logs.{Log, tail_of}
+use Rattle.oplog.specs.Sessions.{session}
+use Rattle.combiner.specs.declared.slots.DeskRefused.{DeskRefused}
+use Rattle.combiner.specs.declared.slots.Reply.TheVariants.{Placed, Ended}
+use Rattle.combiner.specs.declared.slots.Stage.{Stage}
+use Rattle.combiner.specs.declared.slots.Stage.TheVariants.{Empty, Posted, Claimed, Answered}
+use Rattle.combiner.specs.declared.slots.Slot.{Slot}
+use Rattle.combiner.specs.Slots.{is_claimed}
+use Rattle.combiner.specs.Desks.{DeskView, first_author, claimed_from, has_combiner, has_request, claim_refusal, claimed, batch_of, IsBatchOf}
+use Rattle.replica.specs.StoreMeaning.{program_at, is_mode, IsOperation, is_operation}
+use Rattle.replica.proofs.Tested.{is_tested, tests_true}
+use Rattle.replica.proofs.Histories.{have_effects}
+use Rattle.schedule.specs.declared.parts.BegunRead.{BegunRead}
+use Rattle.schedule.specs.declared.parts.NodeBatch.{NodeBatch}
+use Rattle.schedule.specs.declared.parts.NodeBatch.TheVariants.{NoBatch, ClaimedBatch}
+use Rattle.schedule.specs.declared.parts.Opening.{Opening}
+use Rattle.schedule.specs.declared.steps.StepAnswer.TheVariants as answers
+use Rattle.schedule.specs.Trace.{Trace, Places}
+use Rattle.schedule.specs.Explains.{count_of}
+use Rattle.schedule.specs.Worlds.{NodeView, to_run, replayed}
+use Rattle.schedule.specs.Steps.{silent, read_at, claim, no_batch, has_next, is_none, replay}
+use Rattle.schedule.specs.Stands.{StageStands, batch_in}
+use Rattle.schedule.specs.Taking.{IsOfStore, TakesPart, CanRun, CanCopy, with_next}
+use Rattle.schedule.proofs.Lists.{get_in, get_some}
+use Rattle.schedule.proofs.Options.{some_is, read_is}
+use Rattle.schedule.proofs.Replays.{runs_next}
+
+-- ---- maps
+
+pub node_shapes : {m : Opening} {g : Log} {node : NodeView} → IsOfStore m g node → HasShapes m.catalogue.shapes node.replica.maps
+node_shapes {m} {g} {node} x = subst (λ maps. HasShapes m.catalogue.shapes maps) (sym x.stands.replica.maps) ((have_effects m.catalogue x.catalogue x.history x.updates).shapes node.replica.tail)
+
+pub base_shapes : {m : Opening} {g : Log} {node : NodeView} → IsOfStore m g node → HasShapes m.catalogue.shapes g.base_maps
+base_shapes {m} {g} {node} x = subst (λ maps. HasShapes m.catalogue.shapes maps) (sym x.log.maps) ((have_effects m.catalogue x.catalogue x.history x.updates).shapes g.base)
+
+pub may_rebase : {m : Opening} {g : Log} {node : NodeView} → IsOfStore m g node → HasShapes (shapes_of node.replica.maps) g.base_maps
+may_rebase {m} {g} {node} x = subst (λ s. HasShapes s g.base_maps) (sym (node_shapes x).same) (base_shapes x)
+
+pub may_reclaim : {m : Opening} {g : Log} {node : NodeView} → IsOfStore m g node → HasShapes (shapes_of g.base_maps) node.replica.maps
+may_reclaim {m} {g} {node} x = subst (λ s. HasShapes s node.replica.maps) (sym (base_shapes x).same) (node_shapes x)
+
+-- ---- counts
+
+count_few : (x : ℕ) (h : History) → count_of x h ≤ length h
+count_few x [] = omega arith
+count_few x (r ∷ rs) = let l = count_few x rs in let one = few (r.author == x) in omega arith
+  where
+    few : (b : Bool) → (if b then 1 else 0) ≤ 1
+    few true = omega arith
+    few false = omega arith
+
+-- a slot has counted no more than the history has of its session
+stage_count : (m : Opening) (done : ℕ) (h : History) (places : Places) (t : Trace) (x : ℕ) (batch : NodeBatch) (count : ℕ) (st : Stage) (read : Option BegunRead) → StageStands m done h places t x batch count st read → count ≤ count_of x h
+stage_count m done h places t x batch count Empty None p = let c = p.1 in omega arith
+stage_count m done h places t x batch count Empty (Some read) p = let c = (p.1).counts in omega arith
+stage_count m done h places t x batch count (Posted op) None p = let c = (p.1).counts in omega arith
+stage_count m done h places t x batch count Claimed None p = let c = (p.6).counts in omega arith
+stage_count m done h places t x batch count (Answered (Placed i r)) None p = let c = (p.2).counts in omega arith
+stage_count m done h places t x batch count (Answered Ended) None p = let c = (p.2).counts in omega arith
+stage_count m done h places t x batch count (Posted op) (Some read) p = absurd p
+stage_count m done h places t x batch count Claimed (Some read) p = absurd p
+stage_count m done h places t x batch count (Answered r) (Some read) p = absurd p
+
+pub history_short : {m : Opening} {g : Log} {node : NodeView} (x : IsOfStore m g node) → length x.history ≤ MAX_LIMIT
+history_short x = let a = x.log.within in let b = (x.config.limit).1 in omega arith
+
+pub countable : {m : Opening} {g : Log} {node : NodeView} → IsOfStore m g node → (s : ℕ) (y : Slot) → slice_get node.desk.slots s ≡ Some y → suc y.count < 2 ^ 64
+countable {m} {g} {node} x s y at =
+    let o = x.stands in
+    let a = get_in node.desk.slots s y at in
+    let b = o.desk.slots in
+    let c = o.desk.reads in
+    let read = get_some node.reads s (omega arith) in
+    let l = stage_count m g.done x.history x.places x.trace (session m.config x.number s) node.batch y.count y.stage read.0 (o.seats s y read.0 at read.1) in
+    let few = count_few (session m.config x.number s) x.history in
+    let short = history_short x in
+    omega arith
+
+pub own_shapes : {m : Opening} {g : Log} {node : NodeView} (c : CatalogueView) → m.catalogue ≡ c → IsOfStore m g node → shapes_of node.replica.maps ≡ c.shapes
+own_shapes c same x = (node_shapes x).same ∙ ap (λ k. k.shapes) same
+
+-- ---- claiming
+
+no_combiner : (a : ℕ) (xs : List Slot) → claimed_from a xs ≡ [] → list_any (λ (x : Slot). is_claimed x.stage) xs ≡ false
+no_combiner a [] e = refl
+no_combiner a (x ∷ xs) e = go x.stage (λ f. no_combiner (suc a) xs f) e
+  where
+    go : (st : Stage) → (claimed_from (suc a) xs ≡ [] → list_any (λ (x : Slot). is_claimed x.stage) xs ≡ false) → (if is_claimed st then a ∷ claimed_from (suc a) xs else claimed_from (suc a) xs) ≡ []
+        → (is_claimed st || list_any (λ (x : Slot). is_claimed x.stage) xs) ≡ false
+    go Empty rest e = rest e
+    go (Posted op) rest e = rest e
+    go (Answered r) rest e = rest e
+    go Claimed rest e = let l : length (a ∷ claimed_from (suc a) xs) ≡ 0 = ap length e in absurd (omega arith)
+
+refused : (a b : Bool) (e one two : DeskRefused) → a ≡ false → (if a then Some one else if b then None else Some two) ≡ Some e → b ≡ false
+refused false true e one two f g = absurd (none-some e g)
+refused false false e one two f g = refl
+refused true b e one two f g = absurd (false≢true (sym f))
+
+-- where nothing can be claimed, the step may not be taken
+pub claim_refused : {m : Opening} {h : Log} {node : NodeView} → IsOfStore m h node → node.batch ≡ NoBatch → (e : DeskRefused) → claim_refusal node.desk ≡ Some e
+    → (g : Log) (desk : DeskView) → desk ≡ node.desk → TakesPart (claim g node) g node g (record node { desk = desk }) answers.NotNow
+claim_refused {m} {h} {node} x idle e refusal g desk same =
+    let free : claimed_from (first_author node.desk) node.desk.slots ≡ [] = sym (subst (λ b. IsBatchOf node.desk (batch_in b)) idle x.stands.desk.own) in
+    let nobody = no_combiner (first_author node.desk) node.desk.slots free in
+    let nothing : has_request node.desk ≡ false = refused (has_combiner node.desk) (has_request node.desk) e _ _ nobody refusal in
+    let no : (no_batch node.batch && has_request node.desk) ≡ false = ap (λ b. no_batch b && has_request node.desk) idle ∙ nothing in
+    subst (λ b. TakesPart (cond b (Some (silent g (record node { desk = claimed node.desk; batch = ClaimedBatch (batch_of node.desk) }))) None) g node g (record node { desk = desk }) answers.NotNow) (sym no)
+    (refl, refl, ap (λ d. (let v : NodeView = record node { desk = d } in v)) same)
+
+-- ---- replaying
+
+pub can_copy : {m : Opening} {g : Log} {node : NodeView} → IsOfStore m g node → has_next g node ≡ true → CanCopy g node
+can_copy {m} {g} {node} x next = record {
+  tail = (let a = x.stands.replica.tail in let b = x.log.ends in omega arith);
+  above = λ empty. ⊎_elim (λ y. absurd (some_is node.hand.records y empty)) (λ y. (let q = and_parts (nat_le g.base node.replica.tail) (nat_lt node.replica.tail (tail_of g)) y in leb-true g.base node.replica.tail q.0))
+      (or_cases (not (is_none node.hand.records)) (nat_le g.base node.replica.tail && nat_lt node.replica.tail (tail_of g)) next);
+  begins = x.stands.replica.begins;
+  window = x.stands.replica.window ∙ sym x.log.window;
+}
+
+pub can_run : {m : Opening} {g : Log} {node : NodeView} (c : CatalogueView) → m.catalogue ≡ c → IsOfStore m g node → has_next g node ≡ true → CanRun c (with_next g node)
+can_run {m} {g} {node} c same x next =
+    let can : (node.hand.records ≢ []) ⊎ ((g.base ≤ node.replica.tail) × (node.replica.tail < tail_of g)) =
+    ⊎_elim (λ y. inl (some_is node.hand.records y))
+    (λ y. let q = and_parts (nat_le g.base node.replica.tail) (nat_lt node.replica.tail (tail_of g)) y in inr (leb-true g.base node.replica.tail q.0, ltb-true node.replica.tail (tail_of g) q.1))
+    (or_cases (not (is_none node.hand.records)) (nat_le g.base node.replica.tail && nat_lt node.replica.tail (tail_of g)) next) in
+    let runs = runs_next m (record { log = g; nodes = [] }) x.history x.places x.trace x.number node node.hand.records refl can x.log x.stands in
+    subst (λ k. CanRun k (with_next g node)) same (record {
+      history = x.history;
+      catalogue = x.catalogue;
+      updates = x.updates;
+      short = history_short x;
+      begins = refl;
+      tail = x.stands.replica.tail;
+      maps = x.stands.replica.maps;
+      next = runs.0;
+    })
+
+pub replay_taken : (m : Opening) (g : Log) (node new : NodeView) → has_next g node ≡ true → new ≡ replayed m (to_run g node.replica.tail node.hand.records) node → TakesPart (replay m g node) g node g new answers.Done
+replay_taken m g node new next is =
+    subst (λ b. TakesPart (cond b (Some (record { log = g; node = replayed m (to_run g node.replica.tail node.hand.records) node; event = None })) None) g node g new answers.Done) (sym next) (refl, refl, is)
+
+-- ---- operations
+
+-- an argument of its length makes an operation of a program of its mode
+pub asked : (mode : Mode) (c : CatalogueView) (op : Operation) (program : ℕ) (argument : List ℕ) (p : Checked) → Some p ≡ program_at c program → length argument ≡ p.arg_len → is_mode p.mode mode ≡ true → AreBytes op.argument
+    → op ≡ record { program = program; argument = argument } → is_operation mode c op ≡ true
+asked mode c op program argument p named long fits bytes is =
+    tests_true mode c op (record {
+      program = p;
+      named = ap (λ o. program_at c o.program) is ∙ sym named;
+      mode_is = same_mode p.mode mode fits;
+      length_is = ap (λ o. length o.argument) is ∙ long;
+      bytes = bytes;
+    })
+  where
+    same_mode : (one other : Mode) → is_mode one other ≡ true → one ≡ other
+    same_mode Update Update e = refl
+    same_mode Read Read e = refl
+    same_mode Update Read e = absurd (false≢true e)
+    same_mode Read Update e = absurd (false≢true e)
+
+-- ---- reads
+
+waiting_read : (m : Opening) (done : ℕ) (h : History) (places : Places) (t : Trace) (x : ℕ) (batch : NodeBatch) (count : ℕ) (st : Stage) (read : BegunRead) → StageStands m done h places t x batch count st (Some read) → is_operation Read m.catalogue read.op ≡ true
+waiting_read m done h places t x batch count Empty read p = (p.1).may
+waiting_read m done h places t x batch count (Posted op) read p = absurd p
+waiting_read m done h places t x batch count Claimed read p = absurd p
+waiting_read m done h places t x batch count (Answered r) read p = absurd p
+
+-- a read that was begun asks a read program of the catalogue
+pub read_asks : {m : Opening} {g : Log} {node : NodeView} → IsOfStore m g node → (s : ℕ) (read : BegunRead) → slice_get node.reads s ≡ Some (Some read) → IsOperation Read m.catalogue read.op
+read_asks {m} {g} {node} x s read at =
+    let o = x.stands in
+    let y = get_some node.desk.slots s (let a = get_in node.reads s (Some read) at in let b = o.desk.slots in let d = o.desk.reads in omega arith) in
+    is_tested Read m.catalogue read.op (waiting_read m g.done x.history x.places x.trace (session m.config x.number s) node.batch (y.0).count (y.0).stage read (o.seats s y.0 (Some read) y.1 at))
+
+pub read_asked : {m : Opening} {g : Log} {node : NodeView} (c : CatalogueView) → m.catalogue ≡ c → IsOfStore m g node → (s : ℕ) (read : BegunRead) → read_at node s ≡ Some read → IsOperation Read c read.op
+read_asked {m} {g} {node} c same x s read at = subst (λ k. IsOperation Read k read.op) same (read_asks x s read (read_is (slice_get node.reads s) read at))

@@ -1,0 +1,25 @@
+use Rattle.std.proofs.Common.{sym, subst, ◌≡◌, ◌≤◌, ◌∙◌, ap, rules, arith, Some, None}
+use Rattle.std.specs.Prelude.{option_map}
+use Rattle.oplog.specs.History.{ReadEffect}
+use Rattle.replica.specs.StoreMeaning.{store_meaning}
+use Rattle.schedule.specs.Steps.{read_at, with_read}
+use Rattle.schedule.proofs.Owned.{own_shapes, read_asked}
+use Rattle.schedule.proofs.Answers.{read_taken}
+use Rattle.schedule.proofs.nodes.Node.read_answer.Goals as goal
+
+pub answer_to-given-requires-clause-asks : goal.answer_to-given-requires-clause-asks
+answer_to-given-requires-clause-asks c = read_asked c.args.catalogue.now c.requires.own.2 c.requires.own.3 c.args.slot c.in-Some.read (search rules)
+
+pub answer_to-given-requires-clause-shapes : goal.answer_to-given-requires-clause-shapes
+answer_to-given-requires-clause-shapes c = own_shapes c.args.catalogue.now c.requires.own.2 c.requires.own.3
+
+pub returns : goal.returns
+returns c = record {
+  answered = λ m g same done.
+      let at : read_at c.args.self.now c.args.slot ≡ Some c.in-Some.read = search rules in
+      let may = c.may_answer.ensures.may.0 (search rules) in
+      let late : c.args.self.now.replica.tail ≤ g.done = subst (λ d. c.args.self.now.replica.tail ≤ d) (sym done) may.1 in
+      read_taken m g c.args.self.now _ c.args.slot c.in-Some.read c.answer_to-given.result at may.0 late c.answer_to-given.ensures.point
+      (ap (λ k. option_map (λ (e : ReadEffect). e.reply) (store_meaning.read k c.in-Some.read.op c.args.self.now.replica.maps)) same ∙ c.answer_to-given.ensures.reply)
+      (ap (λ v. with_read v c.args.slot None) (c.self.view_is ∙ c.answer_to-given.ensures.same));
+}

@@ -1,0 +1,31 @@
+-- How nodes and stores are told apart, which a model asks for. No public clause cites this module.
+use Rattle.std.specs.Prelude.{List, Option, refl}
+use Rattle.std.specs.Coded.{Coded, code_by, coded×, coded_list, coded_option}
+use Rattle.oplog.specs.Codes.{log_code}
+use Rattle.oplog.specs.Logs.{Log, HandView}
+use Rattle.oplog.specs.contracts.hand.Hand as hand_row
+use Rattle.combiner.specs.Desks.{DeskView}
+use Rattle.combiner.specs.contracts.desks.Desk as desk_row
+use Rattle.replica.specs.Views.{ReplicaView, replica_code}
+use Rattle.schedule.specs.declared.parts.BegunRead.{BegunRead}
+use Rattle.schedule.specs.declared.parts.NodeBatch.{NodeBatch}
+use Rattle.schedule.specs.contracts.parts.NodeBatch as batch_row
+use Rattle.schedule.specs.contracts.parts.BegunRead as read_row
+use Rattle.schedule.specs.declared.parts.Opening.{Opening}
+use Rattle.schedule.specs.contracts.parts.Opening as opening_row
+use Rattle.schedule.specs.Worlds.{NodeView, WorldView}
+use Rattle.schedule.specs.Taking.{StoreView}
+
+abbrev pub node_code : Coded NodeView
+node_code =
+    code_by (ReplicaView × (HandView × (DeskView × (NodeBatch × List (Option BegunRead)))))
+    (coded× replica_code (coded× hand_row.the_row.coded (coded× desk_row.the_row.coded (coded× batch_row.the_row.coded (coded_list (coded_option read_row.the_row.coded))))))
+    (λ n. (n.replica, (n.hand, (n.desk, (n.batch, n.reads)))))
+    (λ p. record { replica = p.0; hand = p.1.0; desk = p.1.1.0; batch = p.1.1.1.0; reads = p.1.1.1.1 })
+    (λ _. refl)
+
+abbrev pub world_code : Coded WorldView
+world_code = code_by (Log × List NodeView) (coded× log_code (coded_list node_code)) (λ w. (w.log, w.nodes)) (λ p. record { log = p.0; nodes = p.1 }) (λ _. refl)
+
+abbrev pub store_code : Coded StoreView
+store_code = code_by (Opening × WorldView) (coded× opening_row.the_row.coded world_code) (λ s. (s.opening, s.world)) (λ p. record { opening = p.0; world = p.1 }) (λ _. refl)

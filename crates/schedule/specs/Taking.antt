@@ -1,0 +1,121 @@
+-- What a call that takes a step does.
+use Rattle.std.specs.Prelude.{◌≡◌, ℕ, ◌+◌, ◌^◌, ◌<◌, ◌≤◌, Bool, false, ◌&&◌, nat_le, List, [], ◌∷◌, ◌++◌, length, Option, Some, None, slice_get}
+use Rattle.machine.specs.declared.running.Outcome.{Outcome}
+use Rattle.loader.specs.CatalogueView.{CatalogueView, IsCatalogue}
+use Rattle.oplog.specs.declared.configuration.TheConstants.{MAX_LIMIT}
+use Rattle.oplog.specs.declared.records.Record.{Record}
+use Rattle.oplog.specs.History.{History, maps_after}
+use Rattle.oplog.specs.Limits.{IsConfig}
+use Rattle.oplog.specs.Logs.{Log, tail_of, room_in}
+use Rattle.replica.specs.StoreMeaning.{store_meaning, AreUpdates}
+use Rattle.schedule.specs.declared.parts.Opening.{Opening}
+use Rattle.schedule.specs.declared.parts.Written.{Written}
+use Rattle.schedule.specs.declared.parts.NodeBatch.{NodeBatch}
+use Rattle.schedule.specs.declared.parts.NodeBatch.TheVariants.{ClaimedBatch}
+use Rattle.schedule.specs.declared.steps.Step.{Step}
+use Rattle.schedule.specs.declared.steps.StepAnswer.{StepAnswer}
+use Rattle.schedule.specs.declared.steps.StepAnswer.TheVariants as answers
+use Rattle.schedule.specs.Trace.{Updated, ReadBack, Event, Call, Back, Trace, Places}
+use Rattle.schedule.specs.Worlds.{NodeView, WorldView, opened, room_for, to_run}
+use Rattle.schedule.specs.Steps.{Part, Took, took, world_after, trace_after}
+use Rattle.schedule.specs.Stands.{LogStands, NodeStands, Stands}
+
+-- a store, with what it was opened with
+pub record StoreView : Type 0 where
+  pub opening : Opening
+  pub world : WorldView
+
+abbrev pub store_of : Opening → Log → List NodeView → StoreView
+store_of m g nodes = record { opening = m; world = record { log = g; nodes = nodes } }
+
+-- a new store
+abbrev pub opened_store : Opening → StoreView
+opened_store m = record { opening = m; world = opened m }
+
+-- what a step answers that is taken: the answer of a call that is answered
+abbrev pub answer_of : Option Event → StepAnswer
+answer_of None = answers.Done
+answer_of (Some (Call x mode op)) = answers.Done
+answer_of (Some (Back x (Updated reply))) = answers.Back reply
+answer_of (Some (Back x (ReadBack answer))) = answers.ReadBack answer
+
+-- where the node may not take the step, NotNow and no change; else what the step makes of the log and of the node
+abbrev pub TakesPart : Option Part → Log → NodeView → Log → NodeView → StepAnswer → Type 0
+TakesPart None g node g' node' answer = (answer ≡ answers.NotNow) × (g' ≡ g) × (node' ≡ node)
+TakesPart (Some p) g node g' node' answer = (answer ≡ answer_of p.event) × (g' ≡ p.log) × (node' ≡ p.node)
+
+-- where the step may not be taken, NotNow and no change; else what it makes of the store
+abbrev pub Takes : Option Took → StoreView → StoreView → StepAnswer → Type 0
+Takes None old new answer = (answer ≡ answers.NotNow) × (new ≡ old)
+Takes (Some r) old new answer = (answer ≡ answer_of r.event) × (new ≡ record old { world = r.world })
+
+-- a history that stands for the store leads to one that begins with it, with those places kept and the step's event added
+abbrev pub KeepsStanding : StoreView → Step → StoreView → Type 0
+KeepsStanding old step new =
+    (h : History) (places : Places) (t : Trace) → Stands old.opening old.world h places t
+    → (more : History) × (later : Places) × Stands new.opening new.world (h ++ more) (places ++ later) (trace_after t (took old.opening old.world step))
+
+-- what a step answers, taken or not
+abbrev pub step_answer : Option Took → StepAnswer
+step_answer None = answers.NotNow
+step_answer (Some r) = answer_of r.event
+
+-- what these steps answer, one after another
+abbrev pub answers_to : Opening → WorldView → List Step → List StepAnswer
+answers_to m w [] = []
+answers_to m w (step ∷ steps) = step_answer (took m w step) ∷ answers_to m (world_after w (took m w step)) steps
+
+-- the log and a node are those of a store that stands for a history
+pub record IsOfStore (m : Opening) (g : Log) (node : NodeView) : Type 0 where
+  pub history : History
+  pub places : Places
+  pub trace : Trace
+  pub number : ℕ
+  pub config : IsConfig m.config
+  pub catalogue : IsCatalogue m.catalogue
+  pub updates : AreUpdates m.catalogue history
+  pub log : LogStands m g history
+  pub stands : NodeStands m g.done history places trace number node
+
+-- some history stands for the store
+pub record IsStanding (s : StoreView) : Type 0 where
+  pub config : IsConfig s.opening.config
+  pub history : History
+  pub places : Places
+  pub trace : Trace
+  pub stands : Stands s.opening s.world history places trace
+
+-- ---- between the calls of a node
+
+-- a batch is claimed, and may be appended
+abbrev pub may_append : Log → ℕ → NodeBatch → Bool
+may_append g tail (ClaimedBatch b) = nat_le g.base tail && nat_le (room_for g b.records) (room_in g)
+may_append g tail batch = false
+
+-- the node with what a replay runs in its hand
+abbrev pub with_next : Log → NodeView → NodeView
+with_next g node = record node { hand = record node.hand { begin = node.replica.tail; records = to_run g node.replica.tail node.hand.records } }
+
+-- what the replica lacks may be copied from the log
+pub record CanCopy (g : Log) (node : NodeView) : Type 0 where
+  pub tail : node.replica.tail ≤ tail_of g
+  pub above : node.hand.records ≡ [] → g.base ≤ node.replica.tail
+  pub begins : node.hand.begin ≡ node.replica.tail
+  pub window : node.hand.window ≡ g.window
+
+-- the records in the hand are the next ones of a history of the catalogue's updates
+pub record CanRun (c : CatalogueView) (node : NodeView) : Type 0 where
+  pub history : History
+  pub catalogue : IsCatalogue c
+  pub updates : AreUpdates c history
+  pub short : length history ≤ MAX_LIMIT
+  pub begins : node.hand.begin ≡ node.replica.tail
+  pub tail : node.replica.tail ≤ length history
+  pub maps : node.replica.maps ≡ maps_after store_meaning c history node.replica.tail
+  pub next : (j : ℕ) (r : Record) → slice_get node.hand.records j ≡ Some r → slice_get history (node.replica.tail + j) ≡ Some r
+
+-- each request of a batch that has a place has its outcome
+pub record IsRun (b : Written) : Type 0 where
+  pub count : length b.replies.outcomes ≡ b.count
+  pub outcomes : (k : ℕ) → k < b.count → k < length b.batch.records → (o : Outcome) × (slice_get b.replies.outcomes k ≡ Some (Some o))
+  pub short : b.first + b.count < 2 ^ 64

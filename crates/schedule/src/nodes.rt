@@ -1,0 +1,471 @@
+// A node, and its part of each step.
+
+ghost use Rattle.std.specs.Prelude.{◌≡◌, ◌↔◌, IsTrue, ◌+◌, ◌≤◌, ◌<◌, ◌^◌, true, false, length, Some, None, MatchOption, IfOk, replicate, slice_get, option_map, ◌≢◌};
+ghost use Rattle.maps.specs.Maps.{shapes_of};
+ghost use Rattle.machine.specs.declared.running.Outcome.{Outcome as TheOutcome};
+ghost use Rattle.combiner.specs.declared.slots.Reply.TheVariants.{Placed, Ended};
+ghost use Rattle.oplog.specs.declared.configuration.TheConstants.{MAX_NODES};
+ghost use Rattle.oplog.specs.Limits.{IsConfig};
+ghost use Rattle.oplog.specs.Logs.{Log, room_in};
+ghost use Rattle.replica.specs.StoreMeaning.{IsOperation, is_operation, is_mode, store_meaning};
+ghost use Rattle.verifier.specs.declared.refusal.Mode.TheVariants.{Update, Read};
+ghost use Rattle.schedule.specs.declared.parts.Opening.{Opening as TheOpening};
+ghost use Rattle.schedule.specs.Worlds.{opened_node, room_for, grown, written, replayed, answered_batch};
+ghost use Rattle.schedule.specs.Steps.{is_idle, part_of, post, claim, append, has_next, replay, finish, reply, collect, read_at, read_begin, read_answer, reclaim, rebase};
+ghost use Rattle.schedule.specs.Taking.{IsOfStore, TakesPart, CanCopy, CanRun, IsRun, may_append, with_next};
+
+use crate::parts::{BegunRead, NodeBatch, Opening, Written};
+use crate::steps::{Step, StepAnswer};
+use combiner::{Batch, Desk, Reply, Stage};
+use loader::Catalogue;
+use oplog::{Hand, LogState, Op};
+use readpath::{ReadAnswer, answer, ready};
+use replica::{Replica, Replies};
+use std::alloc::{AllocError, Global};
+use std::marker::Model;
+use std::mem;
+use verifier::Mode;
+
+/// A node: its replica, the records copied for it, its desk, its batch, and the reads that were begun at its slots.
+#[derive(Drop)]
+pub(crate) struct Node {
+    replica: Replica,
+    hand: Hand,
+    desk: Desk,
+    batch: NodeBatch,
+    reads: Vec<Option<BegunRead>>,
+}
+
+impl Model for Node {
+    ghost use Rattle.schedule.specs.Worlds.{NodeView};
+    ghost use Rattle.schedule.specs.Codes.{node_code};
+
+    ghost Value = { NodeView };
+
+    ghost coded = { node_code };
+
+    ghost view = { λ n. record { replica = n.replica; hand = n.hand; desk = n.desk; batch = n.batch; reads = n.reads.items } };
+}
+
+// Whether two modes are the same.
+fn is_same(one: Mode, other: Mode) -> bool
+    ensures same { result ≡ is_mode one other }
+{
+    match (one, other) {
+        (Mode::Update, Mode::Update) | (Mode::Read, Mode::Read) => true,
+        (Mode::Update, Mode::Read) | (Mode::Read, Mode::Update) => false,
+    }
+}
+
+// The operation of a program of the catalogue, of this mode, on an argument of its length.
+fn operation(catalogue: &Catalogue, mode: Mode, program: u64, argument: &[u8]) -> Option<Op>
+    ensures operation { MatchOption result
+        (is_operation mode catalogue.now (record { program = program; argument = argument.now }) ≡ false)
+        (λ op. (op ≡ record { program = program; argument = argument.now }) × (is_operation mode catalogue.now op ≡ true)) }
+{
+    if program >= catalogue.len() as u64 {
+        return None;
+    }
+    let accepted = catalogue.program(program as u16)?;
+    if argument.len() != accepted.arg_len() || !is_same(accepted.mode(), mode) {
+        return None;
+    }
+    Some(Op::new(program as u16, argument))
+}
+
+// Room for so many reads, none of which is begun.
+#[tactic(auto, using(crate::proofs::Lists::replicate_next))]
+fn no_reads(alloc: Global, count: usize) -> Result<Vec<Option<BegunRead>>, AllocError>
+    ensures none { IfOk result (λ reads. reads.items ≡ replicate count None) }
+{
+    let mut reads = Vec::with_capacity(alloc, count)?;
+    for _slot in 0..count {
+        reads.push_reserved(None);
+    }
+    Ok(reads)
+}
+
+impl Node {
+    /// A node of a new store.
+    ///
+    /// # Errors
+    ///
+    /// The system has no memory left.
+    pub(crate) fn open(alloc: Global, opening: &Opening, number: u16) -> Result<Node, AllocError>
+        requires config { IsConfig opening.now.config }
+        requires number { number < MAX_NODES }
+        ensures opened { IfOk result (λ node. node ≡ opened_node opening.now number) }
+    {
+        let slots = opening.config.slots as usize;
+        let replica = Replica::open(alloc, opening.catalogue.shapes())?;
+        let hand = Hand::open(alloc, opening.config.window as usize)?;
+        let reads = no_reads(alloc, slots)?;
+        Ok(Node {
+            replica,
+            hand,
+            desk: Desk::new(number, slots),
+            batch: NodeBatch::NoBatch,
+            reads,
+        })
+    }
+
+    /// The node's replica.
+    pub(crate) fn replica(&self) -> &Replica
+        ensures replica { result.now ≡ self.now.replica }
+    {
+        &self.replica
+    }
+
+    // Whether a slot is there, has no request, and no read was begun there.
+    fn is_idle(&self, slot: u64) -> bool
+        requires sized { length self.now.reads ≡ length self.now.desk.slots }
+        ensures idle { result ≡ is_idle self.now slot }
+    {
+        slot < self.reads.len() as u64
+            && self.reads[slot as usize].is_none()
+            && matches!(self.desk.slot(slot as usize).stage, Stage::Empty)
+    }
+
+    // An update is called at a slot.
+    fn post(&mut self, slot: u64, op: Op) -> StepAnswer
+        requires sized { length self.old.reads ≡ length self.old.desk.slots }
+        ensures posted { (m : TheOpening) (g : Log) → is_operation Update m.catalogue op ≡ true
+            → TakesPart (post m slot op g self.old) g self.old g self.new result }
+    {
+        if !self.is_idle(slot) {
+            return StepAnswer::NotNow;
+        }
+        match self.desk.post(slot as usize, op) {
+            Ok(()) => StepAnswer::Done,
+            Err(_) => StepAnswer::NotNow,
+        }
+    }
+
+    // A combiner claims the posted requests.
+    fn claim(&mut self) -> StepAnswer
+        requires own { (m : TheOpening) × (g : Log) × IsOfStore m g self.old }
+        ensures claimed { (g : Log) → TakesPart (claim g self.old) g self.old g self.new result }
+    {
+        if !matches!(self.batch, NodeBatch::NoBatch) {
+            return StepAnswer::NotNow;
+        }
+        match self.desk.claim() {
+            Ok(batch) => {
+                self.batch = NodeBatch::ClaimedBatch(batch);
+                StepAnswer::Done
+            }
+            Err(_) => StepAnswer::NotNow,
+        }
+    }
+
+    // The batch is appended, and the records that the replica lacks are copied.
+    fn append(&mut self, log: &mut LogState) -> StepAnswer
+        requires own { (m : TheOpening) × IsOfStore m log.old self.old }
+        ensures appended { TakesPart (append log.old self.old) log.old self.old log.new self.new result }
+    {
+        if !self.may_append(log) {
+            return StepAnswer::NotNow;
+        }
+        match mem::replace(&mut self.batch, NodeBatch::NoBatch) {
+            NodeBatch::ClaimedBatch(batch) => {
+                self.batch = NodeBatch::AppendedBatch(write(log, batch));
+                let _copied = log.copy_from(self.replica.tail(), &mut self.hand);
+                StepAnswer::Done
+            }
+            _ => unreachable!(),
+        }
+    }
+
+    // Whether a batch is claimed, the log has room for as many of its records as the history may still have, and what the replica
+    // lacks is in the log.
+    fn may_append(&self, log: &LogState) -> bool
+        ensures may { result ≡ may_append log.now self.now.replica.tail self.now.batch }
+    {
+        match &self.batch {
+            NodeBatch::ClaimedBatch(batch) => log.base() <= self.replica.tail()
+                && batch.records().len().min(log.left()) <= log.room(),
+            _ => false,
+        }
+    }
+
+    // The replica applies the copied records, or where there are none those of the log that it lacks.
+    fn replay(&mut self, catalogue: &Catalogue, log: &LogState) -> StepAnswer
+        requires own { (m : TheOpening) × (m.catalogue ≡ catalogue.now) × IsOfStore m log.now self.old }
+        ensures replayed { (m : TheOpening) → m.catalogue ≡ catalogue.now
+            → TakesPart (replay m log.now self.old) log.now self.old log.now self.new result }
+    {
+        if !self.has_next(log) {
+            return StepAnswer::NotNow;
+        }
+        self.copy_next(log);
+        self.run_hand(catalogue);
+        StepAnswer::Done
+    }
+
+    // Whether there is a record to apply: copied, or in the log.
+    fn has_next(&self, log: &LogState) -> bool
+        ensures next { result ≡ has_next log.now self.now }
+    {
+        let tail = self.replica.tail();
+        !self.hand.is_empty() || (log.base() <= tail && tail < log.tail())
+    }
+
+    // Where no record is copied, those of the log that the replica lacks are.
+    fn copy_next(&mut self, log: &LogState)
+        requires can { CanCopy log.now self.old }
+        ensures copied { self.new ≡ with_next log.now self.old }
+    {
+        if self.hand.is_empty() {
+            let _copied = log.copy_from(self.replica.tail(), &mut self.hand);
+        }
+    }
+
+    // What the replica has applied is completed.
+    fn finish(&self, log: &mut LogState) -> StepAnswer
+        requires own { (m : TheOpening) × IsOfStore m log.old self.now }
+        ensures finished { TakesPart (finish log.old self.now) log.old self.now log.new self.now result }
+    {
+        if self.replica.tail() <= log.done() {
+            return StepAnswer::NotNow;
+        }
+        log.raise_done(self.replica.tail());
+        StepAnswer::Done
+    }
+
+    // The session of a slot takes its answer.
+    fn collect(&mut self, slot: u64) -> StepAnswer
+        requires own { (m : TheOpening) × (g : Log) × IsOfStore m g self.old }
+        ensures collected { (g : Log) → TakesPart (collect slot g self.old) g self.old g self.new result }
+    {
+        if slot >= self.reads.len() as u64 {
+            return StepAnswer::NotNow;
+        }
+        match self.desk.collect(slot as usize) {
+            Some(reply) => StepAnswer::Back(reply),
+            None => StepAnswer::NotNow,
+        }
+    }
+
+    // A read is called at a slot, when so many operations are completed.
+    fn read_begin(&mut self, slot: u64, op: Op, seen: u64) -> StepAnswer
+        requires sized { length self.old.reads ≡ length self.old.desk.slots }
+        ensures begun { (m : TheOpening) (g : Log) → g.done ≡ seen → is_operation Read m.catalogue op ≡ true
+            → TakesPart (read_begin m slot op g self.old) g self.old g self.new result }
+    {
+        if !self.is_idle(slot) {
+            return StepAnswer::NotNow;
+        }
+        let read = BegunRead { op, seen };
+        self.reads[slot as usize] = Some(read);
+        StepAnswer::Done
+    }
+
+    // The read that was begun at a slot.
+    fn begun(&self, slot: u64) -> Option<BegunRead>
+        ensures begun { result ≡ read_at self.now slot }
+        ensures there { result ≢ None → slot < length self.now.reads }
+    {
+        if slot < self.reads.len() as u64 {
+            self.reads[slot as usize]
+        } else {
+            None
+        }
+    }
+
+    // What the replica answers to a read.
+    fn answer_to(&mut self, catalogue: &Catalogue, op: &Op) -> ReadAnswer
+        requires asks { IsOperation Read catalogue.now op.now }
+        requires shapes { shapes_of self.old.replica.maps ≡ catalogue.now.shapes }
+        ensures point { result.point ≡ self.old.replica.tail }
+        ensures reply { option_map (λ e. e.reply) (store_meaning.read catalogue.now op.now self.old.replica.maps) ≡ Some result.reply }
+        ensures same { self.new ≡ self.old }
+    {
+        match catalogue.program(op.program()) {
+            Some(program) => answer(program, &mut self.replica, op.argument()),
+            None => unreachable!(),
+        }
+    }
+
+    // Whether the replica may answer a read that saw so many operations completed, when so many are.
+    fn may_answer(&self, seen: u64, done: u64) -> bool
+        ensures may { IsTrue result ↔ ((seen ≤ self.now.replica.tail) × (self.now.replica.tail ≤ done)) }
+    {
+        ready(&self.replica, seen) && self.replica.tail() <= done
+    }
+
+    // The read that was begun at a slot is answered, when so many operations are completed.
+    fn read_answer(&mut self, catalogue: &Catalogue, slot: u64, done: u64) -> StepAnswer
+        requires own { (m : TheOpening) × (g : Log) × (m.catalogue ≡ catalogue.now) × IsOfStore m g self.old }
+        ensures answered { (m : TheOpening) (g : Log) → m.catalogue ≡ catalogue.now → g.done ≡ done
+            → TakesPart (read_answer m slot g self.old) g self.old g self.new result }
+    {
+        let Some(read) = self.begun(slot) else {
+            return StepAnswer::NotNow;
+        };
+        if !self.may_answer(read.seen, done) {
+            return StepAnswer::NotNow;
+        }
+        let given = self.answer_to(catalogue, &read.op);
+        self.reads[slot as usize] = None;
+        StepAnswer::ReadBack(given)
+    }
+
+    // The log takes the replica as its base.
+    fn reclaim(&self, log: &mut LogState) -> StepAnswer
+        requires own { (m : TheOpening) × IsOfStore m log.old self.now }
+        ensures reclaimed { TakesPart (reclaim log.old self.now) log.old self.now log.new self.now result }
+    {
+        let tail = self.replica.tail();
+        if tail <= log.base() || log.done() < tail {
+            return StepAnswer::NotNow;
+        }
+        log.reclaim(tail, self.replica.maps());
+        StepAnswer::Done
+    }
+
+    // The replica takes the base of the log.
+    fn rebase(&mut self, log: &LogState) -> StepAnswer
+        requires own { (m : TheOpening) × IsOfStore m log.now self.old }
+        ensures rebased { TakesPart (rebase log.now self.old) log.now self.old log.now self.new result }
+    {
+        if log.base() <= self.replica.tail() || !self.hand.is_empty() {
+            return StepAnswer::NotNow;
+        }
+        self.replica.rebase(log.base(), log.base_maps());
+        self.hand.clear(log.base());
+        StepAnswer::Done
+    }
+
+    // The replica applies the records in the hand, and the batch keeps its own outcomes.
+    fn run_hand(&mut self, catalogue: &Catalogue)
+        requires runs { CanRun catalogue.now self.old }
+        ensures ran { (m : TheOpening) → m.catalogue ≡ catalogue.now → self.new ≡ replayed m self.old.hand.records self.old }
+    {
+        match &mut self.batch {
+            NodeBatch::AppendedBatch(written) => self
+                .replica
+                .replay(&mut self.hand, catalogue, &mut written.replies),
+            _ => {
+                let mut replies = Replies::new(0, 0);
+                self.replica.replay(&mut self.hand, catalogue, &mut replies);
+            }
+        }
+    }
+
+    // The requests of the batch are answered at the desk.
+    fn reply(&mut self, log: &LogState) -> StepAnswer
+        requires own { (m : TheOpening) × IsOfStore m log.now self.old }
+        ensures replied { TakesPart (reply log.now self.old) log.now self.old log.now self.new result }
+    {
+        if !self.hand.is_empty()
+            || log.done() < self.replica.tail()
+            || !matches!(self.batch, NodeBatch::AppendedBatch(_))
+        {
+            return StepAnswer::NotNow;
+        }
+        match mem::replace(&mut self.batch, NodeBatch::NoBatch) {
+            NodeBatch::AppendedBatch(written) => {
+                self.desk.reply(answered(written));
+                StepAnswer::Done
+            }
+            _ => unreachable!(),
+        }
+    }
+
+    /// Takes the step, which is one of this node, if it may be taken.
+    pub(crate) fn take(&mut self, opening: &Opening, log: &mut LogState, step: &Step) -> StepAnswer
+        requires own { IsOfStore opening.now log.old self.old }
+        ensures taken { TakesPart (part_of opening.now step.now log.old self.old) log.old self.old log.new self.new result }
+    {
+        match step {
+            Step::Post {
+                slot,
+                program,
+                argument,
+                ..
+            } => match operation(&opening.catalogue, Mode::Update, *program, argument) {
+                Some(op) => self.post(*slot, op),
+                None => StepAnswer::NotNow,
+            },
+            Step::Claim { .. } => self.claim(),
+            Step::Append { .. } => self.append(log),
+            Step::Replay { .. } => self.replay(&opening.catalogue, log),
+            Step::Finish { .. } => self.finish(log),
+            Step::Reply { .. } => self.reply(log),
+            Step::Collect { slot, .. } => self.collect(*slot),
+            Step::ReadBegin {
+                slot,
+                program,
+                argument,
+                ..
+            } => match operation(&opening.catalogue, Mode::Read, *program, argument) {
+                Some(op) => self.read_begin(*slot, op, log.done()),
+                None => StepAnswer::NotNow,
+            },
+            Step::ReadAnswer { slot, .. } => self.read_answer(
+                &opening.catalogue,
+                *slot,
+                log.done(),
+            ),
+            Step::Reclaim { .. } => self.reclaim(log),
+            Step::Rebase { .. } => self.rebase(log),
+        }
+    }
+}
+
+// A batch is appended to the log, as far as the history may grow.
+fn write(log: &mut LogState, batch: Batch) -> Written
+    requires room { room_for log.old batch.records ≤ room_in log.old }
+    ensures log { log.new ≡ grown log.old batch.records }
+    ensures written { result ≡ written log.old batch }
+{
+    let first = log.tail();
+    let count = match log.append(batch.records()) {
+        Ok(appended) => appended.count,
+        Err(_) => 0,
+    };
+    Written {
+        batch,
+        first,
+        count,
+        replies: Replies::new(first, count),
+    }
+}
+
+// The batch with its answers.
+fn answered(written: Written) -> Batch
+    requires run { IsRun written }
+    ensures answered { result ≡ answered_batch written }
+{
+    let Written {
+        mut batch,
+        first,
+        count,
+        replies,
+    } = written;
+    for k in 0..batch.records().len() {
+        let reply = answer_no(first, count, &replies, k);
+        batch.answer(k, reply);
+    }
+    batch
+}
+
+// The answer to the request number k of a batch whose first has this place.
+fn answer_no(first: u64, count: usize, replies: &Replies, k: usize) -> Reply
+    requires run { k < count → (o : TheOutcome) × (slice_get replies.now.outcomes k ≡ Some (Some o)) }
+    requires count { count ≡ length replies.now.outcomes }
+    requires short { first + count < 2 ^ 64 }
+    ensures placed { (o : TheOutcome) → k < count → slice_get replies.now.outcomes k ≡ Some (Some o) → result ≡ Placed (first + k) o.reply }
+    ensures ended { count ≤ k → result ≡ Ended }
+{
+    if k >= count {
+        return Reply::Ended;
+    }
+    match replies.get(k) {
+        Some(outcome) => Reply::Placed {
+            index: first + k as u64,
+            reply: outcome.reply,
+        },
+        None => unreachable!(),
+    }
+}

@@ -1,0 +1,147 @@
+// A store as one value, and its steps.
+
+ghost use Rattle.std.specs.Prelude.{◌≡◌, ◌↔◌, ◌<◌, ◌≤◌, [], length, replicate, slice_get, Some, None, option_map, IfOk, IfErr, OnErr};
+ghost use Rattle.maps.specs.Shapes.{AreShapesOk};
+ghost use Rattle.loader.specs.CatalogueView.{IsCatalogue};
+ghost use Rattle.oplog.specs.Limits.{IsConfig};
+ghost use Rattle.oplog.specs.declared.configuration.OpenError.TheVariants.{OutOfLimits};
+ghost use Rattle.schedule.specs.Worlds.{opened_node, opened_nodes};
+ghost use Rattle.schedule.specs.Steps.{node_of, took, world_of};
+ghost use Rattle.schedule.specs.Taking.{Takes, KeepsStanding, opened_store, answers_to};
+
+use crate::nodes::Node;
+use crate::parts::Opening;
+use crate::steps::{Step, StepAnswer};
+use loader::Catalogue;
+use oplog::{Config, LogState, OpenError};
+use replica::Replica;
+use std::alloc::{AllocError, Global};
+use std::marker::Model;
+
+/// A whole store that one owner steps: its log, and its nodes with their replicas, desks and batches.
+#[derive(Drop)]
+pub struct World {
+    opening: Opening,
+    log: LogState,
+    nodes: Vec<Node>,
+}
+
+impl Model for World {
+    ghost use Rattle.schedule.specs.Taking.{StoreView, IsStanding, store_of};
+    ghost use Rattle.schedule.specs.Codes.{store_code};
+
+    ghost Value = { StoreView };
+
+    ghost coded = { store_code };
+
+    ghost view = { λ w. store_of w.opening w.log w.nodes.items };
+
+    // Some history stands for the store.
+    ghost invariant = { λ w. IsStanding (store_of w.opening w.log w.nodes.items) };
+}
+
+// The nodes of a new store.
+#[tactic(auto, using(crate::proofs::Runs::nodes_next, crate::proofs::Runs::nodes_count))]
+fn open_nodes(alloc: Global, opening: &Opening) -> Result<Vec<Node>, AllocError>
+    requires config { IsConfig opening.now.config }
+    ensures opened { IfOk result (λ nodes. nodes.items ≡ opened_nodes opening.now 0 opening.now.config.nodes) }
+{
+    let mut nodes = Vec::with_capacity(alloc, opening.config.nodes as usize)?;
+    for number in 0..opening.config.nodes {
+        let node = Node::open(alloc, opening, number as u16)?;
+        nodes.push_reserved(node);
+    }
+    Ok(nodes)
+}
+
+impl World {
+    /// A new store.
+    ///
+    /// # Errors
+    ///
+    /// O1 where a number of the configuration is out of its limits, O2 where there is no memory.
+    pub fn open(alloc: Global, config: Config, catalogue: Catalogue) -> Result<World, OpenError>
+        ensures limits { IfErr result (λ e. (e ≡ OutOfLimits) ↔ (IsConfig config → ⊥)) }
+        ensures within { IfOk result (λ w. IsConfig config) }
+        ensures opened { IfOk result (λ w. w ≡ opened_store (record { config = config; catalogue = catalogue })) }
+    {
+        if !config.is_within_limits() {
+            return Err(OpenError::OutOfLimits);
+        }
+        let (window, limit) = (config.window as usize, config.limit as usize);
+        let Ok(log) = LogState::open(alloc, catalogue.shapes(), window, limit) else {
+            return Err(OpenError::NoMemory);
+        };
+        let opening = Opening { config, catalogue };
+        let Ok(nodes) = open_nodes(alloc, &opening) else {
+            return Err(OpenError::NoMemory);
+        };
+        Ok(World {
+            opening,
+            log,
+            nodes,
+        })
+    }
+
+    /// The log.
+    pub fn log(&self) -> &LogState
+        ensures log { result.now ≡ self.now.world.log }
+    {
+        &self.log
+    }
+
+    /// The replica of a node; `None` past the last node.
+    pub fn replica(&self, node: u32) -> Option<&Replica>
+        ensures replica { option_map (λ r. r.now) result ≡ option_map (λ n. n.replica) (slice_get self.now.world.nodes node) }
+    {
+        match self.nodes.get(node as usize) {
+            Some(node) => Some(node.replica()),
+            None => None,
+        }
+    }
+
+    /// Takes a step, if it may be taken now.
+    pub fn step(&mut self, step: &Step) -> StepAnswer
+        ensures taken { Takes (took self.old.opening self.old.world step.now) self.old self.new result }
+        ensures stands { KeepsStanding self.old step.now self.new }
+    {
+        let number = step.node();
+        if number < self.nodes.len() as u64 {
+            self.step_at(number as usize, step)
+        } else {
+            StepAnswer::NotNow
+        }
+    }
+
+    // Takes a step of a node that is there, if it may be taken now.
+    fn step_at(&mut self, number: usize, step: &Step) -> StepAnswer
+        requires node { number ≡ node_of step.now }
+        requires there { number < length self.old.world.nodes }
+        ensures taken { Takes (took self.old.opening self.old.world step.now) self.old self.new result }
+        ensures stands { KeepsStanding self.old step.now self.new }
+    {
+        self.nodes[number].take(&self.opening, &mut self.log, step)
+    }
+}
+
+/// Takes the steps one after another, each if it may be taken then. All memory is taken before the first.
+///
+/// # Errors
+///
+/// The system has no memory left: no step is taken then.
+pub fn run_steps(
+    world: &mut World,
+    alloc: Global,
+    steps: &[Step],
+) -> Result<Vec<StepAnswer>, AllocError>
+    ensures world { IfOk result (λ answers. world.new ≡ record world.old { world = world_of world.old.opening world.old.world steps.now }) }
+    ensures answers { IfOk result (λ answers. answers.items ≡ answers_to world.old.opening world.old.world steps.now) }
+    ensures same { OnErr result (world.new ≡ world.old) }
+{
+    let mut answers = Vec::with_capacity(alloc, steps.len())?;
+    for step in steps {
+        let answer = world.step(step);
+        answers.push_reserved(answer);
+    }
+    Ok(answers)
+}
