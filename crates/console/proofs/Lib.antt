@@ -10,5 +10,6 @@ pub mod Opened
 pub mod OneUpdate
 pub mod Turns
 pub mod Replays
+pub mod TranscriptLines
 pub mod OneText
 pub mod RunsOfLines

@@ -1,5 +1,5 @@
 -- What is kept while a transcript is replayed. Clauses of private functions alone cite this.
-use Rattle.std.specs.Prelude.{◌≡◌, Bool, true}
+use Rattle.std.specs.Prelude.{◌≡◌, Bool, true, false}
 use Rattle.loader.specs.CatalogueView.{CatalogueView}
 use Rattle.console.specs.declared.replaying.Replaying.{Replaying}
 use Rattle.console.specs.declared.replaying.LineVerdict.{LineVerdict}
@@ -24,3 +24,7 @@ LineReplayed c Bad lines.Bad r = Unit {0}
 LineReplayed c Differs lines.Differs r = Unit {0}
 LineReplayed c (Agrees next) lines.Agrees r = HasReplayed c next r
 LineReplayed c outcome answer r = ⊥
+
+abbrev pub compared_verdict : Bool → LineVerdict
+compared_verdict true = lines.Agrees
+compared_verdict false = lines.Differs

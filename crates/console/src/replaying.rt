@@ -6,7 +6,7 @@ ghost use Rattle.oplog.specs.declared.records.TheConstants.{MAX_ARG_LEN};
 ghost use Rattle.replica.specs.StoreMeaning.{program_at};
 ghost use Rattle.console.specs.ReplayAnswer.{Replayed, operation_of, update_agrees, read_agrees, with_update, answered_outcome, ended_outcome, line_outcome, nothing_replayed, next_count};
 ghost use Rattle.oplog.specs.Operations.{Operation as TheOperation};
-ghost use Rattle.console.specs.Replaying.{HasReplayed, IsCompared, LineReplayed};
+ghost use Rattle.console.specs.Replaying.{HasReplayed, IsCompared, LineReplayed, compared_verdict};
 ghost use Rattle.console.specs.Running.{IsSteady, IsCallOf};
 ghost use Rattle.console.specs.ScriptShown.{call_of, answered_of};
 
@@ -52,6 +52,17 @@ fn find<'a>(catalogue: &'a Catalogue, mode: Mode, call: &ProgramCall) -> Option<
         Some(Numbered { number, program })
     } else {
         None
+    }
+}
+
+// What a line is found to be whose call agrees, or does not.
+fn verdict_of(agrees: bool) -> LineVerdict
+    ensures { result ≡ compared_verdict agrees }
+{
+    if agrees {
+        LineVerdict::Agrees
+    } else {
+        LineVerdict::Differs
     }
 }
 
@@ -117,14 +128,9 @@ impl Replaying {
         let Some(found) = find(catalogue, call.mode, &call.call) else {
             return LineVerdict::Bad;
         };
-        let agrees = match call.mode {
-            Mode::Update => self.update(catalogue, found.number, call),
-            Mode::Read => self.read(catalogue, found, call),
-        };
-        if agrees {
-            LineVerdict::Agrees
-        } else {
-            LineVerdict::Differs
+        match call.mode {
+            Mode::Update => verdict_of(self.update(catalogue, found.number, call)),
+            Mode::Read => verdict_of(self.read(catalogue, found, call)),
         }
     }
 

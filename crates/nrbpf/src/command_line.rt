@@ -20,6 +20,13 @@ pub enum Call<'a> {
         /// The path of the script.
         script: &'a str,
     },
+    /// Replay a transcript.
+    Replay {
+        /// The path of the manifest.
+        manifest: &'a str,
+        /// The path of the transcript.
+        transcript: &'a str,
+    },
 }
 
 fn manifest<'a>(alloc: Global) -> Arg<'a> {
@@ -42,6 +49,17 @@ fn run_command<'a>(alloc: Global) -> Result<Command<'a>, AllocError> {
         .after_help(help::AFTER_RUN)
         .arg(manifest(alloc))?
         .arg(script)
+}
+
+fn replay_command<'a>(alloc: Global) -> Result<Command<'a>, AllocError> {
+    let transcript = Arg::new(alloc, "TRANSCRIPT")
+        .required(true)
+        .help(help::TRANSCRIPT);
+    Command::new(alloc, "replay")
+        .about(help::REPLAY)
+        .after_help(help::AFTER_REPLAY)
+        .arg(manifest(alloc))?
+        .arg(transcript)
 }
 
 fn asm_command<'a>(alloc: Global) -> Result<Command<'a>, AllocError> {
@@ -69,7 +87,8 @@ fn command<'a>(alloc: Global) -> Result<Command<'a>, AllocError> {
         .subcommand(check_command(alloc)?)?
         .subcommand(asm_command(alloc)?)?
         .subcommand(dis_command(alloc)?)?
-        .subcommand(run_command(alloc)?)
+        .subcommand(run_command(alloc)?)?
+        .subcommand(replay_command(alloc)?)
 }
 
 /// The call that the words of a command line ask for, the first of them the program's name.
@@ -84,10 +103,17 @@ pub fn read<'a>(alloc: Global, words: &'a [String]) -> Result<Call<'a>, Error> {
                 Ok(Call::Disassemble(file))
             };
         }
-        match (inner.get_str("MANIFEST"), inner.get_str("SCRIPT")) {
-            (Some(manifest), Some(script)) => return Ok(Call::Run { manifest, script }),
-            (Some(manifest), None) => return Ok(Call::Check(manifest)),
-            (None, _) => {}
+        if let Some(manifest) = inner.get_str("MANIFEST") {
+            return Ok(
+                match (inner.get_str("SCRIPT"), inner.get_str("TRANSCRIPT")) {
+                    (Some(script), _) => Call::Run { manifest, script },
+                    (None, Some(transcript)) => Call::Replay {
+                        manifest,
+                        transcript,
+                    },
+                    (None, None) => Call::Check(manifest),
+                },
+            );
         }
     }
     Err(command.error(ErrorKind::MissingSubcommand, "no command")?)

@@ -18,7 +18,7 @@ the file FILE, as hexadecimal digits; its MODE is update or read, and its argume
 written as text.
 
 Exit statuses: 0 all is well, 2 wrong words on the command line, 3 refused, 4 no memory,
-5 a file cannot be read or the output cannot be written.";
+5 a file cannot be read or the output cannot be written, 6 a transcript differs.";
 
 /// What `check` does, in a line.
 pub const CHECK: &str = "Checks the programs of a manifest";
@@ -163,3 +163,36 @@ Exit statuses: 0 all is well, 2 wrong words on the command line, 3 refused, 4 `n
 
 /// What the script's path is.
 pub const SCRIPT: &str = "The path of the script";
+
+/// What `replay` does, in a line.
+pub const REPLAY: &str = "Replays a transcript on the programs of a manifest";
+
+/// What stands behind the arguments of `replay`.
+pub const AFTER_REPLAY: &str = "\
+Opens a new store with the maps and the programs of the manifest (`nrbpf check --help`), runs the calls of the
+transcript on one replica in their order, and compares what they reply.
+
+A transcript has one answered call a line, at most 512 bytes a line:
+
+    # a comment; empty lines are skipped too
+    u 0 bump 00000000 1
+    r 1 peek 00000000 1
+
+    u INDEX NAME HEX REPLY    an update: its place in the history, from 0, the program, the argument's bytes
+                              as two hexadecimal digits each, or - for no bytes, and what it replied
+    r POINT NAME HEX REPLY    a read, after POINT updates
+    e NAME HEX                an update that was told that the history has ended: it changes nothing
+
+Writes `good U R E`, the numbers of these lines, if each line agrees: with the manifest of examples/counter the
+transcript above gives `good 1 1 0`. Else one line, for the first line that does not:
+    line N bad          line N is none of these, or names no program of its kind with an argument of its length
+    line N differs      INDEX or POINT is not the number of u lines before, or the program replies something
+                        else there, or line N is an update past the 1000000th
+    line N: ..          the manifest is refused (`nrbpf check --help`)
+    not UTF-8           the manifest, a program file or the transcript is not UTF-8
+
+Exit statuses: 0 all is well, 2 wrong words on the command line, 3 refused, 4 `no memory`,
+5 `cannot read` or `cannot write` (on standard error), 6 `line N differs`.";
+
+/// What the transcript's path is.
+pub const TRANSCRIPT: &str = "The path of the transcript";

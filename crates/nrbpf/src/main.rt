@@ -6,7 +6,7 @@ mod disk;
 mod help;
 
 use command_line::Call;
-use console::{Status, assemble, check, disassemble, run};
+use console::{Status, assemble, check, disassemble, replay, run};
 use disk::{Disk, LateFile};
 use std::io;
 use std::process::ExitCode;
@@ -28,6 +28,17 @@ fn run_files(rt: &HostRuntime, manifest: &str, script: &str) -> Status {
         &Disk { rt },
         &mut LateFile::new(rt, manifest),
         &mut LateFile::new(rt, script),
+        &mut io::writer(rt),
+    )
+}
+
+// Runs `replay` on the files of a manifest and a transcript, and standard output.
+fn replay_files(rt: &HostRuntime, manifest: &str, transcript: &str) -> Status {
+    replay(
+        rt.alloc(),
+        &Disk { rt },
+        &mut LateFile::new(rt, manifest),
+        &mut LateFile::new(rt, transcript),
         &mut io::writer(rt),
     )
 }
@@ -56,6 +67,10 @@ fn answer(rt: &HostRuntime, call: Call) -> ExitCode {
         Call::Assemble(file) => assemble_file(rt, file),
         Call::Disassemble(file) => disassemble_file(rt, file),
         Call::Run { manifest, script } => run_files(rt, manifest, script),
+        Call::Replay {
+            manifest,
+            transcript,
+        } => replay_files(rt, manifest, transcript),
     };
     if let Some(complaint) = status.complaint() {
         let _ = eprintln!(rt; "{complaint}");

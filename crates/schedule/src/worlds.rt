@@ -83,6 +83,13 @@ impl World {
         })
     }
 
+    /// The maps and programs that it was opened with.
+    pub fn catalogue(&self) -> &Catalogue
+        ensures catalogue { result.now ≡ self.now.opening.catalogue }
+    {
+        &self.opening.catalogue
+    }
+
     /// The log.
     pub fn log(&self) -> &LogState
         ensures log { result.now ≡ self.now.world.log }
