@@ -11,5 +11,6 @@ pub mod OneUpdate
 pub mod Turns
 pub mod Replays
 pub mod TranscriptLines
+pub mod StepLines
 pub mod OneText
 pub mod RunsOfLines

@@ -10,6 +10,7 @@ pub mod Inputs
 pub mod RunAnswer
 pub mod AsmAnswer
 pub mod ReplayAnswer
+pub mod ScheduleAnswer
 pub mod Report
 pub mod Transfer
 -- Laws: each line that a run writes for a call is a run of its program.
@@ -21,3 +22,4 @@ pub mod Input
 pub mod Loaded
 pub mod Gathering
 pub mod Replaying
+pub mod Scheduling

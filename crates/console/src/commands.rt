@@ -5,9 +5,11 @@ mod checking;
 mod disassembling;
 mod replaying;
 mod running;
+mod scheduling;
 
 pub use assembling::assemble;
 pub use checking::check;
 pub use disassembling::disassemble;
 pub use replaying::replay;
 pub use running::run;
+pub use scheduling::schedule;

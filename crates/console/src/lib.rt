@@ -14,14 +14,16 @@ mod replay_texts;
 mod replaying;
 mod report;
 mod run_texts;
+mod schedule_texts;
 mod script;
 mod status;
 mod step_lines;
+mod stepping;
 mod texts;
 mod transcripts;
 mod transfer;
 
-pub use commands::{assemble, check, disassemble, replay, run};
+pub use commands::{assemble, check, disassemble, replay, run, schedule};
 pub use folder::Folder;
 pub use laws::run_lines_are_runs;
 pub use status::Status;

@@ -1,0 +1,143 @@
+-- What `schedule` answers and writes, as a function of the sizes of the store, of the manifest, of the files that are there, and of
+-- the steps.
+use Rattle.std.specs.Prelude.{ℕ, suc, Bool, ◌&&◌, List, [], ◌∷◌, ◌++◌, codes, decimal, Option, Some, None, option_map, option_and_then, unwrap_or, slice_get, Ok, Err, nat_le, if◌then◌else◌}
+use Rattle.text.specs.Lines.{lines_of, next_line}
+use Rattle.loader.specs.CatalogueView.{CatalogueView, number_named}
+use Rattle.loader.specs.Loading.{Outcome}
+use Rattle.oplog.specs.Operations.{Operation}
+use Rattle.oplog.specs.Logs.{Log, tail_of}
+use Rattle.oplog.specs.declared.configuration.Config.{Config}
+use Rattle.oplog.specs.declared.configuration.TheConstants.{MAX_NODES, MAX_NODE_SLOTS, MIN_WINDOW, MAX_WINDOW, MAX_LIMIT}
+use Rattle.combiner.specs.declared.slots.Reply.TheVariants.{Placed, Ended}
+use Rattle.schedule.specs.declared.parts.Opening.{Opening}
+use Rattle.schedule.specs.declared.steps.StepAnswer.{StepAnswer}
+use Rattle.schedule.specs.declared.steps.StepAnswer.TheVariants.{Done, NotNow, Back, ReadBack}
+use Rattle.schedule.specs.Worlds.{NodeView, WorldView, opened}
+use Rattle.schedule.specs.Steps as steps
+use Rattle.schedule.specs.Steps.{Part, Took, put_part, world_after}
+use Rattle.schedule.specs.Taking.{step_answer}
+use Rattle.console.specs.declared.status.Verdict.TheVariants as verdicts
+use Rattle.console.specs.Files.{Contents}
+use Rattle.console.specs.Answer.{Answer, refusal_answer}
+use Rattle.console.specs.Inputs.{texts_answer, IsTextsAnswer}
+use Rattle.console.specs.Script.{ProgramCall}
+use Rattle.console.specs.StepLine.{StepMeaning, CallAt, Comment, Post, ReadBegin, Collect, ReadAnswer, Claim, Append, Replay, Finish, Reply, Reclaim, Rebase, step_line_meaning}
+use Rattle.console.specs.RunAnswer.{behind, bad_line}
+
+-- ---- the texts
+
+-- what a step answers: it was taken, with the answer of a call that is answered, or it may not be taken now
+abbrev pub step_text : StepAnswer → List ℕ
+step_text Done = codes "ok\n"
+step_text NotNow = codes "notnow\n"
+step_text (Back (Placed place reply)) = codes "ok place " ++ (decimal place ++ (codes " reply " ++ (decimal reply ++ codes "\n")))
+step_text (Back Ended) = codes "ok ended\n"
+step_text (ReadBack a) = codes "ok point " ++ (decimal a.point ++ (codes " reply " ++ (decimal a.reply ++ codes "\n")))
+
+-- where the log stands at the end
+abbrev pub log_text : Log → List ℕ
+log_text g = codes "log base " ++ (decimal g.base ++ (codes " tail " ++ (decimal (tail_of g) ++ (codes " done " ++ (decimal g.done ++ codes "\n")))))
+
+-- how far the replica of a node is
+abbrev pub node_text : ℕ → NodeView → List ℕ
+node_text n node = codes "node " ++ (decimal n ++ (codes " tail " ++ (decimal node.replica.tail ++ codes "\n")))
+
+-- the same for each node, from node n on
+abbrev pub nodes_text : ℕ → List NodeView → List ℕ
+nodes_text n [] = []
+nodes_text n (node ∷ nodes) = node_text n node ++ nodes_text (suc n) nodes
+
+abbrev pub end_text : WorldView → List ℕ
+end_text w = log_text w.log ++ nodes_text 0 w.nodes
+
+-- ---- one line
+
+-- the operation that a line calls; no catalogue has a program of the number that stands for an unknown name
+abbrev pub operation_at : CatalogueView → CallAt → Operation
+operation_at c at = record { program = unwrap_or (number_named c.programs at.call.name) 65535; argument = at.call.argument }
+
+abbrev pub node_of : StepMeaning → ℕ
+node_of Comment = 0
+node_of (Post at) = at.node
+node_of (ReadBegin at) = at.node
+node_of (Collect at) = at.node
+node_of (ReadAnswer at) = at.node
+node_of (Claim n) = n
+node_of (Append n) = n
+node_of (Replay n) = n
+node_of (Finish n) = n
+node_of (Reply n) = n
+node_of (Reclaim n) = n
+node_of (Rebase n) = n
+
+-- what the line's step makes of the log and of its node; none where it may not be taken
+abbrev pub part_of : Opening → StepMeaning → Log → NodeView → Option Part
+part_of m Comment g node = None
+part_of m (Post at) g node = steps.post m at.slot (operation_at m.catalogue at) g node
+part_of m (ReadBegin at) g node = steps.read_begin m at.slot (operation_at m.catalogue at) g node
+part_of m (Collect at) g node = steps.collect at.slot g node
+part_of m (ReadAnswer at) g node = steps.read_answer m at.slot g node
+part_of m (Claim n) g node = steps.claim g node
+part_of m (Append n) g node = steps.append g node
+part_of m (Replay n) g node = steps.replay m g node
+part_of m (Finish n) g node = steps.finish g node
+part_of m (Reply n) g node = steps.reply g node
+part_of m (Reclaim n) g node = steps.reclaim g node
+part_of m (Rebase n) g node = steps.rebase g node
+
+-- the line's step of the store
+abbrev pub line_took : Opening → WorldView → StepMeaning → Option Took
+line_took m w line = option_and_then (λ node. option_map (put_part w (node_of line)) (part_of m line w.log node)) (slice_get w.nodes (node_of line))
+
+-- what a line writes, and the store after it
+pub record StepTurn : Type 0 where
+  pub text : List ℕ
+  pub world : WorldView
+
+abbrev pub step_turn : Opening → WorldView → StepMeaning → StepTurn
+step_turn m w Comment = record { text = []; world = w }
+step_turn m w line = record { text = step_text (step_answer (line_took m w line)); world = world_after w (line_took m w line) }
+
+unfoldable pub step_line_turn : Opening → WorldView → List ℕ → Option StepTurn
+step_line_turn m w line = option_map (step_turn m w) (step_line_meaning line)
+
+-- ---- a list of steps
+
+-- by whether the line is good
+abbrev pub by_step_turn : Answer → (StepTurn → Answer) → Option StepTurn → Answer
+by_step_turn bad next None = bad
+by_step_turn bad next (Some turn) = next turn
+
+-- what the lines from number n on write, on a store; a bad line ends it, and behind the last line stands where log and replicas are
+unfoldable pub steps_answer : Opening → ℕ → WorldView → List (List ℕ) → Answer
+steps_answer m n w [] = record { text = end_text w; verdict = verdicts.Good }
+steps_answer m n w (l ∷ ls) = by_step_turn (bad_line n) (λ turn. behind turn.text (steps_answer m (next_line n) turn.world ls)) (step_line_turn m w l)
+
+-- each size is within its limits
+abbrev pub are_sizes : Config → Bool
+are_sizes c =
+    (nat_le 1 c.nodes && nat_le c.nodes MAX_NODES) && ((nat_le 1 c.slots && nat_le c.slots MAX_NODE_SLOTS)
+    && ((nat_le MIN_WINDOW c.window && nat_le c.window MAX_WINDOW) && (nat_le 1 c.limit && nat_le c.limit MAX_LIMIT)))
+
+-- O1: a size is out of its limits
+abbrev pub sizes_refused : Answer
+sizes_refused = record { text = codes "refused O1\n"; verdict = verdicts.Refused }
+
+-- what a catalogue answers to a list of steps, in a store of these sizes
+abbrev pub catalogue_answer : Config → CatalogueView → List ℕ → Answer
+catalogue_answer config c text =
+    let opening : Opening = record { config = config; catalogue = c } in
+    if are_sizes config then steps_answer opening 1 (opened opening) (lines_of text) else sizes_refused
+
+-- a refused manifest writes only its refusal, sizes out of their limits only theirs
+abbrev pub scheduled : Config → Outcome → List ℕ → Answer
+scheduled config (Ok c) text = catalogue_answer config c text
+scheduled config (Err refusal) text = refusal_answer refusal
+
+-- what `schedule` answers: all files are read first, then the manifest is loaded, then the sizes are judged, then the steps are taken
+abbrev pub schedule_answer : Config → List ℕ → Contents → List ℕ → Answer
+schedule_answer config = texts_answer (scheduled config)
+
+-- what `schedule` answers to some manifest, files and steps
+abbrev pub IsScheduleAnswer : Config → Answer → Type 0
+IsScheduleAnswer config = IsTextsAnswer (scheduled config)

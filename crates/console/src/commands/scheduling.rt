@@ -1,0 +1,134 @@
+// The command `schedule`.
+
+ghost use Rattle.std.specs.Prelude.{◌≡◌, length, IfOk, IfSome, MatchResult};
+ghost use Rattle.loader.specs.Loading.{Outcome};
+ghost use Rattle.text.specs.Lines.{lines_of};
+ghost use Rattle.console.specs.Answer.{not_text};
+ghost use Rattle.console.specs.ScheduleAnswer.{steps_answer, catalogue_answer, scheduled, schedule_answer, IsScheduleAnswer};
+ghost use Rattle.console.specs.Report.{answer_of, Reports, ReportsSome};
+ghost use Rattle.console.specs.Input.{FailsAs};
+ghost use Rattle.console.specs.Loaded.{LoadedIs};
+
+use crate::catalogues::Loaded;
+use crate::folder::Folder;
+use crate::input::InputFault;
+use crate::inputs::read_inputs;
+use crate::report::{Reply, report};
+use crate::run_texts::put_bad_line;
+use crate::schedule_texts::{put_end, sizes_refused};
+use crate::status::{Status, Verdict};
+use crate::stepping::take_step_line;
+use loader::Catalogue;
+use oplog::{Config, OpenError};
+use schedule::World;
+use std::alloc::{AllocError, Global};
+use std::io::{Read, Write};
+use text::NumberedLines;
+
+// What a new store answers to a list of steps.
+fn steps_reply(
+    alloc: Global,
+    world: World,
+    config: Config,
+    steps: &str,
+) -> Result<Reply, AllocError>
+    requires { length world.world.nodes ≡ config.nodes }
+    ensures { IfOk result (λ r. answer_of r ≡ steps_answer world.opening 1 world.world (lines_of steps.now)) }
+{
+    let mut world = world;
+    let mut text = Vec::new(alloc);
+    let mut lines = NumberedLines::new(steps);
+    while let Some((number, line)) = lines.take_line() {
+        let is_good = take_step_line(alloc, &mut world, line, &mut text)?;
+        if !is_good {
+            put_bad_line(&mut text, number)?;
+            return Ok(Reply {
+                text,
+                verdict: Verdict::Refused,
+            });
+        }
+    }
+    put_end(&mut text, &world, config.nodes)?;
+    Ok(Reply {
+        text,
+        verdict: Verdict::Good,
+    })
+}
+
+// What a catalogue answers to a list of steps, in a store of these sizes.
+fn catalogue_reply(
+    alloc: Global,
+    config: Config,
+    catalogue: Catalogue,
+    steps: &str,
+) -> Result<Reply, AllocError>
+    ensures { IfOk result (λ r. answer_of r ≡ catalogue_answer config catalogue steps.now) }
+{
+    match World::open(alloc, config, catalogue) {
+        Ok(world) => steps_reply(alloc, world, config, steps),
+        Err(OpenError::OutOfLimits) => Ok(Reply {
+            text: sizes_refused(alloc)?,
+            verdict: Verdict::Refused,
+        }),
+        Err(OpenError::NoMemory) => Err(AllocError),
+    }
+}
+
+// What a manifest that was loaded and a list of steps get.
+fn loaded_reply(
+    alloc: Global,
+    config: Config,
+    loaded: Loaded,
+    steps: &str,
+) -> Result<Reply, AllocError>
+    ensures { IfOk result (λ r. (outcome : Outcome) → LoadedIs outcome loaded → answer_of r ≡ scheduled config outcome steps.now) }
+{
+    match loaded {
+        Loaded::Catalogue(catalogue) => catalogue_reply(alloc, config, catalogue, steps),
+        Loaded::Refused(reply) => Ok(reply),
+    }
+}
+
+// What `schedule` has to write.
+fn prepare<F: Folder, R: Read, S: Read>(
+    alloc: Global,
+    folder: &F,
+    config: Config,
+    manifest: &mut R,
+    steps: &mut S,
+) -> Result<Reply, InputFault>
+    ensures known { IfSome (R.remaining manifest.old) (λ m. IfSome (F.holds folder.now) (λ h. IfSome (S.remaining steps.old) (λ s. MatchResult result
+        (λ r. answer_of r ≡ schedule_answer config m h s) (λ e. FailsAs e (schedule_answer config m h s ≡ not_text))))) }
+    ensures some { IfOk result (λ r. IsScheduleAnswer config (answer_of r)) }
+{
+    let inputs = read_inputs(alloc, folder, manifest, steps)?;
+    Ok(loaded_reply(
+        alloc,
+        config,
+        inputs.loaded,
+        inputs.text.as_str(),
+    )?)
+}
+
+/// Takes a list of steps, one after another, on a new store of these sizes with the maps and the programs of a manifest.
+///
+/// Writes for each step `ok`, with the answer of a call that is answered, or `notnow` where it may not be taken, which
+/// changes nothing; behind the last step where the log and each node's replica are. A line that is no step, comment or empty
+/// line writes `line N bad` and ends it. Sizes out of their limits write `refused O1`, a refused manifest only its refusal.
+/// Says how it ended. Each file is read whole before anything is written. Where a read fails, nothing is written.
+pub fn schedule<F: Folder, R: Read, S: Read, W: Write>(
+    alloc: Global,
+    config: Config,
+    folder: &F,
+    manifest: &mut R,
+    steps: &mut S,
+    writer: &mut W,
+) -> Status
+    // Where the readers and the folder tell their bytes, those steps are taken.
+    ensures written { IfSome (R.remaining manifest.old) (λ m. IfSome (F.holds folder.now) (λ h. IfSome (S.remaining steps.old) (λ s.
+        Reports (W.contents writer.old) (W.contents writer.new) result (schedule_answer config m h s)))) }
+    // Whatever they give, or where they fail.
+    ensures ended { ReportsSome (IsScheduleAnswer config) (W.contents writer.old) (W.contents writer.new) result }
+{
+    report(writer, prepare(alloc, folder, config, manifest, steps))
+}
