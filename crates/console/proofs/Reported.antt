@@ -1,6 +1,6 @@
 -- What a command did, from what it had prepared.
-use Rattle.std.proofs.Common.{◌≡◌, inl, inr, ℕ, List, Option, Result, Ok, Err, refl, sym, subst}
-use Rattle.std.specs.Prelude.{IfOk}
+use Rattle.std.proofs.Common.{◌≡◌, inl, inr, ℕ, List, Option, Some, None, Result, Ok, Err, refl, sym, subst}
+use Rattle.std.specs.Prelude.{IfOk, IfSome, MatchResult}
 use Rattle.std.specs.Io.KnownBytes.{Keeps}
 use Rattle.console.specs.declared.status.Status.{Status}
 use Rattle.console.specs.declared.status.Status.TheVariants as statuses
@@ -11,6 +11,8 @@ use Rattle.console.specs.declared.input.InputFault.TheVariants as faults
 use Rattle.console.specs.declared.report.Reply.{Reply}
 use Rattle.console.specs.Status.{status_of}
 use Rattle.console.specs.Texts.{no_memory_line}
+use Rattle.console.specs.Files.{Contents}
+use Rattle.console.specs.Input.{FailsAs}
 use Rattle.console.specs.Answer.{Answer, not_text}
 use Rattle.console.specs.Report.{Reports, ReportsSome, Sends, Writes, answer_of}
 
@@ -38,3 +40,19 @@ reports_some IsOne bad old new got (Ok r) wrote one = (answer_of r, one, sent ol
 reports_some IsOne bad old new got (Err faults.NotText) wrote one = (not_text, bad, sent old new got not_text wrote)
 reports_some IsOne bad old new got (Err faults.NoMemory) wrote one = (not_text, bad, no_memory_sent old new got not_text wrote)
 reports_some IsOne bad old new got (Err faults.CannotRead) wrote one = (not_text, bad, none_read old new got not_text wrote)
+
+reports : (old new : Option (List ℕ)) (got : Status) (a : Answer) (prepared : Result Reply InputFault) → Writes old new got prepared
+    → MatchResult prepared (λ r. answer_of r ≡ a) (λ e. FailsAs e (a ≡ not_text)) → Reports old new got a
+reports old new got a (Ok r) wrote known = subst (λ x. Reports old new got x) known (sent old new got (answer_of r) wrote)
+reports old new got a (Err faults.NotText) wrote known = subst (λ x. Reports old new got x) (sym known) (sent old new got not_text wrote)
+reports old new got a (Err faults.NoMemory) wrote known = no_memory_sent old new got a wrote
+reports old new got a (Err faults.CannotRead) wrote known = none_read old new got a wrote
+
+-- the same for an answer to what may be unknown
+pub reports_known : (answers : List ℕ → Contents → List ℕ → Answer) (r : Option (List ℕ)) (o : Option Contents) (q : Option (List ℕ)) (old new : Option (List ℕ)) (got : Status) (prepared : Result Reply InputFault)
+    → Writes old new got prepared → IfSome r (λ m. IfSome o (λ h. IfSome q (λ s. MatchResult prepared (λ x. answer_of x ≡ answers m h s) (λ e. FailsAs e (answers m h s ≡ not_text)))))
+    → IfSome r (λ m. IfSome o (λ h. IfSome q (λ s. Reports old new got (answers m h s))))
+reports_known answers None o q old new got prepared wrote known = tt
+reports_known answers (Some m) None q old new got prepared wrote known = tt
+reports_known answers (Some m) (Some h) None old new got prepared wrote known = tt
+reports_known answers (Some m) (Some h) (Some s) old new got prepared wrote known = reports old new got (answers m h s) prepared wrote known
