@@ -2,7 +2,8 @@
 
 use crate::help;
 use clap::error::{Error, ErrorKind};
-use clap::{Arg, Command};
+use clap::{Arg, ArgMatches, Command, ValueParser};
+use oplog::Config;
 use std::alloc::{AllocError, Global};
 
 /// What is asked for.
@@ -27,6 +28,15 @@ pub enum Call<'a> {
         /// The path of the transcript.
         transcript: &'a str,
     },
+    /// Take a list of steps.
+    Schedule {
+        /// The sizes of the store.
+        config: Config,
+        /// The path of the manifest.
+        manifest: &'a str,
+        /// The path of the steps.
+        steps: &'a str,
+    },
 }
 
 fn manifest<'a>(alloc: Global) -> Arg<'a> {
@@ -49,6 +59,29 @@ fn run_command<'a>(alloc: Global) -> Result<Command<'a>, AllocError> {
         .after_help(help::AFTER_RUN)
         .arg(manifest(alloc))?
         .arg(script)
+}
+
+// An option whose value is a number of 32 bits.
+fn size<'a>(alloc: Global, name: &'a str, default: &'a str, help: &'a str) -> Arg<'a> {
+    Arg::new(alloc, name)
+        .long(name)
+        .value_name("N")
+        .value_parser(ValueParser::unsigned(0, u32::MAX as u64))
+        .default_value(default)
+        .help(help)
+}
+
+fn schedule_command<'a>(alloc: Global) -> Result<Command<'a>, AllocError> {
+    let steps = Arg::new(alloc, "STEPS").required(true).help(help::STEPS);
+    Command::new(alloc, "schedule")
+        .about(help::SCHEDULE)
+        .after_help(help::AFTER_SCHEDULE)
+        .arg(size(alloc, "nodes", "2", help::NODES))?
+        .arg(size(alloc, "slots", "2", help::SLOTS))?
+        .arg(size(alloc, "window", "64", help::WINDOW))?
+        .arg(size(alloc, "limit", "1000000", help::LIMIT))?
+        .arg(manifest(alloc))?
+        .arg(steps)
 }
 
 fn replay_command<'a>(alloc: Global) -> Result<Command<'a>, AllocError> {
@@ -88,7 +121,39 @@ fn command<'a>(alloc: Global) -> Result<Command<'a>, AllocError> {
         .subcommand(asm_command(alloc)?)?
         .subcommand(dis_command(alloc)?)?
         .subcommand(run_command(alloc)?)?
-        .subcommand(replay_command(alloc)?)
+        .subcommand(replay_command(alloc)?)?
+        .subcommand(schedule_command(alloc)?)
+}
+
+// The sizes that the options name.
+fn config_of(matches: &ArgMatches) -> Option<Config> {
+    Some(Config {
+        nodes: matches.get_one("nodes")?,
+        slots: matches.get_one("slots")?,
+        window: matches.get_one("window")?,
+        limit: matches.get_one("limit")?,
+    })
+}
+
+// The call of a command that reads a manifest.
+fn manifest_call<'a>(manifest: &'a str, matches: &ArgMatches<'a>) -> Call<'a> {
+    if let Some(script) = matches.get_str("SCRIPT") {
+        return Call::Run { manifest, script };
+    }
+    if let Some(transcript) = matches.get_str("TRANSCRIPT") {
+        return Call::Replay {
+            manifest,
+            transcript,
+        };
+    }
+    match (config_of(matches), matches.get_str("STEPS")) {
+        (Some(config), Some(steps)) => Call::Schedule {
+            config,
+            manifest,
+            steps,
+        },
+        _ => Call::Check(manifest),
+    }
 }
 
 /// The call that the words of a command line ask for, the first of them the program's name.
@@ -104,16 +169,7 @@ pub fn read<'a>(alloc: Global, words: &'a [String]) -> Result<Call<'a>, Error> {
             };
         }
         if let Some(manifest) = inner.get_str("MANIFEST") {
-            return Ok(
-                match (inner.get_str("SCRIPT"), inner.get_str("TRANSCRIPT")) {
-                    (Some(script), _) => Call::Run { manifest, script },
-                    (None, Some(transcript)) => Call::Replay {
-                        manifest,
-                        transcript,
-                    },
-                    (None, None) => Call::Check(manifest),
-                },
-            );
+            return Ok(manifest_call(manifest, inner));
         }
     }
     Err(command.error(ErrorKind::MissingSubcommand, "no command")?)

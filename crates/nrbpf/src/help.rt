@@ -196,3 +196,54 @@ Exit statuses: 0 all is well, 2 wrong words on the command line, 3 refused, 4 `n
 
 /// What the transcript's path is.
 pub const TRANSCRIPT: &str = "The path of the transcript";
+
+/// What `schedule` does, in a line.
+pub const SCHEDULE: &str = "Takes a list of steps on a store of several nodes";
+
+/// What stands behind the arguments of `schedule`.
+pub const AFTER_SCHEDULE: &str = "\
+Opens a new store of that many nodes with the maps and the programs of the manifest (`nrbpf check --help`), and
+takes the steps in their order, one line each:
+
+    # a comment; empty lines are skipped too
+    post 0 0 bump 00000000
+    claim 0
+    append 0
+    replay 0
+    finish 0
+    reply 0
+    collect 0 0
+
+    post N S NAME HEX        slot S of node N calls an update      readbegin N S NAME HEX   .. calls a read
+    claim N                  a combiner claims the requests        readanswer N S           the read is answered
+    append N                 they are appended to the log          reclaim N                the log's base becomes
+    replay N                 the replica applies the log                                    node N's replica
+    finish N                 what it applied is completed          rebase N                 node N's replica becomes
+    reply N                  the requests are answered                                      the log's base
+    collect N S              slot S takes its answer
+
+Writes `ok` for a step that is taken, or `ok place I reply R`, `ok ended`, `ok point K reply R` where it answers a
+call, and `notnow` for one that may not be taken now, or names a node, slot or program that is not there: it
+changes nothing. With the manifest of examples/counter the steps above write `ok` six times, and then
+`ok place 0 reply 1`. Behind the last step:
+    log base B tail T done D    how many operations the log has given up, has, and has completed
+    node N tail T               for each node, how many operations its replica has applied
+
+Refusals:
+    line N bad          line N is no step, comment or empty line; what stands before was taken
+    refused O1          --nodes is not from 1 to 8, --slots from 1 to 16, --window from 16 to 4096 or --limit
+                        from 1 to 1000000
+    line N: ..          the manifest is refused (`nrbpf check --help`)
+    not UTF-8           the manifest, a program file or the steps are not UTF-8
+
+Exit statuses: 0 all is well, 2 wrong words on the command line, 3 refused, 4 `no memory`,
+5 `cannot read` or `cannot write` (on standard error).";
+
+/// What the path of the steps is.
+pub const STEPS: &str = "The path of the steps";
+
+/// What the sizes of a store are.
+pub const NODES: &str = "Nodes, each with a replica of the maps";
+pub const SLOTS: &str = "Slots of a node";
+pub const WINDOW: &str = "Records that the log keeps at once";
+pub const LIMIT: &str = "Updates that the store may have in all";

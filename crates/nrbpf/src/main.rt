@@ -6,8 +6,9 @@ mod disk;
 mod help;
 
 use command_line::Call;
-use console::{Status, assemble, check, disassemble, replay, run};
+use console::{Status, assemble, check, disassemble, replay, run, schedule};
 use disk::{Disk, LateFile};
+use oplog::Config;
 use std::io;
 use std::process::ExitCode;
 
@@ -43,6 +44,18 @@ fn replay_files(rt: &HostRuntime, manifest: &str, transcript: &str) -> Status {
     )
 }
 
+// Runs `schedule` on the files of a manifest and of steps, and standard output.
+fn schedule_files(rt: &HostRuntime, config: Config, manifest: &str, steps: &str) -> Status {
+    schedule(
+        rt.alloc(),
+        config,
+        &Disk { rt },
+        &mut LateFile::new(rt, manifest),
+        &mut LateFile::new(rt, steps),
+        &mut io::writer(rt),
+    )
+}
+
 // Runs `asm` on a text's file and standard output.
 fn assemble_file(rt: &HostRuntime, file: &str) -> Status {
     assemble(
@@ -71,6 +84,11 @@ fn answer(rt: &HostRuntime, call: Call) -> ExitCode {
             manifest,
             transcript,
         } => replay_files(rt, manifest, transcript),
+        Call::Schedule {
+            config,
+            manifest,
+            steps,
+        } => schedule_files(rt, config, manifest, steps),
     };
     if let Some(complaint) = status.complaint() {
         let _ = eprintln!(rt; "{complaint}");
