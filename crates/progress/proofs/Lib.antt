@@ -16,3 +16,4 @@ pub mod Finish
 pub mod Putting
 pub mod StoreLaws
 pub mod Picked
+pub mod DeskNotes

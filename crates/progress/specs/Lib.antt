@@ -11,3 +11,4 @@ pub mod Tellings
 pub mod Single
 pub mod Putting
 pub mod Picks
+pub mod DeskNotes
