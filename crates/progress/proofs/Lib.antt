@@ -17,3 +17,4 @@ pub mod Putting
 pub mod StoreLaws
 pub mod Picked
 pub mod DeskNotes
+pub mod Batches

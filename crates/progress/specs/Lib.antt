@@ -12,3 +12,4 @@ pub mod Single
 pub mod Putting
 pub mod Picks
 pub mod DeskNotes
+pub mod Batches

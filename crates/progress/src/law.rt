@@ -9,6 +9,7 @@ ghost use Rattle.progress.specs.Single.{single_rules, single_noting, SingleKeeps
 ghost use Rattle.progress.specs.Tellings.{TailIs, Replays, ReplayedAgrees, PlacedTells, ReadsTell, EndedTells};
 ghost use Rattle.progress.specs.Putting.{the_rules, StoreOpens, AgreesLog, AgreesReplica, MayTakeFirst, MayTakeSecond, MayTakeDesk, TakesLog, TakesReplica, TakesItsReplica, TakesDesk, SameMayPut, LogMayPut, ReplicaMayPut, SeenDeskMayPut};
 ghost use Rattle.progress.specs.DeskNotes.{Looked, desk_noting, PostNoted, ClaimNoted, CollectNoted, DeskPicked, DeskIs, BatchNoted};
+ghost use Rattle.progress.specs.Batches.{ClaimsAscend, BatchIs};
 ghost use Rattle.progress.specs.Picks.{SamePicked, LogPicked, ReplicaPicked, PutsAccount, SameIs, LogIs, ReplicaIs};
 
 use crate::meanings::{Effects, Viewed};
@@ -118,4 +119,10 @@ pub fn desk_notes<S: Viewed>()
     ensures batch { BatchNoted S.meaning S.view S.is_sized }
     ensures desk { DeskPicked S.meaning S.view S.is_sized }
     ensures desk_is { DeskIs S.meaning S.view S.is_sized }
+{}
+
+/// The requests that a combiner claimed and notes are those of the claimed slots of its desk, in their order.
+pub fn desk_batches<E: Effects>()
+    ensures claims { ClaimsAscend }
+    ensures batch { BatchIs E.meaning }
 {}
