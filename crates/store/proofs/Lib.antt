@@ -9,3 +9,4 @@ pub mod Finished
 pub mod Appended
 pub mod Opened
 pub mod Closing
+pub mod AtDesk

@@ -3,6 +3,7 @@
 #![tactic(auto)]
 
 mod answers;
+pub mod desks;
 mod held;
 pub mod lent;
 mod session;
