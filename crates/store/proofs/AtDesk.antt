@@ -19,7 +19,6 @@ use Rattle.progress.specs.Agreement.{StageAgrees, SlotAgrees}
 use Rattle.progress.specs.DeskSteps.{PostStep, ClaimStep, ReplyStep, CollectStep}
 use Rattle.progress.specs.Batches.{Ascend}
 use Rattle.progress.specs.Moves.{record_of, unplaced}
-
 use Rattle.progress.proofs.Batches.{batch_is, claims_ascend}
 use Rattle.progress.proofs.Desks.{collected_is}
 use Rattle.progress.proofs.Ended.{answered}

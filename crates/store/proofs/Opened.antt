@@ -24,12 +24,12 @@ shapes_open : (shapes : List Shape) → shapes_of (opening_maps shapes) ≡ shap
 shapes_open [] = refl
 shapes_open (s ∷ ss) = ap (λ z. s ∷ z) (shapes_open ss)
 
-log_opens : (config : Config) (c : CatalogueView) (v : Value) → IsOpenedLog c.shapes config.window config.limit v → (view_of v ≡ TheLog (first_log store_meaning c)) × IsSized config c v
+pub log_opens : (config : Config) (c : CatalogueView) (v : Value) → IsOpenedLog c.shapes config.window config.limit v → (view_of v ≡ TheLog (first_log store_meaning c)) × IsSized config c v
 log_opens config c (Log g) e = (ap (λ z. TheLog (log_value z)) e, subst (λ z. HasLogSizes config c z) (sym e) (refl, refl, shapes_open c.shapes))
 log_opens config c (Replica n) e = absurd e
 log_opens config c (Desk n) e = absurd e
 
-replica_opens : (config : Config) (c : CatalogueView) (v : Value) → IsOpenedReplica c.shapes config.window v → (view_of v ≡ TheReplica (first_replica store_meaning c)) × IsSized config c v
+pub replica_opens : (config : Config) (c : CatalogueView) (v : Value) → IsOpenedReplica c.shapes config.window v → (view_of v ≡ TheReplica (first_replica store_meaning c)) × IsSized config c v
 replica_opens config c (Log g) e = absurd e
 replica_opens config c (Desk g) e = absurd e
 replica_opens config c (Replica n) e = (

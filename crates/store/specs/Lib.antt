@@ -4,5 +4,6 @@ pub mod Lent
 pub mod Held
 pub mod Standing
 pub mod AtDesk
+pub mod Places
 pub mod Sessions
 pub mod Opening

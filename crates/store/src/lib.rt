@@ -6,6 +6,7 @@ mod answers;
 pub mod desks;
 mod held;
 pub mod lent;
+mod opening;
 mod session;
 mod steps;
 mod store;

@@ -60,7 +60,7 @@ impl Shelved for Value {
 }
 
 // A new log, as a value of the shelf.
-fn shelved_log(
+pub(crate) fn shelved_log(
     alloc: Global,
     shapes: &[Shape],
     window: usize,
@@ -76,7 +76,11 @@ fn shelved_log(
 }
 
 // A new replica with its empty hand, as a value of the shelf.
-fn shelved_replica(alloc: Global, shapes: &[Shape], window: usize) -> Result<Value, AllocError>
+pub(crate) fn shelved_replica(
+    alloc: Global,
+    shapes: &[Shape],
+    window: usize,
+) -> Result<Value, AllocError>
     requires shapes { AreShapesOk shapes.now }
     requires window { IsWindow window }
     ensures replica { IfOk result (λ v. IsOpenedReplica shapes.now window v) }
