@@ -23,7 +23,7 @@ use Rattle.schedule.specs.declared.parts.NodeBatch.TheVariants.{NoBatch, Claimed
 use Rattle.schedule.specs.Trace.{Trace, Places}
 use Rattle.schedule.specs.declared.parts.Opening.{Opening}
 use Rattle.schedule.specs.Worlds.{NodeView, WorldView, answers_from, answered_batch}
-use Rattle.schedule.specs.Steps.{Part, claim, reply, is_none, no_batch, appended_batch}
+use Rattle.schedule.specs.Steps.{Part, claim, reply, no_records, no_batch, appended_batch}
 use Rattle.schedule.specs.Stands.{OpenAt, ReplyStands, StageStands, DeskStands, NodeStands, BatchStands, WrittenStands, Stands, batch_in, place_in}
 use Rattle.schedule.proofs.Lists.{get_in, get_some}
 use Rattle.schedule.proofs.Options.{cond_gives, then_gives, none_is, no_batch_is, appended_is}
@@ -230,8 +230,8 @@ keeps_reply m w h places t n node p at_n taken x =
     let r = then_gives _ (appended_batch node.batch) p taken in
     let b : Written = r.0 in
     let is_b = appended_is node.batch b r.1 in
-    let c = cond_gives (is_none node.hand.records && nat_le node.replica.tail w.log.done) _ p r.2 in
-    let tests = and_parts (is_none node.hand.records) (nat_le node.replica.tail w.log.done) c.0 in
+    let c = cond_gives (no_records node.hand.records && nat_le node.replica.tail w.log.done) _ p r.2 in
+    let tests = and_parts (no_records node.hand.records) (nat_le node.replica.tail w.log.done) c.0 in
     let empty = none_is node.hand.records tests.0 in
     let below = leb-true node.replica.tail w.log.done tests.1 in
     let o = x.nodes n node at_n in

@@ -1,5 +1,5 @@
 -- What holds at the opening, after each step, and so after any list of steps.
-use Rattle.std.proofs.Common.{◌≡◌, ℕ, zero, suc, ◌+◌, ◌*◌, List, [], ◌∷◌, ◌++◌, length, Option, Some, None, refl, sym, ap, ◌∙◌, arith, subst}
+use Rattle.std.proofs.Common.{◌≡◌, ℕ, zero, suc, ◌+◌, ◌*◌, List, [], ◌∷◌, ◌++◌, length, Option, Some, None, refl, sym, ap, ◌∙◌, arith, subst, append_assoc}
 use Rattle.std.specs.Prelude.{slice_get, replicate, option_map}
 use Rattle.std.proofs.lemmas.Option.{none-some, same_Some}
 use Rattle.oplog.specs.History.{History}
@@ -20,7 +20,7 @@ use Rattle.loader.specs.CatalogueView.{IsCatalogue}
 use Rattle.oplog.specs.Limits.{IsConfig}
 use Rattle.oplog.specs.Logs.{Log, opened_log}
 use Rattle.schedule.specs.Taking.{opened_store, store_of, IsStanding}
-use Rattle.schedule.specs.Headline.{EverySchedule, StepKeeps, OpeningStands, StandingIsExplained}
+use Rattle.schedule.specs.Headline.{EverySchedule, StepKeeps, StepsKeep, OpeningStands, StandingIsExplained}
 use Rattle.schedule.proofs.Options.{then_gives, map_gives}
 use Rattle.schedule.proofs.Calls.{Kept, same_history, keeps_post, keeps_collect, keeps_read_begin, keeps_read_answer}
 use Rattle.schedule.proofs.Logs.{keeps_finish, keeps_reclaim, keeps_rebase}
@@ -133,11 +133,19 @@ opening_stands m whole = record {
 -- ---- any list of steps
 
 pub run_stands : (m : Opening) (steps : List Step) (w : WorldView) (h : History) (places : Places) (t : Trace) → Stands m w h places t
-    → (g : History) × (ps : Places) × Stands m (world_of m w steps) g ps (trace_of m w t steps)
-run_stands m [] w h places t x = (h, places, x)
+    → (more : History) × (later : Places) × Stands m (world_of m w steps) (h ++ more) (places ++ later) (trace_of m w t steps)
+run_stands m [] w h places t x = same_history m w h places t x
 run_stands m (step ∷ steps) w h places t x =
     let k = step_keeps m w h places t step x in
-    run_stands m steps (world_after w (took m w step)) (h ++ k.0) (places ++ k.1) (trace_after t (took m w step)) k.2
+    let r = run_stands m steps (world_after w (took m w step)) (h ++ k.0) (places ++ k.1) (trace_after t (took m w step)) k.2 in (
+      k.0 ++ r.0,
+      k.1 ++ r.1,
+      subst (λ g. Stands m (world_of m w (step ∷ steps)) g (places ++ (k.1 ++ r.1)) (trace_of m w t (step ∷ steps))) (append_assoc h k.0 r.0)
+          (subst (λ ps. Stands m (world_of m w (step ∷ steps)) ((h ++ k.0) ++ r.0) ps (trace_of m w t (step ∷ steps))) (append_assoc places k.1 r.1) r.2),
+    )
+
+pub steps_keep : StepsKeep
+steps_keep m w h places t steps x = run_stands m steps w h places t x
 
 pub standing_is_explained : StandingIsExplained
 standing_is_explained m w h places t x = record {

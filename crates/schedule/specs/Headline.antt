@@ -21,6 +21,7 @@ pub record IsExplained (m : Opening) (w : WorldView) (t : Trace) : Type 0 where
   pub replicas : (n : ℕ) (node : NodeView) → slice_get w.nodes n ≡ Some node
       → (node.replica.tail ≤ length history) × (node.replica.maps ≡ maps_after store_meaning m.catalogue history node.replica.tail)
 
+-- after any list of steps, ready or not, a new store is explained
 abbrev pub EverySchedule : Type 0
 EverySchedule = (m : Opening) (steps : List Step) → IsCatalogue m.catalogue → IsExplained m (world_of m (opened m) steps) (trace_of m (opened m) [] steps)
 
@@ -35,5 +36,12 @@ StepKeeps =
     (m : Opening) (w : WorldView) (h : History) (places : Places) (t : Trace) (step : Step) → Stands m w h places t
     → (more : History) × (later : Places) × Stands m (world_after w (took m w step)) (h ++ more) (places ++ later) (trace_after t (took m w step))
 
+-- so do any steps, one after another
+abbrev pub StepsKeep : Type 0
+StepsKeep =
+    (m : Opening) (w : WorldView) (h : History) (places : Places) (t : Trace) (steps : List Step) → Stands m w h places t
+    → (more : History) × (later : Places) × Stands m (world_of m w steps) (h ++ more) (places ++ later) (trace_of m w t steps)
+
+-- a store that stands is explained
 abbrev pub StandingIsExplained : Type 0
 StandingIsExplained = (m : Opening) (w : WorldView) (h : History) (places : Places) (t : Trace) → Stands m w h places t → IsExplained m w t

@@ -69,6 +69,7 @@ pub record WrittenStands (m : Opening) (h : History) (replica : ReplicaView) (ha
       → (e : Effect Maps) × (effect_at store_meaning m.catalogue h (b.first + k) r.op ≡ Some e) × (slice_get b.replies.outcomes k ≡ Some (Some (outcome_of e)))
   pub ended : b.count < length b.batch.records → m.config.limit ≤ replica.tail + length hand.records
 
+-- of a batch that is not in the log nothing is asked here
 abbrev pub BatchStands : Opening → History → ReplicaView → HandView → NodeBatch → Type 0
 BatchStands m h replica hand NoBatch = Unit {0}
 BatchStands m h replica hand (ClaimedBatch b) = Unit {0}
@@ -85,16 +86,17 @@ abbrev pub HasPlace : Places → ℕ → Option ℕ → Type 0
 HasPlace places c None = (i : ℕ) → slice_get places i ≢ Some c
 HasPlace places c (Some i) = slice_get places i ≡ Some c
 
-abbrev pub ones : Option ℕ → ℕ
-ones None = 0
-ones (Some i) = 1
+-- 1 where there is a place, else 0
+abbrev pub one_if_placed : Option ℕ → ℕ
+one_if_placed None = 0
+one_if_placed (Some i) = 1
 
 -- call c is open, with that place or none, and the history has beside it as many records of the session as its slot has counted
 pub record OpenAt (m : Opening) (h : History) (places : Places) (t : Trace) (x count : ℕ) (mode : Mode) (op : Operation) (place : Option ℕ) (c : ℕ) : Type 0 where
   pub is_open : IsOpen t x mode op c
   pub may : is_operation mode m.catalogue op ≡ true
   pub has : HasPlace places c place
-  pub counts : count_of x h ≡ count + ones place
+  pub counts : count_of x h ≡ count + one_if_placed place
 
 -- the answer that waits for the session is the right one to its open call, and is completed
 abbrev pub ReplyStands : Opening → ℕ → History → Places → Trace → ℕ → ℕ → Reply → Type 0
@@ -113,6 +115,7 @@ StageStands m done h places t x batch count Claimed None =
 StageStands m done h places t x batch count (Answered reply) None = ReplyStands m done h places t x count reply
 StageStands m done h places t x batch count stage (Some read) = ⊥
 
+-- the node stands for the history: its replica, its desk, its batch, and each of its slots
 pub record NodeStands (m : Opening) (done : ℕ) (h : History) (places : Places) (t : Trace) (n : ℕ) (node : NodeView) : Type 0 where
   pub replica : ReplicaStands m h node.replica node.hand
   pub desk : DeskStands m n node
