@@ -101,6 +101,10 @@ seat_event m w h places t n s node desk reads e at_n inside by fine early stands
   catalogue = x.catalogue;
   explains = explains_event e x.explains fine;
   log = x.log;
+  count = set_length w.nodes n (seats_of node desk reads) ∙ x.count;
+  callers = λ c y mode op g. ⊎_elim (λ old. x.callers c y mode op old)
+      (λ new. (n, (s, inside, sym (ap caller new.1) ∙ by, (let l = get_in w.nodes n node at_n in let count = x.count in omega arith))))
+      (get_snoc t e c (Call y mode op) g);
   stamps = λ b y a g. ⊎_elim (λ old. x.stamps b y a old) (λ new. let is = new.1 in subst (λ f. stamp_of m f ≤ w.log.done) is early) (get_snoc t e b (Back y a) g);
   nodes = nodes_put (λ k y. NodeStands m w.log.done h places (t ++ e ∷ []) k y) w.nodes n (seats_of node desk reads)
       (λ k old ne g. let o = x.nodes k old g in record {

@@ -200,6 +200,8 @@ keeps_replay m w h places t n node p at_n taken x =
       catalogue = x.catalogue;
       explains = x.explains;
       log = x.log;
+      count = set_length w.nodes n (replayed m rs node) ∙ x.count;
+      callers = x.callers;
       stamps = x.stamps;
       nodes = nodes_put (λ k y. NodeStands m w.log.done h places t k y) w.nodes n (replayed m rs node) (λ k old ne g. x.nodes k old g)
           (record {

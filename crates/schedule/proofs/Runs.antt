@@ -78,6 +78,10 @@ nodes_get m first zero k node g = absurd (none-some node g)
 nodes_get m first (suc count) zero node g = let i : first + 0 ≡ first = omega arith in ap (opened_node m) i ∙ same_Some (opened_node m first) node g
 nodes_get m first (suc count) (suc k) node g = let i : first + suc k ≡ suc first + k = omega arith in ap (opened_node m) i ∙ nodes_get m (suc first) count k node g
 
+pub nodes_count : (m : Opening) (first count : ℕ) → length (opened_nodes m first count) ≡ count
+nodes_count m first zero = refl
+nodes_count m first (suc count) = ap suc (nodes_count m (suc first) count)
+
 none_claimed : (a n : ℕ) → claimed_from a (replicate n (slot Empty 0)) ≡ []
 none_claimed a zero = refl
 none_claimed a (suc n) = none_claimed (suc a) n
@@ -126,6 +130,8 @@ opening_stands m whole = record {
     within = omega arith;
     window = refl;
   };
+  count = nodes_count m 0 m.config.nodes;
+  callers = λ c x mode op g. absurd (none-some (Call x mode op) g);
   stamps = λ b x answer g. absurd (none-some (Back x answer) g);
   nodes = λ n node g. let i : 0 + n ≡ n = omega arith in subst (λ y. NodeStands m 0 [] [] [] n y) (nodes_get m 0 m.config.nodes n node g) (subst (λ k. NodeStands m 0 [] [] [] n (opened_node m k)) (sym i) (node_opened m n));
 }
@@ -171,10 +177,6 @@ nodes_next m first (suc count) =
 
 pub opening_is_standing : (m : Opening) → IsConfig m.config → IsCatalogue m.catalogue → IsStanding (opened_store m)
 opening_is_standing m config whole = record { config = config; history = []; places = []; trace = []; stands = opening_stands m whole }
-
-pub nodes_count : (m : Opening) (first count : ℕ) → length (opened_nodes m first count) ≡ count
-nodes_count m first zero = refl
-nodes_count m first (suc count) = ap suc (nodes_count m (suc first) count)
 
 -- a log and nodes that are new
 pub new_is_standing : (m : Opening) (g : Log) (nodes : List NodeView) → IsConfig m.config → IsCatalogue m.catalogue → g ≡ opened_log m.catalogue.shapes m.config.window m.config.limit → nodes ≡ opened_nodes m 0 m.config.nodes

@@ -8,7 +8,7 @@ use Rattle.oplog.specs.declared.records.Record.{Record}
 use Rattle.oplog.specs.Operations.{Operation}
 use Rattle.oplog.specs.History.{Effect, History, maps_after, effect_at, reply_at}
 use Rattle.oplog.specs.Logs.{Log, HandView, tail_of}
-use Rattle.oplog.specs.Sessions.{session}
+use Rattle.oplog.specs.Sessions.{session, IsSessionOf}
 use Rattle.combiner.specs.declared.slots.Reply.{Reply}
 use Rattle.combiner.specs.declared.slots.Reply.TheVariants.{Placed, Ended}
 use Rattle.combiner.specs.declared.slots.Stage.{Stage}
@@ -21,7 +21,7 @@ use Rattle.schedule.specs.declared.parts.BegunRead.{BegunRead}
 use Rattle.schedule.specs.declared.parts.Written.{Written}
 use Rattle.schedule.specs.declared.parts.NodeBatch.{NodeBatch}
 use Rattle.schedule.specs.declared.parts.NodeBatch.TheVariants.{NoBatch, ClaimedBatch, AppendedBatch}
-use Rattle.schedule.specs.Trace.{Answer, Back, Trace, Places, IsOpen, IsIdle, StampBefore, stamp}
+use Rattle.schedule.specs.Trace.{Answer, Call, Back, Trace, Places, IsOpen, IsIdle, StampBefore, stamp}
 use Rattle.schedule.specs.declared.parts.Opening.{Opening}
 use Rattle.schedule.specs.Explains.{Explains, count_of}
 use Rattle.schedule.specs.Worlds.{NodeView, WorldView}
@@ -123,10 +123,14 @@ pub record NodeStands (m : Opening) (done : ℕ) (h : History) (places : Places)
   pub seats : (s : ℕ) (x : Slot) (read : Option BegunRead) → slice_get node.desk.slots s ≡ Some x → slice_get node.reads s ≡ Some read
       → StageStands m done h places t (session m.config n s) node.batch x.count x.stage read
 
--- the history stands for the store: it explains the trace, the log and the nodes agree with it, and what was answered is completed
+-- the history stands for the store: it explains the trace, the log and the nodes agree with it, each call is one of a session of the
+-- store, and what was answered is completed
 pub record Stands (m : Opening) (w : WorldView) (h : History) (places : Places) (t : Trace) : Type 0 where
   pub catalogue : IsCatalogue m.catalogue
   pub explains : Explains m h places t
   pub log : LogStands m w.log h
+  -- as many nodes as it was opened with, and who has called is the session of a slot of one of them
+  pub count : length w.nodes ≡ m.config.nodes
+  pub callers : (c x : ℕ) (mode : Mode) (op : Operation) → slice_get t c ≡ Some (Call x mode op) → (n : ℕ) × IsSessionOf m.config n x
   pub stamps : (b x : ℕ) (answer : Answer) → slice_get t b ≡ Some (Back x answer) → stamp m.config.limit answer ≤ w.log.done
   pub nodes : (n : ℕ) (node : NodeView) → slice_get w.nodes n ≡ Some node → NodeStands m w.log.done h places t n node
