@@ -11,6 +11,8 @@ use Rattle.schedule.specs.Explains.{Explains}
 use Rattle.schedule.specs.Worlds.{WorldView, NodeView, opened}
 use Rattle.schedule.specs.Steps.{world_of, trace_of, took, world_after, trace_after}
 use Rattle.schedule.specs.Stands.{Stands}
+use Rattle.schedule.specs.Taking.{answers_to}
+use Rattle.schedule.specs.ReadOff.{read_off}
 
 -- one list of operations explains the trace, the log ends with it, and each replica is at one of its beginnings
 pub record IsExplained (m : Opening) (w : WorldView) (t : Trace) : Type 0 where
@@ -24,6 +26,11 @@ pub record IsExplained (m : Opening) (w : WorldView) (t : Trace) : Type 0 where
 -- after any list of steps, ready or not, a new store is explained
 abbrev pub EverySchedule : Type 0
 EverySchedule = (m : Opening) (steps : List Step) → IsCatalogue m.catalogue → IsExplained m (world_of m (opened m) steps) (trace_of m (opened m) [] steps)
+
+-- the trace of these steps is what they and their answers tell
+abbrev pub TraceIsReadOff : Type 0
+TraceIsReadOff = (m : Opening) (steps : List Step) → IsCatalogue m.catalogue
+    → trace_of m (opened m) [] steps ≡ read_off m.config steps (answers_to m (opened m) steps)
 
 -- a new store stands for the empty history
 abbrev pub OpeningStands : Type 0
