@@ -15,7 +15,7 @@ use Rattle.schedule.specs.declared.parts.Opening.{Opening}
 use Rattle.schedule.specs.Worlds.{NodeView, WorldView, room_for, grown}
 use Rattle.schedule.specs.Steps.{Part, silent, append, with_appended, claimed_batch}
 use Rattle.schedule.specs.Stands.{StageStands, NodeStands, LogStands, ReplicaStands, BatchStands, Stands, batch_in}
-use Rattle.schedule.proofs.Lists.{get_more, get_drop, get_taken}
+use Rattle.schedule.proofs.Lists.{get_more, get_drop, get_taken, set_length}
 use Rattle.schedule.proofs.Options.{cond_gives, then_gives, claimed_is}
 use Rattle.schedule.proofs.Explained.{after_more, effect_more}
 use Rattle.schedule.proofs.Calls.{nodes_put, Kept}
@@ -158,6 +158,8 @@ module _ (m : Opening) (w : WorldView) (h : History) (places : Places) (t : Trac
       catalogue = x.catalogue;
       explains = end.explains;
       log = log_then;
+      count = set_length w.nodes n (with_appended w.log b node) ∙ x.count;
+      callers = x.callers;
       stamps = x.stamps;
       nodes = nodes_put (λ k y. NodeStands m w.log.done all_of (end.places_then) t k y) w.nodes n (with_appended w.log b node) other_then node_then;
     }),

@@ -23,9 +23,9 @@ use Rattle.schedule.specs.declared.parts.NodeBatch.TheVariants.{NoBatch, Claimed
 use Rattle.schedule.specs.Trace.{Trace, Places}
 use Rattle.schedule.specs.declared.parts.Opening.{Opening}
 use Rattle.schedule.specs.Worlds.{NodeView, WorldView, answers_from, answered_batch}
-use Rattle.schedule.specs.Steps.{Part, claim, reply, is_none, no_batch, appended_batch}
+use Rattle.schedule.specs.Steps.{Part, claim, reply, no_records, no_batch, appended_batch}
 use Rattle.schedule.specs.Stands.{OpenAt, ReplyStands, StageStands, DeskStands, NodeStands, BatchStands, WrittenStands, Stands, batch_in, place_in}
-use Rattle.schedule.proofs.Lists.{get_in, get_some}
+use Rattle.schedule.proofs.Lists.{get_in, get_some, set_length}
 use Rattle.schedule.proofs.Options.{cond_gives, then_gives, none_is, no_batch_is, appended_is}
 use Rattle.schedule.proofs.Slots.{claims_own, requests_have, request_of, claimed_has, claimed_once, answered_get, answered_length, AllAnswered, none_claimed, answer_found}
 use Rattle.schedule.proofs.Calls.{nodes_put, Kept, same_history, session_is}
@@ -91,6 +91,8 @@ keeps_claim m w h places t n node p at_n taken x =
       catalogue = x.catalogue;
       explains = x.explains;
       log = x.log;
+      count = set_length w.nodes n (record node { desk = claimed node.desk; batch = ClaimedBatch (batch_of node.desk) }) ∙ x.count;
+      callers = x.callers;
       stamps = x.stamps;
       nodes = nodes_put (λ k y. NodeStands m w.log.done h places t k y) w.nodes n (record node { desk = claimed node.desk; batch = ClaimedBatch (batch_of node.desk) }) (λ k old ne g. x.nodes k old g)
           (node_claimed m w h places t n node o idle);
@@ -230,8 +232,8 @@ keeps_reply m w h places t n node p at_n taken x =
     let r = then_gives _ (appended_batch node.batch) p taken in
     let b : Written = r.0 in
     let is_b = appended_is node.batch b r.1 in
-    let c = cond_gives (is_none node.hand.records && nat_le node.replica.tail w.log.done) _ p r.2 in
-    let tests = and_parts (is_none node.hand.records) (nat_le node.replica.tail w.log.done) c.0 in
+    let c = cond_gives (no_records node.hand.records && nat_le node.replica.tail w.log.done) _ p r.2 in
+    let tests = and_parts (no_records node.hand.records) (nat_le node.replica.tail w.log.done) c.0 in
     let empty = none_is node.hand.records tests.0 in
     let below = leb-true node.replica.tail w.log.done tests.1 in
     let o = x.nodes n node at_n in
@@ -240,6 +242,8 @@ keeps_reply m w h places t n node p at_n taken x =
       catalogue = x.catalogue;
       explains = x.explains;
       log = x.log;
+      count = set_length w.nodes n (record node { desk = replied (answered_batch b) node.desk; batch = NoBatch }) ∙ x.count;
+      callers = x.callers;
       stamps = x.stamps;
       nodes = nodes_put (λ k y. NodeStands m w.log.done h places t k y) w.nodes n (record node { desk = replied (answered_batch b) node.desk; batch = NoBatch }) (λ k old ne g. x.nodes k old g)
           (node_replied m w h places t n node b o is_b empty below);

@@ -16,7 +16,7 @@ use Rattle.schedule.specs.declared.parts.BegunRead.{BegunRead}
 use Rattle.schedule.specs.declared.parts.Written.{Written}
 use Rattle.schedule.specs.declared.parts.NodeBatch.{NodeBatch}
 use Rattle.schedule.specs.declared.parts.NodeBatch.TheVariants.{NoBatch, ClaimedBatch, AppendedBatch}
-use Rattle.schedule.specs.Steps.{is_free, no_read, no_batch, is_none, claimed_batch, appended_batch}
+use Rattle.schedule.specs.Steps.{is_free, no_read, no_batch, no_records, claimed_batch, appended_batch}
 
 -- ---- options
 
@@ -94,10 +94,10 @@ appended_is NoBatch b e = absurd (none-some b e)
 appended_is (ClaimedBatch c) b e = absurd (none-some b e)
 appended_is (AppendedBatch c) b e = ap AppendedBatch (same_Some c b e)
 
-pub none_is : (rs : List Record) → is_none rs ≡ true → rs ≡ []
+pub none_is : (rs : List Record) → no_records rs ≡ true → rs ≡ []
 none_is [] e = refl
 none_is (r ∷ rs) e = absurd (false≢true e)
 
-pub some_is : (rs : List Record) → not (is_none rs) ≡ true → rs ≢ []
+pub some_is : (rs : List Record) → not (no_records rs) ≡ true → rs ≢ []
 some_is [] e = absurd (false≢true e)
 some_is (r ∷ rs) e = λ n. let l : length (r ∷ rs) ≡ 0 = ap length n in absurd (omega arith)

@@ -32,7 +32,7 @@ use Rattle.schedule.specs.declared.steps.StepAnswer.TheVariants as answers
 use Rattle.schedule.specs.Trace.{Trace, Places}
 use Rattle.schedule.specs.Explains.{count_of}
 use Rattle.schedule.specs.Worlds.{NodeView, to_run, replayed}
-use Rattle.schedule.specs.Steps.{silent, read_at, claim, no_batch, has_next, is_none, replay}
+use Rattle.schedule.specs.Steps.{silent, read_at, claim, no_batch, has_next, no_records, replay}
 use Rattle.schedule.specs.Stands.{StageStands, batch_in}
 use Rattle.schedule.specs.Taking.{IsOfStore, TakesPart, CanRun, CanCopy, with_next}
 use Rattle.schedule.proofs.Lists.{get_in, get_some}
@@ -128,7 +128,7 @@ pub can_copy : {m : Opening} {g : Log} {node : NodeView} → IsOfStore m g node 
 can_copy {m} {g} {node} x next = record {
   tail = (let a = x.stands.replica.tail in let b = x.log.ends in omega arith);
   above = λ empty. ⊎_elim (λ y. absurd (some_is node.hand.records y empty)) (λ y. (let q = and_parts (nat_le g.base node.replica.tail) (nat_lt node.replica.tail (tail_of g)) y in leb-true g.base node.replica.tail q.0))
-      (or_cases (not (is_none node.hand.records)) (nat_le g.base node.replica.tail && nat_lt node.replica.tail (tail_of g)) next);
+      (or_cases (not (no_records node.hand.records)) (nat_le g.base node.replica.tail && nat_lt node.replica.tail (tail_of g)) next);
   begins = x.stands.replica.begins;
   window = x.stands.replica.window ∙ sym x.log.window;
 }
@@ -138,7 +138,7 @@ can_run {m} {g} {node} c same x next =
     let can : (node.hand.records ≢ []) ⊎ ((g.base ≤ node.replica.tail) × (node.replica.tail < tail_of g)) =
     ⊎_elim (λ y. inl (some_is node.hand.records y))
     (λ y. let q = and_parts (nat_le g.base node.replica.tail) (nat_lt node.replica.tail (tail_of g)) y in inr (leb-true g.base node.replica.tail q.0, ltb-true node.replica.tail (tail_of g) q.1))
-    (or_cases (not (is_none node.hand.records)) (nat_le g.base node.replica.tail && nat_lt node.replica.tail (tail_of g)) next) in
+    (or_cases (not (no_records node.hand.records)) (nat_le g.base node.replica.tail && nat_lt node.replica.tail (tail_of g)) next) in
     let runs = runs_next m (record { log = g; nodes = [] }) x.history x.places x.trace x.number node node.hand.records refl can x.log x.stands in
     subst (λ k. CanRun k (with_next g node)) same (record {
       history = x.history;

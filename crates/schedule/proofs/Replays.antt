@@ -19,7 +19,7 @@ use Rattle.schedule.specs.declared.parts.NodeBatch.TheVariants.{NoBatch, Claimed
 use Rattle.schedule.specs.Trace.{Trace, Places}
 use Rattle.schedule.specs.declared.parts.Opening.{Opening}
 use Rattle.schedule.specs.Worlds.{NodeView, WorldView, with_effect, outcomes_after, batch_after, replayed, to_run}
-use Rattle.schedule.specs.Steps.{Part, replay, is_none}
+use Rattle.schedule.specs.Steps.{Part, replay, no_records}
 use Rattle.schedule.specs.Stands.{DeskStands, NodeStands, LogStands, BatchStands, WrittenStands, Stands, batch_in, place_in}
 use Rattle.schedule.proofs.Lists.{get_drop, get_in, get_some, set_same, set_other, set_length}
 use Rattle.schedule.proofs.Options.{cond_gives, some_is}
@@ -185,11 +185,11 @@ runs_next m w h places t n node (r ∷ rs) is can log x = (
 pub keeps_replay : (m : Opening) (w : WorldView) (h : History) (places : Places) (t : Trace) (n : ℕ) (node : NodeView) (p : Part)
     → slice_get w.nodes n ≡ Some node → replay m w.log node ≡ Some p → Stands m w h places t → Kept m w h places t n p
 keeps_replay m w h places t n node p at_n taken x =
-    let c = cond_gives (not (is_none node.hand.records) || (nat_le w.log.base node.replica.tail && nat_lt node.replica.tail (tail_of w.log))) _ p taken in
+    let c = cond_gives (not (no_records node.hand.records) || (nat_le w.log.base node.replica.tail && nat_lt node.replica.tail (tail_of w.log))) _ p taken in
     let can : (node.hand.records ≢ []) ⊎ ((w.log.base ≤ node.replica.tail) × (node.replica.tail < tail_of w.log)) =
     ⊎_elim (λ y. inl (some_is node.hand.records y))
     (λ y. let q = and_parts (nat_le w.log.base node.replica.tail) (nat_lt node.replica.tail (tail_of w.log)) y in inr (leb-true w.log.base node.replica.tail q.0, ltb-true node.replica.tail (tail_of w.log) q.1))
-    (or_cases (not (is_none node.hand.records)) (nat_le w.log.base node.replica.tail && nat_lt node.replica.tail (tail_of w.log)) c.0) in
+    (or_cases (not (no_records node.hand.records)) (nat_le w.log.base node.replica.tail && nat_lt node.replica.tail (tail_of w.log)) c.0) in
     let o = x.nodes n node at_n in
     let rs : History = to_run w.log node.replica.tail node.hand.records in
     let runs = runs_next m w h places t n node node.hand.records refl can x.log o in
@@ -200,6 +200,8 @@ keeps_replay m w h places t n node p at_n taken x =
       catalogue = x.catalogue;
       explains = x.explains;
       log = x.log;
+      count = set_length w.nodes n (replayed m rs node) ∙ x.count;
+      callers = x.callers;
       stamps = x.stamps;
       nodes = nodes_put (λ k y. NodeStands m w.log.done h places t k y) w.nodes n (replayed m rs node) (λ k old ne g. x.nodes k old g)
           (record {

@@ -31,6 +31,7 @@ pub record WorldView : Type 0 where
 
 -- ---- the opening
 
+-- a new node of this number: at the opening maps, with nothing copied, nobody at its desk, no batch and no read
 abbrev pub opened_node : Opening → ℕ → NodeView
 opened_node m n = record {
   replica = record { tail = 0; maps = store_meaning.opening m.catalogue };
@@ -45,6 +46,7 @@ abbrev pub opened_nodes : Opening → ℕ → ℕ → List NodeView
 opened_nodes m n zero = []
 opened_nodes m n (suc count) = opened_node m n ∷ opened_nodes m (suc n) count
 
+-- a new store: its log is empty, and its nodes are new
 abbrev pub opened : Opening → WorldView
 opened m = record { log = opened_log m.catalogue.shapes m.config.window m.config.limit; nodes = opened_nodes m 0 m.config.nodes }
 

@@ -7,7 +7,7 @@ ghost use Rattle.combiner.specs.declared.slots.Reply.TheVariants.{Placed, Ended}
 ghost use Rattle.oplog.specs.declared.configuration.TheConstants.{MAX_NODES};
 ghost use Rattle.oplog.specs.Limits.{IsConfig};
 ghost use Rattle.oplog.specs.Logs.{Log, room_in};
-ghost use Rattle.replica.specs.StoreMeaning.{IsOperation, is_operation, is_mode, store_meaning};
+ghost use Rattle.replica.specs.StoreMeaning.{IsOperation, is_operation, store_meaning};
 ghost use Rattle.verifier.specs.declared.refusal.Mode.TheVariants.{Update, Read};
 ghost use Rattle.schedule.specs.declared.parts.Opening.{Opening as TheOpening};
 ghost use Rattle.schedule.specs.Worlds.{opened_node, room_for, grown, written, replayed, answered_batch};
@@ -47,16 +47,6 @@ impl Model for Node {
     ghost view = { λ n. record { replica = n.replica; hand = n.hand; desk = n.desk; batch = n.batch; reads = n.reads.items } };
 }
 
-// Whether two modes are the same.
-fn is_same(one: Mode, other: Mode) -> bool
-    ensures same { result ≡ is_mode one other }
-{
-    match (one, other) {
-        (Mode::Update, Mode::Update) | (Mode::Read, Mode::Read) => true,
-        (Mode::Update, Mode::Read) | (Mode::Read, Mode::Update) => false,
-    }
-}
-
 // The operation of a program of the catalogue, of this mode, on an argument of its length.
 fn operation(catalogue: &Catalogue, mode: Mode, program: u64, argument: &[u8]) -> Option<Op>
     ensures operation { MatchOption result
@@ -67,7 +57,7 @@ fn operation(catalogue: &Catalogue, mode: Mode, program: u64, argument: &[u8]) -
         return None;
     }
     let accepted = catalogue.program(program as u16)?;
-    if argument.len() != accepted.arg_len() || !is_same(accepted.mode(), mode) {
+    if argument.len() != accepted.arg_len() || accepted.mode() != mode {
         return None;
     }
     Some(Op::new(program as u16, argument))
