@@ -1,5 +1,5 @@
 -- A store's trace is what its steps and their answers tell.
-use Rattle.std.proofs.Common.{◌≡◌, ℕ, List, [], ◌∷◌, ◌++◌, Option, Some, None, refl, sym, ap, ◌∙◌, subst, append_assoc}
+use Rattle.std.proofs.Common.{◌≡◌, List, [], ◌∷◌, ◌++◌, Option, Some, None, refl, sym, ap, ◌∙◌, subst, append_assoc}
 use Rattle.std.specs.Prelude.{slice_get, ◌&&◌, nat_le, nat_lt, option_map}
 use Rattle.std.proofs.lemmas.Option.{same_Some}
 use Rattle.verifier.specs.declared.refusal.Mode.TheVariants.{Update, Read}

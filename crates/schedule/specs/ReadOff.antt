@@ -4,7 +4,7 @@ use Rattle.verifier.specs.declared.refusal.Mode.TheVariants.{Update, Read}
 use Rattle.oplog.specs.declared.configuration.Config.{Config}
 use Rattle.oplog.specs.Sessions.{session}
 use Rattle.schedule.specs.declared.steps.Step.{Step}
-use Rattle.schedule.specs.declared.steps.Step.TheVariants.{Post, Claim, Append, Replay, Finish, Reply, Collect, ReadBegin, ReadAnswer, Reclaim, Rebase}
+use Rattle.schedule.specs.declared.steps.Step.TheVariants.{Post, Collect, ReadBegin, ReadAnswer}
 use Rattle.schedule.specs.declared.steps.StepAnswer.{StepAnswer}
 use Rattle.schedule.specs.declared.steps.StepAnswer.TheVariants as answers
 use Rattle.schedule.specs.Trace.{Updated, ReadBack, Event, Call, Back, Trace}

@@ -1,6 +1,6 @@
 use Rattle.std.proofs.Common.{◌<◌, length, refl, ◌∙◌, ap, sym, subst, slice_get, slice_set}
 use Rattle.std.proofs.lemmas.Option.{slice_get_read}
-use Rattle.schedule.specs.Steps.{took, node_of}
+use Rattle.schedule.specs.Steps.{took}
 use Rattle.schedule.specs.Taking.{WorldState, store_of, Takes, IsStanding}
 use Rattle.schedule.proofs.Answers.{of_store, stepped, still_standing, keeps_standing}
 use Rattle.schedule.proofs.worlds.World.step_at.Goals as goal
