@@ -1,7 +1,6 @@
 -- The numbers of programs by their names. Clauses of private functions and an invariant alone cite this.
 use Rattle.std.specs.Prelude.{◌≡◌, ℕ, List, Some, String, bytes_eq, if◌then◌else◌}
 use Rattle.std.specs.List.{position_from}
-
 use Rattle.std.specs.BTreeMap.{BTreeMap, get_by_text}
 use Rattle.loader.specs.CatalogueView.{Entry, number_named}
 

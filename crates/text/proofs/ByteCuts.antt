@@ -55,7 +55,7 @@ line_some text line rest e =
     let long : length (take first text) ≡ first = length-take-le first text (omega (arith, lt)) in
     let no : HasNoFeed (take first text) = λ i h. λ is. feedless text i (omega (arith, long, h)) (sym (get_or-take first text i 0 (omega (arith, long, h))) ∙ is) in
     let whole : text ≡ before_first (is_byte 10) text ++ 10 ∷ after_first (is_byte 10) text =
-        split_at_first (is_byte 10) text 0 lt ∙ ap (λ b. before_first (is_byte 10) text ++ b ∷ after_first (is_byte 10) text) at in
+    split_at_first (is_byte 10) text 0 lt ∙ ap (λ b. before_first (is_byte 10) text ++ b ∷ after_first (is_byte 10) text) at in
     ap lines_of whole ∙ (lines_of-cut _ _ no ∙ ap₂ (λ u v. u ∷ lines_of v) (ap (λ y. y.0) parts.1) (ap (λ y. y.1) parts.1))
 
 pub line_none : (text : List ℕ) → 0 < length text → None ≡ cut_at 10 text → lines_of text ≡ text ∷ []
