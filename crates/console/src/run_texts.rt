@@ -35,7 +35,7 @@ fn write_number(n: u64, room: &mut [u8; OUTCOME_BYTES], end: usize) -> usize
 
 // A place in the history, and what a program answered there, behind a word. The line is put together from its end on, and
 // then written at once.
-#[inline(always)]
+#[inline(never)]
 fn put_outcome(
     out: &mut Vec<u8>,
     word: &[u8],
