@@ -19,7 +19,7 @@ fn index_of(bytes: &[u8], wanted: u8) -> Option<usize>
 
 // What stands before the first byte of this kind, and what stands behind it.
 #[inline(always)]
-pub(crate) fn cut_at(text: &str, wanted: u8) -> Option<(&str, &str)>
+fn cut_at(text: &str, wanted: u8) -> Option<(&str, &str)>
     requires { wanted < 128 }
     ensures fields { option_map (λ x. (x.0.now, x.1.now)) result ≡ cut_at wanted text.now }
     ensures shorter { IfSome result (λ x. length x.1.now < length text.now) }

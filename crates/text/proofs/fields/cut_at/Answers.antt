@@ -1,7 +1,7 @@
 use Rattle.std.proofs.Common.{◌≡◌, ◌-◌, ◌∙◌, take, Some, ap, ap₂, arith}
 use Rattle.std.specs.List.{position_from}
 use Rattle.std.proofs.lemmas.Str.{IsCharBoundary-before_ascii, IsCharBoundary-after_ascii}
-use Rattle.text.proofs.ByteCuts.{is_byte, IsFirst, first_is, cut_some, cut_none}
+use Rattle.text.proofs.ByteCuts.{is_byte, first_is, cut_some, cut_none}
 use Rattle.text.proofs.fields.cut_at.Goals as goal
 
 pub range-requires-clause-end_boundary : goal.range-requires-clause-end_boundary
