@@ -3,6 +3,7 @@
 ghost use Rattle.std.specs.Prelude.{◌≡◌, ◌<◌, ◌≤◌, ◌∷◌, length, option_map};
 ghost use Rattle.text.specs.Lines.{lines_of, kind_of, Takes};
 
+use crate::fields::cut_at;
 use std::marker::Model;
 
 /// How many bytes a line has at most, its line feed not counted.
@@ -62,7 +63,7 @@ fn first_line(text: &str) -> (&str, &str)
     requires { 0 < length text.now }
     ensures { lines_of text.now ≡ result.0.now ∷ lines_of result.1.now }
 {
-    match text.split_once('\n') {
+    match cut_at(text, b'\n') {
         Some((line, rest)) => (line, rest),
         None => (text, ""),
     }
