@@ -13,7 +13,7 @@ use Rattle.readpath.specs.declared.reading.ReadAnswer.{ReadAnswer}
 use Rattle.replica.specs.StoreMeaning.{store_meaning, outcome_of}
 use Rattle.schedule.specs.declared.parts.BegunRead.{BegunRead}
 use Rattle.schedule.specs.declared.parts.Written.{Written}
-use Rattle.schedule.specs.declared.parts.NodeBatch.TheVariants.{AppendedBatch}
+use Rattle.schedule.specs.declared.parts.NodeBatch.TheVariants.{InLog}
 use Rattle.schedule.specs.declared.parts.Opening.{Opening}
 use Rattle.schedule.specs.declared.steps.Step.{Step}
 use Rattle.schedule.specs.declared.steps.StepAnswer.{StepAnswer}
@@ -76,7 +76,7 @@ pub nothing : {A : Type 0} (xs : List A) → length xs ≡ 0 → xs ≡ []
 nothing [] e = refl
 nothing (x ∷ xs) e = absurd (omega arith)
 
-module _ {m : Opening} {g : Log} {node : NodeView} (x : IsOfStore m g node) (b : Written) (is : node.batch ≡ AppendedBatch b) (empty : length node.hand.records ≡ 0) where
+module _ {m : Opening} {g : Log} {node : NodeView} (x : IsOfStore m g node) (b : Written) (is : node.batch ≡ InLog b) (empty : length node.hand.records ≡ 0) where
   wr : WrittenStands m x.history node.replica node.hand b
   wr = subst (λ y. BatchStands m x.history node.replica node.hand y) is x.stands.batch
 

@@ -8,7 +8,7 @@ use Rattle.oplog.specs.Logs.{HandView}
 use Rattle.oplog.specs.Sessions.{session}
 use Rattle.replica.specs.Views.{ReplicaView}
 use Rattle.schedule.specs.declared.parts.NodeBatch.{NodeBatch}
-use Rattle.schedule.specs.declared.parts.NodeBatch.TheVariants.{NoBatch, ClaimedBatch, AppendedBatch}
+use Rattle.schedule.specs.declared.parts.NodeBatch.TheVariants.{Absent, Held, InLog}
 use Rattle.schedule.specs.Trace.{Trace, Places}
 use Rattle.schedule.specs.declared.parts.Opening.{Opening}
 use Rattle.schedule.specs.Worlds.{NodeView, WorldView, reclaimed, rebased}
@@ -88,9 +88,9 @@ keeps_reclaim m w h places t n node p at_n taken x =
 -- a replica that moves up to the base has its batch behind it
 moved : (m : Opening) (h : History) (replica : ReplicaView) (hand : HandView) (new : ReplicaView) (b : NodeBatch) → replica.tail ≤ new.tail → hand.records ≡ [] → new.tail ≤ length h
     → BatchStands m h replica hand b → BatchStands m h new (record hand { begin = new.tail; records = [] }) b
-moved m h replica hand new NoBatch l empty inside p = p
-moved m h replica hand new (ClaimedBatch b) l empty inside p = p
-moved m h replica hand new (AppendedBatch b) l empty inside p =
+moved m h replica hand new Absent l empty inside p = p
+moved m h replica hand new (Held b) l empty inside p = p
+moved m h replica hand new (InLog b) l empty inside p =
     let nothing : length hand.records ≡ 0 = ap length empty in
     let a = p.ahead in
     record {

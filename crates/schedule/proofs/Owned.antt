@@ -26,7 +26,7 @@ use Rattle.replica.proofs.Tested.{is_tested, tests_true}
 use Rattle.replica.proofs.Histories.{have_effects}
 use Rattle.schedule.specs.declared.parts.BegunRead.{BegunRead}
 use Rattle.schedule.specs.declared.parts.NodeBatch.{NodeBatch}
-use Rattle.schedule.specs.declared.parts.NodeBatch.TheVariants.{NoBatch, ClaimedBatch}
+use Rattle.schedule.specs.declared.parts.NodeBatch.TheVariants.{Absent, Held}
 use Rattle.schedule.specs.declared.parts.Opening.{Opening}
 use Rattle.schedule.specs.declared.steps.StepAnswer.TheVariants as answers
 use Rattle.schedule.specs.Trace.{Trace, Places}
@@ -112,14 +112,14 @@ refused false false e one two f g = refl
 refused true b e one two f g = absurd (false≢true (sym f))
 
 -- where nothing can be claimed, the step may not be taken
-pub claim_refused : {m : Opening} {h : Log} {node : NodeView} → IsOfStore m h node → node.batch ≡ NoBatch → (e : DeskRefused) → claim_refusal node.desk ≡ Some e
+pub claim_refused : {m : Opening} {h : Log} {node : NodeView} → IsOfStore m h node → node.batch ≡ Absent → (e : DeskRefused) → claim_refusal node.desk ≡ Some e
     → (g : Log) (desk : DeskView) → desk ≡ node.desk → TakesPart (claim g node) g node g (record node { desk = desk }) answers.NotNow
 claim_refused {m} {h} {node} x idle e refusal g desk same =
     let free : claimed_from (first_author node.desk) node.desk.slots ≡ [] = sym (subst (λ b. IsBatchOf node.desk (batch_in b)) idle x.stands.desk.own) in
     let nobody = no_combiner (first_author node.desk) node.desk.slots free in
     let nothing : has_request node.desk ≡ false = refused (has_combiner node.desk) (has_request node.desk) e _ _ nobody refusal in
     let no : (no_batch node.batch && has_request node.desk) ≡ false = ap (λ b. no_batch b && has_request node.desk) idle ∙ nothing in
-    subst (λ b. TakesPart (cond b (Some (silent g (record node { desk = claimed node.desk; batch = ClaimedBatch (batch_of node.desk) }))) None) g node g (record node { desk = desk }) answers.NotNow) (sym no)
+    subst (λ b. TakesPart (cond b (Some (silent g (record node { desk = claimed node.desk; batch = Held (batch_of node.desk) }))) None) g node g (record node { desk = desk }) answers.NotNow) (sym no)
     (refl, refl, ap (λ d. (let v : NodeView = record node { desk = d } in v)) same)
 
 -- ---- replaying

@@ -15,7 +15,7 @@ use Rattle.replica.proofs.Histories.{have_effects}
 use Rattle.combiner.specs.Desks.{BatchView, IsBatchOf}
 use Rattle.schedule.specs.declared.parts.Written.{Written}
 use Rattle.schedule.specs.declared.parts.NodeBatch.{NodeBatch}
-use Rattle.schedule.specs.declared.parts.NodeBatch.TheVariants.{NoBatch, ClaimedBatch, AppendedBatch}
+use Rattle.schedule.specs.declared.parts.NodeBatch.TheVariants.{Absent, Held, InLog}
 use Rattle.schedule.specs.Trace.{Trace, Places}
 use Rattle.schedule.specs.declared.parts.Opening.{Opening}
 use Rattle.schedule.specs.Worlds.{NodeView, WorldView, with_effect, outcomes_after, batch_after, replayed, to_run}
@@ -138,28 +138,28 @@ written_all m h (r ∷ rs) tail maps hand b new left whole updates next is at em
     (written_next m h tail maps hand r rs b _ (left_by (store_meaning.update m.catalogue r.op maps) maps) there takes x))
 
 kept_records : (c : CatalogueView) (maps : Maps) (tail : ℕ) (rs : History) (b : NodeBatch) → batch_in (batch_after c maps tail rs b) ≡ batch_in b
-kept_records c maps tail rs NoBatch = refl
-kept_records c maps tail rs (ClaimedBatch b) = refl
-kept_records c maps tail rs (AppendedBatch b) = refl
+kept_records c maps tail rs Absent = refl
+kept_records c maps tail rs (Held b) = refl
+kept_records c maps tail rs (InLog b) = refl
 
 kept_places : (c : CatalogueView) (maps : Maps) (tail : ℕ) (rs : History) (b : NodeBatch) (k : ℕ) → place_in b k ≡ place_in (batch_after c maps tail rs b) k
-kept_places c maps tail rs NoBatch k = refl
-kept_places c maps tail rs (ClaimedBatch b) k = refl
-kept_places c maps tail rs (AppendedBatch b) k = refl
+kept_places c maps tail rs Absent k = refl
+kept_places c maps tail rs (Held b) k = refl
+kept_places c maps tail rs (InLog b) k = refl
 
 batch_all : (m : Opening) (h rs : History) (tail : ℕ) (maps : Maps) (hand : HandView) (b : NodeBatch) (new : ReplicaView) (left : HandView)
     → IsCatalogue m.catalogue → AreUpdates m.catalogue h → ((j : ℕ) (f : Record) → slice_get rs j ≡ Some f → slice_get h (tail + j) ≡ Some f) → maps ≡ maps_after store_meaning m.catalogue h tail
     → new.tail ≡ tail + length rs → left.records ≡ []
     → BatchStands m h (replica_at tail maps) (hand_of hand rs) b → BatchStands m h new left (batch_after m.catalogue maps tail rs b)
-batch_all m h rs tail maps hand NoBatch new left whole updates next is at empty x = tt
-batch_all m h rs tail maps hand (ClaimedBatch b) new left whole updates next is at empty x = tt
-batch_all m h rs tail maps hand (AppendedBatch b) new left whole updates next is at empty x = written_all m h rs tail maps hand b new left whole updates next is at empty x
+batch_all m h rs tail maps hand Absent new left whole updates next is at empty x = tt
+batch_all m h rs tail maps hand (Held b) new left whole updates next is at empty x = tt
+batch_all m h rs tail maps hand (InLog b) new left whole updates next is at empty x = written_all m h rs tail maps hand b new left whole updates next is at empty x
 
 -- a hand that was empty has more records
 more_hand : (m : Opening) (h rs : History) (replica : ReplicaView) (hand : HandView) (b : NodeBatch) → hand.records ≡ [] → BatchStands m h replica hand b → BatchStands m h replica (hand_of hand rs) b
-more_hand m h rs replica hand NoBatch empty x = x
-more_hand m h rs replica hand (ClaimedBatch b) empty x = x
-more_hand m h rs replica hand (AppendedBatch b) empty x =
+more_hand m h rs replica hand Absent empty x = x
+more_hand m h rs replica hand (Held b) empty x = x
+more_hand m h rs replica hand (InLog b) empty x =
     let nothing : length hand.records ≡ 0 = ap length empty in
     let a = x.ahead in
     record { first = x.first; count = x.count; placed = x.placed; ahead = omega arith; known = x.known; ended = λ short. let f = x.ended short in omega arith }

@@ -8,7 +8,7 @@ use Rattle.combiner.specs.declared.slots.Reply.TheVariants.{Placed, Ended}
 use Rattle.combiner.specs.declared.slots.Stage.TheVariants.{Empty}
 use Rattle.combiner.specs.Slots.{slot}
 use Rattle.combiner.specs.Desks.{claimed_from}
-use Rattle.schedule.specs.declared.parts.NodeBatch.TheVariants.{NoBatch}
+use Rattle.schedule.specs.declared.parts.NodeBatch.TheVariants.{Absent}
 use Rattle.schedule.specs.declared.steps.Step.{Step}
 use Rattle.schedule.specs.declared.steps.Step.TheVariants.{Post, Claim, Append, Replay, Finish, Reply, Collect, ReadBegin, ReadAnswer, Reclaim, Rebase}
 use Rattle.schedule.specs.Trace.{Updated, ReadBack, Call, Back, Trace, Places}
@@ -98,8 +98,8 @@ node_opened m n = record {
   };
   batch = tt;
   seats = λ s x read there begun.
-      subst (λ y. StageStands m 0 [] [] [] (session m.config n s) NoBatch y.count y.stage read) (replicate_get m.config.slots (slot Empty 0) s x there)
-      (subst (λ r. StageStands m 0 [] [] [] (session m.config n s) NoBatch 0 Empty r) (replicate_get m.config.slots None s read begun)
+      subst (λ y. StageStands m 0 [] [] [] (session m.config n s) Absent y.count y.stage read) (replicate_get m.config.slots (slot Empty 0) s x there)
+      (subst (λ r. StageStands m 0 [] [] [] (session m.config n s) Absent 0 Empty r) (replicate_get m.config.slots None s read begun)
       ((λ mode op c o. none-some (Call (session m.config n s) mode op) o.call), refl));
 }
 

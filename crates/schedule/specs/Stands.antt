@@ -20,7 +20,7 @@ use Rattle.replica.specs.Views.{ReplicaView}
 use Rattle.schedule.specs.declared.parts.BegunRead.{BegunRead}
 use Rattle.schedule.specs.declared.parts.Written.{Written}
 use Rattle.schedule.specs.declared.parts.NodeBatch.{NodeBatch}
-use Rattle.schedule.specs.declared.parts.NodeBatch.TheVariants.{NoBatch, ClaimedBatch, AppendedBatch}
+use Rattle.schedule.specs.declared.parts.NodeBatch.TheVariants.{Absent, Held, InLog}
 use Rattle.schedule.specs.Trace.{Answer, Call, Back, Trace, Places, IsOpen, IsIdle, StampBefore, stamp}
 use Rattle.schedule.specs.declared.parts.Opening.{Opening}
 use Rattle.schedule.specs.Explains.{Explains, count_of}
@@ -47,9 +47,9 @@ pub record ReplicaStands (m : Opening) (h : History) (replica : ReplicaView) (ha
 
 -- the requests that a combiner has claimed, and their answers
 abbrev pub batch_in : NodeBatch → BatchView
-batch_in NoBatch = record { records = []; answers = [] }
-batch_in (ClaimedBatch b) = b
-batch_in (AppendedBatch b) = b.batch
+batch_in Absent = record { records = []; answers = [] }
+batch_in (Held b) = b
+batch_in (InLog b) = b.batch
 
 -- the desk is this node's, with a place for a read beside each slot; its claimed slots are those of the batch
 pub record DeskStands (m : Opening) (n : ℕ) (node : NodeView) : Type 0 where
@@ -71,15 +71,15 @@ pub record WrittenStands (m : Opening) (h : History) (replica : ReplicaView) (ha
 
 -- of a batch that is not in the log nothing is asked here
 abbrev pub BatchStands : Opening → History → ReplicaView → HandView → NodeBatch → Type 0
-BatchStands m h replica hand NoBatch = Unit {0}
-BatchStands m h replica hand (ClaimedBatch b) = Unit {0}
-BatchStands m h replica hand (AppendedBatch b) = WrittenStands m h replica hand b
+BatchStands m h replica hand Absent = Unit {0}
+BatchStands m h replica hand (Held b) = Unit {0}
+BatchStands m h replica hand (InLog b) = WrittenStands m h replica hand b
 
 -- the place of the k-th request of a batch, if it has one
 abbrev pub place_in : NodeBatch → ℕ → Option ℕ
-place_in NoBatch k = None
-place_in (ClaimedBatch b) k = None
-place_in (AppendedBatch b) k = if nat_lt k b.count then Some (b.first + k) else None
+place_in Absent k = None
+place_in (Held b) k = None
+place_in (InLog b) k = if nat_lt k b.count then Some (b.first + k) else None
 
 -- the call has this place, or no place
 abbrev pub HasPlace : Places → ℕ → Option ℕ → Type 0

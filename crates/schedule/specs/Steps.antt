@@ -12,7 +12,7 @@ use Rattle.replica.specs.StoreMeaning.{store_meaning, is_operation}
 use Rattle.schedule.specs.declared.parts.BegunRead.{BegunRead}
 use Rattle.schedule.specs.declared.parts.Written.{Written}
 use Rattle.schedule.specs.declared.parts.NodeBatch.{NodeBatch}
-use Rattle.schedule.specs.declared.parts.NodeBatch.TheVariants.{NoBatch, ClaimedBatch, AppendedBatch}
+use Rattle.schedule.specs.declared.parts.NodeBatch.TheVariants.{Absent, Held, InLog}
 use Rattle.schedule.specs.declared.steps.Step.{Step}
 use Rattle.schedule.specs.declared.steps.Step.TheVariants.{Post, Claim, Append, Replay, Finish, Reply, Collect, ReadBegin, ReadAnswer, Reclaim, Rebase}
 use Rattle.schedule.specs.Trace.{Updated, ReadBack, Event, Call, Back, Trace}
@@ -56,7 +56,7 @@ is_idle node s = is_free (slice_get node.desk.slots s) && no_read (slice_get nod
 
 -- the node's combiner has no batch
 abbrev pub no_batch : NodeBatch → Bool
-no_batch NoBatch = true
+no_batch Absent = true
 no_batch batch = false
 
 -- there are no records
@@ -66,12 +66,12 @@ no_records (r ∷ rs) = false
 
 -- the requests of the batch, while they are claimed and not appended
 abbrev pub claimed_batch : NodeBatch → Option BatchView
-claimed_batch (ClaimedBatch b) = Some b
+claimed_batch (Held b) = Some b
 claimed_batch batch = None
 
 -- the batch, once it is appended
 abbrev pub appended_batch : NodeBatch → Option Written
-appended_batch (AppendedBatch b) = Some b
+appended_batch (InLog b) = Some b
 appended_batch batch = None
 
 -- the read that was begun at a slot
@@ -95,13 +95,13 @@ post m s op g node =
 abbrev pub claim : Log → NodeView → Option Part
 claim g node =
     cond (no_batch node.batch && has_request node.desk)
-    (Some (silent g (record node { desk = claimed node.desk; batch = ClaimedBatch (batch_of node.desk) })))
+    (Some (silent g (record node { desk = claimed node.desk; batch = Held (batch_of node.desk) })))
     None
 
 -- the node with its batch in the log, and with the records of the log that its replica lacks
 abbrev pub with_appended : Log → BatchView → NodeView → NodeView
 with_appended g b node = record node {
-  batch = AppendedBatch (written g b);
+  batch = InLog (written g b);
   hand = record node.hand { begin = node.replica.tail; records = records_from (grown g b.records) node.replica.tail };
 }
 
@@ -136,7 +136,7 @@ abbrev pub reply : Log → NodeView → Option Part
 reply g node =
     option_and_then (λ b.
     cond (no_records node.hand.records && nat_le node.replica.tail g.done)
-    (Some (silent g (record node { desk = replied (answered_batch b) node.desk; batch = NoBatch })))
+    (Some (silent g (record node { desk = replied (answered_batch b) node.desk; batch = Absent })))
     None)
     (appended_batch node.batch)
 

@@ -11,7 +11,7 @@ use Rattle.replica.specs.StoreMeaning.{store_meaning, AreUpdates}
 use Rattle.schedule.specs.declared.parts.Opening.{Opening}
 use Rattle.schedule.specs.declared.parts.Written.{Written}
 use Rattle.schedule.specs.declared.parts.NodeBatch.{NodeBatch}
-use Rattle.schedule.specs.declared.parts.NodeBatch.TheVariants.{ClaimedBatch}
+use Rattle.schedule.specs.declared.parts.NodeBatch.TheVariants.{Held}
 use Rattle.schedule.specs.declared.steps.Step.{Step}
 use Rattle.schedule.specs.declared.steps.StepAnswer.{StepAnswer}
 use Rattle.schedule.specs.declared.steps.StepAnswer.TheVariants as answers
@@ -90,7 +90,7 @@ pub record IsStanding (s : WorldState) : Type 0 where
 
 -- a batch is claimed, and may be appended
 abbrev pub may_append : Log → ℕ → NodeBatch → Bool
-may_append g tail (ClaimedBatch b) = nat_le g.base tail && nat_le (room_for g b.records) (room_in g)
+may_append g tail (Held b) = nat_le g.base tail && nat_le (room_for g b.records) (room_in g)
 may_append g tail batch = false
 
 -- the node with what a replay runs in its hand

@@ -13,7 +13,7 @@ use Rattle.replica.specs.Views.{ReplicaView, RepliesView, no_replies, with_outco
 use Rattle.schedule.specs.declared.parts.BegunRead.{BegunRead}
 use Rattle.schedule.specs.declared.parts.Written.{Written}
 use Rattle.schedule.specs.declared.parts.NodeBatch.{NodeBatch}
-use Rattle.schedule.specs.declared.parts.NodeBatch.TheVariants.{NoBatch, ClaimedBatch, AppendedBatch}
+use Rattle.schedule.specs.declared.parts.NodeBatch.TheVariants.{Absent, Held, InLog}
 use Rattle.schedule.specs.declared.parts.Opening.{Opening}
 
 -- a node: its replica, the records copied for it, its desk, its batch, and for each slot the read that was begun there
@@ -37,7 +37,7 @@ opened_node m n = record {
   replica = record { tail = 0; maps = store_meaning.opening m.catalogue };
   hand = opened_hand m.config.window;
   desk = opened_desk n m.config.slots;
-  batch = NoBatch;
+  batch = Absent;
   reads = replicate m.config.slots None;
 }
 
@@ -84,9 +84,9 @@ outcomes_after c maps place (r ∷ rs) kept =
 
 -- the batch keeps its own outcomes
 abbrev pub batch_after : CatalogueView → Maps → ℕ → History → NodeBatch → NodeBatch
-batch_after c maps place rs NoBatch = NoBatch
-batch_after c maps place rs (ClaimedBatch b) = ClaimedBatch b
-batch_after c maps place rs (AppendedBatch b) = AppendedBatch (record b { replies = outcomes_after c maps place rs b.replies })
+batch_after c maps place rs Absent = Absent
+batch_after c maps place rs (Held b) = Held b
+batch_after c maps place rs (InLog b) = InLog (record b { replies = outcomes_after c maps place rs b.replies })
 
 -- the node once its replica has applied these records
 abbrev pub replayed : Opening → History → NodeView → NodeView
