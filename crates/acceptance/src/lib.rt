@@ -1,5 +1,5 @@
 //! The public calls, from outside, of what no text can say: readers and writers that fail, frames, maps, and values as Rust has them.
-//! There is no code here but tests: their expected values are the requirement's own. Texts and their answers are in crates/command_rows.
+//! There is no code here but tests: their expected values were worked out by hand. Texts and their answers are in crates/command_rows.
 #![tactic(auto)]
 
 #[cfg(test)]

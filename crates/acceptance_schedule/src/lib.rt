@@ -1,4 +1,4 @@
-//! Schedules, step by step, by calls from outside. There is no code here but tests: their expected values are the requirement's own.
+//! Schedules, step by step, by calls from outside. There is no code here but tests: their expected values were worked out by hand.
 #![tactic(auto)]
 
 #[cfg(test)]

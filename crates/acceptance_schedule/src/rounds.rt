@@ -1,9 +1,10 @@
 //! Rounds of updates: over a base, up to the limit, and in the smallest window.
 
 use crate::worlds::{
-    combine, counter, log_at, placed, post, read_back, read_begin, round, tail, take,
+    combine, counter, hand_for, log_at, placed, post, read_back, read_begin, round, tail, take,
 };
 use combiner::Reply;
+use oplog::CopyAnswer;
 use readpath::ReadAnswer;
 use schedule::{Step, StepAnswer, run_steps};
 
@@ -21,7 +22,7 @@ fn a_read_waits_for_what_is_completed(rt: HostRuntime) {
         Step::ReadAnswer { node: 0, slot: 1 },
     ]
     .expect(&rt, "steps");
-    let answers = run_steps(&mut world, rt.alloc(), &steps).expect(&rt, "answers");
+    let answers = run_steps(rt.alloc(), &mut world, &steps).expect(&rt, "answers");
     let wanted = [
         StepAnswer::Done,
         StepAnswer::Done,
@@ -48,6 +49,8 @@ fn three_rounds_and_a_base(rt: HostRuntime) {
     assert!(&rt; Some(world.step(&Step::ReadAnswer { node: 1, slot: 0 })) == read_back(3, 3));
     assert!(&rt; log_at(&world) == (3, 3, 3));
     assert!(&rt; (tail(&world, 0), tail(&world, 1), tail(&world, 2)) == (Some(3), Some(3), None));
+    let mut hand = hand_for(rt.alloc(), world.log()).expect(&rt, "hand");
+    assert!(&rt; world.log().copy_from(0, &mut hand) == CopyAnswer::Below(3));
 }
 
 #[test]

@@ -1,8 +1,10 @@
 //! Stores of the counter's two programs, and the steps that the tests take.
 
+ghost use Rattle.std.specs.Prelude.{◌≡◌, IfSome};
+
 use combiner::Reply;
 use loader::load_manifest;
-use oplog::Config;
+use oplog::{Config, Hand, LogState};
 use readpath::ReadAnswer;
 use schedule::{Step, StepAnswer, World};
 use std::alloc::Global;
@@ -131,4 +133,13 @@ pub(crate) fn tail(world: &World, node: u32) -> Option<u64> {
         Some(replica) => Some(replica.tail()),
         None => None,
     }
+}
+
+/// A hand as wide as the log.
+pub(crate) fn hand_for(alloc: Global, log: &LogState) -> Option<Hand>
+    ensures window { IfSome result (λ hand. hand.window ≡ log.now.window) }
+{
+    let held = log.tail() - log.base();
+    let window = log.room() + held as usize;
+    Hand::open(alloc, window).ok()
 }

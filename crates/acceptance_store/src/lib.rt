@@ -1,5 +1,5 @@
-//! The store and the crates below it, by calls from outside. There is no code here but tests: their expected values are the
-//! requirement's own.
+//! The store and the crates below it, by calls from outside. There is no code here but tests: their expected values were worked
+//! out by hand.
 #![tactic(auto)]
 
 #[cfg(test)]

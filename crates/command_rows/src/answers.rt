@@ -21,6 +21,14 @@ pub fn answer_to(alloc: Global, folder: &Offered, command: &str, text: &[u8]) ->
             let mut script = folder.other;
             run(alloc, folder, &mut text, &mut script, &mut out)
         }
+        "assembled" => {
+            let mut program = Vec::new(alloc);
+            let mut source = folder.other;
+            let _ = assemble(alloc, &mut source, &mut program);
+            let other = program.as_slice();
+            let files = folder.files;
+            check(alloc, &Offered { files, other }, &mut text, &mut out)
+        }
         "asm" => assemble(alloc, &mut text, &mut out),
         "dis" => disassemble(alloc, &mut text, &mut out),
         _ => return None,

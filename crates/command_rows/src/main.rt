@@ -3,7 +3,8 @@
 //! from what the commands promise, and not by this repository. A row is added to `stdout`; `stdin` is `stdout` without the answers.
 //!
 //! `file NAME TEXT` names a text; `check MANIFEST`, `run MANIFEST | SCRIPT`, `asm TEXT` and `dis PROGRAM` are commands; what stands
-//! behind the bar of a `check` is the file `p.hex`. Other lines are headings.
+//! behind the bar of a `check` is the file `p.hex`, and of an `assembled`, which is a `check` too, the text from which `asm` makes it.
+//! Other lines are headings.
 #![tactic(auto)]
 
 mod answers;

@@ -10,7 +10,7 @@ use Rattle.oplog.specs.Limits.{IsConfig}
 use Rattle.schedule.specs.declared.parts.Opening.{Opening}
 use Rattle.schedule.specs.Worlds.{NodeView, WorldView}
 use Rattle.schedule.specs.Steps.{Part, put_part, world_after}
-use Rattle.schedule.specs.Taking.{StoreView}
+use Rattle.schedule.specs.Taking.{WorldState}
 use Rattle.console.specs.declared.status.Verdict.{Verdict}
 use Rattle.console.specs.declared.status.Verdict.TheVariants as verdicts
 use Rattle.console.specs.Answer.{Answer}
@@ -56,7 +56,7 @@ line_keeps m w line turn is = by_meaning (step_line_meaning line) is
 
 -- ---- one line
 
-module _ (m : Opening) (n : ℕ) (old : StoreView) (before : List ℕ) (all : List (List ℕ)) (line : List ℕ) (rest : List (List ℕ)) (first : all ≡ line ∷ rest) (total : Answer)
+module _ (m : Opening) (n : ℕ) (old : WorldState) (before : List ℕ) (all : List (List ℕ)) (line : List ℕ) (rest : List (List ℕ)) (first : all ≡ line ∷ rest) (total : Answer)
     (of : old.opening ≡ m) (so_far : behind before (steps_answer m n old.world all) ≡ total) where
   abbrev next : StepTurn → Answer
   next turn = steps_answer m (next_line n) turn.world rest
@@ -65,27 +65,27 @@ module _ (m : Opening) (n : ℕ) (old : StoreView) (before : List ℕ) (all : Li
   unfolding steps_answer
   here_is = sym (rw first refl) ∙ so_far
 
-  abbrev GoesOn : StoreView → List ℕ → Type 0
+  abbrev GoesOn : WorldState → List ℕ → Type 0
   GoesOn new after = (new.opening ≡ m) × (length new.world.nodes ≡ length old.world.nodes) × (behind after (steps_answer m (next_line n) new.world rest) ≡ total)
 
-  on : (t : Option StepTurn) (new : StoreView) (after : List ℕ) → step_line_turn m old.world line ≡ t → StepLineTaken old t true new before after
+  on : (t : Option StepTurn) (new : WorldState) (after : List ℕ) → step_line_turn m old.world line ≡ t → StepLineTaken old t true new before after
       → behind before (by_step_turn (bad_line n) (λ turn. behind turn.text (next turn)) t) ≡ total → GoesOn new after
   on None new after is taken at = absurd (false≢true (sym taken.0))
   on (Some turn) new after is taken at =
-      let world : new.world ≡ turn.world = ap (λ (s : StoreView). s.world) taken.2 in
-      (ap (λ (s : StoreView). s.opening) taken.2 ∙ of,
+      let world : new.world ≡ turn.world = ap (λ (s : WorldState). s.world) taken.2 in
+      (ap (λ (s : WorldState). s.opening) taken.2 ∙ of,
       ap (λ (w : WorldView). length w.nodes) world ∙ line_keeps m old.world line turn is,
       rw (world, taken.1) (ap (answer (next turn).verdict) (append_assoc before turn.text (next turn).text) ∙ at))
 
-  pub goes_on : (new : StoreView) (after : List ℕ) → StepLineTaken old (step_line_turn old.opening old.world line) true new before after → GoesOn new after
+  pub goes_on : (new : WorldState) (after : List ℕ) → StepLineTaken old (step_line_turn old.opening old.world line) true new before after → GoesOn new after
   goes_on new after taken = on (step_line_turn m old.world line) new after refl (subst (λ o. StepLineTaken old (step_line_turn o old.world line) true new before after) of taken) here_is
 
-  off : (t : Option StepTurn) (new : StoreView) (after text : List ℕ) → StepLineTaken old t false new before after → text ≡ after ++ bad_line_text n
+  off : (t : Option StepTurn) (new : WorldState) (after text : List ℕ) → StepLineTaken old t false new before after → text ≡ after ++ bad_line_text n
       → behind before (by_step_turn (bad_line n) (λ turn. behind turn.text (next turn)) t) ≡ total → answer verdicts.Refused text ≡ total
   off None new after text taken is at = ap (answer verdicts.Refused) (is ∙ ap (λ (x : List ℕ). x ++ bad_line_text n) taken.1) ∙ at
   off (Some turn) new after text taken is at = absurd (false≢true taken.0)
 
-  pub bad_here : (new : StoreView) (after text : List ℕ) → StepLineTaken old (step_line_turn old.opening old.world line) false new before after → text ≡ after ++ bad_line_text n → answer verdicts.Refused text ≡ total
+  pub bad_here : (new : WorldState) (after text : List ℕ) → StepLineTaken old (step_line_turn old.opening old.world line) false new before after → text ≡ after ++ bad_line_text n → answer verdicts.Refused text ≡ total
   bad_here new after text taken is = off (step_line_turn m old.world line) new after text (subst (λ o. StepLineTaken old (step_line_turn o old.world line) false new before after) of taken) is here_is
 
 pub all_taken : (m : Opening) (n : ℕ) (w : WorldView) (before text : List ℕ) (all : List (List ℕ)) → all ≡ [] → text ≡ before ++ end_text w → answer verdicts.Good text ≡ behind before (steps_answer m n w all)

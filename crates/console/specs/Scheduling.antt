@@ -5,7 +5,7 @@ use Rattle.schedule.specs.declared.parts.Opening.{Opening}
 use Rattle.schedule.specs.declared.steps.Step.{Step}
 use Rattle.schedule.specs.Worlds.{NodeView, WorldView}
 use Rattle.schedule.specs.Steps.{took, world_after}
-use Rattle.schedule.specs.Taking.{StoreView, step_answer}
+use Rattle.schedule.specs.Taking.{WorldState, step_answer}
 use Rattle.console.specs.StepLine.{StepMeaning}
 use Rattle.console.specs.ScheduleAnswer.{StepTurn, node_text, step_text, step_turn}
 
@@ -14,7 +14,7 @@ abbrev pub IsStepOf : CatalogueView → StepMeaning → Step → Type 0
 IsStepOf c line step = (m : Opening) (w : WorldView) → m.catalogue ≡ c → step_turn m w line ≡ record { text = step_text (step_answer (took m w step)); world = world_after w (took m w step) }
 
 -- the line was taken and is good, or it is bad and nothing was written
-abbrev pub StepLineTaken : StoreView → Option StepTurn → Bool → StoreView → List ℕ → List ℕ → Type 0
+abbrev pub StepLineTaken : WorldState → Option StepTurn → Bool → WorldState → List ℕ → List ℕ → Type 0
 StepLineTaken old None good new before after = (good ≡ false) × (after ≡ before)
 StepLineTaken old (Some turn) good new before after = (good ≡ true) × (after ≡ before ++ turn.text) × (new ≡ record old { world = turn.world })
 

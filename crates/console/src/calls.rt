@@ -37,7 +37,8 @@ fn perform(
     requires shapes { numbered.program.now.shapes ≡ catalogue.now.shapes }
     ensures steady { IsSteady catalogue.now node.new }
     ensures taken { (h : History) → Follows catalogue.now h node.old
-        → OnOk result (IsTaken catalogue.now (performed catalogue.now h (record { program = numbered.entry.number; argument = argument.now }) numbered.entry.program.now.mode)
+        → OnOk result (IsTaken catalogue.now
+        (performed catalogue.now h (record { program = numbered.entry.number; argument = argument.now }) numbered.entry.program.now.mode)
         node.new out.old.items out.new.items) }
 {
     let Numbered { number, program } = numbered;

@@ -1,36 +1,73 @@
 // What `run` writes.
 
-ghost use Rattle.std.specs.Prelude.{◌≡◌, ◌++◌, OnOk};
+ghost use Rattle.std.specs.Prelude.{◌≡◌, ◌≤◌, ◌+◌, ◌++◌, length, drop, decimal, OnOk};
 ghost use Rattle.console.specs.RunAnswer.{outcome_text, update_text, read_text, refused_text, bad_line_text};
 
-use crate::texts::{put_number, put_numbered};
+use crate::texts::put_numbered;
+use itoa::write_digits;
 use machine::Outcome;
 use std::alloc::AllocError;
 
-// A place in the history, and what a program answered there.
-fn put_outcome(out: &mut Vec<u8>, place: u64, outcome: Outcome) -> Result<(), AllocError>
-    ensures { OnOk result (out.new.items ≡ out.old.items ++ outcome_text place outcome.reply outcome.steps) }
+// How many bytes an outcome's line has at most: its words, and three numbers of 20 digits.
+const OUTCOME_BYTES: usize = 88;
+
+// Writes a text so that it ends at `end`, and returns where it starts.
+#[inline(always)]
+fn write_text(text: &[u8], room: &mut [u8; OUTCOME_BYTES], end: usize) -> usize
+    requires { (length text.now ≤ end) × (end ≤ OUTCOME_BYTES) }
+    ensures start { result + length text.now ≡ end }
+    ensures written { drop result room.new ≡ text.now ++ drop end room.old }
 {
-    put_number(out, place)?;
-    put_numbered(out, b" reply ", outcome.reply)?;
-    put_numbered(out, b" steps ", outcome.steps as u64)?;
-    out.extend_from_slice(b"\n")
+    let start = end - text.len();
+    room[start..end].copy_from_slice(text);
+    start
+}
+
+// Writes a number in decimal so that it ends at `end`, and returns where it starts.
+#[inline(always)]
+fn write_number(n: u64, room: &mut [u8; OUTCOME_BYTES], end: usize) -> usize
+    requires { (20 ≤ end) × (end ≤ OUTCOME_BYTES) }
+    ensures start { (result ≤ end) × (end ≤ result + 20) }
+    ensures written { drop result room.new ≡ decimal n ++ drop end room.old }
+{
+    write_digits(n, room, end)
+}
+
+// A place in the history, and what a program answered there, behind a word. The line is put together from its end on, and
+// then written at once.
+#[inline(never)]
+fn put_outcome(
+    out: &mut Vec<u8>,
+    word: &[u8],
+    place: u64,
+    outcome: Outcome,
+) -> Result<(), AllocError>
+    requires { length word.now ≤ 7 }
+    ensures { OnOk result (out.new.items ≡ out.old.items ++ (word.now ++ outcome_text place outcome.reply outcome.steps)) }
+{
+    let mut room = [0; OUTCOME_BYTES];
+    let end = write_text(b"\n", &mut room, OUTCOME_BYTES);
+    let end = write_number(outcome.steps as u64, &mut room, end);
+    let end = write_text(b" steps ", &mut room, end);
+    let end = write_number(outcome.reply, &mut room, end);
+    let end = write_text(b" reply ", &mut room, end);
+    let end = write_number(place, &mut room, end);
+    let start = write_text(word, &mut room, end);
+    out.extend_from_slice(&room[start..])
 }
 
 // The line of an update: its index in the history.
 pub(crate) fn put_update(out: &mut Vec<u8>, index: u64, outcome: Outcome) -> Result<(), AllocError>
     ensures { OnOk result (out.new.items ≡ out.old.items ++ update_text index outcome.reply outcome.steps) }
 {
-    out.extend_from_slice(b"update ")?;
-    put_outcome(out, index, outcome)
+    put_outcome(out, b"update ", index, outcome)
 }
 
 // The line of a read: the number of updates before it.
 pub(crate) fn put_read(out: &mut Vec<u8>, point: u64, outcome: Outcome) -> Result<(), AllocError>
     ensures { OnOk result (out.new.items ≡ out.old.items ++ read_text point outcome.reply outcome.steps) }
 {
-    out.extend_from_slice(b"read ")?;
-    put_outcome(out, point, outcome)
+    put_outcome(out, b"read ", point, outcome)
 }
 
 // The line of a call that is refused for this reason.

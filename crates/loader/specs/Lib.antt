@@ -12,3 +12,4 @@ pub mod Spelling
 -- Scaffolding: what is kept of the lines before the one that is read; clauses of private functions alone cite these.
 pub mod LineShown
 pub mod PartialView
+pub mod Numbering

@@ -3,10 +3,12 @@
 ghost use Rattle.std.specs.Prelude.{◌≡◌, ◌≤◌, length, option_map, slice_get, IfSome};
 ghost use Rattle.maps.specs.Shapes.{AreShapesOk};
 ghost use Rattle.loader.specs.CatalogueView.{IsCatalogue, number_named};
+ghost use Rattle.loader.specs.Numbering.{IsNumbering};
 
 use crate::loading::MAX_PROGRAMS;
 use arrayvec::ArrayString;
 use maps::Shape;
+use std::collections::BTreeMap;
 use std::marker::Model;
 use text::NAME_BYTES;
 use verifier::Accepted;
@@ -52,25 +54,36 @@ impl NamedProgram {
 pub struct Catalogue {
     shapes: Vec<Shape>,
     programs: Vec<NamedProgram>,
+    numbers: BTreeMap<String, u16>,
 }
 
 impl Model for Catalogue {
     ghost use Rattle.loader.specs.CatalogueView.{CatalogueView, IsCatalogue};
+    ghost use Rattle.loader.specs.Numbering.{IsNumbering};
 
     ghost Value = { CatalogueView };
 
     ghost view = { λ c. record { shapes = c.shapes.items; programs = c.programs.items } };
 
-    ghost invariant = { λ c. IsCatalogue (record { shapes = c.shapes.items; programs = c.programs.items }) };
+    ghost invariant = { λ c. IsCatalogue (record { shapes = c.shapes.items; programs = c.programs.items }) × IsNumbering c.numbers c.programs.items };
 }
 
 impl Catalogue {
-    // A catalogue of these maps and programs.
-    pub(crate) fn new(shapes: Vec<Shape>, programs: Vec<NamedProgram>) -> Catalogue
-        requires { IsCatalogue (record { shapes = shapes.items; programs = programs.items }) }
+    // A catalogue of these maps and programs, with the programs' numbers by their names.
+    pub(crate) fn new(
+        shapes: Vec<Shape>,
+        programs: Vec<NamedProgram>,
+        numbers: BTreeMap<String, u16>,
+    ) -> Catalogue
+        requires catalogue { IsCatalogue (record { shapes = shapes.items; programs = programs.items }) }
+        requires numbers { IsNumbering numbers programs.items }
         ensures { result ≡ record { shapes = shapes.items; programs = programs.items } }
     {
-        Catalogue { shapes, programs }
+        Catalogue {
+            shapes,
+            programs,
+            numbers,
+        }
     }
 
     /// How many programs there are.
@@ -81,16 +94,11 @@ impl Catalogue {
         self.programs.len()
     }
 
-    /// The number of the program of this name. It looks at the names one after another, 256 at most.
+    /// The number of the program of this name, which is found in a sorted map.
     pub fn number(&self, name: &str) -> Option<u16>
         ensures number { result ≡ number_named self.now.programs name.now }
     {
-        for k in 0..self.programs.len() {
-            if self.programs[k].name() == name {
-                return Some(k as u16);
-            }
-        }
-        None
+        self.numbers.get(name).copied()
     }
 
     /// The name of program k.

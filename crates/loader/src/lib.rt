@@ -6,6 +6,7 @@ mod file_names;
 mod grammar;
 mod laws;
 mod loading;
+mod numbering;
 mod paths;
 mod program_files;
 mod refusals;

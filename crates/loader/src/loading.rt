@@ -12,6 +12,7 @@ ghost use Rattle.loader.specs.Refusal.{Gives, LoadFails};
 
 use crate::catalogue::{Catalogue, NamedProgram};
 use crate::grammar::{Line, ProgramLine, read_line};
+use crate::numbering::numbers_of;
 use crate::program_files::named_program;
 use crate::refusals::{LineError, LoadError, LoadFault};
 use maps::{Shape, shapes_ok};
@@ -136,5 +137,6 @@ pub fn load_manifest(
     if so_far.shapes.is_empty() {
         return Err(LineError::Refused(LoadFault::BadLine).at(lines.number()));
     }
-    Ok(Catalogue::new(so_far.shapes, so_far.programs))
+    let numbers = numbers_of(alloc, &so_far.programs)?;
+    Ok(Catalogue::new(so_far.shapes, so_far.programs, numbers))
 }

@@ -39,7 +39,8 @@ impl<V: Shelved> Model for Shelf<V> {
     ghost view = { λ a. record { id = a.table.shared.table_id; places = a.table.shared.table_id.slots; setup = a.table.shared.key } };
 
     // Each place and the completed tail have a line of words, there is a place for the leader, and there is room for all values at the end.
-    ghost invariant = { λ a. HasLines a.table.shared.table_id × (0 < a.table.shared.table_id.slots) × (a.room.items ≡ []) × (a.table.shared.table_id.slots ≤ vec_capacity a.room) };
+    ghost invariant = { λ a. HasLines a.table.shared.table_id × (0 < a.table.shared.table_id.slots)
+        × (a.room.items ≡ []) × (a.table.shared.table_id.slots ≤ vec_capacity a.room) };
 }
 
 /// The value of a place that a session holds. It has no `Drop`, so it ends in `put`.

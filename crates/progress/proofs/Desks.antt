@@ -30,7 +30,7 @@ moved n j = omega arith
 -- ---- post
 
 -- where something is posted, the slot was empty
-abbrev WasEmpty : ℕ → Operation → DeskView → DeskView → Type 0
+abbrev pub WasEmpty : ℕ → Operation → DeskView → DeskView → Type 0
 WasEmpty s op x y = (slot : Slot) × At s slot x.slots × (slot.stage ≡ Empty) × (y ≡ record { node = x.node; slots = set x.slots s (record { stage = Posted op; count = slot.count }) })
 
 pub posted_is : (s : ℕ) (op : Operation) (x y : DeskView) → posted s op x ≡ Some y → WasEmpty s op x y
@@ -115,7 +115,7 @@ abbrev one_of : ℕ → DeskView → Slot → Reply → Collection
 one_of s x slot r = record { reply = r; desk = with_slot x s (record { stage = Empty; count = counted r slot.count }) }
 
 -- where an answer is collected, it stood in the slot
-abbrev WasAnswered : ℕ → Reply → DeskView → DeskView → Type 0
+abbrev pub WasAnswered : ℕ → Reply → DeskView → DeskView → Type 0
 WasAnswered s reply x y = (slot : Slot) × At s slot x.slots × (slot.stage ≡ Answered reply) × (y ≡ record { node = x.node; slots = set x.slots s (record { stage = Empty; count = counted reply slot.count }) })
 
 pub collected_is : (s : ℕ) (reply : Reply) (x y : DeskView) → collected s x ≡ Some (record { reply = reply; desk = y }) → WasAnswered s reply x y

@@ -16,3 +16,5 @@ pub mod Finish
 pub mod Putting
 pub mod StoreLaws
 pub mod Picked
+pub mod DeskNotes
+pub mod Batches

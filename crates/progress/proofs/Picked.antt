@@ -63,7 +63,7 @@ module _ {C M V : Type 0} {E : Meaning C M} {R : Rules (Progress C) SessionNote 
   )
 
   -- what a put may change it may also change as the picks say it
-  picked : (f f' : Progress C → Progress C) (g g' : SessionNote → SessionNote) (k : Known (Progress C) SessionNote V) (p : ℕ) (w : V) → f ≡ f' → g k.note ≡ g' k.note → MayPut (the_rules E R view IsSized) f' g' k p w
+  pub picked : (f f' : Progress C → Progress C) (g g' : SessionNote → SessionNote) (k : Known (Progress C) SessionNote V) (p : ℕ) (w : V) → f ≡ f' → g k.note ≡ g' k.note → MayPut (the_rules E R view IsSized) f' g' k p w
       → MayPut (the_rules E R view IsSized) f g k p w
   picked f f' g g' k p w e h m = subst (λ z. MayPut (the_rules E R view IsSized) z g k p w) (sym e) (
     m.0,

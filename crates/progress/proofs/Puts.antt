@@ -42,22 +42,22 @@ IsStage Claimed Claimed = Unit {0}
 IsStage (Answered reply) (Answered reply2) = Unit {0}
 IsStage _ _ = ⊥
 
-at_there : {A : Type 0} (xs : List A) (i : ℕ) → i < length xs → (a : A) × At i a xs
+pub at_there : {A : Type 0} (xs : List A) (i : ℕ) → i < length xs → (a : A) × At i a xs
 at_there [] i h = absurd (omega arith)
 at_there (x ∷ xs) zero h = (x, refl)
 at_there (x ∷ xs) (suc i) h = at_there xs i (omega arith)
 
-at_mapped : {A B : Type 0} (f : A → B) (xs : List A) (i : ℕ) (b : B) → At i b (map f xs) → (a : A) × At i a xs × (b ≡ f a)
+pub at_mapped : {A B : Type 0} (f : A → B) (xs : List A) (i : ℕ) (b : B) → At i b (map f xs) → (a : A) × At i a xs × (b ≡ f a)
 at_mapped f [] i b h = absurd (at_none i b h)
 at_mapped f (x ∷ xs) zero b h = (x, refl, sym (some-injective (f x) b h))
 at_mapped f (x ∷ xs) (suc i) b h = at_mapped f xs i b h
 
-at_map : {A B : Type 0} (f : A → B) (xs : List A) (i : ℕ) (a : A) → At i a xs → At i (f a) (map f xs)
+pub at_map : {A B : Type 0} (f : A → B) (xs : List A) (i : ℕ) (a : A) → At i a xs → At i (f a) (map f xs)
 at_map f [] i a h = absurd (at_none i a h)
 at_map f (x ∷ xs) zero a h = ap (λ z. kernel.some (f z)) (some-injective x a h)
 at_map f (x ∷ xs) (suc i) a h = at_map f xs i a h
 
-one_slot : (config : Config) (node s t : ℕ) → session config node s ≡ session config node t → s ≡ t
+pub one_slot : (config : Config) (node s t : ℕ) → session config node s ≡ session config node t → s ≡ t
 one_slot config node s t e = cancel (node * config.slots) e
   where
     cancel : (b : ℕ) → b + s ≡ b + t → s ≡ t

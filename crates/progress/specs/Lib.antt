@@ -11,3 +11,5 @@ pub mod Tellings
 pub mod Single
 pub mod Putting
 pub mod Picks
+pub mod DeskNotes
+pub mod Batches

@@ -8,6 +8,8 @@ ghost use Rattle.progress.specs.StoreRules.{IsStoreRules, IsNoting};
 ghost use Rattle.progress.specs.Single.{single_rules, single_noting, SingleKeeps, OneMoreSteps, OwnAppends};
 ghost use Rattle.progress.specs.Tellings.{TailIs, Replays, ReplayedAgrees, PlacedTells, ReadsTell, EndedTells};
 ghost use Rattle.progress.specs.Putting.{the_rules, StoreOpens, AgreesLog, AgreesReplica, MayTakeFirst, MayTakeSecond, MayTakeDesk, TakesLog, TakesReplica, TakesItsReplica, TakesDesk, SameMayPut, LogMayPut, ReplicaMayPut, SeenDeskMayPut};
+ghost use Rattle.progress.specs.DeskNotes.{Looked, desk_noting, PostNoted, ClaimNoted, CollectNoted, DeskPicked, DeskIs, BatchNoted};
+ghost use Rattle.progress.specs.Batches.{ClaimsAscend, BatchIs};
 ghost use Rattle.progress.specs.Picks.{SamePicked, LogPicked, ReplicaPicked, PutsAccount, SameIs, LogIs, ReplicaIs};
 
 use crate::meanings::{Effects, Viewed};
@@ -105,4 +107,22 @@ pub fn store_picks<S: Viewed>()
     ensures same_is { SameIs S.meaning S.rules S.noting S.view S.is_sized }
     ensures log_is { LogIs S.meaning S.rules S.noting S.view S.is_sized }
     ensures replica_is { ReplicaIs S.meaning S.rules S.noting S.view S.is_sized }
+{}
+
+/// With desks: what a session notes by what it does at its desk, that the desk may be put back then, and what that comes to. Who
+/// only looks notes nothing, and who appends from its batch notes the places.
+pub fn desk_notes<S: Viewed>()
+    ensures notes { IsNoting {C = S.Catalogue} S.view (desk_noting S.view Looked) }
+    ensures post { PostNoted S.Catalogue S.view }
+    ensures claim { ClaimNoted S.Catalogue S.view }
+    ensures collect { CollectNoted S.Catalogue S.view }
+    ensures batch { BatchNoted S.meaning S.view S.is_sized }
+    ensures desk { DeskPicked S.meaning S.view S.is_sized }
+    ensures desk_is { DeskIs S.meaning S.view S.is_sized }
+{}
+
+/// The requests that a combiner claimed and notes are those of the claimed slots of its desk, in their order.
+pub fn desk_batches<E: Effects>()
+    ensures claims { ClaimsAscend }
+    ensures batch { BatchIs E.meaning }
 {}

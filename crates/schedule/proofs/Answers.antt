@@ -13,16 +13,16 @@ use Rattle.readpath.specs.declared.reading.ReadAnswer.{ReadAnswer}
 use Rattle.replica.specs.StoreMeaning.{store_meaning, outcome_of}
 use Rattle.schedule.specs.declared.parts.BegunRead.{BegunRead}
 use Rattle.schedule.specs.declared.parts.Written.{Written}
-use Rattle.schedule.specs.declared.parts.NodeBatch.TheVariants.{AppendedBatch}
+use Rattle.schedule.specs.declared.parts.NodeBatch.TheVariants.{InLog}
 use Rattle.schedule.specs.declared.parts.Opening.{Opening}
 use Rattle.schedule.specs.declared.steps.Step.{Step}
 use Rattle.schedule.specs.declared.steps.StepAnswer.{StepAnswer}
 use Rattle.schedule.specs.declared.steps.StepAnswer.TheVariants as answers
 use Rattle.schedule.specs.Trace.{ReadBack, Back}
 use Rattle.schedule.specs.Worlds.{NodeView, WorldView, answers_from, answered_batch}
-use Rattle.schedule.specs.Steps.{Part, Took, says, put_part, part_of, node_of, took, world_of, world_after, trace_after, with_event, session_at, read_at, with_read, read_answer}
+use Rattle.schedule.specs.Steps.{Part, Took, with_call_or_back, put_part, part_of, node_of, took, world_of, world_after, trace_after, with_event, session_at, read_at, with_read, read_answer}
 use Rattle.schedule.specs.Stands.{BatchStands, WrittenStands, Stands}
-use Rattle.schedule.specs.Taking.{StoreView, store_of, KeepsStanding, step_answer, answers_to, TakesPart, Takes, IsOfStore, IsStanding, IsRun}
+use Rattle.schedule.specs.Taking.{WorldState, store_of, KeepsStanding, step_answer, answers_to, TakesPart, Takes, IsOfStore, IsStanding, IsRun}
 use Rattle.schedule.proofs.Lists.{get_some, set_same, set_off, set_back}
 use Rattle.schedule.proofs.Options.{map_gives}
 use Rattle.schedule.proofs.Desks.{answers_placed, answers_ended, is_answered}
@@ -76,7 +76,7 @@ pub nothing : {A : Type 0} (xs : List A) → length xs ≡ 0 → xs ≡ []
 nothing [] e = refl
 nothing (x ∷ xs) e = absurd (omega arith)
 
-module _ {m : Opening} {g : Log} {node : NodeView} (x : IsOfStore m g node) (b : Written) (is : node.batch ≡ AppendedBatch b) (empty : length node.hand.records ≡ 0) where
+module _ {m : Opening} {g : Log} {node : NodeView} (x : IsOfStore m g node) (b : Written) (is : node.batch ≡ InLog b) (empty : length node.hand.records ≡ 0) where
   wr : WrittenStands m x.history node.replica node.hand b
   wr = subst (λ y. BatchStands m x.history node.replica node.hand y) is x.stands.batch
 
@@ -97,26 +97,26 @@ pub read_taken : (m : Opening) (g : Log) (node new : NodeView) (s : ℕ) (read :
     → TakesPart (read_answer m s g node) g node g new (answers.ReadBack given)
 read_taken m g node new s read given at seen done point reply is =
     let d = map_gives (λ (e : ReadEffect). e.reply) (store_meaning.read m.catalogue read.op node.replica.maps) given.reply reply in
-    let p : Part = says (Back (session_at node s) (ReadBack (record { point = node.replica.tail; reply = (d.0).reply }))) g (with_read node s None) in
+    let p : Part = with_call_or_back (Back (session_at node s) (ReadBack (record { point = node.replica.tail; reply = (d.0).reply }))) g (with_read node s None) in
     let same : given ≡ (let v : ReadAnswer = record { point = node.replica.tail; reply = (d.0).reply } in v) =
     ap (λ k. (let v : ReadAnswer = record { point = k; reply = given.reply } in v)) point ∙ ap (λ k. (let v : ReadAnswer = record { point = node.replica.tail; reply = k } in v)) (sym d.2) in
     let finds : read_answer m s g node ≡ Some p =
     ap (λ o. option_and_then (λ (r : BegunRead).
     cond (nat_le r.seen node.replica.tail && nat_le node.replica.tail g.done)
-    (option_map (λ (e : ReadEffect). says (Back (session_at node s) (ReadBack (record { point = node.replica.tail; reply = e.reply }))) g (with_read node s None)) (store_meaning.read m.catalogue r.op node.replica.maps))
+    (option_map (λ (e : ReadEffect). with_call_or_back (Back (session_at node s) (ReadBack (record { point = node.replica.tail; reply = e.reply }))) g (with_read node s None)) (store_meaning.read m.catalogue r.op node.replica.maps))
     None) o) at
     ∙ ap (λ c. cond (c && nat_le node.replica.tail g.done)
-    (option_map (λ (e : ReadEffect). says (Back (session_at node s) (ReadBack (record { point = node.replica.tail; reply = e.reply }))) g (with_read node s None)) (store_meaning.read m.catalogue read.op node.replica.maps))
+    (option_map (λ (e : ReadEffect). with_call_or_back (Back (session_at node s) (ReadBack (record { point = node.replica.tail; reply = e.reply }))) g (with_read node s None)) (store_meaning.read m.catalogue read.op node.replica.maps))
     None) (le-leb read.seen node.replica.tail seen)
     ∙ ap (λ c. cond c
-    (option_map (λ (e : ReadEffect). says (Back (session_at node s) (ReadBack (record { point = node.replica.tail; reply = e.reply }))) g (with_read node s None)) (store_meaning.read m.catalogue read.op node.replica.maps))
+    (option_map (λ (e : ReadEffect). with_call_or_back (Back (session_at node s) (ReadBack (record { point = node.replica.tail; reply = e.reply }))) g (with_read node s None)) (store_meaning.read m.catalogue read.op node.replica.maps))
     None) (le-leb node.replica.tail g.done done)
-    ∙ ap (λ o. option_map (λ (e : ReadEffect). says (Back (session_at node s) (ReadBack (record { point = node.replica.tail; reply = e.reply }))) g (with_read node s None)) o) d.1 in
+    ∙ ap (λ o. option_map (λ (e : ReadEffect). with_call_or_back (Back (session_at node s) (ReadBack (record { point = node.replica.tail; reply = e.reply }))) g (with_read node s None)) o) d.1 in
     subst (λ o. TakesPart o g node g new (answers.ReadBack given)) (sym finds) (ap answers.ReadBack same, refl, is)
 
 -- ---- the whole store
 
-pub of_store : (s : StoreView) (x : IsStanding s) (n : ℕ) (node : NodeView) → slice_get s.world.nodes n ≡ Some node → IsOfStore s.opening s.world.log node
+pub of_store : (s : WorldState) (x : IsStanding s) (n : ℕ) (node : NodeView) → slice_get s.world.nodes n ≡ Some node → IsOfStore s.opening s.world.log node
 of_store s x n node at = record {
   history = x.history;
   places = x.places;
@@ -130,7 +130,7 @@ of_store s x n node at = record {
 }
 
 -- the store after the node's part of a step
-pub stepped : (s : StoreView) (step : Step) (node : NodeView) (g : Log) (new : NodeView) (answer : StepAnswer) → slice_get s.world.nodes (node_of step) ≡ Some node
+pub stepped : (s : WorldState) (step : Step) (node : NodeView) (g : Log) (new : NodeView) (answer : StepAnswer) → slice_get s.world.nodes (node_of step) ≡ Some node
     → TakesPart (part_of s.opening step s.world.log node) s.world.log node g new answer
     → Takes (took s.opening s.world step) s (store_of s.opening g (slice_set s.world.nodes (node_of step) new)) answer
 stepped s step node g new answer at takes =
@@ -150,7 +150,7 @@ stepped s step node g new answer at takes =
     )
 
 -- it stands too
-pub still_standing : (s new : StoreView) (step : Step) (answer : StepAnswer) → IsStanding s → Takes (took s.opening s.world step) s new answer → IsStanding new
+pub still_standing : (s new : WorldState) (step : Step) (answer : StepAnswer) → IsStanding s → Takes (took s.opening s.world step) s new answer → IsStanding new
 still_standing s new step answer x takes = go (took s.opening s.world step) takes (step_keeps s.opening s.world x.history x.places x.trace step x.stands)
   where
     go : (o : Option Took) → Takes o s new answer → ((more : History) × (later : List ℕ) × Stands s.opening (world_after s.world o) (x.history ++ more) (x.places ++ later) (trace_after x.trace o)) → IsStanding new
@@ -158,7 +158,7 @@ still_standing s new step answer x takes = go (took s.opening s.world step) take
     go (Some r) (is, same) k = subst IsStanding (sym same) (record { config = x.config; history = x.history ++ k.0; places = x.places ++ k.1; trace = with_event x.trace r.event; stands = k.2 })
 
 -- a history that stands for the store before the step, longer, stands for it afterwards
-pub keeps_standing : (s new : StoreView) (step : Step) (answer : StepAnswer) → Takes (took s.opening s.world step) s new answer → KeepsStanding s step new
+pub keeps_standing : (s new : WorldState) (step : Step) (answer : StepAnswer) → Takes (took s.opening s.world step) s new answer → KeepsStanding s step new
 keeps_standing s new step answer takes h places t x = go (took s.opening s.world step) takes (step_keeps s.opening s.world h places t step x)
   where
     go : (o : Option Took) → Takes o s new answer → ((more : History) × (later : List ℕ) × Stands s.opening (world_after s.world o) (h ++ more) (places ++ later) (trace_after t o))
@@ -169,7 +169,7 @@ keeps_standing s new step answer takes h places t x = go (took s.opening s.world
 -- ---- several steps
 
 -- the store after a step, taken or not, and its answer
-pub takes_after : (o : Option Took) (old new : StoreView) (answer : StepAnswer) → Takes o old new answer → (new ≡ record old { world = world_after old.world o }) × (answer ≡ step_answer o)
+pub takes_after : (o : Option Took) (old new : WorldState) (answer : StepAnswer) → Takes o old new answer → (new ≡ record old { world = world_after old.world o }) × (answer ≡ step_answer o)
 takes_after None old new answer (is, same) = (same, is)
 takes_after (Some r) old new answer (is, same) = (same, is)
 
@@ -182,14 +182,14 @@ answers_snoc m w [] step = refl
 answers_snoc m w (s ∷ steps) step = ap (λ xs. step_answer (took m w s) ∷ xs) (answers_snoc m (world_after w (took m w s)) steps step)
 
 -- one step more
-pub steps_next : (start now new : StoreView) (steps : List Step) (i : ℕ) (step : Step) (answer : StepAnswer) (so_far : List StepAnswer) → slice_get steps i ≡ Some step
+pub steps_next : (start now new : WorldState) (steps : List Step) (i : ℕ) (step : Step) (answer : StepAnswer) (so_far : List StepAnswer) → slice_get steps i ≡ Some step
     → now ≡ record start { world = world_of start.opening start.world (take i steps) } → so_far ≡ answers_to start.opening start.world (take i steps) → Takes (took now.opening now.world step) now new answer
     → (new ≡ record start { world = world_of start.opening start.world (take (i + 1) steps) }) × (so_far ++ answer ∷ [] ≡ answers_to start.opening start.world (take (i + 1) steps))
 steps_next start now new steps i step answer so_far at is are takes =
     let longer : take (i + 1) steps ≡ take i steps ++ step ∷ [] = (let e : i + 1 ≡ suc i = omega arith in ap (λ k. take k steps) e ∙ take_snoc i steps step at) in
     let w : WorldView = world_of start.opening start.world (take i steps) in
     let a = takes_after (took start.opening w step) (record start { world = w }) new answer (subst (λ v. Takes (took v.opening v.world step) v new answer) is takes) in (
-      a.0 ∙ ap (λ k. (let v : StoreView = record start { world = k } in v)) (sym (world_snoc start.opening start.world (take i steps) step) ∙ ap (world_of start.opening start.world) (sym longer)),
+      a.0 ∙ ap (λ k. (let v : WorldState = record start { world = k } in v)) (sym (world_snoc start.opening start.world (take i steps) step) ∙ ap (world_of start.opening start.world) (sym longer)),
       ap (λ xs. xs ++ answer ∷ []) are ∙ ap (λ y. answers_to start.opening start.world (take i steps) ++ y ∷ []) a.1
           ∙ sym (answers_snoc start.opening start.world (take i steps) step) ∙ ap (answers_to start.opening start.world) (sym longer),
     )
@@ -200,7 +200,7 @@ get_beyond (x ∷ xs) zero l = absurd (omega arith)
 get_beyond (x ∷ xs) (suc i) l = get_beyond xs i (omega arith)
 
 -- a step of a node that is not there
-pub not_there : (s : StoreView) (step : Step) → length s.world.nodes ≤ node_of step → Takes (took s.opening s.world step) s s answers.NotNow
+pub not_there : (s : WorldState) (step : Step) → length s.world.nodes ≤ node_of step → Takes (took s.opening s.world step) s s answers.NotNow
 not_there s step l =
     let finds : took s.opening s.world step ≡ None = ap (λ o. option_and_then (λ k. option_map (put_part s.world (node_of step)) (part_of s.opening step s.world.log k)) o) (get_beyond s.world.nodes (node_of step) l) in
     subst (λ o. Takes o s s answers.NotNow) (sym finds) (refl, refl)

@@ -9,13 +9,13 @@ use Rattle.oplog.specs.Sessions.{session}
 use Rattle.combiner.specs.Desks.{BatchView, IsBatchOf}
 use Rattle.replica.specs.Views.{ReplicaView}
 use Rattle.schedule.specs.declared.parts.NodeBatch.{NodeBatch}
-use Rattle.schedule.specs.declared.parts.NodeBatch.TheVariants.{NoBatch, ClaimedBatch, AppendedBatch}
+use Rattle.schedule.specs.declared.parts.NodeBatch.TheVariants.{Absent, Held, InLog}
 use Rattle.schedule.specs.Trace.{Trace, Places}
 use Rattle.schedule.specs.declared.parts.Opening.{Opening}
 use Rattle.schedule.specs.Worlds.{NodeView, WorldView, room_for, grown}
 use Rattle.schedule.specs.Steps.{Part, silent, append, with_appended, claimed_batch}
 use Rattle.schedule.specs.Stands.{StageStands, NodeStands, LogStands, ReplicaStands, BatchStands, Stands, batch_in}
-use Rattle.schedule.proofs.Lists.{get_more, get_drop, get_taken}
+use Rattle.schedule.proofs.Lists.{get_more, get_drop, get_taken, set_length}
 use Rattle.schedule.proofs.Options.{cond_gives, then_gives, claimed_is}
 use Rattle.schedule.proofs.Explained.{after_more, effect_more}
 use Rattle.schedule.proofs.Calls.{nodes_put, Kept}
@@ -55,9 +55,9 @@ replica_grow m h rs replica hand x = record {
 }
 
 batch_grow : (m : Opening) (h rs : History) (replica : ReplicaView) (hand : HandView) (b : NodeBatch) → replica.tail ≤ length h → BatchStands m h replica hand b → BatchStands m (h ++ rs) replica hand b
-batch_grow m h rs replica hand NoBatch l x = x
-batch_grow m h rs replica hand (ClaimedBatch b) l x = x
-batch_grow m h rs replica hand (AppendedBatch b) l x = record {
+batch_grow m h rs replica hand Absent l x = x
+batch_grow m h rs replica hand (Held b) l x = x
+batch_grow m h rs replica hand (InLog b) l x = record {
   first = x.first;
   count = x.count;
   placed = λ k r lt g. get_more h rs (b.first + k) r (x.placed k r lt g);
@@ -66,7 +66,7 @@ batch_grow m h rs replica hand (AppendedBatch b) l x = record {
   ended = x.ended;
 }
 
-module _ (m : Opening) (w : WorldView) (h : History) (places : Places) (t : Trace) (n : ℕ) (node : NodeView) (b : BatchView) (at_n : slice_get w.nodes n ≡ Some node) (is_b : node.batch ≡ ClaimedBatch b)
+module _ (m : Opening) (w : WorldView) (h : History) (places : Places) (t : Trace) (n : ℕ) (node : NodeView) (b : BatchView) (at_n : slice_get w.nodes n ≡ Some node) (is_b : node.batch ≡ Held b)
     (above : w.log.base ≤ node.replica.tail) (x : Stands m w h places t) where
   few : room_for w.log b.records ≤ length b.records
   few = min_left (length b.records) (left_of w.log)
@@ -158,6 +158,8 @@ module _ (m : Opening) (w : WorldView) (h : History) (places : Places) (t : Trac
       catalogue = x.catalogue;
       explains = end.explains;
       log = log_then;
+      count = set_length w.nodes n (with_appended w.log b node) ∙ x.count;
+      callers = x.callers;
       stamps = x.stamps;
       nodes = nodes_put (λ k y. NodeStands m w.log.done all_of (end.places_then) t k y) w.nodes n (with_appended w.log b node) other_then node_then;
     }),

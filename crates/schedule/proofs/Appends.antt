@@ -13,7 +13,7 @@ use Rattle.combiner.specs.Desks.{BatchView, first_author, claimed_from, IsBatchO
 use Rattle.replica.specs.Views.{no_replies}
 use Rattle.schedule.specs.declared.parts.BegunRead.{BegunRead}
 use Rattle.schedule.specs.declared.parts.NodeBatch.{NodeBatch}
-use Rattle.schedule.specs.declared.parts.NodeBatch.TheVariants.{ClaimedBatch, AppendedBatch}
+use Rattle.schedule.specs.declared.parts.NodeBatch.TheVariants.{Held, InLog}
 use Rattle.schedule.specs.Trace.{Call, Trace, Places}
 use Rattle.schedule.specs.declared.parts.Opening.{Opening}
 use Rattle.schedule.specs.Explains.{Explains, count_of}
@@ -51,7 +51,7 @@ take_zero (x ∷ xs) = refl
 
 -- the batch, with its first j requests at the places from first on
 abbrev pub placed : ℕ → BatchView → ℕ → NodeBatch
-placed first b j = AppendedBatch (record { batch = b; first = first; count = j; replies = no_replies first j })
+placed first b j = InLog (record { batch = b; first = first; count = j; replies = no_replies first j })
 
 abbrev pub AllSeats : Opening → ℕ → History → Places → Trace → (ℕ → NodeView → NodeBatch) → List NodeView → Type 0
 AllSeats m done h places t batch nodes =
@@ -84,7 +84,7 @@ same_at rs {i} {j} {p} {r} g same f = same_Some p r (sym g ∙ ap (λ k. slice_g
 also_none : (o : Option (Option BegunRead)) (a c : Option BegunRead) → o ≡ Some a → o ≡ Some c → a ≡ None → c ≡ None
 also_none o a c is also nothing = same_Some c a (sym also ∙ is) ∙ nothing
 
-module _ (m : Opening) (w : WorldView) (h : History) (places : Places) (t : Trace) (n : ℕ) (node : NodeView) (b : BatchView) (at_n : slice_get w.nodes n ≡ Some node) (is_b : node.batch ≡ ClaimedBatch b)
+module _ (m : Opening) (w : WorldView) (h : History) (places : Places) (t : Trace) (n : ℕ) (node : NodeView) (b : BatchView) (at_n : slice_get w.nodes n ≡ Some node) (is_b : node.batch ≡ Held b)
     (x : Stands m w h places t) where
   own : map (λ (r : Record). r.author) b.records ≡ claimed_from (first_author node.desk) node.desk.slots
   own = subst (λ y. IsBatchOf node.desk (batch_in y)) is_b ((x.nodes n node at_n).desk).own
@@ -114,8 +114,8 @@ module _ (m : Opening) (w : WorldView) (h : History) (places : Places) (t : Trac
             (λ same. let yes = eq-eqb k n same in
             let is_node : other ≡ node = same_Some other node (sym g ∙ ap (λ i. slice_get w.nodes i) same ∙ at_n) in
             let old = (x.nodes k other g).seats s y read there begun in
-            let taken : other.batch ≡ ClaimedBatch b = ap (λ y. y.batch) is_node ∙ is_b in
-            rw yes (stage_batch m w.log.done h places t (session m.config k s) (ClaimedBatch b) (placed (length h) b 0) y.count y.stage read (λ i q f by. (f, sym (none_yet i)))
+            let taken : other.batch ≡ Held b = ap (λ y. y.batch) is_node ∙ is_b in
+            rw yes (stage_batch m w.log.done h places t (session m.config k s) (Held b) (placed (length h) b 0) y.count y.stage read (λ i q f by. (f, sym (none_yet i)))
             (subst (λ v. StageStands m w.log.done h places t (session m.config k s) v y.count y.stage read) taken old)))
             (λ ne. let no = ne_eqb k n ne in rw no ((x.nodes k other g).seats s y read there begun))
             (cases_eq k n));

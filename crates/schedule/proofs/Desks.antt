@@ -19,13 +19,13 @@ use Rattle.combiner.specs.Desks.{first_author, has_request, batch_of, claimed, c
 use Rattle.replica.specs.StoreMeaning.{outcome_of}
 use Rattle.schedule.specs.declared.parts.BegunRead.{BegunRead}
 use Rattle.schedule.specs.declared.parts.Written.{Written}
-use Rattle.schedule.specs.declared.parts.NodeBatch.TheVariants.{NoBatch, ClaimedBatch, AppendedBatch}
+use Rattle.schedule.specs.declared.parts.NodeBatch.TheVariants.{Absent, Held, InLog}
 use Rattle.schedule.specs.Trace.{Trace, Places}
 use Rattle.schedule.specs.declared.parts.Opening.{Opening}
 use Rattle.schedule.specs.Worlds.{NodeView, WorldView, answers_from, answered_batch}
-use Rattle.schedule.specs.Steps.{Part, claim, reply, is_none, no_batch, appended_batch}
+use Rattle.schedule.specs.Steps.{Part, claim, reply, no_records, no_batch, appended_batch}
 use Rattle.schedule.specs.Stands.{OpenAt, ReplyStands, StageStands, DeskStands, NodeStands, BatchStands, WrittenStands, Stands, batch_in, place_in}
-use Rattle.schedule.proofs.Lists.{get_in, get_some}
+use Rattle.schedule.proofs.Lists.{get_in, get_some, set_length}
 use Rattle.schedule.proofs.Options.{cond_gives, then_gives, none_is, no_batch_is, appended_is}
 use Rattle.schedule.proofs.Slots.{claims_own, requests_have, request_of, claimed_has, claimed_once, answered_get, answered_length, AllAnswered, none_claimed, answer_found}
 use Rattle.schedule.proofs.Calls.{nodes_put, Kept, same_history, session_is}
@@ -37,12 +37,12 @@ mapped_get f [] s y g = absurd (none-some y g)
 mapped_get f (x ∷ xs) zero y g = (x, refl, same_Some (f x) y g)
 mapped_get f (x ∷ xs) (suc s) y g = mapped_get f xs s y g
 
-module _ (m : Opening) (w : WorldView) (h : History) (places : Places) (t : Trace) (n : ℕ) (node : NodeView) (o : NodeStands m w.log.done h places t n node) (idle : node.batch ≡ NoBatch) where
+module _ (m : Opening) (w : WorldView) (h : History) (places : Places) (t : Trace) (n : ℕ) (node : NodeView) (o : NodeStands m w.log.done h places t n node) (idle : node.batch ≡ Absent) where
   -- where there is no batch, no slot is claimed
   pub free : claimed_from (first_author node.desk) node.desk.slots ≡ []
   free = sym (subst (λ b. IsBatchOf node.desk (batch_in b)) idle o.desk.own)
 
-  desk_claimed : DeskStands m n (record node { desk = claimed node.desk; batch = ClaimedBatch (batch_of node.desk) })
+  desk_claimed : DeskStands m n (record node { desk = claimed node.desk; batch = Held (batch_of node.desk) })
   desk_claimed =
       let long : length (map claimed_slot node.desk.slots) ≡ length node.desk.slots = length-map node.desk.slots claimed_slot in
       record {
@@ -55,7 +55,7 @@ module _ (m : Opening) (w : WorldView) (h : History) (places : Places) (t : Trac
 
   stage_claimed : (s : ℕ) (x : Slot) → slice_get node.desk.slots s ≡ Some x → (st : Stage) (read : Option BegunRead) → x.stage ≡ st
       → StageStands m w.log.done h places t (session m.config n s) node.batch x.count st read
-      → StageStands m w.log.done h places t (session m.config n s) (ClaimedBatch (batch_of node.desk)) x.count (claimed_stage st) read
+      → StageStands m w.log.done h places t (session m.config n s) (Held (batch_of node.desk)) x.count (claimed_stage st) read
   stage_claimed s x at Empty None is p = p
   stage_claimed s x at Empty (Some read) is p = p
   stage_claimed s x at (Posted op) None is p =
@@ -67,14 +67,14 @@ module _ (m : Opening) (w : WorldView) (h : History) (places : Places) (t : Trac
   stage_claimed s x at Claimed (Some read) is p = absurd p
   stage_claimed s x at (Answered reply) (Some read) is p = p
 
-  node_claimed : NodeStands m w.log.done h places t n (record node { desk = claimed node.desk; batch = ClaimedBatch (batch_of node.desk) })
+  node_claimed : NodeStands m w.log.done h places t n (record node { desk = claimed node.desk; batch = Held (batch_of node.desk) })
   node_claimed = record {
     replica = o.replica;
     desk = desk_claimed;
     batch = tt;
     seats = λ s y read there begun.
         let c = mapped_get claimed_slot node.desk.slots s y there in
-        subst (λ z. StageStands m w.log.done h places t (session m.config n s) (ClaimedBatch (batch_of node.desk)) z.count z.stage read) c.2
+        subst (λ z. StageStands m w.log.done h places t (session m.config n s) (Held (batch_of node.desk)) z.count z.stage read) c.2
         (stage_claimed s c.0 c.1 (c.0).stage read refl (o.seats s c.0 read c.1 begun));
   }
 
@@ -85,14 +85,16 @@ keeps_claim m w h places t n node p at_n taken x =
     let tests = and_parts (no_batch node.batch) (has_request node.desk) c.0 in
     let idle = no_batch_is node.batch tests.0 in
     let o = x.nodes n node at_n in
-    let new : NodeView = record node { desk = claimed node.desk; batch = ClaimedBatch (batch_of node.desk) } in
+    let new : NodeView = record node { desk = claimed node.desk; batch = Held (batch_of node.desk) } in
     subst (λ z. Kept m w h places t n z) (same_Some _ p c.1)
-    (same_history m (record { log = w.log; nodes = slice_set w.nodes n (record node { desk = claimed node.desk; batch = ClaimedBatch (batch_of node.desk) }) }) h places t (record {
+    (same_history m (record { log = w.log; nodes = slice_set w.nodes n (record node { desk = claimed node.desk; batch = Held (batch_of node.desk) }) }) h places t (record {
       catalogue = x.catalogue;
       explains = x.explains;
       log = x.log;
+      count = set_length w.nodes n (record node { desk = claimed node.desk; batch = Held (batch_of node.desk) }) ∙ x.count;
+      callers = x.callers;
       stamps = x.stamps;
-      nodes = nodes_put (λ k y. NodeStands m w.log.done h places t k y) w.nodes n (record node { desk = claimed node.desk; batch = ClaimedBatch (batch_of node.desk) }) (λ k old ne g. x.nodes k old g)
+      nodes = nodes_put (λ k y. NodeStands m w.log.done h places t k y) w.nodes n (record node { desk = claimed node.desk; batch = Held (batch_of node.desk) }) (λ k old ne g. x.nodes k old g)
           (node_claimed m w h places t n node o idle);
     }))
 
@@ -117,7 +119,7 @@ answers_ended (q ∷ rs) [] place (suc k) r g l = answers_ended rs [] place k r 
 answers_ended (q ∷ rs) (outcome ∷ outcomes) place zero r g l = absurd (omega arith)
 answers_ended (q ∷ rs) (outcome ∷ outcomes) place (suc k) r g l = answers_ended rs outcomes (place + 1) k r g (omega arith)
 
-module _ (m : Opening) (w : WorldView) (h : History) (places : Places) (t : Trace) (n : ℕ) (node : NodeView) (b : Written) (o : NodeStands m w.log.done h places t n node) (is_b : node.batch ≡ AppendedBatch b)
+module _ (m : Opening) (w : WorldView) (h : History) (places : Places) (t : Trace) (n : ℕ) (node : NodeView) (b : Written) (o : NodeStands m w.log.done h places t n node) (is_b : node.batch ≡ InLog b)
     (empty : node.hand.records ≡ []) (below : node.replica.tail ≤ w.log.done) where
   wr : WrittenStands m h node.replica node.hand b
   wr = subst (λ y. BatchStands m h node.replica node.hand y) is_b o.batch
@@ -136,7 +138,7 @@ module _ (m : Opening) (w : WorldView) (h : History) (places : Places) (t : Trac
 
   -- the answer to the k-th request stands for it
   abbrev pub AnswersWell : ℕ → Record → Reply → Type 0
-  AnswersWell k r y = (c : ℕ) (x count : ℕ) → OpenAt m h places t x count Update r.op (place_in (AppendedBatch b) k) c → ReplyStands m w.log.done h places t x count y
+  AnswersWell k r y = (c : ℕ) (x count : ℕ) → OpenAt m h places t x count Update r.op (place_in (InLog b) k) c → ReplyStands m w.log.done h places t x count y
 
   answer_at : (k : ℕ) (r : Record) → slice_get b.batch.records k ≡ Some r → (y : Reply) × (slice_get (answered_batch b).answers k ≡ Some (Some y)) × AnswersWell k r y
   answer_at k r g =
@@ -189,7 +191,7 @@ module _ (m : Opening) (w : WorldView) (h : History) (places : Places) (t : Trac
       let r = request_at s x at is in
       ((answer_at r.0 r.1 r.2).0, ap (λ a. answer_for a b.batch.records (answered_batch b).answers) (sym r.3) ∙ answer_is r.0 r.1 r.2)
 
-  desk_replied : DeskStands m n (record node { desk = replied (answered_batch b) node.desk; batch = NoBatch })
+  desk_replied : DeskStands m n (record node { desk = replied (answered_batch b) node.desk; batch = Absent })
   desk_replied = record {
     number = o.desk.number;
     slots = answered_length (first_author node.desk) (answered_batch b) node.desk.slots ∙ o.desk.slots;
@@ -199,8 +201,8 @@ module _ (m : Opening) (w : WorldView) (h : History) (places : Places) (t : Trac
   }
 
   stage_replied : (s : ℕ) (x : Slot) → slice_get node.desk.slots s ≡ Some x → (st : Stage) (read : Option BegunRead) → x.stage ≡ st
-      → StageStands m w.log.done h places t (session m.config n s) (AppendedBatch b) x.count st read
-      → StageStands m w.log.done h places t (session m.config n s) NoBatch x.count (answered_stage (answer_for (first_author node.desk + s) b.batch.records (answered_batch b).answers) st) read
+      → StageStands m w.log.done h places t (session m.config n s) (InLog b) x.count st read
+      → StageStands m w.log.done h places t (session m.config n s) Absent x.count (answered_stage (answer_for (first_author node.desk + s) b.batch.records (answered_batch b).answers) st) read
   stage_replied s x at Empty None is p = p
   stage_replied s x at Empty (Some read) is p = p
   stage_replied s x at (Posted op) None is p = p
@@ -211,16 +213,16 @@ module _ (m : Opening) (w : WorldView) (h : History) (places : Places) (t : Trac
   stage_replied s x at Claimed None is (c, k, r, g, by, seq, opened) =
       let known : answer_for (first_author node.desk + s) b.batch.records (answered_batch b).answers ≡ Some ((answer_at k r g).0) =
       ap (λ a. answer_for a b.batch.records (answered_batch b).answers) (session_is m n node s o.desk ∙ sym by) ∙ answer_is k r g in
-      subst (λ v. StageStands m w.log.done h places t (session m.config n s) NoBatch x.count (with_answer v) None) (sym known) ((answer_at k r g).2 c (session m.config n s) x.count opened)
+      subst (λ v. StageStands m w.log.done h places t (session m.config n s) Absent x.count (with_answer v) None) (sym known) ((answer_at k r g).2 c (session m.config n s) x.count opened)
 
-  pub node_replied : NodeStands m w.log.done h places t n (record node { desk = replied (answered_batch b) node.desk; batch = NoBatch })
+  pub node_replied : NodeStands m w.log.done h places t n (record node { desk = replied (answered_batch b) node.desk; batch = Absent })
   node_replied = record {
     replica = o.replica;
     desk = desk_replied;
     batch = tt;
     seats = λ s y read there begun.
         let c = answered_get (first_author node.desk) (answered_batch b) node.desk.slots s y there in
-        subst (λ z. StageStands m w.log.done h places t (session m.config n s) NoBatch z.count z.stage read) c.2
+        subst (λ z. StageStands m w.log.done h places t (session m.config n s) Absent z.count z.stage read) c.2
         (stage_replied s c.0 c.1 (c.0).stage read refl (subst (λ v. StageStands m w.log.done h places t (session m.config n s) v (c.0).count (c.0).stage read) is_b (o.seats s c.0 read c.1 begun)));
   }
 
@@ -230,17 +232,19 @@ keeps_reply m w h places t n node p at_n taken x =
     let r = then_gives _ (appended_batch node.batch) p taken in
     let b : Written = r.0 in
     let is_b = appended_is node.batch b r.1 in
-    let c = cond_gives (is_none node.hand.records && nat_le node.replica.tail w.log.done) _ p r.2 in
-    let tests = and_parts (is_none node.hand.records) (nat_le node.replica.tail w.log.done) c.0 in
+    let c = cond_gives (no_records node.hand.records && nat_le node.replica.tail w.log.done) _ p r.2 in
+    let tests = and_parts (no_records node.hand.records) (nat_le node.replica.tail w.log.done) c.0 in
     let empty = none_is node.hand.records tests.0 in
     let below = leb-true node.replica.tail w.log.done tests.1 in
     let o = x.nodes n node at_n in
     subst (λ z. Kept m w h places t n z) (same_Some _ p c.1)
-    (same_history m (record { log = w.log; nodes = slice_set w.nodes n (record node { desk = replied (answered_batch b) node.desk; batch = NoBatch }) }) h places t (record {
+    (same_history m (record { log = w.log; nodes = slice_set w.nodes n (record node { desk = replied (answered_batch b) node.desk; batch = Absent }) }) h places t (record {
       catalogue = x.catalogue;
       explains = x.explains;
       log = x.log;
+      count = set_length w.nodes n (record node { desk = replied (answered_batch b) node.desk; batch = Absent }) ∙ x.count;
+      callers = x.callers;
       stamps = x.stamps;
-      nodes = nodes_put (λ k y. NodeStands m w.log.done h places t k y) w.nodes n (record node { desk = replied (answered_batch b) node.desk; batch = NoBatch }) (λ k old ne g. x.nodes k old g)
+      nodes = nodes_put (λ k y. NodeStands m w.log.done h places t k y) w.nodes n (record node { desk = replied (answered_batch b) node.desk; batch = Absent }) (λ k old ne g. x.nodes k old g)
           (node_replied m w h places t n node b o is_b empty below);
     }))

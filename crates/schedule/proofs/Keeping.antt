@@ -15,7 +15,7 @@ use Rattle.replica.specs.Replaying.{KeepsOutcomes}
 use Rattle.replica.proofs.Kept.{count_with, at_with, off_with}
 use Rattle.schedule.specs.declared.parts.Written.{Written}
 use Rattle.schedule.specs.declared.parts.NodeBatch.{NodeBatch}
-use Rattle.schedule.specs.declared.parts.NodeBatch.TheVariants.{NoBatch, ClaimedBatch, AppendedBatch}
+use Rattle.schedule.specs.declared.parts.NodeBatch.TheVariants.{Absent, Held, InLog}
 use Rattle.schedule.specs.declared.parts.Opening.{Opening}
 use Rattle.schedule.specs.Worlds.{NodeView, with_effect, outcomes_after, batch_after, replayed}
 use Rattle.schedule.specs.Taking.{CanRun}
@@ -163,21 +163,21 @@ module _ {c : CatalogueView} {node : NodeView} (x : CanRun c node) where
       ∙ ap (λ v. ran_to m (record { tail = node.replica.tail + length node.hand.records; maps = after store_meaning m.catalogue node.replica.maps node.hand.records }) v batch) second
       ∙ ap (λ v. ran_to m (record { tail = node.replica.tail + length node.hand.records; maps = after store_meaning m.catalogue node.replica.maps node.hand.records }) (record node.hand { begin = node.replica.tail + length node.hand.records; records = [] }) v) third
 
-  pub ran_written : (m : Opening) (replica : ReplicaView) (hand : HandView) (b : Written) (replies : RepliesView) → m.catalogue ≡ c → node.batch ≡ AppendedBatch b → replica.tail ≡ node.replica.tail + length node.hand.records
+  pub ran_written : (m : Opening) (replica : ReplicaView) (hand : HandView) (b : Written) (replies : RepliesView) → m.catalogue ≡ c → node.batch ≡ InLog b → replica.tail ≡ node.replica.tail + length node.hand.records
       → replica.maps ≡ after store_meaning c node.replica.maps node.hand.records → hand ≡ record node.hand { begin = replica.tail; records = [] }
       → KeepsOutcomes c node.replica.maps node.replica.tail node.hand.records b.replies replies
-      → ran_to m replica hand (AppendedBatch (record b { replies = replies })) ≡ replayed m node.hand.records node
+      → ran_to m replica hand (InLog (record b { replies = replies })) ≡ replayed m node.hand.records node
   ran_written m replica hand b replies same is tail maps left keeps =
-      ran_with m replica hand (AppendedBatch (record b { replies = replies })) same tail maps left
-      (ap (λ v. AppendedBatch (record b { replies = v })) (keeps_after c node.replica.maps node.replica.tail node.hand.records b.replies replies run_takes keeps)
+      ran_with m replica hand (InLog (record b { replies = replies })) same tail maps left
+      (ap (λ v. InLog (record b { replies = v })) (keeps_after c node.replica.maps node.replica.tail node.hand.records b.replies replies run_takes keeps)
       ∙ ap (λ v. batch_after c node.replica.maps node.replica.tail node.hand.records v) (sym is))
 
-  not_written : (b : NodeBatch) → ((w : Written) → b ≡ AppendedBatch w → ⊥) → b ≡ batch_after c node.replica.maps node.replica.tail node.hand.records b
-  not_written NoBatch ne = refl
-  not_written (ClaimedBatch b) ne = refl
-  not_written (AppendedBatch b) ne = absurd (ne b refl)
+  not_written : (b : NodeBatch) → ((w : Written) → b ≡ InLog w → ⊥) → b ≡ batch_after c node.replica.maps node.replica.tail node.hand.records b
+  not_written Absent ne = refl
+  not_written (Held b) ne = refl
+  not_written (InLog b) ne = absurd (ne b refl)
 
-  pub ran_other : (m : Opening) (replica : ReplicaView) (hand : HandView) → m.catalogue ≡ c → ((w : Written) → node.batch ≡ AppendedBatch w → ⊥) → replica.tail ≡ node.replica.tail + length node.hand.records
+  pub ran_other : (m : Opening) (replica : ReplicaView) (hand : HandView) → m.catalogue ≡ c → ((w : Written) → node.batch ≡ InLog w → ⊥) → replica.tail ≡ node.replica.tail + length node.hand.records
       → replica.maps ≡ after store_meaning c node.replica.maps node.hand.records → hand ≡ record node.hand { begin = replica.tail; records = [] }
       → ran_to m replica hand node.batch ≡ replayed m node.hand.records node
   ran_other m replica hand same ne tail maps left = ran_with m replica hand node.batch same tail maps left (not_written node.batch ne)

@@ -14,3 +14,4 @@ pub mod Runs
 pub mod Keeping
 pub mod Owned
 pub mod Answers
+pub mod ReadOff

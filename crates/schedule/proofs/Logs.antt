@@ -8,13 +8,13 @@ use Rattle.oplog.specs.Logs.{HandView}
 use Rattle.oplog.specs.Sessions.{session}
 use Rattle.replica.specs.Views.{ReplicaView}
 use Rattle.schedule.specs.declared.parts.NodeBatch.{NodeBatch}
-use Rattle.schedule.specs.declared.parts.NodeBatch.TheVariants.{NoBatch, ClaimedBatch, AppendedBatch}
+use Rattle.schedule.specs.declared.parts.NodeBatch.TheVariants.{Absent, Held, InLog}
 use Rattle.schedule.specs.Trace.{Trace, Places}
 use Rattle.schedule.specs.declared.parts.Opening.{Opening}
 use Rattle.schedule.specs.Worlds.{NodeView, WorldView, reclaimed, rebased}
-use Rattle.schedule.specs.Steps.{Part, finish, reclaim, rebase, is_none}
+use Rattle.schedule.specs.Steps.{Part, finish, reclaim, rebase, no_records}
 use Rattle.schedule.specs.Stands.{NodeStands, BatchStands, Stands}
-use Rattle.schedule.proofs.Lists.{get_drop}
+use Rattle.schedule.proofs.Lists.{get_drop, set_length}
 use Rattle.schedule.proofs.Options.{cond_gives, none_is}
 use Rattle.schedule.proofs.Seats.{stage_done}
 use Rattle.schedule.proofs.Calls.{nodes_put, Kept, same_history}
@@ -48,6 +48,8 @@ keeps_finish m w h places t n node p at_n taken x =
         within = x.log.within;
         window = x.log.window;
       };
+      count = set_length w.nodes n node ∙ x.count;
+      callers = x.callers;
       stamps = λ b y a g. let l = x.stamps b y a g in omega arith;
       nodes = nodes_put (λ k y. NodeStands m node.replica.tail h places t k y) w.nodes n node
           (λ k old ne g. node_done m w.log.done node.replica.tail h places t k old (omega arith) (x.nodes k old g))
@@ -77,6 +79,8 @@ keeps_reclaim m w h places t n node p at_n taken x =
         within = x.log.within;
         window = x.log.window;
       };
+      count = set_length w.nodes n node ∙ x.count;
+      callers = x.callers;
       stamps = x.stamps;
       nodes = nodes_put (λ k y. NodeStands m w.log.done h places t k y) w.nodes n node (λ k old ne g. x.nodes k old g) o;
     }))
@@ -84,9 +88,9 @@ keeps_reclaim m w h places t n node p at_n taken x =
 -- a replica that moves up to the base has its batch behind it
 moved : (m : Opening) (h : History) (replica : ReplicaView) (hand : HandView) (new : ReplicaView) (b : NodeBatch) → replica.tail ≤ new.tail → hand.records ≡ [] → new.tail ≤ length h
     → BatchStands m h replica hand b → BatchStands m h new (record hand { begin = new.tail; records = [] }) b
-moved m h replica hand new NoBatch l empty inside p = p
-moved m h replica hand new (ClaimedBatch b) l empty inside p = p
-moved m h replica hand new (AppendedBatch b) l empty inside p =
+moved m h replica hand new Absent l empty inside p = p
+moved m h replica hand new (Held b) l empty inside p = p
+moved m h replica hand new (InLog b) l empty inside p =
     let nothing : length hand.records ≡ 0 = ap length empty in
     let a = p.ahead in
     record {
@@ -101,8 +105,8 @@ moved m h replica hand new (AppendedBatch b) l empty inside p =
 pub keeps_rebase : (m : Opening) (w : WorldView) (h : History) (places : Places) (t : Trace) (n : ℕ) (node : NodeView) (p : Part)
     → slice_get w.nodes n ≡ Some node → rebase w.log node ≡ Some p → Stands m w h places t → Kept m w h places t n p
 keeps_rebase m w h places t n node p at_n taken x =
-    let c = cond_gives (nat_lt node.replica.tail w.log.base && is_none node.hand.records) _ p taken in
-    let tests = and_parts (nat_lt node.replica.tail w.log.base) (is_none node.hand.records) c.0 in
+    let c = cond_gives (nat_lt node.replica.tail w.log.base && no_records node.hand.records) _ p taken in
+    let tests = and_parts (nat_lt node.replica.tail w.log.base) (no_records node.hand.records) c.0 in
     let below = ltb-true node.replica.tail w.log.base tests.0 in
     let empty = none_is node.hand.records tests.1 in
     let o = x.nodes n node at_n in
@@ -114,6 +118,8 @@ keeps_rebase m w h places t n node p at_n taken x =
       catalogue = x.catalogue;
       explains = x.explains;
       log = x.log;
+      count = set_length w.nodes n (rebased w.log node) ∙ x.count;
+      callers = x.callers;
       stamps = x.stamps;
       nodes = nodes_put (λ k y. NodeStands m w.log.done h places t k y) w.nodes n (rebased w.log node) (λ k old ne g. x.nodes k old g)
           (record {

@@ -15,8 +15,8 @@ use Rattle.combiner.specs.Desks.{DeskView, BatchView, Collection, with_slot, pos
 use Rattle.schedule.specs.declared.parts.BegunRead.{BegunRead}
 use Rattle.schedule.specs.declared.parts.Written.{Written}
 use Rattle.schedule.specs.declared.parts.NodeBatch.{NodeBatch}
-use Rattle.schedule.specs.declared.parts.NodeBatch.TheVariants.{NoBatch, ClaimedBatch, AppendedBatch}
-use Rattle.schedule.specs.Steps.{is_free, no_read, no_batch, is_none, claimed_batch, appended_batch}
+use Rattle.schedule.specs.declared.parts.NodeBatch.TheVariants.{Absent, Held, InLog}
+use Rattle.schedule.specs.Steps.{is_free, no_read, no_batch, no_records, claimed_batch, appended_batch}
 
 -- ---- options
 
@@ -79,25 +79,25 @@ collected_is s d c e =
 
 -- ---- batches
 
-pub no_batch_is : (b : NodeBatch) → no_batch b ≡ true → b ≡ NoBatch
-no_batch_is NoBatch e = refl
-no_batch_is (ClaimedBatch b) e = absurd (false≢true e)
-no_batch_is (AppendedBatch b) e = absurd (false≢true e)
+pub no_batch_is : (b : NodeBatch) → no_batch b ≡ true → b ≡ Absent
+no_batch_is Absent e = refl
+no_batch_is (Held b) e = absurd (false≢true e)
+no_batch_is (InLog b) e = absurd (false≢true e)
 
-pub claimed_is : (o : NodeBatch) (b : BatchView) → claimed_batch o ≡ Some b → o ≡ ClaimedBatch b
-claimed_is NoBatch b e = absurd (none-some b e)
-claimed_is (ClaimedBatch c) b e = ap ClaimedBatch (same_Some c b e)
-claimed_is (AppendedBatch c) b e = absurd (none-some b e)
+pub claimed_is : (o : NodeBatch) (b : BatchView) → claimed_batch o ≡ Some b → o ≡ Held b
+claimed_is Absent b e = absurd (none-some b e)
+claimed_is (Held c) b e = ap Held (same_Some c b e)
+claimed_is (InLog c) b e = absurd (none-some b e)
 
-pub appended_is : (o : NodeBatch) (b : Written) → appended_batch o ≡ Some b → o ≡ AppendedBatch b
-appended_is NoBatch b e = absurd (none-some b e)
-appended_is (ClaimedBatch c) b e = absurd (none-some b e)
-appended_is (AppendedBatch c) b e = ap AppendedBatch (same_Some c b e)
+pub appended_is : (o : NodeBatch) (b : Written) → appended_batch o ≡ Some b → o ≡ InLog b
+appended_is Absent b e = absurd (none-some b e)
+appended_is (Held c) b e = absurd (none-some b e)
+appended_is (InLog c) b e = ap InLog (same_Some c b e)
 
-pub none_is : (rs : List Record) → is_none rs ≡ true → rs ≡ []
+pub none_is : (rs : List Record) → no_records rs ≡ true → rs ≡ []
 none_is [] e = refl
 none_is (r ∷ rs) e = absurd (false≢true e)
 
-pub some_is : (rs : List Record) → not (is_none rs) ≡ true → rs ≢ []
+pub some_is : (rs : List Record) → not (no_records rs) ≡ true → rs ≢ []
 some_is [] e = absurd (false≢true e)
 some_is (r ∷ rs) e = λ n. let l : length (r ∷ rs) ≡ 0 = ap length n in absurd (omega arith)

@@ -26,13 +26,13 @@ use Rattle.replica.proofs.Tested.{is_tested, tests_true}
 use Rattle.replica.proofs.Histories.{have_effects}
 use Rattle.schedule.specs.declared.parts.BegunRead.{BegunRead}
 use Rattle.schedule.specs.declared.parts.NodeBatch.{NodeBatch}
-use Rattle.schedule.specs.declared.parts.NodeBatch.TheVariants.{NoBatch, ClaimedBatch}
+use Rattle.schedule.specs.declared.parts.NodeBatch.TheVariants.{Absent, Held}
 use Rattle.schedule.specs.declared.parts.Opening.{Opening}
 use Rattle.schedule.specs.declared.steps.StepAnswer.TheVariants as answers
 use Rattle.schedule.specs.Trace.{Trace, Places}
 use Rattle.schedule.specs.Explains.{count_of}
 use Rattle.schedule.specs.Worlds.{NodeView, to_run, replayed}
-use Rattle.schedule.specs.Steps.{silent, read_at, claim, no_batch, has_next, is_none, replay}
+use Rattle.schedule.specs.Steps.{silent, read_at, claim, no_batch, has_next, no_records, replay}
 use Rattle.schedule.specs.Stands.{StageStands, batch_in}
 use Rattle.schedule.specs.Taking.{IsOfStore, TakesPart, CanRun, CanCopy, with_next}
 use Rattle.schedule.proofs.Lists.{get_in, get_some}
@@ -112,14 +112,14 @@ refused false false e one two f g = refl
 refused true b e one two f g = absurd (false≢true (sym f))
 
 -- where nothing can be claimed, the step may not be taken
-pub claim_refused : {m : Opening} {h : Log} {node : NodeView} → IsOfStore m h node → node.batch ≡ NoBatch → (e : DeskRefused) → claim_refusal node.desk ≡ Some e
+pub claim_refused : {m : Opening} {h : Log} {node : NodeView} → IsOfStore m h node → node.batch ≡ Absent → (e : DeskRefused) → claim_refusal node.desk ≡ Some e
     → (g : Log) (desk : DeskView) → desk ≡ node.desk → TakesPart (claim g node) g node g (record node { desk = desk }) answers.NotNow
 claim_refused {m} {h} {node} x idle e refusal g desk same =
     let free : claimed_from (first_author node.desk) node.desk.slots ≡ [] = sym (subst (λ b. IsBatchOf node.desk (batch_in b)) idle x.stands.desk.own) in
     let nobody = no_combiner (first_author node.desk) node.desk.slots free in
     let nothing : has_request node.desk ≡ false = refused (has_combiner node.desk) (has_request node.desk) e _ _ nobody refusal in
     let no : (no_batch node.batch && has_request node.desk) ≡ false = ap (λ b. no_batch b && has_request node.desk) idle ∙ nothing in
-    subst (λ b. TakesPart (cond b (Some (silent g (record node { desk = claimed node.desk; batch = ClaimedBatch (batch_of node.desk) }))) None) g node g (record node { desk = desk }) answers.NotNow) (sym no)
+    subst (λ b. TakesPart (cond b (Some (silent g (record node { desk = claimed node.desk; batch = Held (batch_of node.desk) }))) None) g node g (record node { desk = desk }) answers.NotNow) (sym no)
     (refl, refl, ap (λ d. (let v : NodeView = record node { desk = d } in v)) same)
 
 -- ---- replaying
@@ -128,7 +128,7 @@ pub can_copy : {m : Opening} {g : Log} {node : NodeView} → IsOfStore m g node 
 can_copy {m} {g} {node} x next = record {
   tail = (let a = x.stands.replica.tail in let b = x.log.ends in omega arith);
   above = λ empty. ⊎_elim (λ y. absurd (some_is node.hand.records y empty)) (λ y. (let q = and_parts (nat_le g.base node.replica.tail) (nat_lt node.replica.tail (tail_of g)) y in leb-true g.base node.replica.tail q.0))
-      (or_cases (not (is_none node.hand.records)) (nat_le g.base node.replica.tail && nat_lt node.replica.tail (tail_of g)) next);
+      (or_cases (not (no_records node.hand.records)) (nat_le g.base node.replica.tail && nat_lt node.replica.tail (tail_of g)) next);
   begins = x.stands.replica.begins;
   window = x.stands.replica.window ∙ sym x.log.window;
 }
@@ -138,7 +138,7 @@ can_run {m} {g} {node} c same x next =
     let can : (node.hand.records ≢ []) ⊎ ((g.base ≤ node.replica.tail) × (node.replica.tail < tail_of g)) =
     ⊎_elim (λ y. inl (some_is node.hand.records y))
     (λ y. let q = and_parts (nat_le g.base node.replica.tail) (nat_lt node.replica.tail (tail_of g)) y in inr (leb-true g.base node.replica.tail q.0, ltb-true node.replica.tail (tail_of g) q.1))
-    (or_cases (not (is_none node.hand.records)) (nat_le g.base node.replica.tail && nat_lt node.replica.tail (tail_of g)) next) in
+    (or_cases (not (no_records node.hand.records)) (nat_le g.base node.replica.tail && nat_lt node.replica.tail (tail_of g)) next) in
     let runs = runs_next m (record { log = g; nodes = [] }) x.history x.places x.trace x.number node node.hand.records refl can x.log x.stands in
     subst (λ k. CanRun k (with_next g node)) same (record {
       history = x.history;

@@ -15,11 +15,11 @@ use Rattle.replica.proofs.Histories.{have_effects}
 use Rattle.combiner.specs.Desks.{BatchView, IsBatchOf}
 use Rattle.schedule.specs.declared.parts.Written.{Written}
 use Rattle.schedule.specs.declared.parts.NodeBatch.{NodeBatch}
-use Rattle.schedule.specs.declared.parts.NodeBatch.TheVariants.{NoBatch, ClaimedBatch, AppendedBatch}
+use Rattle.schedule.specs.declared.parts.NodeBatch.TheVariants.{Absent, Held, InLog}
 use Rattle.schedule.specs.Trace.{Trace, Places}
 use Rattle.schedule.specs.declared.parts.Opening.{Opening}
 use Rattle.schedule.specs.Worlds.{NodeView, WorldView, with_effect, outcomes_after, batch_after, replayed, to_run}
-use Rattle.schedule.specs.Steps.{Part, replay, is_none}
+use Rattle.schedule.specs.Steps.{Part, replay, no_records}
 use Rattle.schedule.specs.Stands.{DeskStands, NodeStands, LogStands, BatchStands, WrittenStands, Stands, batch_in, place_in}
 use Rattle.schedule.proofs.Lists.{get_drop, get_in, get_some, set_same, set_other, set_length}
 use Rattle.schedule.proofs.Options.{cond_gives, some_is}
@@ -138,28 +138,28 @@ written_all m h (r ∷ rs) tail maps hand b new left whole updates next is at em
     (written_next m h tail maps hand r rs b _ (left_by (store_meaning.update m.catalogue r.op maps) maps) there takes x))
 
 kept_records : (c : CatalogueView) (maps : Maps) (tail : ℕ) (rs : History) (b : NodeBatch) → batch_in (batch_after c maps tail rs b) ≡ batch_in b
-kept_records c maps tail rs NoBatch = refl
-kept_records c maps tail rs (ClaimedBatch b) = refl
-kept_records c maps tail rs (AppendedBatch b) = refl
+kept_records c maps tail rs Absent = refl
+kept_records c maps tail rs (Held b) = refl
+kept_records c maps tail rs (InLog b) = refl
 
 kept_places : (c : CatalogueView) (maps : Maps) (tail : ℕ) (rs : History) (b : NodeBatch) (k : ℕ) → place_in b k ≡ place_in (batch_after c maps tail rs b) k
-kept_places c maps tail rs NoBatch k = refl
-kept_places c maps tail rs (ClaimedBatch b) k = refl
-kept_places c maps tail rs (AppendedBatch b) k = refl
+kept_places c maps tail rs Absent k = refl
+kept_places c maps tail rs (Held b) k = refl
+kept_places c maps tail rs (InLog b) k = refl
 
 batch_all : (m : Opening) (h rs : History) (tail : ℕ) (maps : Maps) (hand : HandView) (b : NodeBatch) (new : ReplicaView) (left : HandView)
     → IsCatalogue m.catalogue → AreUpdates m.catalogue h → ((j : ℕ) (f : Record) → slice_get rs j ≡ Some f → slice_get h (tail + j) ≡ Some f) → maps ≡ maps_after store_meaning m.catalogue h tail
     → new.tail ≡ tail + length rs → left.records ≡ []
     → BatchStands m h (replica_at tail maps) (hand_of hand rs) b → BatchStands m h new left (batch_after m.catalogue maps tail rs b)
-batch_all m h rs tail maps hand NoBatch new left whole updates next is at empty x = tt
-batch_all m h rs tail maps hand (ClaimedBatch b) new left whole updates next is at empty x = tt
-batch_all m h rs tail maps hand (AppendedBatch b) new left whole updates next is at empty x = written_all m h rs tail maps hand b new left whole updates next is at empty x
+batch_all m h rs tail maps hand Absent new left whole updates next is at empty x = tt
+batch_all m h rs tail maps hand (Held b) new left whole updates next is at empty x = tt
+batch_all m h rs tail maps hand (InLog b) new left whole updates next is at empty x = written_all m h rs tail maps hand b new left whole updates next is at empty x
 
 -- a hand that was empty has more records
 more_hand : (m : Opening) (h rs : History) (replica : ReplicaView) (hand : HandView) (b : NodeBatch) → hand.records ≡ [] → BatchStands m h replica hand b → BatchStands m h replica (hand_of hand rs) b
-more_hand m h rs replica hand NoBatch empty x = x
-more_hand m h rs replica hand (ClaimedBatch b) empty x = x
-more_hand m h rs replica hand (AppendedBatch b) empty x =
+more_hand m h rs replica hand Absent empty x = x
+more_hand m h rs replica hand (Held b) empty x = x
+more_hand m h rs replica hand (InLog b) empty x =
     let nothing : length hand.records ≡ 0 = ap length empty in
     let a = x.ahead in
     record { first = x.first; count = x.count; placed = x.placed; ahead = omega arith; known = x.known; ended = λ short. let f = x.ended short in omega arith }
@@ -185,11 +185,11 @@ runs_next m w h places t n node (r ∷ rs) is can log x = (
 pub keeps_replay : (m : Opening) (w : WorldView) (h : History) (places : Places) (t : Trace) (n : ℕ) (node : NodeView) (p : Part)
     → slice_get w.nodes n ≡ Some node → replay m w.log node ≡ Some p → Stands m w h places t → Kept m w h places t n p
 keeps_replay m w h places t n node p at_n taken x =
-    let c = cond_gives (not (is_none node.hand.records) || (nat_le w.log.base node.replica.tail && nat_lt node.replica.tail (tail_of w.log))) _ p taken in
+    let c = cond_gives (not (no_records node.hand.records) || (nat_le w.log.base node.replica.tail && nat_lt node.replica.tail (tail_of w.log))) _ p taken in
     let can : (node.hand.records ≢ []) ⊎ ((w.log.base ≤ node.replica.tail) × (node.replica.tail < tail_of w.log)) =
     ⊎_elim (λ y. inl (some_is node.hand.records y))
     (λ y. let q = and_parts (nat_le w.log.base node.replica.tail) (nat_lt node.replica.tail (tail_of w.log)) y in inr (leb-true w.log.base node.replica.tail q.0, ltb-true node.replica.tail (tail_of w.log) q.1))
-    (or_cases (not (is_none node.hand.records)) (nat_le w.log.base node.replica.tail && nat_lt node.replica.tail (tail_of w.log)) c.0) in
+    (or_cases (not (no_records node.hand.records)) (nat_le w.log.base node.replica.tail && nat_lt node.replica.tail (tail_of w.log)) c.0) in
     let o = x.nodes n node at_n in
     let rs : History = to_run w.log node.replica.tail node.hand.records in
     let runs = runs_next m w h places t n node node.hand.records refl can x.log o in
@@ -200,6 +200,8 @@ keeps_replay m w h places t n node p at_n taken x =
       catalogue = x.catalogue;
       explains = x.explains;
       log = x.log;
+      count = set_length w.nodes n (replayed m rs node) ∙ x.count;
+      callers = x.callers;
       stamps = x.stamps;
       nodes = nodes_put (λ k y. NodeStands m w.log.done h places t k y) w.nodes n (replayed m rs node) (λ k old ne g. x.nodes k old g)
           (record {

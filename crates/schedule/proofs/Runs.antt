@@ -1,5 +1,5 @@
 -- What holds at the opening, after each step, and so after any list of steps.
-use Rattle.std.proofs.Common.{◌≡◌, ℕ, zero, suc, ◌+◌, ◌*◌, List, [], ◌∷◌, ◌++◌, length, Option, Some, None, refl, sym, ap, ◌∙◌, arith, subst}
+use Rattle.std.proofs.Common.{◌≡◌, ℕ, zero, suc, ◌+◌, ◌*◌, List, [], ◌∷◌, ◌++◌, length, Option, Some, None, refl, sym, ap, ◌∙◌, arith, subst, append_assoc}
 use Rattle.std.specs.Prelude.{slice_get, replicate, option_map}
 use Rattle.std.proofs.lemmas.Option.{none-some, same_Some}
 use Rattle.oplog.specs.History.{History}
@@ -8,7 +8,7 @@ use Rattle.combiner.specs.declared.slots.Reply.TheVariants.{Placed, Ended}
 use Rattle.combiner.specs.declared.slots.Stage.TheVariants.{Empty}
 use Rattle.combiner.specs.Slots.{slot}
 use Rattle.combiner.specs.Desks.{claimed_from}
-use Rattle.schedule.specs.declared.parts.NodeBatch.TheVariants.{NoBatch}
+use Rattle.schedule.specs.declared.parts.NodeBatch.TheVariants.{Absent}
 use Rattle.schedule.specs.declared.steps.Step.{Step}
 use Rattle.schedule.specs.declared.steps.Step.TheVariants.{Post, Claim, Append, Replay, Finish, Reply, Collect, ReadBegin, ReadAnswer, Reclaim, Rebase}
 use Rattle.schedule.specs.Trace.{Updated, ReadBack, Call, Back, Trace, Places}
@@ -20,7 +20,7 @@ use Rattle.loader.specs.CatalogueView.{IsCatalogue}
 use Rattle.oplog.specs.Limits.{IsConfig}
 use Rattle.oplog.specs.Logs.{Log, opened_log}
 use Rattle.schedule.specs.Taking.{opened_store, store_of, IsStanding}
-use Rattle.schedule.specs.Headline.{EverySchedule, StepKeeps, OpeningStands, StandingIsExplained}
+use Rattle.schedule.specs.Headline.{EverySchedule, StepKeeps, StepsKeep, OpeningStands, StandingIsExplained}
 use Rattle.schedule.proofs.Options.{then_gives, map_gives}
 use Rattle.schedule.proofs.Calls.{Kept, same_history, keeps_post, keeps_collect, keeps_read_begin, keeps_read_answer}
 use Rattle.schedule.proofs.Logs.{keeps_finish, keeps_reclaim, keeps_rebase}
@@ -78,6 +78,10 @@ nodes_get m first zero k node g = absurd (none-some node g)
 nodes_get m first (suc count) zero node g = let i : first + 0 ≡ first = omega arith in ap (opened_node m) i ∙ same_Some (opened_node m first) node g
 nodes_get m first (suc count) (suc k) node g = let i : first + suc k ≡ suc first + k = omega arith in ap (opened_node m) i ∙ nodes_get m (suc first) count k node g
 
+pub nodes_count : (m : Opening) (first count : ℕ) → length (opened_nodes m first count) ≡ count
+nodes_count m first zero = refl
+nodes_count m first (suc count) = ap suc (nodes_count m (suc first) count)
+
 none_claimed : (a n : ℕ) → claimed_from a (replicate n (slot Empty 0)) ≡ []
 none_claimed a zero = refl
 none_claimed a (suc n) = none_claimed (suc a) n
@@ -94,8 +98,8 @@ node_opened m n = record {
   };
   batch = tt;
   seats = λ s x read there begun.
-      subst (λ y. StageStands m 0 [] [] [] (session m.config n s) NoBatch y.count y.stage read) (replicate_get m.config.slots (slot Empty 0) s x there)
-      (subst (λ r. StageStands m 0 [] [] [] (session m.config n s) NoBatch 0 Empty r) (replicate_get m.config.slots None s read begun)
+      subst (λ y. StageStands m 0 [] [] [] (session m.config n s) Absent y.count y.stage read) (replicate_get m.config.slots (slot Empty 0) s x there)
+      (subst (λ r. StageStands m 0 [] [] [] (session m.config n s) Absent 0 Empty r) (replicate_get m.config.slots None s read begun)
       ((λ mode op c o. none-some (Call (session m.config n s) mode op) o.call), refl));
 }
 
@@ -126,6 +130,8 @@ opening_stands m whole = record {
     within = omega arith;
     window = refl;
   };
+  count = nodes_count m 0 m.config.nodes;
+  callers = λ c x mode op g. absurd (none-some (Call x mode op) g);
   stamps = λ b x answer g. absurd (none-some (Back x answer) g);
   nodes = λ n node g. let i : 0 + n ≡ n = omega arith in subst (λ y. NodeStands m 0 [] [] [] n y) (nodes_get m 0 m.config.nodes n node g) (subst (λ k. NodeStands m 0 [] [] [] n (opened_node m k)) (sym i) (node_opened m n));
 }
@@ -133,11 +139,19 @@ opening_stands m whole = record {
 -- ---- any list of steps
 
 pub run_stands : (m : Opening) (steps : List Step) (w : WorldView) (h : History) (places : Places) (t : Trace) → Stands m w h places t
-    → (g : History) × (ps : Places) × Stands m (world_of m w steps) g ps (trace_of m w t steps)
-run_stands m [] w h places t x = (h, places, x)
+    → (more : History) × (later : Places) × Stands m (world_of m w steps) (h ++ more) (places ++ later) (trace_of m w t steps)
+run_stands m [] w h places t x = same_history m w h places t x
 run_stands m (step ∷ steps) w h places t x =
     let k = step_keeps m w h places t step x in
-    run_stands m steps (world_after w (took m w step)) (h ++ k.0) (places ++ k.1) (trace_after t (took m w step)) k.2
+    let r = run_stands m steps (world_after w (took m w step)) (h ++ k.0) (places ++ k.1) (trace_after t (took m w step)) k.2 in (
+      k.0 ++ r.0,
+      k.1 ++ r.1,
+      subst (λ g. Stands m (world_of m w (step ∷ steps)) g (places ++ (k.1 ++ r.1)) (trace_of m w t (step ∷ steps))) (append_assoc h k.0 r.0)
+          (subst (λ ps. Stands m (world_of m w (step ∷ steps)) ((h ++ k.0) ++ r.0) ps (trace_of m w t (step ∷ steps))) (append_assoc places k.1 r.1) r.2),
+    )
+
+pub steps_keep : StepsKeep
+steps_keep m w h places t steps x = run_stands m steps w h places t x
 
 pub standing_is_explained : StandingIsExplained
 standing_is_explained m w h places t x = record {
@@ -163,10 +177,6 @@ nodes_next m first (suc count) =
 
 pub opening_is_standing : (m : Opening) → IsConfig m.config → IsCatalogue m.catalogue → IsStanding (opened_store m)
 opening_is_standing m config whole = record { config = config; history = []; places = []; trace = []; stands = opening_stands m whole }
-
-pub nodes_count : (m : Opening) (first count : ℕ) → length (opened_nodes m first count) ≡ count
-nodes_count m first zero = refl
-nodes_count m first (suc count) = ap suc (nodes_count m (suc first) count)
 
 -- a log and nodes that are new
 pub new_is_standing : (m : Opening) (g : Log) (nodes : List NodeView) → IsConfig m.config → IsCatalogue m.catalogue → g ≡ opened_log m.catalogue.shapes m.config.window m.config.limit → nodes ≡ opened_nodes m 0 m.config.nodes

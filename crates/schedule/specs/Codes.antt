@@ -14,8 +14,9 @@ use Rattle.schedule.specs.contracts.parts.BegunRead as read_row
 use Rattle.schedule.specs.declared.parts.Opening.{Opening}
 use Rattle.schedule.specs.contracts.parts.Opening as opening_row
 use Rattle.schedule.specs.Worlds.{NodeView, WorldView}
-use Rattle.schedule.specs.Taking.{StoreView}
+use Rattle.schedule.specs.Taking.{WorldState}
 
+-- nodes by their five parts
 abbrev pub node_code : Coded NodeView
 node_code =
     code_by (ReplicaView × (HandView × (DeskView × (NodeBatch × List (Option BegunRead)))))
@@ -24,8 +25,10 @@ node_code =
     (λ p. record { replica = p.0; hand = p.1.0; desk = p.1.1.0; batch = p.1.1.1.0; reads = p.1.1.1.1 })
     (λ _. refl)
 
+-- logs with their nodes
 abbrev pub world_code : Coded WorldView
 world_code = code_by (Log × List NodeView) (coded× log_code (coded_list node_code)) (λ w. (w.log, w.nodes)) (λ p. record { log = p.0; nodes = p.1 }) (λ _. refl)
 
-abbrev pub store_code : Coded StoreView
+-- stores by what they were opened with, their logs and their nodes
+abbrev pub store_code : Coded WorldState
 store_code = code_by (Opening × WorldView) (coded× opening_row.the_row.coded world_code) (λ s. (s.opening, s.world)) (λ p. record { opening = p.0; world = p.1 }) (λ _. refl)

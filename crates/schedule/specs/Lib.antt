@@ -1,8 +1,9 @@
--- What has to be believed: traces and what explains them, the store as one value, its steps, and the headline.
+-- What has to be believed: traces and what explains them, the store as one value, its steps, the trace as read off their answers, and the headline.
 pub mod Trace
 pub mod Explains
 pub mod Worlds
 pub mod Steps
+pub mod ReadOff
 pub mod Headline
 -- What holds at each moment.
 pub mod Stands

@@ -8,7 +8,7 @@ use Rattle.oplog.specs.declared.records.Record.{Record}
 use Rattle.oplog.specs.Operations.{Operation}
 use Rattle.oplog.specs.History.{Effect, History, maps_after, effect_at, reply_at}
 use Rattle.oplog.specs.Logs.{Log, HandView, tail_of}
-use Rattle.oplog.specs.Sessions.{session}
+use Rattle.oplog.specs.Sessions.{session, IsSessionOf}
 use Rattle.combiner.specs.declared.slots.Reply.{Reply}
 use Rattle.combiner.specs.declared.slots.Reply.TheVariants.{Placed, Ended}
 use Rattle.combiner.specs.declared.slots.Stage.{Stage}
@@ -20,8 +20,8 @@ use Rattle.replica.specs.Views.{ReplicaView}
 use Rattle.schedule.specs.declared.parts.BegunRead.{BegunRead}
 use Rattle.schedule.specs.declared.parts.Written.{Written}
 use Rattle.schedule.specs.declared.parts.NodeBatch.{NodeBatch}
-use Rattle.schedule.specs.declared.parts.NodeBatch.TheVariants.{NoBatch, ClaimedBatch, AppendedBatch}
-use Rattle.schedule.specs.Trace.{Answer, Back, Trace, Places, IsOpen, IsIdle, StampBefore, stamp}
+use Rattle.schedule.specs.declared.parts.NodeBatch.TheVariants.{Absent, Held, InLog}
+use Rattle.schedule.specs.Trace.{Answer, Call, Back, Trace, Places, IsOpen, IsIdle, StampBefore, stamp}
 use Rattle.schedule.specs.declared.parts.Opening.{Opening}
 use Rattle.schedule.specs.Explains.{Explains, count_of}
 use Rattle.schedule.specs.Worlds.{NodeView, WorldView}
@@ -47,9 +47,9 @@ pub record ReplicaStands (m : Opening) (h : History) (replica : ReplicaView) (ha
 
 -- the requests that a combiner has claimed, and their answers
 abbrev pub batch_in : NodeBatch → BatchView
-batch_in NoBatch = record { records = []; answers = [] }
-batch_in (ClaimedBatch b) = b
-batch_in (AppendedBatch b) = b.batch
+batch_in Absent = record { records = []; answers = [] }
+batch_in (Held b) = b
+batch_in (InLog b) = b.batch
 
 -- the desk is this node's, with a place for a read beside each slot; its claimed slots are those of the batch
 pub record DeskStands (m : Opening) (n : ℕ) (node : NodeView) : Type 0 where
@@ -69,32 +69,34 @@ pub record WrittenStands (m : Opening) (h : History) (replica : ReplicaView) (ha
       → (e : Effect Maps) × (effect_at store_meaning m.catalogue h (b.first + k) r.op ≡ Some e) × (slice_get b.replies.outcomes k ≡ Some (Some (outcome_of e)))
   pub ended : b.count < length b.batch.records → m.config.limit ≤ replica.tail + length hand.records
 
+-- of a batch that is not in the log nothing is asked here
 abbrev pub BatchStands : Opening → History → ReplicaView → HandView → NodeBatch → Type 0
-BatchStands m h replica hand NoBatch = Unit {0}
-BatchStands m h replica hand (ClaimedBatch b) = Unit {0}
-BatchStands m h replica hand (AppendedBatch b) = WrittenStands m h replica hand b
+BatchStands m h replica hand Absent = Unit {0}
+BatchStands m h replica hand (Held b) = Unit {0}
+BatchStands m h replica hand (InLog b) = WrittenStands m h replica hand b
 
 -- the place of the k-th request of a batch, if it has one
 abbrev pub place_in : NodeBatch → ℕ → Option ℕ
-place_in NoBatch k = None
-place_in (ClaimedBatch b) k = None
-place_in (AppendedBatch b) k = if nat_lt k b.count then Some (b.first + k) else None
+place_in Absent k = None
+place_in (Held b) k = None
+place_in (InLog b) k = if nat_lt k b.count then Some (b.first + k) else None
 
 -- the call has this place, or no place
 abbrev pub HasPlace : Places → ℕ → Option ℕ → Type 0
 HasPlace places c None = (i : ℕ) → slice_get places i ≢ Some c
 HasPlace places c (Some i) = slice_get places i ≡ Some c
 
-abbrev pub ones : Option ℕ → ℕ
-ones None = 0
-ones (Some i) = 1
+-- 1 where there is a place, else 0
+abbrev pub one_if_placed : Option ℕ → ℕ
+one_if_placed None = 0
+one_if_placed (Some i) = 1
 
 -- call c is open, with that place or none, and the history has beside it as many records of the session as its slot has counted
 pub record OpenAt (m : Opening) (h : History) (places : Places) (t : Trace) (x count : ℕ) (mode : Mode) (op : Operation) (place : Option ℕ) (c : ℕ) : Type 0 where
   pub is_open : IsOpen t x mode op c
   pub may : is_operation mode m.catalogue op ≡ true
   pub has : HasPlace places c place
-  pub counts : count_of x h ≡ count + ones place
+  pub counts : count_of x h ≡ count + one_if_placed place
 
 -- the answer that waits for the session is the right one to its open call, and is completed
 abbrev pub ReplyStands : Opening → ℕ → History → Places → Trace → ℕ → ℕ → Reply → Type 0
@@ -113,6 +115,7 @@ StageStands m done h places t x batch count Claimed None =
 StageStands m done h places t x batch count (Answered reply) None = ReplyStands m done h places t x count reply
 StageStands m done h places t x batch count stage (Some read) = ⊥
 
+-- the node stands for the history: its replica, its desk, its batch, and each of its slots
 pub record NodeStands (m : Opening) (done : ℕ) (h : History) (places : Places) (t : Trace) (n : ℕ) (node : NodeView) : Type 0 where
   pub replica : ReplicaStands m h node.replica node.hand
   pub desk : DeskStands m n node
@@ -120,10 +123,14 @@ pub record NodeStands (m : Opening) (done : ℕ) (h : History) (places : Places)
   pub seats : (s : ℕ) (x : Slot) (read : Option BegunRead) → slice_get node.desk.slots s ≡ Some x → slice_get node.reads s ≡ Some read
       → StageStands m done h places t (session m.config n s) node.batch x.count x.stage read
 
--- the history stands for the store: it explains the trace, the log and the nodes agree with it, and what was answered is completed
+-- the history stands for the store: it explains the trace, the log and the nodes agree with it, each call is one of a session of the
+-- store, and what was answered is completed
 pub record Stands (m : Opening) (w : WorldView) (h : History) (places : Places) (t : Trace) : Type 0 where
   pub catalogue : IsCatalogue m.catalogue
   pub explains : Explains m h places t
   pub log : LogStands m w.log h
+  -- as many nodes as it was opened with, and who has called is the session of a slot of one of them
+  pub count : length w.nodes ≡ m.config.nodes
+  pub callers : (c x : ℕ) (mode : Mode) (op : Operation) → slice_get t c ≡ Some (Call x mode op) → (n : ℕ) × IsSessionOf m.config n x
   pub stamps : (b x : ℕ) (answer : Answer) → slice_get t b ≡ Some (Back x answer) → stamp m.config.limit answer ≤ w.log.done
   pub nodes : (n : ℕ) (node : NodeView) → slice_get w.nodes n ≡ Some node → NodeStands m w.log.done h places t n node

@@ -12,7 +12,7 @@ use Rattle.replica.specs.StoreMeaning.{store_meaning, is_operation}
 use Rattle.schedule.specs.declared.parts.BegunRead.{BegunRead}
 use Rattle.schedule.specs.declared.parts.Written.{Written}
 use Rattle.schedule.specs.declared.parts.NodeBatch.{NodeBatch}
-use Rattle.schedule.specs.declared.parts.NodeBatch.TheVariants.{NoBatch, ClaimedBatch, AppendedBatch}
+use Rattle.schedule.specs.declared.parts.NodeBatch.TheVariants.{Absent, Held, InLog}
 use Rattle.schedule.specs.declared.steps.Step.{Step}
 use Rattle.schedule.specs.declared.steps.Step.TheVariants.{Post, Claim, Append, Replay, Finish, Reply, Collect, ReadBegin, ReadAnswer, Reclaim, Rebase}
 use Rattle.schedule.specs.Trace.{Updated, ReadBack, Event, Call, Back, Trace}
@@ -25,11 +25,13 @@ pub record Part : Type 0 where
   pub node : NodeView
   pub event : Option Event
 
+-- no call is made or answered
 abbrev pub silent : Log → NodeView → Part
 silent g node = record { log = g; node = node; event = None }
 
-abbrev pub says : Event → Log → NodeView → Part
-says e g node = record { log = g; node = node; event = Some e }
+-- a call is made or answered
+abbrev pub with_call_or_back : Event → Log → NodeView → Part
+with_call_or_back e g node = record { log = g; node = node; event = Some e }
 
 -- ---- what guards ask
 
@@ -37,10 +39,12 @@ says e g node = record { log = g; node = node; event = Some e }
 abbrev pub session_at : NodeView → ℕ → ℕ
 session_at node s = first_author node.desk + s
 
+-- the slot is there, and has no request
 abbrev pub is_free : Option Slot → Bool
 is_free (Some x) = is_empty x.stage
 is_free None = false
 
+-- the slot is there, and no read was begun at it
 abbrev pub no_read : Option (Option BegunRead) → Bool
 no_read (Some None) = true
 no_read (Some (Some read)) = false
@@ -50,53 +54,59 @@ no_read None = false
 abbrev pub is_idle : NodeView → ℕ → Bool
 is_idle node s = is_free (slice_get node.desk.slots s) && no_read (slice_get node.reads s)
 
+-- the node's combiner has no batch
 abbrev pub no_batch : NodeBatch → Bool
-no_batch NoBatch = true
+no_batch Absent = true
 no_batch batch = false
 
 -- there are no records
-abbrev pub is_none : List Record → Bool
-is_none [] = true
-is_none (r ∷ rs) = false
+abbrev pub no_records : List Record → Bool
+no_records [] = true
+no_records (r ∷ rs) = false
 
 -- the requests of the batch, while they are claimed and not appended
 abbrev pub claimed_batch : NodeBatch → Option BatchView
-claimed_batch (ClaimedBatch b) = Some b
+claimed_batch (Held b) = Some b
 claimed_batch batch = None
 
 -- the batch, once it is appended
 abbrev pub appended_batch : NodeBatch → Option Written
-appended_batch (AppendedBatch b) = Some b
+appended_batch (InLog b) = Some b
 appended_batch batch = None
 
 -- the read that was begun at a slot
 abbrev pub read_at : NodeView → ℕ → Option BegunRead
 read_at node s = option_and_then (λ read. read) (slice_get node.reads s)
 
+-- the node with this read, or none, at the slot
 abbrev pub with_read : NodeView → ℕ → Option BegunRead → NodeView
 with_read node s read = record node { reads = slice_set node.reads s read }
 
 -- ---- the steps of one node, over the log and the node; none where the step may not be taken
 
+-- post: the slot is idle, and the operation is an update of the catalogue; it is called, and its request is posted at the slot
 abbrev pub post : Opening → ℕ → Operation → Log → NodeView → Option Part
 post m s op g node =
     cond (is_idle node s && is_operation Update m.catalogue op)
-    (option_map (λ desk. says (Call (session_at node s) Update op) g (record node { desk = desk })) (posted s op node.desk))
+    (option_map (λ desk. with_call_or_back (Call (session_at node s) Update op) g (record node { desk = desk })) (posted s op node.desk))
     None
 
+-- claim: the node has no batch, and a request is posted at its desk; the posted requests are claimed as its batch
 abbrev pub claim : Log → NodeView → Option Part
 claim g node =
     cond (no_batch node.batch && has_request node.desk)
-    (Some (silent g (record node { desk = claimed node.desk; batch = ClaimedBatch (batch_of node.desk) })))
+    (Some (silent g (record node { desk = claimed node.desk; batch = Held (batch_of node.desk) })))
     None
 
 -- the node with its batch in the log, and with the records of the log that its replica lacks
 abbrev pub with_appended : Log → BatchView → NodeView → NodeView
 with_appended g b node = record node {
-  batch = AppendedBatch (written g b);
+  batch = InLog (written g b);
   hand = record node.hand { begin = node.replica.tail; records = records_from (grown g b.records) node.replica.tail };
 }
 
+-- append: a batch is claimed, what the replica lacks is still in the log, and the log has room for as many of the batch's records as
+-- the history may still have; the log gets them, and the records that the replica lacks are copied
 abbrev pub append : Log → NodeView → Option Part
 append g node =
     option_and_then (λ b.
@@ -107,52 +117,63 @@ append g node =
 
 -- there is a record to apply: copied, or in the log
 abbrev pub has_next : Log → NodeView → Bool
-has_next g node = not (is_none node.hand.records) || (nat_le g.base node.replica.tail && nat_lt node.replica.tail (tail_of g))
+has_next g node = not (no_records node.hand.records) || (nat_le g.base node.replica.tail && nat_lt node.replica.tail (tail_of g))
 
+-- replay: there is a record to apply; the replica applies the copied records, or where there are none those of the log that it lacks
 abbrev pub replay : Opening → Log → NodeView → Option Part
 replay m g node =
     cond (has_next g node)
     (Some (silent g (replayed m (to_run g node.replica.tail node.hand.records) node)))
     None
 
+-- finish: the replica is past the completed tail, which becomes the replica's tail
 abbrev pub finish : Log → NodeView → Option Part
 finish g node = cond (nat_lt g.done node.replica.tail) (Some (silent (record g { done = node.replica.tail }) node)) None
 
+-- reply: a batch is appended, no copied record is left to apply, and all that the replica has applied is completed; the batch's
+-- requests are answered at the desk, and the node has no batch then
 abbrev pub reply : Log → NodeView → Option Part
 reply g node =
     option_and_then (λ b.
-    cond (is_none node.hand.records && nat_le node.replica.tail g.done)
-    (Some (silent g (record node { desk = replied (answered_batch b) node.desk; batch = NoBatch })))
+    cond (no_records node.hand.records && nat_le node.replica.tail g.done)
+    (Some (silent g (record node { desk = replied (answered_batch b) node.desk; batch = Absent })))
     None)
     (appended_batch node.batch)
 
+-- collect: an answer waits at the slot; the slot's session takes it
 abbrev pub collect : ℕ → Log → NodeView → Option Part
-collect s g node = option_map (λ c. says (Back (session_at node s) (Updated c.reply)) g (record node { desk = c.desk })) (collected s node.desk)
+collect s g node = option_map (λ c. with_call_or_back (Back (session_at node s) (Updated c.reply)) g (record node { desk = c.desk })) (collected s node.desk)
 
+-- readbegin: the slot is idle, and the operation is a read of the catalogue; it is called, with the completed tail of that moment
 abbrev pub read_begin : Opening → ℕ → Operation → Log → NodeView → Option Part
 read_begin m s op g node =
     cond (is_idle node s && is_operation Read m.catalogue op)
-    (Some (says (Call (session_at node s) Read op) g (with_read node s (Some (record { op = op; seen = g.done })))))
+    (Some (with_call_or_back (Call (session_at node s) Read op) g (with_read node s (Some (record { op = op; seen = g.done })))))
     None
 
+-- readanswer: a read was begun at the slot, the replica has come to what the read saw completed, and all that the replica has applied
+-- is completed; the replica answers the read, at its own tail
 abbrev pub read_answer : Opening → ℕ → Log → NodeView → Option Part
 read_answer m s g node =
     option_and_then (λ read.
     cond (nat_le read.seen node.replica.tail && nat_le node.replica.tail g.done)
-    (option_map (λ e. says (Back (session_at node s) (ReadBack (record { point = node.replica.tail; reply = e.reply }))) g (with_read node s None))
+    (option_map (λ e. with_call_or_back (Back (session_at node s) (ReadBack (record { point = node.replica.tail; reply = e.reply }))) g (with_read node s None))
     (store_meaning.read m.catalogue read.op node.replica.maps))
     None)
     (read_at node s)
 
+-- reclaim: the replica is past the log's base, and all that it has applied is completed; it becomes the base
 abbrev pub reclaim : Log → NodeView → Option Part
 reclaim g node =
     cond (nat_lt g.base node.replica.tail && nat_le node.replica.tail g.done) (Some (silent (reclaimed g node.replica) node)) None
 
+-- rebase: the replica is behind the log's base, and has no copied record left to apply; it becomes a copy of the base
 abbrev pub rebase : Log → NodeView → Option Part
-rebase g node = cond (nat_lt node.replica.tail g.base && is_none node.hand.records) (Some (silent g (rebased g node))) None
+rebase g node = cond (nat_lt node.replica.tail g.base && no_records node.hand.records) (Some (silent g (rebased g node))) None
 
 -- ---- the steps of a store
 
+-- the node that the step names
 abbrev pub node_of : Step → ℕ
 node_of (Post n s program argument) = n
 node_of (Claim n) = n
@@ -198,10 +219,12 @@ abbrev pub world_after : WorldView → Option Took → WorldView
 world_after w None = w
 world_after w (Some r) = r.world
 
+-- the trace with the event, if there is one
 abbrev pub with_event : Trace → Option Event → Trace
 with_event t None = t
 with_event t (Some e) = t ++ e ∷ []
 
+-- the trace with the event that the step is, if it may be taken
 abbrev pub trace_after : Trace → Option Took → Trace
 trace_after t None = t
 trace_after t (Some r) = with_event t r.event

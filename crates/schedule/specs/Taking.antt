@@ -11,7 +11,7 @@ use Rattle.replica.specs.StoreMeaning.{store_meaning, AreUpdates}
 use Rattle.schedule.specs.declared.parts.Opening.{Opening}
 use Rattle.schedule.specs.declared.parts.Written.{Written}
 use Rattle.schedule.specs.declared.parts.NodeBatch.{NodeBatch}
-use Rattle.schedule.specs.declared.parts.NodeBatch.TheVariants.{ClaimedBatch}
+use Rattle.schedule.specs.declared.parts.NodeBatch.TheVariants.{Held}
 use Rattle.schedule.specs.declared.steps.Step.{Step}
 use Rattle.schedule.specs.declared.steps.StepAnswer.{StepAnswer}
 use Rattle.schedule.specs.declared.steps.StepAnswer.TheVariants as answers
@@ -21,15 +21,16 @@ use Rattle.schedule.specs.Steps.{Part, Took, took, world_after, trace_after}
 use Rattle.schedule.specs.Stands.{LogStands, NodeStands, Stands}
 
 -- a store, with what it was opened with
-pub record StoreView : Type 0 where
+pub record WorldState : Type 0 where
   pub opening : Opening
   pub world : WorldView
 
-abbrev pub store_of : Opening → Log → List NodeView → StoreView
+-- the store of this log and these nodes
+abbrev pub store_of : Opening → Log → List NodeView → WorldState
 store_of m g nodes = record { opening = m; world = record { log = g; nodes = nodes } }
 
 -- a new store
-abbrev pub opened_store : Opening → StoreView
+abbrev pub opened_store : Opening → WorldState
 opened_store m = record { opening = m; world = opened m }
 
 -- what a step answers that is taken: the answer of a call that is answered
@@ -45,12 +46,12 @@ TakesPart None g node g' node' answer = (answer ≡ answers.NotNow) × (g' ≡ g
 TakesPart (Some p) g node g' node' answer = (answer ≡ answer_of p.event) × (g' ≡ p.log) × (node' ≡ p.node)
 
 -- where the step may not be taken, NotNow and no change; else what it makes of the store
-abbrev pub Takes : Option Took → StoreView → StoreView → StepAnswer → Type 0
+abbrev pub Takes : Option Took → WorldState → WorldState → StepAnswer → Type 0
 Takes None old new answer = (answer ≡ answers.NotNow) × (new ≡ old)
 Takes (Some r) old new answer = (answer ≡ answer_of r.event) × (new ≡ record old { world = r.world })
 
 -- a history that stands for the store leads to one that begins with it, with those places kept and the step's event added
-abbrev pub KeepsStanding : StoreView → Step → StoreView → Type 0
+abbrev pub KeepsStanding : WorldState → Step → WorldState → Type 0
 KeepsStanding old step new =
     (h : History) (places : Places) (t : Trace) → Stands old.opening old.world h places t
     → (more : History) × (later : Places) × Stands new.opening new.world (h ++ more) (places ++ later) (trace_after t (took old.opening old.world step))
@@ -78,7 +79,7 @@ pub record IsOfStore (m : Opening) (g : Log) (node : NodeView) : Type 0 where
   pub stands : NodeStands m g.done history places trace number node
 
 -- some history stands for the store
-pub record IsStanding (s : StoreView) : Type 0 where
+pub record IsStanding (s : WorldState) : Type 0 where
   pub config : IsConfig s.opening.config
   pub history : History
   pub places : Places
@@ -89,7 +90,7 @@ pub record IsStanding (s : StoreView) : Type 0 where
 
 -- a batch is claimed, and may be appended
 abbrev pub may_append : Log → ℕ → NodeBatch → Bool
-may_append g tail (ClaimedBatch b) = nat_le g.base tail && nat_le (room_for g b.records) (room_in g)
+may_append g tail (Held b) = nat_le g.base tail && nat_le (room_for g b.records) (room_in g)
 may_append g tail batch = false
 
 -- the node with what a replay runs in its hand

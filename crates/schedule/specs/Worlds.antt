@@ -13,7 +13,7 @@ use Rattle.replica.specs.Views.{ReplicaView, RepliesView, no_replies, with_outco
 use Rattle.schedule.specs.declared.parts.BegunRead.{BegunRead}
 use Rattle.schedule.specs.declared.parts.Written.{Written}
 use Rattle.schedule.specs.declared.parts.NodeBatch.{NodeBatch}
-use Rattle.schedule.specs.declared.parts.NodeBatch.TheVariants.{NoBatch, ClaimedBatch, AppendedBatch}
+use Rattle.schedule.specs.declared.parts.NodeBatch.TheVariants.{Absent, Held, InLog}
 use Rattle.schedule.specs.declared.parts.Opening.{Opening}
 
 -- a node: its replica, the records copied for it, its desk, its batch, and for each slot the read that was begun there
@@ -31,12 +31,13 @@ pub record WorldView : Type 0 where
 
 -- ---- the opening
 
+-- a new node of this number: at the opening maps, with nothing copied, nobody at its desk, no batch and no read
 abbrev pub opened_node : Opening → ℕ → NodeView
 opened_node m n = record {
   replica = record { tail = 0; maps = store_meaning.opening m.catalogue };
   hand = opened_hand m.config.window;
   desk = opened_desk n m.config.slots;
-  batch = NoBatch;
+  batch = Absent;
   reads = replicate m.config.slots None;
 }
 
@@ -45,6 +46,7 @@ abbrev pub opened_nodes : Opening → ℕ → ℕ → List NodeView
 opened_nodes m n zero = []
 opened_nodes m n (suc count) = opened_node m n ∷ opened_nodes m (suc n) count
 
+-- a new store: its log is empty, and its nodes are new
 abbrev pub opened : Opening → WorldView
 opened m = record { log = opened_log m.catalogue.shapes m.config.window m.config.limit; nodes = opened_nodes m 0 m.config.nodes }
 
@@ -82,9 +84,9 @@ outcomes_after c maps place (r ∷ rs) kept =
 
 -- the batch keeps its own outcomes
 abbrev pub batch_after : CatalogueView → Maps → ℕ → History → NodeBatch → NodeBatch
-batch_after c maps place rs NoBatch = NoBatch
-batch_after c maps place rs (ClaimedBatch b) = ClaimedBatch b
-batch_after c maps place rs (AppendedBatch b) = AppendedBatch (record b { replies = outcomes_after c maps place rs b.replies })
+batch_after c maps place rs Absent = Absent
+batch_after c maps place rs (Held b) = Held b
+batch_after c maps place rs (InLog b) = InLog (record b { replies = outcomes_after c maps place rs b.replies })
 
 -- the node once its replica has applied these records
 abbrev pub replayed : Opening → History → NodeView → NodeView

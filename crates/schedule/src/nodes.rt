@@ -7,7 +7,7 @@ ghost use Rattle.combiner.specs.declared.slots.Reply.TheVariants.{Placed, Ended}
 ghost use Rattle.oplog.specs.declared.configuration.TheConstants.{MAX_NODES};
 ghost use Rattle.oplog.specs.Limits.{IsConfig};
 ghost use Rattle.oplog.specs.Logs.{Log, room_in};
-ghost use Rattle.replica.specs.StoreMeaning.{IsOperation, is_operation, is_mode, store_meaning};
+ghost use Rattle.replica.specs.StoreMeaning.{IsOperation, is_operation, store_meaning};
 ghost use Rattle.verifier.specs.declared.refusal.Mode.TheVariants.{Update, Read};
 ghost use Rattle.schedule.specs.declared.parts.Opening.{Opening as TheOpening};
 ghost use Rattle.schedule.specs.Worlds.{opened_node, room_for, grown, written, replayed, answered_batch};
@@ -18,7 +18,7 @@ use crate::parts::{BegunRead, NodeBatch, Opening, Written};
 use crate::steps::{Step, StepAnswer};
 use combiner::{Batch, Desk, Reply, Stage};
 use loader::Catalogue;
-use oplog::{Hand, LogState, Op};
+use oplog::{CopyAnswer, Hand, LogState, Op};
 use readpath::{ReadAnswer, answer, ready};
 use replica::{Replica, Replies};
 use std::alloc::{AllocError, Global};
@@ -47,16 +47,6 @@ impl Model for Node {
     ghost view = { λ n. record { replica = n.replica; hand = n.hand; desk = n.desk; batch = n.batch; reads = n.reads.items } };
 }
 
-// Whether two modes are the same.
-fn is_same(one: Mode, other: Mode) -> bool
-    ensures same { result ≡ is_mode one other }
-{
-    match (one, other) {
-        (Mode::Update, Mode::Update) | (Mode::Read, Mode::Read) => true,
-        (Mode::Update, Mode::Read) | (Mode::Read, Mode::Update) => false,
-    }
-}
-
 // The operation of a program of the catalogue, of this mode, on an argument of its length.
 fn operation(catalogue: &Catalogue, mode: Mode, program: u64, argument: &[u8]) -> Option<Op>
     ensures operation { MatchOption result
@@ -67,7 +57,7 @@ fn operation(catalogue: &Catalogue, mode: Mode, program: u64, argument: &[u8]) -
         return None;
     }
     let accepted = catalogue.program(program as u16)?;
-    if argument.len() != accepted.arg_len() || !is_same(accepted.mode(), mode) {
+    if argument.len() != accepted.arg_len() || accepted.mode() != mode {
         return None;
     }
     Some(Op::new(program as u16, argument))
@@ -104,7 +94,7 @@ impl Node {
             replica,
             hand,
             desk: Desk::new(number, slots),
-            batch: NodeBatch::NoBatch,
+            batch: NodeBatch::Absent,
             reads,
         })
     }
@@ -146,12 +136,12 @@ impl Node {
         requires own { (m : TheOpening) × (g : Log) × IsOfStore m g self.old }
         ensures claimed { (g : Log) → TakesPart (claim g self.old) g self.old g self.new result }
     {
-        if !matches!(self.batch, NodeBatch::NoBatch) {
+        if !matches!(self.batch, NodeBatch::Absent) {
             return StepAnswer::NotNow;
         }
         match self.desk.claim() {
             Ok(batch) => {
-                self.batch = NodeBatch::ClaimedBatch(batch);
+                self.batch = NodeBatch::Held(batch);
                 StepAnswer::Done
             }
             Err(_) => StepAnswer::NotNow,
@@ -166,11 +156,13 @@ impl Node {
         if !self.may_append(log) {
             return StepAnswer::NotNow;
         }
-        match mem::replace(&mut self.batch, NodeBatch::NoBatch) {
-            NodeBatch::ClaimedBatch(batch) => {
-                self.batch = NodeBatch::AppendedBatch(write(log, batch));
-                let _copied = log.copy_from(self.replica.tail(), &mut self.hand);
-                StepAnswer::Done
+        match mem::replace(&mut self.batch, NodeBatch::Absent) {
+            NodeBatch::Held(batch) => {
+                self.batch = NodeBatch::InLog(append_batch(log, batch));
+                match log.copy_from(self.replica.tail(), &mut self.hand) {
+                    CopyAnswer::Copied => StepAnswer::Done,
+                    CopyAnswer::Below(_) => unreachable!(),
+                }
             }
             _ => unreachable!(),
         }
@@ -182,7 +174,7 @@ impl Node {
         ensures may { result ≡ may_append log.now self.now.replica.tail self.now.batch }
     {
         match &self.batch {
-            NodeBatch::ClaimedBatch(batch) => log.base() <= self.replica.tail()
+            NodeBatch::Held(batch) => log.base() <= self.replica.tail()
                 && batch.records().len().min(log.left()) <= log.room(),
             _ => false,
         }
@@ -216,7 +208,10 @@ impl Node {
         ensures copied { self.new ≡ with_next log.now self.old }
     {
         if self.hand.is_empty() {
-            let _copied = log.copy_from(self.replica.tail(), &mut self.hand);
+            match log.copy_from(self.replica.tail(), &mut self.hand) {
+                CopyAnswer::Copied => {}
+                CopyAnswer::Below(_) => unreachable!(),
+            }
         }
     }
 
@@ -342,7 +337,7 @@ impl Node {
         ensures ran { (m : TheOpening) → m.catalogue ≡ catalogue.now → self.new ≡ replayed m self.old.hand.records self.old }
     {
         match &mut self.batch {
-            NodeBatch::AppendedBatch(written) => self
+            NodeBatch::InLog(written) => self
                 .replica
                 .replay(&mut self.hand, catalogue, &mut written.replies),
             _ => {
@@ -359,12 +354,12 @@ impl Node {
     {
         if !self.hand.is_empty()
             || log.done() < self.replica.tail()
-            || !matches!(self.batch, NodeBatch::AppendedBatch(_))
+            || !matches!(self.batch, NodeBatch::InLog(_))
         {
             return StepAnswer::NotNow;
         }
-        match mem::replace(&mut self.batch, NodeBatch::NoBatch) {
-            NodeBatch::AppendedBatch(written) => {
+        match mem::replace(&mut self.batch, NodeBatch::Absent) {
+            NodeBatch::InLog(written) => {
                 self.desk.reply(answered(written));
                 StepAnswer::Done
             }
@@ -414,7 +409,7 @@ impl Node {
 }
 
 // A batch is appended to the log, as far as the history may grow.
-fn write(log: &mut LogState, batch: Batch) -> Written
+fn append_batch(log: &mut LogState, batch: Batch) -> Written
     requires room { room_for log.old batch.records ≤ room_in log.old }
     ensures log { log.new ≡ grown log.old batch.records }
     ensures written { result ≡ written log.old batch }

@@ -40,9 +40,9 @@ pub struct Written {
 #[derive(Drop)]
 pub enum NodeBatch {
     /// There is none.
-    NoBatch,
+    Absent,
     /// Its requests are claimed at the desk.
-    ClaimedBatch(Batch),
+    Held(Batch),
     /// They stand in the log.
-    AppendedBatch(Written),
+    InLog(Written),
 }

@@ -27,10 +27,10 @@ pub struct World {
 }
 
 impl Model for World {
-    ghost use Rattle.schedule.specs.Taking.{StoreView, IsStanding, store_of};
+    ghost use Rattle.schedule.specs.Taking.{WorldState, IsStanding, store_of};
     ghost use Rattle.schedule.specs.Codes.{store_code};
 
-    ghost Value = { StoreView };
+    ghost Value = { WorldState };
 
     ghost coded = { store_code };
 
@@ -137,8 +137,8 @@ impl World {
 ///
 /// The system has no memory left: no step is taken then.
 pub fn run_steps(
-    world: &mut World,
     alloc: Global,
+    world: &mut World,
     steps: &[Step],
 ) -> Result<Vec<StepAnswer>, AllocError>
     ensures world { IfOk result (λ answers. world.new ≡ record world.old { world = world_of world.old.opening world.old.world steps.now }) }

@@ -29,7 +29,7 @@ use Rattle.progress.proofs.Finish.{grown_long}
 use Rattle.progress.proofs.Lists.{at_behind}
 use Rattle.store.specs.declared.values.NodeReplica.{NodeReplica}
 use Rattle.store.specs.declared.values.Value.{Value}
-use Rattle.store.specs.declared.values.Value.TheVariants.{Log, Replica}
+use Rattle.store.specs.declared.values.Value.TheVariants.{Log, Replica, Desk}
 use Rattle.store.specs.Shelving.{view_of, IsSized, session_rules, session_noting, store_rules, log_value}
 use Rattle.store.specs.Held.{CanAppendIn, IsAppended, HasAppendedIn}
 use Rattle.store.specs.Standing.{SessionKnown, HoldsReplica, IsNext, GoesOn, IsLogOf, HasOthers, HasPlace, HasRoom, HasAppended}
@@ -48,8 +48,11 @@ L = Progress CatalogueView
 pub can_append : (t after : K) (x y v : Value) (r : Record) → HasRoom t after x y v → CanAppendIn r y v
 can_append t after (Log g) (Log h) (Replica n) r p = record { room = p.room; copy = can_copy after.progress h.value n.value p.log p.follows p.above }
 can_append t after (Log g) (Log h) (Log n) r p = absurd p
+can_append t after (Log g) (Log h) (Desk n) r p = absurd p
 can_append t after (Log g) (Replica h) v r p = absurd p
+can_append t after (Log g) (Desk h) v r p = absurd p
 can_append t after (Replica g) y v r p = absurd p
+can_append t after (Desk g) y v r p = absurd p
 
 -- one of the batch, or none
 one_taken : (n : ℕ) (r : Record) → 0 < n → take (min 1 n) (r ∷ []) ≡ r ∷ []
@@ -208,17 +211,27 @@ module _ (k t m : K) (w : Value) (r : Record) (result : Result ℕ Ended) (hold 
   pub put_appended : (x y v y2 v2 : Value) → TookLog k t w x → HasRoom t m x y v → HasAppendedIn r y y2 v v2 result → (q : ℕ) → q ≡ leader → Picked sessions y2 m q
   put_appended (Log g) (Log h) (Replica n) (Log h2) (Replica n2) b p a q e = subst (λ z. Picked sessions (Log h2) m z) (sym e) (picked k t m w g h.value h2 n.value n2 r result hold b p a next sessions is)
   put_appended (Log g) (Log h) (Replica n) (Log h2) (Log n2) b p a q e = absurd a
+  put_appended (Log g) (Log h) (Replica n) (Log h2) (Desk n2) b p a q e = absurd a
   put_appended (Log g) (Log h) (Replica n) (Replica h2) v2 b p a q e = absurd a
+  put_appended (Log g) (Log h) (Replica n) (Desk h2) v2 b p a q e = absurd a
   put_appended (Log g) (Log h) (Log n) y2 v2 b p a q e = absurd p
+  put_appended (Log g) (Log h) (Desk n) y2 v2 b p a q e = absurd p
   put_appended (Log g) (Replica h) v y2 v2 b p a q e = absurd p
+  put_appended (Log g) (Desk h) v y2 v2 b p a q e = absurd p
   put_appended (Replica g) y v y2 v2 b p a q e = absurd p
+  put_appended (Desk g) y v y2 v2 b p a q e = absurd p
 
   pub back_appended : (x y v y2 v2 : Value) → TookLog k t w x → HasRoom t m x y v → HasAppendedIn r y y2 v v2 result → (q : ℕ) → q ≡ leader → (l : L) (ns : List SessionNote) → Possible store_rules m l ns
       → HasAppended k (put_back sessions y2 m q l) r result v2
   back_appended (Log g) (Log h) (Replica n) (Log h2) (Replica n2) b p a q e l ns may =
       subst (λ z. HasAppended k (put_back sessions (Log h2) m z l) r result (Replica n2)) (sym e) (has_appended k t m w g h.value h2 n.value n2 r result hold b p a next sessions is l ns may)
   back_appended (Log g) (Log h) (Replica n) (Log h2) (Log n2) b p a q e l ns may = absurd a
+  back_appended (Log g) (Log h) (Replica n) (Log h2) (Desk n2) b p a q e l ns may = absurd a
   back_appended (Log g) (Log h) (Replica n) (Replica h2) v2 b p a q e l ns may = absurd a
+  back_appended (Log g) (Log h) (Replica n) (Desk h2) v2 b p a q e l ns may = absurd a
   back_appended (Log g) (Log h) (Log n) y2 v2 b p a q e l ns may = absurd p
+  back_appended (Log g) (Log h) (Desk n) y2 v2 b p a q e l ns may = absurd p
   back_appended (Log g) (Replica h) v y2 v2 b p a q e l ns may = absurd p
+  back_appended (Log g) (Desk h) v y2 v2 b p a q e l ns may = absurd p
   back_appended (Replica g) y v y2 v2 b p a q e l ns may = absurd p
+  back_appended (Desk g) y v y2 v2 b p a q e l ns may = absurd p

@@ -1,6 +1,6 @@
 -- What a closed store leaves.
 use Rattle.std.specs.Option.{IsSome, option_to_list}
-use Rattle.std.proofs.Common.{Bool, true, false, length-append, ◌≡◌, ℕ, zero, suc, ◌+◌, List, [], ◌∷◌, ◌++◌, length, sym, refl, ap, ◌∙◌, subst, arith, Option, Some, None}
+use Rattle.std.proofs.Common.{Bool, true, false, length-append, ◌≡◌, ℕ, zero, suc, ◌+◌, ◌<◌, ◌≤◌, List, [], ◌∷◌, ◌++◌, length, sym, refl, ap, ◌∙◌, subst, arith, Option, Some, None}
 use mathlib.Core.Option.{some-injective}
 use lib.ListN.{get_elem?}
 use Rattle.ownlock.specs.Seats.{At, SeatView, ShelfId}
@@ -17,7 +17,7 @@ use Rattle.progress.proofs.Ended.{ends}
 use Rattle.progress.proofs.Lists.{at_none, at_below}
 use Rattle.store.specs.declared.values.NodeReplica.{NodeReplica}
 use Rattle.store.specs.declared.values.Value.{Value}
-use Rattle.store.specs.declared.values.Value.TheVariants.{Log, Replica}
+use Rattle.store.specs.declared.values.Value.TheVariants.{Log, Replica, Desk}
 use Rattle.store.proofs.StoreLaws.{session_laws}
 use Rattle.store.specs.Shelving.{view_of, store_rules, log_value, replica_value, HasLogSizes}
 use Rattle.store.specs.Sessions.{StoreView, SessionView, known_of}
@@ -60,19 +60,25 @@ pub record IsPair (l : L) (slots : List (Option Value)) : Type 0 where
   pub replica_is : ReplicaAgrees store_meaning l (replica_value node.value.replica)
   pub replica_shapes : shapes_of node.value.replica.maps ≡ l.catalogue.shapes
 
+-- no desk is at the first places
+no_desk_at : (p node nodes : ℕ) → node < nodes → p ≤ 1 → p ≡ 1 + nodes + node → ⊥
+no_desk_at p node nodes lt low e = omega (arith, lt, low, e)
+
+no_first : ◌≡◌ {A = ℕ} 1 0 → ⊥
+no_first e = omega (arith, e)
+
+no_other : (n : ℕ) → 0 ≡ 1 + n → ⊥
+no_other n e = omega (arith, e)
+
 log_at : (l : L) (ns : List SessionNote) (v : Value) → store_rules.AgreesWith 0 l ns v → (g : Box LogView) × (v ≡ Log g) × LogAgrees store_meaning l (log_value g.value) × HasLogSizes l.config l.catalogue g.value
 log_at l ns (Log g) a = (g, refl, (session_laws.agrees 0 l ns (view_of (Log g)) a.0).1, a.1)
-log_at l ns (Replica n) a = let it = session_laws.agrees 0 l ns (view_of (Replica n)) a.0 in absurd (none it.0 it.2)
-  where
-    none : (n : ℕ) → 0 ≡ 1 + n → ⊥
-    none n e = omega (arith, e)
+log_at l ns (Replica n) a = let it = session_laws.agrees 0 l ns (view_of (Replica n)) a.0 in absurd (no_other it.0 it.2)
+log_at l ns (Desk d) a = let it = session_laws.agrees 0 l ns (view_of (Desk d)) a.0 in absurd (no_desk_at 0 d.value.node l.config.nodes it.0 (omega arith) it.1)
 
 replica_at : (l : L) (ns : List SessionNote) (v : Value) → store_rules.AgreesWith 1 l ns v → (n : Box NodeReplica) × (v ≡ Replica n) × ReplicaAgrees store_meaning l (replica_value n.value.replica) × (shapes_of n.value.replica.maps ≡ l.catalogue.shapes)
 replica_at l ns (Replica n) a = (n, refl, (session_laws.agrees 1 l ns (view_of (Replica n)) a.0).3, a.1.0)
-replica_at l ns (Log g) a = absurd (none (session_laws.agrees 1 l ns (view_of (Log g)) a.0).0)
-  where
-    none : ◌≡◌ {A = ℕ} 1 0 → ⊥
-    none e = omega (arith, e)
+replica_at l ns (Log g) a = absurd (no_first (session_laws.agrees 1 l ns (view_of (Log g)) a.0).0)
+replica_at l ns (Desk d) a = let it = session_laws.agrees 1 l ns (view_of (Desk d)) a.0 in absurd (no_desk_at 1 d.value.node l.config.nodes it.0 (omega arith) it.1)
 
 pub is_pair : (l : L) (ns : List SessionNote) (slots : List (Option Value)) → length slots ≡ 2 → AllAgree store_rules l ns slots → IsPair l slots
 is_pair l ns [] long all = absurd (omega (arith, long))

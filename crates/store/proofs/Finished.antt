@@ -31,7 +31,7 @@ use Rattle.progress.proofs.Lists.{at_below}
 use Rattle.progress.proofs.Seen.{sized_on}
 use Rattle.progress.specs.Single.{next_record, note_with}
 use Rattle.store.specs.declared.values.Value.{Value}
-use Rattle.store.specs.declared.values.Value.TheVariants.{Log, Replica}
+use Rattle.store.specs.declared.values.Value.TheVariants.{Log, Replica, Desk}
 use Rattle.store.specs.Shelving.{view_of, IsSized, session_rules, session_noting, store_rules, replica_value}
 use Rattle.store.specs.Held.{IsReplica, IsReplicaOf, Replies, tail_in}
 use Rattle.store.specs.Standing.{SessionKnown, Stands, AgreesIn, HoldsReplica, IsFree, GoesOn, HasAppended, HasRaised, KeepsOutcomesOf, HasCaughtUp, IsBroughtUp}
@@ -72,7 +72,9 @@ keeps_sizes : (config : Config) (c : CatalogueView) (w v : Value) → IsReplica 
 keeps_sizes config c (Replica n) (Replica m) a b s t d e u =
     (t.0 ∙ (sym s.0 ∙ u.0), t.1 ∙ (λ i. record { begin = m.value.replica.tail; records = []; window = (sym (ap (λ z. z.window) s.1) ∙ ap (λ z. z.window) u.1) i }))
 keeps_sizes config c (Log n) v a b s t d e u = absurd a
+keeps_sizes config c (Desk n) v a b s t d e u = absurd a
 keeps_sizes config c (Replica n) (Log m) a b s t d e u = absurd b
+keeps_sizes config c (Replica n) (Desk m) a b s t d e u = absurd b
 
 -- what a session is, once its replica is back
 pub record Back (k f : K) : Type 0 where
@@ -96,12 +98,14 @@ module _ (k : K) (w : Value) (h : HoldsReplica k w) (sessions : List K) (is : se
   seen : (w : Value) → IsReplica w → (x : ReplicaValue Maps) × (view_of w ≡ TheReplica x)
   seen (Replica n) r = (_, refl)
   seen (Log g) r = absurd r
+  seen (Desk g) r = absurd r
 
   picked : (v : Value) → AgreesIn k.progress v → tail_in v ≤ length k.progress.history → Picked sessions v k (replica_place k.progress.config h.node)
   picked (Replica m) a low =
       let s = seen w h.replica in
       replica_picked session_laws view_of session_notes IsSized sessions k (replica_place k.progress.config h.node) 0 w (Replica m) s.0 _ here s.1 refl (keeps_sizes k.progress.config k.progress.catalogue w (Replica m) h.replica tt h.sized a.1) low a.0 is
   picked (Log g) a low = absurd a
+  picked (Desk g) a low = absurd a
 
   pub may_put_replica : (v : Value) (q : ℕ) → k.held ≡ (q, w) ∷ [] → AgreesIn k.progress v → tail_in v ≤ length k.progress.history → Picked sessions v k q
   may_put_replica v q e a low = subst (λ z. Picked sessions v k z) (same_place q e) (picked v a low)
@@ -109,6 +113,7 @@ module _ (k : K) (w : Value) (h : HoldsReplica k w) (sessions : List K) (is : se
   same_note : (v : Value) → AgreesIn k.progress v → put_note session_noting sessions (view_of v) k.note ≡ k.note
   same_note (Replica m) a = ap (λ f. f k.note) (replica_picks session_laws view_of session_notes IsSized sessions k (Replica m) _ is refl).1
   same_note (Log g) a = absurd a
+  same_note (Desk g) a = absurd a
 
   back_zero : (v : Value) → AgreesIn k.progress v → tail_in v ≤ length k.progress.history → (l : L) (ns : List SessionNote) → Possible store_rules k l ns → Back k (put_back sessions v k (replica_place k.progress.config h.node) l)
   back_zero v a low l ns may =
@@ -259,12 +264,14 @@ up_enough k f v done low u = let far = u.reached in record { goes = u.goes; note
 pub of_shapes : (l : L) (v : Value) (c : CatalogueView) → l.catalogue ≡ c → AgreesIn l v → IsReplicaOf c v
 of_shapes l (Replica n) c e a = a.1.0 ∙ ap (λ (z : CatalogueView). z.shapes) e
 of_shapes l (Log g) c e a = absurd a
+of_shapes l (Desk g) c e a = absurd a
 
 told_read : (l m : L) (v : Value) (op : Operation) (c : CatalogueView) (begun reply : ℕ) → Extends l m → AgreesIn l v → tail_in v ≤ length l.history → begun ≤ tail_in v → Replies c op v reply → l.catalogue ≡ c → ReadTells store_meaning m begun op (tail_in v) reply
 told_read l m (Replica n) op c begun reply grown a low first is same =
     let t = a.0.tail in let up = grown.completed in
     reads_tell store_meaning l m begun reply op (replica_value n.value.replica) grown low a.0.maps (ap (λ z. option_map (λ e. e.reply) (store_meaning.read z op n.value.replica.maps)) same ∙ is) first (omega (arith, t, up))
 told_read l m (Log g) op c begun reply grown a low first is same = absurd a
+told_read l m (Desk g) op c begun reply grown a low first is same = absurd a
 
 pub is_read : (p : ℕ) (k t b f : K) (from : L) (w v : Value) (done : ℕ) (op : Operation) (c : CatalogueView) (answer : ReadAnswer) → Extends k.progress from → done ≡ from.completed → TookReplica p (with_progress k from) t w → IsBroughtUp t b done v → Back b f
     → b.progress.catalogue ≡ c → answer.point ≡ tail_in v → Replies c op v answer.reply → IsReadBy k f op answer

@@ -9,3 +9,5 @@ pub mod Finished
 pub mod Appended
 pub mod Opened
 pub mod Closing
+pub mod Filled
+pub mod AtDesk

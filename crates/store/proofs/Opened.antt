@@ -17,19 +17,21 @@ use Rattle.store.specs.Standing.{SessionKnown}
 use Rattle.store.proofs.StoreLaws.{session_laws}
 use Rattle.store.specs.declared.values.NodeReplica.{NodeReplica}
 use Rattle.store.specs.declared.values.Value.{Value}
-use Rattle.store.specs.declared.values.Value.TheVariants.{Log, Replica}
+use Rattle.store.specs.declared.values.Value.TheVariants.{Log, Replica, Desk}
 use Rattle.store.specs.Shelving.{view_of, IsSized, HasLogSizes, log_value, replica_value, resting_hand, store_rules, sessions_of, IsOpenedLog, IsOpenedReplica, AreOpened}
 
 shapes_open : (shapes : List Shape) → shapes_of (opening_maps shapes) ≡ shapes
 shapes_open [] = refl
 shapes_open (s ∷ ss) = ap (λ z. s ∷ z) (shapes_open ss)
 
-log_opens : (config : Config) (c : CatalogueView) (v : Value) → IsOpenedLog c.shapes config.window config.limit v → (view_of v ≡ TheLog (first_log store_meaning c)) × IsSized config c v
+pub log_opens : (config : Config) (c : CatalogueView) (v : Value) → IsOpenedLog c.shapes config.window config.limit v → (view_of v ≡ TheLog (first_log store_meaning c)) × IsSized config c v
 log_opens config c (Log g) e = (ap (λ z. TheLog (log_value z)) e, subst (λ z. HasLogSizes config c z) (sym e) (refl, refl, shapes_open c.shapes))
 log_opens config c (Replica n) e = absurd e
+log_opens config c (Desk n) e = absurd e
 
-replica_opens : (config : Config) (c : CatalogueView) (v : Value) → IsOpenedReplica c.shapes config.window v → (view_of v ≡ TheReplica (first_replica store_meaning c)) × IsSized config c v
+pub replica_opens : (config : Config) (c : CatalogueView) (v : Value) → IsOpenedReplica c.shapes config.window v → (view_of v ≡ TheReplica (first_replica store_meaning c)) × IsSized config c v
 replica_opens config c (Log g) e = absurd e
+replica_opens config c (Desk g) e = absurd e
 replica_opens config c (Replica n) e = (
   ap (λ (z : NodeReplica). TheReplica (replica_value z.replica)) e,
   subst (λ (z : NodeReplica). (shapes_of z.replica.maps ≡ c.shapes) × (z.hand ≡ resting_hand config z.replica.tail)) (sym e) (shapes_open c.shapes, refl),

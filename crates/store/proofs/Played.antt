@@ -19,7 +19,7 @@ use Rattle.progress.proofs.Tellings.{replays, replayed_agrees}
 use Rattle.progress.proofs.Finish.{grown_long}
 use Rattle.store.specs.declared.values.NodeReplica.{NodeReplica}
 use Rattle.store.specs.declared.values.Value.{Value}
-use Rattle.store.specs.declared.values.Value.TheVariants.{Log, Replica}
+use Rattle.store.specs.declared.values.Value.TheVariants.{Log, Replica, Desk}
 use Rattle.store.specs.Shelving.{replica_value, store_rules}
 use Rattle.store.specs.Lent.{copied, replayed, CanReplay}
 use Rattle.store.specs.Held.{IsReplica, CanKeepUp, IsKeptUp, CanFollowIn, HasFollowed, CanReplayIn, HasReplayed, tail_in}
@@ -88,30 +88,38 @@ can_replay l n h w =
 
 abbrev pub HasAllIn : L → Value → Type 0
 HasAllIn l (Log g) = ⊥
+HasAllIn l (Desk g) = ⊥
 HasAllIn l (Replica n) = HasAll l n.value
 
 pub can_replay_in : (l : L) (v : Value) → IsWellFormed store_meaning l → HasRest l v → CanReplayIn l.catalogue v
 can_replay_in l (Replica n) w h = can_replay l n.value h w
 can_replay_in l (Log g) w h = absurd h
+can_replay_in l (Desk g) w h = absurd h
 
 pub has_all_in : (l : L) (v w : Value) (old new : RepliesView) → HasRest l v → HasReplayed l.catalogue v w old new → HasAllIn l w
 has_all_in l (Replica n) (Replica m) old new h r =
     subst (λ z. HasAll l z) (sym r.0) (has_all l n.value (rest_of l n.value h) (ap (λ (z : NodeReplica). shapes_of z.replica.maps) (sym r.0) ∙ r.2))
 has_all_in l (Replica n) (Log g) old new h r = absurd r
+has_all_in l (Replica n) (Desk g) old new h r = absurd r
 has_all_in l (Log g) w old new h r = absurd h
+has_all_in l (Desk g) w old new h r = absurd h
 
 pub keeps_in : (l : L) (v w : Value) (old new : RepliesView) → HasRest l v → HasReplayed l.catalogue v w old new → KeepsOutcomesOf l (tail_in v) old new
 keeps_in l (Replica n) (Replica m) old new h r = keeps l n.value (rest_of l n.value h) old new r.1
 keeps_in l (Replica n) (Log g) old new h r = absurd r
+keeps_in l (Replica n) (Desk g) old new h r = absurd r
 keeps_in l (Log g) w old new h r = absurd h
+keeps_in l (Desk g) w old new h r = absurd h
 
 pub all_replica : (l : L) (w : Value) → HasAllIn l w → IsReplica w
 all_replica l (Replica n) a = tt
 all_replica l (Log g) a = absurd a
+all_replica l (Desk g) a = absurd a
 
 pub all_tail : (l : L) (w : Value) → HasAllIn l w → tail_in w ≡ length l.history
 all_tail l (Replica n) a = a.tail
 all_tail l (Log g) a = absurd a
+all_tail l (Desk g) a = absurd a
 
 -- what was replayed as far as the known history agrees, once that is completed
 pub all_agrees : (l m : L) (w : Value) → Extends l m → length l.history ≤ m.completed → HasAllIn l w → AgreesIn m w
@@ -121,13 +129,16 @@ all_agrees l m (Replica n) g done h =
       (h.shapes ∙ ap (λ (c : CatalogueView). c.shapes) g.catalogue, h.hand ∙ (λ i. record { begin = n.value.replica.tail; records = []; window = (ap (λ c. c.window) g.config) i })),
     )
 all_agrees l m (Log g) grown done h = absurd h
+all_agrees l m (Desk g) grown done h = absurd h
 
 -- ---- a replica with the log beside it
 
 pub can_keep_up : (l : L) (x y : Value) → LogIs l x → FollowsIn l y → CanKeepUp x y
 can_keep_up l (Log g) (Replica n) is f = (f.empty, is.sizes.2 ∙ sym f.shapes)
 can_keep_up l (Log g) (Log n) is f = absurd f
+can_keep_up l (Log g) (Desk n) is f = absurd f
 can_keep_up l (Replica g) y is f = absurd is
+can_keep_up l (Desk g) y is f = absurd is
 
 abbrev pub IsAbove : Value → Value → Type 0
 IsAbove (Log g) (Replica n) = g.value.base ≤ n.value.replica.tail
@@ -136,13 +147,18 @@ IsAbove _ _ = ⊥
 pub kept_up_in : (l : L) (x y z : Value) → LogIs l x → FollowsIn l y → IsKeptUp x y z → FollowsIn l z × IsAbove x z
 kept_up_in l (Log g) (Replica n) (Replica m) is f k = kept_up l g.value n.value is f m.value k.0 k.1
 kept_up_in l (Log g) (Replica n) (Log m) is f k = absurd k
+kept_up_in l (Log g) (Replica n) (Desk m) is f k = absurd k
 kept_up_in l (Log g) (Log n) z is f k = absurd f
+kept_up_in l (Log g) (Desk n) z is f k = absurd f
 kept_up_in l (Replica g) y z is f k = absurd is
+kept_up_in l (Desk g) y z is f k = absurd is
 
 pub can_follow_in : (l : L) (x y : Value) → LogIs l x → FollowsIn l y → IsAbove x y → IsWellFormed store_meaning l → CanFollowIn l.catalogue x y
 can_follow_in l (Log g) (Replica n) is f low w = can_follow l g.value n.value is f low w
 can_follow_in l (Log g) (Log n) is f low w = absurd f
+can_follow_in l (Log g) (Desk n) is f low w = absurd f
 can_follow_in l (Replica g) y is f low w = absurd is
+can_follow_in l (Desk g) y is f low w = absurd is
 
 pub followed_all : (l : L) (x y z : Value) → LogIs l x → FollowsIn l y → IsAbove x y → HasFollowed l.catalogue x y z → HasAllIn l z
 followed_all l (Log g) (Replica n) (Replica m) is f low h =
@@ -154,8 +170,11 @@ followed_all l (Log g) (Replica n) (Replica m) is f low h =
     } in
     subst (λ z. HasAll l z) (sym h.0) (has_all l (copied g.value n.value) full (ap (λ (z : NodeReplica). shapes_of z.replica.maps) (sym h.0) ∙ h.1))
 followed_all l (Log g) (Replica n) (Log m) is f low h = absurd h
+followed_all l (Log g) (Replica n) (Desk m) is f low h = absurd h
 followed_all l (Log g) (Log n) z is f low h = absurd f
+followed_all l (Log g) (Desk n) z is f low h = absurd f
 followed_all l (Replica g) y z is f low h = absurd is
+followed_all l (Desk g) y z is f low h = absurd is
 
 -- ---- what is told of the replay and the raise
 

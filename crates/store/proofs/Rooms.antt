@@ -11,7 +11,7 @@ use Rattle.progress.specs.Agreement.{LogAgrees}
 use Rattle.progress.proofs.Tellings.{maps_on}
 use Rattle.store.specs.declared.values.NodeReplica.{NodeReplica}
 use Rattle.store.specs.declared.values.Value.{Value}
-use Rattle.store.specs.declared.values.Value.TheVariants.{Log, Replica}
+use Rattle.store.specs.declared.values.Value.TheVariants.{Log, Replica, Desk}
 use Rattle.store.specs.Shelving.{log_value}
 use Rattle.store.specs.Lent.{reclaimed}
 use Rattle.store.specs.Held.{IsFull, IsWide, told, tail_in, CanReclaimIn, IsReclaimed}
@@ -108,7 +108,9 @@ module _ (k : K) (x z : Value) where
         ended = λ _. refl;
       }
       by (Log g) (Log n) is f low not = absurd f
+      by (Log g) (Desk n) is f low not = absurd f
       by (Replica n) z is f low not = absurd is
+      by (Desk n) z is f low not = absurd is
 
 module _ (k after : K) (x u : Value) (holds : HoldsLog k) (up : HasRaised k after (tail_in u)) where
   pub reclaims : LogIs k.progress x → HasAllIn k.progress u → IsWide x → IsFull x → CanReclaimIn x u
@@ -117,7 +119,9 @@ module _ (k after : K) (x u : Value) (holds : HoldsLog k) (up : HasRaised k afte
       by : (x u : Value) → HasRaised k after (tail_in u) → LogIs k.progress x → HasAllIn k.progress u → IsWide x → IsFull x → CanReclaimIn x u
       by (Log g) (Replica n) up is all wide full = can_reclaim k after g.value n.value is all up holds wide.0 full.0
       by (Log g) (Log n) up is all wide full = absurd all
+      by (Log g) (Desk n) up is all wide full = absurd all
       by (Replica n) u up is all wide full = absurd is
+      by (Desk n) u up is all wide full = absurd is
 
   pub freed_in : (y : Value) → LogIs k.progress x → HasAllIn k.progress u → IsWide x → IsFull x → IsReclaimed x u y → HasRoom k after x y u
   freed_in = by x u up
@@ -125,12 +129,16 @@ module _ (k after : K) (x u : Value) (holds : HoldsLog k) (up : HasRaised k afte
       by : (x u : Value) → HasRaised k after (tail_in u) → (y : Value) → LogIs k.progress x → HasAllIn k.progress u → IsWide x → IsFull x → IsReclaimed x u y → HasRoom k after x y u
       by (Log g) (Replica n) up (Log h) is all wide full e = subst (λ z. HasPlace k after g.value z n.value) (sym e) (freed k after g.value n.value is all up holds wide.0 full.0 full.1)
       by (Log g) (Replica n) up (Replica h) is all wide full e = absurd e
+      by (Log g) (Replica n) up (Desk h) is all wide full e = absurd e
       by (Log g) (Log n) up y is all wide full e = absurd all
+      by (Log g) (Desk n) up y is all wide full e = absurd all
       by (Replica n) u up y is all wide full e = absurd is
+      by (Desk n) u up y is all wide full e = absurd is
 
 pub all_low : (l : L) (u : Value) → HasAllIn l u → tail_in u ≤ length l.history
 all_low l (Replica n) a = let t = a.tail in omega (arith, t)
 all_low l (Log g) a = absurd a
+all_low l (Desk g) a = absurd a
 
 pub not_true : (b : Bool) → b ≡ false → b ≡ true → ⊥
 not_true true e f = cc

@@ -22,7 +22,7 @@ use Rattle.progress.proofs.Lists.{at_none}
 use Rattle.progress.proofs.Finish.{replica_puts}
 use Rattle.progress.proofs.Seen.{sized_on}
 use Rattle.store.specs.declared.values.Value.{Value}
-use Rattle.store.specs.declared.values.Value.TheVariants.{Log, Replica}
+use Rattle.store.specs.declared.values.Value.TheVariants.{Log, Replica, Desk}
 use Rattle.store.specs.Shelving.{view_of, IsSized, session_rules, store_rules, log_value, replica_value}
 use Rattle.store.specs.Held.{IsReplica, tail_in}
 use Rattle.store.specs.Standing.{SessionKnown, Stands, AgreesIn, FollowsIn, LogIs, HoldsReplica, HoldsLog, IsFree, IsNext}
@@ -44,6 +44,11 @@ IsLogSeen (TheLog x) = Unit {0}
 IsLogSeen (TheReplica x) = ⊥
 IsLogSeen (TheDesk x) = ⊥
 
+abbrev IsReplicaSeen : StoreValue Maps → Type 0
+IsReplicaSeen (TheReplica x) = Unit {0}
+IsReplicaSeen (TheLog x) = ⊥
+IsReplicaSeen (TheDesk x) = ⊥
+
 abbrev replica_or : ReplicaValue Maps → StoreValue Maps → ReplicaValue Maps
 replica_or d (TheReplica x) = x
 replica_or d (TheLog x) = d
@@ -57,14 +62,17 @@ log_or d (TheDesk x) = d
 pub agrees_in : (l : L) (w : Value) (x : ReplicaValue Maps) → view_of w ≡ TheReplica x → ReplicaAgrees store_meaning l x → IsSized l.config l.catalogue w → AgreesIn l w
 agrees_in l (Replica n) x e a s = (subst (λ z. ReplicaAgrees store_meaning l z) (sym (ap (replica_or x) e)) a, s)
 agrees_in l (Log g) x e a s = absurd (subst IsLogSeen e tt)
+agrees_in l (Desk g) x e a s = absurd (subst IsReplicaSeen (sym e) tt)
 
 pub is_replica : (l : L) (w : Value) → AgreesIn l w → IsReplica w
 is_replica l (Replica n) a = tt
 is_replica l (Log g) a = absurd a
+is_replica l (Desk g) a = absurd a
 
 pub tail_low : (l : L) (w : Value) → AgreesIn l w → tail_in w ≤ l.completed
 tail_low l (Replica n) a = a.0.tail
 tail_low l (Log g) a = absurd a
+tail_low l (Desk g) a = absurd a
 
 -- a replica agrees with each later progress, and follows its own
 pub agrees_on : (l m : L) (w : Value) → IsWellFormed store_meaning l → Extends l m → AgreesIn l w → AgreesIn m w
@@ -72,18 +80,21 @@ agrees_on l m (Replica n) well g a =
     let t = a.0.tail in let low = well.completed in
     (replica_puts store_meaning l m (replica_value n.value.replica) (omega (arith, t, low)) g a.0, sized_on view_of IsSized session_rules l m (Replica n) g.config g.catalogue a.1)
 agrees_on l m (Log g) well e a = absurd a
+agrees_on l m (Desk g) well e a = absurd a
 
 pub follows_in : (l : L) (w : Value) → IsWellFormed store_meaning l → AgreesIn l w → FollowsIn l w
 follows_in l (Replica n) well a =
     let t = a.0.tail in let low = well.completed in
     record { within = omega (arith, t, low); maps = a.0.maps; shapes = a.1.0; window = ap (λ h. h.window) a.1.1; empty = ap (λ h. h.records) a.1.1 }
 follows_in l (Log g) well a = absurd a
+follows_in l (Desk g) well a = absurd a
 
 pub log_is : (l : L) (x : Value) (v : LogValue Maps) → IsWellFormed store_meaning l → view_of x ≡ TheLog v → LogAgrees store_meaning l v → IsSized l.config l.catalogue x → LogIs l x
 log_is l (Log g) v well e a s =
     let agrees : LogAgrees store_meaning l (log_value g.value) = subst (λ z. LogAgrees store_meaning l z) (sym (ap (log_or v) e)) a in
     record { agrees = agrees; tail = tail_is store_meaning l (log_value g.value) well.completed agrees; sizes = s }
 log_is l (Replica n) v well e a s = absurd (subst IsLogSeen (sym e) tt)
+log_is l (Desk n) v well e a s = absurd (subst IsLogSeen (sym e) tt)
 
 pub well_formed : (l : L) (ns : _) → Accounts store_meaning l ns → IsWellFormed store_meaning l
 well_formed l ns a = record { allowed = a.allowed; completed = a.completed; limit = a.limit }
@@ -157,6 +168,7 @@ pub record TookLog (k t : K) (y x : Value) : Type 0 where
 pub follows_in_on : (l m : L) (w : Value) → Extends l m → FollowsIn l w → FollowsIn m w
 follows_in_on l m (Replica n) g f = follows_on l m n.value g f
 follows_in_on l m (Log x) g f = absurd f
+follows_in_on l m (Desk x) g f = absurd f
 
 pub took_log : (k t : K) (y x : Value) → FollowsIn k.progress y → Acquired store_rules leader k t x → TookLog k t y x
 took_log k t y x follows won =

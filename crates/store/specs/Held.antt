@@ -13,31 +13,36 @@ use Rattle.replica.specs.Views.{RepliesView}
 use Rattle.replica.specs.Replaying.{KeepsOutcomes}
 use Rattle.store.specs.declared.values.NodeReplica.{NodeReplica}
 use Rattle.store.specs.declared.values.Value.{Value}
-use Rattle.store.specs.declared.values.Value.TheVariants.{Log, Replica}
+use Rattle.store.specs.declared.values.Value.TheVariants.{Log, Replica, Desk}
 use Rattle.store.specs.Lent.{appended, copied, replayed, reclaimed, rebased, CanAppend, CanFollow, CanReplay}
 
 -- a replica, and how many records it has applied
 abbrev pub IsReplica : Value → Type 0
 IsReplica (Log g) = ⊥
+IsReplica (Desk g) = ⊥
 IsReplica (Replica n) = Unit {0}
 
 abbrev pub tail_in : Value → ℕ
 tail_in (Log g) = 0
+tail_in (Desk g) = 0
 tail_in (Replica n) = n.value.replica.tail
 
 abbrev pub IsLog : Value → Type 0
 IsLog (Log g) = Unit {0}
 IsLog (Replica n) = ⊥
+IsLog (Desk n) = ⊥
 
 -- the history may have more records, and there is no room for one
 abbrev pub IsFull : Value → Type 0
 IsFull (Log g) = (room_in g.value ≡ 0) × (0 < left_of g.value)
 IsFull (Replica n) = ⊥
+IsFull (Desk n) = ⊥
 
 -- a window that a log may have
 abbrev pub IsWide : Value → Type 0
 IsWide (Log g) = IsWindow g.value.window
 IsWide (Replica n) = ⊥
+IsWide (Desk n) = ⊥
 
 -- ---- the replica is no more below the log's base
 
@@ -96,6 +101,7 @@ HasAppendedIn r _ _ _ _ result = ⊥
 
 abbrev pub CanReplayIn : CatalogueView → Value → Type 0
 CanReplayIn c (Log g) = ⊥
+CanReplayIn c (Desk g) = ⊥
 CanReplayIn c (Replica n) = CanReplay c n.value
 
 abbrev pub HasReplayed : CatalogueView → Value → Value → RepliesView → RepliesView → Type 0
@@ -108,8 +114,10 @@ HasReplayed c _ _ old new = ⊥
 -- a replica of these shapes, and what the operation replies on its maps
 abbrev pub IsReplicaOf : CatalogueView → Value → Type 0
 IsReplicaOf c (Log g) = ⊥
+IsReplicaOf c (Desk g) = ⊥
 IsReplicaOf c (Replica n) = shapes_of n.value.replica.maps ≡ c.shapes
 
 abbrev pub Replies : CatalogueView → Operation → Value → ℕ → Type 0
 Replies c op (Log g) reply = ⊥
+Replies c op (Desk g) reply = ⊥
 Replies c op (Replica n) reply = option_map (λ e. e.reply) (store_meaning.read c op n.value.replica.maps) ≡ Some reply

@@ -3,5 +3,7 @@ pub mod Shelving
 pub mod Lent
 pub mod Held
 pub mod Standing
+pub mod AtDesk
+pub mod Places
 pub mod Sessions
 pub mod Opening

@@ -1,5 +1,5 @@
 -- What the values on a store's shelf have to do with the progress and the notes of its sessions.
-use Rattle.std.specs.Prelude.{◌≡◌, ℕ, ◌*◌, List, [], ◌∷◌, replicate, Option, Some}
+use Rattle.std.specs.Prelude.{◌≡◌, ℕ, ◌*◌, List, [], ◌∷◌, length, replicate, Option, Some}
 use Rattle.ownlock.specs.Rules.{Rules}
 use Rattle.maps.specs.Maps.{Maps, shapes_of}
 use Rattle.loader.specs.CatalogueView.{CatalogueView}
@@ -11,7 +11,7 @@ use Rattle.maps.specs.MapSets.{opening_maps}
 use Rattle.replica.specs.StoreMeaning.{store_meaning}
 use Rattle.progress.specs.declared.sessions.Progress.{Progress}
 use Rattle.progress.specs.declared.sessions.SessionNote.{SessionNote}
-use Rattle.progress.specs.Values.{LogValue, ReplicaValue, StoreValue, TheLog, TheReplica}
+use Rattle.progress.specs.Values.{LogValue, ReplicaValue, StoreValue, TheLog, TheReplica, TheDesk}
 use Rattle.progress.specs.LogSteps.{first_progress, fresh_note}
 use Rattle.progress.specs.StoreRules.{Noting}
 use Rattle.progress.specs.Single.{single_rules, single_noting}
@@ -19,9 +19,9 @@ use Rattle.progress.specs.Putting.{the_rules}
 use Rattle.store.specs.declared.values.Setup.{Setup}
 use Rattle.store.specs.declared.values.NodeReplica.{NodeReplica}
 use Rattle.store.specs.declared.values.Value.{Value}
-use Rattle.store.specs.declared.values.Value.TheVariants.{Log, Replica}
+use Rattle.store.specs.declared.values.Value.TheVariants.{Log, Replica, Desk}
 
--- what the rules see of a log, of a replica, and of a value
+-- what the rules see of a log, of a replica, and of a value: of a desk all
 abbrev pub log_value : LogView → LogValue Maps
 log_value g = record { base = g.base; base_maps = g.base_maps; records = g.records; done = g.done }
 
@@ -31,6 +31,7 @@ replica_value r = record { tail = r.tail; maps = r.maps }
 abbrev pub view_of : Value → StoreValue Maps
 view_of (Log g) = TheLog (log_value g.value)
 view_of (Replica n) = TheReplica (replica_value n.value.replica)
+view_of (Desk d) = TheDesk d.value
 
 -- the log has the window, the limit and the shapes that the store was opened with
 abbrev pub HasLogSizes : Config → CatalogueView → LogView → Type 0
@@ -44,6 +45,7 @@ resting_hand config tail = record { begin = tail; records = []; window = config.
 abbrev pub IsSized : Config → CatalogueView → Value → Type 0
 IsSized config c (Log g) = HasLogSizes config c g.value
 IsSized config c (Replica n) = (shapes_of n.value.replica.maps ≡ c.shapes) × (n.value.hand ≡ resting_hand config n.value.replica.tail)
+IsSized config c (Desk d) = length d.value.slots ≡ config.slots
 
 -- what sessions without a desk may do, and what they note
 abbrev pub session_rules : Rules (Progress CatalogueView) SessionNote (StoreValue Maps)
@@ -69,12 +71,14 @@ opening_notes s = replicate (sessions_of s.config) fresh_note
 abbrev pub IsOpenedLog : List Shape → ℕ → ℕ → Value → Type 0
 IsOpenedLog shapes window limit (Log g) = g.value ≡ opened_log shapes window limit
 IsOpenedLog shapes window limit (Replica n) = ⊥
+IsOpenedLog shapes window limit (Desk n) = ⊥
 
 abbrev pub opened_node : List Shape → ℕ → NodeReplica
 opened_node shapes window = record { replica = record { tail = 0; maps = opening_maps shapes }; hand = opened_hand window }
 
 abbrev pub IsOpenedReplica : List Shape → ℕ → Value → Type 0
 IsOpenedReplica shapes window (Log g) = ⊥
+IsOpenedReplica shapes window (Desk g) = ⊥
 IsOpenedReplica shapes window (Replica n) = n.value ≡ opened_node shapes window
 
 abbrev pub AreOpened : Config → CatalogueView → List (Option Value) → Type 0

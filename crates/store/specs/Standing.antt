@@ -22,7 +22,7 @@ use Rattle.progress.specs.Agreement.{LogAgrees, ReplicaAgrees, replica_place}
 use Rattle.progress.specs.Single.{next_record, note_with}
 use Rattle.store.specs.declared.values.NodeReplica.{NodeReplica}
 use Rattle.store.specs.declared.values.Value.{Value}
-use Rattle.store.specs.declared.values.Value.TheVariants.{Log, Replica}
+use Rattle.store.specs.declared.values.Value.TheVariants.{Log, Replica, Desk}
 use Rattle.store.specs.Shelving.{IsSized, HasLogSizes, log_value, replica_value}
 use Rattle.store.specs.Held.{IsReplica, tail_in}
 
@@ -41,6 +41,7 @@ pub record Stands (k : SessionKnown) : Type 0 where
 -- the value is a replica that agrees with the progress
 abbrev pub AgreesIn : Progress CatalogueView → Value → Type 0
 AgreesIn l (Log g) = ⊥
+AgreesIn l (Desk g) = ⊥
 AgreesIn l (Replica n) = ReplicaAgrees store_meaning l (replica_value n.value.replica) × IsSized l.config l.catalogue (Replica n)
 
 -- the replica has the maps after a beginning of the history, completed or not, and its hand is empty
@@ -53,6 +54,7 @@ pub record Follows (l : Progress CatalogueView) (n : NodeReplica) : Type 0 where
 
 abbrev pub FollowsIn : Progress CatalogueView → Value → Type 0
 FollowsIn l (Log g) = ⊥
+FollowsIn l (Desk g) = ⊥
 FollowsIn l (Replica n) = Follows l n.value
 
 -- the replica has the maps after a beginning of the history, and its hand has all other records
@@ -65,6 +67,7 @@ pub record HasOthers (l : Progress CatalogueView) (n : NodeReplica) : Type 0 whe
 
 abbrev pub HasRest : Progress CatalogueView → Value → Type 0
 HasRest l (Log g) = ⊥
+HasRest l (Desk g) = ⊥
 HasRest l (Replica n) = HasOthers l n.value
 
 -- the log is that of the progress, and ends where the history ends
@@ -76,6 +79,7 @@ pub record IsLogOf (l : Progress CatalogueView) (g : LogView) : Type 0 where
 abbrev pub LogIs : Progress CatalogueView → Value → Type 0
 LogIs l (Log g) = IsLogOf l g.value
 LogIs l (Replica n) = ⊥
+LogIs l (Desk n) = ⊥
 
 -- ---- which values it holds
 

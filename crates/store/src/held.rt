@@ -47,7 +47,7 @@ pub(crate) fn is_full(log: &Value) -> bool
 {
     match log {
         Value::Log(log) => log.room() == 0 && log.left() > 0,
-        Value::Replica(_) => unreachable!(),
+        Value::Replica(_) | Value::Desk(_) => unreachable!(),
     }
 }
 
@@ -94,7 +94,7 @@ pub(crate) fn replay(node: &mut Value, catalogue: &Catalogue, replies: &mut Repl
 {
     match node {
         Value::Replica(node) => lent::replay(node, catalogue, replies),
-        Value::Log(_) => unreachable!(),
+        Value::Log(_) | Value::Desk(_) => unreachable!(),
     }
 }
 
@@ -105,7 +105,7 @@ pub(crate) fn replica_tail(node: &Value) -> u64
 {
     match node {
         Value::Replica(node) => node.replica.tail(),
-        Value::Log(_) => unreachable!(),
+        Value::Log(_) | Value::Desk(_) => unreachable!(),
     }
 }
 
@@ -116,7 +116,7 @@ pub(crate) fn is_ready(node: &Value, done: u64) -> bool
 {
     match node {
         Value::Replica(node) => ready(&node.replica, done),
-        Value::Log(_) => unreachable!(),
+        Value::Log(_) | Value::Desk(_) => unreachable!(),
     }
 }
 

@@ -3,8 +3,10 @@
 #![tactic(auto)]
 
 mod answers;
+pub mod desks;
 mod held;
 pub mod lent;
+mod opening;
 mod session;
 mod steps;
 mod store;

@@ -1,10 +1,11 @@
-// The values on a store's shelf: the log, and the replica of each node.
+// The values on a store's shelf: the log, and the replica and the desk of each node.
 
 ghost use Rattle.std.specs.Prelude.{◌≡◌, IfOk};
 ghost use Rattle.maps.specs.Shapes.{AreShapesOk};
 ghost use Rattle.oplog.specs.Limits.{IsConfig, IsWindow, IsLimit};
 ghost use Rattle.store.specs.Shelving.{IsOpenedLog, IsOpenedReplica, AreOpened};
 
+use combiner::Desk;
 use loader::Catalogue;
 use maps::Shape;
 use oplog::{Config, Hand, LogState};
@@ -34,6 +35,7 @@ pub struct NodeReplica {
 pub enum Value {
     Log(Box<LogState>),
     Replica(Box<NodeReplica>),
+    Desk(Box<Desk>),
 }
 
 impl Shelved for Value {
@@ -58,7 +60,7 @@ impl Shelved for Value {
 }
 
 // A new log, as a value of the shelf.
-fn shelved_log(
+pub(crate) fn shelved_log(
     alloc: Global,
     shapes: &[Shape],
     window: usize,
@@ -74,7 +76,11 @@ fn shelved_log(
 }
 
 // A new replica with its empty hand, as a value of the shelf.
-fn shelved_replica(alloc: Global, shapes: &[Shape], window: usize) -> Result<Value, AllocError>
+pub(crate) fn shelved_replica(
+    alloc: Global,
+    shapes: &[Shape],
+    window: usize,
+) -> Result<Value, AllocError>
     requires shapes { AreShapesOk shapes.now }
     requires window { IsWindow window }
     ensures replica { IfOk result (λ v. IsOpenedReplica shapes.now window v) }

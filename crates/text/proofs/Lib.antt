@@ -1,3 +1,4 @@
+pub mod ByteCuts
 pub mod Cuts
 pub mod FirstLines
 pub mod LineReadings

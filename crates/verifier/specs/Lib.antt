@@ -1,4 +1,5 @@
-pub mod Numbers
+-- To be believed: what a program is checked for, the kinds of values, the rules, the frame after an instruction, typings, and what is
+-- known of an accepted program.
 pub mod Signature
 pub mod Kinds
 pub mod Operands
@@ -7,6 +8,9 @@ pub mod Rules
 pub mod FrameAfter
 pub mod Typing
 pub mod Accepted
+-- Functions that laws tie to those: the joined frames, and the first refusal as the crates above cite it.
 pub mod Joined
 pub mod Verdict
+-- Scaffolding: what the verifier's inner functions speak of; no promise stands on it.
+pub mod Numbers
 pub mod Pass

@@ -1,4 +1,4 @@
-use Rattle.std.proofs.Common.{sym, subst, ◌≡◌, ◌≤◌, ◌∙◌, ap, rules, arith, Some, None}
+use Rattle.std.proofs.Common.{sym, subst, ◌≡◌, ◌≤◌, ◌∙◌, ap, rules, Some, None}
 use Rattle.std.specs.Prelude.{option_map}
 use Rattle.oplog.specs.History.{ReadEffect}
 use Rattle.replica.specs.StoreMeaning.{store_meaning}

@@ -15,11 +15,11 @@ replay-requires-in_default c =
     let runs = subst (λ v. CanRun c.args.catalogue.now v) (sym c.self.view_is) c.requires.runs in
     record { begins = runs.begins; shapes = run_shapes runs; allowed = run_allowed runs; fits = run_fits runs }
 
-pub returns-in-AppendedBatch : goal.returns-in-AppendedBatch
-returns-in-AppendedBatch c =
+pub returns-in-InLog : goal.returns-in-InLog
+returns-in-InLog c =
     let runs = subst (λ v. CanRun c.args.catalogue.now v) (sym c.self.view_is) c.requires.runs in
     record {
-      ran = λ m same. ran_written runs m c.replay.new.self c.replay.new.hand c.in-AppendedBatch.written c.replay.new.replies same c.in-AppendedBatch.is c.replay.ensures.tail c.replay.ensures.maps c.replay.ensures.hand
+      ran = λ m same. ran_written runs m c.replay.new.self c.replay.new.hand c.in-InLog.written c.replay.new.replies same c.in-InLog.is c.replay.ensures.tail c.replay.ensures.maps c.replay.ensures.hand
           c.replay.ensures.replies
           ∙ ap (λ v. replayed m v.hand.records v) c.self.view_is;
     }

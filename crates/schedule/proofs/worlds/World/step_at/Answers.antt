@@ -1,18 +1,18 @@
 use Rattle.std.proofs.Common.{◌<◌, length, refl, ◌∙◌, ap, sym, subst, slice_get, slice_set}
 use Rattle.std.proofs.lemmas.Option.{slice_get_read}
-use Rattle.schedule.specs.Steps.{took, node_of}
-use Rattle.schedule.specs.Taking.{StoreView, store_of, Takes, IsStanding}
+use Rattle.schedule.specs.Steps.{took}
+use Rattle.schedule.specs.Taking.{WorldState, store_of, Takes, IsStanding}
 use Rattle.schedule.proofs.Answers.{of_store, stepped, still_standing, keeps_standing}
 use Rattle.schedule.proofs.worlds.World.step_at.Goals as goal
 
 pub take-requires : goal.take-requires
 take-requires c =
-    let there = slice_get_read c.self.inside.nodes.items (length c.self.inside.nodes.items) c.args.number c.index_mut.result.now refl (subst (λ (s : StoreView). c.args.number < length s.world.nodes) (sym c.self.view_is) c.requires.there) c.index_mut.ensures.value in
+    let there = slice_get_read c.self.inside.nodes.items (length c.self.inside.nodes.items) c.args.number c.index_mut.result.now refl (subst (λ (s : WorldState). c.args.number < length s.world.nodes) (sym c.self.view_is) c.requires.there) c.index_mut.ensures.value in
     record { own = of_store (store_of c.self.inside.opening c.self.inside.log c.self.inside.nodes.items) c.self.invariant c.args.number c.index_mut.result.now there }
 
 pub invariant_of-self : goal.invariant_of-self
 invariant_of-self c =
-    let there = slice_get_read c.self.inside.nodes.items (length c.self.inside.nodes.items) c.args.number c.index_mut.result.now refl (subst (λ (s : StoreView). c.args.number < length s.world.nodes) (sym c.self.view_is) c.requires.there) c.index_mut.ensures.value in
+    let there = slice_get_read c.self.inside.nodes.items (length c.self.inside.nodes.items) c.args.number c.index_mut.result.now refl (subst (λ (s : WorldState). c.args.number < length s.world.nodes) (sym c.self.view_is) c.requires.there) c.index_mut.ensures.value in
     let at = ap (λ n. slice_get c.self.inside.nodes.items n) (sym c.requires.node) ∙ there in
     subst (λ n. IsStanding (store_of c.self.inside.opening c.take.new.log (slice_set c.self.inside.nodes.items n c.take.new.self))) (sym c.requires.node)
     (still_standing (store_of c.self.inside.opening c.self.inside.log c.self.inside.nodes.items) _ c.args.step.now c.take.result c.self.invariant
@@ -20,11 +20,11 @@ invariant_of-self c =
 
 pub returns : goal.returns
 returns c =
-    let there = slice_get_read c.self.inside.nodes.items (length c.self.inside.nodes.items) c.args.number c.index_mut.result.now refl (subst (λ (s : StoreView). c.args.number < length s.world.nodes) (sym c.self.view_is) c.requires.there) c.index_mut.ensures.value in
+    let there = slice_get_read c.self.inside.nodes.items (length c.self.inside.nodes.items) c.args.number c.index_mut.result.now refl (subst (λ (s : WorldState). c.args.number < length s.world.nodes) (sym c.self.view_is) c.requires.there) c.index_mut.ensures.value in
     let at = ap (λ n. slice_get c.self.inside.nodes.items n) (sym c.requires.node) ∙ there in
-    let new : StoreView = store_of c.self.inside.opening c.take.new.log (slice_set c.self.inside.nodes.items c.args.number c.take.new.self) in
+    let new : WorldState = store_of c.self.inside.opening c.take.new.log (slice_set c.self.inside.nodes.items c.args.number c.take.new.self) in
     let takes : Takes (took c.args.self.now.opening c.args.self.now.world c.args.step.now) c.args.self.now new c.take.result =
-    subst (λ (s : StoreView). Takes (took s.opening s.world c.args.step.now) s new c.take.result) c.self.view_is
+    subst (λ (s : WorldState). Takes (took s.opening s.world c.args.step.now) s new c.take.result) c.self.view_is
     (subst (λ n. Takes (took c.self.inside.opening (record { log = c.self.inside.log; nodes = c.self.inside.nodes.items }) c.args.step.now) (store_of c.self.inside.opening c.self.inside.log c.self.inside.nodes.items) (store_of c.self.inside.opening c.take.new.log (slice_set c.self.inside.nodes.items n c.take.new.self)) c.take.result) (sym c.requires.node)
     (stepped (store_of c.self.inside.opening c.self.inside.log c.self.inside.nodes.items) c.args.step.now c.index_mut.result.now c.take.new.log c.take.new.self c.take.result at c.take.ensures.taken)) in
     record { taken = takes; stands = keeps_standing c.args.self.now new c.args.step.now c.take.result takes }

@@ -1,0 +1,52 @@
+// What the calls are made with: the two programs of a counter, its manifest and its script, and what each command writes for them.
+
+/// Adds one to the number under the key, and replies it.
+pub const BUMP_TEXT: &str =
+    "mov64 r2, r1\nldmap r1, 0\ncall 1\njeq r0, 0, +5\nldxdw r6, [r0+0]\nadd64 r6, 1\nstxdw [r0+0], r6\nmov64 r0, r6\nexit\nmov64 r0, -1\nexit\n";
+
+/// The same in hexadecimal digits.
+pub const BUMP_LINE: &str =
+    "bf120000000000001851000000000000000000000000000085000000010000001500050000000000790600000000000007060000010000007b60000000000000bf600000000000009500000000000000b7000000ffffffff9500000000000000\n";
+
+/// Replies the number under the key.
+pub const PEEK_LINE: &str =
+    "bf12000000000000185100000000000000000000000000008500000001000000150002000000000079000000000000009500000000000000b7000000ffffffff9500000000000000\n";
+
+/// The counter's maps and programs.
+pub const MANIFEST: &str =
+    "map array 8 16\nmap array 256 3\nprogram bump update 4 bump.hex\nprogram peek read 4 peek.hex\n";
+
+/// Counts twice, and reads.
+pub const SCRIPT: &str = "bump 00000000\nbump 00000000\npeek 00000000\nbump 00\n";
+
+/// A command.
+#[derive(Clone, Copy)]
+pub enum Command {
+    Check,
+    Run,
+    Assemble,
+    Disassemble,
+}
+
+/// Each command by its name.
+pub const COMMANDS: [(&str, Command); 4] = [
+    ("check", Command::Check),
+    ("run", Command::Run),
+    ("asm", Command::Assemble),
+    ("dis", Command::Disassemble),
+];
+
+/// What a command writes.
+pub fn written(command: Command) -> &'static str {
+    match command {
+        Command::Check => "bump ok 12 11\npeek ok 9 8\n",
+        Command::Run => {
+            "update 0 reply 1 steps 9\nupdate 1 reply 2 steps 9\nread 2 reply 2 steps 6\nrefused S2\n"
+        }
+        Command::Assemble => {
+            "bf12000000000000185100000000000000000000000000008500000001000000150005000000000079060000000000000706000001000000\
+            7b60000000000000bf600000000000009500000000000000b7000000ffffffff9500000000000000\n"
+        }
+        Command::Disassemble => BUMP_TEXT,
+    }
+}

@@ -1,0 +1,70 @@
+// A store: opened, called and closed. Once it is open nothing takes memory.
+
+ghost use Rattle.std.specs.Prelude.{◌≡◌, ◌≤◌, [], vec_capacity};
+ghost use Rattle.store.specs.Sessions.{IsOf};
+
+use crate::endings::{Ending, judged};
+use crate::served::{BUMP_LINE, MANIFEST, PEEK_LINE};
+use loader::{Catalogue, load_manifest};
+use oplog::{Config, OpenError};
+use readpath::ReadAnswer;
+use std::alloc::Global;
+use std::sync::Wait;
+use store::{Answer, Session, Store};
+
+const KEY: [u8; 4] = [0; 4];
+
+fn catalogue(alloc: Global) -> Option<Catalogue> {
+    let files = [("bump.hex", BUMP_LINE), ("peek.hex", PEEK_LINE)];
+    load_manifest(alloc, MANIFEST, &files).ok()
+}
+
+// Whether an update and a read of a new store are answered as ever.
+fn answers<R: Wait>(rt: &R, store: &Store, session: &mut Session) -> bool
+    requires own { IsOf store.now session.old }
+    ensures own { IsOf store.now session.new }
+{
+    let first = session.invoke(rt, store, 0, &KEY);
+    let seen = session.read(rt, store, 1, &KEY);
+    let is_first = first == Ok(Answer { index: 0, reply: 1 });
+    let is_seen = seen == Ok(ReadAnswer { point: 1, reply: 1 });
+    is_first && is_seen
+}
+
+// Whether the store gives back a log of one update.
+fn closes(store: Store, session: Session, mut sessions: Vec<Session>) -> bool
+    requires own { IsOf store session }
+    requires one { (store.config.nodes ≡ 1) × (store.config.slots ≡ 1) }
+    requires room { (sessions.items ≡ []) × (1 ≤ vec_capacity sessions) }
+{
+    sessions.push_reserved(session);
+    match store.close(sessions) {
+        Ok(closed) => closed.log().tail() == 1,
+        Err(_) => unreachable!(),
+    }
+}
+
+/// A store of one node of one slot.
+pub fn opened<R: Wait>(rt: &R, alloc: Global) -> Ending {
+    let Some(catalogue) = catalogue(alloc) else {
+        return Ending::NotReached;
+    };
+    let config = Config {
+        nodes: 1,
+        slots: 1,
+        window: 16,
+        limit: 100,
+    };
+    match Store::open(alloc, config, catalogue) {
+        Ok((store, mut sessions)) => {
+            let Some(mut session) = sessions.pop() else {
+                unreachable!()
+            };
+            let is_answered = answers(rt, &store, &mut session);
+            let is_closed = closes(store, session, sessions);
+            judged(is_answered && is_closed)
+        }
+        Err(OpenError::NoMemory) => Ending::NoMemory,
+        Err(_) => Ending::Other,
+    }
+}

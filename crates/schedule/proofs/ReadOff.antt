@@ -1,0 +1,146 @@
+-- A store's trace is what its steps and their answers tell.
+use Rattle.std.proofs.Common.{◌≡◌, List, [], ◌∷◌, ◌++◌, Option, Some, None, refl, sym, ap, ◌∙◌, subst, append_assoc}
+use Rattle.std.specs.Prelude.{slice_get, ◌&&◌, nat_le, nat_lt, option_map}
+use Rattle.std.proofs.lemmas.Option.{same_Some}
+use Rattle.verifier.specs.declared.refusal.Mode.TheVariants.{Update, Read}
+use Rattle.oplog.specs.declared.configuration.Config.{Config}
+use Rattle.oplog.specs.Operations.{Operation}
+use Rattle.oplog.specs.History.{ReadEffect, History}
+use Rattle.oplog.specs.Logs.{Log, room_in}
+use Rattle.oplog.specs.Sessions.{session}
+use Rattle.combiner.specs.Desks.{BatchView, posted, collected, has_request}
+use Rattle.replica.specs.StoreMeaning.{store_meaning, is_operation}
+use Rattle.schedule.specs.declared.parts.BegunRead.{BegunRead}
+use Rattle.schedule.specs.declared.parts.Opening.{Opening}
+use Rattle.schedule.specs.declared.steps.Step.{Step}
+use Rattle.schedule.specs.declared.steps.Step.TheVariants.{Post, Claim, Append, Replay, Finish, Reply, Collect, ReadBegin, ReadAnswer, Reclaim, Rebase}
+use Rattle.schedule.specs.declared.steps.StepAnswer.TheVariants as answers
+use Rattle.schedule.specs.Trace.{Answer, Updated, ReadBack, Event, Call, Back, Trace, Places}
+use Rattle.schedule.specs.Worlds.{NodeView, WorldView, opened, room_for}
+use Rattle.schedule.specs.Steps.{Part, Took, with_call_or_back, put_part, part_of, node_of, took, session_at, is_idle, with_read, read_at, no_batch, no_records, claimed_batch, appended_batch, has_next, with_event, world_after, trace_after, trace_of}
+use Rattle.schedule.specs.Stands.{DeskStands, Stands}
+use Rattle.schedule.specs.Taking.{answer_of, step_answer, answers_to}
+use Rattle.schedule.specs.ReadOff.{event_of, before_events, read_off}
+use Rattle.schedule.specs.Headline.{TraceIsReadOff}
+use Rattle.schedule.proofs.Options.{cond_gives, map_gives, then_gives}
+use Rattle.schedule.proofs.Calls.{session_is}
+use Rattle.schedule.proofs.Runs.{step_keeps, opening_stands}
+
+-- an event is the one that the step and its answer tell
+abbrev IsTold : Config → Step → Option Event → Type 0
+IsTold c step e = event_of c step (answer_of e) ≡ e
+
+pub told : (c : Config) (step : Step) (e f : Option Event) → e ≡ f → IsTold c step e → IsTold c step f
+told c step e f same is = subst (λ o. IsTold c step o) same is
+
+-- the event of a part
+event_is : (p q : Part) → Some p ≡ Some q → p.event ≡ q.event
+event_is p q same = ap (λ (r : Part). r.event) (same_Some p q same)
+
+-- ---- one step
+
+part_told : (m : Opening) (step : Step) (g : Log) (node : NodeView) (p : Part) → DeskStands m (node_of step) node → part_of m step g node ≡ Some p → IsTold m.config step p.event
+part_told m (Post n s program argument) g node p desk taken =
+    let op : Operation = record { program = program; argument = argument.items } in
+    let c = cond_gives (is_idle node s && is_operation Update m.catalogue op) _ p taken in
+    let d = map_gives (λ desk. with_call_or_back (Call (session_at node s) Update op) g (record node { desk = desk })) (posted s op node.desk) p c.1 in
+    told m.config (Post n s program argument) (Some (Call (session m.config n s) Update op)) p.event (ap (λ x. Some (Call x Update op)) (sym (session_is m n node s desk)) ∙ ap (λ (q : Part). q.event) d.2) refl
+part_told m (Claim n) g node p desk taken =
+    let c = cond_gives (no_batch node.batch && has_request node.desk) _ p taken in
+    told m.config (Claim n) None p.event (event_is _ p c.1) refl
+part_told m (Append n) g node p desk taken =
+    let r = then_gives _ (claimed_batch node.batch) p taken in
+    let b : BatchView = r.0 in
+    let c = cond_gives (nat_le g.base node.replica.tail && nat_le (room_for g b.records) (room_in g)) _ p r.2 in
+    told m.config (Append n) None p.event (event_is _ p c.1) refl
+part_told m (Replay n) g node p desk taken =
+    let c = cond_gives (has_next g node) _ p taken in
+    told m.config (Replay n) None p.event (event_is _ p c.1) refl
+part_told m (Finish n) g node p desk taken =
+    let c = cond_gives (nat_lt g.done node.replica.tail) _ p taken in
+    told m.config (Finish n) None p.event (event_is _ p c.1) refl
+part_told m (Reply n) g node p desk taken =
+    let r = then_gives _ (appended_batch node.batch) p taken in
+    let c = cond_gives (no_records node.hand.records && nat_le node.replica.tail g.done) _ p r.2 in
+    told m.config (Reply n) None p.event (event_is _ p c.1) refl
+part_told m (Collect n s) g node p desk taken =
+    let d = map_gives (λ c. with_call_or_back (Back (session_at node s) (Updated c.reply)) g (record node { desk = c.desk })) (collected s node.desk) p taken in
+    told m.config (Collect n s) (Some (Back (session m.config n s) (Updated d.0.reply))) p.event (ap (λ x. Some (Back x (Updated d.0.reply))) (sym (session_is m n node s desk)) ∙ ap (λ (q : Part). q.event) d.2) refl
+part_told m (ReadBegin n s program argument) g node p desk taken =
+    let op : Operation = record { program = program; argument = argument.items } in
+    let c = cond_gives (is_idle node s && is_operation Read m.catalogue op) _ p taken in
+    told m.config (ReadBegin n s program argument) (Some (Call (session m.config n s) Read op)) p.event (ap (λ x. Some (Call x Read op)) (sym (session_is m n node s desk)) ∙ event_is _ p c.1) refl
+part_told m (ReadAnswer n s) g node p desk taken =
+    let r = then_gives _ (read_at node s) p taken in
+    let read : BegunRead = r.0 in
+    let c = cond_gives (nat_le read.seen node.replica.tail && nat_le node.replica.tail g.done) _ p r.2 in
+    let d = map_gives (λ (f : ReadEffect). with_call_or_back (Back (session_at node s) (ReadBack (record { point = node.replica.tail; reply = f.reply }))) g (with_read node s None)) (store_meaning.read m.catalogue read.op node.replica.maps) p c.1 in
+    let a : Answer = ReadBack (record { point = node.replica.tail; reply = d.0.reply }) in
+    told m.config (ReadAnswer n s) (Some (Back (session m.config n s) a)) p.event (ap (λ x. Some (Back x a)) (sym (session_is m n node s desk)) ∙ ap (λ (q : Part). q.event) d.2) refl
+part_told m (Reclaim n) g node p desk taken =
+    let c = cond_gives (nat_lt g.base node.replica.tail && nat_le node.replica.tail g.done) _ p taken in
+    told m.config (Reclaim n) None p.event (event_is _ p c.1) refl
+part_told m (Rebase n) g node p desk taken =
+    let c = cond_gives (nat_lt node.replica.tail g.base && no_records node.hand.records) _ p taken in
+    told m.config (Rebase n) None p.event (event_is _ p c.1) refl
+
+-- a step that may not be taken is no event
+not_told : (c : Config) (step : Step) → event_of c step answers.NotNow ≡ None
+not_told c (Post n s program argument) = refl
+not_told c (Claim n) = refl
+not_told c (Append n) = refl
+not_told c (Replay n) = refl
+not_told c (Finish n) = refl
+not_told c (Reply n) = refl
+not_told c (Collect n s) = refl
+not_told c (ReadBegin n s program argument) = refl
+not_told c (ReadAnswer n s) = refl
+not_told c (Reclaim n) = refl
+not_told c (Rebase n) = refl
+
+-- the event of a step, if it may be taken
+abbrev event_in : Option Took → Option Event
+event_in None = None
+event_in (Some r) = r.event
+
+step_told : (m : Opening) (w : WorldView) (h : History) (places : Places) (t : Trace) (step : Step) → Stands m w h places t → event_of m.config step (step_answer (took m w step)) ≡ event_in (took m w step)
+step_told m w h places t step x = go (took m w step) refl
+  where
+    go : (o : Option Took) → took m w step ≡ o → event_of m.config step (step_answer o) ≡ event_in o
+    go None e = not_told m.config step
+    go (Some r) e =
+        let at = then_gives (λ node. option_map (put_part w (node_of step)) (part_of m step w.log node)) (slice_get w.nodes (node_of step)) r e in
+        let p = map_gives (put_part w (node_of step)) (part_of m step w.log at.0) r at.2 in
+        subst (λ (z : Took). IsTold m.config step z.event) p.2 (part_told m step w.log at.0 p.0 (x.nodes (node_of step) at.0 at.1).desk p.1)
+
+-- ---- all steps
+
+append_nil : {A : Type 0} (xs : List A) → xs ++ [] ≡ xs
+append_nil [] = refl
+append_nil (x ∷ xs) = ap (λ ys. x ∷ ys) (append_nil xs)
+
+event_added : (t : Trace) (o : Option Event) → with_event t o ≡ t ++ before_events o []
+event_added t None = sym (append_nil t)
+event_added t (Some e) = refl
+
+trace_step : (t : Trace) (o : Option Took) → trace_after t o ≡ t ++ before_events (event_in o) []
+trace_step t None = sym (append_nil t)
+trace_step t (Some r) = event_added t r.event
+
+before_append : (o : Option Event) (ts : Trace) → before_events o [] ++ ts ≡ before_events o ts
+before_append None ts = refl
+before_append (Some e) ts = refl
+
+-- from a store that stands
+steps_told : (m : Opening) (steps : List Step) (w : WorldView) (h : History) (places : Places) (t : Trace) → Stands m w h places t → trace_of m w t steps ≡ t ++ read_off m.config steps (answers_to m w steps)
+steps_told m [] w h places t x = sym (append_nil t)
+steps_told m (step ∷ steps) w h places t x =
+    let k = step_keeps m w h places t step x in
+    let rest : Trace = read_off m.config steps (answers_to m (world_after w (took m w step)) steps) in
+    steps_told m steps (world_after w (took m w step)) (h ++ k.0) (places ++ k.1) (trace_after t (took m w step)) k.2
+    ∙ ap (λ s. s ++ rest) (trace_step t (took m w step))
+    ∙ append_assoc t (before_events (event_in (took m w step)) []) rest
+    ∙ ap (λ s. t ++ s) (before_append (event_in (took m w step)) rest ∙ ap (λ e. before_events e rest) (sym (step_told m w h places t step x)))
+
+pub trace_is_read_off : TraceIsReadOff
+trace_is_read_off m steps whole = steps_told m steps (opened m) [] [] [] (opening_stands m whole)

@@ -1,0 +1,66 @@
+-- A session at its node's desk while that is lent to it: what it may find there, and what its calls are.
+use Rattle.std.specs.Prelude.{◌≡◌, ℕ, suc, ◌<◌, ◌^◌, List, [], map, length, Some, None, slice_get, false}
+use Rattle.ownlock.specs.Seats.{At}
+use Rattle.oplog.specs.Sessions.{session}
+use Rattle.combiner.specs.Desks.{DeskView, BatchView, batch_of, claimed, collected, has_combiner}
+use Rattle.combiner.specs.declared.slots.Reply.{Reply}
+use Rattle.replica.specs.StoreMeaning.{store_meaning}
+use Rattle.progress.specs.declared.sessions.Pending.{Pending}
+use Rattle.progress.specs.declared.sessions.Claim.{Claim}
+use Rattle.progress.specs.declared.sessions.SessionNote.{SessionNote}
+use Rattle.progress.specs.Accounts.{Accounts}
+use Rattle.progress.specs.Agreement.{DeskAgrees}
+use Rattle.progress.specs.Batches.{Ascend}
+use Rattle.progress.specs.DeskSteps.{DeskStep, Gives}
+use Rattle.progress.specs.Moves.{answered_with, record_of, unplaced}
+use Rattle.progress.specs.Told.{Tells}
+use Rattle.store.specs.declared.desks.Turn.{Turn}
+use Rattle.store.specs.declared.desks.Turn.TheVariants.{Collects, Combines, Waits}
+use Rattle.store.specs.Standing.{SessionKnown}
+
+-- the slot of this desk is the session's own, and the desk agrees with some notes, of which the session's is one
+pub record IsAt (slot : ℕ) (k : SessionKnown) (x : DeskView) : Type 0 where
+  pub notes : List SessionNote
+  pub accounts : Accounts store_meaning k.progress notes
+  pub here : At k.session k.note notes
+  pub agrees : DeskAgrees store_meaning k.progress notes x
+  pub own : k.session ≡ session k.progress.config x.node slot
+  pub within : slot < k.progress.config.slots
+  pub near : x.node < k.progress.config.nodes
+
+-- the session waits for the answer to this request, and combines for nobody
+pub record HasAsked (k : SessionKnown) (o : Pending) : Type 0 where
+  pub pending : k.note.pending ≡ Some o
+  pub alone : k.note.batch ≡ []
+  pub few : suc (length k.note.answered) < 2 ^ 64
+
+-- the session combines the requests of this batch, in whose order it notes them, and has the answer to each
+pub record IsReady (k : SessionKnown) (b : BatchView) : Type 0 where
+  pub first : Claim
+  pub is_first : At 0 first k.note.batch
+  pub records : b.records ≡ map record_of k.note.batch
+  pub ascend : Ascend b.records
+  pub gives : (j : ℕ) (t : Claim) → At j t k.note.batch → (reply : Reply) × (slice_get b.answers j ≡ Some (Some reply)) × Gives store_meaning k.progress t reply
+
+-- the session may put the desk back as y, with the note n
+abbrev pub Steps : SessionKnown → DeskView → SessionNote → DeskView → Type 0
+Steps k x n y = DeskStep store_meaning k.progress k.session k.note x n y
+
+-- what a session did that looked for its answer: it collected the one that waits; else it claimed all posted requests, where nobody
+-- combines; else nothing
+abbrev pub IsTurn : ℕ → DeskView → DeskView → Turn → Type 0
+IsTurn slot x y (Collects reply) = collected slot x ≡ Some (record { reply = reply; desk = y })
+IsTurn slot x y (Combines batch) = (collected slot x ≡ None) × (has_combiner x ≡ false) × (y ≡ claimed x) × (batch ≡ batch_of x)
+IsTurn slot x y Waits = (collected slot x ≡ None) × (y ≡ x)
+
+-- which is a step of the session: what it collects it may say of its request, and the batch is by ascending authors
+abbrev pub TurnSteps : SessionKnown → Pending → DeskView → DeskView → Turn → Type 0
+TurnSteps k o x y (Collects reply) = Steps k x (answered_with k.note o.op reply) y × Tells store_meaning k.progress k.session (length k.note.answered) o reply
+TurnSteps k o x y (Combines batch) = Steps k x (record k.note { batch = unplaced batch.records }) y × Ascend batch.records
+TurnSteps k o x y Waits = y ≡ x
+
+-- what a claim is
+abbrev pub IsClaim : DeskView → DeskView → Turn → Type 0
+IsClaim x y (Collects reply) = ⊥
+IsClaim x y (Combines batch) = (has_combiner x ≡ false) × (y ≡ claimed x) × (batch ≡ batch_of x)
+IsClaim x y Waits = y ≡ x

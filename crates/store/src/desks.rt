@@ -1,0 +1,69 @@
+//! What a session does at its node's desk while that is lent to it: each call is a step of the desk. No call here takes a lock or
+//! memory.
+
+ghost use Rattle.std.specs.Prelude.{◌≡◌, ℕ, [], Some, None};
+ghost use Rattle.combiner.specs.Desks.{posted, replied};
+ghost use Rattle.replica.specs.StoreMeaning.{store_meaning};
+ghost use Rattle.progress.specs.Accounts.{IsAllowed};
+ghost use Rattle.progress.specs.declared.sessions.Pending.{Pending};
+ghost use Rattle.store.specs.AtDesk.{IsAt, IsClaim, IsReady, HasAsked, IsTurn, TurnSteps, Steps};
+ghost use Rattle.store.specs.Sessions.{request_of};
+ghost use Rattle.store.specs.Standing.{SessionKnown};
+
+use combiner::{Batch, Desk, Reply};
+use oplog::Op;
+
+/// What a session did that looked for the answer to its request.
+#[derive(Drop)]
+pub enum Turn {
+    /// It collected the answer.
+    Collects(Reply),
+    /// It combines the requests of its node.
+    Combines(Batch),
+    /// It waits for another that does.
+    Waits,
+}
+
+/// Posts an operation in the session's slot. It waits for no other.
+pub fn post(desk: &mut Desk, slot: usize, op: Op)
+    requires own { (k : SessionKnown) × IsAt slot k desk.old × (k.note.pending ≡ None) }
+    ensures posted { posted slot op desk.old ≡ Some desk.new }
+    ensures step { (k : SessionKnown) → IsAt slot k desk.old → IsAllowed store_meaning k.progress.catalogue op
+        → Steps k desk.old (record k.note { pending = Some (request_of k.progress op) }) desk.new }
+{
+    match desk.post(slot, op) {
+        Ok(()) => {}
+        Err(_) => unreachable!(),
+    }
+}
+
+/// Collects the answer that waits in the session's slot. Where there is none, claims the posted requests, if nobody combines.
+pub fn look(desk: &mut Desk, slot: usize) -> Turn
+    requires own { (k : SessionKnown) × (o : Pending) × IsAt slot k desk.old × HasAsked k o }
+    ensures turn { IsTurn slot desk.old desk.new result }
+    ensures step { (k : SessionKnown) (o : Pending) → IsAt slot k desk.old → HasAsked k o → TurnSteps k o desk.old desk.new result }
+{
+    match desk.collect(slot) {
+        Some(reply) => Turn::Collects(reply),
+        None => claim(desk),
+    }
+}
+
+/// Hands the answers of the batch that the session combines to the slots of its requests.
+pub fn reply(desk: &mut Desk, batch: Batch)
+    requires own { (k : SessionKnown) × (slot : ℕ) × IsAt slot k desk.old × IsReady k batch }
+    ensures replied { desk.new ≡ replied batch desk.old }
+    ensures step { (k : SessionKnown) → IsReady k batch → Steps k desk.old (record k.note { batch = [] }) desk.new }
+{
+    desk.reply(batch);
+}
+
+// Claims the posted requests, if nobody combines.
+fn claim(desk: &mut Desk) -> Turn
+    ensures claims { IsClaim desk.old desk.new result }
+{
+    match desk.claim() {
+        Ok(batch) => Turn::Combines(batch),
+        Err(_) => Turn::Waits,
+    }
+}

@@ -1,0 +1,86 @@
+// What a shelf with desks is opened with: the log, and then the replica and the desk of each node.
+
+ghost use Rattle.std.specs.Prelude.{◌≡◌, ◌+◌, ◌<◌, ◌≤◌, length, replicate, IfOk};
+ghost use Rattle.maps.specs.Shapes.{AreShapesOk};
+ghost use Rattle.oplog.specs.Limits.{IsConfig, IsWindow};
+ghost use Rattle.oplog.specs.declared.configuration.TheConstants.{MAX_NODES, MAX_NODE_SLOTS};
+ghost use Rattle.ownlock.specs.Knowledge.{AllAgree};
+ghost use Rattle.progress.specs.LogSteps.{first_progress, fresh_note};
+ghost use Rattle.store.specs.Shelving.{IsOpenedReplica, sessions_of};
+ghost use Rattle.store.specs.Places.{AreFilled, IsOpenedDesk, AreKept, AreShelved, shared_rules};
+
+use crate::values::{Value, shelved_log, shelved_replica};
+use combiner::Desk;
+use loader::Catalogue;
+use maps::Shape;
+use oplog::Config;
+use std::alloc::{AllocError, Global};
+
+// A new desk, as a value of the shelf.
+fn shelved_desk(alloc: Global, node: u16, slots: usize) -> Result<Value, AllocError>
+    requires node { node < MAX_NODES }
+    requires slots { slots ≤ MAX_NODE_SLOTS }
+    ensures desk { IfOk result (λ v. IsOpenedDesk slots node v) }
+{
+    Ok(Value::Desk(Box::new(alloc, Desk::new(node, slots))?))
+}
+
+// A new replica for each node, behind the values that there are.
+fn push_replicas(
+    alloc: Global,
+    values: &mut Vec<Option<Value>>,
+    shapes: &[Shape],
+    window: usize,
+    nodes: u16,
+) -> Result<(), AllocError>
+    requires shapes { AreShapesOk shapes.now }
+    requires window { IsWindow window }
+    ensures count { IfOk result (λ _. length values.new.items ≡ length values.old.items + nodes) }
+    ensures kept { IfOk result (λ _. AreKept values.old.items values.new.items) }
+    ensures replicas { IfOk result (λ _. AreFilled (length values.old.items) nodes (λ i v. IsOpenedReplica shapes.now window v) values.new.items) }
+{
+    for _node in 0..nodes {
+        values.push(Some(shelved_replica(alloc, shapes, window)?))?;
+    }
+    Ok(())
+}
+
+// A new desk for each node, behind the values that there are.
+fn push_desks(
+    alloc: Global,
+    values: &mut Vec<Option<Value>>,
+    nodes: u16,
+    slots: usize,
+) -> Result<(), AllocError>
+    requires nodes { nodes ≤ MAX_NODES }
+    requires slots { slots ≤ MAX_NODE_SLOTS }
+    ensures count { IfOk result (λ _. length values.new.items ≡ length values.old.items + nodes) }
+    ensures kept { IfOk result (λ _. AreKept values.old.items values.new.items) }
+    ensures desks { IfOk result (λ _. AreFilled (length values.old.items) nodes (λ i v. IsOpenedDesk slots i v) values.new.items) }
+{
+    for node in 0..nodes {
+        values.push(Some(shelved_desk(alloc, node, slots)?))?;
+    }
+    Ok(())
+}
+
+// The log, each node's replica, and each node's desk, in the order of their places.
+pub(crate) fn shelved_places(
+    alloc: Global,
+    config: &Config,
+    catalogue: &Catalogue,
+) -> Result<Vec<Option<Value>>, AllocError>
+    requires config { IsConfig config.now }
+    ensures values { IfOk result (λ v. AreShelved config.now catalogue.now v.items) }
+    ensures agree { IfOk result (λ v. AllAgree shared_rules (first_progress config.now catalogue.now) (replicate (sessions_of config.now) fresh_note) v.items) }
+{
+    let window = config.window as usize;
+    let shapes = catalogue.shapes();
+    let nodes = config.nodes as u16;
+    let mut values = Vec::with_capacity(alloc, 2 * nodes as usize + 1)?;
+    let log = shelved_log(alloc, shapes, window, config.limit as usize)?;
+    values.push(Some(log))?;
+    push_replicas(alloc, &mut values, shapes, window, nodes)?;
+    push_desks(alloc, &mut values, nodes, config.slots as usize)?;
+    Ok(values)
+}
