@@ -1,7 +1,8 @@
 // What a command answers.
 
 use crate::files::Offered;
-use console::{assemble, check, disassemble, run};
+use console::{assemble, check, disassemble, replay, run, schedule};
+use oplog::Config;
 use std::alloc::Global;
 
 // An exit status, and what is written.
@@ -9,6 +10,19 @@ use std::alloc::Global;
 pub struct Answer {
     pub status: u8,
     pub text: Vec<u8>,
+}
+
+// The sizes NODES:SLOTS:WINDOW:LIMIT.
+fn sizes(text: &str) -> Option<Config> {
+    let (nodes, rest) = text.split_once(':')?;
+    let (slots, rest) = rest.split_once(':')?;
+    let (window, limit) = rest.split_once(':')?;
+    Some(Config {
+        nodes: nodes.parse::<u32>().ok()?,
+        slots: slots.parse::<u32>().ok()?,
+        window: window.parse::<u32>().ok()?,
+        limit: limit.parse::<u32>().ok()?,
+    })
 }
 
 // What a command answers to its text; nothing where there is no such command.
@@ -21,6 +35,10 @@ pub fn answer_to(alloc: Global, folder: &Offered, command: &str, text: &[u8]) ->
             let mut script = folder.other;
             run(alloc, folder, &mut text, &mut script, &mut out)
         }
+        "replay" => {
+            let mut transcript = folder.other;
+            replay(alloc, folder, &mut text, &mut transcript, &mut out)
+        }
         "assembled" => {
             let mut program = Vec::new(alloc);
             let mut source = folder.other;
@@ -31,7 +49,11 @@ pub fn answer_to(alloc: Global, folder: &Offered, command: &str, text: &[u8]) ->
         }
         "asm" => assemble(alloc, &mut text, &mut out),
         "dis" => disassemble(alloc, &mut text, &mut out),
-        _ => return None,
+        _ => {
+            let config = sizes(command.strip_prefix("schedule:")?)?;
+            let mut steps = folder.other;
+            schedule(alloc, config, folder, &mut text, &mut steps, &mut out)
+        }
     };
     Some(Answer {
         status: status.code(),

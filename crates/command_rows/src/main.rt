@@ -2,7 +2,8 @@
 //! command writes. The rows (`stdin`) and what they must give (`stdout`) stand beside this program; the answers are worked by hand
 //! from what the commands promise, and not by this repository. A row is added to `stdout`; `stdin` is `stdout` without the answers.
 //!
-//! `file NAME TEXT` names a text; `check MANIFEST`, `run MANIFEST | SCRIPT`, `asm TEXT` and `dis PROGRAM` are commands; what stands
+//! `file NAME TEXT` names a text; `check MANIFEST`, `run MANIFEST | SCRIPT`, `replay MANIFEST | TRANSCRIPT`,
+//! `schedule:NODES:SLOTS:WINDOW:LIMIT MANIFEST | STEPS`, `asm TEXT` and `dis PROGRAM` are commands; what stands
 //! behind the bar of a `check` is the file `p.hex`, and of an `assembled`, which is a `check` too, the text from which `asm` makes it.
 //! Other lines are headings.
 #![tactic(auto)]

@@ -2,7 +2,8 @@
 //! repository's `examples`.
 #![tactic(auto)]
 
-use console::{Folder, assemble, check, disassemble, run};
+use console::{Folder, assemble, check, disassemble, replay, run, schedule};
+use oplog::Config;
 use std::alloc::{AllocError, Global};
 use std::io::Read;
 use std::rt::Files;
@@ -45,6 +46,45 @@ fn is_run<R: Files>(rt: &R, alloc: Global, folder: &str) -> io::Result<bool> {
     let mut script = fs::open(rt, format!(in alloc; "{folder}/script")?.as_str())?;
     let _ = run(alloc, &Here { rt }, &mut manifest, &mut script, &mut got);
     let want = bytes_of(rt, alloc, format!(in alloc; "{folder}/run.out")?.as_str())?;
+    Ok(got.as_slice() == want.as_slice())
+}
+
+// Whether `replay` of a folder's manifest and transcript writes its replay.out.
+fn is_replayed<R: Files>(rt: &R, alloc: Global, folder: &str) -> io::Result<bool> {
+    let mut got = Vec::new(alloc);
+    let mut manifest = fs::open(rt, format!(in alloc; "{folder}/manifest")?.as_str())?;
+    let mut transcript = fs::open(rt, format!(in alloc; "{folder}/transcript")?.as_str())?;
+    let _ = replay(
+        alloc,
+        &Here { rt },
+        &mut manifest,
+        &mut transcript,
+        &mut got,
+    );
+    let want = bytes_of(rt, alloc, format!(in alloc; "{folder}/replay.out")?.as_str())?;
+    Ok(got.as_slice() == want.as_slice())
+}
+
+// Whether `schedule` of a folder's manifest and steps, with the sizes that it has unasked, writes its schedule.out.
+fn is_scheduled<R: Files>(rt: &R, alloc: Global, folder: &str) -> io::Result<bool> {
+    let mut got = Vec::new(alloc);
+    let mut manifest = fs::open(rt, format!(in alloc; "{folder}/manifest")?.as_str())?;
+    let mut steps = fs::open(rt, format!(in alloc; "{folder}/steps")?.as_str())?;
+    let config = Config {
+        nodes: 2,
+        slots: 2,
+        window: 64,
+        limit: 1_000_000,
+    };
+    let _ = schedule(
+        alloc,
+        config,
+        &Here { rt },
+        &mut manifest,
+        &mut steps,
+        &mut got,
+    );
+    let want = bytes_of(rt, alloc, format!(in alloc; "{folder}/schedule.out")?.as_str())?;
     Ok(got.as_slice() == want.as_slice())
 }
 
@@ -96,6 +136,10 @@ fn main(rt: HostRuntime) -> io::Result<()> {
         let same = is_run(&rt, alloc, folder)?;
         println!(rt; "{folder}/run.out {same}")?;
     }
+    let same = is_scheduled(&rt, alloc, "examples/counter")?;
+    println!(rt; "examples/counter/schedule.out {same}")?;
+    let same = is_replayed(&rt, alloc, "examples/counter")?;
+    println!(rt; "examples/counter/replay.out {same}")?;
     for (name, listing) in [
         ("examples/five/five", "asm"),
         ("examples/counter/bump", "asm"),
