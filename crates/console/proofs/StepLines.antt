@@ -72,10 +72,11 @@ module _ (m : Opening) (n : ℕ) (old : WorldState) (before : List ℕ) (all : L
       → behind before (by_step_turn (bad_line n) (λ turn. behind turn.text (next turn)) t) ≡ total → GoesOn new after
   on None new after is taken at = absurd (false≢true (sym taken.0))
   on (Some turn) new after is taken at =
-      let world : new.world ≡ turn.world = ap (λ (s : WorldState). s.world) taken.2 in
-      (ap (λ (s : WorldState). s.opening) taken.2 ∙ of,
-      ap (λ (w : WorldView). length w.nodes) world ∙ line_keeps m old.world line turn is,
-      rw (world, taken.1) (ap (answer (next turn).verdict) (append_assoc before turn.text (next turn).text) ∙ at))
+      let world : new.world ≡ turn.world = ap (λ (s : WorldState). s.world) taken.2 in (
+        ap (λ (s : WorldState). s.opening) taken.2 ∙ of,
+        ap (λ (w : WorldView). length w.nodes) world ∙ line_keeps m old.world line turn is,
+        rw (world, taken.1) (ap (answer (next turn).verdict) (append_assoc before turn.text (next turn).text) ∙ at),
+      )
 
   pub goes_on : (new : WorldState) (after : List ℕ) → StepLineTaken old (step_line_turn old.opening old.world line) true new before after → GoesOn new after
   goes_on new after taken = on (step_line_turn m old.world line) new after refl (subst (λ o. StepLineTaken old (step_line_turn o old.world line) true new before after) of taken) here_is

@@ -92,7 +92,10 @@ impl Replaying {
         if call.place != self.node.tail() {
             return false;
         }
-        match self.node.submit(catalogue, number, call.call.argument.as_slice()) {
+        match self
+            .node
+            .submit(catalogue, number, call.call.argument.as_slice())
+        {
             Some(outcome) => outcome.reply == call.reply,
             None => false,
         }
@@ -113,7 +116,9 @@ impl Replaying {
         if call.place != self.node.tail() {
             return false;
         }
-        let outcome = self.node.query(found.program, call.call.argument.as_slice());
+        let outcome = self
+            .node
+            .query(found.program, call.call.argument.as_slice());
         self.reads = self.reads.saturating_add(1);
         outcome.reply == call.reply
     }

@@ -61,7 +61,11 @@ fn is_replayed<R: Files>(rt: &R, alloc: Global, folder: &str) -> io::Result<bool
         &mut transcript,
         &mut got,
     );
-    let want = bytes_of(rt, alloc, format!(in alloc; "{folder}/replay.out")?.as_str())?;
+    let want = bytes_of(
+        rt,
+        alloc,
+        format!(in alloc; "{folder}/replay.out")?.as_str(),
+    )?;
     Ok(got.as_slice() == want.as_slice())
 }
 
@@ -84,7 +88,11 @@ fn is_scheduled<R: Files>(rt: &R, alloc: Global, folder: &str) -> io::Result<boo
         &mut steps,
         &mut got,
     );
-    let want = bytes_of(rt, alloc, format!(in alloc; "{folder}/schedule.out")?.as_str())?;
+    let want = bytes_of(
+        rt,
+        alloc,
+        format!(in alloc; "{folder}/schedule.out")?.as_str(),
+    )?;
     Ok(got.as_slice() == want.as_slice())
 }
 

@@ -1,8 +1,9 @@
 // The command line.
 
 use crate::help;
+use clap::builder::ValueParser;
 use clap::error::{Error, ErrorKind};
-use clap::{Arg, ArgMatches, Command, ValueParser};
+use clap::{Arg, ArgMatches, Command};
 use oplog::Config;
 use std::alloc::{AllocError, Global};
 

@@ -244,6 +244,9 @@ pub const STEPS: &str = "The path of the steps";
 
 /// What the sizes of a store are.
 pub const NODES: &str = "Nodes, each with a replica of the maps";
+
 pub const SLOTS: &str = "Slots of a node";
+
 pub const WINDOW: &str = "Records that the log keeps at once";
+
 pub const LIMIT: &str = "Updates that the store may have in all";

@@ -102,12 +102,7 @@ fn prepare<F: Folder, R: Read, S: Read>(
     ensures some { IfOk result (λ r. IsScheduleAnswer config (answer_of r)) }
 {
     let inputs = read_inputs(alloc, folder, manifest, steps)?;
-    Ok(loaded_reply(
-        alloc,
-        config,
-        inputs.loaded,
-        inputs.text.as_str(),
-    )?)
+    Ok(loaded_reply(alloc, config, inputs.loaded, inputs.text.as_str())?)
 }
 
 /// Takes a list of steps, one after another, on a new store of these sizes with the maps and the programs of a manifest.

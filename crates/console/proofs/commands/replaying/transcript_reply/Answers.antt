@@ -12,9 +12,10 @@ loop-number-init c =
 pub loop-number-preserved : goal.loop-number-preserved
 loop-number-preserved c =
     let h = c.loop-number.invariant.1 in
-    let taken = c.in-Some.ensures.taken in
-    (c.in-Agrees.ensures.steady,
-    rw taken.2 (goes_on c.args.catalogue.now c.loop-number.lines.number h.0 c.loop-number.lines.lines c.in-Some.line.now c.take_line.new.self.lines taken.0 _ h.2 c.take_line-in-Some.new.self (c.in-Agrees.ensures.replayed h.0 h.1)))
+    let taken = c.in-Some.ensures.taken in (
+      c.in-Agrees.ensures.steady,
+      rw taken.2 (goes_on c.args.catalogue.now c.loop-number.lines.number h.0 c.loop-number.lines.lines c.in-Some.line.now c.take_line.new.self.lines taken.0 _ h.2 c.take_line-in-Some.new.self (c.in-Agrees.ensures.replayed h.0 h.1)),
+    )
 
 pub returns-in-Bad : goal.returns-in-Bad
 returns-in-Bad c =
