@@ -1,12 +1,15 @@
+-- To be believed: when sessions' notes account for one another and for the history, when a log, a replica or a desk agrees with them, and
+-- what a session may say of its answer.
 pub mod Values
 pub mod Accounts
 pub mod Agreement
+pub mod Told
+-- Which changes are allowed, and the laws that keep all of that: with desks, without, and under any rules of a store.
 pub mod Moves
 pub mod Seen
 pub mod StoreRules
 pub mod DeskSteps
 pub mod LogSteps
-pub mod Told
 pub mod Tellings
 pub mod Single
 pub mod Putting
