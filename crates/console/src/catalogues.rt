@@ -12,10 +12,12 @@ use crate::texts::refusal_text;
 use loader::{Catalogue, LoadError, load_manifest};
 use std::alloc::{AllocError, Global};
 
-// The catalogue; or what a command answers to a refused manifest.
+/// The catalogue; or what a command answers to a refused manifest.
 #[derive(Drop)]
-pub(crate) enum Loaded {
+pub enum Loaded {
+    /// The manifest is good.
     Catalogue(Catalogue),
+    /// It is refused.
     Refused(Reply),
 }
 

@@ -12,11 +12,14 @@ use loader::named_files;
 use std::alloc::{AllocError, AllocFailed, Global};
 use std::io::Read;
 
-// Why there is no answer to what was read.
+/// Why there is no answer to what was read.
 #[derive(Clone, Copy)]
-pub(crate) enum InputFault {
+pub enum InputFault {
+    /// Memory ran out.
     NoMemory,
+    /// A read failed.
     CannotRead,
+    /// Some file is not UTF-8.
     NotText,
 }
 

@@ -11,15 +11,21 @@ use crate::input::{InputFault, gather, read_text};
 use std::alloc::Global;
 use std::io::Read;
 
-// The catalogue of a manifest, and another text.
+/// The catalogue of a manifest, and another text.
 #[derive(Drop)]
-pub(crate) struct Inputs {
+pub struct Inputs {
+    /// The catalogue, or the answer to a refused manifest.
     pub loaded: Loaded,
+    /// The other text.
     pub text: String,
 }
 
-// Reads the manifest first, then the files that it names, then the other text; then loads the manifest.
-pub(crate) fn read_inputs<F: Folder, R: Read, S: Read>(
+/// Reads the manifest first, then the files that it names, then the other text; then loads the manifest.
+///
+/// # Errors
+///
+/// Where a read fails, memory runs out, or something is not UTF-8.
+pub fn read_inputs<F: Folder, R: Read, S: Read>(
     alloc: Global,
     folder: &F,
     manifest: &mut R,

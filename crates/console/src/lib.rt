@@ -27,3 +27,14 @@ pub use commands::{assemble, check, disassemble, replay, run, schedule};
 pub use folder::Folder;
 pub use laws::run_lines_are_runs;
 pub use status::Status;
+
+// What an engine in a crate of its own is put together from, as `stress` is.
+pub use catalogues::Loaded;
+pub use input::InputFault;
+pub use inputs::{Inputs, read_inputs};
+pub use replay_texts::bad_line;
+pub use report::{Reply, report};
+pub use schedule_texts::sizes_refused;
+pub use script::{ProgramCall, ScriptLine, read_line};
+pub use status::Verdict;
+pub use texts::{put_number, put_numbered};

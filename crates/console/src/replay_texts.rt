@@ -39,8 +39,8 @@ pub(crate) fn differs_text(alloc: Global, number: u32) -> Result<Vec<u8>, AllocE
     Ok(out)
 }
 
-// The line of this number is bad.
-pub(crate) fn bad_line(alloc: Global, number: u32) -> Result<Vec<u8>, AllocError>
+/// What is written where the line of this number is bad.
+pub fn bad_line(alloc: Global, number: u32) -> Result<Vec<u8>, AllocError>
     ensures { IfOk result (λ v. v.items ≡ bad_line_text number) }
 {
     let mut out = Vec::new(alloc);

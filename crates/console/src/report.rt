@@ -8,10 +8,12 @@ use crate::texts::{no_memory, not_text};
 use crate::transfer::send;
 use std::io::Write;
 
-// What a command has to write, and how it then ends.
+/// What a command has to write, and how it then ends.
 #[derive(Drop)]
-pub(crate) struct Reply {
+pub struct Reply {
+    /// All of it.
     pub text: Vec<u8>,
+    /// Whether what was read is good.
     pub verdict: Verdict,
 }
 
@@ -25,8 +27,8 @@ fn write_text<W: Write>(writer: &mut W, text: &[u8], status: Status) -> Status
     }
 }
 
-// Writes what a command answers, whole, after all is read.
-pub(crate) fn report<W: Write>(writer: &mut W, answer: Result<Reply, InputFault>) -> Status
+/// Writes what a command answers, whole, after all is read. Says how it ended.
+pub fn report<W: Write>(writer: &mut W, answer: Result<Reply, InputFault>) -> Status
     ensures { Writes (W.contents writer.old) (W.contents writer.new) result answer }
 {
     match answer {

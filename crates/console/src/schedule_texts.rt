@@ -72,8 +72,8 @@ pub(crate) fn put_end(out: &mut Vec<u8>, world: &World, nodes: u32) -> Result<()
     Ok(())
 }
 
-// Sizes out of their limits.
-pub(crate) fn sizes_refused(alloc: Global) -> Result<Vec<u8>, AllocError>
+/// What is written where the sizes of a store are out of their limits.
+pub fn sizes_refused(alloc: Global) -> Result<Vec<u8>, AllocError>
     ensures { IfOk result (λ v. v.items ≡ sizes_refused.text) }
 {
     let mut out = Vec::new(alloc);

@@ -7,17 +7,21 @@ ghost use Rattle.console.specs.ScriptShown.{call_of, meaning_of};
 use arrayvec::ArrayVec;
 use text::{FIELD_BYTES, LINE_BYTES, LineKind, hex_field, is_name, kind_of, split_at_space};
 
-// A call of a program: its name, and the bytes of the argument.
+/// A call of a program.
 #[derive(Drop)]
-pub(crate) struct ProgramCall<'a> {
+pub struct ProgramCall<'a> {
+    /// The program's name.
     pub name: &'a str,
+    /// The bytes of the argument.
     pub argument: ArrayVec<u8, FIELD_BYTES>,
 }
 
-// What a line says.
+/// What a line of a script says.
 #[derive(Drop)]
-pub(crate) enum ScriptLine<'a> {
+pub enum ScriptLine<'a> {
+    /// A comment or an empty line.
     Comment,
+    /// A call.
     Call(ProgramCall<'a>),
 }
 
@@ -46,9 +50,9 @@ fn call_line(line: &str) -> Option<ScriptLine<'_>>
     Some(ScriptLine::Call(call))
 }
 
-// What a line says; `None` where it is bad.
+/// What a line of a script says; `None` where it is bad.
 #[tactic(auto, unfolding(crate::specs::Script::line_meaning))]
-pub(crate) fn read_line(line: &str) -> Option<ScriptLine<'_>>
+pub fn read_line(line: &str) -> Option<ScriptLine<'_>>
     ensures { option_map meaning_of result ≡ line_meaning line.now }
 {
     match kind_of(line) {

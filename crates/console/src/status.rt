@@ -20,11 +20,14 @@ pub enum Status {
     Differs,
 }
 
-// Whether what was read is good.
+/// Whether what was read is good.
 #[derive(Clone, Copy)]
-pub(crate) enum Verdict {
+pub enum Verdict {
+    /// It is.
     Good,
+    /// It is refused.
     Refused,
+    /// It tells something else than what is so.
     Differs,
 }
 

@@ -22,16 +22,16 @@ pub(crate) fn no_memory() -> &'static [u8]
     b"no memory\n"
 }
 
-// A number in decimal.
-pub(crate) fn put_number(out: &mut Vec<u8>, n: u64) -> Result<(), AllocError>
+/// Adds a number in decimal.
+pub fn put_number(out: &mut Vec<u8>, n: u64) -> Result<(), AllocError>
     ensures { OnOk result (out.new.items ≡ out.old.items ++ decimal n) }
 {
     let mut digits = Buffer::new();
     out.extend_from_slice(digits.format(n).as_bytes())
 }
 
-// A number in decimal behind a text.
-pub(crate) fn put_numbered(out: &mut Vec<u8>, before: &[u8], n: u64) -> Result<(), AllocError>
+/// Adds a text, and a number in decimal.
+pub fn put_numbered(out: &mut Vec<u8>, before: &[u8], n: u64) -> Result<(), AllocError>
     ensures { OnOk result (out.new.items ≡ out.old.items ++ (before.now ++ decimal n)) }
 {
     out.extend_from_slice(before)?;

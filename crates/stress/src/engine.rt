@@ -1,0 +1,133 @@
+// The command `stress`.
+
+ghost use Rattle.std.specs.Prelude.{◌≡◌, All, IfOk, IfSome, MatchResult, false};
+ghost use Rattle.oplog.specs.Limits.{IsConfig};
+ghost use Rattle.loader.specs.Loading.{Outcome};
+ghost use Rattle.console.specs.Report.{answer_of, ReportsSome};
+ghost use Rattle.console.specs.Input.{FailsAs};
+ghost use Rattle.console.specs.Inputs.{all_texts};
+ghost use Rattle.console.specs.Loaded.{LoadedIs};
+ghost use Rattle.stress.specs.StressAnswer.{IsTranscript, IsCatalogueAnswer, IsStressed, IsStressAnswer, IsSomeStressAnswer};
+ghost use Rattle.stress.specs.Playing.{IsReady};
+
+use crate::calls::{ScriptCall, ScriptCalls, read_calls};
+use crate::gate::Gate;
+use crate::lines::transcript;
+use crate::sharing::tell_all;
+use console::{Folder, InputFault, Loaded, Reply, Status, Verdict, bad_line, read_inputs, report, sizes_refused};
+use loader::Catalogue;
+use oplog::Config;
+use std::alloc::{AllocError, Global};
+use std::io::{Read, Write};
+use std::sync::Wait;
+use std::thread::Threads;
+
+/// On which store the calls of a script are made, and what each session passes before each of its calls.
+#[derive(Clone, Copy)]
+pub struct Stress<'a, G> {
+    /// Where memory is taken from.
+    pub alloc: Global,
+    /// The sizes of the store.
+    pub config: Config,
+    /// What each session passes before each of its calls.
+    pub gate: &'a G,
+}
+
+// What is answered to calls that no session is refused.
+fn calls_reply<R: Threads + Wait + Sync, G: Gate + Sync>(
+    rt: &R,
+    stress: Stress<'_, G>,
+    catalogue: Catalogue,
+    calls: &[ScriptCall<'_>],
+) -> Result<Reply, AllocError>
+    requires config { IsConfig stress.config }
+    requires ready { All (IsReady catalogue) calls.now }
+    ensures { IfOk result (λ r. IsTranscript (answer_of r)) }
+{
+    let told = tell_all(rt, stress, catalogue, calls)?;
+    Ok(Reply {
+        text: transcript(stress.alloc, told)?,
+        verdict: Verdict::Good,
+    })
+}
+
+// What a catalogue answers to a script.
+fn catalogue_reply<R: Threads + Wait + Sync, G: Gate + Sync>(
+    rt: &R,
+    stress: Stress<'_, G>,
+    catalogue: Catalogue,
+    script: &str,
+) -> Result<Reply, AllocError>
+    ensures { IfOk result (λ r. IsCatalogueAnswer stress.config catalogue script.now (answer_of r)) }
+{
+    if !stress.config.is_within_limits() {
+        return Ok(Reply {
+            text: sizes_refused(stress.alloc)?,
+            verdict: Verdict::Refused,
+        });
+    }
+    match read_calls(stress.alloc, &catalogue, script)? {
+        ScriptCalls::Good(calls) => calls_reply(rt, stress, catalogue, &calls),
+        ScriptCalls::Bad(number) => Ok(Reply {
+            text: bad_line(stress.alloc, number)?,
+            verdict: Verdict::Refused,
+        }),
+    }
+}
+
+// What a manifest that was loaded and a script get.
+fn loaded_reply<R: Threads + Wait + Sync, G: Gate + Sync>(
+    rt: &R,
+    stress: Stress<'_, G>,
+    loaded: Loaded,
+    script: &str,
+) -> Result<Reply, AllocError>
+    ensures { IfOk result (λ r. (outcome : Outcome) → LoadedIs outcome loaded → IsStressed stress.config outcome script.now (answer_of r)) }
+{
+    match loaded {
+        Loaded::Catalogue(catalogue) => catalogue_reply(rt, stress, catalogue, script),
+        Loaded::Refused(reply) => Ok(reply),
+    }
+}
+
+// What `stress` has to write.
+fn prepare<R: Threads + Wait + Sync, G: Gate + Sync, F: Folder, M: Read, S: Read>(
+    rt: &R,
+    stress: Stress<'_, G>,
+    folder: &F,
+    manifest: &mut M,
+    script: &mut S,
+) -> Result<Reply, InputFault>
+    ensures known { IfSome (M.remaining manifest.old) (λ m. IfSome (F.holds folder.now) (λ h. IfSome (S.remaining script.old) (λ s. MatchResult result
+        (λ r. IsStressAnswer stress.config m h s (answer_of r)) (λ e. FailsAs e (all_texts m h s ≡ false))))) }
+    ensures some { IfOk result (λ r. IsSomeStressAnswer stress.config (answer_of r)) }
+{
+    let inputs = read_inputs(stress.alloc, folder, manifest, script)?;
+    Ok(loaded_reply(rt, stress, inputs.loaded, inputs.text.as_str())?)
+}
+
+/// Makes the calls of a script on a new store of several nodes with the maps and the programs of a manifest. The lines go to the
+/// sessions in turn, and each session makes its own in their order, on a thread of its own.
+///
+/// Writes a transcript, as `replay` reads it: each update at its place in the history with its reply, each read behind the updates
+/// that it has seen, and last the updates that were told that the history has ended. A line that is no call of a program of the
+/// manifest with an argument of its length, no comment and not empty writes `line N bad`, and no thread starts. Sizes out of their
+/// limits write `refused O1`, a refused manifest only its refusal. Says how it ended. Each file is read whole before anything is
+/// written. Where a read fails, nothing is written.
+pub fn stress<R: Threads + Wait + Sync, G: Gate + Sync, F: Folder, M: Read, S: Read, W: Write>(
+    rt: &R,
+    stress: Stress<'_, G>,
+    folder: &F,
+    manifest: &mut M,
+    script: &mut S,
+    writer: &mut W,
+) -> Status
+    // Where the readers and the folder tell their bytes, those calls are made.
+    ensures written { IfSome (M.remaining manifest.old) (λ m. IfSome (F.holds folder.now) (λ h. IfSome (S.remaining script.old) (λ s.
+        ReportsSome (IsStressAnswer stress.config m h s) (W.contents writer.old) (W.contents writer.new) result))) }
+    // Whatever they give, or where they fail.
+    ensures ended { ReportsSome (IsSomeStressAnswer stress.config) (W.contents writer.old) (W.contents writer.new) result }
+{
+    let prepared = prepare(rt, stress, folder, manifest, script);
+    report(writer, prepared)
+}

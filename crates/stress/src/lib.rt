@@ -1,0 +1,12 @@
+//! The command `stress` of the program `nrbpf`: a script's calls on a store of several nodes, each session on a thread of its own.
+#![tactic(auto)]
+
+mod calls;
+mod engine;
+mod gate;
+mod lines;
+mod players;
+mod sharing;
+
+pub use engine::{Stress, stress};
+pub use gate::{Gate, OpenGate};

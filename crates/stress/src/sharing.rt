@@ -1,0 +1,159 @@
+// One store for all threads: it is opened, each session makes its calls on a thread of its own, and it is closed.
+
+ghost use Rattle.std.specs.Prelude.{◌≡◌, ◌+◌, ◌*◌, ◌≤◌, ◌<◌, ℕ, [], length, All, IfOk, vec_capacity};
+ghost use Rattle.oplog.specs.Limits.{IsConfig};
+ghost use Rattle.store.specs.Sessions.{IsOf, StoreView};
+ghost use Rattle.stress.specs.Playing.{IsReady, AreIn, ArePlaying};
+
+use crate::calls::ScriptCall;
+use crate::engine::Stress;
+use crate::gate::Gate;
+use crate::lines::Told;
+use crate::players::{Player, Playground, play};
+use loader::Catalogue;
+use oplog::{Config, OpenError};
+use std::alloc::{AllocError, Global};
+use std::sync::Wait;
+use std::thread;
+use std::thread::Threads;
+use store::{Session, Store};
+
+// A store of these sizes, with a session for each slot of each node.
+fn open(
+    alloc: Global,
+    config: Config,
+    catalogue: Catalogue,
+) -> Result<(Store, Vec<Session>), AllocError>
+    requires config { IsConfig config }
+    ensures catalogue { IfOk result (λ t. t.0.catalogue ≡ catalogue) }
+    ensures sizes { IfOk result (λ t. t.0.config ≡ config) }
+    ensures sessions { IfOk result (λ t. AreIn t.0 (config.nodes * config.slots) t.1.items) }
+{
+    match Store::open(alloc, config, catalogue) {
+        Ok(opened) => Ok(opened),
+        Err(OpenError::NoMemory) => Err(AllocError),
+        Err(OpenError::OutOfLimits) => unreachable!(),
+    }
+}
+
+// Ends the store, once all its sessions are back.
+fn close(store: Store, sessions: Vec<Session>)
+    requires whole { AreIn store (store.config.nodes * store.config.slots) sessions.items }
+{
+    match store.close(sessions) {
+        Ok(closed) => drop(closed),
+        Err(_) => unreachable!(),
+    }
+}
+
+// Each session becomes a player with its number, the last one first.
+fn enter<'a>(alloc: Global, sessions: &mut Vec<Session>, players: &mut Vec<Player<'a>>)
+    requires empty { players.old.items ≡ [] }
+    requires room { length sessions.old.items ≤ vec_capacity players.old }
+    ensures gone { (sessions.new.items ≡ []) × (vec_capacity sessions.new ≡ vec_capacity sessions.old) }
+    ensures count { length players.new.items ≡ length sessions.old.items }
+    ensures playing { (store : StoreView) → All (IsOf store) sessions.old.items → All (ArePlaying store) players.new.items }
+{
+    while let Some(session) = sessions.pop() {
+        players.push_reserved(Player {
+            session,
+            number: sessions.len(),
+            told: Ok(Vec::new(alloc)),
+        });
+    }
+}
+
+// Each player's session comes back, and what it was told, in the order of their numbers.
+fn leave<'a>(
+    players: &mut Vec<Player<'a>>,
+    sessions: &mut Vec<Session>,
+    outcomes: &mut Vec<Result<Vec<Told<'a>>, AllocError>>,
+)
+    requires empty { (sessions.old.items ≡ []) × (outcomes.old.items ≡ []) }
+    requires room { (length players.old.items ≤ vec_capacity sessions.old) × (length players.old.items ≤ vec_capacity outcomes.old) }
+    ensures gone { players.new.items ≡ [] }
+    ensures count { length sessions.new.items ≡ length players.old.items }
+    ensures own { (store : StoreView) → All (ArePlaying store) players.old.items → All (IsOf store) sessions.new.items }
+{
+    while let Some(player) = players.pop() {
+        let Player { session, told, .. } = player;
+        sessions.push_reserved(session);
+        outcomes.push_reserved(told);
+    }
+}
+
+// Lets all sessions make their calls, each on a thread of its own, and gives them back.
+fn play_all<'a, R: Threads + Wait + Sync, G: Gate + Sync>(
+    rt: &R,
+    ground: Playground<'_, 'a, G>,
+    mut sessions: Vec<Session>,
+    mut players: Vec<Player<'a>>,
+    outcomes: &mut Vec<Result<Vec<Told<'a>>, AllocError>>,
+) -> Vec<Session>
+    requires some { 0 < ground.sessions }
+    requires all { AreIn ground.store.now ground.sessions sessions.items }
+    requires ready { All (IsReady ground.store.now.catalogue) ground.calls.now }
+    requires empty { (players.items ≡ []) × (outcomes.old.items ≡ []) }
+    requires room { (ground.sessions ≤ vec_capacity players) × (ground.sessions ≤ vec_capacity outcomes.old) }
+    ensures back { AreIn ground.store.now ground.sessions result.items }
+{
+    enter(ground.alloc, &mut sessions, &mut players);
+    thread::for_each_mut(
+        rt,
+        &mut players,
+        ground.sessions,
+        &|_number: usize, player: &mut Player<'a>|
+            requires { IsOf ground.store.now player.now.session × All (IsReady ground.store.now.catalogue) ground.calls.now × (0 < ground.sessions) }
+            ensures { IsOf ground.entry.store.now player.exit.now.session }
+        { play(rt, ground, player) },
+    );
+    leave(&mut players, &mut sessions, outcomes);
+    players.destroy_empty();
+    sessions
+}
+
+// What all sessions were told, session by session.
+fn gathered<'a>(
+    alloc: Global,
+    outcomes: Vec<Result<Vec<Told<'a>>, AllocError>>,
+) -> Result<Vec<Told<'a>>, AllocError> {
+    let mut all = Vec::new(alloc);
+    for outcome in outcomes {
+        all.extend_from_slice(&outcome?)?;
+    }
+    Ok(all)
+}
+
+// Makes the calls on a new store, and closes it. What the sessions were told, session by session.
+pub(crate) fn tell_all<'a, R: Threads + Wait + Sync, G: Gate + Sync>(
+    rt: &R,
+    stress: Stress<'_, G>,
+    catalogue: Catalogue,
+    calls: &'a [ScriptCall<'a>],
+) -> Result<Vec<Told<'a>>, AllocError>
+    requires config { IsConfig stress.config }
+    requires ready { All (IsReady catalogue) calls.now }
+{
+    let Stress {
+        alloc,
+        config,
+        gate,
+    } = stress;
+    let count = (config.nodes * config.slots) as usize;
+    let mut outcomes = Vec::with_capacity(alloc, count)?;
+    let players = Vec::with_capacity(alloc, count)?;
+    let Ok((store, sessions)) = open(alloc, config, catalogue) else {
+        players.destroy_empty();
+        return Err(AllocError);
+    };
+    let ground = Playground {
+        alloc,
+        store: &store,
+        gate,
+        calls,
+        sessions: count,
+    };
+    let sessions = play_all(rt, ground, sessions, players, &mut outcomes);
+    close(store, sessions);
+    gathered(alloc, outcomes)
+}
