@@ -1,10 +1,10 @@
 -- What a closed store leaves.
 use Rattle.std.specs.Option.{IsSome, option_to_list}
-use Rattle.std.proofs.Common.{Bool, true, false, length-append, ◌≡◌, ℕ, zero, suc, ◌+◌, ◌<◌, ◌≤◌, List, [], ◌∷◌, ◌++◌, length, sym, refl, ap, ◌∙◌, subst, arith, Option, Some, None}
+use Rattle.std.proofs.Common.{Bool, true, false, length-append, ◌≡◌, ℕ, zero, suc, ◌+◌, ◌<◌, ◌≤◌, List, [], ◌∷◌, ◌++◌, length, replicate, ◌*◌, sym, refl, ap, ◌∙◌, subst, arith, Option, Some, None}
 use mathlib.Core.Option.{some-injective}
 use lib.ListN.{get_elem?}
-use Rattle.ownlock.specs.Seats.{At, SeatView, ShelfId}
-use Rattle.ownlock.specs.Knowledge.{Agreed, AllIdle, AllAgree}
+use Rattle.ownlock.specs.Seats.{At, HoldsNone}
+use Rattle.ownlock.specs.Knowledge.{Closes, AllAgree}
 use Rattle.loader.specs.CatalogueView.{CatalogueView}
 use Rattle.oplog.specs.Logs.{Log as LogView}
 use Rattle.replica.specs.StoreMeaning.{store_meaning}
@@ -19,9 +19,12 @@ use Rattle.store.specs.declared.values.NodeReplica.{NodeReplica}
 use Rattle.store.specs.declared.values.Value.{Value}
 use Rattle.store.specs.declared.values.Value.TheVariants.{Log, Replica, Desk}
 use Rattle.store.proofs.StoreLaws.{session_laws}
-use Rattle.store.specs.Shelving.{view_of, store_rules, log_value, replica_value, HasLogSizes}
+use Rattle.store.specs.declared.values.Setup.{Setup}
+use Rattle.progress.specs.LogSteps.{fresh_note}
+use Rattle.store.specs.Shelving.{opening_notes, view_of, store_rules, log_value, replica_value, HasLogSizes}
 use Rattle.store.specs.Sessions.{StoreView, SessionView, known_of}
-use Rattle.store.specs.Opening.{AreOf, IsClosed}
+use Rattle.store.specs.Standing.{SessionKnown}
+use Rattle.store.specs.Opening.{AreOf, IsClosed, IsOpenable}
 use Rattle.progress.proofs.Tellings.{tail_is}
 use Rattle.std.specs.Global.{Box}
 use Rattle.maps.specs.Maps.{shapes_of}
@@ -29,9 +32,6 @@ use Rattle.oplog.specs.declared.configuration.Config.{Config}
 
 abbrev L : Type 0
 L = Progress CatalogueView
-
-abbrev S : Type 0
-S = SeatView (Progress CatalogueView) SessionNote Value
 
 pub one_item : {A : Type 0} (xs ys : List A) (a : A) → length xs ≡ 1 → xs ≡ ys ++ a ∷ [] → xs ≡ a ∷ []
 one_item xs [] a long e = e
@@ -45,10 +45,11 @@ only : {A : Type 0} (a b : A) (i : ℕ) → At i b (a ∷ []) → b ≡ a
 only a b zero e = sym (some-injective a b e)
 only a b (suc i) e = absurd (at_none i b e)
 
-pub one_idle : (id : ShelfId) (seats : List S) (seat : S) (s : SessionView) → seats ≡ seat ∷ [] → seat.sessions ≡ known_of s ∷ [] → seat.shelf ≡ id → AllIdle id seats
-one_idle id seats seat s is known shelf a t at =
-    let e : seat ≡ t = sym (only seat t a (subst (λ z. At a t z) is at)) in
-    (ap (λ (z : S). z.shelf) (sym e) ∙ shelf, (known_of s, subst (λ (z : S). z.sessions ≡ known_of s ∷ []) e known, refl))
+pub one_session : (shelf setup : Setup) → shelf ≡ setup → IsOpenable setup.config → length (opening_notes shelf) ≡ 1
+one_session shelf setup same fits = ap (λ (z : Setup). length (opening_notes z)) same ∙ ap (λ n. length (replicate n fresh_note)) (λ i. fits.nodes i * fits.slots i)
+
+pub one_holds_none : (view : List SessionKnown) (s : SessionView) → view ≡ known_of s ∷ [] → HoldsNone view
+one_holds_none view s is a t at = ap (λ (z : SessionKnown). z.held) (only (known_of s) t a (subst (λ z. At a t z) is at))
 
 -- the log and the replica, in the order of their places
 pub record IsPair (l : L) (slots : List (Option Value)) : Type 0 where
@@ -99,12 +100,12 @@ is_pair l ns (a ∷ b ∷ []) long all =
     }
 is_pair l ns (a ∷ b ∷ c ∷ cs) long all = absurd (omega (arith, long))
 
-pub is_closed : (store : StoreView) (sessions : List SessionView) (s : SessionView) (seats : List S) (seat : S) (slots : List (Option Value)) → AreOf store sessions → sessions ≡ s ∷ [] → seats ≡ seat ∷ [] → seat.sessions ≡ known_of s ∷ []
-    → s.note.pending ≡ None → length slots ≡ 2 → (a : Agreed store_rules seats slots) → (p : IsPair a.0 slots) → IsClosed store sessions p.log.value p.node.value.replica
-is_closed store sessions s seats seat slots own is isn known idle long a p =
-    let k = a.4 0 seat (known_of s) (ap (λ z. get_elem? z 0) isn) known in
+pub is_closed : (store : StoreView) (sessions : List SessionView) (s : SessionView) (view : List SessionKnown) (count : ℕ) (slots : List (Option Value)) → AreOf store sessions → sessions ≡ s ∷ [] → view ≡ known_of s ∷ [] → count ≡ 1
+    → s.note.pending ≡ None → length slots ≡ 2 → (a : Closes store_rules count view slots) → (p : IsPair a.0 slots) → IsClosed store sessions p.log.value p.node.value.replica
+is_closed store sessions s view one slots own is known only_one idle long a p =
+    let k = a.4 0 (known_of s) (ap (λ z. get_elem? z 0) known) in
     let e = ends store_meaning a.0 a.1 a.2 in
-    let count : length a.1 ≡ 1 = a.3 ∙ ap length isn in
+    let count : length a.1 ≡ 1 = a.3 ∙ only_one in
     let zero_is = at_below a.1 s.session s.note k.1 in
     let of = own 0 s (ap (λ z. get_elem? z 0) is) in
     let config = sym k.0.config ∙ of.config in

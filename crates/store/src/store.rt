@@ -15,7 +15,7 @@ use crate::steps::Shared;
 use crate::values::{NodeReplica, Setup, Value, shelved_values};
 use loader::Catalogue;
 use oplog::{Config, LogState, OpenError};
-use ownlock::{Seat, Shelf};
+use ownlock::Shelf;
 use replica::Replica;
 use std::alloc::Global;
 use std::marker::Model;
@@ -53,12 +53,10 @@ impl Closed {
 pub struct Store {
     shelf: Shelf<Value>,
     setup: Setup,
-    // Room for the seats of all sessions, when the store is closed.
-    seats: Vec<Seat<Value>>,
 }
 
 impl Model for Store {
-    ghost use Rattle.std.specs.Prelude.{◌≡◌, ◌+◌, ◌≤◌, [], vec_capacity};
+    ghost use Rattle.std.specs.Prelude.{◌≡◌, ◌+◌};
     ghost use Rattle.store.specs.Opening.{IsOpenable};
     ghost use Rattle.store.specs.Sessions.{StoreView};
 
@@ -67,7 +65,7 @@ impl Model for Store {
     ghost view = { λ s. record { id = s.shelf.id; config = s.setup.config; catalogue = s.setup.catalogue } };
 
     // The shelf was opened for this setup, and has a place for the log and one for each node's replica.
-    ghost invariant = { λ s. (s.shelf.setup ≡ s.setup) × (s.shelf.places ≡ 1 + s.setup.config.nodes) × IsOpenable s.setup.config × (s.seats.items ≡ []) × (1 ≤ vec_capacity s.seats) };
+    ghost invariant = { λ s. (s.shelf.setup ≡ s.setup) × (s.shelf.places ≡ 1 + s.setup.config.nodes) × IsOpenable s.setup.config };
 }
 
 // Whether a store is built for this configuration.
@@ -122,9 +120,6 @@ impl Store {
         let Ok(values) = shelved_values(alloc, &config, &catalogue) else {
             return Err(OpenError::NoMemory);
         };
-        let Ok(seats) = Vec::with_capacity(alloc, 1) else {
-            return Err(OpenError::NoMemory);
-        };
         let Ok(mut sessions) = Vec::with_capacity(alloc, 1) else {
             return Err(OpenError::NoMemory);
         };
@@ -134,14 +129,7 @@ impl Store {
             return Err(OpenError::NoMemory);
         };
         sessions.push_reserved(Session::first(seat));
-        Ok((
-            Store {
-                shelf,
-                setup,
-                seats,
-            },
-            sessions,
-        ))
+        Ok((Store { shelf, setup }, sessions))
     }
 
     /// Ends the store, and gives its log and each node's replica, once all its sessions are back.
@@ -162,13 +150,8 @@ impl Store {
             unreachable!()
         };
         sessions.destroy_empty();
-        let Store {
-            shelf,
-            mut seats,
-            ..
-        } = self;
-        seats.push_reserved(session.into_seat());
-        let mut values = shelf.close(seats);
+        let Store { shelf, .. } = self;
+        let mut values = shelf.close_joined(session.into_seat());
         let node = replica_in(values.pop());
         let log = log_in(values.pop());
         Ok(Closed { log, node })
