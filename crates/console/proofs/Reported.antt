@@ -8,7 +8,7 @@ use Rattle.console.specs.declared.status.Verdict.{Verdict}
 use Rattle.console.specs.declared.status.Verdict.TheVariants as verdicts
 use Rattle.console.specs.declared.input.InputFault.{InputFault}
 use Rattle.console.specs.declared.input.InputFault.TheVariants as faults
-use Rattle.console.specs.declared.report.Reply.{Reply}
+use Rattle.console.specs.declared.reporting.Reply.{Reply}
 use Rattle.console.specs.Status.{status_of}
 use Rattle.console.specs.Texts.{no_memory_line}
 use Rattle.console.specs.Files.{Contents}
@@ -17,7 +17,7 @@ use Rattle.console.specs.Answer.{Answer, not_text}
 use Rattle.console.specs.Report.{Reports, ReportsSome, Sends, Writes, answer_of}
 
 -- an answer that was sent, or broke off
-sent : (old new : Option (List ℕ)) (got : Status) (a : Answer) → Sends old new got a.text (status_of a.verdict) → Reports old new got a
+pub sent : (old new : Option (List ℕ)) (got : Status) (a : Answer) → Sends old new got a.text (status_of a.verdict) → Reports old new got a
 sent old new got a (inr broke) = subst (λ s. Reports old new s a) (sym broke.0) (inl broke.1)
 sent old new got a (inl whole) = by_verdict a.verdict refl
   where
@@ -27,11 +27,11 @@ sent old new got a (inl whole) = by_verdict a.verdict refl
     by_verdict verdicts.Differs is = subst (λ s. Reports old new s a) (sym (rw is at whole.0)) (is, whole.1)
 
 -- the line that no memory is left was sent, or broke off
-no_memory_sent : (old new : Option (List ℕ)) (got : Status) (a : Answer) → Sends old new got no_memory_line statuses.NoMemory → Reports old new got a
+pub no_memory_sent : (old new : Option (List ℕ)) (got : Status) (a : Answer) → Sends old new got no_memory_line statuses.NoMemory → Reports old new got a
 no_memory_sent old new got a (inl whole) = subst (λ s. Reports old new s a) (sym whole.0) whole.1
 no_memory_sent old new got a (inr broke) = subst (λ s. Reports old new s a) (sym broke.0) (inr broke.1)
 
-none_read : (old new : Option (List ℕ)) (got : Status) (a : Answer) → (got ≡ statuses.CannotRead) × Keeps old new → Reports old new got a
+pub none_read : (old new : Option (List ℕ)) (got : Status) (a : Answer) → (got ≡ statuses.CannotRead) × Keeps old new → Reports old new got a
 none_read old new got a h = subst (λ s. Reports old new s a) (sym h.0) h.1
 
 pub reports_some : (IsOne : Answer → Type 0) → IsOne not_text → (old new : Option (List ℕ)) (got : Status) (prepared : Result Reply InputFault) → Writes old new got prepared

@@ -6,7 +6,7 @@ use Rattle.console.specs.declared.status.Status.TheVariants as statuses
 use Rattle.console.specs.declared.status.Verdict.TheVariants as verdicts
 use Rattle.console.specs.declared.input.InputFault.{InputFault}
 use Rattle.console.specs.declared.input.InputFault.TheVariants as faults
-use Rattle.console.specs.declared.report.Reply.{Reply}
+use Rattle.console.specs.declared.reporting.Reply.{Reply}
 use Rattle.console.specs.Transfer.{AppendsBeginning}
 use Rattle.console.specs.Texts.{no_memory_line}
 use Rattle.console.specs.Status.{status_of}

@@ -6,7 +6,7 @@ ghost use Rattle.console.specs.Input.{owned_files};
 ghost use Rattle.console.specs.Loaded.{LoadedIs};
 
 use crate::input::lent;
-use crate::report::Reply;
+use crate::reporting::Reply;
 use crate::status::Verdict;
 use crate::texts::refusal_text;
 use loader::{Catalogue, LoadError, load_manifest};

@@ -1,14 +1,15 @@
 // The calls of a script.
 
-ghost use Rattle.std.specs.Prelude.{◌≡◌, option_map, IfOk, map};
+ghost use Rattle.std.specs.Prelude.{◌≡◌, IfOk, IfSome, None};
 ghost use Rattle.text.specs.Lines.{lines_of};
 ghost use Rattle.console.specs.ScriptShown.{call_of};
-ghost use Rattle.stress.specs.Calls.{call_named, script_calls};
-ghost use Rattle.stress.specs.Shown.{called, ReadAs};
+ghost use Rattle.store.specs.Refusals.{early_refusal};
+ghost use Rattle.stress.specs.Calls.{program_named, line_calls, script_calls};
+ghost use Rattle.stress.specs.Playing.{IsReadyLine, AreReady};
+ghost use Rattle.stress.specs.Shown.{calls_in, ReadAs};
 
 use console::{ProgramCall, ScriptLine, read_line};
 use loader::Catalogue;
-use oplog::Op;
 use std::alloc::{AllocError, Global};
 use text::NumberedLines;
 use verifier::Mode;
@@ -16,9 +17,10 @@ use verifier::Mode;
 // A call that no session is refused: of a program of the catalogue, with an argument of its length.
 #[derive(Clone, Copy)]
 pub(crate) struct ScriptCall<'a> {
-    pub name: &'a str,
+    // NAME HEX
+    pub line: &'a str,
+    pub program: u16,
     pub mode: Mode,
-    pub op: Op,
 }
 
 // All calls of a script in their order, or the number of its first bad line.
@@ -28,20 +30,46 @@ pub(crate) enum ScriptCalls<'a> {
     Bad(u32),
 }
 
-// The call, where the catalogue has the program and the argument has its length.
-fn call_named<'a>(catalogue: &Catalogue, call: &ProgramCall<'a>) -> Option<ScriptCall<'a>>
-    ensures { option_map called result ≡ call_named catalogue.now (call_of call.now) }
+// What a line says: nothing that a session could be asked, nothing at all, or a call.
+#[derive(Clone, Copy)]
+pub(crate) enum LineCall<'a> {
+    Bad,
+    Comment,
+    Call(ScriptCall<'a>),
+}
+
+// The program that a call names and its mode, where the argument has its length.
+#[tactic(auto, unfolding(crate::specs::Calls::program_named))]
+fn program_named(catalogue: &Catalogue, call: &ProgramCall) -> Option<(u16, Mode)>
+    ensures named { result ≡ program_named catalogue.now (call_of call.now) }
+    ensures ready { IfSome result (λ p. early_refusal catalogue.now p.1 p.0 call.now.argument.items ≡ None) }
 {
     let number = catalogue.number(call.name)?;
     let program = catalogue.program(number)?;
-    if call.argument.len() != program.arg_len() {
-        return None;
+    if call.argument.len() == program.arg_len() {
+        Some((number, program.mode()))
+    } else {
+        None
     }
-    Some(ScriptCall {
-        name: call.name,
-        mode: program.mode(),
-        op: Op::new(number, call.argument.as_slice()),
-    })
+}
+
+// What a line says.
+fn call_of_line<'a>(catalogue: &Catalogue, line: &'a str) -> LineCall<'a>
+    ensures said { calls_in result ≡ line_calls catalogue.now line.now }
+    ensures ready { IsReadyLine catalogue.now result }
+{
+    match read_line(line) {
+        None => LineCall::Bad,
+        Some(ScriptLine::Comment) => LineCall::Comment,
+        Some(ScriptLine::Call(call)) => match program_named(catalogue, &call) {
+            None => LineCall::Bad,
+            Some((program, mode)) => LineCall::Call(ScriptCall {
+                line,
+                program,
+                mode,
+            }),
+        },
+    }
 }
 
 // The calls of a script, up to its first bad line.
@@ -50,18 +78,16 @@ pub(crate) fn read_calls<'a>(
     catalogue: &Catalogue,
     script: &'a str,
 ) -> Result<ScriptCalls<'a>, AllocError>
-    ensures { IfOk result (ReadAs (script_calls catalogue.now 1 (lines_of script.now))) }
+    ensures calls { IfOk result (ReadAs (script_calls catalogue.now 1 (lines_of script.now))) }
+    ensures ready { IfOk result (AreReady catalogue.now) }
 {
     let mut calls = Vec::new(alloc);
     let mut lines = NumberedLines::new(script);
     while let Some((number, line)) = lines.take_line() {
-        match read_line(line) {
-            None => return Ok(ScriptCalls::Bad(number)),
-            Some(ScriptLine::Comment) => {}
-            Some(ScriptLine::Call(call)) => match call_named(catalogue, &call) {
-                None => return Ok(ScriptCalls::Bad(number)),
-                Some(call) => calls.push(call)?,
-            },
+        match call_of_line(catalogue, line) {
+            LineCall::Bad => return Ok(ScriptCalls::Bad(number)),
+            LineCall::Comment => {}
+            LineCall::Call(call) => calls.push(call)?,
         }
     }
     Ok(ScriptCalls::Good(calls))

@@ -14,7 +14,10 @@ use crate::calls::{ScriptCall, ScriptCalls, read_calls};
 use crate::gate::Gate;
 use crate::lines::transcript;
 use crate::sharing::tell_all;
-use console::{Folder, InputFault, Loaded, Reply, Status, Verdict, bad_line, read_inputs, report, sizes_refused};
+use console::{
+    Folder, InputFault, Loaded, Reply, Status, Verdict, bad_line, read_inputs, report,
+    sizes_refused,
+};
 use loader::Catalogue;
 use oplog::Config;
 use std::alloc::{AllocError, Global};
@@ -23,87 +26,88 @@ use std::sync::Wait;
 use std::thread::Threads;
 
 /// On which store the calls of a script are made, and what each session passes before each of its calls.
-#[derive(Clone, Copy)]
-pub struct Stress<'a, G> {
+#[derive(Drop)]
+pub struct Trial<'a, F, G> {
     /// Where memory is taken from.
     pub alloc: Global,
     /// The sizes of the store.
     pub config: Config,
+    /// Where the files lie that the manifest names.
+    pub folder: &'a F,
     /// What each session passes before each of its calls.
     pub gate: &'a G,
 }
 
 // What is answered to calls that no session is refused.
-fn calls_reply<R: Threads + Wait + Sync, G: Gate + Sync>(
+fn calls_reply<R: Threads + Wait + Sync, F: Folder, G: Gate + Sync>(
     rt: &R,
-    stress: Stress<'_, G>,
+    trial: &Trial<'_, F, G>,
     catalogue: Catalogue,
     calls: &[ScriptCall<'_>],
 ) -> Result<Reply, AllocError>
-    requires config { IsConfig stress.config }
+    requires config { IsConfig trial.now.config }
     requires ready { All (IsReady catalogue) calls.now }
     ensures { IfOk result (λ r. IsTranscript (answer_of r)) }
 {
-    let told = tell_all(rt, stress, catalogue, calls)?;
+    let told = tell_all(rt, trial, catalogue, calls)?;
     Ok(Reply {
-        text: transcript(stress.alloc, told)?,
+        text: transcript(trial.alloc, told)?,
         verdict: Verdict::Good,
     })
 }
 
 // What a catalogue answers to a script.
-fn catalogue_reply<R: Threads + Wait + Sync, G: Gate + Sync>(
+fn catalogue_reply<R: Threads + Wait + Sync, F: Folder, G: Gate + Sync>(
     rt: &R,
-    stress: Stress<'_, G>,
+    trial: &Trial<'_, F, G>,
     catalogue: Catalogue,
     script: &str,
 ) -> Result<Reply, AllocError>
-    ensures { IfOk result (λ r. IsCatalogueAnswer stress.config catalogue script.now (answer_of r)) }
+    ensures { IfOk result (λ r. IsCatalogueAnswer trial.now.config catalogue script.now (answer_of r)) }
 {
-    if !stress.config.is_within_limits() {
+    if !trial.config.is_within_limits() {
         return Ok(Reply {
-            text: sizes_refused(stress.alloc)?,
+            text: sizes_refused(trial.alloc)?,
             verdict: Verdict::Refused,
         });
     }
-    match read_calls(stress.alloc, &catalogue, script)? {
-        ScriptCalls::Good(calls) => calls_reply(rt, stress, catalogue, &calls),
+    match read_calls(trial.alloc, &catalogue, script)? {
+        ScriptCalls::Good(calls) => calls_reply(rt, trial, catalogue, &calls),
         ScriptCalls::Bad(number) => Ok(Reply {
-            text: bad_line(stress.alloc, number)?,
+            text: bad_line(trial.alloc, number)?,
             verdict: Verdict::Refused,
         }),
     }
 }
 
 // What a manifest that was loaded and a script get.
-fn loaded_reply<R: Threads + Wait + Sync, G: Gate + Sync>(
+fn loaded_reply<R: Threads + Wait + Sync, F: Folder, G: Gate + Sync>(
     rt: &R,
-    stress: Stress<'_, G>,
+    trial: &Trial<'_, F, G>,
     loaded: Loaded,
     script: &str,
 ) -> Result<Reply, AllocError>
-    ensures { IfOk result (λ r. (outcome : Outcome) → LoadedIs outcome loaded → IsStressed stress.config outcome script.now (answer_of r)) }
+    ensures { IfOk result (λ r. (outcome : Outcome) → LoadedIs outcome loaded → IsStressed trial.now.config outcome script.now (answer_of r)) }
 {
     match loaded {
-        Loaded::Catalogue(catalogue) => catalogue_reply(rt, stress, catalogue, script),
+        Loaded::Catalogue(catalogue) => catalogue_reply(rt, trial, catalogue, script),
         Loaded::Refused(reply) => Ok(reply),
     }
 }
 
 // What `stress` has to write.
-fn prepare<R: Threads + Wait + Sync, G: Gate + Sync, F: Folder, M: Read, S: Read>(
+fn prepare<R: Threads + Wait + Sync, F: Folder, G: Gate + Sync, M: Read, S: Read>(
     rt: &R,
-    stress: Stress<'_, G>,
-    folder: &F,
+    trial: &Trial<'_, F, G>,
     manifest: &mut M,
     script: &mut S,
 ) -> Result<Reply, InputFault>
-    ensures known { IfSome (M.remaining manifest.old) (λ m. IfSome (F.holds folder.now) (λ h. IfSome (S.remaining script.old) (λ s. MatchResult result
-        (λ r. IsStressAnswer stress.config m h s (answer_of r)) (λ e. FailsAs e (all_texts m h s ≡ false))))) }
-    ensures some { IfOk result (λ r. IsSomeStressAnswer stress.config (answer_of r)) }
+    ensures known { IfSome (M.remaining manifest.old) (λ m. IfSome (F.holds trial.now.folder.now) (λ h. IfSome (S.remaining script.old) (λ s. MatchResult result
+        (λ r. IsStressAnswer trial.now.config m h s (answer_of r)) (λ e. FailsAs e (all_texts m h s ≡ false))))) }
+    ensures some { IfOk result (λ r. IsSomeStressAnswer trial.now.config (answer_of r)) }
 {
-    let inputs = read_inputs(stress.alloc, folder, manifest, script)?;
-    Ok(loaded_reply(rt, stress, inputs.loaded, inputs.text.as_str())?)
+    let inputs = read_inputs(trial.alloc, trial.folder, manifest, script)?;
+    Ok(loaded_reply(rt, trial, inputs.loaded, inputs.text.as_str())?)
 }
 
 /// Makes the calls of a script on a new store of several nodes with the maps and the programs of a manifest. The lines go to the
@@ -114,20 +118,19 @@ fn prepare<R: Threads + Wait + Sync, G: Gate + Sync, F: Folder, M: Read, S: Read
 /// manifest with an argument of its length, no comment and not empty writes `line N bad`, and no thread starts. Sizes out of their
 /// limits write `refused O1`, a refused manifest only its refusal. Says how it ended. Each file is read whole before anything is
 /// written. Where a read fails, nothing is written.
-pub fn stress<R: Threads + Wait + Sync, G: Gate + Sync, F: Folder, M: Read, S: Read, W: Write>(
+pub fn stress<R: Threads + Wait + Sync, F: Folder, G: Gate + Sync, M: Read, S: Read, W: Write>(
     rt: &R,
-    stress: Stress<'_, G>,
-    folder: &F,
+    trial: &Trial<'_, F, G>,
     manifest: &mut M,
     script: &mut S,
     writer: &mut W,
 ) -> Status
     // Where the readers and the folder tell their bytes, those calls are made.
-    ensures written { IfSome (M.remaining manifest.old) (λ m. IfSome (F.holds folder.now) (λ h. IfSome (S.remaining script.old) (λ s.
-        ReportsSome (IsStressAnswer stress.config m h s) (W.contents writer.old) (W.contents writer.new) result))) }
+    ensures written { IfSome (M.remaining manifest.old) (λ m. IfSome (F.holds trial.now.folder.now) (λ h. IfSome (S.remaining script.old) (λ s.
+        ReportsSome (IsStressAnswer trial.now.config m h s) (W.contents writer.old) (W.contents writer.new) result))) }
     // Whatever they give, or where they fail.
-    ensures ended { ReportsSome (IsSomeStressAnswer stress.config) (W.contents writer.old) (W.contents writer.new) result }
+    ensures ended { ReportsSome (IsSomeStressAnswer trial.now.config) (W.contents writer.old) (W.contents writer.new) result }
 {
-    let prepared = prepare(rt, stress, folder, manifest, script);
+    let prepared = prepare(rt, trial, manifest, script);
     report(writer, prepared)
 }

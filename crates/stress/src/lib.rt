@@ -8,5 +8,5 @@ mod lines;
 mod players;
 mod sharing;
 
-pub use engine::{Stress, stress};
+pub use engine::{Trial, stress};
 pub use gate::{Gate, OpenGate};

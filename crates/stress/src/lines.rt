@@ -1,13 +1,11 @@
 // The lines of the transcript.
 
-ghost use Rattle.std.specs.Prelude.{◌≡◌, ◌≤◌, ◌++◌, decimal, codes, length, OnOk, IfOk, map};
-ghost use Rattle.oplog.specs.declared.records.TheConstants.{MAX_ARG_LEN};
-ghost use Rattle.stress.specs.Lines.{hex_text, call_text, answered_text, told_text, transcript_text};
+ghost use Rattle.std.specs.Prelude.{◌≡◌, ◌++◌, OnOk, IfOk};
+ghost use Rattle.stress.specs.Lines.{answered_text, told_text, transcript_text};
 ghost use Rattle.stress.specs.Shown.{called, told_of};
 
 use crate::calls::ScriptCall;
 use console::put_numbered;
-use oplog::MAX_ARG_LEN;
 use readpath::ReadAnswer;
 use std::alloc::{AllocError, Global};
 use store::Answer;
@@ -37,29 +35,6 @@ fn rank(said: Said) -> (u64, u8) {
     }
 }
 
-// Two digits for each byte, or one `-` for none.
-fn put_hex(out: &mut Vec<u8>, bytes: &[u8]) -> Result<(), AllocError>
-    requires { length bytes.now ≤ MAX_ARG_LEN }
-    ensures { OnOk result (out.new.items ≡ out.old.items ++ hex_text bytes.now) }
-{
-    if bytes.is_empty() {
-        return out.extend_from_slice(b"-");
-    }
-    let mut room = [0; 2 * MAX_ARG_LEN];
-    let digits = &mut room[..2 * bytes.len()];
-    let _ = hex::encode_to_slice(bytes, digits);
-    out.extend_from_slice(digits)
-}
-
-// NAME HEX
-fn put_call(out: &mut Vec<u8>, call: &ScriptCall) -> Result<(), AllocError>
-    ensures { OnOk result (out.new.items ≡ out.old.items ++ call_text (called call.now)) }
-{
-    out.extend_from_slice(call.name.as_bytes())?;
-    out.extend_from_slice(b" ")?;
-    put_hex(out, call.op.argument())
-}
-
 // PLACE NAME HEX REPLY behind its letter
 fn put_answered(
     out: &mut Vec<u8>,
@@ -72,7 +47,7 @@ fn put_answered(
 {
     put_numbered(out, letter, place)?;
     out.extend_from_slice(b" ")?;
-    put_call(out, call)?;
+    out.extend_from_slice(call.line.as_bytes())?;
     put_numbered(out, b" ", reply)?;
     out.extend_from_slice(b"\n")
 }
@@ -86,7 +61,7 @@ fn put_told(out: &mut Vec<u8>, told: &Told) -> Result<(), AllocError>
         Said::Seen(answer) => put_answered(out, b"r ", answer.point, told.call, answer.reply),
         Said::Ended => {
             out.extend_from_slice(b"e ")?;
-            put_call(out, told.call)?;
+            out.extend_from_slice(told.call.line.as_bytes())?;
             out.extend_from_slice(b"\n")
         }
     }

@@ -1,19 +1,20 @@
 // The sessions, each with its own lines of the script.
 
-ghost use Rattle.std.specs.Prelude.{◌≡◌, All};
+ghost use Rattle.std.specs.Prelude.{◌≡◌, ◌<◌, All};
 ghost use Rattle.store.specs.Sessions.{IsOf};
 ghost use Rattle.stress.specs.Playing.{IsReady};
 
 use crate::calls::ScriptCall;
 use crate::gate::Gate;
 use crate::lines::{Said, Told};
+use console::{ScriptLine, read_line};
 use std::alloc::{AllocError, Global};
 use std::sync::Wait;
 use store::{Session, Store};
 use verifier::Mode;
 
 // What all threads share.
-#[derive(Clone, Copy)]
+#[derive(Drop)]
 pub(crate) struct Playground<'s, 'a, G> {
     pub alloc: Global,
     pub store: &'s Store,
@@ -41,13 +42,16 @@ fn ask<'a, R: Wait>(
     requires ready { IsReady store.now.catalogue call.now }
     ensures own { IsOf store.now session.new }
 {
-    let (program, argument) = (call.op.program(), call.op.argument());
+    let Some(ScriptLine::Call(line)) = read_line(call.line) else {
+        unreachable!()
+    };
+    let argument = line.argument.as_slice();
     let said = match call.mode {
-        Mode::Update => match session.invoke(rt, store, program, argument) {
+        Mode::Update => match session.invoke(rt, store, call.program, argument) {
             Ok(answer) => Said::Updated(answer),
             Err(_) => Said::Ended,
         },
-        Mode::Read => match session.read(rt, store, program, argument) {
+        Mode::Read => match session.read(rt, store, call.program, argument) {
             Ok(answer) => Said::Seen(answer),
             Err(_) => unreachable!(),
         },
@@ -58,14 +62,14 @@ fn ask<'a, R: Wait>(
 // Makes the calls of the session of this number: one of each round of as many calls as there are sessions.
 fn ask_all<'a, R: Wait, G: Gate>(
     rt: &R,
-    ground: Playground<'_, 'a, G>,
+    ground: &Playground<'_, 'a, G>,
     session: &mut Session,
     number: usize,
 ) -> Result<Vec<Told<'a>>, AllocError>
-    requires own { IsOf ground.store.now session.old }
-    requires ready { All (IsReady ground.store.now.catalogue) ground.calls.now }
-    requires some { 0 < ground.sessions }
-    ensures own { IsOf ground.store.now session.new }
+    requires own { IsOf ground.now.store.now session.old }
+    requires ready { All (IsReady ground.now.store.now.catalogue) ground.now.calls.now }
+    requires some { 0 < ground.now.sessions }
+    ensures own { IsOf ground.now.store.now session.new }
 {
     let mut told = Vec::with_capacity(ground.alloc, ground.calls.len() / ground.sessions + 1)?;
     for round in ground.calls.chunks(ground.sessions) {
@@ -78,11 +82,15 @@ fn ask_all<'a, R: Wait, G: Gate>(
 }
 
 // Lets a session make its calls.
-pub(crate) fn play<'a, R: Wait, G: Gate>(rt: &R, ground: Playground<'_, 'a, G>, player: &mut Player<'a>)
-    requires own { IsOf ground.store.now player.old.session }
-    requires ready { All (IsReady ground.store.now.catalogue) ground.calls.now }
-    requires some { 0 < ground.sessions }
-    ensures own { IsOf ground.store.now player.new.session }
+pub(crate) fn play<'a, R: Wait, G: Gate>(
+    rt: &R,
+    ground: &Playground<'_, 'a, G>,
+    player: &mut Player<'a>,
+)
+    requires own { IsOf ground.now.store.now player.old.session }
+    requires ready { All (IsReady ground.now.store.now.catalogue) ground.now.calls.now }
+    requires some { 0 < ground.now.sessions }
+    ensures own { IsOf ground.now.store.now player.new.session }
 {
     player.told = ask_all(rt, ground, &mut player.session, player.number);
 }

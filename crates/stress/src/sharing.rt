@@ -3,10 +3,10 @@
 ghost use Rattle.std.specs.Prelude.{◌≡◌, ◌+◌, ◌*◌, ◌≤◌, ◌<◌, ℕ, [], length, All, IfOk, vec_capacity};
 ghost use Rattle.oplog.specs.Limits.{IsConfig};
 ghost use Rattle.store.specs.Sessions.{IsOf, StoreView};
-ghost use Rattle.stress.specs.Playing.{IsReady, AreIn, ArePlaying};
+ghost use Rattle.stress.specs.Playing.{IsReady, AreIn, IsPlaying};
 
 use crate::calls::ScriptCall;
-use crate::engine::Stress;
+use crate::engine::Trial;
 use crate::gate::Gate;
 use crate::lines::Told;
 use crate::players::{Player, Playground, play};
@@ -52,7 +52,7 @@ fn enter<'a>(alloc: Global, sessions: &mut Vec<Session>, players: &mut Vec<Playe
     requires room { length sessions.old.items ≤ vec_capacity players.old }
     ensures gone { (sessions.new.items ≡ []) × (vec_capacity sessions.new ≡ vec_capacity sessions.old) }
     ensures count { length players.new.items ≡ length sessions.old.items }
-    ensures playing { (store : StoreView) → All (IsOf store) sessions.old.items → All (ArePlaying store) players.new.items }
+    ensures playing { (store : StoreView) → All (IsOf store) sessions.old.items → All (IsPlaying store) players.new.items }
 {
     while let Some(session) = sessions.pop() {
         players.push_reserved(Player {
@@ -73,40 +73,58 @@ fn leave<'a>(
     requires room { (length players.old.items ≤ vec_capacity sessions.old) × (length players.old.items ≤ vec_capacity outcomes.old) }
     ensures gone { players.new.items ≡ [] }
     ensures count { length sessions.new.items ≡ length players.old.items }
-    ensures own { (store : StoreView) → All (ArePlaying store) players.old.items → All (IsOf store) sessions.new.items }
+    ensures own { (store : StoreView) → All (IsPlaying store) players.old.items → All (IsOf store) sessions.new.items }
 {
     while let Some(player) = players.pop() {
-        let Player { session, told, .. } = player;
+        let Player {
+            session,
+            number: _,
+            told,
+        } = player;
         sessions.push_reserved(session);
         outcomes.push_reserved(told);
     }
 }
 
-// Lets all sessions make their calls, each on a thread of its own, and gives them back.
+// Lets all players make their calls, each on a thread of its own.
+fn play_together<'a, R: Threads + Wait + Sync, G: Gate + Sync>(
+    rt: &R,
+    ground: &Playground<'_, 'a, G>,
+    players: &mut [Player<'a>],
+)
+    requires some { 0 < ground.now.sessions }
+    requires ready { All (IsReady ground.now.store.now.catalogue) ground.now.calls.now }
+    requires playing { All (IsPlaying ground.now.store.now) players.old }
+    ensures playing { All (IsPlaying ground.now.store.now) players.new }
+{
+    thread::for_each_mut(
+        rt,
+        players,
+        ground.sessions,
+        &|_number: usize, player: &mut Player|
+            requires { IsOf ground.now.store.now player.now.session × All (IsReady ground.now.store.now.catalogue) ground.now.calls.now × (0 < ground.now.sessions) }
+            ensures { IsOf ground.entry.now.store.now player.exit.now.session }
+        { play(rt, ground, player) },
+    );
+}
+
+// Lets all sessions make their calls, and gives them back.
 fn play_all<'a, R: Threads + Wait + Sync, G: Gate + Sync>(
     rt: &R,
-    ground: Playground<'_, 'a, G>,
+    ground: &Playground<'_, 'a, G>,
     mut sessions: Vec<Session>,
     mut players: Vec<Player<'a>>,
     outcomes: &mut Vec<Result<Vec<Told<'a>>, AllocError>>,
 ) -> Vec<Session>
-    requires some { 0 < ground.sessions }
-    requires all { AreIn ground.store.now ground.sessions sessions.items }
-    requires ready { All (IsReady ground.store.now.catalogue) ground.calls.now }
+    requires some { 0 < ground.now.sessions }
+    requires all { AreIn ground.now.store.now ground.now.sessions sessions.items }
+    requires ready { All (IsReady ground.now.store.now.catalogue) ground.now.calls.now }
     requires empty { (players.items ≡ []) × (outcomes.old.items ≡ []) }
-    requires room { (ground.sessions ≤ vec_capacity players) × (ground.sessions ≤ vec_capacity outcomes.old) }
-    ensures back { AreIn ground.store.now ground.sessions result.items }
+    requires room { (ground.now.sessions ≤ vec_capacity players) × (ground.now.sessions ≤ vec_capacity outcomes.old) }
+    ensures back { AreIn ground.now.store.now ground.now.sessions result.items }
 {
     enter(ground.alloc, &mut sessions, &mut players);
-    thread::for_each_mut(
-        rt,
-        &mut players,
-        ground.sessions,
-        &|_number: usize, player: &mut Player<'a>|
-            requires { IsOf ground.store.now player.now.session × All (IsReady ground.store.now.catalogue) ground.calls.now × (0 < ground.sessions) }
-            ensures { IsOf ground.entry.store.now player.exit.now.session }
-        { play(rt, ground, player) },
-    );
+    play_together(rt, ground, &mut players);
     leave(&mut players, &mut sessions, outcomes);
     players.destroy_empty();
     sessions
@@ -125,20 +143,16 @@ fn gathered<'a>(
 }
 
 // Makes the calls on a new store, and closes it. What the sessions were told, session by session.
-pub(crate) fn tell_all<'a, R: Threads + Wait + Sync, G: Gate + Sync>(
+pub(crate) fn tell_all<'a, R: Threads + Wait + Sync, F, G: Gate + Sync>(
     rt: &R,
-    stress: Stress<'_, G>,
+    trial: &Trial<'_, F, G>,
     catalogue: Catalogue,
     calls: &'a [ScriptCall<'a>],
 ) -> Result<Vec<Told<'a>>, AllocError>
-    requires config { IsConfig stress.config }
+    requires config { IsConfig trial.now.config }
     requires ready { All (IsReady catalogue) calls.now }
 {
-    let Stress {
-        alloc,
-        config,
-        gate,
-    } = stress;
+    let (alloc, config) = (trial.alloc, trial.config);
     let count = (config.nodes * config.slots) as usize;
     let mut outcomes = Vec::with_capacity(alloc, count)?;
     let players = Vec::with_capacity(alloc, count)?;
@@ -149,11 +163,11 @@ pub(crate) fn tell_all<'a, R: Threads + Wait + Sync, G: Gate + Sync>(
     let ground = Playground {
         alloc,
         store: &store,
-        gate,
+        gate: trial.gate,
         calls,
         sessions: count,
     };
-    let sessions = play_all(rt, ground, sessions, players, &mut outcomes);
+    let sessions = play_all(rt, &ground, sessions, players, &mut outcomes);
     close(store, sessions);
     gathered(alloc, outcomes)
 }

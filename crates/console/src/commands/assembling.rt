@@ -9,7 +9,7 @@ ghost use Rattle.console.specs.Input.{FailsAs};
 
 use crate::asm_texts::{asm_refusal_text, hex_line};
 use crate::input::{InputFault, read_text};
-use crate::report::{Reply, report};
+use crate::reporting::{Reply, report};
 use crate::status::{Status, Verdict};
 use asm::AsmError;
 use std::alloc::{AllocError, Global};

@@ -9,7 +9,7 @@ ghost use Rattle.console.specs.Input.{FailsAs, owned_files};
 use crate::catalogues::{Loaded, load};
 use crate::folder::Folder;
 use crate::input::{InputFault, gather, read_text};
-use crate::report::{Reply, report};
+use crate::reporting::{Reply, report};
 use crate::status::{Status, Verdict};
 use crate::texts::programs_text;
 use std::alloc::{AllocError, Global};

@@ -10,7 +10,7 @@ ghost use Rattle.console.specs.Input.{FailsAs};
 
 use crate::asm_texts::{bad_hex, decode_refusal_text};
 use crate::input::{InputFault, read_text};
-use crate::report::{Reply, report};
+use crate::reporting::{Reply, report};
 use crate::status::{Status, Verdict};
 use insn::{DecodeError, decode};
 use std::alloc::{AllocError, Global};

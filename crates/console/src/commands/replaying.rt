@@ -15,7 +15,7 @@ use crate::input::InputFault;
 use crate::inputs::read_inputs;
 use crate::replay_texts::{bad_line, differs_text, good_text};
 use crate::replaying::{LineVerdict, Replaying};
-use crate::report::{Reply, report};
+use crate::reporting::{Reply, report};
 use crate::status::{Status, Verdict};
 use loader::Catalogue;
 use std::alloc::{AllocError, Global};

@@ -14,7 +14,7 @@ use crate::folder::Folder;
 use crate::input::InputFault;
 use crate::inputs::read_inputs;
 use crate::node::SingleNode;
-use crate::report::{Reply, report};
+use crate::reporting::{Reply, report};
 use crate::run_texts::put_bad_line;
 use crate::status::{Status, Verdict};
 use loader::Catalogue;

@@ -13,7 +13,7 @@ use crate::catalogues::Loaded;
 use crate::folder::Folder;
 use crate::input::InputFault;
 use crate::inputs::read_inputs;
-use crate::report::{Reply, report};
+use crate::reporting::{Reply, report};
 use crate::run_texts::put_bad_line;
 use crate::schedule_texts::{put_end, sizes_refused};
 use crate::status::{Status, Verdict};

@@ -1,0 +1,3 @@
+mod Script
+mod Sessions
+mod Texts

@@ -1,0 +1,28 @@
+use Rattle.std.proofs.Common.{◌∙◌, sym, refl, map, rules}
+use Rattle.stress.specs.Shown.{called}
+use Rattle.stress.proofs.Script.{none_here, one_here, bad_here, all_read}
+use Rattle.stress.proofs.calls.read_calls.Goals as goal
+
+pub returns-in-Bad-clause-calls : goal.returns-in-Bad-clause-calls
+returns-in-Bad-clause-calls c =
+    let taken = c.in-Some.ensures.taken in
+    let ends = bad_here c.args.catalogue.now c.loop-number.lines.number c.loop-number.lines.lines c.in-Some.line.now c.take_line.new.self.lines taken.0 (map called c.loop-number.calls.items) c.in-Bad.ensures.said in
+    rw (sym c.loop-number.invariant.0 ∙ ends) taken.1
+
+pub loop-number-preserved-in-Comment : goal.loop-number-preserved-in-Comment
+loop-number-preserved-in-Comment c =
+    let taken = c.in-Some.ensures.taken in
+    let on = none_here c.args.catalogue.now c.loop-number.lines.number c.loop-number.lines.lines c.in-Some.line.now c.take_line.new.self.lines taken.0 (map called c.loop-number.calls.items) c.in-Comment.ensures.said in
+    (rw taken.2 (on ∙ c.loop-number.invariant.0), c.loop-number.invariant.1)
+
+pub loop-number-preserved : goal.loop-number-preserved
+loop-number-preserved c =
+    let taken = c.in-Some.ensures.taken in
+    let on = one_here c.args.catalogue.now c.loop-number.lines.number c.loop-number.lines.lines c.in-Some.line.now c.take_line.new.self.lines taken.0 c.loop-number.calls.items c.in-Call.call c.in-Call.ensures.said in
+    (rw (taken.2, c.in_ok-push-in-Call.ensures.items) (on ∙ c.loop-number.invariant.0), search rules)
+
+pub returns-clause-calls : goal.returns-clause-calls
+returns-clause-calls c =
+    let taken = c.in_default.ensures.taken in
+    let whole = all_read c.args.catalogue.now c.loop-number.lines.number c.loop-number.lines.lines (map called c.loop-number.calls.items) taken.0 in
+    rw (sym c.loop-number.invariant.0 ∙ whole) refl

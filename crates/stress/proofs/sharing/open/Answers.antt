@@ -1,0 +1,6 @@
+use Rattle.store.specs.Sessions.{IsOf}
+use Rattle.stress.proofs.Sessions.{all_of_at}
+use Rattle.stress.proofs.sharing.open.Goals as goal
+
+pub unreachable-requires : goal.unreachable-requires
+unreachable-requires c = c.in-Err-OutOfLimits.ensures.limits.0 c.in-Err-OutOfLimits.field-0-is c.requires.config

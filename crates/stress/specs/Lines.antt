@@ -1,0 +1,32 @@
+-- The lines of a transcript.
+use Rattle.std.specs.Prelude.{ℕ, List, ◌++◌, codes, decimal}
+use Rattle.std.specs.List.{flat_map}
+use Rattle.stress.specs.Calls.{Called}
+
+-- what a session was told: the place of its update and the reply there, how many updates its read has seen and the reply, or that the
+-- history has ended
+pub data Said : Type 0 where
+  Updated : ℕ → ℕ → Said
+  Seen : ℕ → ℕ → Said
+  Ended : Said
+
+-- a call, and what its session was told
+pub record ToldCall : Type 0 where
+  pub call : Called
+  pub said : Said
+
+-- PLACE NAME HEX REPLY behind a letter
+abbrev pub answered_text : List ℕ → ℕ → Called → ℕ → List ℕ
+answered_text letter place c reply = letter ++ (decimal place ++ (codes " " ++ (c.line ++ (codes " " ++ (decimal reply ++ codes "\n")))))
+
+abbrev pub said_text : Called → Said → List ℕ
+said_text c (Updated index reply) = answered_text (codes "u ") index c reply
+said_text c (Seen point reply) = answered_text (codes "r ") point c reply
+said_text c Ended = codes "e " ++ (c.line ++ codes "\n")
+
+-- the line of a call
+abbrev pub told_text : ToldCall → List ℕ
+told_text t = said_text t.call t.said
+
+abbrev pub transcript_text : List ToldCall → List ℕ
+transcript_text told = flat_map told_text told

@@ -1,0 +1,37 @@
+-- What the calls of a script and the answers to them are, without where their texts lie. Clauses of private functions alone cite this.
+use Rattle.std.specs.Prelude.{◌≡◌, ℕ, List, [], ◌∷◌, map, Option, Some, None, Result, Ok, Err}
+use Rattle.stress.specs.declared.calls.ScriptCall.{ScriptCall}
+use Rattle.stress.specs.declared.calls.ScriptCalls.{ScriptCalls}
+use Rattle.stress.specs.declared.calls.LineCall.{LineCall}
+use Rattle.stress.specs.declared.calls.LineCall.TheVariants as lines
+use Rattle.stress.specs.declared.calls.ScriptCalls.TheVariants as reads
+use Rattle.stress.specs.declared.lines.Told.{Told}
+use Rattle.stress.specs.declared.lines.Said.{Said}
+use Rattle.stress.specs.declared.lines.Said.TheVariants as told
+use Rattle.stress.specs.Calls.{Called}
+use Rattle.stress.specs.Lines as said
+use Rattle.stress.specs.Lines.{ToldCall}
+
+abbrev pub called : ScriptCall → Called
+called c = record { line = c.line.now; program = c.program; mode = c.mode }
+
+-- the calls of a line; a bad one has none
+abbrev pub calls_in : LineCall → Option (List Called)
+calls_in lines.Bad = None
+calls_in lines.Comment = Some []
+calls_in (lines.Call c) = Some (called c ∷ [])
+
+-- the calls, or the number of a bad line
+abbrev pub ReadAs : Result (List Called) ℕ → ScriptCalls → Type 0
+ReadAs (Ok calls) (reads.Good v) = map called v.items ≡ calls
+ReadAs (Err n) (reads.Bad number) = number ≡ n
+ReadAs (Ok calls) (reads.Bad number) = ⊥
+ReadAs (Err n) (reads.Good v) = ⊥
+
+abbrev pub said_of : Said → said.Said
+said_of (told.Updated a) = said.Updated a.index a.reply
+said_of (told.Seen a) = said.Seen a.point a.reply
+said_of told.Ended = said.Ended
+
+abbrev pub told_of : Told → ToldCall
+told_of t = record { call = called t.call.now; said = said_of t.said }
