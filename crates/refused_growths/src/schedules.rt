@@ -78,12 +78,14 @@ pub fn steps_run(alloc: Global) -> Ending {
     let (Some(Ok(mut world)), Ok(steps)) = (counter(alloc), steps(alloc)) else {
         return Ending::NotReached;
     };
+    if let Ok(answers) = run_steps(alloc, &mut world, &steps) {
+        return judged(are_answers(&answers));
+    }
+    // The store is as it was: where there is memory again, the same steps are answered as ever.
+    let is_new = world.log().tail() == 0;
     match run_steps(alloc, &mut world, &steps) {
-        Ok(answers) => judged(are_answers(&answers)),
-        Err(_) => match run_steps(alloc, &mut world, &steps) {
-            // The store is as it was: the same steps are answered as ever.
-            Ok(answers) if are_answers(&answers) => Ending::NoMemory,
-            _ => Ending::Other,
-        },
+        Ok(answers) if !are_answers(&answers) => Ending::Other,
+        _ if is_new => Ending::NoMemory,
+        _ => Ending::Other,
     }
 }
