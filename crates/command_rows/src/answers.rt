@@ -1,7 +1,7 @@
 // What a command answers.
 
 use crate::files::Offered;
-use console::{assemble, check, disassemble, replay, run, schedule};
+use console::{Setup, assemble, check, disassemble, replay, run, schedule};
 use oplog::Config;
 use std::alloc::Global;
 
@@ -52,7 +52,8 @@ pub fn answer_to(alloc: Global, folder: &Offered, command: &str, text: &[u8]) ->
         _ => {
             let config = sizes(command.strip_prefix("schedule:")?)?;
             let mut steps = folder.other;
-            schedule(alloc, config, folder, &mut text, &mut steps, &mut out)
+            let setup = Setup { config, folder };
+            schedule(alloc, setup, &mut text, &mut steps, &mut out)
         }
     };
     Some(Answer {

@@ -1,10 +1,9 @@
 -- What a command answers, from what was read.
-use Rattle.std.proofs.Common.{◌≡◌, inl, inr, ℕ, Bool, true, false, ◌&&◌, List, Option, Some, None, Ok, String, string_bytes, refl, sym, ap, subst, ◌∙◌}
+use Rattle.std.proofs.Common.{◌≡◌, inr, ℕ, Bool, true, false, ◌&&◌, List, Option, Some, None, Ok, String, string_bytes, refl, sym, ap, subst, ◌∙◌}
 use Rattle.std.specs.Prelude.{IfSome}
 use Rattle.loader.specs.NamedFiles.{named_in}
 use Rattle.loader.specs.ProgramFiles.{Files}
 use Rattle.loader.specs.Loading.{Outcome, loaded}
-use Rattle.console.specs.declared.catalogues.Loaded.{Loaded}
 use Rattle.console.specs.declared.inputs.Inputs.{Inputs}
 use Rattle.console.specs.declared.input.InputFault.{InputFault}
 use Rattle.console.specs.declared.input.InputFault.TheVariants as faults

@@ -1,8 +1,8 @@
 -- Each line that a run writes for a call is a run of its program.
-use Rattle.std.proofs.Common.{◌≡◌, ◌⊎◌, inl, inr, ℕ, zero, suc, ◌+◌, ◌<◌, Bool, true, false, cond, eqb, ltb, List, [], ◌∷◌, ◌++◌, length, Option, Some, None, Result, Ok, Err, slice_get, refl, sym, ap, subst, ◌∙◌, arith}
+use Rattle.std.proofs.Common.{◌≡◌, ◌⊎◌, inl, inr, ℕ, zero, suc, ◌<◌, Bool, true, false, cond, eqb, ltb, List, [], ◌∷◌, ◌++◌, length, Option, Some, None, Result, Ok, Err, refl, sym, ap, subst, ◌∙◌}
 use Rattle.std.specs.Prelude.{option_map}
 use Rattle.std.proofs.lemmas.Bool.{ltb-true, eqb-true}
-use Rattle.hex.specs.Hex.{IsBytes, decode_of}
+use Rattle.hex.specs.Hex.{decode_of}
 use Rattle.hex.proofs.HexLemmas.{decode_of-ok}
 use Rattle.maps.specs.Maps.{Maps, AreBytes}
 use Rattle.maps.specs.MapSets.{opening_maps}
@@ -27,13 +27,13 @@ use Rattle.oplog.specs.declared.records.Record.{Record}
 use Rattle.oplog.specs.Operations.{Operation}
 use Rattle.oplog.specs.History.{Effect, History, left_by, after, maps_after, effect_at, read_at}
 use Rattle.replica.specs.StoreMeaning.{program_at, is_operation, AreUpdates, store_meaning}
-use Rattle.replica.specs.HistoryLaws.{HasRun, HasEffects}
+use Rattle.replica.specs.HistoryLaws.{HasEffects}
 use Rattle.replica.proofs.Tested.{tests_true}
 use Rattle.replica.proofs.Histories.{have_effects}
 use Rattle.console.specs.Answer.{Answer}
 use Rattle.console.specs.Script.{ProgramCall, Meaning, Comment, Call, named_call, call_meaning, line_meaning}
 use Rattle.console.specs.RunAnswer.{Turn, refused, with_operation, update_line, read_line, performed, performed_by, numbered, called, taken, line_turn, behind, bad_line, by_turn, lines_answer, ran}
-use Rattle.console.specs.RunLines.{CallRuns, IsUpdateTurn, IsReadTurn, IsRefusedTurn, CallTurn, LineTurn, ScriptRuns, RunLinesAreRuns}
+use Rattle.console.specs.RunLines.{IsUpdateTurn, IsReadTurn, IsRefusedTurn, CallTurn, LineTurn, ScriptRuns, RunLinesAreRuns}
 use Rattle.console.proofs.Turns.{after_append, whole}
 
 -- ---- the bytes of a call

@@ -1,8 +1,8 @@
 -- The loop over the lines of a list of steps: one line on, a bad line, and the end.
-use Rattle.std.proofs.Common.{◌≡◌, ℕ, zero, suc, ◌+◌, ◌<◌, ◌≤◌, Bool, true, false, leb, ◌&&◌, List, [], ◌∷◌, ◌++◌, length, drop, Option, Some, None, slice_get, slice_set, refl, sym, ap, subst, ◌∙◌, append_assoc, arith}
+use Rattle.std.proofs.Common.{◌≡◌, ℕ, zero, suc, ◌+◌, ◌<◌, Bool, true, false, List, [], ◌∷◌, ◌++◌, length, drop, Option, Some, None, slice_get, refl, sym, ap, subst, ◌∙◌, append_assoc, arith}
 use Rattle.std.specs.Prelude.{option_map, option_and_then}
 use Rattle.std.proofs.lemmas.Bool.{false≢true, and_parts, leb-true, le-leb}
-use Rattle.std.proofs.lemmas.List.{length-set, append-nil}
+use Rattle.std.proofs.lemmas.List.{length-set}
 use Rattle.text.specs.Lines.{next_line}
 use Rattle.oplog.specs.declared.configuration.Config.{Config}
 use Rattle.oplog.specs.declared.configuration.TheConstants.{MAX_NODES, MAX_NODE_SLOTS, MIN_WINDOW, MAX_WINDOW, MAX_LIMIT}
@@ -16,7 +16,7 @@ use Rattle.console.specs.declared.status.Verdict.TheVariants as verdicts
 use Rattle.console.specs.Answer.{Answer}
 use Rattle.console.specs.StepLine.{StepMeaning, Comment, Post, ReadBegin, Collect, ReadAnswer, Claim, Append, Replay, Finish, Reply, Reclaim, Rebase, step_line_meaning}
 use Rattle.console.specs.RunAnswer.{behind, bad_line, bad_line_text}
-use Rattle.console.specs.ScheduleAnswer.{StepTurn, node_of, part_of, step_turn, step_line_turn, by_step_turn, steps_answer, node_text, nodes_text, end_text, are_sizes}
+use Rattle.console.specs.ScheduleAnswer.{StepTurn, part_of, step_turn, step_line_turn, by_step_turn, steps_answer, node_text, nodes_text, end_text, are_sizes}
 use Rattle.console.specs.Scheduling.{StepLineTaken, node_line}
 
 abbrev answer : Verdict → List ℕ → Answer

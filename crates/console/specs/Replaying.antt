@@ -4,7 +4,7 @@ use Rattle.loader.specs.CatalogueView.{CatalogueView}
 use Rattle.console.specs.declared.replaying.Replaying.{Replaying}
 use Rattle.console.specs.declared.replaying.LineVerdict.{LineVerdict}
 use Rattle.console.specs.declared.replaying.LineVerdict.TheVariants as lines
-use Rattle.console.specs.Running.{IsSteady, Follows}
+use Rattle.console.specs.Running.{Follows}
 use Rattle.console.specs.ReplayAnswer.{Replayed, LineOutcome, Bad, Differs, Agrees}
 
 -- so much was replayed

@@ -20,7 +20,6 @@ use Rattle.console.specs.declared.status.Verdict.TheVariants as verdicts
 use Rattle.console.specs.Files.{Contents}
 use Rattle.console.specs.Answer.{Answer, refusal_answer}
 use Rattle.console.specs.Inputs.{texts_answer, IsTextsAnswer}
-use Rattle.console.specs.Script.{ProgramCall}
 use Rattle.console.specs.StepLine.{StepMeaning, CallAt, Comment, Post, ReadBegin, Collect, ReadAnswer, Claim, Append, Replay, Finish, Reply, Reclaim, Rebase, step_line_meaning}
 use Rattle.console.specs.RunAnswer.{behind, bad_line}
 

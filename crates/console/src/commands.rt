@@ -12,4 +12,4 @@ pub use checking::check;
 pub use disassembling::disassemble;
 pub use replaying::replay;
 pub use running::run;
-pub use scheduling::schedule;
+pub use scheduling::{Setup, schedule};

@@ -23,7 +23,7 @@ mod texts;
 mod transcripts;
 mod transfer;
 
-pub use commands::{assemble, check, disassemble, replay, run, schedule};
+pub use commands::{Setup, assemble, check, disassemble, replay, run, schedule};
 pub use folder::Folder;
 pub use laws::run_lines_are_runs;
 pub use status::Status;

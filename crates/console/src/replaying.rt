@@ -36,7 +36,8 @@ pub(crate) enum LineVerdict {
 
 // The program that a call names, where it has this mode and the argument has its length.
 fn find<'a>(catalogue: &'a Catalogue, mode: Mode, call: &ProgramCall) -> Option<Numbered<'a>>
-    ensures found { option_map (λ n. record { program = n.number; argument = call.now.argument.items }) result ≡ operation_of catalogue.now mode (call_of call.now) }
+    ensures found { option_map (λ n. record { program = n.number; argument = call.now.argument.items }) result
+        ≡ operation_of catalogue.now mode (call_of call.now) }
     ensures fits { IfSome result (λ n. IsCallOf catalogue.now (record { program = n.number; argument = call.now.argument.items }) mode) }
     ensures program { IfSome result (λ n. program_at catalogue.now n.number ≡ Some n.program.now) }
     ensures length { IfSome result (λ n. (length call.now.argument.items ≡ n.program.now.arg_len) × (length call.now.argument.items ≤ MAX_ARG_LEN)) }

@@ -81,7 +81,8 @@ pub(crate) fn take_step_line(
     line: &str,
     out: &mut Vec<u8>,
 ) -> Result<bool, AllocError>
-    ensures { IfOk result (λ good. StepLineTaken world.old (step_line_turn world.old.opening world.old.world line.now) good world.new out.old.items out.new.items) }
+    ensures { IfOk result (λ good.
+        StepLineTaken world.old (step_line_turn world.old.opening world.old.world line.now) good world.new out.old.items out.new.items) }
 {
     let Some(line) = read_step_line(line) else {
         return Ok(false);

@@ -2,7 +2,7 @@
 //! repository's `examples`.
 #![tactic(auto)]
 
-use console::{Folder, assemble, check, disassemble, replay, run, schedule};
+use console::{Folder, Setup, assemble, check, disassemble, replay, run, schedule};
 use oplog::Config;
 use std::alloc::{AllocError, Global};
 use std::io::Read;
@@ -80,10 +80,10 @@ fn is_scheduled<R: Files>(rt: &R, alloc: Global, folder: &str) -> io::Result<boo
         window: 64,
         limit: 1_000_000,
     };
+    let folder = &Here { rt };
     let _ = schedule(
         alloc,
-        config,
-        &Here { rt },
+        Setup { config, folder },
         &mut manifest,
         &mut steps,
         &mut got,

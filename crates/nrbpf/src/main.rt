@@ -6,7 +6,7 @@ mod disk;
 mod help;
 
 use command_line::Call;
-use console::{Status, assemble, check, disassemble, replay, run, schedule};
+use console::{Setup, Status, assemble, check, disassemble, replay, run, schedule};
 use disk::{Disk, LateFile};
 use oplog::Config;
 use std::io;
@@ -46,10 +46,10 @@ fn replay_files(rt: &HostRuntime, manifest: &str, transcript: &str) -> Status {
 
 // Runs `schedule` on the files of a manifest and of steps, and standard output.
 fn schedule_files(rt: &HostRuntime, config: Config, manifest: &str, steps: &str) -> Status {
+    let folder = &Disk { rt };
     schedule(
         rt.alloc(),
-        config,
-        &Disk { rt },
+        Setup { config, folder },
         &mut LateFile::new(rt, manifest),
         &mut LateFile::new(rt, steps),
         &mut io::writer(rt),

@@ -1,9 +1,10 @@
 // The commands, each run once over readers, a folder and a writer in memory.
 
 use crate::endings::{Ending, judged};
-use crate::served::{BUMP_LINE, BUMP_TEXT, Command, MANIFEST, SCRIPT, written};
+use crate::schedules::SIZES;
+use crate::served::{BUMP_LINE, BUMP_TEXT, Command, MANIFEST, SCRIPT, STEPS, TRANSCRIPT, written};
 use crate::streams::{Narrow, Programs, Slow, Turns};
-use console::{Status, assemble, check, disassemble, run};
+use console::{Setup, Status, assemble, check, disassemble, replay, run, schedule};
 use std::alloc::Global;
 
 /// A command on the texts that it is served.
@@ -21,11 +22,31 @@ pub fn ended(alloc: Global, command: Command, reads: &Turns, out: &mut Narrow<'_
         ),
         Command::Assemble => assemble(alloc, &mut Slow::new(BUMP_TEXT, reads), out),
         Command::Disassemble => disassemble(alloc, &mut Slow::new(BUMP_LINE, reads), out),
+        Command::Schedule => {
+            let setup = Setup {
+                config: SIZES,
+                folder: &folder,
+            };
+            schedule(
+                alloc,
+                setup,
+                &mut manifest,
+                &mut Slow::new(STEPS, reads),
+                out,
+            )
+        }
+        Command::Replay => replay(
+            alloc,
+            &folder,
+            &mut manifest,
+            &mut Slow::new(TRANSCRIPT, reads),
+            out,
+        ),
     }
 }
 
-// How a command ends where nothing but memory may fail.
-fn ending(alloc: Global, command: Command) -> Ending {
+/// How a command ends where nothing but memory may fail.
+pub fn ending(alloc: Global, command: Command) -> Ending {
     let reads = Turns::new(0);
     let writes = Turns::new(0);
     let mut out = Narrow::new(&writes, true);
@@ -34,20 +55,4 @@ fn ending(alloc: Global, command: Command) -> Ending {
         Status::NoMemory if out.text() == b"no memory\n".as_slice() => Ending::NoMemory,
         _ => Ending::Other,
     }
-}
-
-pub fn checked(alloc: Global) -> Ending {
-    ending(alloc, Command::Check)
-}
-
-pub fn ran(alloc: Global) -> Ending {
-    ending(alloc, Command::Run)
-}
-
-pub fn assembled(alloc: Global) -> Ending {
-    ending(alloc, Command::Assemble)
-}
-
-pub fn disassembled(alloc: Global) -> Ending {
-    ending(alloc, Command::Disassemble)
 }

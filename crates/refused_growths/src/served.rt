@@ -14,10 +14,17 @@ pub const PEEK_LINE: &str =
 
 /// The counter's maps and programs.
 pub const MANIFEST: &str =
-    "map array 8 16\nmap array 256 3\nprogram bump update 4 bump.hex\nprogram peek read 4 peek.hex\n";
+    "map array 8 16\nmap hash 4 8 4\nprogram bump update 4 bump.hex\nprogram peek read 4 peek.hex\n";
 
 /// Counts twice, and reads.
 pub const SCRIPT: &str = "bump 00000000\nbump 00000000\npeek 00000000\nbump 00\n";
+
+/// Counts once in a store of one node, and reads.
+pub const STEPS: &str =
+    "post 0 0 bump 00000000\nclaim 0\nappend 0\nreplay 0\nfinish 0\nreply 0\ncollect 0 0\nreadbegin 0 1 peek 00000000\nreadanswer 0 1\n";
+
+/// The calls of those steps and their answers.
+pub const TRANSCRIPT: &str = "u 0 bump 00000000 1\nr 1 peek 00000000 1\n";
 
 /// A command.
 #[derive(Clone, Copy)]
@@ -26,14 +33,18 @@ pub enum Command {
     Run,
     Assemble,
     Disassemble,
+    Schedule,
+    Replay,
 }
 
 /// Each command by its name.
-pub const COMMANDS: [(&str, Command); 4] = [
+pub const COMMANDS: [(&str, Command); 6] = [
     ("check", Command::Check),
     ("run", Command::Run),
     ("asm", Command::Assemble),
     ("dis", Command::Disassemble),
+    ("schedule", Command::Schedule),
+    ("replay", Command::Replay),
 ];
 
 /// What a command writes.
@@ -48,5 +59,9 @@ pub fn written(command: Command) -> &'static str {
             7b60000000000000bf600000000000009500000000000000b7000000ffffffff9500000000000000\n"
         }
         Command::Disassemble => BUMP_TEXT,
+        Command::Schedule => {
+            "ok\nok\nok\nok\nok\nok\nok place 0 reply 1\nok\nok point 1 reply 1\nlog base 0 tail 1 done 1\nnode 0 tail 1\n"
+        }
+        Command::Replay => "good 1 1 0\n",
     }
 }

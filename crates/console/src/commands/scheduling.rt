@@ -25,6 +25,15 @@ use std::alloc::{AllocError, Global};
 use std::io::{Read, Write};
 use text::NumberedLines;
 
+/// What a store is opened with beside its manifest.
+#[derive(Clone, Copy)]
+pub struct Setup<'a, F> {
+    /// The sizes of the store.
+    pub config: Config,
+    /// The folder of the program files that the manifest names.
+    pub folder: &'a F,
+}
+
 // What a new store answers to a list of steps.
 fn steps_reply(
     alloc: Global,
@@ -113,17 +122,19 @@ fn prepare<F: Folder, R: Read, S: Read>(
 /// Says how it ended. Each file is read whole before anything is written. Where a read fails, nothing is written.
 pub fn schedule<F: Folder, R: Read, S: Read, W: Write>(
     alloc: Global,
-    config: Config,
-    folder: &F,
+    setup: Setup<'_, F>,
     manifest: &mut R,
     steps: &mut S,
     writer: &mut W,
 ) -> Status
     // Where the readers and the folder tell their bytes, those steps are taken.
-    ensures written { IfSome (R.remaining manifest.old) (λ m. IfSome (F.holds folder.now) (λ h. IfSome (S.remaining steps.old) (λ s.
-        Reports (W.contents writer.old) (W.contents writer.new) result (schedule_answer config m h s)))) }
+    ensures written { IfSome (R.remaining manifest.old) (λ m. IfSome (F.holds setup.entry.folder.now) (λ h. IfSome (S.remaining steps.old) (λ s.
+        Reports (W.contents writer.old) (W.contents writer.new) result (schedule_answer setup.entry.config m h s)))) }
     // Whatever they give, or where they fail.
-    ensures ended { ReportsSome (IsScheduleAnswer config) (W.contents writer.old) (W.contents writer.new) result }
+    ensures ended { ReportsSome (IsScheduleAnswer setup.entry.config) (W.contents writer.old) (W.contents writer.new) result }
 {
-    report(writer, prepare(alloc, folder, config, manifest, steps))
+    report(
+        writer,
+        prepare(alloc, setup.folder, setup.config, manifest, steps),
+    )
 }

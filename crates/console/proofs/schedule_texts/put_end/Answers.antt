@@ -1,4 +1,4 @@
-use Rattle.std.proofs.Common.{◌≡◌, ◌++◌, ℕ, ◌+◌, ◌<◌, List, length, drop, slice_get, sym, ap, ◌∙◌, append_assoc, rules}
+use Rattle.std.proofs.Common.{◌++◌, ℕ, ◌+◌, ◌<◌, List, length, drop, slice_get, sym, ap, ◌∙◌, append_assoc, rules}
 use Rattle.console.specs.ScheduleAnswer.{nodes_text}
 use Rattle.console.specs.Scheduling.{node_line}
 use Rattle.console.proofs.StepLines.{node_from}

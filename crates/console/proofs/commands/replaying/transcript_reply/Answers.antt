@@ -1,6 +1,6 @@
-use Rattle.std.proofs.Common.{◌≡◌, ◌∙◌, sym, ap, subst}
+use Rattle.std.proofs.Common.{◌∙◌, ap}
 use Rattle.text.specs.Lines.{LinesLeft}
-use Rattle.console.specs.ReplayAnswer.{Replayed, good_answer, transcript_answer, nothing_replayed}
+use Rattle.console.specs.ReplayAnswer.{transcript_answer, nothing_replayed}
 use Rattle.console.proofs.TranscriptLines.{goes_on, bad_here, differs_here, all_agree}
 use Rattle.console.proofs.commands.replaying.transcript_reply.Goals as goal
 

@@ -1,4 +1,3 @@
-use Rattle.std.proofs.Common.{refl}
 use Rattle.schedule.proofs.Runs.{nodes_count}
 use Rattle.console.proofs.commands.scheduling.catalogue_reply.Goals as goal
 

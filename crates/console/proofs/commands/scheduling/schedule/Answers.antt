@@ -4,9 +4,9 @@ use Rattle.console.proofs.Reported.{reports_some, reports_known}
 use Rattle.console.proofs.commands.scheduling.schedule.Goals as goal
 
 pub returns-clause-ended : goal.returns-clause-ended
-returns-clause-ended g c = reports_some (IsScheduleAnswer c.args.config) (inl refl) (g.W.Write.contents c.args.writer.now) (g.W.Write.contents c.report.new.writer) c.report.result c.prepare.result c.report.ensures c.prepare.ensures.some
+returns-clause-ended g c = reports_some (IsScheduleAnswer c.args.setup.config) (inl refl) (g.W.Write.contents c.args.writer.now) (g.W.Write.contents c.report.new.writer) c.report.result c.prepare.result c.report.ensures c.prepare.ensures.some
 
 pub returns-clause-written : goal.returns-clause-written
 returns-clause-written g c =
-    reports_known (schedule_answer c.args.config) (g.R.Read.remaining c.args.manifest.now) (g.F.Folder.holds c.args.folder.now) (g.S.Read.remaining c.args.steps.now) (g.W.Write.contents c.args.writer.now) (g.W.Write.contents c.report.new.writer)
+    reports_known (schedule_answer c.args.setup.config) (g.R.Read.remaining c.args.manifest.now) (g.F.Folder.holds c.args.setup.folder.now) (g.S.Read.remaining c.args.steps.now) (g.W.Write.contents c.args.writer.now) (g.W.Write.contents c.report.new.writer)
     c.report.result c.prepare.result c.report.ensures c.prepare.ensures.known

@@ -1,4 +1,4 @@
-use Rattle.std.proofs.Common.{◌≡◌, [], ◌∙◌, true, false, refl, ap, subst, rules}
+use Rattle.std.proofs.Common.{◌≡◌, [], ◌∙◌, true, false, refl, ap, rules}
 use Rattle.text.specs.Lines.{LinesLeft}
 use Rattle.console.specs.RunAnswer.{behind}
 use Rattle.console.specs.ScheduleAnswer.{steps_answer}
