@@ -16,6 +16,4 @@ mod manifests;
 #[cfg(test)]
 mod map_calls;
 #[cfg(test)]
-mod structure;
-#[cfg(test)]
 mod verdicts;

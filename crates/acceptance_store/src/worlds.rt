@@ -2,7 +2,6 @@
 
 ghost use Rattle.std.specs.Prelude.{◌≡◌, IfSome};
 
-use combiner::Reply;
 use loader::load_manifest;
 use oplog::{Config, CopyAnswer, Hand, LogState};
 use readpath::ReadAnswer;
@@ -88,38 +87,40 @@ fn a_read_waits_for_what_is_completed(rt: HostRuntime) {
     assert!(&rt; answers.as_slice() == &wanted[..]);
 }
 
-// Takes a round of one update at node 0, and gives up its record.
-fn round(world: &mut World, post: &Step) -> [StepAnswer; 4] {
-    let posted = world.step(post);
-    for step in [
+// A round of one update at node 0, whose record is then given up.
+fn round(alloc: Global) -> Option<Vec<Step>> {
+    let post = post(alloc)?;
+    let steps = vec![in alloc;
+        post,
         Step::Claim { node: 0 },
         Step::Append { node: 0 },
         Step::Replay { node: 0 },
         Step::Finish { node: 0 },
-    ] {
-        let _ = world.step(&step);
-    }
-    let replied = world.step(&Step::Reply { node: 0 });
-    let reclaimed = world.step(&Step::Reclaim { node: 0 });
-    let collected = world.step(&Step::Collect { node: 0, slot: 0 });
-    [posted, replied, reclaimed, collected]
+        Step::Reply { node: 0 },
+        Step::Reclaim { node: 0 },
+    ];
+    steps.ok()
+}
+
+fn tail(world: &World, node: u32) -> Option<u64> {
+    world.replica(node).map(|replica| replica.tail())
+}
+
+// The answer to a copy of all records from the first one on.
+fn copied_from_first(alloc: Global, log: &LogState) -> Option<CopyAnswer> {
+    let mut hand = hand_for(alloc, log)?;
+    Some(log.copy_from(0, &mut hand))
 }
 
 #[test]
 fn what_lies_below_the_base_is_gone(rt: HostRuntime) {
     let mut world = counter(rt.alloc()).expect(&rt, "world");
-    let post = post(rt.alloc()).expect(&rt, "step");
-    let wanted = [
-        StepAnswer::Done,
-        StepAnswer::Done,
-        StepAnswer::Done,
-        StepAnswer::Back(Reply::Placed { index: 0, reply: 1 }),
-    ];
-    assert!(&rt; round(&mut world, &post) == wanted);
-    let log = world.log();
-    assert_eq!(rt; (log.base(), log.tail(), log.done()), (1, 1, 1));
-    let mut hand = hand_for(rt.alloc(), log).expect(&rt, "hand");
-    assert!(&rt; log.copy_from(0, &mut hand) == CopyAnswer::Below(1));
-    let tails = [0, 1, 2].map(|node| world.replica(node).map(|replica| replica.tail()));
+    let steps = round(rt.alloc()).expect(&rt, "steps");
+    for step in &steps {
+        let _ = world.step(step);
+    }
+    let copied = copied_from_first(rt.alloc(), world.log());
+    assert!(&rt; copied == Some(CopyAnswer::Below(1)));
+    let tails = [tail(&world, 0), tail(&world, 1), tail(&world, 2)];
     assert_eq!(rt; tails, [Some(1), Some(0), None]);
 }
