@@ -3,7 +3,7 @@
 use crate::files::Offered;
 use console::{Setup, assemble, check, disassemble, replay, run, schedule};
 use oplog::Config;
-use std::alloc::Global;
+use stress::{OpenGate, Trial, stress};
 
 // An exit status, and what is written.
 #[derive(Drop)]
@@ -25,8 +25,42 @@ fn sizes(text: &str) -> Option<Config> {
     })
 }
 
+// What `stress` answers, or `replay` to what it writes.
+fn stressed(rt: &HostRuntime, folder: &Offered, command: &str, manifest: &[u8]) -> Option<Answer> {
+    let alloc = rt.alloc();
+    let (name, text) = command.split_once(':')?;
+    let trial = Trial {
+        alloc,
+        config: sizes(text)?,
+        folder,
+        gate: &OpenGate,
+    };
+    let mut script = folder.other;
+    let mut text = manifest;
+    let mut out = Vec::new(alloc);
+    let status = stress(rt, &trial, &mut text, &mut script, &mut out);
+    if name == "stress" || status.code() != 0 {
+        return Some(Answer {
+            status: status.code(),
+            text: out,
+        });
+    }
+    let mut transcript = out.as_slice();
+    let mut text = manifest;
+    let mut found = Vec::new(alloc);
+    let status = replay(alloc, folder, &mut text, &mut transcript, &mut found);
+    Some(Answer {
+        status: status.code(),
+        text: found,
+    })
+}
+
 // What a command answers to its text; nothing where there is no such command.
-pub fn answer_to(alloc: Global, folder: &Offered, command: &str, text: &[u8]) -> Option<Answer> {
+pub fn answer_to(rt: &HostRuntime, folder: &Offered, command: &str, text: &[u8]) -> Option<Answer> {
+    if command.starts_with("stress") {
+        return stressed(rt, folder, command, text);
+    }
+    let alloc = rt.alloc();
     let mut text = text;
     let mut out = Vec::new(alloc);
     let status = match command {

@@ -4,7 +4,8 @@
 //!
 //! `file NAME TEXT` names a text, and `read PATH` the file of this path under its path, where `data/examples` is the repository's
 //! `examples`; `check MANIFEST`, `run MANIFEST | SCRIPT`, `replay MANIFEST | TRANSCRIPT`,
-//! `schedule:NODES:SLOTS:WINDOW:LIMIT MANIFEST | STEPS`, `asm TEXT` and `dis PROGRAM` are commands; what stands
+//! `schedule:NODES:SLOTS:WINDOW:LIMIT MANIFEST | STEPS`, `stress:NODES:SLOTS:WINDOW:LIMIT MANIFEST | SCRIPT`, `stressed:..`, which is
+//! what `replay` answers to the transcript of such a `stress`, `asm TEXT` and `dis PROGRAM` are commands; what stands
 //! behind the bar of a `check` is the file `p.hex`, and of an `assembled`, which is a `check` too, the text from which `asm` makes it.
 //! `is NAME COMMAND ..` says whether the command writes the text of that name, and `spells NAME COMMAND ..` whether it does but for
 //! white space. Other lines are headings.
@@ -34,7 +35,8 @@ fn named(alloc: Global, files: &[Named], line: &str) -> Result<Option<Named>, Al
 }
 
 // What a row is answered, if it has a command.
-fn answered(alloc: Global, files: &[Named], row: &str) -> Result<Option<Answer>, AllocError> {
+fn answered(rt: &HostRuntime, files: &[Named], row: &str) -> Result<Option<Answer>, AllocError> {
+    let alloc = rt.alloc();
     let Some((command, texts)) = row.split_once(' ') else {
         return Ok(None);
     };
@@ -43,11 +45,11 @@ fn answered(alloc: Global, files: &[Named], row: &str) -> Result<Option<Answer>,
     let other = spelled(alloc, files, other)?;
     let other = other.as_slice();
     let folder = Offered { files, other };
-    Ok(answer_to(alloc, &folder, command, &text))
+    Ok(answer_to(rt, &folder, command, &text))
 }
 
 // Whether a row's command writes what the row names, if it names something.
-fn compared(alloc: Global, files: &[Named], row: &str) -> Result<Option<bool>, AllocError> {
+fn compared(rt: &HostRuntime, files: &[Named], row: &str) -> Result<Option<bool>, AllocError> {
     let Some((word, rest)) = row.split_once(' ') else {
         return Ok(None);
     };
@@ -55,7 +57,7 @@ fn compared(alloc: Global, files: &[Named], row: &str) -> Result<Option<bool>, A
         return Ok(None);
     };
     match word {
-        "is" | "spells" => match answered(alloc, files, command)? {
+        "is" | "spells" => match answered(rt, files, command)? {
             Some(answer) => Ok(Some(is_same(word, files, name, &answer.text))),
             None => Ok(None),
         },
@@ -78,10 +80,10 @@ fn keep(rt: &HostRuntime, files: &mut Vec<Named>, row: &str) -> io::Result<()> {
 
 // Writes a row, and behind it what it is answered.
 fn write_row(rt: &HostRuntime, files: &[Named], row: &str) -> io::Result<()> {
-    if let Some(same) = compared(rt.alloc(), files, row)? {
+    if let Some(same) = compared(rt, files, row)? {
         return println!(rt; "{row} = {same}");
     }
-    match answered(rt.alloc(), files, row)? {
+    match answered(rt, files, row)? {
         Some(answer) => {
             let text = shown(rt.alloc(), &answer.text)?;
             println!(rt; "{row} = {} \"{text}\"", answer.status)

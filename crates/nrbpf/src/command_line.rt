@@ -38,6 +38,15 @@ pub enum Call<'a> {
         /// The path of the steps.
         steps: &'a str,
     },
+    /// Make the calls of a script on threads.
+    Stress {
+        /// The sizes of the store.
+        config: Config,
+        /// The path of the manifest.
+        manifest: &'a str,
+        /// The path of the script.
+        script: &'a str,
+    },
 }
 
 // A word that must stand in the command line.
@@ -90,6 +99,13 @@ fn schedule_command<'a>(alloc: Global) -> Result<Command<'a>, AllocError> {
         .arg(word(alloc, "STEPS", help::STEPS))
 }
 
+fn stress_command<'a>(alloc: Global) -> Result<Command<'a>, AllocError> {
+    let command = helped(alloc, "stress", help::STRESS, help::AFTER_STRESS);
+    sized(alloc, command)?
+        .arg(manifest(alloc))?
+        .arg(word(alloc, "SCRIPT", help::SCRIPT))
+}
+
 fn replay_command<'a>(alloc: Global) -> Result<Command<'a>, AllocError> {
     helped(alloc, "replay", help::REPLAY, help::AFTER_REPLAY)
         .arg(manifest(alloc))?
@@ -117,7 +133,8 @@ fn with_stores<'a>(alloc: Global, command: Command<'a>) -> Result<Command<'a>, A
     command
         .subcommand(run_command(alloc)?)?
         .subcommand(replay_command(alloc)?)?
-        .subcommand(schedule_command(alloc)?)
+        .subcommand(schedule_command(alloc)?)?
+        .subcommand(stress_command(alloc)?)
 }
 
 fn command<'a>(alloc: Global) -> Result<Command<'a>, AllocError> {
@@ -140,7 +157,14 @@ fn config_of(matches: &ArgMatches) -> Option<Config> {
 // The call of a command that reads a manifest.
 fn manifest_call<'a>(manifest: &'a str, matches: &ArgMatches<'a>) -> Call<'a> {
     if let Some(script) = matches.get_str("SCRIPT") {
-        return Call::Run { manifest, script };
+        return match config_of(matches) {
+            Some(config) => Call::Stress {
+                config,
+                manifest,
+                script,
+            },
+            None => Call::Run { manifest, script },
+        };
     }
     if let Some(transcript) = matches.get_str("TRANSCRIPT") {
         return Call::Replay {

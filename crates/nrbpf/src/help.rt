@@ -239,6 +239,39 @@ Refusals:
 Exit statuses: 0 all is well, 2 wrong words on the command line, 3 refused, 4 `no memory`,
 5 `cannot read` or `cannot write` (on standard error).";
 
+/// What `stress` does, in a line.
+pub const STRESS: &str = "Makes the calls of a script on threads";
+
+/// What stands behind the arguments of `stress`.
+pub const AFTER_STRESS: &str = "\
+Opens a new store of that many nodes with the maps and the programs of the manifest (`nrbpf check --help`), and
+gives the calls of the script (`nrbpf run --help`) to its sessions in turn: call J, from 0, to session J modulo the
+number of sessions, one for each slot of each node. Each session makes its calls on a thread of its own.
+
+Writes a transcript, as `nrbpf replay` reads it:
+    u INDEX NAME HEX REPLY    an update: its place in the history, from 0, and what it replied, in their order
+    r POINT NAME HEX REPLY    a read: it has seen the first POINT updates, and stands behind them
+    e NAME HEX                last, an update that was told that the history has ended: it changed nothing
+
+Which place a call gets is another from run to run; `nrbpf replay` writes `good U R E` for each transcript. With the
+manifest of examples/counter, the script
+
+    bump 00000000
+    bump 00000000
+
+writes `u 0 bump 00000000 1` and `u 1 bump 00000000 2`.
+
+Refusals, before any thread starts:
+    line N bad          line N is no call of a program of the manifest with an argument of its length, no comment
+                        and no empty line
+    refused O1          --nodes is not from 1 to 8, --slots from 1 to 16, --window from 16 to 4096 or --limit
+                        from 1 to 1000000
+    line N: ..          the manifest is refused (`nrbpf check --help`)
+    not UTF-8           the manifest, a program file or the script is not UTF-8
+
+Exit statuses: 0 all is well, 2 wrong words on the command line, 3 refused, 4 `no memory`,
+5 `cannot read` or `cannot write` (on standard error).";
+
 /// What the path of the steps is.
 pub const STEPS: &str = "The path of the steps";
 

@@ -11,6 +11,7 @@ use disk::{Disk, LateFile};
 use oplog::Config;
 use std::io;
 use std::process::ExitCode;
+use stress::{OpenGate, Trial, stress};
 
 // Runs `check` on a manifest's file and standard output.
 fn check_file(rt: &HostRuntime, manifest: &str) -> Status {
@@ -56,6 +57,23 @@ fn schedule_files(rt: &HostRuntime, config: Config, manifest: &str, steps: &str)
     )
 }
 
+// Runs `stress` on the files of a manifest and a script, and standard output.
+fn stress_files(rt: &HostRuntime, config: Config, manifest: &str, script: &str) -> Status {
+    let trial = Trial {
+        alloc: rt.alloc(),
+        config,
+        folder: &Disk { rt },
+        gate: &OpenGate,
+    };
+    stress(
+        rt,
+        &trial,
+        &mut LateFile::new(rt, manifest),
+        &mut LateFile::new(rt, script),
+        &mut io::writer(rt),
+    )
+}
+
 // Runs `asm` on a text's file and standard output.
 fn assemble_file(rt: &HostRuntime, file: &str) -> Status {
     assemble(
@@ -89,6 +107,11 @@ fn answer(rt: &HostRuntime, call: Call) -> ExitCode {
             manifest,
             steps,
         } => schedule_files(rt, config, manifest, steps),
+        Call::Stress {
+            config,
+            manifest,
+            script,
+        } => stress_files(rt, config, manifest, script),
     };
     if let Some(complaint) = status.complaint() {
         let _ = eprintln!(rt; "{complaint}");
