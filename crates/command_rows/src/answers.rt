@@ -3,6 +3,9 @@
 use crate::files::Offered;
 use console::{Setup, assemble, check, disassemble, replay, run, schedule};
 use oplog::Config;
+use std::alloc::Global;
+use std::sync::Wait;
+use std::thread::Threads;
 use stress::{OpenGate, Trial, stress};
 
 // An exit status, and what is written.
@@ -26,8 +29,13 @@ fn sizes(text: &str) -> Option<Config> {
 }
 
 // What `stress` answers, or `replay` to what it writes.
-fn stressed(rt: &HostRuntime, folder: &Offered, command: &str, manifest: &[u8]) -> Option<Answer> {
-    let alloc = rt.alloc();
+fn stressed<R: Threads + Wait + Sync>(
+    rt: &R,
+    alloc: Global,
+    folder: &Offered,
+    command: &str,
+    manifest: &[u8],
+) -> Option<Answer> {
     let (name, text) = command.split_once(':')?;
     let trial = Trial {
         alloc,
@@ -56,11 +64,16 @@ fn stressed(rt: &HostRuntime, folder: &Offered, command: &str, manifest: &[u8]) 
 }
 
 // What a command answers to its text; nothing where there is no such command.
-pub fn answer_to(rt: &HostRuntime, folder: &Offered, command: &str, text: &[u8]) -> Option<Answer> {
+pub fn answer_to<R: Threads + Wait + Sync>(
+    rt: &R,
+    alloc: Global,
+    folder: &Offered,
+    command: &str,
+    text: &[u8],
+) -> Option<Answer> {
     if command.starts_with("stress") {
-        return stressed(rt, folder, command, text);
+        return stressed(rt, alloc, folder, command, text);
     }
-    let alloc = rt.alloc();
     let mut text = text;
     let mut out = Vec::new(alloc);
     let status = match command {

@@ -22,6 +22,8 @@ use files::{Named, Offered, file_at};
 use spelling::{shown, spelled};
 use std::alloc::{AllocError, Global};
 use std::io;
+use std::sync::Wait;
+use std::thread::Threads;
 
 // The text that a line `file NAME TEXT` names.
 fn named(alloc: Global, files: &[Named], line: &str) -> Result<Option<Named>, AllocError> {
@@ -35,8 +37,12 @@ fn named(alloc: Global, files: &[Named], line: &str) -> Result<Option<Named>, Al
 }
 
 // What a row is answered, if it has a command.
-fn answered(rt: &HostRuntime, files: &[Named], row: &str) -> Result<Option<Answer>, AllocError> {
-    let alloc = rt.alloc();
+fn answered<R: Threads + Wait + Sync>(
+    rt: &R,
+    alloc: Global,
+    files: &[Named],
+    row: &str,
+) -> Result<Option<Answer>, AllocError> {
     let Some((command, texts)) = row.split_once(' ') else {
         return Ok(None);
     };
@@ -45,11 +51,16 @@ fn answered(rt: &HostRuntime, files: &[Named], row: &str) -> Result<Option<Answe
     let other = spelled(alloc, files, other)?;
     let other = other.as_slice();
     let folder = Offered { files, other };
-    Ok(answer_to(rt, &folder, command, &text))
+    Ok(answer_to(rt, alloc, &folder, command, &text))
 }
 
 // Whether a row's command writes what the row names, if it names something.
-fn compared(rt: &HostRuntime, files: &[Named], row: &str) -> Result<Option<bool>, AllocError> {
+fn compared<R: Threads + Wait + Sync>(
+    rt: &R,
+    alloc: Global,
+    files: &[Named],
+    row: &str,
+) -> Result<Option<bool>, AllocError> {
     let Some((word, rest)) = row.split_once(' ') else {
         return Ok(None);
     };
@@ -57,7 +68,7 @@ fn compared(rt: &HostRuntime, files: &[Named], row: &str) -> Result<Option<bool>
         return Ok(None);
     };
     match word {
-        "is" | "spells" => match answered(rt, files, command)? {
+        "is" | "spells" => match answered(rt, alloc, files, command)? {
             Some(answer) => Ok(Some(is_same(word, files, name, &answer.text))),
             None => Ok(None),
         },
@@ -79,13 +90,18 @@ fn keep(rt: &HostRuntime, files: &mut Vec<Named>, row: &str) -> io::Result<()> {
 }
 
 // Writes a row, and behind it what it is answered.
-fn write_row(rt: &HostRuntime, files: &[Named], row: &str) -> io::Result<()> {
-    if let Some(same) = compared(rt, files, row)? {
+fn write_row<R: Threads + Wait + Sync + Print>(
+    rt: &R,
+    alloc: Global,
+    files: &[Named],
+    row: &str,
+) -> io::Result<()> {
+    if let Some(same) = compared(rt, alloc, files, row)? {
         return println!(rt; "{row} = {same}");
     }
-    match answered(rt, files, row)? {
+    match answered(rt, alloc, files, row)? {
         Some(answer) => {
-            let text = shown(rt.alloc(), &answer.text)?;
+            let text = shown(alloc, &answer.text)?;
             println!(rt; "{row} = {} \"{text}\"", answer.status)
         }
         None => println!(rt; "{row}"),
@@ -97,7 +113,7 @@ fn main(rt: HostRuntime) -> io::Result<()> {
     for line in rt.lines(rt.alloc()) {
         let line = line?;
         keep(&rt, &mut files, line.as_str())?;
-        write_row(&rt, &files, line.as_str())?;
+        write_row(&rt, rt.alloc(), &files, line.as_str())?;
     }
     Ok(())
 }

@@ -11,6 +11,8 @@ use disk::{Disk, LateFile};
 use oplog::Config;
 use std::io;
 use std::process::ExitCode;
+use std::sync::Wait;
+use std::thread::Threads;
 use stress::{OpenGate, Trial, stress};
 
 // Runs `check` on a manifest's file and standard output.
@@ -57,8 +59,15 @@ fn schedule_files(rt: &HostRuntime, config: Config, manifest: &str, steps: &str)
     )
 }
 
-// Runs `stress` on the files of a manifest and a script, and standard output.
-fn stress_files(rt: &HostRuntime, config: Config, manifest: &str, script: &str) -> Status {
+// Runs `stress` on the files of a manifest and a script, and standard output. `threads` is the runtime too, by what only `main`
+// knows of it: that it may start threads.
+fn stress_files<R: Threads + Wait + Sync>(
+    rt: &HostRuntime,
+    threads: &R,
+    config: Config,
+    manifest: &str,
+    script: &str,
+) -> Status {
     let trial = Trial {
         alloc: rt.alloc(),
         config,
@@ -66,7 +75,7 @@ fn stress_files(rt: &HostRuntime, config: Config, manifest: &str, script: &str) 
         gate: &OpenGate,
     };
     stress(
-        rt,
+        threads,
         &trial,
         &mut LateFile::new(rt, manifest),
         &mut LateFile::new(rt, script),
@@ -92,7 +101,7 @@ fn disassemble_file(rt: &HostRuntime, file: &str) -> Status {
     )
 }
 
-fn answer(rt: &HostRuntime, call: Call) -> ExitCode {
+fn answer<R: Threads + Wait + Sync>(rt: &HostRuntime, threads: &R, call: Call) -> ExitCode {
     let status = match call {
         Call::Check(manifest) => check_file(rt, manifest),
         Call::Assemble(file) => assemble_file(rt, file),
@@ -111,7 +120,7 @@ fn answer(rt: &HostRuntime, call: Call) -> ExitCode {
             config,
             manifest,
             script,
-        } => stress_files(rt, config, manifest, script),
+        } => stress_files(rt, threads, config, manifest, script),
     };
     if let Some(complaint) = status.complaint() {
         let _ = eprintln!(rt; "{complaint}");
@@ -131,7 +140,7 @@ fn main(rt: HostRuntime) -> ExitCode {
         Err(_) => return ExitCode::from(FAULT),
     };
     match command_line::read(rt.alloc(), words.as_slice()) {
-        Ok(call) => answer(&rt, call),
+        Ok(call) => answer(&rt, &rt, call),
         Err(error) => {
             let _ = error.print(&rt);
             ExitCode::from(error.exit_code() as u8)
