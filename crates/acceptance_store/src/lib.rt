@@ -7,6 +7,8 @@ mod desk;
 #[cfg(test)]
 mod lock;
 #[cfg(test)]
+mod meeting;
+#[cfg(test)]
 mod replicas;
 #[cfg(test)]
 mod single_store;

@@ -1,0 +1,95 @@
+//! The sessions of `stress` run side by side: two of them wait for each other before they make their first calls.
+
+use console::{Folder, replay};
+use oplog::Config;
+use std::sync::atomic::{AtomicU64, Ordering};
+use std::thread;
+use stress::{Gate, Trial, stress};
+
+const BUMP: &[u8] =
+    b"bf12000000000000 1851000000000000 0000000000000000 8500000001000000 1500050000000000 7906000000000000 0706000001000000 7b60000000000000 bf60000000000000 9500000000000000 b7000000ffffffff 9500000000000000";
+
+const MANIFEST: &[u8] = b"map array 8 16\nprogram bump update 4 bump.hex\n";
+
+const SCRIPT: &[u8] =
+    b"bump 00000000\nbump 00000000\nbump 00000000\nbump 00000000\nbump 00000000\nbump 00000000\nbump 00000000\nbump 00000000\n";
+
+// A session waits at most so many turns.
+const TURNS: u64 = 10_000_000;
+
+// The folder of the one program.
+#[derive(Drop)]
+struct Programs;
+
+impl Folder for Programs {
+    type File = &'static [u8];
+
+    fn open(&self, _name: &str) -> Option<&'static [u8]> {
+        Some(BUMP)
+    }
+}
+
+// How many calls sessions 0 and 1 have begun, and how many of the two saw the other.
+#[derive(Drop)]
+struct Meeting {
+    first: AtomicU64,
+    second: AtomicU64,
+    met: AtomicU64,
+}
+
+impl Meeting {
+    // Says that a session is there, and waits for the other one before its first call.
+    fn wait(&self, own: &AtomicU64, other: &AtomicU64) {
+        if own.fetch_add(1, Ordering::SeqCst) > 0 {
+            return;
+        }
+        for _ in 0..TURNS {
+            if other.load(Ordering::SeqCst) > 0 {
+                self.met.fetch_add(1, Ordering::SeqCst);
+                return;
+            }
+            thread::yield_now();
+        }
+    }
+}
+
+impl Gate for Meeting {
+    fn before(&self, session: u64) {
+        match session {
+            0 => self.wait(&self.first, &self.second),
+            1 => self.wait(&self.second, &self.first),
+            _ => {}
+        }
+    }
+}
+
+#[test]
+fn two_sessions_wait_for_each_other(rt: HostRuntime) {
+    let meeting = Meeting {
+        first: AtomicU64::new(0),
+        second: AtomicU64::new(0),
+        met: AtomicU64::new(0),
+    };
+    let trial = Trial {
+        alloc: rt.alloc(),
+        config: Config {
+            nodes: 2,
+            slots: 2,
+            window: 64,
+            limit: 1000,
+        },
+        folder: &Programs,
+        gate: &meeting,
+    };
+    let (mut manifest, mut script) = (MANIFEST, SCRIPT);
+    let mut transcript = Vec::new(rt.alloc());
+    let status = stress(&rt, &trial, &mut manifest, &mut script, &mut transcript);
+    assert_eq!(rt; (status.code(), meeting.met.load(Ordering::SeqCst)), (0, 2));
+    let (mut manifest, mut told) = (MANIFEST, transcript.as_slice());
+    let mut found = Vec::new(rt.alloc());
+    let status = replay(rt.alloc(), &Programs, &mut manifest, &mut told, &mut found);
+    assert_eq!(rt;
+        (status.code(), found.as_slice()),
+        (0, b"good 8 0 0\n".as_slice())
+    );
+}

@@ -1,0 +1,166 @@
+//! Four threads count in one store of two nodes, ten thousand times each. Then the history that they made together is checked, and the
+//! store is closed.
+#![tactic(auto)]
+
+ghost use Rattle.std.specs.Prelude.{◌≡◌, length, All, IfSome};
+ghost use Rattle.store.specs.Sessions.{IsOf};
+ghost use Rattle.store.specs.Shelving.{sessions_of};
+
+use loader::{Catalogue, load_manifest};
+use oplog::Config;
+use readpath::ReadAnswer;
+use std::alloc::Global;
+use std::sync::Wait;
+use std::sync::atomic::{AtomicU64, Ordering};
+use std::thread::Threads;
+use std::{io, thread};
+use store::{Answer, Closed, Session, Store, StoreRefused};
+
+// One array of sixteen numbers of eight bytes, and two programs whose argument is a key of four bytes.
+const MANIFEST: &str =
+    "map array 8 16\nprogram bump update 4 bump.hex\nprogram peek read 4 peek.hex\n";
+
+// Adds one to the number under the key, and replies it (docs/TUTORIAL.md shows how such a program is written).
+const BUMP: &str =
+    "bf12000000000000 1851000000000000 0000000000000000 8500000001000000 1500050000000000 7906000000000000 0706000001000000 7b60000000000000 bf60000000000000 9500000000000000 b7000000ffffffff 9500000000000000";
+
+// Replies the number under the key.
+const PEEK: &str =
+    "bf12000000000000 1851000000000000 0000000000000000 8500000001000000 1500020000000000 7900000000000000 9500000000000000 b7000000ffffffff 9500000000000000";
+
+// The key of the number that is counted, as an argument has it: four bytes, the low one first.
+const KEY: [u8; 4] = [7, 0, 0, 0];
+
+// How often each thread counts.
+const TIMES: u64 = 10_000;
+
+// Two nodes of two slots: a replica of the maps for each node, and a session for each slot.
+const SIZES: Config = Config {
+    nodes: 2,
+    slots: 2,
+    window: 64,
+    limit: 1_000_000,
+};
+
+// The programs of the store, by their numbers in the catalogue.
+#[derive(Clone, Copy)]
+struct Programs {
+    bump: u16,
+    peek: u16,
+}
+
+// Whether an update has just the reply that its place asks for: the first one 1, the next one 2, and so on, whoever made them.
+fn is_right(told: Result<Answer, StoreRefused>) -> bool {
+    match told {
+        Ok(answer) => answer.reply.checked_sub(1) == Some(answer.index),
+        Err(_) => false,
+    }
+}
+
+// Counts, and adds up how many updates were answered right.
+fn count<R: Wait>(
+    rt: &R,
+    store: &Store,
+    session: &mut Session,
+    programs: Programs,
+    right: &AtomicU64,
+)
+    requires own { IsOf store.now session.old }
+    ensures own { IsOf store.now session.new }
+{
+    for _ in 0..TIMES {
+        if is_right(session.invoke(rt, store, programs.bump, &KEY)) {
+            right.fetch_add(1, Ordering::SeqCst);
+        }
+    }
+}
+
+// Lets each session count on a thread of its own. How many updates were answered right.
+fn count_together<R: Threads + Wait + Sync>(
+    rt: &R,
+    store: &Store,
+    sessions: &mut [Session],
+    programs: Programs,
+) -> u64
+    requires own { All (IsOf store.now) sessions.old }
+    ensures own { All (IsOf store.now) sessions.new }
+{
+    let right = AtomicU64::new(0);
+    thread::for_each_mut(
+        rt,
+        sessions,
+        4,
+        &|_number: usize, session: &mut Session|
+            requires { IsOf store.now session.now }
+            ensures { IsOf store.entry.now session.exit.now }
+        { count(rt, store, session, programs, &right) },
+    );
+    right.load(Ordering::SeqCst)
+}
+
+// A store, and a session for each slot of each of its nodes.
+fn open(alloc: Global, catalogue: Catalogue) -> Option<(Store, Vec<Session>)>
+    ensures sessions { IfSome result (λ t. All (IsOf t.0) t.1.items × (length t.1.items ≡ sessions_of t.0.config)) }
+{
+    Store::open(alloc, SIZES, catalogue).ok()
+}
+
+// Ends the store. It takes all its sessions back, and gives what they made: the log, and each node's replica.
+fn close(store: Store, sessions: Vec<Session>) -> Closed
+    requires sessions { All (IsOf store) sessions.items × (length sessions.items ≡ sessions_of store.config) }
+{
+    match store.close(sessions) {
+        Ok(closed) => closed,
+        Err(_) => unreachable!(),
+    }
+}
+
+// What is known in the end: how many updates were answered right, what a read then sees, and how many updates the log has.
+#[derive(Drop)]
+struct Told {
+    right: u64,
+    seen: Result<ReadAnswer, StoreRefused>,
+    updates: u64,
+}
+
+// The whole life of the store.
+fn counted<R: Threads + Wait + Sync>(rt: &R, alloc: Global) -> Option<Told> {
+    // 1. The catalogue, and the numbers of its programs.
+    let files = [("bump.hex", BUMP), ("peek.hex", PEEK)];
+    let catalogue = load_manifest(alloc, MANIFEST, &files).ok()?;
+    let programs = Programs {
+        bump: catalogue.number("bump")?,
+        peek: catalogue.number("peek")?,
+    };
+    // 2. The store and its sessions, which all threads share and each thread has one of.
+    let (store, mut sessions) = open(alloc, catalogue)?;
+    let right = count_together(rt, &store, &mut sessions, programs);
+    // 3. All threads are done: a read now sees all that they did, at whichever node.
+    let Some(mut session) = sessions.pop() else {
+        unreachable!()
+    };
+    let seen = session.read(rt, &store, programs.peek, &KEY);
+    sessions.push_reserved(session);
+    // 4. The end. The compiler sees that no session is lost.
+    let closed = close(store, sessions);
+    Some(Told {
+        right,
+        seen,
+        updates: closed.log().tail(),
+    })
+}
+
+fn main(rt: HostRuntime) -> io::Result<()> {
+    let Some(told) = counted(&rt, rt.alloc()) else {
+        return println!(rt; "the store can't be opened");
+    };
+    println!(rt; "{} updates replied what their places ask for", told.right)?;
+    match told.seen {
+        Ok(answer) => println!(rt;
+            "a read after {} updates replies {}",
+            answer.point, answer.reply
+        )?,
+        Err(refused) => println!(rt; "refused: {refused}")?,
+    }
+    println!(rt; "the log has {} updates", told.updates)
+}
