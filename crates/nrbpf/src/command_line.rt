@@ -104,20 +104,26 @@ fn dis_command<'a>(alloc: Global) -> Result<Command<'a>, AllocError> {
     helped(alloc, "dis", help::DIS, help::AFTER_DIS).arg(word(alloc, "FILE", help::PROGRAM))
 }
 
+// Adds a command, if it could be made.
+fn with<'a>(
+    command: Command<'a>,
+    added: Result<Command<'a>, AllocError>,
+) -> Result<Command<'a>, AllocError> {
+    command.subcommand(added?)
+}
+
 // Adds the commands that look at programs.
 fn with_programs<'a>(alloc: Global, command: Command<'a>) -> Result<Command<'a>, AllocError> {
-    command
-        .subcommand(check_command(alloc)?)?
-        .subcommand(asm_command(alloc)?)?
-        .subcommand(dis_command(alloc)?)
+    let command = with(command, check_command(alloc))?;
+    let command = with(command, asm_command(alloc))?;
+    with(command, dis_command(alloc))
 }
 
 // Adds the commands that run a store.
 fn with_stores<'a>(alloc: Global, command: Command<'a>) -> Result<Command<'a>, AllocError> {
-    command
-        .subcommand(run_command(alloc)?)?
-        .subcommand(replay_command(alloc)?)?
-        .subcommand(schedule_command(alloc)?)
+    let command = with(command, run_command(alloc))?;
+    let command = with(command, replay_command(alloc))?;
+    with(command, schedule_command(alloc))
 }
 
 fn command<'a>(alloc: Global) -> Result<Command<'a>, AllocError> {
@@ -171,14 +177,18 @@ fn call_of<'a>(name: &str, matches: &ArgMatches<'a>) -> Option<Call<'a>> {
     Some(manifest_call(manifest, matches))
 }
 
+// The call that a command line asks for, if it names a command.
+fn named_call<'a>(matches: &ArgMatches<'a>) -> Option<Call<'a>> {
+    let (name, inner) = matches.subcommand()?;
+    call_of(name, inner)
+}
+
 /// The call that the words of a command line ask for, the first of them the program's name.
 pub fn read<'a>(alloc: Global, words: &'a [String]) -> Result<Call<'a>, Error> {
     let mut command = command(alloc)?;
     let matches = command.try_get_matches_from_mut(words)?;
-    if let Some((name, inner)) = matches.subcommand() {
-        if let Some(call) = call_of(name, inner) {
-            return Ok(call);
-        }
+    match named_call(&matches) {
+        Some(call) => Ok(call),
+        None => Err(command.error(ErrorKind::MissingSubcommand, "no command")?),
     }
-    Err(command.error(ErrorKind::MissingSubcommand, "no command")?)
 }
