@@ -183,12 +183,17 @@ fn named_call<'a>(matches: &ArgMatches<'a>) -> Option<Call<'a>> {
     call_of(name, inner)
 }
 
-/// The call that the words of a command line ask for, the first of them the program's name.
-pub fn read<'a>(alloc: Global, words: &'a [String]) -> Result<Call<'a>, Error> {
-    let mut command = command(alloc)?;
+// The call that the words ask of a command, or what is wrong with them.
+fn matched<'a>(command: &mut Command<'a>, words: &'a [String]) -> Result<Call<'a>, Error> {
     let matches = command.try_get_matches_from_mut(words)?;
     match named_call(&matches) {
         Some(call) => Ok(call),
         None => Err(command.error(ErrorKind::MissingSubcommand, "no command")?),
     }
+}
+
+/// The call that the words of a command line ask for, the first of them the program's name.
+pub fn read<'a>(alloc: Global, words: &'a [String]) -> Result<Call<'a>, Error> {
+    let mut command = command(alloc)?;
+    matched(&mut command, words)
 }
