@@ -120,21 +120,27 @@ fn dis_command<'a>(alloc: Global) -> Result<Command<'a>, AllocError> {
     helped(alloc, "dis", help::DIS, help::AFTER_DIS).arg(word(alloc, "FILE", help::PROGRAM))
 }
 
+// Adds a command, if it could be made.
+fn with<'a>(
+    command: Command<'a>,
+    added: Result<Command<'a>, AllocError>,
+) -> Result<Command<'a>, AllocError> {
+    command.subcommand(added?)
+}
+
 // Adds the commands that look at programs.
 fn with_programs<'a>(alloc: Global, command: Command<'a>) -> Result<Command<'a>, AllocError> {
-    command
-        .subcommand(check_command(alloc)?)?
-        .subcommand(asm_command(alloc)?)?
-        .subcommand(dis_command(alloc)?)
+    let command = with(command, check_command(alloc))?;
+    let command = with(command, asm_command(alloc))?;
+    with(command, dis_command(alloc))
 }
 
 // Adds the commands that run a store.
 fn with_stores<'a>(alloc: Global, command: Command<'a>) -> Result<Command<'a>, AllocError> {
-    command
-        .subcommand(run_command(alloc)?)?
-        .subcommand(replay_command(alloc)?)?
-        .subcommand(schedule_command(alloc)?)?
-        .subcommand(stress_command(alloc)?)
+    let command = with(command, run_command(alloc))?;
+    let command = with(command, replay_command(alloc))?;
+    let command = with(command, schedule_command(alloc))?;
+    with(command, stress_command(alloc))
 }
 
 fn command<'a>(alloc: Global) -> Result<Command<'a>, AllocError> {
@@ -195,14 +201,23 @@ fn call_of<'a>(name: &str, matches: &ArgMatches<'a>) -> Option<Call<'a>> {
     Some(manifest_call(manifest, matches))
 }
 
+// The call that a command line asks for, if it names a command.
+fn named_call<'a>(matches: &ArgMatches<'a>) -> Option<Call<'a>> {
+    let (name, inner) = matches.subcommand()?;
+    call_of(name, inner)
+}
+
+// The call that the words ask of a command, or what is wrong with them.
+fn matched<'a>(command: &mut Command<'a>, words: &'a [String]) -> Result<Call<'a>, Error> {
+    let matches = command.try_get_matches_from_mut(words)?;
+    match named_call(&matches) {
+        Some(call) => Ok(call),
+        None => Err(command.error(ErrorKind::MissingSubcommand, "no command")?),
+    }
+}
+
 /// The call that the words of a command line ask for, the first of them the program's name.
 pub fn read<'a>(alloc: Global, words: &'a [String]) -> Result<Call<'a>, Error> {
     let mut command = command(alloc)?;
-    let matches = command.try_get_matches_from_mut(words)?;
-    if let Some((name, inner)) = matches.subcommand() {
-        if let Some(call) = call_of(name, inner) {
-            return Ok(call);
-        }
-    }
-    Err(command.error(ErrorKind::MissingSubcommand, "no command")?)
+    matched(&mut command, words)
 }
