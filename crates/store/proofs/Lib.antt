@@ -13,3 +13,4 @@ pub mod Closing
 pub mod Filled
 pub mod AtDesk
 pub mod TakenDesk
+pub mod Combined

@@ -1,29 +1,15 @@
-use Rattle.std.proofs.Common.{rules, ◌≡◌, ◌+◌, ◌<◌, ◌≤◌, ℕ, length, Some, slice_get, ◌-◌, ◌*◌, ◌/◌, ◌%◌, Bool, true, false, nat_eq, nat_lt, List, [], ◌∷◌, ◌++◌, slice_index_or, slice_set, bit_and, bit_or, Fits, w8, w32, w64, Bor, MutBor}
-use Rattle.machine.specs.declared.running.Outcome.{Outcome as TheOutcome}
-use Rattle.oplog.specs.declared.configuration.TheConstants.{MAX_LIMIT}
-use Rattle.combiner.specs.declared.slots.Reply.{Reply as TheReply}
-use Rattle.ownlock.specs.Seats.{IsSession}
-use Rattle.store.specs.AtDesk.{IsReady}
-use Rattle.store.specs.Combining.{HasClaimed, HasCombined, IsAnswerOf}
-use Rattle.store.specs.Standing.{SessionKnown, IsFree, IsOnShelf}
+use Rattle.std.proofs.Common.{◌≡◌, ap, ◌∙◌, sym, arith, length, length-set}
+use Rattle.store.proofs.Combined.{set_more}
 use Rattle.store.proofs.combining.answer_batch.Goals as goal
 
--- src/combining.rt:79:5
-pub loop-k-init : goal.loop-k-init
-loop-k-init c = ?
-
--- src/combining.rt:80:9
-pub answer-requires : goal.answer-requires
-answer-requires c = ?
-
--- src/combining.rt:79:5
 pub loop-k-preserved : goal.loop-k-preserved
-loop-k-preserved c = ?
-
--- src/combining.rt:72:1
-pub returns-clause-records : goal.returns-clause-records
-returns-clause-records c = ?
-
--- src/combining.rt:72:1
-pub returns-clause-answers : goal.returns-clause-answers
-returns-clause-answers c = ?
+loop-k-preserved c =
+    let i = c.loop-k.invariant in
+    let lt = c.loop-k-test.true in
+    let long = i.answers in
+    let all = ap length c.records-k-end.ensures.records in
+    record {
+      records = ap (λ z. z.records) c.answer.ensures.set ∙ i.records;
+      answers = ap (λ z. length z.answers) c.answer.ensures.set ∙ (length-set c.loop-k.batch.answers c.loop-k.k _ ∙ i.answers);
+      set = set_more c.args.appended c.args.replies.now c.loop-k.k c.loop-k.batch.answers c.answer.new.self.answers c.answer_of.result (omega (arith, lt, long, all)) (ap (λ z. z.answers) c.answer.ensures.set) i.set c.answer_of.ensures.answer;
+    }
