@@ -32,9 +32,12 @@ put-requires-clause-may g c =
     let t = c.take-desk.ensures.taken i.0 i.1 in
     let b = took_desk i.0 t.0 c.args.caller place v i.2 (ap (λ n. 1 + n + c.args.caller.node) (sym i.4.nodes_are)) t.1 in
     let ready = ready_on i.0 t.0 c.args.batch b.here.notes b.note b.extends i.5 b.here.accounts i.3 in
-    let y = replied c.args.batch b.desk in
-    (t.0, t.2, subst (λ z. DeskMayBePut RepliedThere c.take-desk.new.seat.sessions t.0 z w) (sym c.take-desk.ensures.same.1)
-        (may_put_desk c.args.caller i.0 t.0 place v b c.take-desk.new.seat.sessions t.2 RepliedThere w y (record t.0.note { batch = [] }) (seen_replied c.args.batch v w b.desk c.reply_in.ensures.replied b.seen) (reply_steps t.0 b.desk y c.args.batch refl ready) refl))
+    let y = replied c.args.batch b.desk in (
+      t.0,
+      t.2,
+      subst (λ z. DeskMayBePut RepliedThere c.take-desk.new.seat.sessions t.0 z w) (sym c.take-desk.ensures.same.1)
+          (may_put_desk c.args.caller i.0 t.0 place v b c.take-desk.new.seat.sessions t.2 RepliedThere w y (record t.0.note { batch = [] }) (seen_replied c.args.batch v w b.desk c.reply_in.ensures.replied b.seen) (reply_steps t.0 b.desk y c.args.batch refl ready) refl),
+    )
 
 pub returns-clause-combined : goal.returns-clause-combined
 returns-clause-combined g c k is =
