@@ -11,3 +11,4 @@ pub mod Opened
 pub mod Closing
 pub mod Filled
 pub mod AtDesk
+pub mod TakenDesk
