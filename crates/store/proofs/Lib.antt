@@ -8,7 +8,6 @@ pub mod Rooms
 pub mod Finished
 pub mod Appended
 pub mod Opened
-pub mod Closing
 pub mod Filled
 pub mod AtDesk
 pub mod TakenDesk
