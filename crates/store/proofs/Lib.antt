@@ -11,3 +11,5 @@ pub mod Opened
 pub mod Filled
 pub mod AtDesk
 pub mod TakenDesk
+pub mod Left
+pub mod Joined

@@ -1,5 +1,6 @@
 -- What a store may be opened with, and what it gives back when it is closed.
-use Rattle.std.specs.Prelude.{◌≡◌, ℕ, List, [], ◌∷◌, ◌++◌, length, Option, Some, None}
+use Rattle.std.specs.Prelude.{◌≡◌, ℕ, List, [], ◌∷◌, ◌++◌, length, refl, Option, Some, None}
+use Rattle.std.specs.Coded.{Coded, code_by, coded×, coded_list}
 use Rattle.std.specs.Global.{Box}
 use Rattle.maps.specs.Maps.{shapes_of}
 use Rattle.ownlock.specs.Seats.{At}
@@ -7,7 +8,8 @@ use Rattle.loader.specs.CatalogueView.{CatalogueView}
 use Rattle.oplog.specs.declared.records.Record.{Record}
 use Rattle.oplog.specs.Logs.{Log, opened_log, tail_of}
 use Rattle.replica.specs.StoreMeaning.{store_meaning}
-use Rattle.replica.specs.Views.{ReplicaView}
+use Rattle.oplog.specs.Codes.{log_code}
+use Rattle.replica.specs.Views.{ReplicaView, replica_code}
 use Rattle.progress.specs.declared.sessions.Progress.{Progress}
 use Rattle.progress.specs.Accounts.{Extends, IsWellFormed}
 use Rattle.progress.specs.Agreement.{LogAgrees, ReplicaAgrees}
@@ -57,6 +59,9 @@ replicas_in (v ∷ vs) = replicas_in vs
 
 abbrev pub closed_view : List (Option Value) → ClosedView
 closed_view values = record { log = log_in values; replicas = replicas_in values }
+
+pub closed_code : Coded ClosedView
+closed_code = code_by (Log × List ReplicaView) (coded× log_code (coded_list replica_code)) (λ c. (c.log, c.replicas)) (λ p. record { log = p.0; replicas = p.1 }) (λ _. refl)
 
 -- what the log and the replicas of a closed store are, by what its sessions bring
 pub record IsClosed (store : StoreView) (sessions : List SessionView) (closed : ClosedView) : Type 0 where

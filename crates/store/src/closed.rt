@@ -1,6 +1,9 @@
 // What a closed store leaves.
 
-ghost use Rattle.std.specs.Prelude.{◌≡◌, option_map, slice_get};
+ghost use Rattle.std.specs.Prelude.{◌≡◌, Some, option_map, slice_get};
+ghost use Rattle.std.specs.Global.{Box};
+ghost use Rattle.store.specs.declared.values.NodeReplica.{NodeReplica as TheNode};
+ghost use Rattle.store.specs.declared.values.Value.TheVariants.{Replica as ReplicaPlace};
 ghost use Rattle.store.specs.Opening.{AreLeft, closed_view};
 
 use crate::values::Value;
@@ -16,13 +19,26 @@ pub struct Closed {
 }
 
 impl Model for Closed {
-    ghost use Rattle.store.specs.Opening.{ClosedView, AreLeft, closed_view};
+    ghost use Rattle.store.specs.Opening.{ClosedView, AreLeft, closed_code, closed_view};
 
     ghost Value = { ClosedView };
+
+    ghost coded = { closed_code };
 
     ghost view = { λ c. closed_view c.values.items };
 
     ghost invariant = { λ c. AreLeft c.values.items };
+}
+
+// The replica that is the value.
+fn replica_in(value: &Option<Value>) -> &Replica
+    requires replica { (n : Box TheNode) × (value.now ≡ Some (ReplicaPlace n)) }
+    ensures replica { (n : Box TheNode) → value.now ≡ Some (ReplicaPlace n) → result.now ≡ n.value.replica }
+{
+    match value {
+        Some(Value::Replica(node)) => &node.replica,
+        _ => unreachable!(),
+    }
 }
 
 impl Closed {
@@ -48,9 +64,10 @@ impl Closed {
     pub fn replica(&self, node: u32) -> Option<&Replica>
         ensures replica { option_map (λ r. r.now) result ≡ slice_get self.now.replicas node }
     {
-        match self.values.get(1 + node as usize) {
-            Some(Some(Value::Replica(node))) => Some(&node.replica),
-            _ => None,
+        let place = 1 + node as usize;
+        if place >= self.values.len() {
+            return None;
         }
+        Some(replica_in(&self.values[place]))
     }
 }
