@@ -6,6 +6,7 @@ pub mod Taken
 pub mod Played
 pub mod Rooms
 pub mod Finished
+pub mod Batched
 pub mod Appended
 pub mod Opened
 pub mod Filled
@@ -13,3 +14,4 @@ pub mod AtDesk
 pub mod TakenDesk
 pub mod Left
 pub mod Joined
+pub mod Combined

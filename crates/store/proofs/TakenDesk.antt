@@ -41,7 +41,7 @@ IsDeskSeen (TheDesk x) = Unit {0}
 IsDeskSeen (TheLog x) = ⊥
 IsDeskSeen (TheReplica x) = ⊥
 
-abbrev desk_or : DeskView → StoreValue Maps → DeskView
+abbrev pub desk_or : DeskView → StoreValue Maps → DeskView
 desk_or d (TheDesk x) = x
 desk_or d (TheLog x) = d
 desk_or d (TheReplica x) = d

@@ -7,7 +7,7 @@ ghost use Rattle.combiner.specs.declared.slots.Reply.{Reply as TheReply};
 ghost use Rattle.ownlock.specs.Seats.{IsSession};
 ghost use Rattle.store.specs.AtDesk.{IsReady};
 ghost use Rattle.store.specs.Combining.{HasClaimed, HasCombined, IsAnswerOf};
-ghost use Rattle.store.specs.Standing.{SessionKnown, IsFree, IsOnShelf};
+ghost use Rattle.store.specs.Standing.{SessionKnown, Stands, IsFree, IsOnShelf};
 
 use crate::held::reply_in;
 use crate::steps::{Caller, Shared, append_and_copy, catch_up};
@@ -91,7 +91,7 @@ fn hand_over<R: Wait>(
 )
     requires own { seat.old.shelf ≡ shared.shelf.now.id }
     requires ready { (k : SessionKnown) × IsSession seat.old k × IsFree caller k × IsReady k batch
-        × IsOnShelf shared.shelf.now.places shared.nodes shared.catalogue.now k }
+        × IsOnShelf shared.shelf.now.places shared.nodes shared.catalogue.now k × Stands k }
     ensures same { seat.new.shelf ≡ seat.old.shelf }
     ensures combined { (k : SessionKnown) → IsSession seat.old k → (after : SessionKnown) × IsSession seat.new after × HasCombined k after }
 {
