@@ -9,8 +9,9 @@ pub mod Finished
 pub mod Batched
 pub mod Appended
 pub mod Opened
-pub mod Closing
 pub mod Filled
 pub mod AtDesk
 pub mod TakenDesk
+pub mod Left
+pub mod Joined
 pub mod Combined
