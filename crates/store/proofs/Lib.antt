@@ -15,3 +15,5 @@ pub mod TakenDesk
 pub mod Left
 pub mod Joined
 pub mod Combined
+pub mod Requested
+pub mod Closing
