@@ -23,13 +23,13 @@ use Rattle.progress.proofs.Tellings.{placed_tells}
 
 some_from : (a : ℕ) (xs : List Slot) → list_any (λ (x : Slot). is_posted x.stage) xs ≡ true → 0 < length (requests_from a xs)
 some_from a [] e = cc
-some_from a (x ∷ xs) e = by x.stage e
+some_from a (x ∷ xs) e = by x.stage (λ h. some_from (suc a) xs h) e
   where
-    by : (st : Stage) → (is_posted st || list_any (λ (x : Slot). is_posted x.stage) xs) ≡ true → 0 < length (requested a x.count st (requests_from (suc a) xs))
-    by (Posted op) h = omega arith
-    by Empty h = some_from (suc a) xs h
-    by Claimed h = some_from (suc a) xs h
-    by (Answered reply) h = some_from (suc a) xs h
+    by : (st : Stage) → (list_any (λ (x : Slot). is_posted x.stage) xs ≡ true → 0 < length (requests_from (suc a) xs)) → (is_posted st || list_any (λ (x : Slot). is_posted x.stage) xs) ≡ true → 0 < length (requested a x.count st (requests_from (suc a) xs))
+    by (Posted op) next h = omega arith
+    by Empty next h = next h
+    by Claimed next h = next h
+    by (Answered reply) next h = next h
 
 pub some_claimed : (x : DeskView) → has_request x ≡ true → 0 < length (batch_of x).records
 some_claimed x e = some_from (first_author x) x.slots e
