@@ -13,5 +13,6 @@ pub mod Filled
 pub mod AtDesk
 pub mod TakenDesk
 pub mod Left
+pub mod Fresh
 pub mod Joined
 pub mod Combined
