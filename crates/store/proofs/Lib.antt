@@ -14,5 +14,7 @@ pub mod AtDesk
 pub mod TakenDesk
 pub mod Left
 pub mod Fresh
+pub mod Requested
+pub mod Turning
 pub mod Joined
 pub mod Combined
