@@ -18,3 +18,5 @@ pub mod Requested
 pub mod Turning
 pub mod Joined
 pub mod Combined
+pub mod Requested
+pub mod Closing
