@@ -13,6 +13,9 @@ pub mod Filled
 pub mod AtDesk
 pub mod TakenDesk
 pub mod Left
+pub mod Fresh
+pub mod Requested
+pub mod Turning
 pub mod Joined
 pub mod Combined
 pub mod Requested

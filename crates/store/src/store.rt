@@ -55,6 +55,7 @@ impl Store {
         ensures openable { IfOk result (λ t. IsConfig config) }
         ensures store { IfOk result (λ t. (t.0.config ≡ config) × (t.0.catalogue ≡ catalogue)) }
         ensures sessions { IfOk result (λ t. t.1.items ≡ fresh_sessions t.0.id config catalogue 0 (sessions_of config)) }
+        ensures count { IfOk result (λ t. length t.1.items ≡ sessions_of config) }
         ensures own { IfOk result (λ t. AreOf t.0 t.1.items) }
     {
         if !config.is_within_limits() {
