@@ -14,9 +14,8 @@ pub mod AtDesk
 pub mod TakenDesk
 pub mod Left
 pub mod Fresh
-pub mod Requested
-pub mod Turning
 pub mod Joined
 pub mod Combined
 pub mod Requested
+pub mod Turning
 pub mod Closing

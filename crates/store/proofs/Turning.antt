@@ -1,5 +1,5 @@
 -- What a session did at its desk: it posted, or had its turn; and what it is, once the desk is back.
-use Rattle.std.proofs.Common.{◌≡◌, ℕ, suc, ◌+◌, ◌-◌, ◌<◌, ◌≤◌, ◌^◌, List, [], ◌∷◌, length, sym, refl, ap, ◌∙◌, subst, arith, Option, Some, None, slice_get}
+use Rattle.std.proofs.Common.{◌≡◌, ℕ, suc, ◌+◌, ◌*◌, ◌-◌, ◌<◌, ◌≤◌, ◌^◌, List, [], ◌∷◌, length, sym, refl, ap, ◌∙◌, subst, arith, Option, Some, None, slice_get}
 use mathlib.Core.Bool.{false}
 use Rattle.std.specs.Option.{option_and_then, option_map}
 use Rattle.ownlock.specs.Seats.{At}
@@ -26,7 +26,7 @@ use Rattle.progress.specs.DeskNotes.{ClaimedThere, CollectedThere, DeskDeed, Loo
 use Rattle.progress.specs.Moves.{answered_with, unplaced}
 use Rattle.progress.specs.Told.{Tells}
 use Rattle.progress.proofs.DeskNotes.{claim_noted, collect_noted, desk_picks, post_noted}
-use Rattle.progress.proofs.Desks.{none_claimed}
+use Rattle.progress.proofs.Desks.{collected_is, none_claimed}
 use Rattle.progress.proofs.Finish.{grown_long}
 use Rattle.progress.proofs.Lists.{get_of}
 use Rattle.progress.proofs.Moved.{some_none}
@@ -41,7 +41,7 @@ use Rattle.store.specs.Requests.{HasLooked, HasPosted, HasPostedIn, HasTurned, I
 use Rattle.store.specs.Sessions.{request_of}
 use Rattle.store.specs.Shelving.{IsSized, store_rules, view_of}
 use Rattle.store.specs.Standing.{SessionKnown}
-use Rattle.store.proofs.AtDesk.{own, post_steps, turn_steps}
+use Rattle.store.proofs.AtDesk.{Own, own, post_steps, turn_steps}
 use Rattle.store.proofs.Requested.{some_claimed, tells_on}
 use Rattle.store.proofs.TakenDesk.{BackDesk, DeskMayBePut, TookDesk, back_desk, back_same_desk, desk_back, desk_or, may_put_desk, may_put_same_desk}
 
@@ -108,12 +108,12 @@ abbrev pub deed_in : List K → Value → DeskDeed
 deed_in [] w = Looked
 deed_in (k ∷ ks) w = deed_by (option_and_then (stage_at k) (desk_held view_of k.held)) (option_and_then (stage_at k) (desk_in (view_of w)))
 
-own_place : (first a s c : ℕ) → c ≡ first + s → c - (first + 0) ≡ s
-own_place first a s c e = omega (arith, e)
+own_place : (first s c : ℕ) → c ≡ first + s → c - (first + 0) ≡ s
+own_place first s c e = omega (arith, e)
 
 stage_is : (k : K) (s : ℕ) (slot : Slot) (x y : DeskView) → k.session ≡ session k.progress.config x.node s → At s slot y.slots → x.node ≡ y.node → stage_at k y ≡ Some slot.stage
 stage_is k s slot x y own at node =
-    let here = own_place (session k.progress.config y.node 0) 0 s k.session (own ∙ ap (λ z. session k.progress.config z s) node) in
+    let here = own_place (y.node * k.progress.config.slots) s k.session (own ∙ ap (λ z. session k.progress.config z s) node) in
     ap (λ i. option_map (λ (z : Slot). z.stage) (slice_get y.slots i)) here ∙ ap (λ o. option_map (λ (z : Slot). z.stage) o) (get_of y.slots s slot at)
 
 module _ (caller : Caller) (k t : K) (p : ℕ) (v w : Value) (o : Pending) (b : TookDesk caller k t p v) (sessions : List K) (is : sessions ≡ t ∷ []) (asked : HasAsked k o) where
@@ -142,7 +142,7 @@ module _ (caller : Caller) (k t : K) (p : ℕ) (v w : Value) (o : Pending) (b : 
     claim_deed : collected caller.slot b.desk ≡ None → has_combiner b.desk ≡ false → y ≡ claimed b.desk → deed_in sessions w ≡ ClaimedThere
     claim_deed none free now = by m.found.stage refl m.stage
       where
-        m : _
+        m : Own caller.slot t b.desk b.here
         m = own caller.slot t b.desk b.here
 
         by : (st : Stage) → m.found.stage ≡ st → StageAgrees store_meaning t.progress b.here.notes b.here.agrees.combiner t.session t.note st → deed_in sessions w ≡ ClaimedThere
@@ -156,7 +156,7 @@ module _ (caller : Caller) (k t : K) (p : ℕ) (v w : Value) (o : Pending) (b : 
     look_deed : collected caller.slot b.desk ≡ None → y ≡ b.desk → deed_in sessions w ≡ Looked
     look_deed none same = deed_is y m.found m.found isw m.at (subst (λ (z : DeskView). At caller.slot m.found z.slots) (sym same) m.at) (ap (λ (z : DeskView). z.node) (sym same)) ∙ by m.found.stage refl
       where
-        m : _
+        m : Own caller.slot t b.desk b.here
         m = own caller.slot t b.desk b.here
 
         by : (st : Stage) → m.found.stage ≡ st → deed_by (Some m.found.stage) (Some m.found.stage) ≡ Looked
@@ -164,3 +164,60 @@ module _ (caller : Caller) (k t : K) (p : ℕ) (v w : Value) (o : Pending) (b : 
         by (Posted op) e = ap (λ z. deed_by (Some z) (Some z)) e
         by Claimed e = ap (λ z. deed_by (Some z) (Some z)) e
         by (Answered reply) e = absurd (no_answer m.found reply m.at none e)
+
+    collect_deed : (reply : Reply) → collected caller.slot b.desk ≡ Some (record { reply = reply; desk = y }) → deed_in sessions w ≡ CollectedThere
+    collect_deed reply collects =
+        let m = collected_is caller.slot reply b.desk y collects in
+        let taken = ap (λ z. option_and_then (stage_at t) (desk_held view_of z)) b.held ∙ (ap (λ z. option_and_then (stage_at t) (desk_in z)) b.seen ∙ stage_is t caller.slot m.0 b.desk b.desk b.here.own m.1 refl) in
+        let after = option_and_then (stage_at t) (desk_in (view_of w)) in
+        ap (λ z. deed_in z w) is ∙ (ap (λ z. deed_by z after) taken ∙ ap (λ z. deed_by (Some z) after) m.2)
+
+  -- what the turn comes to
+  pub record Put (turn : Turn) : Type 0 where
+    pub may : DeskMayBePut (deed_in sessions w) sessions t p w
+    pub back : (l : L) (ns : List SessionNote) → Possible store_rules t l ns → HasTurned k (desk_back (deed_in sessions w) sessions t p w l) o turn
+
+  -- one that is noted
+  noted_put : (turn : Turn) (deed : DeskDeed) (y : DeskView) (n : SessionNote) → view_of w ≡ TheDesk y → Steps t b.desk n y → desk_note view_of deed t y t.note ≡ n → deed_in sessions w ≡ deed
+      → ((f : K) → f.note ≡ n → Extends t.progress f.progress → IsBack k f → Turns k f o turn) → Put turn
+  noted_put turn deed y n isw step noted deed_eq tells = record {
+    may = subst (λ d. DeskMayBePut d sessions t p w) (sym deed_eq) (may_put_desk caller k t p v b sessions is deed w y n isw step noted);
+    back = λ l ns can.
+        let f = back_desk caller k t p v b sessions is deed w y n isw step noted l ns can in
+        let same = ap (λ g. g l) (desk_picks store_meaning view_of IsSized deed sessions t w y is isw).0 in
+        subst (λ d. HasTurned k (desk_back d sessions t p w l) o turn) (sym deed_eq)
+        (record { back = is_back k _ n f; turns = tells _ f.note (subst (λ z. Extends t.progress z) (sym same) can.0.0) (is_back k _ n f) });
+  }
+
+  pub put_turn : (turn : Turn) → HasLooked caller.slot v w turn → Put turn
+  put_turn turn looked = by turn s.2
+    where
+      s : (y : DeskView) × (view_of w ≡ TheDesk y) × IsTurn caller.slot b.desk y turn
+      s = seen_turn caller.slot v w b.desk turn looked b.seen
+
+      by : (turn : Turn) → IsTurn caller.slot b.desk s.0 turn → Put turn
+      by (Collects reply) i =
+          let steps = turn_steps caller.slot t o b.desk s.0 (Collects reply) i b.here asked_then in
+          noted_put (Collects reply) CollectedThere s.0 (answered_with t.note o.op reply) s.1 steps.0 (collect_noted view_of t p caller.slot v o reply b.desk s.0 t.note b.held b.seen b.here.own asked_then.pending i) (collect_deed s.0 s.1 reply i)
+          (λ f note on back. (
+            note ∙ ap (λ (n : SessionNote). answered_with n o.op reply) b.note,
+            subst (λ (z : ℕ × SessionNote). Tells store_meaning f.progress z.0 (length z.1.answered) o reply) (λ j. (b.session j, b.note j))
+            (tells_on t.progress f.progress back.stands.notes t.session (length t.note.answered) o reply b.here.accounts.completed on back.stands.accounts steps.1),
+          ))
+      by (Combines batch) i =
+          let steps = turn_steps caller.slot t o b.desk s.0 (Combines batch) i b.here asked_then in
+          let same : unplaced (batch_of b.desk).records ≡ unplaced batch.records = ap (λ (z : BatchView). unplaced z.records) (sym i.4) in
+          noted_put (Combines batch) ClaimedThere s.0 (record t.note { batch = unplaced batch.records }) s.1 steps.0 (claim_noted view_of t p v b.desk s.0 t.note b.held b.seen ∙ ap (λ z. record t.note { batch = z }) same) (claim_deed s.0 s.1 i.0 i.1 i.3)
+          (λ f note on back. (
+            note ∙ ap (λ (n : SessionNote). record n { batch = unplaced batch.records }) b.note,
+            subst (λ (z : BatchView). 0 < length z.records) (sym i.4) (some_claimed b.desk i.2),
+            steps.1,
+          ))
+      by Waits i =
+          let same : view_of w ≡ view_of v = s.1 ∙ (ap TheDesk i.1 ∙ sym b.seen) in
+          let deed = look_deed s.0 s.1 i.0 i.1 in record {
+            may = subst (λ d. DeskMayBePut d sessions t p w) (sym deed) (may_put_same_desk caller k t p v b sessions is w same);
+            back = λ l ns can.
+                let f = back_same_desk caller k t p v b sessions is w same l ns can in
+                subst (λ d. HasTurned k (desk_back d sessions t p w l) o Waits) (sym deed) (record { back = is_back k _ k.note f; turns = f.note });
+          }
