@@ -19,3 +19,4 @@ pub mod Combined
 pub mod Requested
 pub mod Turning
 pub mod Closing
+pub mod Watched
