@@ -17,5 +17,6 @@ pub mod Fresh
 pub mod Joined
 pub mod Combined
 pub mod Requested
+pub mod Resumed
 pub mod Turning
 pub mod Closing
