@@ -19,4 +19,5 @@ pub mod Combined
 pub mod Requested
 pub mod Resumed
 pub mod Turning
+pub mod Invoked
 pub mod Closing

@@ -33,7 +33,7 @@ pub record Resumed (k m : K) : Type 0 where
 pub resumed_first : (k : K) → Resumed k k
 resumed_first k = record { session = refl; held = refl; note = refl; extends = store_laws.extends_self k.progress }
 
-free_by : (caller : Caller) (k m : K) → m.session ≡ k.session → m.held ≡ [] → Extends k.progress m.progress → IsFree caller k → IsFree caller m
+pub free_by : (caller : Caller) (k m : K) → m.session ≡ k.session → m.held ≡ [] → Extends k.progress m.progress → IsFree caller k → IsFree caller m
 free_by caller k m session_is held extends f = record {
   own = session_is ∙ (f.own ∙ ap (λ (z : Config). session z caller.node caller.slot) extends.config);
   within = subst (λ (z : Config). caller.slot < z.slots) extends.config f.within;

@@ -199,7 +199,7 @@ module _ (caller : Caller) (k t : K) (p : ℕ) (v w : Value) (o : Pending) (b : 
           (λ f note on back. (
             note ∙ ap (λ (n : SessionNote). answered_with n o.op reply) b.note,
             subst (λ (z : ℕ × SessionNote). Tells store_meaning f.progress z.0 (length z.1.answered) o reply) (λ j. (b.session j, b.note j))
-            (tells_on t.progress f.progress back.stands.notes t.session (length t.note.answered) o reply b.here.accounts.completed on back.stands.accounts steps.1),
+                (tells_on t.progress f.progress back.stands.notes t.session (length t.note.answered) o reply b.here.accounts.completed on back.stands.accounts steps.1),
           ))
       by (Combines batch) i =
           let steps = turn_steps caller.slot t o b.desk s.0 (Combines batch) i b.here asked_then in
