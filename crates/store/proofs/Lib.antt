@@ -17,6 +17,8 @@ pub mod Fresh
 pub mod Joined
 pub mod Combined
 pub mod Requested
+pub mod Resumed
 pub mod Turning
+pub mod Invoked
 pub mod Closing
 pub mod Watched

@@ -42,6 +42,7 @@ use Rattle.store.specs.Sessions.{request_of}
 use Rattle.store.specs.Shelving.{IsSized, store_rules, view_of}
 use Rattle.store.specs.Standing.{SessionKnown}
 use Rattle.store.proofs.AtDesk.{Own, own, post_steps, turn_steps}
+use Rattle.store.proofs.Resumed.{asked_by}
 use Rattle.store.proofs.Requested.{some_claimed, tells_on}
 use Rattle.store.proofs.TakenDesk.{BackDesk, DeskMayBePut, TookDesk, back_desk, back_same_desk, desk_back, desk_or, may_put_desk, may_put_same_desk}
 
@@ -118,11 +119,7 @@ stage_is k s slot x y own at node =
 
 module _ (caller : Caller) (k t : K) (p : ℕ) (v w : Value) (o : Pending) (b : TookDesk caller k t p v) (sessions : List K) (is : sessions ≡ t ∷ []) (asked : HasAsked k o) where
   asked_then : HasAsked t o
-  asked_then = record {
-    pending = ap (λ (n : SessionNote). n.pending) b.note ∙ asked.pending;
-    alone = ap (λ (n : SessionNote). n.batch) b.note ∙ asked.alone;
-    few = subst (λ (n : SessionNote). suc (length n.answered) < 2 ^ 64) (sym b.note) asked.few;
-  }
+  asked_then = asked_by k t o b.note asked
 
   -- the deed, by the stage of the own slot before and after
   deed_is : (y : DeskView) (before after : Slot) → view_of w ≡ TheDesk y → At caller.slot before b.desk.slots → At caller.slot after y.slots → b.desk.node ≡ y.node → deed_in sessions w ≡ deed_by (Some before.stage) (Some after.stage)
@@ -202,7 +199,7 @@ module _ (caller : Caller) (k t : K) (p : ℕ) (v w : Value) (o : Pending) (b : 
           (λ f note on back. (
             note ∙ ap (λ (n : SessionNote). answered_with n o.op reply) b.note,
             subst (λ (z : ℕ × SessionNote). Tells store_meaning f.progress z.0 (length z.1.answered) o reply) (λ j. (b.session j, b.note j))
-            (tells_on t.progress f.progress back.stands.notes t.session (length t.note.answered) o reply b.here.accounts.completed on back.stands.accounts steps.1),
+                (tells_on t.progress f.progress back.stands.notes t.session (length t.note.answered) o reply b.here.accounts.completed on back.stands.accounts steps.1),
           ))
       by (Combines batch) i =
           let steps = turn_steps caller.slot t o b.desk s.0 (Combines batch) i b.here asked_then in

@@ -1,14 +1,18 @@
 -- What a session does at its desk with a request of its own, from its post to its answer.
-use Rattle.std.specs.Prelude.{◌≡◌, ℕ, ◌<◌, ◌≤◌, [], length, Some}
+use Rattle.std.specs.Prelude.{◌≡◌, ℕ, ◌<◌, ◌≤◌, [], length, Some, Result, Ok, Err}
 use Rattle.oplog.specs.Operations.{Operation}
 use Rattle.combiner.specs.Desks.{posted}
 use Rattle.combiner.specs.declared.slots.Reply.{Reply}
+use Rattle.combiner.specs.declared.slots.Reply.TheVariants.{Placed, Ended}
 use Rattle.replica.specs.StoreMeaning.{store_meaning}
 use Rattle.progress.specs.declared.sessions.Pending.{Pending}
 use Rattle.progress.specs.Accounts.{Extends}
 use Rattle.progress.specs.Batches.{Ascend}
 use Rattle.progress.specs.Moves.{answered_with, unplaced}
 use Rattle.progress.specs.Told.{Tells}
+use Rattle.store.specs.declared.answers.Answer.{Answer}
+use Rattle.store.specs.declared.answers.StoreRefused.{StoreRefused}
+use Rattle.store.specs.declared.answers.StoreRefused.TheVariants.{Ended as TheEnd}
 use Rattle.store.specs.declared.desks.Turn.{Turn}
 use Rattle.store.specs.declared.desks.Turn.TheVariants.{Collects, Combines, Waits}
 use Rattle.store.specs.declared.values.Value.{Value}
@@ -60,3 +64,9 @@ pub record HasCompleted (k after : SessionKnown) (o : Pending) (reply : Reply) :
   pub back : IsBack k after
   pub note : after.note ≡ answered_with k.note o.op reply
   pub tells : Tells store_meaning after.progress k.session (length k.note.answered) o reply
+
+-- ---- what the call answers then
+
+abbrev pub said : Reply → Result Answer StoreRefused
+said (Placed i reply) = Ok (record { index = i; reply = reply })
+said Ended = Err TheEnd

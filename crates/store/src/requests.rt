@@ -75,9 +75,9 @@ pub(crate) fn post_only<R: Wait>(
     requires idle { (k : SessionKnown) × IsSession seat.old k × IsFree caller k × (k.note.pending ≡ None)
         × IsOnShelf shared.shelf.now.places shared.nodes shared.catalogue.now k }
     ensures same { seat.new.shelf ≡ seat.old.shelf }
-    ensures refused { (r : TheRefusal) → early_refusal shared.catalogue.now Update asked.entry.program asked.entry.argument.now ≡ Some r
+    ensures refused { (r : TheRefusal) → early_refusal shared.entry.catalogue.now Update asked.entry.program asked.entry.argument.now ≡ Some r
         → (result ≡ Err r) × (seat.new ≡ seat.old) }
-    ensures posted { early_refusal shared.catalogue.now Update asked.entry.program asked.entry.argument.now ≡ None → IsOk result
+    ensures posted { early_refusal shared.entry.catalogue.now Update asked.entry.program asked.entry.argument.now ≡ None → IsOk result
         × ((k : SessionKnown) → IsSession seat.old k → (after : SessionKnown) × IsSession seat.new after
         × HasPosted k after (record { program = asked.entry.program; argument = asked.entry.argument.now })) }
 {

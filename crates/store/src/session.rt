@@ -6,6 +6,7 @@ ghost use Rattle.progress.specs.Accounts.{Extends, IsWellFormed};
 ghost use Rattle.replica.specs.StoreMeaning.{store_meaning};
 ghost use Rattle.store.specs.declared.answers.StoreRefused.{StoreRefused};
 ghost use Rattle.store.specs.Refusals.{early_refusal};
+ghost use Rattle.store.specs.Requests.{said};
 ghost use Rattle.store.specs.Sessions.{IsOf, IsIdle, TellsUpdate, TellsRead, known_of, session_view};
 
 use crate::answers::{Answer, StoreRefused};
@@ -60,6 +61,16 @@ pub(crate) fn refusal(
     }
 }
 
+// What the call says of what became of its update.
+fn answer_of(reply: Reply) -> Result<Answer, StoreRefused>
+    ensures said { result ≡ said reply }
+{
+    match reply {
+        Reply::Placed { index, reply } => Ok(Answer { index, reply }),
+        Reply::Ended => Err(StoreRefused::Ended),
+    }
+}
+
 impl Session {
     // The session of that slot, with its seat.
     pub(crate) fn new(seat: Seat<Value>, caller: Caller) -> Session
@@ -105,10 +116,7 @@ impl Session {
         let shared = store.shared();
         let asked = Question { program, argument };
         post_only(rt, shared, &mut self.seat, self.caller, asked)?;
-        match complete(rt, shared, &mut self.seat, self.caller) {
-            Reply::Placed { index, reply } => Ok(Answer { index, reply }),
-            Reply::Ended => Err(StoreRefused::Ended),
-        }
+        answer_of(complete(rt, shared, &mut self.seat, self.caller))
     }
 
     /// Runs a read program of the store on the maps of the session's node, once these have seen everything that was completed

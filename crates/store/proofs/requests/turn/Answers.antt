@@ -3,7 +3,8 @@ use Rattle.ownlock.proofs.Seats.{one_known}
 use Rattle.store.specs.Requests.{HasTurned}
 use Rattle.store.specs.Standing.{IsFree, IsOnShelf}
 use Rattle.store.proofs.TakenDesk.{DeskMayBePut, desk_back, is_at_in, may_take_its_desk, took_desk}
-use Rattle.store.proofs.Turning.{asked_then, deed_in, put_turn}
+use Rattle.store.proofs.Resumed.{asked_by}
+use Rattle.store.proofs.Turning.{deed_in, put_turn}
 use Rattle.store.proofs.requests.turn.Goals as goal
 
 pub take-desk-requires-clause-may : goal.take-desk-requires-clause-may
@@ -18,7 +19,7 @@ look_in-turn-requires g c =
     let place = 1 + c.args.shared.nodes + c.args.caller.node in
     let t = c.take-desk.ensures.taken i.0 i.2 in
     let b = took_desk i.0 t.0 c.args.caller place v i.3 (ap (λ n. 1 + n + c.args.caller.node) (sym i.5.nodes_are)) t.1 in
-    record { own = (t.0, i.1, is_at_in c.args.caller i.0 t.0 place v b, asked_then c.args.caller i.0 t.0 place v c.look_in-turn.new.desk i.1 b c.take-desk.new.seat.sessions t.2 i.4) }
+    record { own = (t.0, i.1, is_at_in c.args.caller i.0 t.0 place v b, asked_by i.0 t.0 i.1 b.note i.4) }
 
 pub put-requires-clause-may : goal.put-requires-clause-may
 put-requires-clause-may g c =
