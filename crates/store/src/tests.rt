@@ -8,9 +8,10 @@ ghost use Rattle.store.specs.Refusals.{early_refusal};
 ghost use Rattle.store.specs.Sessions.{fresh_known};
 ghost use Rattle.store.specs.Standing.{SessionKnown, IsFree};
 
+use crate::opening::shelved_places;
 use crate::session::refusal;
-use crate::steps::{Question, Shared, query};
-use crate::values::{Setup, Value, shelved_values};
+use crate::steps::{Caller, Question, Shared, query};
+use crate::values::{Setup, Value};
 use loader::{Catalogue, load_manifest};
 use oplog::Config;
 use ownlock::{LEADER, Seat, Shelf};
@@ -36,12 +37,12 @@ fn reader(alloc: Global) -> Option<Catalogue> {
 // A shelf for two sessions of one node, and their seats.
 fn two_seats(alloc: Global, setup: &Setup) -> Option<(Shelf<Value>, Seat<Value>, Seat<Value>)>
     requires config { IsConfig setup.now.config × (setup.now.config.nodes ≡ 1) × (setup.now.config.slots ≡ 2) }
-    ensures shelf { IfSome result (λ t. t.0.places ≡ 2) }
+    ensures shelf { IfSome result (λ t. t.0.places ≡ 3) }
     ensures own { IfSome result (λ t. (t.1.shelf ≡ t.0.id) × (t.2.shelf ≡ t.0.id)) }
     ensures one { IfSome result (λ t. IsSession t.1 (fresh_known setup.now.config setup.now.catalogue)) }
     ensures other { IfSome result (λ t. IsSession t.2 (record (fresh_known setup.now.config setup.now.catalogue) { session = 1 })) }
 {
-    let values = shelved_values(alloc, &setup.config, &setup.catalogue).ok()?;
+    let values = shelved_places(alloc, &setup.config, &setup.catalogue).ok()?;
     let (shelf, mut other) = Shelf::open(alloc, values, setup).ok()?;
     let one = shelf.split(&mut other);
     Some((shelf, one, other))
@@ -55,18 +56,23 @@ fn ready_read<R: Wait>(
     catalogue: &Catalogue,
 ) -> (u64, ReadAnswer)
     requires own { seat.shelf ≡ shelf.now.id }
-    requires there { shelf.now.places ≡ 2 }
+    requires there { shelf.now.places ≡ 3 }
     requires idle { (k : SessionKnown) × IsSession seat k × IsFree 1 k × (k.progress.catalogue ≡ catalogue.now) }
     requires asked { early_refusal catalogue.now Read 0 ZERO ≡ None }
 {
     shelf.raise(&mut seat, 0);
     let done = shelf.done(&mut seat);
-    let shared = Shared { shelf, catalogue };
+    let shared = Shared {
+        shelf,
+        catalogue,
+        nodes: 1,
+    };
+    let caller = Caller { node: 0, slot: 1 };
     let question = Question {
         program: 0,
         argument: &ZERO,
     };
-    (done, query(rt, shared, &mut seat, 1, question))
+    (done, query(rt, shared, &mut seat, caller, question))
 }
 
 // The log is held by one session while the other reads on a thread of its own.
@@ -78,7 +84,7 @@ fn read_beside<R: Wait + Threads + Sync>(
     catalogue: &Catalogue,
 ) -> (u64, ReadAnswer)
     requires own { (one.shelf ≡ shelf.id) × (other.shelf ≡ shelf.id) }
-    requires there { shelf.places ≡ 2 }
+    requires there { shelf.places ≡ 3 }
     requires one { (k : SessionKnown) × IsSession one k × IsFree 1 k }
     requires other { (k : SessionKnown) × IsSession other k × IsFree 1 k × (k.progress.catalogue ≡ catalogue.now) }
     requires asked { early_refusal catalogue.now Read 0 ZERO ≡ None }
@@ -89,7 +95,7 @@ fn read_beside<R: Wait + Threads + Sync>(
         rt,
         move || {},
         move ||
-            requires { (other.shelf ≡ lent.now.id) × (lent.now.places ≡ 2) × ((k : SessionKnown) × IsSession other k × IsFree 1 k
+            requires { (other.shelf ≡ lent.now.id) × (lent.now.places ≡ 3) × ((k : SessionKnown) × IsSession other k × IsFree 1 k
                 × (k.progress.catalogue ≡ catalogue.now)) × (early_refusal catalogue.now Read 0 ZERO ≡ None) }
         { ready_read(rt, lent, other, catalogue) },
     );
