@@ -1,12 +1,12 @@
 -- The log, and a node's replica and hand, as they are lent to a session, and the steps of every schedule on them.
-use Rattle.std.specs.Prelude.{◌≡◌, ◌<◌, ◌≤◌, max, List, [], ◌∷◌, Option, Some, nat_lt, if◌then◌else◌}
+use Rattle.std.specs.Prelude.{◌≡◌, max, List, [], ◌∷◌, Option, Some, nat_lt, if◌then◌else◌}
 use Rattle.std.specs.Option.{option_and_then}
 use Rattle.oplog.specs.History.{History}
 use Rattle.oplog.specs.Logs.{Log, records_from}
 use Rattle.combiner.specs.Desks.{BatchView}
 use Rattle.schedule.specs.declared.parts.Opening.{Opening}
-use Rattle.schedule.specs.declared.parts.NodeBatch.TheVariants.{Held, InLog}
-use Rattle.schedule.specs.Worlds.{NodeView, written}
+use Rattle.schedule.specs.declared.parts.NodeBatch.TheVariants.{Held}
+use Rattle.schedule.specs.Worlds.{NodeView}
 use Rattle.schedule.specs.Steps.{Part, append, replay, finish, reclaim, rebase}
 use Rattle.store.specs.declared.values.NodeReplica.{NodeReplica}
 use Rattle.store.specs.Lent.{appended, copied, replayed, reclaimed, rebased, CanAppend, CanReplay, CanFollow, CanReclaim, CanRebase}

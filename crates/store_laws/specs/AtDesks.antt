@@ -1,5 +1,5 @@
 -- A node's desk as it is lent to a session, and the steps of every schedule on it.
-use Rattle.std.specs.Prelude.{◌≡◌, ◌≤◌, ℕ, true, List, [], ◌∷◌, Some, None, slice_get}
+use Rattle.std.specs.Prelude.{◌≡◌, ◌≤◌, ℕ, true, [], ◌∷◌, Some, None, slice_get}
 use Rattle.verifier.specs.declared.refusal.Mode.TheVariants.{Update}
 use Rattle.oplog.specs.Operations.{Operation}
 use Rattle.oplog.specs.Logs.{Log}
@@ -13,7 +13,7 @@ use Rattle.schedule.specs.Worlds.{NodeView, answered_batch}
 use Rattle.schedule.specs.Steps.{post, claim, reply, collect}
 use Rattle.store.specs.declared.desks.Turn.TheVariants.{Collects, Combines}
 use Rattle.store.specs.AtDesk.{IsTurn}
-use Rattle.lent_steps.specs.Nodes.{NodeStep, after_steps}
+use Rattle.store_laws.specs.Nodes.{NodeStep, after_steps}
 
 -- the step may be taken, and makes of the node this one; the log is as it was
 abbrev pub Makes : NodeStep → Log → NodeView → NodeView → Type 0

@@ -1,28 +1,21 @@
 -- The calls on a lent desk are steps.
-use Rattle.std.proofs.Common.{◌≡◌, ◌≤◌, ℕ, Bool, true, false, [], ◌∷◌, Option, Some, None, refl, sym, ap, ◌∙◌}
+use Rattle.std.proofs.Common.{◌≡◌, Bool, true, false, Option, Some, None, refl, sym, ap, ◌∙◌}
 use Rattle.std.specs.Prelude.{◌&&◌, cond, nat_le, slice_get, option_map, if◌then◌else◌}
 use Rattle.std.specs.Option.{option_and_then}
 use Rattle.std.proofs.lemmas.Bool.{le-leb}
 use Rattle.std.proofs.lemmas.Option.{none-some}
 use Rattle.verifier.specs.declared.refusal.Mode.TheVariants.{Update}
-use Rattle.oplog.specs.Operations.{Operation}
-use Rattle.oplog.specs.Logs.{Log}
 use Rattle.combiner.specs.declared.slots.Slot.{Slot}
-use Rattle.combiner.specs.declared.slots.Reply.{Reply}
 use Rattle.combiner.specs.Slots.{is_empty}
-use Rattle.combiner.specs.Desks.{DeskView, BatchView, posted, claimed, batch_of, has_request, replied}
+use Rattle.combiner.specs.Desks.{DeskView, claimed, batch_of, has_request, replied}
 use Rattle.replica.specs.StoreMeaning.{is_operation}
-use Rattle.schedule.specs.declared.parts.Opening.{Opening}
 use Rattle.schedule.specs.declared.parts.Written.{Written}
-use Rattle.schedule.specs.declared.parts.NodeBatch.TheVariants.{Absent, Held, InLog}
-use Rattle.schedule.specs.Trace.{Event, Call, Back, Updated}
-use Rattle.schedule.specs.Worlds.{NodeView, answered_batch}
+use Rattle.schedule.specs.declared.parts.NodeBatch.TheVariants.{Absent, Held}
+use Rattle.schedule.specs.Trace.{Call, Back, Updated}
+use Rattle.schedule.specs.Worlds.{answered_batch}
 use Rattle.schedule.specs.Steps.{Part, silent, with_call_or_back, session_at, is_free, no_read, is_idle, no_batch, no_records, appended_batch, post, claim, reply, collect}
-use Rattle.store.specs.declared.desks.Turn.TheVariants.{Collects, Combines}
-use Rattle.store.specs.AtDesk.{IsTurn}
-use Rattle.lent_steps.specs.Nodes.{NodeStep}
-use Rattle.lent_steps.specs.AtDesks.{Makes, PostIsAStep, CollectIsAStep, ClaimIsAStep, ReplyIsAStep}
-use Rattle.lent_steps.proofs.Nodes.{cond_yes, both, one_step}
+use Rattle.store_laws.specs.AtDesks.{PostIsAStep, CollectIsAStep, ClaimIsAStep, ReplyIsAStep}
+use Rattle.store_laws.proofs.Nodes.{cond_yes, both, one_step}
 
 -- ---- post
 

@@ -1,5 +1,5 @@
 -- The calls on a lent log and a lent replica are steps.
-use Rattle.std.proofs.Common.{◌≡◌, ℕ, suc, ◌+◌, ◌-◌, ◌<◌, ◌≤◌, Bool, true, false, [], ◌∷◌, length, Option, Some, None, refl, sym, ap, ◌∙◌, subst, ⊎_elim, arith}
+use Rattle.std.proofs.Common.{◌≡◌, ℕ, suc, ◌+◌, ◌-◌, ◌<◌, ◌≤◌, Bool, true, [], ◌∷◌, length, Option, Some, None, refl, sym, ap, ◌∙◌, subst, ⊎_elim, arith}
 use Rattle.std.specs.Prelude.{◌&&◌, ◌||◌, not, max, cond, nat_le, nat_lt, if◌then◌else◌}
 use Rattle.std.specs.Option.{option_and_then}
 use Rattle.std.proofs.lemmas.Bool.{cases_lt, lt-ltb, le-ltb, le-leb}
@@ -13,8 +13,8 @@ use Rattle.schedule.specs.declared.parts.NodeBatch.TheVariants.{Held}
 use Rattle.schedule.specs.Worlds.{NodeView, room_for, grown, to_run, replayed as node_replayed, reclaimed as log_reclaimed, rebased as node_rebased}
 use Rattle.schedule.specs.Steps.{Part, silent, claimed_batch, with_appended, no_records, append, replay, finish, reclaim, rebase}
 use Rattle.store.specs.declared.values.NodeReplica.{NodeReplica}
-use Rattle.store.specs.Lent.{appended, copied, replayed, reclaimed, rebased, CanAppend, CanReplay, CanFollow, CanReclaim, CanRebase}
-use Rattle.lent_steps.specs.Nodes.{NodeStep, LogAndNode, after_steps, IsNodeOf, AreMade, replays, AppendIsAStep, ReplayIsSteps, FollowIsSteps, ReclaimIsAStep, RebaseIsAStep, RaiseIsSteps}
+use Rattle.store.specs.Lent.{appended, copied, replayed, reclaimed, rebased, CanAppend, CanFollow, CanReclaim, CanRebase}
+use Rattle.store_laws.specs.Nodes.{NodeStep, after_steps, IsNodeOf, AreMade, replays, AppendIsAStep, ReplayIsSteps, FollowIsSteps, ReclaimIsAStep, RebaseIsAStep, RaiseIsSteps}
 
 -- ---- tests
 
@@ -43,6 +43,7 @@ module _ (n : NodeReplica) (node : NodeView) (is : IsNodeOf n node) where
   } where
     part : BatchView → Option Part
     part c = cond (nat_le g.base node.replica.tail && nat_le (room_for g c.records) (room_in g)) (Some (silent (grown g c.records) (with_appended g c node))) None
+
     step : append g node ≡ Some (silent (grown g b.records) (with_appended g b node))
     step = ap (λ x. option_and_then part (claimed_batch x)) held
         ∙ cond_yes _ _ _
@@ -55,15 +56,15 @@ module _ (n : NodeReplica) (node : NodeView) (is : IsNodeOf n node) where
   -- a node that runs no records
   runs_none : (m : Opening) (g : Log) (begin : ℕ) (rs : History) → rs ≡ [] → node.hand.records ≡ []
       → AreMade [] g node g (record {
-          replica = record { tail = n.replica.tail + length rs; maps = after store_meaning m.catalogue n.replica.maps rs };
-          hand = record { begin = begin; records = []; window = n.hand.window };
-        })
+        replica = record { tail = n.replica.tail + length rs; maps = after store_meaning m.catalogue n.replica.maps rs };
+        hand = record { begin = begin; records = []; window = n.hand.window };
+      })
   runs_none m g begin rs e empty = record {
     after = node;
     taken = refl;
     is = record {
       replica = is.replica ∙ subst (λ z. n.replica ≡ record { tail = n.replica.tail + length z; maps = after store_meaning m.catalogue n.replica.maps z }) (sym e)
-        (ap (λ t. record { tail = t; maps = n.replica.maps }) (let same : n.replica.tail ≡ n.replica.tail + 0 = omega arith in same));
+          (ap (λ t. record { tail = t; maps = n.replica.maps }) (let same : n.replica.tail ≡ n.replica.tail + 0 = omega arith in same));
       records = empty;
       window = is.window;
     };
@@ -77,7 +78,7 @@ module _ (n : NodeReplica) (node : NodeView) (is : IsNodeOf n node) where
     taken = one_step (replay m) g node (silent g (node_replayed m (r ∷ rs) node)) (ap part (is.records ∙ e));
     is = record {
       replica = ap (λ x. record { tail = x.tail + length (r ∷ rs); maps = after store_meaning m.catalogue x.maps (r ∷ rs) }) is.replica
-        ∙ ap (λ z. record { tail = n.replica.tail + length z; maps = after store_meaning m.catalogue n.replica.maps z }) (sym e);
+          ∙ ap (λ z. record { tail = n.replica.tail + length z; maps = after store_meaning m.catalogue n.replica.maps z }) (sym e);
       records = refl;
       window = is.window;
     };
@@ -102,12 +103,14 @@ module _ (n : NodeReplica) (node : NodeView) (is : IsNodeOf n node) where
   } where
     part : History → Option Part
     part hs = cond (not (no_records hs) || (nat_le g.base node.replica.tail && nat_lt node.replica.tail (tail_of g))) (Some (silent g (node_replayed m (to_run g node.replica.tail hs) node))) None
+
     below : n.replica.tail < tail_of g
     below =
         let above : g.base ≤ n.replica.tail = can.copy.above in
         let some : length (records_from g n.replica.tail) ≡ suc (length rs) = ap length e in
         let left : length (records_from g n.replica.tail) ≡ length g.records - (n.replica.tail - g.base) = length-drop (n.replica.tail - g.base) g.records in
         omega arith
+
     step : replay m g node ≡ Some (silent g (node_replayed m (records_from g node.replica.tail) node))
     step = ap part (is.records ∙ empty)
         ∙ cond_yes _ _ _
