@@ -11,8 +11,8 @@ use Rattle.ownlock.specs.declared.known.Known.{Known}
 use Rattle.ownlock.specs.Rules.{Rules}
 use Rattle.ownlock.specs.Words.{word_of}
 use Rattle.ownlock.specs.Seats.{At, HoldsNone}
-use Rattle.ownlock.specs.Knowledge.{AllAgree}
-use Rattle.ownlock.specs.Invariant.{LockInvariant, HeldBySome, Closes}
+use Rattle.ownlock.specs.Knowledge.{AllAgree, Closes}
+use Rattle.ownlock.specs.Invariant.{LockInvariant, HeldBySome}
 use Rattle.ownlock.proofs.Keeps.{at_below, at_one}
 
 all_at : {A : Type 0} (P : A → Type 0) (xs : List A) → ((i : ℕ) (x : A) → At i x xs → P x) → AllByRecursion P xs

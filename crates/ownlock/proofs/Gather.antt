@@ -6,8 +6,7 @@ use Rattle.atomic_table.proofs.Lists.{at_longer, at_last}
 use Rattle.ownlock.specs.declared.known.Known.{Known}
 use Rattle.ownlock.specs.Rules.{Rules}
 use Rattle.ownlock.specs.Seats.{At, ShelfId, SeatView, IsSession, HoldsNone}
-use Rattle.ownlock.specs.Knowledge.{AllIdle, Agreed}
-use Rattle.ownlock.specs.Invariant.{Closes}
+use Rattle.ownlock.specs.Knowledge.{AllIdle, Closes, Agreed}
 use Rattle.ownlock.proofs.Keeps.{at_below, at_one, at_only}
 use Rattle.ownlock.proofs.Seats.{at_append, at_behind, at_snoc_last, none_joined}
 

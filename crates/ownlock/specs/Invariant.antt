@@ -79,15 +79,3 @@ module _ {P N V : Type 0} (R : Rules P N V) where
   -- the word of the completed tail is raised: the seat knows a progress with the completed tail so raised
   abbrev pub done_raised : Step (Option V) → Me (Option V) (View P N V) → ℕ → Me (Option V) (View P N V) → Type 0
   done_raised st m r m' = (k : Known P N V) → m.0 ≡ k ∷ [] → (before : P) × Later R k before × ((notes : List N) × Possible R k (R.raised before st.first) notes) × (m' ≡ (with_progress k (R.raised before st.first) ∷ [], m.1))
-
-  -- each session with a number below this count is in the view
-  abbrev pub HasAllSessions : ℕ → View P N V → Type 0
-  HasAllSessions count v = (q : ℕ) → q < count → (i : ℕ) × (k : Known P N V) × At i k v × (k.session ≡ q)
-
-  -- at the end: each value agrees with a progress that has grown from every session's, and with the notes of all
-  abbrev pub Closes : ℕ → View P N V → List (Option V) → Type 0
-  Closes sessions v slots =
-      (progress : P) × (notes : List N) × R.Accounts progress notes × (length notes ≡ sessions)
-      × ((i : ℕ) (k : Known P N V) → At i k v → R.Extends k.progress progress × At k.session k.note notes)
-      × AllAgree R progress notes slots
-      × HasAllSessions sessions v

@@ -2,7 +2,7 @@
 use Rattle.std.specs.Prelude.{◌≡◌, ℕ, ◌<◌, List, [], ◌∷◌, map, length, slice_set, Option, Some}
 use Rattle.ownlock.specs.declared.known.Known.{Known}
 use Rattle.ownlock.specs.Rules.{Rules, leader}
-use Rattle.ownlock.specs.Seats.{At, ShelfId, SeatView, IsSession, IsNotHeld, place_of, holding}
+use Rattle.ownlock.specs.Seats.{At, View, ShelfId, SeatView, IsSession, IsNotHeld, place_of, holding}
 
 module _ {P N V : Type 0} (R : Rules P N V) where
   -- the values that these places had when they were taken agree
@@ -35,6 +35,18 @@ module _ {P N V : Type 0} (R : Rules P N V) where
   -- the value of each place agrees with this progress and these notes
   abbrev pub AllAgree : P → List N → List (Option V) → Type 0
   AllAgree progress notes slots = (p : ℕ) → p < length slots → (x : V) × At p (Some x) slots × R.AgreesWith p progress notes x
+
+  -- each session with a number below this count is in the view
+  abbrev pub HasAllSessions : ℕ → View P N V → Type 0
+  HasAllSessions count v = (q : ℕ) → q < count → (i : ℕ) × (k : Known P N V) × At i k v × (k.session ≡ q)
+
+  -- at the end: each value agrees with one progress, which has grown from the one of each of these sessions, and with the notes that they bring, which are all notes
+  abbrev pub Closes : ℕ → View P N V → List (Option V) → Type 0
+  Closes sessions v slots =
+      (progress : P) × (notes : List N) × R.Accounts progress notes × (length notes ≡ sessions)
+      × ((i : ℕ) (k : Known P N V) → At i k v → R.Extends k.progress progress × At k.session k.note notes)
+      × AllAgree progress notes slots
+      × HasAllSessions sessions v
 
   -- each session with a number below this count has one of the seats
   abbrev pub AllHaveSeats : ℕ → List (SeatView P N V) → Type 0

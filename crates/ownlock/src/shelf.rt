@@ -3,8 +3,7 @@ ghost use Rattle.std.specs.Prelude.{◌≡◌, ◌<◌, ◌≤◌, max, List, []
 ghost use Rattle.std.specs.Mem.Slots.{slots_items, slots_len, IsFull};
 ghost use Rattle.ownlock.specs.declared.known.Known.{Known};
 ghost use Rattle.ownlock.specs.Seats.{IsSession, left_with, with_progress, all_sessions, HoldsNone};
-ghost use Rattle.ownlock.specs.Knowledge.{Later, Acquired, Possible, MayTake, MayPut, AllAgree, Agreed, AllIdle};
-ghost use Rattle.ownlock.specs.Invariant.{Closes};
+ghost use Rattle.ownlock.specs.Knowledge.{Later, Acquired, Possible, MayTake, MayPut, AllAgree, Closes, Agreed, AllIdle};
 ghost use Rattle.ownlock.specs.Held.{held_place};
 
 use crate::change::Change;
@@ -187,10 +186,12 @@ impl<V: Shelved> Shelf<V> {
             .fetch_max::<RaiseDone>(&mut seat.pass, word, n);
     }
 
-    fn join(&self, seat: &mut Seat<V>, other: Seat<V>)
+    /// The sessions of another seat come to this one, behind its own. None of them holds a place.
+    pub fn join(&self, seat: &mut Seat<V>, other: Seat<V>)
         requires own { (seat.old.shelf ≡ self.now.id) × (other.shelf ≡ self.now.id) }
         requires idle { HoldsNone seat.old.sessions × HoldsNone other.sessions }
-        ensures { (seat.new.shelf ≡ seat.old.shelf) × (seat.new.sessions ≡ seat.old.sessions ++ other.sessions) }
+        ensures same { seat.new.shelf ≡ seat.old.shelf }
+        ensures joined { seat.new.sessions ≡ seat.old.sessions ++ other.sessions }
     {
         self.table
             .shared
@@ -207,8 +208,9 @@ impl<V: Shelved> Shelf<V> {
         unload(table.close(), room)
     }
 
-    // The seat has every session.
-    fn close_with(self, seat: Seat<V>) -> Vec<Option<V>>
+    /// Takes the shelf and one seat that has every session, none of which holds a place, and gives the value of each place back.
+    /// All agree with one progress, which has grown from the one of each session, and with the notes of all.
+    pub fn close_joined(self, seat: Seat<V>) -> Vec<Option<V>>
         requires own { seat.shelf ≡ self.id }
         requires all { length seat.sessions ≡ length (V.first_notes self.setup) }
         requires idle { HoldsNone seat.sessions }
@@ -235,6 +237,6 @@ impl<V: Shelved> Shelf<V> {
             self.join(&mut all, next);
         }
         seats.destroy_empty();
-        self.close_with(all)
+        self.close_joined(all)
     }
 }

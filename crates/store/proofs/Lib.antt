@@ -6,8 +6,14 @@ pub mod Taken
 pub mod Played
 pub mod Rooms
 pub mod Finished
+pub mod Batched
 pub mod Appended
 pub mod Opened
-pub mod Closing
 pub mod Filled
 pub mod AtDesk
+pub mod TakenDesk
+pub mod Left
+pub mod Joined
+pub mod Combined
+pub mod Requested
+pub mod Closing

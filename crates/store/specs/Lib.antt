@@ -11,3 +11,4 @@ pub mod Held
 pub mod Standing
 pub mod Places
 pub mod Combining
+pub mod Requests

@@ -7,7 +7,7 @@ use Rattle.ownlock.specs.Seats.{At}
 use Rattle.loader.specs.CatalogueView.{CatalogueView}
 use Rattle.oplog.specs.declared.records.Record.{Record}
 use Rattle.oplog.specs.declared.answers.Appended.{Appended}
-use Rattle.oplog.specs.declared.configuration.TheConstants.{MAX_LIMIT}
+use Rattle.oplog.specs.declared.configuration.TheConstants.{MAX_LIMIT, MAX_NODES}
 use Rattle.oplog.specs.Logs.{Log as LogView, tail_of, left_of, room_in}
 use Rattle.oplog.specs.History.{History, maps_after}
 use Rattle.oplog.specs.Sessions.{IsSessionOf, session}
@@ -106,6 +106,7 @@ pub record IsFree (caller : Caller) (k : SessionKnown) : Type 0 where
 -- its store has this catalogue and so many nodes, each with a replica and a desk on the shelf behind the log
 pub record IsOnShelf (places nodes : ℕ) (c : CatalogueView) (k : SessionKnown) : Type 0 where
   pub places_are : places ≡ 1 + nodes + nodes
+  pub few : nodes ≤ MAX_NODES
   pub nodes_are : k.progress.config.nodes ≡ nodes
   pub catalogue_is : k.progress.catalogue ≡ c
 

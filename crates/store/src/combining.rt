@@ -7,7 +7,7 @@ ghost use Rattle.combiner.specs.declared.slots.Reply.{Reply as TheReply};
 ghost use Rattle.ownlock.specs.Seats.{IsSession};
 ghost use Rattle.store.specs.AtDesk.{IsReady};
 ghost use Rattle.store.specs.Combining.{HasClaimed, HasCombined, IsAnswerOf};
-ghost use Rattle.store.specs.Standing.{SessionKnown, IsFree, IsOnShelf};
+ghost use Rattle.store.specs.Standing.{SessionKnown, Stands, IsFree, IsOnShelf};
 
 use crate::held::reply_in;
 use crate::steps::{Caller, Shared, append_and_copy, catch_up};
@@ -34,17 +34,16 @@ pub(crate) fn combine<R: Wait>(
     ensures same { seat.new.shelf ≡ seat.old.shelf }
     ensures combined { (k : SessionKnown) → IsSession seat.old k → (after : SessionKnown) × IsSession seat.new after × HasCombined k after }
 {
-    let mut node = shared.shelf.take(rt, seat, 1 + caller.node);
+    let Shared {
+        shelf,
+        catalogue,
+        nodes: _,
+    } = shared;
+    let mut node = shelf.take(rt, seat, 1 + caller.node);
     let appended = append_and_copy(rt, shared, seat, &mut node.value, batch.records());
     let mut replies = Replies::new(appended.first, appended.count);
-    catch_up(
-        shared.shelf,
-        seat,
-        &mut node.value,
-        shared.catalogue,
-        &mut replies,
-    );
-    shared.shelf.put::<Brand>(seat, node);
+    catch_up(shelf, seat, &mut node.value, catalogue, &mut replies);
+    shelf.put::<Brand>(seat, node);
     answer_batch(&mut batch, appended, &replies);
     hand_over(rt, shared, seat, caller, batch);
 }
@@ -91,7 +90,7 @@ fn hand_over<R: Wait>(
 )
     requires own { seat.old.shelf ≡ shared.shelf.now.id }
     requires ready { (k : SessionKnown) × IsSession seat.old k × IsFree caller k × IsReady k batch
-        × IsOnShelf shared.shelf.now.places shared.nodes shared.catalogue.now k }
+        × IsOnShelf shared.shelf.now.places shared.nodes shared.catalogue.now k × Stands k }
     ensures same { seat.new.shelf ≡ seat.old.shelf }
     ensures combined { (k : SessionKnown) → IsSession seat.old k → (after : SessionKnown) × IsSession seat.new after × HasCombined k after }
 {

@@ -47,11 +47,11 @@ collect_is_a_step s g node y answer turn =
 -- ---- claim
 
 pub claim_is_a_step : ClaimIsAStep
-claim_is_a_step s g node y b absent requests turn =
+claim_is_a_step s g node y b absent turn =
     one_step claim g node (silent g (record node { desk = claimed node.desk; batch = Held (batch_of node.desk) }))
-    (cond_yes _ _ _ (both (no_batch node.batch) (has_request node.desk) (ap no_batch absent) requests))
-    ∙ ap (λ d. Some (record { log = g; node = record node { desk = d; batch = Held (batch_of node.desk) } })) (sym turn.2)
-    ∙ ap (λ c. Some (record { log = g; node = record node { desk = y; batch = Held c } })) (sym turn.3)
+    (cond_yes _ _ _ (both (no_batch node.batch) (has_request node.desk) (ap no_batch absent) turn.2))
+    ∙ ap (λ d. Some (record { log = g; node = record node { desk = d; batch = Held (batch_of node.desk) } })) (sym turn.3)
+    ∙ ap (λ c. Some (record { log = g; node = record node { desk = y; batch = Held c } })) (sym turn.4)
 
 -- ---- reply
 

@@ -178,7 +178,7 @@ pub replay_is_steps : ReplayIsSteps
 replay_is_steps m g n node is can = replay_made n node is m g n.hand.records refl
 
 pub follow_is_steps : FollowIsSteps
-follow_is_steps m g n node is empty can = follow_made n node is m g empty can (records_from g n.replica.tail) refl
+follow_is_steps m g n node is can = follow_made n node is m g can.empty can (records_from g n.replica.tail) refl
 
 pub reclaim_is_a_step : ReclaimIsAStep
 reclaim_is_a_step g n node is can = reclaim_made n node is g can

@@ -4,7 +4,7 @@ use Rattle.verifier.specs.declared.refusal.Mode.TheVariants.{Update}
 use Rattle.oplog.specs.Operations.{Operation}
 use Rattle.oplog.specs.Logs.{Log}
 use Rattle.combiner.specs.declared.slots.Reply.{Reply}
-use Rattle.combiner.specs.Desks.{DeskView, BatchView, posted, has_request, replied}
+use Rattle.combiner.specs.Desks.{DeskView, BatchView, posted, replied}
 use Rattle.replica.specs.StoreMeaning.{is_operation}
 use Rattle.schedule.specs.declared.parts.Opening.{Opening}
 use Rattle.schedule.specs.declared.parts.Written.{Written}
@@ -32,7 +32,7 @@ CollectIsAStep = (s : ℕ) (g : Log) (node : NodeView) (y : DeskView) (answer : 
 -- to claim the posted requests, where the node has no batch, is the step claim
 abbrev pub ClaimIsAStep : Type 0
 ClaimIsAStep =
-    (s : ℕ) (g : Log) (node : NodeView) (y : DeskView) (b : BatchView) → node.batch ≡ Absent → has_request node.desk ≡ true → IsTurn s node.desk y (Combines b)
+    (s : ℕ) (g : Log) (node : NodeView) (y : DeskView) (b : BatchView) → node.batch ≡ Absent → IsTurn s node.desk y (Combines b)
     → Makes claim g node (record node { desk = y; batch = Held b })
 
 -- to hand out the answers of a batch in the log is the step reply, where the hand, the replica and the completed tail are as they were

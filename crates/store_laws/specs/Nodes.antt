@@ -56,7 +56,7 @@ ReplayIsSteps = (m : Opening) (g : Log) (n : NodeReplica) (node : NodeView) → 
 -- to copy and run what the replica lacks is the step replay of a node that has no copied records
 abbrev pub FollowIsSteps : Type 0
 FollowIsSteps =
-    (m : Opening) (g : Log) (n : NodeReplica) (node : NodeView) → IsNodeOf n node → n.hand.records ≡ [] → CanFollow m.catalogue g n
+    (m : Opening) (g : Log) (n : NodeReplica) (node : NodeView) → IsNodeOf n node → CanFollow m.catalogue g n
     → AreMade (replays m (records_from g n.replica.tail)) g node g (replayed m.catalogue (copied g n))
 
 -- to make the replica the log's base is the step reclaim

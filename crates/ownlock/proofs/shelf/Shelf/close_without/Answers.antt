@@ -1,7 +1,8 @@
 use Rattle.std.proofs.Common.{sym, ap, ◌∙◌, subst, length, []}
 use Rattle.atomic_table.specs.Table.{Final}
 use Rattle.std.specs.Mem.Slots.{slots_items}
-use Rattle.ownlock.specs.Invariant.{LockInvariant, Closes}
+use Rattle.ownlock.specs.Knowledge.{Closes}
+use Rattle.ownlock.specs.Invariant.{LockInvariant}
 use Rattle.ownlock.proofs.Ends.{closes_without}
 use Rattle.ownlock.proofs.shelf.Shelf.close_without.Goals as goal
 

@@ -1,9 +1,9 @@
 use Rattle.std.proofs.Common.{sym, ap, ◌∙◌, subst, length}
 use Rattle.std.specs.Mem.Slots.{slots_items}
 use Rattle.ownlock.specs.Seats.{HoldsNone}
-use Rattle.ownlock.specs.Invariant.{Closes}
+use Rattle.ownlock.specs.Knowledge.{Closes}
 use Rattle.ownlock.proofs.Ends.{closes}
-use Rattle.ownlock.proofs.shelf.Shelf.close_with.Goals as goal
+use Rattle.ownlock.proofs.shelf.Shelf.close_joined.Goals as goal
 
 pub returns-clause-values : goal.returns-clause-values
 returns-clause-values g c =
