@@ -1,20 +1,22 @@
 -- The calls on a lent log and a lent replica are steps.
 use Rattle.std.proofs.Common.{◌≡◌, ℕ, suc, ◌+◌, ◌-◌, ◌<◌, ◌≤◌, Bool, true, [], ◌∷◌, length, Option, Some, None, refl, sym, ap, ◌∙◌, subst, ⊎_elim, arith}
-use Rattle.std.specs.Prelude.{◌&&◌, ◌||◌, not, max, cond, nat_le, nat_lt, if◌then◌else◌}
+use Rattle.std.specs.Prelude.{option_map, ◌&&◌, ◌||◌, not, max, cond, nat_le, nat_lt, if◌then◌else◌}
 use Rattle.std.specs.Option.{option_and_then}
 use Rattle.std.proofs.lemmas.Bool.{cases_lt, lt-ltb, le-ltb, le-leb}
 use Rattle.std.proofs.lemmas.List.{length-drop}
-use Rattle.oplog.specs.History.{History, after}
+use Rattle.oplog.specs.History.{History, ReadEffect, after}
 use Rattle.oplog.specs.Logs.{Log, tail_of, room_in, records_from}
 use Rattle.combiner.specs.Desks.{BatchView}
 use Rattle.replica.specs.StoreMeaning.{store_meaning}
 use Rattle.schedule.specs.declared.parts.Opening.{Opening}
+use Rattle.schedule.specs.declared.parts.BegunRead.{BegunRead}
 use Rattle.schedule.specs.declared.parts.NodeBatch.TheVariants.{Held}
 use Rattle.schedule.specs.Worlds.{NodeView, room_for, grown, to_run, replayed as node_replayed, reclaimed as log_reclaimed, rebased as node_rebased}
-use Rattle.schedule.specs.Steps.{Part, silent, claimed_batch, with_appended, no_records, append, replay, finish, reclaim, rebase}
+use Rattle.schedule.specs.Trace.{Back, ReadBack}
+use Rattle.schedule.specs.Steps.{Part, silent, claimed_batch, with_appended, no_records, append, replay, finish, reclaim, rebase, session_at, with_call_or_back, with_read, read_answer}
 use Rattle.store.specs.declared.values.NodeReplica.{NodeReplica}
 use Rattle.store.specs.Lent.{appended, copied, replayed, reclaimed, rebased, CanAppend, CanFollow, CanReclaim, CanRebase}
-use Rattle.store_laws.specs.Nodes.{NodeStep, after_steps, IsNodeOf, AreMade, replays, AppendIsAStep, ReplayIsSteps, FollowIsSteps, ReclaimIsAStep, RebaseIsAStep, RaiseIsSteps}
+use Rattle.store_laws.specs.Nodes.{NodeStep, after_steps, IsNodeOf, AreMade, replays, AppendIsAStep, ReplayIsSteps, FollowIsSteps, ReclaimIsAStep, RebaseIsAStep, RaiseIsSteps, AnswerIsAStep}
 
 -- ---- tests
 
@@ -188,3 +190,20 @@ rebase_is_a_step g n node is can = rebase_made n node is g can
 
 pub raise_is_steps : RaiseIsSteps
 raise_is_steps g n node is = raise_made n node is g
+
+pub answer_is_a_step : AnswerIsAStep
+answer_is_a_step m s read e g n node is begun reached completed replies =
+    ap (λ o. option_and_then part (option_and_then (λ r. r) o)) begun
+    ∙ cond_yes _ _ _
+    (both (nat_le read.seen node.replica.tail) (nat_le node.replica.tail g.done)
+    (le-leb read.seen node.replica.tail (subst (λ t. read.seen ≤ t) (sym same) reached))
+    (le-leb node.replica.tail g.done (subst (λ t. t ≤ g.done) (sym same) completed)))
+    ∙ ap (λ r. option_map (told r.tail) (store_meaning.read m.catalogue read.op r.maps)) is.replica
+    ∙ ap (λ o. option_map (told n.replica.tail) o) replies
+  where
+    same : node.replica.tail ≡ n.replica.tail
+    same = ap (λ r. r.tail) is.replica
+    told : ℕ → ReadEffect → Part
+    told point f = with_call_or_back (Back (session_at node s) (ReadBack (record { point = point; reply = f.reply }))) g (with_read node s None)
+    part : BegunRead → Option Part
+    part r = cond (nat_le r.seen node.replica.tail && nat_le node.replica.tail g.done) (option_map (told node.replica.tail) (store_meaning.read m.catalogue r.op node.replica.maps)) None

@@ -1,13 +1,16 @@
 -- The log, and a node's replica and hand, as they are lent to a session, and the steps of every schedule on them.
 use Rattle.std.specs.Prelude.{◌≡◌, max, List, [], ◌∷◌, Option, Some, nat_lt, if◌then◌else◌}
 use Rattle.std.specs.Option.{option_and_then}
-use Rattle.oplog.specs.History.{History}
+use Rattle.oplog.specs.History.{History, ReadEffect}
 use Rattle.oplog.specs.Logs.{Log, records_from}
 use Rattle.combiner.specs.Desks.{BatchView}
+use Rattle.replica.specs.StoreMeaning.{store_meaning}
 use Rattle.schedule.specs.declared.parts.Opening.{Opening}
+use Rattle.schedule.specs.declared.parts.BegunRead.{BegunRead}
 use Rattle.schedule.specs.declared.parts.NodeBatch.TheVariants.{Held}
 use Rattle.schedule.specs.Worlds.{NodeView}
-use Rattle.schedule.specs.Steps.{Part, append, replay, finish, reclaim, rebase}
+use Rattle.schedule.specs.Trace.{Back, ReadBack}
+use Rattle.schedule.specs.Steps.{Part, session_at, with_call_or_back, with_read, append, replay, finish, read_answer, reclaim, rebase}
 use Rattle.store.specs.declared.values.NodeReplica.{NodeReplica}
 use Rattle.store.specs.Lent.{appended, copied, replayed, reclaimed, rebased, CanAppend, CanReplay, CanFollow, CanReclaim, CanRebase}
 
@@ -72,3 +75,11 @@ abbrev pub RaiseIsSteps : Type 0
 RaiseIsSteps =
     (g : Log) (n : NodeReplica) (node : NodeView) → IsNodeOf n node
     → AreMade (if nat_lt g.done n.replica.tail then finish ∷ [] else []) g node (record g { done = max g.done n.replica.tail }) n
+
+-- to answer a read that was begun at a slot, on a replica that has come to what the read saw completed and is completed itself, is the
+-- step readanswer, whose event says the replica's tail and the reply there
+abbrev pub AnswerIsAStep : Type 0
+AnswerIsAStep =
+    (m : Opening) (s : ℕ) (read : BegunRead) (e : ReadEffect) (g : Log) (n : NodeReplica) (node : NodeView) → IsNodeOf n node → slice_get node.reads s ≡ Some (Some read)
+    → read.seen ≤ n.replica.tail → n.replica.tail ≤ g.done → store_meaning.read m.catalogue read.op n.replica.maps ≡ Some e
+    → read_answer m s g node ≡ Some (with_call_or_back (Back (session_at node s) (ReadBack (record { point = n.replica.tail; reply = e.reply }))) g (with_read node s None))

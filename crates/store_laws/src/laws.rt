@@ -9,7 +9,7 @@ ghost use Rattle.progress.specs.declared.sessions.SessionNote.{SessionNote};
 ghost use Rattle.store.specs.declared.values.Value.{Value};
 ghost use Rattle.store.specs.Shelving.{store_rules};
 ghost use Rattle.store_laws.specs.Meanwhile.{Meanwhile};
-ghost use Rattle.store_laws.specs.Nodes.{AppendIsAStep, ReplayIsSteps, FollowIsSteps, ReclaimIsAStep, RebaseIsAStep, RaiseIsSteps};
+ghost use Rattle.store_laws.specs.Nodes.{AppendIsAStep, ReplayIsSteps, FollowIsSteps, ReclaimIsAStep, RebaseIsAStep, RaiseIsSteps, AnswerIsAStep};
 ghost use Rattle.store_laws.specs.AtDesks.{PostIsAStep, CollectIsAStep, ClaimIsAStep, ReplyIsAStep};
 
 /// Between any two atomic steps of a store's threads one history, with its completed tail, has grown from what every session knows; the
@@ -22,7 +22,7 @@ pub fn between_steps()
 {}
 
 /// What the calls of `store::lent` make of the log and of a node's replica and hand, and what a raise of the completed tail makes of
-/// the log's own: each is a list of steps of that node, which may be taken there.
+/// the log's own, and what a read is answered on a lent replica: each is a list of steps of that node, which may be taken there.
 pub fn lent_values_are_steps()
     ensures append { AppendIsAStep }
     ensures replay { ReplayIsSteps }
@@ -30,6 +30,7 @@ pub fn lent_values_are_steps()
     ensures reclaim { ReclaimIsAStep }
     ensures rebase { RebaseIsAStep }
     ensures raise { RaiseIsSteps }
+    ensures answer { AnswerIsAStep }
 {}
 
 /// What the calls of `store::desks` make of a node's desk: each is a step of that node, or nothing.
