@@ -1,0 +1,3 @@
+pub mod Nodes
+pub mod AtDesks
+pub mod Meanwhile

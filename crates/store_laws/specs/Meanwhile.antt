@@ -1,0 +1,53 @@
+-- What holds of a store between any two atomic steps of its sessions' threads.
+use Rattle.std.specs.Prelude.{◌≡◌, ◌≢◌, ℕ, ◌<◌, List, map, length, slice_index, Option, Some}
+use mathlib.Core.Option as kernel
+use Rattle.atomic_table.specs.Table.{State}
+use Rattle.loader.specs.CatalogueView.{CatalogueView}
+use Rattle.ownlock.specs.declared.known.Known.{Known}
+use Rattle.ownlock.specs.Words.{word_of, completed_word}
+use Rattle.ownlock.specs.Seats.{At, View, place_of}
+use Rattle.ownlock.specs.Between.{Holds, HeldByNobody, HeldOnce}
+use Rattle.replica.specs.StoreMeaning.{store_meaning}
+use Rattle.progress.specs.declared.sessions.Progress.{Progress}
+use Rattle.progress.specs.declared.sessions.SessionNote.{SessionNote}
+use Rattle.progress.specs.Accounts.{Accounts, Extends}
+use Rattle.progress.specs.Agreement.{AgreesWith, log_place}
+use Rattle.progress.specs.Moves.{MayHold}
+use Rattle.store.specs.declared.values.Value.{Value}
+use Rattle.store.specs.Shelving.{view_of, IsSized}
+
+-- what one session knows: the progress that it saw last, its note, and the places that it holds, each with its value as it was taken
+abbrev pub StoreKnown : Type 0
+StoreKnown = Known (Progress CatalogueView) SessionNote Value
+
+-- the words and the slots of the store's shelf, and what the sessions of each seat know
+abbrev pub StoreState : Type 0
+StoreState = State (Option Value) (View (Progress CatalogueView) SessionNote Value)
+
+-- the value is the one of that place, the log, a node's replica or a node's desk, agrees with the history and the notes, and has the
+-- store's sizes
+abbrev pub IsValueAt : ℕ → Progress CatalogueView → List SessionNote → Value → Type 0
+IsValueAt p l ns v = AgreesWith store_meaning p l ns (view_of v) × IsSized l.config l.catalogue v
+
+-- so many sessions share the store, which is in this state
+pub record Meanwhile (sessions : ℕ) (s : StoreState) : Type 0 where
+  -- the history and its completed tail; and of each session which updates were answered it, which it waits for, and which it combines
+  pub progress : Progress CatalogueView
+  pub notes : List SessionNote
+  pub count : length notes ≡ sessions
+  -- they account for one another
+  pub accounts : Accounts store_meaning progress notes
+  -- the history has grown from what each session knows, whose note is its own, and which holds no more than it may
+  pub grown : (j i : ℕ) (v : List StoreKnown) (k : StoreKnown) → At j v s.views → At i k v → Extends k.progress progress
+  pub noted : (j i : ℕ) (v : List StoreKnown) (k : StoreKnown) → At j v s.views → At i k v → At k.session k.note notes
+  pub holds : (j i : ℕ) (v : List StoreKnown) (k : StoreKnown) → At j v s.views → At i k v → MayHold k.progress k.session (map place_of k.held)
+  -- a place whose word is 0 is free: its value is on the shelf and agrees, and nobody holds it
+  pub free : (p : ℕ) → p < length s.homes → slice_index s.words (word_of p) ≡ 0
+      → ((x : Value) × At p (kernel.some (Some x)) s.homes × IsValueAt p progress notes x) × HeldByNobody s p
+  -- any other is held by one session alone, and the value as that took it agrees
+  pub held : (p : ℕ) → p < length s.homes → slice_index s.words (word_of p) ≢ 0
+      → At p kernel.none s.homes × ((j i a : ℕ) × (k : StoreKnown) × (x : Value) × Holds s j i a k p x × HeldOnce s j i a p × IsValueAt p progress notes x)
+  -- the word behind those of the places is the completed tail
+  pub completed : slice_index s.words (completed_word (length s.homes)) ≡ progress.completed
+  -- while a session holds the log, the history is the one that it knows
+  pub still : (j i a : ℕ) (k : StoreKnown) (x : Value) → Holds s j i a k log_place x → k.progress.history ≡ progress.history

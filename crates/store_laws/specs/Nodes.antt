@@ -1,0 +1,85 @@
+-- The log, and a node's replica and hand, as they are lent to a session, and the steps of every schedule on them.
+use Rattle.std.specs.Prelude.{◌≡◌, max, List, [], ◌∷◌, Option, Some, nat_lt, if◌then◌else◌}
+use Rattle.std.specs.Option.{option_and_then}
+use Rattle.oplog.specs.History.{History, ReadEffect}
+use Rattle.oplog.specs.Logs.{Log, records_from}
+use Rattle.combiner.specs.Desks.{BatchView}
+use Rattle.replica.specs.StoreMeaning.{store_meaning}
+use Rattle.schedule.specs.declared.parts.Opening.{Opening}
+use Rattle.schedule.specs.declared.parts.BegunRead.{BegunRead}
+use Rattle.schedule.specs.declared.parts.NodeBatch.TheVariants.{Held}
+use Rattle.schedule.specs.Worlds.{NodeView}
+use Rattle.schedule.specs.Trace.{Back, ReadBack}
+use Rattle.schedule.specs.Steps.{Part, session_at, with_call_or_back, with_read, append, replay, finish, read_answer, reclaim, rebase}
+use Rattle.store.specs.declared.values.NodeReplica.{NodeReplica}
+use Rattle.store.specs.Lent.{appended, copied, replayed, reclaimed, rebased, CanAppend, CanReplay, CanFollow, CanReclaim, CanRebase}
+
+-- a step of a node: what it makes of the log and of the node, or none where it may not be taken
+abbrev pub NodeStep : Type 0
+NodeStep = Log → NodeView → Option Part
+
+-- the log and a node
+pub record LogAndNode : Type 0 where
+  pub log : Log
+  pub node : NodeView
+
+-- the log and the node after these steps; none where one of them may not be taken
+abbrev pub after_steps : List NodeStep → Log → NodeView → Option LogAndNode
+after_steps [] g node = Some (record { log = g; node = node })
+after_steps (step ∷ steps) g node = option_and_then (λ p. after_steps steps p.log p.node) (step g node)
+
+-- the replica and the copied records of the node are these
+pub record IsNodeOf (n : NodeReplica) (node : NodeView) : Type 0 where
+  pub replica : node.replica ≡ n.replica
+  pub records : node.hand.records ≡ n.hand.records
+  pub window : node.hand.window ≡ n.hand.window
+
+-- the steps may be taken, and make of the log and the node the log h and a node of the replica and the records m; the desk is as it was
+pub record AreMade (steps : List NodeStep) (g : Log) (node : NodeView) (h : Log) (m : NodeReplica) : Type 0 where
+  pub after : NodeView
+  pub taken : after_steps steps g node ≡ Some (record { log = h; node = after })
+  pub is : IsNodeOf m after
+  pub desk : after.desk ≡ node.desk
+
+-- to append a batch and copy what the replica lacks is the step append of a node that has claimed that batch
+abbrev pub AppendIsAStep : Type 0
+AppendIsAStep =
+    (b : BatchView) (g : Log) (n : NodeReplica) (node : NodeView) → IsNodeOf n node → node.batch ≡ Held b → CanAppend b.records g n
+    → AreMade (append ∷ []) g node (appended b.records g) (copied (appended b.records g) n)
+
+-- a replay, where there are records to run
+abbrev pub replays : Opening → History → List NodeStep
+replays m [] = []
+replays m (r ∷ rs) = replay m ∷ []
+
+-- to run the records in the hand is the step replay
+abbrev pub ReplayIsSteps : Type 0
+ReplayIsSteps = (m : Opening) (g : Log) (n : NodeReplica) (node : NodeView) → IsNodeOf n node → CanReplay m.catalogue n → AreMade (replays m n.hand.records) g node g (replayed m.catalogue n)
+
+-- to copy and run what the replica lacks is the step replay of a node that has no copied records
+abbrev pub FollowIsSteps : Type 0
+FollowIsSteps =
+    (m : Opening) (g : Log) (n : NodeReplica) (node : NodeView) → IsNodeOf n node → CanFollow m.catalogue g n
+    → AreMade (replays m (records_from g n.replica.tail)) g node g (replayed m.catalogue (copied g n))
+
+-- to make the replica the log's base is the step reclaim
+abbrev pub ReclaimIsAStep : Type 0
+ReclaimIsAStep = (g : Log) (n : NodeReplica) (node : NodeView) → IsNodeOf n node → CanReclaim n g → AreMade (reclaim ∷ []) g node (reclaimed n g) n
+
+-- to make the log's base the replica is the step rebase
+abbrev pub RebaseIsAStep : Type 0
+RebaseIsAStep = (g : Log) (n : NodeReplica) (node : NodeView) → IsNodeOf n node → CanRebase g n → AreMade (rebase ∷ []) g node g (rebased g n)
+
+-- to raise the completed tail to the replica's is the step finish, where it is below that
+abbrev pub RaiseIsSteps : Type 0
+RaiseIsSteps =
+    (g : Log) (n : NodeReplica) (node : NodeView) → IsNodeOf n node
+    → AreMade (if nat_lt g.done n.replica.tail then finish ∷ [] else []) g node (record g { done = max g.done n.replica.tail }) n
+
+-- to answer a read that was begun at a slot, on a replica that has come to what the read saw completed and is completed itself, is the
+-- step readanswer, whose event says the replica's tail and the reply there
+abbrev pub AnswerIsAStep : Type 0
+AnswerIsAStep =
+    (m : Opening) (s : ℕ) (read : BegunRead) (e : ReadEffect) (g : Log) (n : NodeReplica) (node : NodeView) → IsNodeOf n node → slice_get node.reads s ≡ Some (Some read)
+    → read.seen ≤ n.replica.tail → n.replica.tail ≤ g.done → store_meaning.read m.catalogue read.op n.replica.maps ≡ Some e
+    → read_answer m s g node ≡ Some (with_call_or_back (Back (session_at node s) (ReadBack (record { point = n.replica.tail; reply = e.reply }))) g (with_read node s None))

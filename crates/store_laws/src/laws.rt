@@ -1,0 +1,42 @@
+// The laws.
+ghost use Rattle.std.specs.Prelude.{ℕ, Option};
+ghost use Rattle.atomic_table.specs.Table.{State};
+ghost use Rattle.loader.specs.CatalogueView.{CatalogueView};
+ghost use Rattle.ownlock.specs.Seats.{View};
+ghost use Rattle.ownlock.specs.Invariant.{LockInvariant};
+ghost use Rattle.progress.specs.declared.sessions.Progress.{Progress};
+ghost use Rattle.progress.specs.declared.sessions.SessionNote.{SessionNote};
+ghost use Rattle.store.specs.declared.values.Value.{Value};
+ghost use Rattle.store.specs.Shelving.{store_rules};
+ghost use Rattle.store_laws.specs.Meanwhile.{Meanwhile};
+ghost use Rattle.store_laws.specs.Nodes.{AppendIsAStep, ReplayIsSteps, FollowIsSteps, ReclaimIsAStep, RebaseIsAStep, RaiseIsSteps, AnswerIsAStep};
+ghost use Rattle.store_laws.specs.AtDesks.{PostIsAStep, CollectIsAStep, ClaimIsAStep, ReplyIsAStep};
+
+/// Between any two atomic steps of a store's threads one history, with its completed tail, has grown from what every session knows; the
+/// sessions' notes and it account for one another; each place of the shelf is free, with a value that agrees with them, or held by one
+/// session; and a session holds nothing, its node's desk, its node's replica, the log, or these last two. The invariant of the lock,
+/// which each atomic step keeps, says so of any number of nodes and slots.
+pub fn between_steps()
+    ensures { (sessions : ℕ) (s : State (Option Value) (View (Progress CatalogueView) SessionNote Value)) → LockInvariant store_rules sessions s
+        → Meanwhile sessions s }
+{}
+
+/// What the calls of `store::lent` make of the log and of a node's replica and hand, and what a raise of the completed tail makes of
+/// the log's own, and what a read is answered on a lent replica: each is a list of steps of that node, which may be taken there.
+pub fn lent_values_are_steps()
+    ensures append { AppendIsAStep }
+    ensures replay { ReplayIsSteps }
+    ensures follow { FollowIsSteps }
+    ensures reclaim { ReclaimIsAStep }
+    ensures rebase { RebaseIsAStep }
+    ensures raise { RaiseIsSteps }
+    ensures answer { AnswerIsAStep }
+{}
+
+/// What the calls of `store::desks` make of a node's desk: each is a step of that node, or nothing.
+pub fn lent_desks_are_steps()
+    ensures post { PostIsAStep }
+    ensures collect { CollectIsAStep }
+    ensures claim { ClaimIsAStep }
+    ensures reply { ReplyIsAStep }
+{}
