@@ -37,9 +37,9 @@ fn twin_time(twin: &impl Twin, nodes: usize, threads: usize, reads: u64) -> Dura
 }
 
 // How long the proved store takes for so many calls of each thread.
-fn proved_time(proved: &mut Proved, threads: usize, reads: u64, times: u64) -> Duration {
+fn proved_time(proved: &mut Proved, reads: u64, times: u64) -> Duration {
     let start = Instant::now();
-    proved.calls(&format!("threads {threads} {reads}"), times);
+    proved.calls(&format!("threads {reads}"), times);
     start.elapsed()
 }
 
@@ -52,11 +52,11 @@ fn compared(path: &str, nodes: usize, threads: usize, reads: u64) -> [f64; 4] {
     let mut best = [Duration::MAX; 5];
     for _ in 0..ROUNDS {
         let measured = [
-            proved_time(&mut proved, threads, reads, CALLS),
+            proved_time(&mut proved, reads, CALLS),
             twin_time(&replicated, nodes, threads, reads),
             twin_time(&readers_writer, nodes, threads, reads),
             twin_time(&locked, nodes, threads, reads),
-            proved_time(&mut proved, threads, reads, 0),
+            proved_time(&mut proved, reads, 0),
         ];
         for (best, time) in best.iter_mut().zip(measured) {
             *best = (*best).min(time);
