@@ -10,8 +10,8 @@ use std::time::{Duration, Instant};
 // Short rounds, of which the best counts, so that other work of the machine matters less.
 const ROUNDS: usize = 7;
 
-// Calls of each thread in a round.
-const CALLS: u64 = 100_000;
+// Calls of each thread in a round. All rounds of four threads together stay below 1,000,000 updates, which a history may have.
+const CALLS: u64 = 30_000;
 
 const SIZES: Sizes = Sizes { window: 4_096, entries: 64, value: 8 };
 
