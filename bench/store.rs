@@ -1,37 +1,25 @@
-//! Times the proved store (the program crates/store_bench, whose path is the first word) beside two stores in plain Rust on one thread,
+//! Times the proved store (the program crates/store_bench, whose path is the first word) beside stores in plain Rust. On one thread it
 //! checks that all give the same replies, and prints what an update and a ready read cost, and an update by the bytes of the maps and
-//! the window. With `replicated` or `locked`, `update` or `read`, and a number in place of the path it makes so many calls of that twin
-//! alone, for a tool that counts processor instructions.
+//! the window; then it prints how many calls a second several threads make. With `replicated` or `locked`, `update` or `read`, and a
+//! number in place of the path it makes so many calls of that twin alone, for a tool that counts processor instructions.
 
 mod interpreter;
+mod proved;
+mod threads;
 mod twins;
 
+use proved::{BUMP, PEEK, Proved, bytes, programs};
 use std::hint::black_box;
-use std::io::{BufRead, BufReader, Write};
-use std::process::{Child, ChildStdin, ChildStdout, Command, Stdio};
 use std::time::{Duration, Instant};
-use twins::{Locked, Programs, Replicated, Sizes, Twin};
+use twins::{Caller, Locked, Replicated, Sizes, Twin};
 
 unsafe extern "C" {
     // Runs a program so often on an array of so many counters: see crates/machine_bench.
     fn bench_run(code: *const u8, code_len: usize, argument: *const u8, argument_len: usize, entries: u32, times: u64) -> u64;
 }
 
-const BUMP: &str = "bf120000000000001851000000000000000000000000000085000000010000001500050000000000790600000000000007060000010000007b60000000000000bf600000000000009500000000000000b7000000ffffffff9500000000000000";
-
-const PEEK: &str = "bf1200000000000018510000000000000000000000000000850000000100000015000200000000007900000000000000\
-    9500000000000000b7000000ffffffff9500000000000000";
-
 // Many short rounds, of which the best counts, so that other work of the machine matters less.
 const ROUNDS: usize = 24;
-
-fn bytes(hex: &str) -> Vec<u8> {
-    (0..hex.len() / 2).map(|i| u8::from_str_radix(&hex[2 * i..2 * i + 2], 16).expect("hexadecimal digits")).collect()
-}
-
-fn programs() -> Programs {
-    Programs::new(&bytes(BUMP), &bytes(PEEK))
-}
 
 #[derive(Clone, Copy)]
 enum Call {
@@ -39,36 +27,11 @@ enum Call {
     Read,
 }
 
-/// The proved store, in a process of its own.
-struct Proved {
-    child: Child,
-    input: ChildStdin,
-    output: BufReader<ChildStdout>,
-}
-
-impl Proved {
-    fn start(path: &str, sizes: Sizes) -> Proved {
-        let words = [sizes.window.to_string(), sizes.entries.to_string(), sizes.value.to_string()];
-        let mut child = Command::new(path).args(words).stdin(Stdio::piped()).stdout(Stdio::piped()).spawn().expect("the program starts");
-        let input = child.stdin.take().expect("a pipe");
-        let output = BufReader::new(child.stdout.take().expect("a pipe"));
-        Proved { child, input, output }
-    }
-
-    fn calls(&mut self, call: Call, times: u64) -> u64 {
-        let word = match call {
-            Call::Update => "update",
-            Call::Read => "read",
-        };
-        writeln!(self.input, "{word} {times}").expect("the program reads");
-        let mut line = String::new();
-        self.output.read_line(&mut line).expect("the program writes");
-        line.trim().parse().expect("a sum")
-    }
-
-    fn end(mut self) {
-        drop(self.input);
-        assert!(self.child.wait().expect("the program ends").success());
+// The word of the proved store's program for it.
+fn word(call: Call) -> &'static str {
+    match call {
+        Call::Update => "update",
+        Call::Read => "read",
     }
 }
 
@@ -76,9 +39,10 @@ impl Proved {
 fn twin_calls(twin: &impl Twin, call: Call, times: u64) -> u64 {
     (0..times).fold(0, |sum, i| {
         let argument = [(i % 64) as u8, 0, 0, 0];
+        let caller = Caller { node: 0, slot: 0 };
         let reply = match call {
-            Call::Update => twin.update(argument),
-            Call::Read => twin.read(argument),
+            Call::Update => twin.update(caller, argument),
+            Call::Read => twin.read(caller, argument),
         };
         sum.wrapping_add(black_box(reply))
     })
@@ -92,17 +56,17 @@ fn timed(f: impl FnOnce() -> u64) -> (u64, Duration) {
 
 /// Nanoseconds a call of the proved store, of the same design unproved, and of the mutex: the best of some rounds.
 fn compared(path: &str, sizes: Sizes, call: Call, times: u64) -> [f64; 3] {
-    let mut proved = Proved::start(path, sizes);
-    let replicated = Replicated::new(programs(), sizes);
+    let mut proved = Proved::start(path, 1, 1, sizes);
+    let replicated = Replicated::new(programs(), sizes, 1);
     let locked = Locked::new(programs(), sizes);
     // So that reads have counts to tell.
-    let counted = proved.calls(Call::Update, 1_000);
+    let counted = proved.calls(word(Call::Update), 1_000);
     assert!(counted == twin_calls(&replicated, Call::Update, 1_000) && counted == twin_calls(&locked, Call::Update, 1_000), "the replies differ");
     let mut best = [Duration::MAX; 4];
     for _ in 0..ROUNDS {
         let measured = [
-            timed(|| proved.calls(call, 0)),
-            timed(|| proved.calls(call, times)),
+            timed(|| proved.calls(word(call), 0)),
+            timed(|| proved.calls(word(call), times)),
             timed(|| twin_calls(&replicated, call, times)),
             timed(|| twin_calls(&locked, call, times)),
         ];
@@ -163,7 +127,7 @@ fn alone(twin: &str, call: &str, times: u64) {
     let sizes = Sizes { window: 4_096, entries: 64, value: 8 };
     let call = if call == "update" { Call::Update } else { Call::Read };
     let sum = match twin {
-        "replicated" => twin_calls(&Replicated::new(programs(), sizes), call, times),
+        "replicated" => twin_calls(&Replicated::new(programs(), sizes, 1), call, times),
         _ => twin_calls(&Locked::new(programs(), sizes), call, times),
     };
     println!("{sum}");
@@ -175,6 +139,7 @@ fn main() {
         [_, path] => {
             print_calls(path);
             print_sizes(path);
+            threads::print(path);
         }
         [_, twin, call, times] => alone(twin, call, times.parse().expect("a number")),
         _ => panic!("the path of store_bench"),

@@ -1,10 +1,13 @@
-//! A store of one session for another program to time: see bench/. Its words are the log's window, the number of entries of a map of
-//! counters, and the bytes of each value of a second map of as many entries. Each line of standard input is `update N` or `read N`: so
-//! many calls are made, one after another, and the sum of their replies, modulo 2^64, is written.
+//! A store for another program to time: see bench/. Its words are the numbers of nodes and of slots of each node, the log's window, the
+//! number of entries of a map of counters, and the bytes of each value of a second map of as many entries. Each line of standard input
+//! is `update N` or `read N`: the first session makes so many calls, one after another, and the sum of their replies, modulo 2^64, is
+//! written. Or it is `threads R N`: each session makes so many calls on a thread of its own, R of 100 of them reads, and 0 is written.
 #![tactic(auto)]
 
-ghost use Rattle.std.specs.Prelude.{◌≡◌, ◌≤◌, [], vec_capacity};
+ghost use Rattle.std.specs.Prelude.{◌≡◌, length};
 ghost use Rattle.store.specs.Sessions.{IsOf};
+ghost use Rattle.store.specs.Opening.{AreOf};
+ghost use Rattle.store.specs.Shelving.{sessions_of};
 
 use loader::{Catalogue, load_manifest};
 use oplog::{Config, MAX_LIMIT};
@@ -12,6 +15,8 @@ use readpath::ReadAnswer;
 use std::alloc::Global;
 use std::process::ExitCode;
 use std::sync::Wait;
+use std::thread;
+use std::thread::Threads;
 use store::{Answer, Session, Store, StoreRefused};
 
 // Adds one to a counter, and replies what it is then.
@@ -25,17 +30,28 @@ const PEEK: &str =
 // The sizes of a store.
 #[derive(Drop)]
 struct Sizes {
+    nodes: u32,
+    slots: u32,
     window: u32,
     entries: u32,
     value: u32,
 }
 
+// Calls of a session: so many, and how many of 100 of them are reads.
+#[derive(Clone, Copy)]
+struct Mix {
+    reads: u64,
+    times: u64,
+}
+
 // The sizes that the words of a command line say, the first of them the program's name.
 fn sizes_in(words: &[String]) -> Option<Sizes> {
-    let [_, window, entries, value] = words else {
+    let [_, nodes, slots, window, entries, value] = words else {
         return None;
     };
     Some(Sizes {
+        nodes: nodes.parse().ok()?,
+        slots: slots.parse().ok()?,
         window: window.parse().ok()?,
         entries: entries.parse().ok()?,
         value: value.parse().ok()?,
@@ -116,13 +132,58 @@ fn read_often<R: Wait>(
     Ok(sum)
 }
 
-// What a line asks for; none where it asks for nothing, or a call is refused.
-fn answer<R: Wait>(rt: &R, store: &Store, session: &mut Session, line: &str) -> Option<u64>
+// So many calls, of which so many of 100 are reads. None where one is refused.
+fn mix_often<R: Wait>(rt: &R, store: &Store, session: &mut Session, mix: Mix) -> Option<()>
     requires own { IsOf store.now session.old }
     ensures own { IsOf store.now session.new }
 {
+    for i in 0..mix.times {
+        if i % 100 < mix.reads {
+            read(rt, store, session, i).ok()?;
+        } else {
+            update(rt, store, session, i).ok()?;
+        }
+    }
+    Some(())
+}
+
+// Lets each session make its calls, on a thread of its own.
+fn mix_all<R: Threads + Wait + Sync>(rt: &R, store: &Store, sessions: &mut Vec<Session>, mix: Mix)
+    requires own { AreOf store.now sessions.old.items }
+    ensures own { AreOf store.now sessions.new.items }
+    ensures count { length sessions.new.items ≡ length sessions.old.items }
+{
+    let threads = sessions.len();
+    if threads == 0 {
+        return;
+    }
+    thread::for_each_mut(
+        rt,
+        sessions,
+        threads,
+        &|_number: usize, session: &mut Session|
+            requires { IsOf store.now session.now }
+            ensures { IsOf store.entry.now session.exit.now }
+        {
+            let _made = mix_often(rt, store, session, mix);
+        },
+    );
+}
+
+// What the first session is asked for: so many updates, or so many reads.
+fn first_answer<R: Wait>(
+    rt: &R,
+    store: &Store,
+    sessions: &mut Vec<Session>,
+    line: &str,
+) -> Option<u64>
+    requires own { AreOf store.now sessions.old.items }
+    ensures own { AreOf store.now sessions.new.items }
+    ensures count { length sessions.new.items ≡ length sessions.old.items }
+{
     let (word, times) = line.split_once(' ')?;
     let times: u64 = times.parse().ok()?;
+    let session = sessions.first_mut()?;
     match word {
         "update" => update_often(rt, store, session, times).ok(),
         "read" => read_often(rt, store, session, times).ok(),
@@ -130,29 +191,62 @@ fn answer<R: Wait>(rt: &R, store: &Store, session: &mut Session, line: &str) -> 
     }
 }
 
+// The calls that a line asks all sessions for.
+fn mix_in(line: &str) -> Option<Mix> {
+    let (reads, times) = line.split_once(' ')?;
+    Some(Mix {
+        reads: reads.parse().ok()?,
+        times: times.parse().ok()?,
+    })
+}
+
+// What a line asks for; none where it asks for nothing, or a call is refused.
+fn answer<R: Threads + Wait + Sync>(
+    rt: &R,
+    store: &Store,
+    sessions: &mut Vec<Session>,
+    line: &str,
+) -> Option<u64>
+    requires own { AreOf store.now sessions.old.items }
+    ensures own { AreOf store.now sessions.new.items }
+    ensures count { length sessions.new.items ≡ length sessions.old.items }
+{
+    match line.strip_prefix("threads ") {
+        Some(rest) => {
+            mix_all(rt, store, sessions, mix_in(rest)?);
+            Some(0)
+        }
+        None => first_answer(rt, store, sessions, line),
+    }
+}
+
 // Answers each line, up to the first that can't be answered.
-fn serve<R: Wait + Input + Print>(rt: &R, alloc: Global, store: &Store, session: &mut Session)
-    requires own { IsOf store.now session.old }
-    ensures own { IsOf store.now session.new }
+fn serve<R: Threads + Wait + Sync + Input + Print>(
+    rt: &R,
+    alloc: Global,
+    store: &Store,
+    sessions: &mut Vec<Session>,
+)
+    requires own { AreOf store.now sessions.old.items }
+    ensures own { AreOf store.now sessions.new.items }
+    ensures count { length sessions.new.items ≡ length sessions.old.items }
 {
     for line in rt.lines(alloc) {
         let Ok(line) = line else { return };
-        let Some(sum) = answer(rt, store, session, line.as_str()) else {
+        let Some(answered) = answer(rt, store, sessions, line.as_str()) else {
             return;
         };
-        let Ok(()) = println!(rt; "{sum}") else {
+        let Ok(()) = println!(rt; "{answered}") else {
             return;
         };
     }
 }
 
-// Ends the store, once its session is back.
-fn close(store: Store, session: Session, mut sessions: Vec<Session>)
-    requires own { IsOf store session }
-    requires one { (store.config.nodes ≡ 1) × (store.config.slots ≡ 1) }
-    requires room { (sessions.items ≡ []) × (1 ≤ vec_capacity sessions) }
+// Ends the store, once its sessions are back.
+fn close(store: Store, sessions: Vec<Session>)
+    requires own { AreOf store sessions.items }
+    requires all { length sessions.items ≡ sessions_of store.config }
 {
-    sessions.push_reserved(session);
     match store.close(sessions) {
         Ok(closed) => drop(closed),
         Err(_) => unreachable!(),
@@ -160,29 +254,21 @@ fn close(store: Store, session: Session, mut sessions: Vec<Session>)
 }
 
 // Opens a store, and serves; tells whether it could be opened.
-fn run<R: Wait + Input + Print>(rt: &R, alloc: Global, sizes: &Sizes) -> bool {
+fn run<R: Threads + Wait + Sync + Input + Print>(rt: &R, alloc: Global, sizes: &Sizes) -> bool {
     let Some(catalogue) = catalogue(alloc, sizes) else {
         return false;
     };
     let config = Config {
-        nodes: 1,
-        slots: 1,
+        nodes: sizes.nodes,
+        slots: sizes.slots,
         window: sizes.window,
         limit: MAX_LIMIT as u32,
     };
-    let Ok(room) = Vec::with_capacity(alloc, 1) else {
-        return false;
-    };
     let Ok((store, mut sessions)) = Store::open(alloc, config, catalogue) else {
-        room.destroy_empty();
         return false;
     };
-    let Some(mut session) = sessions.pop() else {
-        unreachable!()
-    };
-    sessions.destroy_empty();
-    serve(rt, alloc, &store, &mut session);
-    close(store, session, room);
+    serve(rt, alloc, &store, &mut sessions);
+    close(store, sessions);
     true
 }
 
