@@ -4,9 +4,8 @@
 //! written. Or it is `threads R N`: each session makes so many calls on a thread of its own, R of 100 of them reads, and 0 is written.
 #![tactic(auto)]
 
-ghost use Rattle.std.specs.Prelude.{◌≡◌, length};
+ghost use Rattle.std.specs.Prelude.{◌≡◌, length, All};
 ghost use Rattle.store.specs.Sessions.{IsOf};
-ghost use Rattle.store.specs.Opening.{AreOf};
 ghost use Rattle.store.specs.Shelving.{sessions_of};
 
 use loader::{Catalogue, load_manifest};
@@ -148,10 +147,9 @@ fn mix_often<R: Wait>(rt: &R, store: &Store, session: &mut Session, mix: Mix) ->
 }
 
 // Lets each session make its calls, on a thread of its own.
-fn mix_all<R: Threads + Wait + Sync>(rt: &R, store: &Store, sessions: &mut Vec<Session>, mix: Mix)
-    requires own { AreOf store.now sessions.old.items }
-    ensures own { AreOf store.now sessions.new.items }
-    ensures count { length sessions.new.items ≡ length sessions.old.items }
+fn mix_all<R: Threads + Wait + Sync>(rt: &R, store: &Store, sessions: &mut [Session], mix: Mix)
+    requires own { All (IsOf store.now) sessions.old }
+    ensures own { All (IsOf store.now) sessions.new }
 {
     let threads = sessions.len();
     if threads == 0 {
@@ -174,12 +172,11 @@ fn mix_all<R: Threads + Wait + Sync>(rt: &R, store: &Store, sessions: &mut Vec<S
 fn first_answer<R: Wait>(
     rt: &R,
     store: &Store,
-    sessions: &mut Vec<Session>,
+    sessions: &mut [Session],
     line: &str,
 ) -> Option<u64>
-    requires own { AreOf store.now sessions.old.items }
-    ensures own { AreOf store.now sessions.new.items }
-    ensures count { length sessions.new.items ≡ length sessions.old.items }
+    requires own { All (IsOf store.now) sessions.old }
+    ensures own { All (IsOf store.now) sessions.new }
 {
     let (word, times) = line.split_once(' ')?;
     let times: u64 = times.parse().ok()?;
@@ -204,12 +201,11 @@ fn mix_in(line: &str) -> Option<Mix> {
 fn answer<R: Threads + Wait + Sync>(
     rt: &R,
     store: &Store,
-    sessions: &mut Vec<Session>,
+    sessions: &mut [Session],
     line: &str,
 ) -> Option<u64>
-    requires own { AreOf store.now sessions.old.items }
-    ensures own { AreOf store.now sessions.new.items }
-    ensures count { length sessions.new.items ≡ length sessions.old.items }
+    requires own { All (IsOf store.now) sessions.old }
+    ensures own { All (IsOf store.now) sessions.new }
 {
     match line.strip_prefix("threads ") {
         Some(rest) => {
@@ -225,11 +221,10 @@ fn serve<R: Threads + Wait + Sync + Input + Print>(
     rt: &R,
     alloc: Global,
     store: &Store,
-    sessions: &mut Vec<Session>,
+    sessions: &mut [Session],
 )
-    requires own { AreOf store.now sessions.old.items }
-    ensures own { AreOf store.now sessions.new.items }
-    ensures count { length sessions.new.items ≡ length sessions.old.items }
+    requires own { All (IsOf store.now) sessions.old }
+    ensures own { All (IsOf store.now) sessions.new }
 {
     for line in rt.lines(alloc) {
         let Ok(line) = line else { return };
@@ -244,7 +239,7 @@ fn serve<R: Threads + Wait + Sync + Input + Print>(
 
 // Ends the store, once its sessions are back.
 fn close(store: Store, sessions: Vec<Session>)
-    requires own { AreOf store sessions.items }
+    requires own { All (IsOf store) sessions.items }
     requires all { length sessions.items ≡ sessions_of store.config }
 {
     match store.close(sessions) {

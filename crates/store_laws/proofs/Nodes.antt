@@ -203,7 +203,9 @@ answer_is_a_step m s read e g n node is begun reached completed replies =
   where
     same : node.replica.tail ≡ n.replica.tail
     same = ap (λ r. r.tail) is.replica
+
     told : ℕ → ReadEffect → Part
     told point f = with_call_or_back (Back (session_at node s) (ReadBack (record { point = point; reply = f.reply }))) g (with_read node s None)
+
     part : BegunRead → Option Part
     part r = cond (nat_le r.seen node.replica.tail && nat_le node.replica.tail g.done) (option_map (told node.replica.tail) (store_meaning.read m.catalogue r.op node.replica.maps)) None

@@ -1,5 +1,5 @@
 -- The log, and a node's replica and hand, as they are lent to a session, and the steps of every schedule on them.
-use Rattle.std.specs.Prelude.{◌≡◌, max, List, [], ◌∷◌, Option, Some, nat_lt, if◌then◌else◌}
+use Rattle.std.specs.Prelude.{◌≡◌, ℕ, ◌≤◌, max, List, [], ◌∷◌, Option, Some, None, slice_get, nat_lt, if◌then◌else◌}
 use Rattle.std.specs.Option.{option_and_then}
 use Rattle.oplog.specs.History.{History, ReadEffect}
 use Rattle.oplog.specs.Logs.{Log, records_from}
