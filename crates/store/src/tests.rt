@@ -187,7 +187,7 @@ fn sees_combiner<R: Wait>(
     requires own { seat.old.shelf ≡ shared.shelf.now.id }
     requires there { IsThere seat.old caller shared.shelf.now.places shared.nodes shared.catalogue.now }
     ensures same { seat.new.shelf ≡ seat.old.shelf }
-    ensures there { IsThere seat.new caller shared.shelf.now.places shared.nodes shared.catalogue.now }
+    ensures there { IsThere seat.new caller shared.entry.shelf.now.places shared.entry.nodes shared.entry.catalogue.now }
 {
     let desk = shared.shelf.take(rt, seat, 1 + shared.nodes + caller.node);
     let claimed = match &desk.value {
