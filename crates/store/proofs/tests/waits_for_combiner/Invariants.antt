@@ -4,6 +4,6 @@ use Rattle.store.proofs.tests.waits_for_combiner.Given as goal
 
 abbrev pub invariant-loop : goal.invariant-loop
 invariant-loop g l = record {
-  own : l.seat.shelf ≡ l.initial.shared.shelf.id;
-  there : IsThere l.seat l.initial.own.caller l.initial.shared.shelf.places l.initial.shared.nodes l.initial.shared.catalogue;
+  own : l.seat.shelf ≡ l.initial.shared.shelf.now.id;
+  there : IsThere l.seat l.initial.caller l.initial.shared.shelf.now.places l.initial.shared.nodes l.initial.shared.catalogue.now;
 }
