@@ -1,15 +1,18 @@
 -- What is put back as it was taken, by one who only looked at it.
-use Rattle.std.proofs.Common.{◌≡◌, ℕ, ◌+◌, [], ◌∷◌, sym, refl, ap, ◌∙◌, subst, eq-eqb, if◌then◌else◌}
+use Rattle.std.proofs.Common.{◌≡◌, ℕ, ◌+◌, List, [], ◌∷◌, ◌++◌, length, arith, sym, refl, ap, ◌∙◌, subst, eq-eqb, if◌then◌else◌}
 use lib.ListN.{get_elem?}
 use Rattle.ownlock.specs.Seats.{At, left_with, without}
 use Rattle.ownlock.specs.Knowledge.{MayPut, Possible}
 use Rattle.loader.specs.CatalogueView.{CatalogueView}
 use Rattle.progress.specs.declared.sessions.Progress.{Progress}
 use Rattle.progress.specs.declared.sessions.SessionNote.{SessionNote}
+use Rattle.progress.proofs.Lists.{at_behind, at_front}
 use Rattle.progress.proofs.Picked.{puts_account}
 use Rattle.progress.proofs.Putting.{same_may_put}
 use Rattle.store.specs.declared.steps.Caller.{Caller}
 use Rattle.store.specs.declared.values.Value.{Value}
+use Rattle.store.specs.Opening.{AreOf}
+use Rattle.store.specs.Sessions.{IsOf, SessionView, StoreView}
 use Rattle.store.specs.Shelving.{IsSized, store_rules, view_of}
 use Rattle.store.specs.Standing.{IsFree, IsOnShelf, SessionKnown}
 use Rattle.store.proofs.StoreLaws.{session_laws, session_notes, store_laws}
@@ -31,3 +34,14 @@ looked caller k t p q v places nodes c b same free on l ns may =
       free_on caller k (left_with t q l t.note) b.session (ap (λ z. without z t.held) same ∙ (ap (without p) b.held ∙ none_left p v)) grown free,
       shelf_on places nodes c k (left_with t q l t.note) grown on,
     )
+
+-- ---- a session is taken from the end of a list
+
+pub last_own : (store : StoreView) (all rest : List SessionView) (s : SessionView) → AreOf store all → all ≡ rest ++ s ∷ [] → IsOf store s
+last_own store all rest s own is = own (length rest) s (subst (λ z. At (length rest) s z) (sym is) (subst (λ i. At i s (rest ++ s ∷ [])) (no_more (length rest)) (at_behind rest (s ∷ []) 0 s refl)))
+  where
+    no_more : (n : ℕ) → n + 0 ≡ n
+    no_more n = omega arith
+
+pub rest_own : (store : StoreView) (all rest : List SessionView) (s : SessionView) → AreOf store all → all ≡ rest ++ s ∷ [] → AreOf store rest
+rest_own store all rest s own is a t at = own a t (subst (λ z. At a t z) (sym is) (at_front rest (s ∷ []) a t at))

@@ -2,8 +2,8 @@ use Rattle.std.proofs.Common.{◌≡◌}
 use Rattle.store.specs.Standing.{IsThere}
 use Rattle.store.proofs.tests.waits_for_combiner.Given as goal
 
-abbrev pub invariant-loop-_ : goal.invariant-loop-_
-invariant-loop-_ l = record {
-  own : l.seat.shelf ≡ l.initial.shared.shelf.id;
-  there : IsThere l.seat l.initial.own.caller l.initial.shared.shelf.places l.initial.shared.nodes l.initial.shared.catalogue;
+abbrev pub invariant-loop : goal.invariant-loop
+invariant-loop g l = record {
+  own : l.seat.shelf ≡ l.initial.shared.shelf.now.id;
+  there : IsThere l.seat l.initial.caller l.initial.shared.shelf.now.places l.initial.shared.nodes l.initial.shared.catalogue.now;
 }
