@@ -81,8 +81,8 @@ fn programs(alloc: Global) -> Option<Catalogue> {
     load_manifest(alloc, MANIFEST, &[("bump.hex", BUMP), ("peek.hex", PEEK)]).ok()
 }
 
-// A store of so many nodes and slots for these programs, and its sessions.
-fn opened(alloc: Global, nodes: u32, slots: u32) -> Option<(Store, Vec<Session>)>
+// A store of so many nodes and slots for these programs and so many records, and its sessions.
+fn opened(alloc: Global, nodes: u32, slots: u32, limit: u32) -> Option<(Store, Vec<Session>)>
     ensures own { IfSome result (λ t. AreOf t.0 t.1.items) }
     ensures count { IfSome result (λ t. length t.1.items ≡ nodes * slots) }
 {
@@ -91,7 +91,7 @@ fn opened(alloc: Global, nodes: u32, slots: u32) -> Option<(Store, Vec<Session>)
         nodes,
         slots,
         window: 16,
-        limit: 100,
+        limit,
     };
     Store::open(alloc, config, catalogue).ok()
 }
@@ -352,7 +352,7 @@ fn own_of(store: &Store, session: Session) -> Own
 
 #[test]
 fn is_answered_by_another(rt: HostRuntime) {
-    let (store, mut sessions) = opened(rt.alloc(), 1, 2).expect(&rt, "store");
+    let (store, mut sessions) = opened(rt.alloc(), 1, 2, 100).expect(&rt, "store");
     assert!(rt; refusal(store.catalogue(), Mode::Update, 0, &ZERO).is_none());
     let other = last_of(&store, &mut sessions);
     let first = last_of(&store, &mut sessions);
@@ -362,9 +362,22 @@ fn is_answered_by_another(rt: HostRuntime) {
     assert_eq!(rt; answers, (last, Reply::Placed { index: 0, reply: 1 }));
 }
 
+// The history has its last record in the middle of a batch of two.
+#[test]
+fn ends_within_a_batch(rt: HostRuntime) {
+    let (store, mut sessions) = opened(rt.alloc(), 1, 2, 1).expect(&rt, "store");
+    assert!(rt; refusal(store.catalogue(), Mode::Update, 0, &ZERO).is_none());
+    let other = last_of(&store, &mut sessions);
+    let first = last_of(&store, &mut sessions);
+    sessions.destroy_empty();
+    let answers = answered_by_other(&rt, &store, first, other);
+    let ended = Err(StoreRefused::Ended);
+    assert_eq!(rt; answers, (ended, Reply::Placed { index: 0, reply: 1 }));
+}
+
 #[test]
 fn reads_while_the_log_is_held(rt: HostRuntime) {
-    let (store, mut sessions) = opened(rt.alloc(), 1, 2).expect(&rt, "store");
+    let (store, mut sessions) = opened(rt.alloc(), 1, 2, 100).expect(&rt, "store");
     assert!(rt; refusal(store.catalogue(), Mode::Read, 1, &ZERO).is_none());
     let other = last_of(&store, &mut sessions);
     let one = last_of(&store, &mut sessions);
@@ -375,7 +388,7 @@ fn reads_while_the_log_is_held(rt: HostRuntime) {
 
 #[test]
 fn goes_on_while_a_replica_is_held(rt: HostRuntime) {
-    let (store, mut sessions) = opened(rt.alloc(), 2, 3).expect(&rt, "store");
+    let (store, mut sessions) = opened(rt.alloc(), 2, 3, 100).expect(&rt, "store");
     let _ = last_of(&store, &mut sessions).into_parts();
     let _ = last_of(&store, &mut sessions).into_parts();
     let mut beside = last_of(&store, &mut sessions);
