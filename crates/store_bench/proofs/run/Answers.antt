@@ -5,4 +5,4 @@ use Rattle.store_bench.proofs.Sessions.{all_of_at}
 use Rattle.store_bench.proofs.run.Goals as goal
 
 pub serve-requires-clause-own : goal.serve-requires-clause-own
-serve-requires-clause-own g c = subst (λ xs. All (IsOf c.in-Ok.store) xs) (sym c.deref_mut.ensures.value) (all_of_at (IsOf c.in-Ok.store) c.in-Ok.sessions.items c.in-Ok.ensures.own)
+serve-requires-clause-own g c κs within = subst (λ xs. All (IsOf c.in-Ok.store) xs) (sym c.deref_mut.ensures.value) (all_of_at (IsOf c.in-Ok.store) c.in-Ok.sessions.items c.in-Ok.ensures.own)
