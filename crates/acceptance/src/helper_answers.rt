@@ -1,22 +1,12 @@
-//! What the helper functions answer. Errors are told by their negatives modulo 2^64: ENOENT 2, E2BIG 7, EEXIST 17, EINVAL 22.
+//! What the helper functions answer to many keys, at random and chosen. Errors are told by their negatives modulo 2^64: ENOENT 2, EEXIST 17.
+//! Each answer by itself is in crates/command_rows.
 
 ghost use Rattle.std.specs.Prelude.{◌≡◌, slice_get, Some, vec_len};
 ghost use Rattle.maps.specs.MapSets.{stored_shapes};
 
-use helpers::{delete, lookup, update};
+use helpers::{delete, update};
 use maps::{MapSet, Shape};
 use std::test::Fail;
-
-const SMALL: Shape = Shape::Array {
-    value: 8,
-    entries: 16,
-};
-
-const SINGLE: Shape = Shape::Hash {
-    key: 4,
-    value: 8,
-    entries: 1,
-};
 
 const WIDE: Shape = Shape::Hash {
     key: 8,
@@ -24,61 +14,8 @@ const WIDE: Shape = Shape::Hash {
     entries: 65_536,
 };
 
-const A: [u8; 4] = [1, 0, 0, 0];
-
-const B: [u8; 4] = [2, 0, 0, 0];
-
 /// The inverse of 0xff51_afd7_ed55_8ccd modulo 2^64.
 const INVERSE: u64 = 0x4f74_430c_22a5_4005;
-
-const ZEROS: [u8; 8] = [0; 8];
-
-// An array of 16 entries has the indices 0 to 15.
-#[test]
-fn looks_indices_up(rt: HostRuntime) {
-    let maps = MapSet::open(rt.alloc(), &[SMALL]).expect(&rt, "open");
-    let places = [
-        lookup(&maps, 0, &[0, 0, 0, 0]).map(|entry| entry.place()),
-        lookup(&maps, 0, &[15, 0, 0, 0]).map(|entry| entry.place()),
-        lookup(&maps, 0, &[16, 0, 0, 0]).map(|entry| entry.place()),
-    ];
-    assert_eq!(rt; places, [Some(0), Some(15), None]);
-}
-
-#[test]
-fn a_hash_of_one_key(rt: HostRuntime) {
-    let mut maps = MapSet::open(rt.alloc(), &[SINGLE]).expect(&rt, "open");
-    let answers = [
-        update(&mut maps, 0, &A, &ZEROS, 0),
-        update(&mut maps, 0, &B, &ZEROS, 0),
-        update(&mut maps, 0, &A, &ZEROS, 1),
-        delete(&mut maps, 0, &B),
-        update(&mut maps, 0, &A, &ZEROS, 3),
-        delete(&mut maps, 0, &A),
-    ];
-    assert_eq!(rt;
-        answers,
-        [
-            0,
-            18446744073709551609,
-            18446744073709551599,
-            18446744073709551614,
-            18446744073709551594,
-            0,
-        ]
-    );
-}
-
-#[test]
-fn an_array_keeps_its_keys(rt: HostRuntime) {
-    let mut maps = MapSet::open(rt.alloc(), &[SMALL]).expect(&rt, "open");
-    let answers = [
-        delete(&mut maps, 0, &A),
-        update(&mut maps, 0, &[16, 0, 0, 0], &ZEROS, 0),
-        update(&mut maps, 0, &[0, 0, 0, 0], &ZEROS, 2),
-    ];
-    assert_eq!(rt; answers, [18446744073709551594, 18446744073709551609, 0]);
-}
 
 /// A key, by its number. Those that are chosen against the index share one bucket: its hash begins with
 /// 0x9e37_79b9_7f4a_7c15 and multiplies by the odd number whose inverse stands here.

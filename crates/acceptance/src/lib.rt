@@ -1,5 +1,6 @@
-//! The public calls, from outside, of what no text can say: readers and writers that fail, frames, maps, and values as Rust has them.
-//! There is no code here but tests: their expected values were worked out by hand. Texts and their answers are in crates/command_rows.
+//! The public calls, from outside, of what no text can say: frames, maps, and values as Rust has them.
+//! There is no code here but tests: their expected values were worked out by hand. Texts and their answers are in
+//! crates/command_rows, readers and writers that fail in crates/refused_growths.
 #![tactic(auto)]
 
 #[cfg(test)]
@@ -14,7 +15,5 @@ mod instructions;
 mod manifests;
 #[cfg(test)]
 mod map_calls;
-#[cfg(test)]
-mod structure;
 #[cfg(test)]
 mod verdicts;

@@ -58,37 +58,6 @@ fn answers_by_shapes(rt: HostRuntime) {
     );
 }
 
-// Keys of 1 to 64 bytes, values of 1 to 256, 1 to 65,536 entries; the first of each row is good, the others aren't.
-#[test]
-fn sizes_have_limits(rt: HostRuntime) {
-    assert_eq!(rt;
-        [
-            hash(64, 8, 1).is_ok(),
-            hash(65, 8, 1).is_ok(),
-            hash(0, 8, 1).is_ok(),
-            hash(1, 256, 1).is_ok(),
-            hash(1, 257, 1).is_ok(),
-            hash(1, 0, 1).is_ok(),
-            hash(1, 1, 65_536).is_ok(),
-            hash(1, 1, 65_537).is_ok(),
-            hash(1, 1, 0).is_ok(),
-        ],
-        [true, false, false, true, false, false, true, false, false]
-    );
-}
-
-// A hash counts its keys too: 65,536 times 64 and 192 bytes are 16,777,216.
-#[test]
-fn counts_keys(rt: HostRuntime) {
-    assert_eq!(rt;
-        [
-            shapes_ok(&[hash(64, 192, 65_536)]),
-            shapes_ok(&[hash(64, 193, 65_536)]),
-        ],
-        [Ok(()), Err(ShapeFault::TooManyBytes)]
-    );
-}
-
 #[test]
 fn refuses_shapes(rt: HostRuntime) {
     let refused = MapSet::open(rt.alloc(), &[]).err();

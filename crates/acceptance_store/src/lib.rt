@@ -12,3 +12,5 @@ mod replicas;
 mod single_store;
 #[cfg(test)]
 mod window;
+#[cfg(test)]
+mod worlds;

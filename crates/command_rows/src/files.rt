@@ -1,6 +1,8 @@
 // The texts that rows name, as files.
 
 use console::Folder;
+use std::io::Read;
+use std::{fs, io};
 
 // A text under its name.
 #[derive(Drop)]
@@ -14,6 +16,15 @@ pub struct Named {
 pub struct Offered<'a> {
     pub files: &'a [Named],
     pub other: &'a [u8],
+}
+
+/// The file of this path, under its path.
+pub fn file_at(rt: &HostRuntime, path: &str) -> io::Result<Named> {
+    let mut name = String::new(rt.alloc());
+    name.push_str(path)?;
+    let mut text = Vec::new(rt.alloc());
+    fs::open(rt, path)?.read_to_end(&mut text)?;
+    Ok(Named { name, text })
 }
 
 // The text of this name.

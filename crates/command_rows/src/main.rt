@@ -2,18 +2,22 @@
 //! command writes. The rows (`stdin`) and what they must give (`stdout`) stand beside this program; the answers are worked by hand
 //! from what the commands promise, and not by this repository. A row is added to `stdout`; `stdin` is `stdout` without the answers.
 //!
-//! `file NAME TEXT` names a text; `check MANIFEST`, `run MANIFEST | SCRIPT`, `replay MANIFEST | TRANSCRIPT`,
+//! `file NAME TEXT` names a text, and `read PATH` the file of this path under its path, where `data/examples` is the repository's
+//! `examples`; `check MANIFEST`, `run MANIFEST | SCRIPT`, `replay MANIFEST | TRANSCRIPT`,
 //! `schedule:NODES:SLOTS:WINDOW:LIMIT MANIFEST | STEPS`, `asm TEXT` and `dis PROGRAM` are commands; what stands
 //! behind the bar of a `check` is the file `p.hex`, and of an `assembled`, which is a `check` too, the text from which `asm` makes it.
-//! Other lines are headings.
+//! `is NAME COMMAND ..` says whether the command writes the text of that name, and `spells NAME COMMAND ..` whether it does but for
+//! white space. Other lines are headings.
 #![tactic(auto)]
 
 mod answers;
+mod comparing;
 mod files;
 mod spelling;
 
 use answers::{Answer, answer_to};
-use files::{Named, Offered};
+use comparing::is_same;
+use files::{Named, Offered, file_at};
 use spelling::{shown, spelled};
 use std::alloc::{AllocError, Global};
 use std::io;
@@ -42,24 +46,56 @@ fn answered(alloc: Global, files: &[Named], row: &str) -> Result<Option<Answer>,
     Ok(answer_to(alloc, &folder, command, &text))
 }
 
+// Whether a row's command writes what the row names, if it names something.
+fn compared(alloc: Global, files: &[Named], row: &str) -> Result<Option<bool>, AllocError> {
+    let Some((word, rest)) = row.split_once(' ') else {
+        return Ok(None);
+    };
+    let Some((name, command)) = rest.split_once(' ') else {
+        return Ok(None);
+    };
+    match word {
+        "is" | "spells" => match answered(alloc, files, command)? {
+            Some(answer) => Ok(Some(is_same(word, files, name, &answer.text))),
+            None => Ok(None),
+        },
+        _ => Ok(None),
+    }
+}
+
+// Keeps the text that a row names, if it names one.
+fn keep(rt: &HostRuntime, files: &mut Vec<Named>, row: &str) -> io::Result<()> {
+    if let Some(path) = row.strip_prefix("read ") {
+        files.push(file_at(rt, path)?)?;
+    }
+    if let Some(line) = row.strip_prefix("file ") {
+        if let Some(file) = named(rt.alloc(), files.as_slice(), line)? {
+            files.push(file)?;
+        }
+    }
+    Ok(())
+}
+
+// Writes a row, and behind it what it is answered.
+fn write_row(rt: &HostRuntime, files: &[Named], row: &str) -> io::Result<()> {
+    if let Some(same) = compared(rt.alloc(), files, row)? {
+        return println!(rt; "{row} = {same}");
+    }
+    match answered(rt.alloc(), files, row)? {
+        Some(answer) => {
+            let text = shown(rt.alloc(), &answer.text)?;
+            println!(rt; "{row} = {} \"{text}\"", answer.status)
+        }
+        None => println!(rt; "{row}"),
+    }
+}
+
 fn main(rt: HostRuntime) -> io::Result<()> {
-    let alloc = rt.alloc();
-    let mut files = Vec::new(alloc);
-    for line in rt.lines(alloc) {
+    let mut files = Vec::new(rt.alloc());
+    for line in rt.lines(rt.alloc()) {
         let line = line?;
-        let row = line.as_str();
-        if let Some(file) = row.strip_prefix("file ") {
-            if let Some(file) = named(alloc, &files, file)? {
-                files.push(file)?;
-            }
-        }
-        match answered(alloc, &files, row)? {
-            Some(answer) => {
-                let text = shown(alloc, &answer.text)?;
-                println!(rt; "{row} = {} \"{text}\"", answer.status)?;
-            }
-            None => println!(rt; "{row}")?,
-        }
+        keep(&rt, &mut files, line.as_str())?;
+        write_row(&rt, &files, line.as_str())?;
     }
     Ok(())
 }

@@ -40,26 +40,28 @@ pub enum Call<'a> {
     },
 }
 
+// A word that must stand in the command line.
+fn word<'a>(alloc: Global, name: &'a str, help: &'a str) -> Arg<'a> {
+    Arg::new(alloc, name).required(true).help(help)
+}
+
 fn manifest<'a>(alloc: Global) -> Arg<'a> {
-    Arg::new(alloc, "MANIFEST")
-        .required(true)
-        .help(help::MANIFEST)
+    word(alloc, "MANIFEST", help::MANIFEST)
+}
+
+// A command with its help.
+fn helped<'a>(alloc: Global, name: &'a str, about: &'a str, after: &'a str) -> Command<'a> {
+    Command::new(alloc, name).about(about).after_help(after)
 }
 
 fn check_command<'a>(alloc: Global) -> Result<Command<'a>, AllocError> {
-    Command::new(alloc, "check")
-        .about(help::CHECK)
-        .after_help(help::AFTER_CHECK)
-        .arg(manifest(alloc))
+    helped(alloc, "check", help::CHECK, help::AFTER_CHECK).arg(manifest(alloc))
 }
 
 fn run_command<'a>(alloc: Global) -> Result<Command<'a>, AllocError> {
-    let script = Arg::new(alloc, "SCRIPT").required(true).help(help::SCRIPT);
-    Command::new(alloc, "run")
-        .about(help::RUN)
-        .after_help(help::AFTER_RUN)
+    helped(alloc, "run", help::RUN, help::AFTER_RUN)
         .arg(manifest(alloc))?
-        .arg(script)
+        .arg(word(alloc, "SCRIPT", help::SCRIPT))
 }
 
 // An option whose value is a number of 32 bits.
@@ -72,58 +74,63 @@ fn size<'a>(alloc: Global, name: &'a str, default: &'a str, help: &'a str) -> Ar
         .help(help)
 }
 
-fn schedule_command<'a>(alloc: Global) -> Result<Command<'a>, AllocError> {
-    let steps = Arg::new(alloc, "STEPS").required(true).help(help::STEPS);
-    Command::new(alloc, "schedule")
-        .about(help::SCHEDULE)
-        .after_help(help::AFTER_SCHEDULE)
+// A command with the options that are a store's sizes.
+fn sized<'a>(alloc: Global, command: Command<'a>) -> Result<Command<'a>, AllocError> {
+    command
         .arg(size(alloc, "nodes", "2", help::NODES))?
         .arg(size(alloc, "slots", "2", help::SLOTS))?
         .arg(size(alloc, "window", "64", help::WINDOW))?
-        .arg(size(alloc, "limit", "1000000", help::LIMIT))?
+        .arg(size(alloc, "limit", "1000000", help::LIMIT))
+}
+
+fn schedule_command<'a>(alloc: Global) -> Result<Command<'a>, AllocError> {
+    let command = helped(alloc, "schedule", help::SCHEDULE, help::AFTER_SCHEDULE);
+    sized(alloc, command)?
         .arg(manifest(alloc))?
-        .arg(steps)
+        .arg(word(alloc, "STEPS", help::STEPS))
 }
 
 fn replay_command<'a>(alloc: Global) -> Result<Command<'a>, AllocError> {
-    let transcript = Arg::new(alloc, "TRANSCRIPT")
-        .required(true)
-        .help(help::TRANSCRIPT);
-    Command::new(alloc, "replay")
-        .about(help::REPLAY)
-        .after_help(help::AFTER_REPLAY)
+    helped(alloc, "replay", help::REPLAY, help::AFTER_REPLAY)
         .arg(manifest(alloc))?
-        .arg(transcript)
+        .arg(word(alloc, "TRANSCRIPT", help::TRANSCRIPT))
 }
 
 fn asm_command<'a>(alloc: Global) -> Result<Command<'a>, AllocError> {
-    let file = Arg::new(alloc, "FILE").required(true).help(help::SOURCE);
-    Command::new(alloc, "asm")
-        .about(help::ASM)
-        .after_help(help::AFTER_ASM)
-        .arg(file)
+    helped(alloc, "asm", help::ASM, help::AFTER_ASM).arg(word(alloc, "FILE", help::SOURCE))
 }
 
 fn dis_command<'a>(alloc: Global) -> Result<Command<'a>, AllocError> {
-    let file = Arg::new(alloc, "FILE").required(true).help(help::PROGRAM);
-    Command::new(alloc, "dis")
-        .about(help::DIS)
-        .after_help(help::AFTER_DIS)
-        .arg(file)
+    helped(alloc, "dis", help::DIS, help::AFTER_DIS).arg(word(alloc, "FILE", help::PROGRAM))
+}
+
+// Adds a command, if it could be made.
+fn with<'a>(
+    command: Command<'a>,
+    added: Result<Command<'a>, AllocError>,
+) -> Result<Command<'a>, AllocError> {
+    command.subcommand(added?)
+}
+
+// Adds the commands that look at programs.
+fn with_programs<'a>(alloc: Global, command: Command<'a>) -> Result<Command<'a>, AllocError> {
+    let command = with(command, check_command(alloc))?;
+    let command = with(command, asm_command(alloc))?;
+    with(command, dis_command(alloc))
+}
+
+// Adds the commands that run a store.
+fn with_stores<'a>(alloc: Global, command: Command<'a>) -> Result<Command<'a>, AllocError> {
+    let command = with(command, run_command(alloc))?;
+    let command = with(command, replay_command(alloc))?;
+    with(command, schedule_command(alloc))
 }
 
 fn command<'a>(alloc: Global) -> Result<Command<'a>, AllocError> {
-    Command::new(alloc, "nrbpf")
-        .about(help::ABOUT)
-        .after_help(help::AFTER)
+    let command = helped(alloc, "nrbpf", help::ABOUT, help::AFTER)
         .subcommand_required(true)
-        .arg_required_else_help(true)
-        .subcommand(check_command(alloc)?)?
-        .subcommand(asm_command(alloc)?)?
-        .subcommand(dis_command(alloc)?)?
-        .subcommand(run_command(alloc)?)?
-        .subcommand(replay_command(alloc)?)?
-        .subcommand(schedule_command(alloc)?)
+        .arg_required_else_help(true);
+    with_stores(alloc, with_programs(alloc, command)?)
 }
 
 // The sizes that the options name.
@@ -157,21 +164,36 @@ fn manifest_call<'a>(manifest: &'a str, matches: &ArgMatches<'a>) -> Call<'a> {
     }
 }
 
+// The call of a command with these arguments.
+fn call_of<'a>(name: &str, matches: &ArgMatches<'a>) -> Option<Call<'a>> {
+    if let Some(file) = matches.get_str("FILE") {
+        return Some(if name == "asm" {
+            Call::Assemble(file)
+        } else {
+            Call::Disassemble(file)
+        });
+    }
+    let manifest = matches.get_str("MANIFEST")?;
+    Some(manifest_call(manifest, matches))
+}
+
+// The call that a command line asks for, if it names a command.
+fn named_call<'a>(matches: &ArgMatches<'a>) -> Option<Call<'a>> {
+    let (name, inner) = matches.subcommand()?;
+    call_of(name, inner)
+}
+
+// The call that the words ask of a command, or what is wrong with them.
+fn matched<'a>(command: &mut Command<'a>, words: &'a [String]) -> Result<Call<'a>, Error> {
+    let matches = command.try_get_matches_from_mut(words)?;
+    match named_call(&matches) {
+        Some(call) => Ok(call),
+        None => Err(command.error(ErrorKind::MissingSubcommand, "no command")?),
+    }
+}
+
 /// The call that the words of a command line ask for, the first of them the program's name.
 pub fn read<'a>(alloc: Global, words: &'a [String]) -> Result<Call<'a>, Error> {
     let mut command = command(alloc)?;
-    let matches = command.try_get_matches_from_mut(words)?;
-    if let Some((name, inner)) = matches.subcommand() {
-        if let Some(file) = inner.get_str("FILE") {
-            return if name == "asm" {
-                Ok(Call::Assemble(file))
-            } else {
-                Ok(Call::Disassemble(file))
-            };
-        }
-        if let Some(manifest) = inner.get_str("MANIFEST") {
-            return Ok(manifest_call(manifest, inner));
-        }
-    }
-    Err(command.error(ErrorKind::MissingSubcommand, "no command")?)
+    matched(&mut command, words)
 }

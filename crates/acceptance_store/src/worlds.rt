@@ -1,0 +1,126 @@
+//! A store of every schedule, by its calls, of what no row of crates/command_rows can say.
+
+ghost use Rattle.std.specs.Prelude.{◌≡◌, IfSome};
+
+use loader::load_manifest;
+use oplog::{Config, CopyAnswer, Hand, LogState};
+use readpath::ReadAnswer;
+use schedule::{Step, StepAnswer, World, run_steps};
+use std::alloc::Global;
+
+const BUMP: &str =
+    "bf12000000000000 1851000000000000 0000000000000000 8500000001000000 1500050000000000 7906000000000000 0706000001000000 7b60000000000000 bf60000000000000 9500000000000000 b7000000ffffffff 9500000000000000";
+
+const PEEK: &str =
+    "bf12000000000000 1851000000000000 0000000000000000 8500000001000000 1500020000000000 7900000000000000 9500000000000000 b7000000ffffffff 9500000000000000";
+
+const MANIFEST: &str =
+    "map array 8 16\nprogram bump update 4 bump.hex\nprogram peek read 4 peek.hex\n";
+
+// A store of two nodes of two slots, and a log of 16 records.
+fn counter(alloc: Global) -> Option<World> {
+    let files = [("bump.hex", BUMP), ("peek.hex", PEEK)];
+    let catalogue = load_manifest(alloc, MANIFEST, &files).ok()?;
+    let config = Config {
+        nodes: 2,
+        slots: 2,
+        window: 16,
+        limit: 100,
+    };
+    World::open(alloc, config, catalogue).ok()
+}
+
+// An update of the first key at the first slot of node 0.
+fn post(alloc: Global) -> Option<Step> {
+    Some(Step::Post {
+        node: 0,
+        slot: 0,
+        program: 0,
+        argument: vec![in alloc; 0u8; 4].ok()?,
+    })
+}
+
+// A read of the first key at the second slot of node 0.
+fn read_begin(alloc: Global) -> Option<Step> {
+    Some(Step::ReadBegin {
+        node: 0,
+        slot: 1,
+        program: 1,
+        argument: vec![in alloc; 0u8; 4].ok()?,
+    })
+}
+
+// A hand as wide as the log.
+fn hand_for(alloc: Global, log: &LogState) -> Option<Hand>
+    ensures window { IfSome result (λ hand. hand.window ≡ log.now.window) }
+{
+    let held = log.tail() - log.base();
+    let window = log.room() + held as usize;
+    Hand::open(alloc, window).ok()
+}
+
+#[test]
+fn a_read_waits_for_what_is_completed(rt: HostRuntime) {
+    let mut world = counter(rt.alloc()).expect(&rt, "world");
+    let steps = vec![in rt.alloc();
+        post(rt.alloc()).expect(&rt, "step"),
+        Step::Claim { node: 0 },
+        Step::Append { node: 0 },
+        Step::Replay { node: 0 },
+        read_begin(rt.alloc()).expect(&rt, "step"),
+        Step::ReadAnswer { node: 0, slot: 1 },
+        Step::Finish { node: 0 },
+        Step::ReadAnswer { node: 0, slot: 1 },
+    ]
+    .expect(&rt, "steps");
+    let answers = run_steps(rt.alloc(), &mut world, &steps).expect(&rt, "answers");
+    let wanted = [
+        StepAnswer::Done,
+        StepAnswer::Done,
+        StepAnswer::Done,
+        StepAnswer::Done,
+        StepAnswer::Done,
+        StepAnswer::NotNow,
+        StepAnswer::Done,
+        StepAnswer::ReadBack(ReadAnswer { point: 1, reply: 1 }),
+    ];
+    assert!(&rt; answers.as_slice() == &wanted[..]);
+}
+
+// A round of one update at node 0, whose record is then given up.
+fn round(alloc: Global) -> Option<Vec<Step>> {
+    let post = post(alloc)?;
+    let steps = vec![in alloc;
+        post,
+        Step::Claim { node: 0 },
+        Step::Append { node: 0 },
+        Step::Replay { node: 0 },
+        Step::Finish { node: 0 },
+        Step::Reply { node: 0 },
+        Step::Reclaim { node: 0 },
+    ];
+    steps.ok()
+}
+
+fn tail(world: &World, node: u32) -> Option<u64> {
+    world.replica(node).map(|replica| replica.tail())
+}
+
+// The answer to a copy of all records from the first one on.
+fn copied_from_first(alloc: Global, log: &LogState) -> Option<CopyAnswer> {
+    let mut hand = hand_for(alloc, log)?;
+    Some(log.copy_from(0, &mut hand))
+}
+
+#[test]
+fn what_lies_below_the_base_is_gone(rt: HostRuntime) {
+    let mut world = counter(rt.alloc()).expect(&rt, "world");
+    let steps = round(rt.alloc()).expect(&rt, "steps");
+    for step in &steps {
+        let _ = world.step(step);
+    }
+    let copied = copied_from_first(rt.alloc(), world.log());
+    assert!(&rt; copied == Some(CopyAnswer::Below(1)));
+    let tails = [tail(&world, 0), tail(&world, 1), tail(&world, 2)];
+    assert_eq!(rt; tails, [Some(1), Some(0), None]);
+}
