@@ -29,29 +29,29 @@ pub fn world_opened(alloc: Global) -> Ending {
 
 // An update of the first slot, and a read of the second.
 fn steps(alloc: Global) -> Result<Vec<Step>, AllocError> {
-    let bump = Step::Post {
+    let bump = vec![in alloc; 0u8; 4]?;
+    let peek = vec![in alloc; 0u8; 4]?;
+    let mut steps = Vec::with_capacity(alloc, 9)?;
+    steps.push_reserved(Step::Post {
         node: 0,
         slot: 0,
         program: 0,
-        argument: vec![in alloc; 0u8; 4]?,
-    };
-    let peek = Step::ReadBegin {
+        argument: bump,
+    });
+    steps.push_reserved(Step::Claim { node: 0 });
+    steps.push_reserved(Step::Append { node: 0 });
+    steps.push_reserved(Step::Replay { node: 0 });
+    steps.push_reserved(Step::Finish { node: 0 });
+    steps.push_reserved(Step::Reply { node: 0 });
+    steps.push_reserved(Step::Collect { node: 0, slot: 0 });
+    steps.push_reserved(Step::ReadBegin {
         node: 0,
         slot: 1,
         program: 1,
-        argument: vec![in alloc; 0u8; 4]?,
-    };
-    Ok(vec![in alloc;
-        bump,
-        Step::Claim { node: 0 },
-        Step::Append { node: 0 },
-        Step::Replay { node: 0 },
-        Step::Finish { node: 0 },
-        Step::Reply { node: 0 },
-        Step::Collect { node: 0, slot: 0 },
-        peek,
-        Step::ReadAnswer { node: 0, slot: 1 },
-    ]?)
+        argument: peek,
+    });
+    steps.push_reserved(Step::ReadAnswer { node: 0, slot: 1 });
+    Ok(steps)
 }
 
 // Whether these are the answers to those steps on a new store.
