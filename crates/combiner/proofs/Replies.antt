@@ -1,5 +1,5 @@
 -- Answering slot by slot.
-use Rattle.std.proofs.Common.{◌≡◌, ◌≢◌, ℕ, zero, suc, ◌+◌, ◌*◌, ◌<◌, ◌≤◌, ◌==◌, Bool, true, false, List, [], ◌∷◌, length, map, Option, Some, None, refl, sym, ap, ap₂, ◌∙◌, eq-eqb, nat_eq, ⊎_elim, subst, arith, if◌then◌else◌}
+use Rattle.std.proofs.Common.{◌≡◌, ◌≢◌, ℕ, zero, suc, ◌+◌, ◌<◌, ◌≤◌, true, false, List, [], ◌∷◌, length, map, Option, Some, refl, sym, ap, ap₂, ◌∙◌, eq-eqb, nat_eq, ⊎_elim, subst, arith, if◌then◌else◌}
 use Rattle.std.specs.Prelude.{slice_get, slice_set}
 use Rattle.std.proofs.lemmas.Option.{none-some, same_Some}
 use Rattle.std.proofs.lemmas.List.{length-map}
@@ -10,7 +10,7 @@ use Rattle.combiner.specs.declared.slots.Reply.{Reply}
 use Rattle.combiner.specs.declared.slots.Stage.{Stage}
 use Rattle.combiner.specs.declared.slots.Stage.TheVariants.{Empty, Posted, Claimed, Answered}
 use Rattle.combiner.specs.declared.slots.Slot.{Slot}
-use Rattle.combiner.specs.Slots.{slot, is_claimed, answered_slot, answered_stage}
+use Rattle.combiner.specs.Slots.{slot, is_claimed, answered_slot}
 use Rattle.combiner.specs.Desks.{DeskView, BatchView, first_author, with_slot, claimed_from, answer_for, answered_from, replied, IsBatchOf, IsAnswered}
 use Rattle.combiner.specs.Answering.{answer_no, uses, behind, used_by, answered_up_to, answered_to}
 use Rattle.combiner.proofs.Claims.{some_at}

@@ -1,12 +1,12 @@
 -- A desk, a batch, and what post, claim, reply and collect make of them.
-use Rattle.std.specs.Prelude.{◌≡◌, ◌≢◌, ℕ, zero, suc, ◌+◌, ◌*◌, ◌<◌, ◌≤◌, ◌==◌, Bool, true, false, List, [], ◌∷◌, length, map, replicate, Option, Some, None, slice_get, slice_set, if◌then◌else◌, IsSome}
+use Rattle.std.specs.Prelude.{◌≡◌, ℕ, suc, ◌*◌, ◌<◌, ◌==◌, Bool, List, [], ◌∷◌, length, map, replicate, Option, Some, None, slice_get, slice_set, if◌then◌else◌}
 use Rattle.std.specs.Option.{option_and_then, option_map}
 use Rattle.std.specs.List.{list_any}
 use Rattle.oplog.specs.Operations.{Operation}
 use Rattle.oplog.specs.declared.records.Record.{Record}
 use Rattle.combiner.specs.declared.slots.Reply.{Reply}
 use Rattle.combiner.specs.declared.slots.Stage.{Stage}
-use Rattle.combiner.specs.declared.slots.Stage.TheVariants.{Empty, Posted, Claimed, Answered}
+use Rattle.combiner.specs.declared.slots.Stage.TheVariants.{Empty, Posted, Answered}
 use Rattle.combiner.specs.declared.slots.Slot.{Slot}
 use Rattle.combiner.specs.declared.slots.DeskRefused.{DeskRefused}
 use Rattle.combiner.specs.declared.slots.DeskRefused.TheVariants.{NothingPosted, CombinerAtWork}

@@ -30,10 +30,6 @@ filled (Some k ∷ ks) = suc (filled ks)
 abbrev pub IsAbsent : KeyIndex → List ℕ → Type 0
 IsAbsent s key = (place : ℕ) → key_in s place ≢ Some key
 
--- each key stands at one place
-abbrev pub StandsOnce : KeyIndex → Type 0
-StandsOnce s = (p q : ℕ) (key : List ℕ) → key_in s p ≡ Some key → key_in s q ≡ Some key → p ≡ q
-
 -- the bytes of a key, the places and the buckets: they stay for good
 pub record HasSizes (s : KeyIndex) (size entries buckets : ℕ) : Type 0 where
   pub size_is : s.size ≡ size

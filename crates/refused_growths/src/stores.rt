@@ -14,7 +14,8 @@ use store::{Answer, Session, Store};
 
 const KEY: [u8; 4] = [0; 4];
 
-fn catalogue(alloc: Global) -> Option<Catalogue> {
+/// The counter's catalogue; none where it had no memory.
+pub fn catalogue(alloc: Global) -> Option<Catalogue> {
     let files = [("bump.hex", BUMP_LINE), ("peek.hex", PEEK_LINE)];
     load_manifest(alloc, MANIFEST, &files).ok()
 }

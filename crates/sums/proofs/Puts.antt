@@ -1,5 +1,5 @@
 -- Whoever holds the list may put it back with more behind it, and whoever holds the sum may put it back caught up.
-use Rattle.std.proofs.Common.{◌≡◌, ℕ, ◌+◌, ◌-◌, ◌%◌, ◌^◌, ◌<◌, ◌≤◌, max, List, [], ◌∷◌, ◌++◌, length, length-append, append-nil, append_assoc, take, set, sym, refl, ap, ◌∙◌, subst, arith, Result, Ok, Err, MatchResult}
+use Rattle.std.proofs.Common.{◌≡◌, ℕ, ◌+◌, ◌-◌, ◌%◌, ◌^◌, ◌≤◌, List, [], ◌∷◌, ◌++◌, length, length-append, append-nil, append_assoc, take, set, sym, refl, ap, ◌∙◌, subst, arith, Result, Ok, Err, MatchResult}
 use Rattle.std.proofs.Math.Nat.{le-max_right}
 use Rattle.ownlock.specs.declared.known.Known.{Known}
 use Rattle.ownlock.specs.Seats.{At}

@@ -1,13 +1,11 @@
 -- The sum's place and then the list's are taken.
-use Rattle.std.proofs.Common.{◌≡◌, ℕ, ◌≤◌, List, [], ◌∷◌, length, length-append, sym, refl, ap, ◌∙◌, subst, arith}
-use mathlib.Core.Option.{some-ne-none}
+use Rattle.std.proofs.Common.{◌≡◌, ℕ, List, [], ◌∷◌, sym, ap, ◌∙◌, subst}
 use lib.ListN.{get_elem?}
 use Rattle.ownlock.specs.declared.known.Known.{Known}
 use Rattle.ownlock.specs.Seats.{At, without}
 use Rattle.ownlock.specs.Knowledge.{Acquired}
 use Rattle.sums.specs.declared.kinds.Progress.{Progress}
 use Rattle.sums.specs.declared.kinds.Value.{Value}
-use Rattle.sums.specs.declared.kinds.Value.TheVariants.{List as TheList, Sum}
 use Rattle.sums.specs.Sums.{sum_rules, Accounts, AgreesWith, IsList, IsExtended, Follows, StartsWith}
 use Rattle.sums.specs.Laws.{starts_on}
 use Rattle.sums.proofs.Puts.{lists, follows}

@@ -1,5 +1,5 @@
 -- The laws of the lists and sums, proved. They stand here, since an `impl` names its laws from specs.
-use Rattle.std.specs.Prelude.{◌≡◌, ◌≢◌, ℕ, ◌+◌, ◌%◌, ◌^◌, ◌≤◌, max, zero, suc, List, [], ◌∷◌, ◌++◌, length, take, refl}
+use Rattle.std.specs.Prelude.{◌≡◌, ◌≢◌, ℕ, ◌+◌, ◌%◌, ◌^◌, ◌≤◌, zero, suc, List, [], ◌∷◌, ◌++◌, length, take, refl}
 use Rattle.std.proofs.Common.{sym, ap, ◌∙◌, arith, set, length-append, append_assoc, append-nil}
 use Rattle.std.proofs.Math.Nat.{le-max_left, max-le}
 use mathlib.Core.Option as kernel
@@ -9,7 +9,7 @@ use Rattle.ownlock.specs.Rules.{Laws}
 use Rattle.sums.specs.declared.kinds.Progress.{Progress}
 use Rattle.sums.specs.declared.kinds.Value.{Value}
 use Rattle.sums.specs.declared.kinds.Value.TheVariants.{List as TheList, Sum}
-use Rattle.sums.specs.Sums.{total, StartsWith, AgreesWith, Accounts, Moves, raised, sum_rules}
+use Rattle.sums.specs.Sums.{total, StartsWith, AgreesWith, Moves, raised, sum_rules}
 
 sum_set : (ns : List ℕ) (i n k : ℕ) → get_elem? ns i ≡ kernel.some n → total (set ns i (n + k)) ≡ total ns + k
 sum_set [] i n k e = absurd (some-ne-none n (sym e))

@@ -1,6 +1,4 @@
-use Rattle.std.proofs.Common.{◌&&◌, not, cond, Some, None, sym, ◌∙◌, ap}
-use Rattle.std.specs.Prelude.{nat_eq}
-use Rattle.insn.specs.Layout.{falls_through}
+use Rattle.std.proofs.Common.{not, cond, Some, None, sym, ◌∙◌, ap}
 use Rattle.flow.specs.declared.rules.StructureRule.TheVariants.{Unreachable}
 use Rattle.flow.specs.SlotSets.{has_slot}
 use Rattle.flow.proofs.Steps.{jump_breaks, end_breaks, end_passes}

@@ -1,8 +1,4 @@
-use Rattle.std.proofs.Common.{sym, ap}
-use Rattle.std.specs.Prelude.{option_map}
 use Rattle.maps.specs.MapSets.{maps_of}
-use Rattle.oplog.specs.History.{left_by}
-use Rattle.replica.specs.StoreMeaning.{as_update}
 use Rattle.replica.proofs.Afters.{after_one_more}
 use Rattle.replica.proofs.Kept.{keeps_one_more, is_answered, leaves}
 use Rattle.replica.proofs.operations.run_each.Goals as goal

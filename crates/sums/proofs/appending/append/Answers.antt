@@ -1,4 +1,4 @@
-use Rattle.std.proofs.Common.{[], ◌+◌, ◌≤◌, ◌∷◌, length, sym, ap, subst, arith, ◌∙◌}
+use Rattle.std.proofs.Common.{◌+◌, ◌≤◌, length, sym, ap, subst, arith, ◌∙◌}
 use Rattle.sums.specs.Sums.{StartsWith, moved_progress}
 use Rattle.sums.specs.Laws.{starts_on}
 use Rattle.ownlock.proofs.Seats.{one_known}

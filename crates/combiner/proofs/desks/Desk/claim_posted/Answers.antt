@@ -1,4 +1,4 @@
-use Rattle.std.proofs.Common.{◌≡◌, ◌≤◌, arith, ap, ◌∙◌, length, ◌<◌}
+use Rattle.std.proofs.Common.{◌≡◌, arith, ap, ◌∙◌, length, ◌<◌}
 use Rattle.oplog.specs.declared.configuration.TheConstants.{MAX_NODE_SLOTS}
 use Rattle.combiner.proofs.Claims.{desk_turn, records_turn, answers_turn, claimed_whole, batch_whole, claimed_length, requests_few}
 use Rattle.combiner.specs.Desks.{first_author}
