@@ -86,16 +86,24 @@ is_free x e = by (has_combiner x) e
     by false e = refl
     by true e = absurd (some_none CombinerAtWork (Some CombinerAtWork) refl e)
 
+pub has_one : (x : DeskView) → claim_refusal x ≡ None → has_request x ≡ true
+has_one x e = by (has_combiner x) (has_request x) e
+  where
+    by : (b r : Bool) → (if b then Some CombinerAtWork else if r then None else Some NothingPosted) ≡ None → r ≡ true
+    by b true e = refl
+    by false false e = absurd (some_none NothingPosted (Some NothingPosted) refl e)
+    by true false e = absurd (some_none CombinerAtWork (Some CombinerAtWork) refl e)
+
 pub claim_turn : (slot : ℕ) (x x2 y : DeskView) (t : Turn) → x2 ≡ x → collected slot x ≡ None → IsClaim x2 y t → IsTurn slot x y t
 claim_turn slot x x2 y (Collects reply) same none c = absurd c
-claim_turn slot x x2 y (Combines batch) same none c = let t = subst (λ z. (has_combiner z ≡ false) × (y ≡ claimed z) × (batch ≡ batch_of z)) same c in (none, t.0, t.1, t.2)
+claim_turn slot x x2 y (Combines batch) same none c = let t = subst (λ z. (has_combiner z ≡ false) × (has_request z ≡ true) × (y ≡ claimed z) × (batch ≡ batch_of z)) same c in (none, t.0, t.1, t.2, t.3)
 claim_turn slot x x2 y Waits same none c = (none, c ∙ same)
 
 pub turn_steps : (slot : ℕ) (k : SessionKnown) (o : Pending) (x y : DeskView) (t : Turn) → IsTurn slot x y t → IsAt slot k x → HasAsked k o → TurnSteps k o x y t
 turn_steps slot k o x y (Collects reply) t i asked =
     let c = collected_is slot reply x y t in
     (CollectStep slot o reply i.own asked.pending refl t, answered store_meaning k.progress i.notes k.session k.note x slot c.0 o reply i.accounts i.here i.agrees i.own c.1 c.2 asked.pending)
-turn_steps slot k o x y (Combines batch) t i asked = (ClaimStep t.1 asked.alone (ap (λ b. record k.note { batch = unplaced b.records }) t.3) t.2, subst (λ b. Ascend b.records) (sym t.3) (claims_ascend x))
+turn_steps slot k o x y (Combines batch) t i asked = (ClaimStep t.1 asked.alone (ap (λ b. record k.note { batch = unplaced b.records }) t.4) t.3, subst (λ b. Ascend b.records) (sym t.4) (claims_ascend x))
 turn_steps slot k o x y Waits t i asked = t.1
 
 -- ---- reply

@@ -1,150 +1,193 @@
 -- What a closed store leaves.
-use Rattle.std.specs.Option.{IsSome, option_to_list}
-use Rattle.std.proofs.Common.{Bool, true, false, length-append, ◌≡◌, ℕ, zero, suc, ◌+◌, ◌<◌, ◌≤◌, List, [], ◌∷◌, ◌++◌, length, replicate, ◌*◌, sym, refl, ap, ◌∙◌, subst, arith, Option, Some, None}
+use Rattle.std.proofs.Common.{◌≡◌, ℕ, zero, suc, ◌+◌, ◌*◌, ◌<◌, ◌≤◌, List, [], ◌∷◌, length, take, sym, refl, ap, ◌∙◌, subst, arith, suc-mul, Option, Some}
+use Rattle.std.proofs.lemmas.List.{length-replicate}
+use Rattle.std.specs.Global.{Box}
 use mathlib.Core.Option.{some-injective}
-use lib.ListN.{get_elem?}
-use Rattle.ownlock.specs.Seats.{At, HoldsNone}
-use Rattle.ownlock.specs.Knowledge.{Closes, AllAgree}
+use Rattle.maps.specs.Maps.{shapes_of}
+use Rattle.ownlock.specs.Seats.{At}
+use Rattle.ownlock.specs.Knowledge.{AllAgree, Closes}
 use Rattle.loader.specs.CatalogueView.{CatalogueView}
+use Rattle.oplog.specs.declared.configuration.Config.{Config}
+use Rattle.oplog.specs.declared.records.Record.{Record}
+use Rattle.oplog.specs.Limits.{IsConfig}
 use Rattle.oplog.specs.Logs.{Log as LogView}
 use Rattle.replica.specs.StoreMeaning.{store_meaning}
+use Rattle.replica.specs.Views.{ReplicaView}
 use Rattle.progress.specs.declared.sessions.Progress.{Progress}
 use Rattle.progress.specs.declared.sessions.SessionNote.{SessionNote}
 use Rattle.progress.specs.Accounts.{Extends}
 use Rattle.progress.specs.Agreement.{LogAgrees, ReplicaAgrees}
-use Rattle.progress.specs.Told.{records_of, numbered}
+use Rattle.progress.specs.LogSteps.{fresh_note}
 use Rattle.progress.proofs.Ended.{ends}
-use Rattle.progress.proofs.Lists.{at_none, at_below}
+use Rattle.progress.proofs.Lists.{at_none}
+use Rattle.progress.proofs.Puts.{at_there}
+use Rattle.progress.proofs.Tellings.{tail_is}
 use Rattle.store.specs.declared.values.NodeReplica.{NodeReplica}
+use Rattle.store.specs.declared.values.Setup.{Setup}
 use Rattle.store.specs.declared.values.Value.{Value}
 use Rattle.store.specs.declared.values.Value.TheVariants.{Log, Replica, Desk}
-use Rattle.store.proofs.StoreLaws.{session_laws}
-use Rattle.store.specs.declared.values.Setup.{Setup}
-use Rattle.progress.specs.LogSteps.{fresh_note}
-use Rattle.store.specs.Shelving.{opening_notes, view_of, store_rules, log_value, replica_value, HasLogSizes}
-use Rattle.store.specs.Sessions.{StoreView, SessionView, known_of}
+use Rattle.store.specs.Shelving.{HasLogSizes, log_value, opening_notes, replica_value, sessions_of, store_rules, view_of}
+use Rattle.store.specs.Sessions.{SessionView, StoreView, known_of}
 use Rattle.store.specs.Standing.{SessionKnown}
-use Rattle.store.specs.Opening.{AreOf, IsClosed, IsOpenable}
-use Rattle.progress.proofs.Tellings.{tail_is}
-use Rattle.std.specs.Global.{Box}
-use Rattle.maps.specs.Maps.{shapes_of}
-use Rattle.oplog.specs.declared.configuration.Config.{Config}
+use Rattle.store.specs.Opening.{AreIdle, AreLeft, AreOf, IsClosed, closed_view, known_back, replica_slots, replicas_in}
+use Rattle.store.proofs.Joined.{back_has, back_is}
+use Rattle.store.proofs.StoreLaws.{session_laws}
 
 abbrev L : Type 0
 L = Progress CatalogueView
 
-pub one_item : {A : Type 0} (xs ys : List A) (a : A) → length xs ≡ 1 → xs ≡ ys ++ a ∷ [] → xs ≡ a ∷ []
-one_item xs [] a long e = e
-one_item xs (y ∷ ys) a long e = absurd (let n = sym long ∙ ap length e in more ys a n)
-  where
-    more : (ys : List _) (a : _) → 1 ≡ length (y ∷ (ys ++ a ∷ [])) → ⊥
-    more [] a e = omega (arith, e)
-    more (z ∷ zs) a e = omega (arith, e)
+-- ---- what the places have
 
-only : {A : Type 0} (a b : A) (i : ℕ) → At i b (a ∷ []) → b ≡ a
-only a b zero e = sym (some-injective a b e)
-only a b (suc i) e = absurd (at_none i b e)
-
-pub one_session : (shelf setup : Setup) → shelf ≡ setup → IsOpenable setup.config → length (opening_notes shelf) ≡ 1
-one_session shelf setup same fits = ap (λ (z : Setup). length (opening_notes z)) same ∙ ap (λ n. length (replicate n fresh_note)) (λ i. fits.nodes i * fits.slots i)
-
-pub one_holds_none : (view : List SessionKnown) (s : SessionView) → view ≡ known_of s ∷ [] → HoldsNone view
-one_holds_none view s is a t at = ap (λ (z : SessionKnown). z.held) (only (known_of s) t a (subst (λ z. At a t z) is at))
-
--- the log and the replica, in the order of their places
-pub record IsPair (l : L) (slots : List (Option Value)) : Type 0 where
-  pub log : Box LogView
-  pub node : Box NodeReplica
-  pub slots_are : slots ≡ Some (Log log) ∷ Some (Replica node) ∷ []
-  pub log_is : LogAgrees store_meaning l (log_value log.value)
-  pub log_sizes : HasLogSizes l.config l.catalogue log.value
-  pub replica_is : ReplicaAgrees store_meaning l (replica_value node.value.replica)
-  pub replica_shapes : shapes_of node.value.replica.maps ≡ l.catalogue.shapes
-
--- no desk is at the first places
-no_desk_at : (p node nodes : ℕ) → node < nodes → p ≤ 1 → p ≡ 1 + nodes + node → ⊥
-no_desk_at p node nodes lt low e = omega (arith, lt, low, e)
-
-no_first : ◌≡◌ {A = ℕ} 1 0 → ⊥
-no_first e = omega (arith, e)
-
-no_other : (n : ℕ) → 0 ≡ 1 + n → ⊥
-no_other n e = omega (arith, e)
+abbrev ReplicaFits : L → NodeReplica → Type 0
+ReplicaFits l n = ReplicaAgrees store_meaning l (replica_value n.replica) × (shapes_of n.replica.maps ≡ l.catalogue.shapes)
 
 log_at : (l : L) (ns : List SessionNote) (v : Value) → store_rules.AgreesWith 0 l ns v → (g : Box LogView) × (v ≡ Log g) × LogAgrees store_meaning l (log_value g.value) × HasLogSizes l.config l.catalogue g.value
 log_at l ns (Log g) a = (g, refl, (session_laws.agrees 0 l ns (view_of (Log g)) a.0).1, a.1)
-log_at l ns (Replica n) a = let it = session_laws.agrees 0 l ns (view_of (Replica n)) a.0 in absurd (no_other it.0 it.2)
-log_at l ns (Desk d) a = let it = session_laws.agrees 0 l ns (view_of (Desk d)) a.0 in absurd (no_desk_at 0 d.value.node l.config.nodes it.0 (omega arith) it.1)
+log_at l ns (Replica n) a = let it = session_laws.agrees 0 l ns (view_of (Replica n)) a.0 in absurd (other it.0 it.2)
+  where
+    other : (n : ℕ) → 0 ≡ 1 + n → ⊥
+    other n e = omega (arith, e)
+log_at l ns (Desk d) a = let it = session_laws.agrees 0 l ns (view_of (Desk d)) a.0 in absurd (other l.config.nodes d.value.node it.1)
+  where
+    other : (m n : ℕ) → 0 ≡ 1 + m + n → ⊥
+    other m n e = omega (arith, e)
 
-replica_at : (l : L) (ns : List SessionNote) (v : Value) → store_rules.AgreesWith 1 l ns v → (n : Box NodeReplica) × (v ≡ Replica n) × ReplicaAgrees store_meaning l (replica_value n.value.replica) × (shapes_of n.value.replica.maps ≡ l.catalogue.shapes)
-replica_at l ns (Replica n) a = (n, refl, (session_laws.agrees 1 l ns (view_of (Replica n)) a.0).3, a.1.0)
-replica_at l ns (Log g) a = absurd (no_first (session_laws.agrees 1 l ns (view_of (Log g)) a.0).0)
-replica_at l ns (Desk d) a = let it = session_laws.agrees 1 l ns (view_of (Desk d)) a.0 in absurd (no_desk_at 1 d.value.node l.config.nodes it.0 (omega arith) it.1)
+replica_at : (l : L) (ns : List SessionNote) (i : ℕ) (v : Value) → i < l.config.nodes → store_rules.AgreesWith (suc i) l ns v → (n : Box NodeReplica) × (v ≡ Replica n) × ReplicaFits l n.value
+replica_at l ns i (Replica n) lt a = (n, refl, ((session_laws.agrees (suc i) l ns (view_of (Replica n)) a.0).3, a.1.0))
+replica_at l ns i (Log g) lt a = absurd (other i (session_laws.agrees (suc i) l ns (view_of (Log g)) a.0).0)
+  where
+    other : (i : ℕ) → suc i ≡ 0 → ⊥
+    other i e = omega (arith, e)
+replica_at l ns i (Desk d) lt a = let it = session_laws.agrees (suc i) l ns (view_of (Desk d)) a.0 in absurd (other i l.config.nodes d.value.node lt it.1)
+  where
+    other : (i m n : ℕ) → i < m → suc i ≡ 1 + m + n → ⊥
+    other i m n lt e = omega (arith, lt, e)
 
-pub is_pair : (l : L) (ns : List SessionNote) (slots : List (Option Value)) → length slots ≡ 2 → AllAgree store_rules l ns slots → IsPair l slots
-is_pair l ns [] long all = absurd (omega (arith, long))
-is_pair l ns (a ∷ []) long all = absurd (omega (arith, long))
-is_pair l ns (a ∷ b ∷ []) long all =
-    let first = all 0 (omega (arith, long)) in
-    let second = all 1 (omega (arith, long)) in
+-- the replicas that the first n places have
+pub record AreReplicas (l : L) (n : ℕ) (values : List (Option Value)) : Type 0 where
+  pub nodes : List (Box NodeReplica)
+  pub values_are : values ≡ replica_slots nodes
+  pub many : length nodes ≡ n
+  pub fit : (i : ℕ) (m : Box NodeReplica) → At i m nodes → ReplicaFits l m.value
+
+first_replicas : (l : L) (n : ℕ) (values : List (Option Value)) → ((i : ℕ) → i < n → (m : Box NodeReplica) × At i (Some (Replica m)) values × ReplicaFits l m.value) → AreReplicas l n (take n values)
+first_replicas l zero values h = record { nodes = []; values_are = refl; many = refl; fit = λ i m at. absurd (at_none i m at) }
+first_replicas l (suc n) [] h = let f = h 0 (omega arith) in absurd (at_none 0 (Some (Replica f.0)) f.1)
+first_replicas l (suc n) (v ∷ vs) h =
+    let f = h 0 (omega arith) in
+    let r = first_replicas l n vs (λ i lt. h (suc i) (omega (arith, lt))) in
+    record { nodes = f.0 ∷ r.nodes; values_are = λ i. some-injective v (Some (Replica f.0)) f.1 i ∷ r.values_are i; many = ap suc r.many; fit = by f.0 f.2 r.nodes r.fit }
+  where
+    by : (m : Box NodeReplica) → ReplicaFits l m.value → (ms : List (Box NodeReplica)) → ((i : ℕ) (x : Box NodeReplica) → At i x ms → ReplicaFits l x.value) → (i : ℕ) (x : Box NodeReplica) → At i x (m ∷ ms) → ReplicaFits l x.value
+    by m first ms rest zero x at = subst (λ (z : Box NodeReplica). ReplicaFits l z.value) (some-injective m x at) first
+    by m first ms rest (suc i) x at = rest i x at
+
+-- the log, and then the replicas
+pub record IsLeft (l : L) (n : ℕ) (values : List (Option Value)) : Type 0 where
+  pub log : Box LogView
+  pub nodes : List (Box NodeReplica)
+  pub values_are : values ≡ Some (Log log) ∷ replica_slots nodes
+  pub many : length nodes ≡ n
+  pub log_is : LogAgrees store_meaning l (log_value log.value)
+  pub log_sizes : HasLogSizes l.config l.catalogue log.value
+  pub fit : (i : ℕ) (m : Box NodeReplica) → At i m nodes → ReplicaFits l m.value
+
+left : (l : L) (ns : List SessionNote) (values : List (Option Value)) → length values ≡ 1 + l.config.nodes + l.config.nodes → AllAgree store_rules l ns values → IsLeft l l.config.nodes (take (suc l.config.nodes) values)
+left l ns [] long all = absurd (none l.config.nodes long)
+  where
+    none : (n : ℕ) → 0 ≡ 1 + n + n → ⊥
+    none n e = omega (arith, e)
+left l ns (v ∷ vs) long all =
+    let first = all 0 (omega arith) in
     let g = log_at l ns first.0 first.2 in
-    let n = replica_at l ns second.0 second.2 in
+    let r = first_replicas l l.config.nodes vs there in
     record {
       log = g.0;
-      node = n.0;
-      slots_are = λ i. (some-injective a (Some first.0) first.1 ∙ ap Some g.1) i ∷ (some-injective b (Some second.0) second.1 ∙ ap Some n.1) i ∷ [];
+      nodes = r.nodes;
+      values_are = λ i. (some-injective v (Some first.0) first.1 ∙ ap Some g.1) i ∷ r.values_are i;
+      many = r.many;
       log_is = g.2;
       log_sizes = g.3;
-      replica_is = n.2;
-      replica_shapes = n.3;
-    }
-is_pair l ns (a ∷ b ∷ c ∷ cs) long all = absurd (omega (arith, long))
-
-pub is_closed : (store : StoreView) (sessions : List SessionView) (s : SessionView) (view : List SessionKnown) (count : ℕ) (slots : List (Option Value)) → AreOf store sessions → sessions ≡ s ∷ [] → view ≡ known_of s ∷ [] → count ≡ 1
-    → s.note.pending ≡ None → length slots ≡ 2 → (a : Closes store_rules count view slots) → (p : IsPair a.0 slots) → IsClosed store sessions p.log.value p.node.value.replica
-is_closed store sessions s view one slots own is known only_one idle long a p =
-    let k = a.4 0 (known_of s) (ap (λ z. get_elem? z 0) known) in
-    let e = ends store_meaning a.0 a.1 a.2 in
-    let count : length a.1 ≡ 1 = a.3 ∙ only_one in
-    let zero_is = at_below a.1 s.session s.note k.1 in
-    let of = own 0 s (ap (λ z. get_elem? z 0) is) in
-    let config = sym k.0.config ∙ of.config in
-    let catalogue = sym k.0.catalogue ∙ of.catalogue in
-    let w = a.2 in
-    record {
-      progress = a.0;
-      of = (config, catalogue);
-      well_formed = record { allowed = w.allowed; completed = w.completed; limit = w.limit };
-      log_tail = tail_is store_meaning a.0 (log_value p.log.value) w.completed p.log_is;
-      log_sizes = subst (λ (z : Config × CatalogueView). HasLogSizes z.0 z.1 p.log.value) (λ i. (config i, catalogue i)) p.log_sizes;
-      replica_shapes = p.replica_shapes ∙ ap (λ (z : CatalogueView). z.shapes) catalogue;
-      grown = λ j t at. subst (λ (z : SessionView). Extends z.progress a.0) (mine j t at) k.0;
-      log_is = p.log_is;
-      replica_is = p.replica_is;
-      answered = λ j t at. subst (λ (z : SessionView). records_of z.session a.0.history ≡ numbered z.session 0 z.note.answered) (mine j t at) (e.0 s.session s.note k.1 idle);
-      authors = λ i r at. (0, s, ap (λ z. get_elem? z 0) is, (let low = e.1 i r at in omega (arith, low, count, zero_is)));
+      fit = r.fit;
     }
   where
-    mine : (j : ℕ) (t : SessionView) → At j t sessions → s ≡ t
-    mine j t at = sym (only s t j (subst (λ z. At j t z) is at))
+    there : (i : ℕ) → i < l.config.nodes → (m : Box NodeReplica) × At i (Some (Replica m)) vs × ReplicaFits l m.value
+    there i lt =
+        let one = all (suc i) (omega (arith, lt, long)) in
+        let n = replica_at l ns i one.0 lt one.2 in
+        (n.0, subst (λ z. At i (Some z) vs) n.1 one.1, n.2)
 
-abbrev IsNo : Bool → Type 0
-IsNo false = Unit {0}
-IsNo true = ⊥
+pub is_left : (l : L) (ns : List SessionNote) (values : List (Option Value)) (n : ℕ) → l.config.nodes ≡ n → length values ≡ 1 + n + n → AllAgree store_rules l ns values → IsLeft l n (take (1 + n) values)
+is_left l ns values n same long all = subst (λ z. IsLeft l z (take (1 + z) values)) same (subst (λ z. IsLeft l l.config.nodes (take z values)) (one_more l.config.nodes) (left l ns values (subst (λ z. length values ≡ 1 + z + z) (sym same) long) all))
+  where
+    one_more : (n : ℕ) → suc n ≡ 1 + n
+    one_more n = omega arith
 
-last_is : {A : Type 0} (ys : List A) (c a b : A) → ys ++ c ∷ [] ≡ a ∷ b ∷ [] → (c ≡ b) × (ys ≡ a ∷ [])
-last_is [] c a b e = absurd (let n = ap length e in omega (arith, n))
-last_is (y ∷ []) c a b e = (some-injective c b (ap (λ l. get_elem? l 1) e), λ i. some-injective y a (ap (λ l. get_elem? l 0) e) i ∷ [])
-last_is (y ∷ z ∷ zs) c a b e = absurd (let n = ap length e in let m = length-append zs (c ∷ []) in omega (arith, n, m))
+pub are_left : (l : L) (n : ℕ) (values : List (Option Value)) → IsLeft l n values → AreLeft values
+are_left l n values p = (p.log, p.nodes, p.values_are)
 
-one_is : {A : Type 0} (ys : List A) (c a : A) → ys ++ c ∷ [] ≡ a ∷ [] → c ≡ a
-one_is [] c a e = some-injective c a (ap (λ l. get_elem? l 0) e)
-one_is (y ∷ ys) c a e = absurd (let n = ap length e in let m = length-append ys (c ∷ []) in omega (arith, n, m))
+-- ---- and how they are seen
 
-pub pop_two : {A : Type 0} (xs ys : List A) (o : Option A) (a b : A) → xs ≡ ys ++ option_to_list o → IsSome o → xs ≡ a ∷ b ∷ [] → (o ≡ Some b) × (ys ≡ a ∷ [])
-pop_two xs ys (Some c) a b e some is = let t = last_is ys c a b (sym e ∙ is) in (ap Some t.0, t.1)
-pop_two xs ys None a b e some is = absurd (subst IsNo some tt)
+many_seen : (ms : List (Box NodeReplica)) → length (replicas_in (replica_slots ms)) ≡ length ms
+many_seen [] = refl
+many_seen (m ∷ ms) = ap suc (many_seen ms)
 
-pub pop_one : {A : Type 0} (xs ys : List A) (o : Option A) (a : A) → xs ≡ ys ++ option_to_list o → IsSome o → xs ≡ a ∷ [] → o ≡ Some a
-pop_one xs ys (Some c) a e some is = ap Some (one_is ys c a (sym e ∙ is))
-pop_one xs ys None a e some is = absurd (subst IsNo some tt)
+seen_is : (ms : List (Box NodeReplica)) (i : ℕ) (r : ReplicaView) → At i r (replicas_in (replica_slots ms)) → (m : Box NodeReplica) × At i m ms × (m.value.replica ≡ r)
+seen_is [] i r at = absurd (at_none i r at)
+seen_is (m ∷ ms) zero r at = (m, refl, some-injective m.value.replica r at)
+seen_is (m ∷ ms) (suc i) r at = seen_is ms i r at
+
+-- ---- how many sessions there are
+
+some_product : (n m : ℕ) → 0 < n → 0 < m → 0 < n * m
+some_product zero m low more = absurd (omega (arith, low))
+some_product (suc n) m low more = let e = suc-mul n m in omega (arith, e, more)
+
+pub some_sessions : (config : Config) → IsConfig config → 0 < sessions_of config
+some_sessions config w = let n = w.nodes.0 in let m = w.slots.0 in some_product config.nodes config.slots (omega (arith, n)) (omega (arith, m))
+
+pub all_notes : (shelf setup : Setup) → shelf ≡ setup → length (opening_notes shelf) ≡ sessions_of setup.config
+all_notes shelf setup same = ap (λ (z : Setup). length (opening_notes z)) same ∙ length-replicate (sessions_of setup.config) fresh_note
+
+-- ---- all sessions have brought what they know
+
+module _ (store : StoreView) (sessions : List SessionView) (view : List SessionKnown) (count : ℕ) (slots : List (Option Value)) (own : AreOf store sessions) (some : 0 < length sessions) (known : view ≡ known_back sessions) (idle : AreIdle sessions)
+    (a : Closes store_rules count view slots) where
+  abbrev l : L
+  l = a.0
+
+  mine : (j : ℕ) (s : SessionView) → At j s sessions → Extends s.progress l × At s.session s.note a.1
+  mine j s at = let h = back_has sessions j s at in a.4 h.0 (known_of s) (subst (λ z. At h.0 (known_of s) z) (sym known) h.1)
+
+  pub config_is : l.config ≡ store.config
+  config_is = let s = at_there sessions 0 some in sym (mine 0 s.0 s.1).0.config ∙ (own 0 s.0 s.1).config
+
+  pub catalogue_is : l.catalogue ≡ store.catalogue
+  catalogue_is = let s = at_there sessions 0 some in sym (mine 0 s.0 s.1).0.catalogue ∙ (own 0 s.0 s.1).catalogue
+
+  pub left_of : length slots ≡ 1 + store.config.nodes + store.config.nodes → IsLeft l store.config.nodes (take (1 + store.config.nodes) slots)
+  left_of long = is_left l a.1 slots store.config.nodes (ap (λ (z : Config). z.nodes) config_is) long a.5
+
+  author_of : (i : ℕ) (r : Record) → At i r l.history → (j : ℕ) × (s : SessionView) × At j s sessions × (r.author ≡ s.session)
+  author_of i r at =
+      let low = (ends store_meaning l a.1 a.2).1 i r at in
+      let all = a.3 in
+      let q = a.6 r.author (omega (arith, low, all)) in
+      let b = back_is sessions q.0 q.1 (subst (λ z. At q.0 q.1 z) known q.2) in
+      (b.0, b.1, b.2, sym q.3 ∙ ap (λ (z : SessionKnown). z.session) b.3)
+
+  pub is_closed : (values : List (Option Value)) → IsLeft l store.config.nodes values → IsClosed store sessions (closed_view values)
+  is_closed values p = subst (λ z. IsClosed store sessions (closed_view z)) (sym p.values_are) (record {
+    progress = l;
+    of = (config_is, catalogue_is);
+    well_formed = record { allowed = a.2.allowed; completed = a.2.completed; limit = a.2.limit };
+    grown = λ j s at. (mine j s at).0;
+    log_is = p.log_is;
+    log_tail = tail_is store_meaning l (log_value p.log.value) a.2.completed p.log_is;
+    log_sizes = subst (λ (z : Config × CatalogueView). HasLogSizes z.0 z.1 p.log.value) (λ i. (config_is i, catalogue_is i)) p.log_sizes;
+    nodes = many_seen p.nodes ∙ p.many;
+    replica_is = λ i r at. let m = seen_is p.nodes i r at in subst (λ z. ReplicaAgrees store_meaning l (replica_value z)) m.2 (p.fit i m.0 m.1).0;
+    replica_shapes = λ i r at. let m = seen_is p.nodes i r at in ap (λ (z : ReplicaView). shapes_of z.maps) (sym m.2) ∙ ((p.fit i m.0 m.1).1 ∙ ap (λ (z : CatalogueView). z.shapes) catalogue_is);
+    answered = λ j s at. (ends store_meaning l a.1 a.2).0 s.session s.note (mine j s at).1 (idle j s at);
+    authors = author_of;
+  })

@@ -16,8 +16,8 @@ use Rattle.progress.proofs.Putting.{store_opens}
 use Rattle.progress.proofs.StoreRules.{desk_store}
 use Rattle.store.specs.declared.values.Value.{Value}
 use Rattle.store.specs.declared.values.Value.TheVariants.{Log, Replica, Desk}
-use Rattle.store.specs.Places.{AreFilled, AreKept, AreShelved, IsOpenedDesk, shared_rules}
-use Rattle.store.specs.Shelving.{IsOpenedLog, IsOpenedReplica, IsSized, sessions_of, view_of}
+use Rattle.store.specs.Places.{AreFilled, AreKept, AreShelved, IsOpenedDesk}
+use Rattle.store.specs.Shelving.{IsOpenedLog, IsOpenedReplica, IsSized, sessions_of, store_rules, view_of}
 use Rattle.store.proofs.Opened.{log_opens, replica_opens}
 
 -- ---- one value more
@@ -68,7 +68,7 @@ shelved config c shapes same none first second third log empty is opened long ke
 
 -- ---- they agree with what a store begins with
 
-desk_opens : (config : Config) (c : CatalogueView) (node : ℕ) (v : Value) → node < config.nodes → IsOpenedDesk config.slots node v → shared_rules.AgreesWith (desk_place config node) (first_progress config c) (replicate (sessions_of config) fresh_note) v
+desk_opens : (config : Config) (c : CatalogueView) (node : ℕ) (v : Value) → node < config.nodes → IsOpenedDesk config.slots node v → store_rules.AgreesWith (desk_place config node) (first_progress config c) (replicate (sessions_of config) fresh_note) v
 desk_opens config c node (Desk d) lt is =
     let low : suc node * config.slots ≤ config.nodes * config.slots = mul-le-mul_right config.slots lt in
     let more = suc-mul node config.slots in
@@ -80,20 +80,20 @@ desk_opens config c node (Replica n) lt is = absurd is
 one_more : (i : ℕ) → 1 + i ≡ suc i
 one_more i = omega arith
 
-pub places_agree : (config : Config) (c : CatalogueView) (values : List (Option Value)) → AreShelved config c values → AllAgree shared_rules (first_progress config c) (replicate (sessions_of config) fresh_note) values
+pub places_agree : (config : Config) (c : CatalogueView) (values : List (Option Value)) → AreShelved config c values → AllAgree store_rules (first_progress config c) (replicate (sessions_of config) fresh_note) values
 places_agree config c values s p lt = by_place p lt (cases_lt p 1) (cases_lt p (1 + config.nodes))
   where
     by_place : (p : ℕ) → p < length values → (p < 1) ⊎ (1 ≤ p) → (p < 1 + config.nodes) ⊎ (1 + config.nodes ≤ p)
-        → (x : Value) × At p (Some x) values × shared_rules.AgreesWith p (first_progress config c) (replicate (sessions_of config) fresh_note) x
+        → (x : Value) × At p (Some x) values × store_rules.AgreesWith p (first_progress config c) (replicate (sessions_of config) fresh_note) x
     by_place zero lt low less = let t = log_opens config c s.log.0 s.log.2 in (s.log.0, s.log.1, (store_opens (desk_store store_meaning) view_of IsSized config c (sessions_of config)).1 s.log.0 t.0 t.1)
     by_place (suc i) lt low (inl less) =
         let n = s.replicas i (omega (arith, less)) in
         let t = replica_opens config c n.0 n.2 in
-        subst (λ q. (x : Value) × At q (Some x) values × shared_rules.AgreesWith q (first_progress config c) (replicate (sessions_of config) fresh_note) x) (one_more i)
+        subst (λ q. (x : Value) × At q (Some x) values × store_rules.AgreesWith q (first_progress config c) (replicate (sessions_of config) fresh_note) x) (one_more i)
         (n.0, n.1, (store_opens (desk_store store_meaning) view_of IsSized config c (sessions_of config)).2 i n.0 (omega (arith, less)) t.0 t.1)
     by_place (suc i) lt low (inr more) =
         let count = s.count in
         let inside : i - config.nodes < config.nodes = omega (arith, lt, more, count) in
         let is : 1 + config.nodes + (i - config.nodes) ≡ suc i = omega (arith, more) in
         let d = s.desks (i - config.nodes) inside in
-        (d.0, subst (λ q. At q (Some d.0) values) is d.1, subst (λ q. shared_rules.AgreesWith q (first_progress config c) (replicate (sessions_of config) fresh_note) d.0) is (desk_opens config c (i - config.nodes) d.0 inside d.2))
+        (d.0, subst (λ q. At q (Some d.0) values) is d.1, subst (λ q. store_rules.AgreesWith q (first_progress config c) (replicate (sessions_of config) fresh_note) d.0) is (desk_opens config c (i - config.nodes) d.0 inside d.2))

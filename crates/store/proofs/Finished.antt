@@ -1,5 +1,5 @@
 -- What was copied is replayed and completed, and the replica is put back.
-use Rattle.std.proofs.Common.{eq-eqb, if◌then◌else◌, ◌≡◌, ℕ, ◌+◌, ◌<◌, ◌≤◌, List, [], ◌∷◌, length, sym, refl, ap, ◌∙◌, subst, arith, Some, None, slice_get, Result, Ok, Err, MatchResult, IfOk, option_map}
+use Rattle.std.proofs.Common.{eq-eqb, if◌then◌else◌, ◌≡◌, ℕ, ◌+◌, ◌<◌, ◌≤◌, List, [], ◌∷◌, length, sym, refl, ap, ◌∙◌, subst, arith, Some, slice_get, option_map}
 use lib.ListN.{get_elem?}
 use Rattle.ownlock.specs.Rules.{leader}
 use Rattle.ownlock.specs.Seats.{At, without, with_progress, left_with}
@@ -8,13 +8,11 @@ use Rattle.machine.specs.declared.running.Outcome.{Outcome}
 use Rattle.loader.specs.CatalogueView.{CatalogueView}
 use Rattle.oplog.specs.Operations.{Operation}
 use Rattle.oplog.specs.declared.configuration.Config.{Config}
-use Rattle.oplog.specs.declared.configuration.TheConstants.{MAX_LIMIT}
 use Rattle.oplog.specs.declared.records.Record.{Record}
-use Rattle.oplog.specs.declared.answers.Ended.{Ended}
 use Rattle.oplog.specs.History.{reply_at}
 use Rattle.readpath.specs.declared.reading.ReadAnswer.{ReadAnswer}
 use Rattle.replica.specs.StoreMeaning.{store_meaning}
-use Rattle.replica.specs.Views.{RepliesView, no_replies}
+use Rattle.replica.specs.Views.{RepliesView}
 use Rattle.progress.specs.declared.sessions.Progress.{Progress}
 use Rattle.progress.specs.declared.sessions.SessionNote.{SessionNote}
 use Rattle.progress.specs.Values.{ReplicaValue, TheReplica}
@@ -24,18 +22,16 @@ use Rattle.progress.specs.Putting.{KeepsSizes}
 use Rattle.progress.specs.Picks.{put_progress, put_note}
 use Rattle.progress.specs.Told.{ReadTells}
 use Rattle.maps.specs.Maps.{Maps}
-use Rattle.progress.proofs.Tellings.{placed_tells, ended_tells, reads_tell}
+use Rattle.progress.proofs.Tellings.{reads_tell}
 use Rattle.progress.proofs.Picked.{replica_picked, replica_picks, puts_account, same_picked, same_picks}
 use Rattle.progress.proofs.Finish.{grown_long}
-use Rattle.progress.proofs.Lists.{at_below}
 use Rattle.progress.proofs.Seen.{sized_on}
-use Rattle.progress.specs.Single.{next_record, note_with}
 use Rattle.store.specs.declared.values.Value.{Value}
 use Rattle.store.specs.declared.values.Value.TheVariants.{Log, Replica, Desk}
 use Rattle.store.specs.Shelving.{view_of, IsSized, session_rules, session_noting, store_rules, replica_value}
 use Rattle.store.specs.Held.{IsReplica, IsReplicaOf, Replies, tail_in}
-use Rattle.store.specs.Standing.{SessionKnown, Stands, AgreesIn, HoldsReplica, IsFree, GoesOn, HasAppended, HasRaised, KeepsOutcomesOf, HasCaughtUp, IsBroughtUp}
-use Rattle.store.specs.Sessions.{IsUpdated, IsReadBy, request_of}
+use Rattle.store.specs.Standing.{SessionKnown, Stands, AgreesIn, HoldsReplica, GoesOn, HasRaised, KeepsOutcomesOf, IsBroughtUp}
+use Rattle.store.specs.Sessions.{IsReadBy}
 use Rattle.store.proofs.StoreLaws.{session_laws, session_notes, store_laws}
 use Rattle.store.proofs.Taken.{TookReplica, TookLog, own_on, tail_low, well_formed}
 use Rattle.store.proofs.Played.{HasAllIn, all_agrees, all_tail}
@@ -132,60 +128,12 @@ module _ (k : K) (w : Value) (h : HoldsReplica k w) (sessions : List K) (is : se
   pub back : (v : Value) (q : ℕ) → k.held ≡ (q, w) ∷ [] → AgreesIn k.progress v → tail_in v ≤ length k.progress.history → (l : L) (ns : List SessionNote) → Possible store_rules k l ns → Back k (put_back sessions v k q l)
   back v q e a low l ns may = subst (λ z. Back k (put_back sessions v k z l)) (same_place q e) (back_zero v a low l ns may)
 
--- the reply of the session's record is kept
-pub reply_kept : (k a : K) (r : Record) (i t : ℕ) (old new : RepliesView) → At i r a.progress.history → t ≤ i → old.first ≡ i → 0 < length old.outcomes → KeepsOutcomesOf a.progress t old new
-    → (o : Outcome) × (slice_get new.outcomes 0 ≡ Some (Some o)) × (reply_at store_meaning a.progress.catalogue a.progress.history i r.op ≡ Some o.reply)
-reply_kept k a r i t old new at low is some kept =
-    let one = kept 0 i r some low at (omega (arith, is)) in
+-- the reply of a record that was replayed is kept
+pub reply_kept : (a : K) (r : Record) (j i t : ℕ) (old new : RepliesView) → At i r a.progress.history → t ≤ i → old.first + j ≡ i → j < length old.outcomes → KeepsOutcomesOf a.progress t old new
+    → (o : Outcome) × (slice_get new.outcomes j ≡ Some (Some o)) × (reply_at store_meaning a.progress.catalogue a.progress.history i r.op ≡ Some o.reply)
+reply_kept a r j i t old new at low is some kept =
+    let one = kept j i r some low at is in
     (one.0, one.1, ap (λ e. option_map (λ z. z.reply) e) one.2.takes ∙ ap (λ (o : Outcome). Some o.reply) (sym one.2.outcome))
-
-module _ (p : ℕ) (k t a r f : K) (w : Value) (next : Record) (took : TookReplica p k t w) (is : next ≡ next_record k.session k.note next.op) (idle : k.note.pending ≡ None) (goes : GoesOn t a) (rose : GoesOn a r) (note : r.note ≡ a.note)
-    (completed : length a.progress.history ≤ r.progress.completed) (end : Back r f) where
-  to_f : Extends a.progress f.progress
-  to_f = store_laws.extends_on a.progress r.progress f.progress rose.extends end.extends
-
-  from_k : Extends k.progress a.progress
-  from_k = store_laws.extends_on k.progress t.progress a.progress took.extends goes.extends
-
-  session : f.session ≡ k.session
-  session = end.session ∙ (rose.session ∙ (goes.session ∙ took.session))
-
-  pub updated : (i reply : ℕ) → length t.progress.history ≤ i → i < MAX_LIMIT → At i next a.progress.history → a.note ≡ note_with t.note i next.op → reply_at store_meaning a.progress.catalogue a.progress.history i next.op ≡ Some reply
-      → IsUpdated k f next.op (Ok (record { index = i; reply = reply }))
-  updated i reply far small at noted same =
-      let up = end.extends.completed in
-      let below = at_below a.progress.history i next at in
-      let long = grown_long store_meaning k.progress t.progress took.extends in
-      let longer = grown_long store_meaning a.progress f.progress to_f in
-      record {
-        session = session;
-        held = end.held;
-        extends = store_laws.extends_on k.progress a.progress f.progress from_k to_f;
-        well_formed = well_formed f.progress end.stands.notes end.stands.accounts;
-        tells = (
-          placed_tells store_meaning a.progress f.progress k.session (length k.note.answered) i reply (request_of k.progress next.op) to_f (subst (λ z. At i z a.progress.history) is at) same (omega (arith, far, long)) (omega (arith, below, completed, up)),
-          end.note ∙ (note ∙ (noted ∙ ap (λ z. note_with z i next.op) took.note)),
-        );
-        longer = (small, omega (arith, far, long, below, longer));
-      }
-
-  pub ended : a.note ≡ t.note → a.progress.config.limit ≤ length a.progress.history → (e : Ended) → IsUpdated k f next.op (Err e)
-  ended noted full e =
-      let up = end.extends.completed in
-      let same = ap (λ (z : Config). z.limit) to_f.config in
-      let kept : f.note ≡ k.note = end.note ∙ (note ∙ (noted ∙ took.note)) in
-      record {
-        session = session;
-        held = end.held;
-        extends = store_laws.extends_on k.progress a.progress f.progress from_k to_f;
-        well_formed = well_formed f.progress end.stands.notes end.stands.accounts;
-        tells = (
-          ended_tells store_meaning f.progress end.stands.notes k.session k.note (request_of k.progress next.op) end.stands.accounts (subst (λ z. At z k.note end.stands.notes) session (subst (λ z. At f.session z end.stands.notes) kept end.stands.here)) idle
-              (omega (arith, full, completed, up, same)),
-          kept,
-        );
-        longer = tt;
-      }
 
 pub is_catalogue : (p : ℕ) (k t a : K) (w : Value) (c : CatalogueView) → TookReplica p k t w → GoesOn t a → k.progress.catalogue ≡ c → a.progress.catalogue ≡ c
 is_catalogue p k t a w c b g is = sym g.extends.catalogue ∙ (sym b.extends.catalogue ∙ is)
@@ -238,20 +186,6 @@ module _ (k t : K) (y x : Value) (b : TookLog k t y x) where
           reached = omega (arith, tail, rise, low);
         }
 
-pub placed_ok : (k a : K) (r : Record) (result : Result ℕ Ended) (v : Value) (i : ℕ) → HasAppended k a r result v → result ≡ Ok i → (length k.progress.history ≤ i) × (tail_in v ≤ i) × (i < MAX_LIMIT) × At i r a.progress.history × (a.note ≡ note_with k.note i r.op)
-placed_ok k a r result v i h e = subst (λ z. MatchResult z (λ i. (length k.progress.history ≤ i) × (tail_in v ≤ i) × (i < MAX_LIMIT) × At i r a.progress.history × (a.note ≡ note_with k.note i r.op)) (λ _. (a.note ≡ k.note) × (a.progress.config.limit ≤ length a.progress.history))) e h.placed
-
-pub placed_err : (k a : K) (r : Record) (result : Result ℕ Ended) (v : Value) (x : Ended) → HasAppended k a r result v → result ≡ Err x → (a.note ≡ k.note) × (a.progress.config.limit ≤ length a.progress.history)
-placed_err k a r result v x h e = subst (λ z. MatchResult z (λ i. (length k.progress.history ≤ i) × (tail_in v ≤ i) × (i < MAX_LIMIT) × At i r a.progress.history × (a.note ≡ note_with k.note i r.op)) (λ _. (a.note ≡ k.note) × (a.progress.config.limit ≤ length a.progress.history))) e h.placed
-
-pub first_kept : (k a b : K) (r : Record) (result : Result ℕ Ended) (v w : Value) (i j : ℕ) (old new : RepliesView) → HasAppended k a r result v → result ≡ Ok i → HasCaughtUp a b v w old new → old ≡ no_replies j 1 → IfOk result (λ n. j ≡ n)
-    → (o : Outcome) × (slice_get new.outcomes 0 ≡ Some (Some o)) × (reply_at store_meaning a.progress.catalogue a.progress.history i r.op ≡ Some o.reply)
-first_kept k a b r result v w i j old new h e c o p =
-    let t = placed_ok k a r result v i h e in
-    let one : length old.outcomes ≡ 1 = ap (λ z. length z.outcomes) o in
-    let here : j ≡ i = subst (λ z. IfOk z (λ n. j ≡ n)) e p in
-    reply_kept k a r i (tail_in v) old new t.3 t.1 (ap (λ z. z.first) o ∙ here) (omega (arith, one)) c.replies
-
 pub is_up : (k : K) (v : Value) (done : ℕ) → AgreesIn k.progress v → Stands k → done ≤ tail_in v → IsBroughtUp k k done v
 is_up k v done a s far =
     let low = tail_low k.progress v a in
@@ -285,9 +219,6 @@ is_read p k t b f from w v done op c answer grown is took up end same point repl
       extends = store_laws.extends_on k.progress from f.progress grown (store_laws.extends_on from t.progress f.progress took.extends (store_laws.extends_on t.progress b.progress f.progress up.goes.extends end.extends));
       tells = subst (λ z. ReadTells store_meaning f.progress k.progress.completed op z answer.reply) (sym point) (told_read b.progress f.progress v op c k.progress.completed answer.reply end.extends up.agrees up.within (omega (arith, far, rise, is)) reply same);
     }
-
-pub free_on : (p : ℕ) (k : K) (from : L) → Extends k.progress from → IsFree p k → IsFree p (with_progress k from)
-free_on p k from g free = record { node = free.node; place_is = free.place_is; own = own_on k (with_progress k from) free.node refl g free.own; held = free.held }
 
 pub later_catalogue : (p : ℕ) (k t b : K) (from : L) (w v : Value) (done : ℕ) (c : CatalogueView) → Extends k.progress from → TookReplica p (with_progress k from) t w → IsBroughtUp t b done v → k.progress.catalogue ≡ c → b.progress.catalogue ≡ c
 later_catalogue p k t b from w v done c g took up is = sym up.goes.extends.catalogue ∙ (sym took.extends.catalogue ∙ (sym g.catalogue ∙ is))

@@ -67,6 +67,7 @@ module _ (l : L) (g : LogView) (n : NodeReplica) (is : IsLogOf l g) (f : Follows
     pub can_follow : IsWellFormed store_meaning l → CanFollow l.catalogue g n
     can_follow w = record {
       copy = can_copy;
+      empty = f.empty;
       shapes = f.shapes;
       updates = λ k r e. w.allowed (n.replica.tail + k) r (at_drop n.replica.tail l.history k r (at_of (drop n.replica.tail l.history) k r (subst (λ z. slice_get z k ≡ Some r) others e)));
     }

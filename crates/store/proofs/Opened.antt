@@ -18,7 +18,7 @@ use Rattle.store.proofs.StoreLaws.{session_laws}
 use Rattle.store.specs.declared.values.NodeReplica.{NodeReplica}
 use Rattle.store.specs.declared.values.Value.{Value}
 use Rattle.store.specs.declared.values.Value.TheVariants.{Log, Replica, Desk}
-use Rattle.store.specs.Shelving.{view_of, IsSized, HasLogSizes, log_value, replica_value, resting_hand, store_rules, sessions_of, IsOpenedLog, IsOpenedReplica, AreOpened}
+use Rattle.store.specs.Shelving.{view_of, IsSized, HasLogSizes, log_value, replica_value, resting_hand, IsOpenedLog, IsOpenedReplica}
 
 shapes_open : (shapes : List Shape) → shapes_of (opening_maps shapes) ≡ shapes
 shapes_open [] = refl
@@ -36,20 +36,3 @@ replica_opens config c (Replica n) e = (
   ap (λ (z : NodeReplica). TheReplica (replica_value z.replica)) e,
   subst (λ (z : NodeReplica). (shapes_of z.replica.maps ≡ c.shapes) × (z.hand ≡ resting_hand config z.replica.tail)) (sym e) (shapes_open c.shapes, refl),
 )
-
-pub agree : (config : Config) (c : CatalogueView) (values : List (Option Value)) → config.nodes ≡ 1 → AreOpened config c values → AllAgree store_rules (first_progress config c) (replicate (sessions_of config) fresh_note) values
-agree config c values fits (log, node, is, log_is, node_is) = subst (λ z. AllAgree store_rules (first_progress config c) (replicate (sessions_of config) fresh_note) z) (sym is) both
-  where
-    both : AllAgree store_rules (first_progress config c) (replicate (sessions_of config) fresh_note) (Some log ∷ Some node ∷ [])
-    both zero h = let t = log_opens config c log log_is in (log, refl, (store_opens session_laws view_of IsSized config c (sessions_of config)).1 log t.0 t.1)
-    both (suc zero) h = let t = replica_opens config c node node_is in (node, refl, (store_opens session_laws view_of IsSized config c (sessions_of config)).2 0 node (omega (arith, fits)) t.0 t.1)
-    both (suc (suc p)) h = absurd (omega (arith, h))
-
--- one node of two slots has two sessions
-pub two_sessions : (config : Config) (c : CatalogueView) → config.nodes ≡ 1 → config.slots ≡ 2 → (v : List SessionKnown) → v ≡ all_sessions (first_progress config c) 0 (replicate (sessions_of config) fresh_note)
-    → v ≡ fresh_known config c ∷ record (fresh_known config c) { session = 1 } ∷ []
-two_sessions config c one two v is = is ∙ ap (λ n. all_sessions (first_progress config c) 0 (replicate n fresh_note)) (λ i. one i * two i)
-
--- a log that is as it was taken may go back
-pub put_same : (k : SessionKnown) (q : ℕ) (x : Value) (a : ℕ) → q ≡ leader → At a (leader, x) k.held → MayPut store_rules (λ l. l) (λ n. n) k q x
-put_same k q x a e at = subst (λ z. MayPut store_rules (λ l. l) (λ n. n) k z x) (sym e) (same_may_put session_laws view_of IsSized k leader a x x at refl (λ config c s. s))

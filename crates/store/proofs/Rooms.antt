@@ -1,6 +1,7 @@
 -- While the log is held: a replica that keeps up with its base and follows it, and a log that gets room.
-use Rattle.std.proofs.Common.{◌≡◌, Bool, true, false, ℕ, zero, suc, ◌-◌, ◌<◌, ◌≤◌, min, [], length, refl, sym, ap, ◌∙◌, subst, arith}
-use Rattle.std.proofs.Math.Nat.{le-max_right, max-le, min-le_left, min-le_right}
+use Rattle.std.proofs.Common.{◌≡◌, Bool, true, false, ℕ, ◌-◌, ◌<◌, ◌≤◌, min, [], length, refl, sym, ap, ◌∙◌, subst, arith, ⊎_elim}
+use Rattle.std.proofs.Math.Nat.{le-max_right, max-le, min-le_left}
+use Rattle.std.proofs.lemmas.Bool.{cases_lt}
 use Rattle.maps.specs.Maps.{shapes_of}
 use Rattle.loader.specs.CatalogueView.{CatalogueView}
 use Rattle.oplog.specs.Logs.{Log as LogView, tail_of, left_of, room_in}
@@ -14,7 +15,7 @@ use Rattle.store.specs.declared.values.Value.{Value}
 use Rattle.store.specs.declared.values.Value.TheVariants.{Log, Replica, Desk}
 use Rattle.store.specs.Shelving.{log_value}
 use Rattle.store.specs.Lent.{reclaimed}
-use Rattle.store.specs.Held.{IsFull, IsWide, told, tail_in, CanReclaimIn, IsReclaimed}
+use Rattle.store.specs.Held.{LacksRoom, IsWide, told, tail_in, CanReclaimIn, IsReclaimed}
 use Rattle.store.specs.Standing.{SessionKnown, FollowsIn, IsLogOf, LogIs, HoldsLog, HasPlace, HasRoom, HasRaised}
 use Rattle.store.proofs.StoreLaws.{store_laws}
 use Rattle.store.proofs.Taken.{well_formed}
@@ -31,7 +32,7 @@ K = SessionKnown
 -- ---- reclaiming
 
 -- what was replayed while the log was held, once that is completed, is the base of a log without records
-module _ (k after : K) (g : LogView) (u : NodeReplica) (is : IsLogOf k.progress g) (all : HasAll k.progress u) (up : HasRaised k after u.replica.tail) (holds : HoldsLog k) (wide : 16 ≤ g.window) (full : room_in g ≡ 0) where
+module _ (k after : K) (g : LogView) (u : NodeReplica) (is : IsLogOf k.progress g) (all : HasAll k.progress u) (up : HasRaised k after u.replica.tail) (holds : HoldsLog k) (want : ℕ) (few : want ≤ 16) (wide : 16 ≤ g.window) (lacks : room_in g < min want (left_of g)) where
   abbrev told_log : LogView
   told_log = told u.replica.tail g
 
@@ -63,13 +64,13 @@ module _ (k after : K) (g : LogView) (u : NodeReplica) (is : IsLogOf k.progress 
   }
 
   can_reclaim : (g.base < u.replica.tail) × (u.replica.tail ≤ tail_of g) × (shapes_of u.replica.maps ≡ shapes_of g.base_maps)
-  can_reclaim = let t = is.tail in let a = all.tail in (omega (arith, t, a, full, wide), omega (arith, t, a), all.shapes ∙ sym is.sizes.2)
+  can_reclaim = let t = is.tail in let a = all.tail in (omega (arith, t, a, lacks, wide, few, min-le_left want (left_of g)), omega (arith, t, a), all.shapes ∙ sym is.sizes.2)
 
-  one_fits : (w n : ℕ) → n ≡ 0 → 1 ≤ w → (left : ℕ) → min 1 left ≤ w - n
-  one_fits w n e wide left = let low = min-le_left 1 left in omega (arith, e, wide, low)
+  all_fit : (w n : ℕ) → n ≡ 0 → want ≤ w → (left : ℕ) → min want left ≤ w - n
+  all_fit w n e wide left = let low = min-le_left want left in omega (arith, e, wide, low)
 
-  freed : 0 < left_of g → HasPlace k after g h u
-  freed more = record {
+  freed : HasPlace k after want g h u
+  freed = record {
     goes = up.goes;
     note = up.note;
     well = well_formed after.progress up.stands.notes up.stands.accounts;
@@ -78,23 +79,17 @@ module _ (k after : K) (g : LogView) (u : NodeReplica) (is : IsLogOf k.progress 
     keeps = (refl, refl, all.shapes ∙ sym is.sizes.2);
     follows = follows_on k.progress after.progress u up.goes.extends (all_follows k.progress u all);
     above = omega arith;
-    room = one_fits h.window (length h.records) (ap length none_left) (omega (arith, wide)) (left_of h);
-    ended = λ e. absurd (omega (arith, e, more));
+    room = all_fit h.window (length h.records) (ap length none_left) (omega (arith, wide, few)) (left_of h);
   }
 
 -- ---- the same of values
 
--- nothing to do, since the history may have no more records, or there is room for one
-module _ (k : K) (x z : Value) where
-  no_room : (left room : ℕ) → ((room ≡ 0) × (0 < left) → ⊥) → min 1 left ≤ room
-  no_room zero room not = let low = min-le_right 1 zero in omega (arith, low)
-  no_room (suc left) zero not = absurd (not (refl, omega arith))
-  no_room (suc left) (suc room) not = let low = min-le_left 1 (suc left) in omega (arith, low)
-
-  pub roomy : IsWellFormed store_meaning k.progress → LogIs k.progress x → FollowsIn k.progress z → IsAbove x z → (IsFull x → ⊥) → HasRoom k k x x z
+-- nothing to do, since there is room for as many as the history may have
+module _ (k : K) (want : ℕ) (x z : Value) where
+  pub roomy : IsWellFormed store_meaning k.progress → LogIs k.progress x → FollowsIn k.progress z → IsAbove x z → (LacksRoom want x → ⊥) → HasRoom k k want x x z
   roomy w = by x z
     where
-      by : (x z : Value) → LogIs k.progress x → FollowsIn k.progress z → IsAbove x z → (IsFull x → ⊥) → HasRoom k k x x z
+      by : (x z : Value) → LogIs k.progress x → FollowsIn k.progress z → IsAbove x z → (LacksRoom want x → ⊥) → HasRoom k k want x x z
       by (Log g) (Replica n) is f low not = record {
         goes = record { session = refl; held = refl; extends = store_laws.extends_self k.progress };
         note = refl;
@@ -104,36 +99,35 @@ module _ (k : K) (x z : Value) where
         keeps = (refl, refl, refl);
         follows = f;
         above = low;
-        room = no_room (left_of g.value) (room_in g.value) not;
-        ended = λ _. refl;
+        room = ⊎_elim (λ lt. absurd (not lt)) (λ le. le) (cases_lt (room_in g.value) (min want (left_of g.value)));
       }
       by (Log g) (Log n) is f low not = absurd f
       by (Log g) (Desk n) is f low not = absurd f
       by (Replica n) z is f low not = absurd is
       by (Desk n) z is f low not = absurd is
 
-module _ (k after : K) (x u : Value) (holds : HoldsLog k) (up : HasRaised k after (tail_in u)) where
-  pub reclaims : LogIs k.progress x → HasAllIn k.progress u → IsWide x → IsFull x → CanReclaimIn x u
+module _ (k after : K) (want : ℕ) (few : want ≤ 16) (x u : Value) (holds : HoldsLog k) (up : HasRaised k after (tail_in u)) where
+  pub reclaims : LogIs k.progress x → HasAllIn k.progress u → IsWide x → LacksRoom want x → CanReclaimIn x u
   reclaims = by x u up
     where
-      by : (x u : Value) → HasRaised k after (tail_in u) → LogIs k.progress x → HasAllIn k.progress u → IsWide x → IsFull x → CanReclaimIn x u
-      by (Log g) (Replica n) up is all wide full = can_reclaim k after g.value n.value is all up holds wide.0 full.0
-      by (Log g) (Log n) up is all wide full = absurd all
-      by (Log g) (Desk n) up is all wide full = absurd all
-      by (Replica n) u up is all wide full = absurd is
-      by (Desk n) u up is all wide full = absurd is
+      by : (x u : Value) → HasRaised k after (tail_in u) → LogIs k.progress x → HasAllIn k.progress u → IsWide x → LacksRoom want x → CanReclaimIn x u
+      by (Log g) (Replica n) up is all wide lacks = can_reclaim k after g.value n.value is all up holds want few wide.0 lacks
+      by (Log g) (Log n) up is all wide lacks = absurd all
+      by (Log g) (Desk n) up is all wide lacks = absurd all
+      by (Replica n) u up is all wide lacks = absurd is
+      by (Desk n) u up is all wide lacks = absurd is
 
-  pub freed_in : (y : Value) → LogIs k.progress x → HasAllIn k.progress u → IsWide x → IsFull x → IsReclaimed x u y → HasRoom k after x y u
+  pub freed_in : (y : Value) → LogIs k.progress x → HasAllIn k.progress u → IsWide x → LacksRoom want x → IsReclaimed x u y → HasRoom k after want x y u
   freed_in = by x u up
     where
-      by : (x u : Value) → HasRaised k after (tail_in u) → (y : Value) → LogIs k.progress x → HasAllIn k.progress u → IsWide x → IsFull x → IsReclaimed x u y → HasRoom k after x y u
-      by (Log g) (Replica n) up (Log h) is all wide full e = subst (λ z. HasPlace k after g.value z n.value) (sym e) (freed k after g.value n.value is all up holds wide.0 full.0 full.1)
-      by (Log g) (Replica n) up (Replica h) is all wide full e = absurd e
-      by (Log g) (Replica n) up (Desk h) is all wide full e = absurd e
-      by (Log g) (Log n) up y is all wide full e = absurd all
-      by (Log g) (Desk n) up y is all wide full e = absurd all
-      by (Replica n) u up y is all wide full e = absurd is
-      by (Desk n) u up y is all wide full e = absurd is
+      by : (x u : Value) → HasRaised k after (tail_in u) → (y : Value) → LogIs k.progress x → HasAllIn k.progress u → IsWide x → LacksRoom want x → IsReclaimed x u y → HasRoom k after want x y u
+      by (Log g) (Replica n) up (Log h) is all wide lacks e = subst (λ z. HasPlace k after want g.value z n.value) (sym e) (freed k after g.value n.value is all up holds want few wide.0 lacks)
+      by (Log g) (Replica n) up (Replica h) is all wide lacks e = absurd e
+      by (Log g) (Replica n) up (Desk h) is all wide lacks e = absurd e
+      by (Log g) (Log n) up y is all wide lacks e = absurd all
+      by (Log g) (Desk n) up y is all wide lacks e = absurd all
+      by (Replica n) u up y is all wide lacks e = absurd is
+      by (Desk n) u up y is all wide lacks e = absurd is
 
 pub all_low : (l : L) (u : Value) → HasAllIn l u → tail_in u ≤ length l.history
 all_low l (Replica n) a = let t = a.tail in omega (arith, t)

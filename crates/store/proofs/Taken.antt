@@ -1,31 +1,29 @@
 -- The replica's place and the log's are taken.
-use Rattle.std.proofs.Common.{◌≡◌, ℕ, zero, suc, ◌+◌, ◌≤◌, [], ◌∷◌, map, sym, ap, ◌∙◌, subst, arith}
+use Rattle.std.proofs.Common.{◌≡◌, ℕ, zero, suc, ◌+◌, ◌<◌, ◌≤◌, [], ◌∷◌, map, sym, refl, ap, ◌∙◌, subst, arith}
 use Rattle.maps.specs.Maps.{Maps}
 use Rattle.ownlock.specs.Rules.{leader}
 use Rattle.ownlock.specs.Seats.{At, place_of}
 use Rattle.ownlock.specs.Knowledge.{Acquired, MayTake}
 use Rattle.loader.specs.CatalogueView.{CatalogueView}
 use Rattle.oplog.specs.declared.configuration.Config.{Config}
-use Rattle.oplog.specs.declared.records.Record.{Record}
-use Rattle.oplog.specs.Sessions.{IsSessionOf}
+use Rattle.oplog.specs.Sessions.{IsSessionOf, session as place}
 use Rattle.replica.specs.StoreMeaning.{store_meaning}
 use Rattle.progress.specs.declared.sessions.Progress.{Progress}
 use Rattle.progress.specs.Values.{LogValue, ReplicaValue, StoreValue, TheLog, TheReplica, TheDesk}
-use Rattle.progress.specs.Accounts.{Accounts, Extends, IsWellFormed, IsAllowed}
+use Rattle.progress.specs.Accounts.{Accounts, Extends, IsWellFormed}
 use Rattle.progress.specs.Agreement.{LogAgrees, ReplicaAgrees}
-use Rattle.progress.specs.Moves.{HoldsBoth, HoldsReplica as HoldsReplicaPlace}
-use Rattle.progress.specs.Single.{next_record}
-use Rattle.progress.specs.declared.sessions.SessionNote.{SessionNote}
-use Rattle.progress.proofs.Putting.{takes_log, takes_its_replica}
+use Rattle.progress.specs.Moves.{HoldsBoth}
+use Rattle.progress.proofs.Putting.{may_take_first, takes_log, takes_its_replica}
 use Rattle.progress.proofs.Tellings.{tail_is}
 use Rattle.progress.proofs.Lists.{at_none}
 use Rattle.progress.proofs.Finish.{replica_puts}
 use Rattle.progress.proofs.Seen.{sized_on}
+use Rattle.store.specs.declared.steps.Caller.{Caller}
 use Rattle.store.specs.declared.values.Value.{Value}
 use Rattle.store.specs.declared.values.Value.TheVariants.{Log, Replica, Desk}
 use Rattle.store.specs.Shelving.{view_of, IsSized, session_rules, store_rules, log_value, replica_value}
 use Rattle.store.specs.Held.{IsReplica, tail_in}
-use Rattle.store.specs.Standing.{SessionKnown, Stands, AgreesIn, FollowsIn, LogIs, HoldsReplica, HoldsLog, IsFree, IsNext}
+use Rattle.store.specs.Standing.{SessionKnown, Stands, AgreesIn, FollowsIn, LogIs, HoldsReplica, HoldsLog, IsFree, IsOnShelf}
 use Rattle.store.proofs.Followed.{follows_on}
 use Rattle.store.proofs.StoreLaws.{session_laws}
 use mathlib.Core.Option.{some-injective}
@@ -104,11 +102,8 @@ well_formed l ns a = record { allowed = a.allowed; completed = a.completed; limi
 pub own_on : (k t : K) (node : ℕ) → t.session ≡ k.session → Extends k.progress t.progress → IsSessionOf k.progress.config node k.session → IsSessionOf t.progress.config node t.session
 own_on k t node e g own = subst (λ z. IsSessionOf t.progress.config node z) (sym e) (subst (λ (z : Config). IsSessionOf z node k.session) g.config own)
 
-pub may_take_replica : (k : K) (p : ℕ) → IsFree p k → MayTake store_rules p k
-may_take_replica k p free = (
-  (λ a u at e. at_none a u (subst (λ z. At a u z) free.held at)),
-  session_laws.allows k.progress k.session _ (HoldsReplicaPlace free.node free.own (ap (λ z. p ∷ map place_of z) free.held ∙ ap (λ z. z ∷ []) free.place_is)),
-)
+pub may_take_replica : (k : K) (caller : Caller) → IsFree caller k → MayTake store_rules (1 + caller.node) k
+may_take_replica k caller free = (may_take_first session_laws view_of IsSized k caller.node free.held (caller.slot, free.within, free.own, free.near)).0
 
 -- what it is, once it has taken it
 pub record TookReplica (p : ℕ) (k t : K) (w : Value) : Type 0 where
@@ -120,18 +115,18 @@ pub record TookReplica (p : ℕ) (k t : K) (w : Value) : Type 0 where
   pub agrees : AgreesIn t.progress w
   pub stands : Stands t
 
-pub took_replica : (k t : K) (p : ℕ) (w : Value) → IsFree p k → Acquired store_rules p k t w → TookReplica p k t w
-took_replica k t p w free won =
-    let taken = takes_its_replica session_laws view_of IsSized p free.node k t w free.place_is free.own.3 won in
+pub took_replica : (k t : K) (caller : Caller) (w : Value) → IsFree caller k → Acquired store_rules (1 + caller.node) k t w → TookReplica (1 + caller.node) k t w
+took_replica k t caller w free won =
+    let taken = takes_its_replica session_laws view_of IsSized (1 + caller.node) caller.node k t w refl free.near won in
     let i = taken.0 in
     let agrees = agrees_in t.progress w taken.1.0 taken.1.1 taken.1.2 i.sized in
-    let held = i.held ∙ ap (λ z. (p, w) ∷ z) free.held in
+    let held = i.held ∙ ap (λ z. (1 + caller.node, w) ∷ z) free.held in
     record {
       held = held;
       session = i.session;
       note = i.note;
       extends = i.extends;
-      holds = record { node = free.node; own = own_on k t free.node i.session i.extends free.own; held = held ∙ ap (λ z. (z, w) ∷ []) (free.place_is ∙ ap (λ (c : Config). 1 + free.node) i.extends.config); replica = is_replica t.progress w agrees; sized = i.sized };
+      holds = record { node = caller.node; own = own_on k t caller.node i.session i.extends (caller.slot, free.within, free.own, free.near); held = held; replica = is_replica t.progress w agrees; sized = i.sized };
       agrees = agrees;
       stands = record { notes = i.notes; accounts = i.accounts; here = i.here };
     }
@@ -189,10 +184,20 @@ took_log k t y x follows won =
 pub holds_log : (k t : K) (y x : Value) → TookLog k t y x → HoldsLog t
 holds_log k t y x b = (x, 0, ap (λ z. get_elem? z 0) b.held)
 
-pub next_on : (k t : K) (r : Record) → t.session ≡ k.session → t.note ≡ k.note → Extends k.progress t.progress → IsNext k r → IsNext t r
-next_on k t r session note extends n = (
-  n.0 ∙ (ap (λ z. next_record z k.note r.op) (sym session) ∙ ap (λ z. next_record t.session z r.op) (sym note)),
-  ap (λ (z : SessionNote). z.pending) note ∙ n.1,
-  ap (λ (z : SessionNote). z.batch) note ∙ n.2,
-  subst (λ (z : CatalogueView). IsAllowed store_meaning z r.op) extends.catalogue n.3,
-)
+-- ---- what the session was free to do it is still
+
+pub free_on : (caller : Caller) (k t : K) → t.session ≡ k.session → t.held ≡ [] → Extends k.progress t.progress → IsFree caller k → IsFree caller t
+free_on caller k t session held grown free = record {
+  own = session ∙ (free.own ∙ ap (λ c. place c caller.node caller.slot) grown.config);
+  within = subst (λ (c : Config). caller.slot < c.slots) grown.config free.within;
+  near = subst (λ (c : Config). caller.node < c.nodes) grown.config free.near;
+  held = held;
+}
+
+pub shelf_on : (places nodes : ℕ) (c : CatalogueView) (k t : K) → Extends k.progress t.progress → IsOnShelf places nodes c k → IsOnShelf places nodes c t
+shelf_on places nodes c k t grown on = record {
+  places_are = on.places_are;
+  few = on.few;
+  nodes_are = sym (ap (λ (z : Config). z.nodes) grown.config) ∙ on.nodes_are;
+  catalogue_is = sym grown.catalogue ∙ on.catalogue_is;
+}

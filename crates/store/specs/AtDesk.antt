@@ -1,8 +1,8 @@
 -- A session at its node's desk while that is lent to it: what it may find there, and what its calls are.
-use Rattle.std.specs.Prelude.{◌≡◌, ℕ, suc, ◌<◌, ◌^◌, List, [], map, length, Some, None, slice_get, false}
+use Rattle.std.specs.Prelude.{◌≡◌, ℕ, suc, ◌<◌, ◌^◌, List, [], map, length, Some, None, slice_get, true, false}
 use Rattle.ownlock.specs.Seats.{At}
 use Rattle.oplog.specs.Sessions.{session}
-use Rattle.combiner.specs.Desks.{DeskView, BatchView, batch_of, claimed, collected, has_combiner}
+use Rattle.combiner.specs.Desks.{DeskView, BatchView, batch_of, claimed, collected, has_combiner, has_request}
 use Rattle.combiner.specs.declared.slots.Reply.{Reply}
 use Rattle.replica.specs.StoreMeaning.{store_meaning}
 use Rattle.progress.specs.declared.sessions.Pending.{Pending}
@@ -50,7 +50,7 @@ Steps k x n y = DeskStep store_meaning k.progress k.session k.note x n y
 -- combines; else nothing
 abbrev pub IsTurn : ℕ → DeskView → DeskView → Turn → Type 0
 IsTurn slot x y (Collects reply) = collected slot x ≡ Some (record { reply = reply; desk = y })
-IsTurn slot x y (Combines batch) = (collected slot x ≡ None) × (has_combiner x ≡ false) × (y ≡ claimed x) × (batch ≡ batch_of x)
+IsTurn slot x y (Combines batch) = (collected slot x ≡ None) × (has_combiner x ≡ false) × (has_request x ≡ true) × (y ≡ claimed x) × (batch ≡ batch_of x)
 IsTurn slot x y Waits = (collected slot x ≡ None) × (y ≡ x)
 
 -- which is a step of the session: what it collects it may say of its request, and the batch is by ascending authors
@@ -62,5 +62,5 @@ TurnSteps k o x y Waits = y ≡ x
 -- what a claim is
 abbrev pub IsClaim : DeskView → DeskView → Turn → Type 0
 IsClaim x y (Collects reply) = ⊥
-IsClaim x y (Combines batch) = (has_combiner x ≡ false) × (y ≡ claimed x) × (batch ≡ batch_of x)
+IsClaim x y (Combines batch) = (has_combiner x ≡ false) × (has_request x ≡ true) × (y ≡ claimed x) × (batch ≡ batch_of x)
 IsClaim x y Waits = y ≡ x

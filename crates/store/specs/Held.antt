@@ -1,10 +1,10 @@
 -- The steps on the log and a node's replica as values that were taken from the shelf.
-use Rattle.std.specs.Prelude.{◌≡◌, ℕ, max, ◌<◌, ◌≤◌, [], ◌∷◌, Some, option_map, Result, MatchResult}
+use Rattle.std.specs.Prelude.{◌≡◌, ℕ, max, min, ◌<◌, ◌≤◌, [], length, Some, option_map}
 use Rattle.maps.specs.Maps.{shapes_of}
 use Rattle.loader.specs.CatalogueView.{CatalogueView}
 use Rattle.oplog.specs.Operations.{Operation}
-use Rattle.oplog.specs.declared.records.Record.{Record}
-use Rattle.oplog.specs.declared.answers.Ended.{Ended}
+use Rattle.oplog.specs.declared.answers.Appended.{Appended}
+use Rattle.oplog.specs.History.{History}
 use Rattle.oplog.specs.declared.configuration.TheConstants.{MAX_LIMIT}
 use Rattle.oplog.specs.Limits.{IsWindow}
 use Rattle.oplog.specs.Logs.{Log as LogView, tail_of, left_of, room_in}
@@ -32,11 +32,11 @@ IsLog (Log g) = Unit {0}
 IsLog (Replica n) = ⊥
 IsLog (Desk n) = ⊥
 
--- the history may have more records, and there is no room for one
-abbrev pub IsFull : Value → Type 0
-IsFull (Log g) = (room_in g.value ≡ 0) × (0 < left_of g.value)
-IsFull (Replica n) = ⊥
-IsFull (Desk n) = ⊥
+-- there is no room for so many records, of those that the history may still have
+abbrev pub LacksRoom : ℕ → Value → Type 0
+LacksRoom want (Log g) = room_in g.value < min want (left_of g.value)
+LacksRoom want (Replica n) = ⊥
+LacksRoom want (Desk n) = ⊥
 
 -- a window that a log may have
 abbrev pub IsWide : Value → Type 0
@@ -81,21 +81,22 @@ abbrev pub IsReclaimed : Value → Value → Value → Type 0
 IsReclaimed (Log g) (Replica n) (Log h) = h.value ≡ reclaimed n.value (told n.value.replica.tail g.value)
 IsReclaimed _ _ _ = ⊥
 
--- ---- a record is appended, and the hand has what the replica has still to apply
+-- ---- records are appended, and the hand has what the replica has still to apply
 
-abbrev pub CanAppendIn : Record → Value → Value → Type 0
-CanAppendIn r (Log g) (Replica n) = CanAppend (r ∷ []) g.value n.value
-CanAppendIn r _ _ = ⊥
+abbrev pub CanAppendIn : History → Value → Value → Type 0
+CanAppendIn batch (Log g) (Replica n) = CanAppend batch g.value n.value
+CanAppendIn batch _ _ = ⊥
 
-pub record IsAppended (r : Record) (g h : LogView) (n m : NodeReplica) (result : Result ℕ Ended) : Type 0 where
-  pub log : h ≡ appended (r ∷ []) g
+pub record IsAppended (batch : History) (g h : LogView) (n m : NodeReplica) (a : Appended) : Type 0 where
+  pub log : h ≡ appended batch g
   pub node : m ≡ copied h n
   pub within : tail_of h ≤ MAX_LIMIT
-  pub placed : MatchResult result (λ i. (i ≡ tail_of g) × (tail_of g < g.limit)) (λ _. tail_of g ≡ g.limit)
+  pub first : a.first ≡ tail_of g
+  pub count : a.count ≡ min (length batch) (left_of g)
 
-abbrev pub HasAppendedIn : Record → Value → Value → Value → Value → Result ℕ Ended → Type 0
-HasAppendedIn r (Log g) (Log h) (Replica n) (Replica m) result = IsAppended r g.value h.value n.value m.value result
-HasAppendedIn r _ _ _ _ result = ⊥
+abbrev pub HasAppendedIn : History → Value → Value → Value → Value → Appended → Type 0
+HasAppendedIn batch (Log g) (Log h) (Replica n) (Replica m) a = IsAppended batch g.value h.value n.value m.value a
+HasAppendedIn batch _ _ _ _ a = ⊥
 
 -- ---- the hand's records are run
 

@@ -44,9 +44,10 @@ pub record CanReplay (c : CatalogueView) (n : NodeReplica) : Type 0 where
   pub updates : AreUpdates c n.hand.records
   pub fits : n.replica.tail + length n.hand.records < 2 ^ 64
 
--- what the replica has still to apply is in the log, and updates of the catalogue
+-- what the replica has still to apply is in the log, and updates of the catalogue; the hand is empty
 pub record CanFollow (c : CatalogueView) (g : Log) (n : NodeReplica) : Type 0 where
   pub copy : CanCopy g n
+  pub empty : n.hand.records ≡ []
   pub shapes : shapes_of n.replica.maps ≡ c.shapes
   pub updates : AreUpdates c (records_from g n.replica.tail)
 

@@ -10,3 +10,5 @@ pub mod Shelving
 pub mod Held
 pub mod Standing
 pub mod Places
+pub mod Combining
+pub mod Requests

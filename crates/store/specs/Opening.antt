@@ -1,44 +1,83 @@
 -- What a store may be opened with, and what it gives back when it is closed.
-use Rattle.std.specs.Prelude.{◌≡◌, ℕ, List, length}
+use Rattle.std.specs.Prelude.{◌≡◌, ℕ, List, [], ◌∷◌, ◌++◌, length, refl, Option, Some, None}
+use Rattle.std.specs.Coded.{Coded, code_by, coded×, coded_list}
+use Rattle.std.specs.Global.{Box}
 use Rattle.maps.specs.Maps.{shapes_of}
 use Rattle.ownlock.specs.Seats.{At}
 use Rattle.loader.specs.CatalogueView.{CatalogueView}
-use Rattle.oplog.specs.declared.configuration.Config.{Config}
 use Rattle.oplog.specs.declared.records.Record.{Record}
-use Rattle.oplog.specs.Limits.{IsConfig}
-use Rattle.oplog.specs.Logs.{Log, tail_of}
+use Rattle.oplog.specs.Logs.{Log, opened_log, tail_of}
 use Rattle.replica.specs.StoreMeaning.{store_meaning}
-use Rattle.replica.specs.Views.{ReplicaView}
+use Rattle.oplog.specs.Codes.{log_code}
+use Rattle.replica.specs.Views.{ReplicaView, replica_code}
 use Rattle.progress.specs.declared.sessions.Progress.{Progress}
 use Rattle.progress.specs.Accounts.{Extends, IsWellFormed}
 use Rattle.progress.specs.Agreement.{LogAgrees, ReplicaAgrees}
 use Rattle.progress.specs.Told.{records_of, numbered}
-use Rattle.store.specs.Sessions.{StoreView, SessionView, IsOf}
+use Rattle.store.specs.declared.values.NodeReplica.{NodeReplica}
+use Rattle.store.specs.declared.values.Value.{Value}
+use Rattle.store.specs.declared.values.Value.TheVariants.{Log as LogPlace, Replica}
+use Rattle.store.specs.Sessions.{StoreView, SessionView, IsOf, known_of}
+use Rattle.store.specs.Standing.{SessionKnown}
 use Rattle.store.specs.Shelving.{log_value, replica_value, HasLogSizes}
-
--- a configuration that a store is built for: one node of one slot
-pub record IsOpenable (config : Config) : Type 0 where
-  pub config_is : IsConfig config
-  pub nodes : config.nodes ≡ 1
-  pub slots : config.slots ≡ 1
 
 -- each of these sessions is one of the store
 abbrev pub AreOf : StoreView → List SessionView → Type 0
 AreOf store sessions = (a : ℕ) (s : SessionView) → At a s sessions → IsOf store s
 
--- what the log and the node's replica of a closed store are, by what its sessions bring
-pub record IsClosed (store : StoreView) (sessions : List SessionView) (log : Log) (replica : ReplicaView) : Type 0 where
+-- none of these sessions waits for an answer
+abbrev pub AreIdle : List SessionView → Type 0
+AreIdle sessions = (a : ℕ) (s : SessionView) → At a s sessions → s.note.pending ≡ None
+
+-- what the sessions know, the last first
+abbrev pub known_back : List SessionView → List SessionKnown
+known_back [] = []
+known_back (s ∷ ss) = known_back ss ++ known_of s ∷ []
+
+-- a closed store: its log, and the replica of each node
+pub record ClosedView : Type 0 where
+  pub log : Log
+  pub replicas : List ReplicaView
+
+-- the log, and then the replicas
+abbrev pub replica_slots : List (Box NodeReplica) → List (Option Value)
+replica_slots [] = []
+replica_slots (n ∷ ns) = Some (Replica n) ∷ replica_slots ns
+
+abbrev pub AreLeft : List (Option Value) → Type 0
+AreLeft values = (g : Box Log) × (ns : List (Box NodeReplica)) × (values ≡ Some (LogPlace g) ∷ replica_slots ns)
+
+-- and how they are seen
+abbrev pub log_in : List (Option Value) → Log
+log_in (Some (LogPlace g) ∷ vs) = g.value
+log_in _ = opened_log [] 0 0
+
+abbrev pub replicas_in : List (Option Value) → List ReplicaView
+replicas_in [] = []
+replicas_in (Some (Replica n) ∷ vs) = n.value.replica ∷ replicas_in vs
+replicas_in (v ∷ vs) = replicas_in vs
+
+abbrev pub closed_view : List (Option Value) → ClosedView
+closed_view values = record { log = log_in values; replicas = replicas_in values }
+
+pub closed_code : Coded ClosedView
+closed_code = code_by (Log × List ReplicaView) (coded× log_code (coded_list replica_code)) (λ c. (c.log, c.replicas)) (λ p. record { log = p.0; replicas = p.1 }) (λ _. refl)
+
+-- what the log and the replicas of a closed store are, by what its sessions bring
+pub record IsClosed (store : StoreView) (sessions : List SessionView) (closed : ClosedView) : Type 0 where
   -- one history of the store's catalogue within its limit, grown from what each session knew
   pub progress : Progress CatalogueView
   pub of : (progress.config ≡ store.config) × (progress.catalogue ≡ store.catalogue)
   pub well_formed : IsWellFormed store_meaning progress
   pub grown : (a : ℕ) (s : SessionView) → At a s sessions → Extends s.progress progress
-  -- the log and the replica agree with it, and have the store's sizes and shapes
-  pub log_is : LogAgrees store_meaning progress (log_value log)
-  pub log_tail : tail_of log ≡ length progress.history
-  pub log_sizes : HasLogSizes store.config store.catalogue log
-  pub replica_is : ReplicaAgrees store_meaning progress (replica_value replica)
-  pub replica_shapes : shapes_of replica.maps ≡ store.catalogue.shapes
+  -- the log agrees with it, and has the store's sizes
+  pub log_is : LogAgrees store_meaning progress (log_value closed.log)
+  pub log_tail : tail_of closed.log ≡ length progress.history
+  pub log_sizes : HasLogSizes store.config store.catalogue closed.log
+  -- each node has a replica, which agrees too, and has the store's shapes
+  pub nodes : length closed.replicas ≡ store.config.nodes
+  pub replica_is : (node : ℕ) (r : ReplicaView) → At node r closed.replicas → ReplicaAgrees store_meaning progress (replica_value r)
+  pub replica_shapes : (node : ℕ) (r : ReplicaView) → At node r closed.replicas → shapes_of r.maps ≡ store.catalogue.shapes
   -- the records of each session are its answered updates in order, and there are no others
   pub answered : (a : ℕ) (s : SessionView) → At a s sessions → records_of s.session progress.history ≡ numbered s.session 0 s.note.answered
   pub authors : (i : ℕ) (r : Record) → At i r progress.history → (a : ℕ) × (s : SessionView) × At a s sessions × (r.author ≡ s.session)

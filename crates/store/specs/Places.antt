@@ -1,28 +1,18 @@
 -- What a shelf with desks is opened with, place by place.
 use Rattle.std.specs.Prelude.{◌≡◌, ℕ, ◌+◌, ◌<◌, List, length, Option, Some}
-use Rattle.ownlock.specs.Rules.{Rules}
 use Rattle.ownlock.specs.Seats.{At}
-use Rattle.replica.specs.StoreMeaning.{store_meaning}
-use Rattle.progress.specs.declared.sessions.Progress.{Progress}
-use Rattle.progress.specs.declared.sessions.SessionNote.{SessionNote}
-use Rattle.progress.specs.Moves.{desk_rules}
-use Rattle.progress.specs.Putting.{the_rules}
 use Rattle.loader.specs.CatalogueView.{CatalogueView}
 use Rattle.oplog.specs.declared.configuration.Config.{Config}
 use Rattle.combiner.specs.Desks.{opened_desk}
 use Rattle.store.specs.declared.values.Value.{Value}
 use Rattle.store.specs.declared.values.Value.TheVariants.{Log, Replica, Desk}
-use Rattle.store.specs.Shelving.{IsOpenedLog, IsOpenedReplica, IsSized, view_of}
+use Rattle.store.specs.Shelving.{IsOpenedLog, IsOpenedReplica}
 
 -- a node's desk, at which nobody has a request
 abbrev pub IsOpenedDesk : ℕ → ℕ → Value → Type 0
 IsOpenedDesk slots node (Desk d) = d.value ≡ opened_desk node slots
 IsOpenedDesk slots node (Log g) = ⊥
 IsOpenedDesk slots node (Replica n) = ⊥
-
--- the rules of sessions that share the desks of their nodes
-abbrev pub shared_rules : Rules (Progress CatalogueView) SessionNote Value
-shared_rules = the_rules store_meaning (desk_rules store_meaning) view_of IsSized
 
 -- so many places from that one on have a value each, the i-th of them one of which P i holds
 abbrev pub AreFilled : ℕ → ℕ → (ℕ → Value → Type 0) → List (Option Value) → Type 0

@@ -1,9 +1,8 @@
 -- A session and a store as their users see them, and what a call answers.
-use Rattle.std.specs.Prelude.{◌≡◌, ℕ, ◌<◌, ◌≤◌, List, [], ◌∷◌, length, None, Result, MatchResult}
+use Rattle.std.specs.Prelude.{◌≡◌, ℕ, zero, suc, ◌≤◌, List, [], ◌∷◌, length, None, Result, MatchResult}
 use Rattle.ownlock.specs.Seats.{IsSession, SeatView, ShelfId}
 use Rattle.loader.specs.CatalogueView.{CatalogueView}
 use Rattle.oplog.specs.declared.configuration.Config.{Config}
-use Rattle.oplog.specs.declared.answers.Ended.{Ended}
 use Rattle.oplog.specs.Operations.{Operation}
 use Rattle.readpath.specs.declared.reading.ReadAnswer.{ReadAnswer}
 use Rattle.replica.specs.StoreMeaning.{store_meaning}
@@ -11,8 +10,6 @@ use Rattle.progress.specs.declared.sessions.Progress.{Progress}
 use Rattle.progress.specs.declared.sessions.Pending.{Pending}
 use Rattle.progress.specs.declared.sessions.SessionNote.{SessionNote}
 use Rattle.combiner.specs.declared.slots.Reply.TheVariants.{Placed, Ended as EndedAnswer}
-use Rattle.oplog.specs.Sessions.{IsSessionOf}
-use Rattle.oplog.specs.declared.configuration.TheConstants.{MAX_LIMIT}
 use Rattle.progress.specs.Accounts.{Extends, IsWellFormed}
 use Rattle.progress.specs.LogSteps.{first_progress, fresh_note}
 use Rattle.progress.specs.Single.{note_with}
@@ -20,8 +17,9 @@ use Rattle.progress.specs.Told.{Tells, ReadTells}
 use Rattle.store.specs.declared.answers.Answer.{Answer}
 use Rattle.store.specs.declared.answers.StoreRefused.{StoreRefused}
 use Rattle.store.specs.declared.answers.StoreRefused.TheVariants.{Ended as TheEnd}
+use Rattle.store.specs.declared.steps.Caller.{Caller}
 use Rattle.store.specs.declared.values.Value.{Value}
-use Rattle.store.specs.Standing.{SessionKnown}
+use Rattle.store.specs.Standing.{SessionKnown, IsFree}
 
 -- which shelf a store has, and what it was opened with
 pub record StoreView : Type 0 where
@@ -53,28 +51,29 @@ first_in (k ∷ ks) = k
 abbrev pub session_view : SeatView (Progress CatalogueView) SessionNote Value → SessionView
 session_view s = let k = first_in s.sessions in record { shelf = s.shelf; session = k.session; progress = k.progress; note = k.note }
 
--- what session 0 knows at first, and the session
-abbrev pub fresh_known : Config → CatalogueView → SessionKnown
-fresh_known config c = record { session = 0; progress = first_progress config c; note = fresh_note; held = [] }
+-- what the session a knows at first, and the session
+abbrev pub fresh_known : Config → CatalogueView → ℕ → SessionKnown
+fresh_known config c a = record { session = a; progress = first_progress config c; note = fresh_note; held = [] }
 
-abbrev pub fresh_session : ShelfId → Config → CatalogueView → SessionView
-fresh_session shelf config c = record { shelf = shelf; session = 0; progress = first_progress config c; note = fresh_note }
+abbrev pub fresh_session : ShelfId → Config → CatalogueView → ℕ → SessionView
+fresh_session shelf config c a = record { shelf = shelf; session = a; progress = first_progress config c; note = fresh_note }
+
+-- so many of them, from the session a on
+abbrev pub fresh_sessions : ShelfId → Config → CatalogueView → ℕ → ℕ → List SessionView
+fresh_sessions shelf config c a zero = []
+fresh_sessions shelf config c a (suc n) = fresh_session shelf config c a ∷ fresh_sessions shelf config c (suc a) n
 
 -- what a session knows that holds nothing
 abbrev pub known_of : SessionView → SessionKnown
 known_of s = record { session = s.session; progress = s.progress; note = s.note; held = [] }
 
--- between its calls a session of that node, with this number and so many answered updates, holds nothing and waits for nothing
-pub record IsIdle (s : SeatView (Progress CatalogueView) SessionNote Value) (node author answered : ℕ) : Type 0 where
+-- between its calls the session of that slot holds nothing, waits for nothing, and combines for nobody
+pub record IsIdle (s : SeatView (Progress CatalogueView) SessionNote Value) (caller : Caller) : Type 0 where
   pub known : SessionKnown
   pub is : IsSession s known
-  pub held : known.held ≡ []
+  pub free : IsFree caller known
   pub pending : known.note.pending ≡ None
   pub batch : known.note.batch ≡ []
-  pub near : node < known.progress.config.nodes
-  pub own : IsSessionOf known.progress.config node known.session
-  pub number : author ≡ known.session
-  pub counted : answered ≡ length known.note.answered
   -- what the session knows is a history of the store's catalogue, within its limit
   pub well_formed : IsWellFormed store_meaning known.progress
   -- each answered update has its place in the history
@@ -83,18 +82,6 @@ pub record IsIdle (s : SeatView (Progress CatalogueView) SessionNote Value) (nod
 -- the operation as a request of this session
 abbrev pub request_of : Progress CatalogueView → Operation → Pending
 request_of known op = record { op = op; seen = length known.history }
-
--- a session's update, from what it knew to what it knows
-pub record IsUpdated (k after : SessionKnown) (op : Operation) (result : Result Answer Ended) : Type 0 where
-  pub session : after.session ≡ k.session
-  pub held : after.held ≡ []
-  pub extends : Extends k.progress after.progress
-  pub well_formed : IsWellFormed store_meaning after.progress
-  pub tells : MatchResult result
-      (λ a. Tells store_meaning after.progress k.session (length k.note.answered) (request_of k.progress op) (Placed a.index a.reply) × (after.note ≡ note_with k.note a.index op))
-      (λ _. Tells store_meaning after.progress k.session (length k.note.answered) (request_of k.progress op) EndedAnswer × (after.note ≡ k.note))
-  -- the history has more than the session knew, if the update has a place
-  pub longer : MatchResult result (λ a. (a.index < MAX_LIMIT) × (length k.progress.history < length after.progress.history)) (λ _. Unit {0})
 
 -- a session's read
 pub record IsReadBy (k after : SessionKnown) (op : Operation) (answer : ReadAnswer) : Type 0 where

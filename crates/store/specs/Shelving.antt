@@ -14,7 +14,8 @@ use Rattle.progress.specs.declared.sessions.SessionNote.{SessionNote}
 use Rattle.progress.specs.Values.{LogValue, ReplicaValue, StoreValue, TheLog, TheReplica, TheDesk}
 use Rattle.progress.specs.LogSteps.{first_progress, fresh_note}
 use Rattle.progress.specs.StoreRules.{Noting}
-use Rattle.progress.specs.Single.{single_rules, single_noting}
+use Rattle.progress.specs.DeskNotes.{Looked, desk_noting}
+use Rattle.progress.specs.Moves.{desk_rules}
 use Rattle.progress.specs.Putting.{the_rules}
 use Rattle.store.specs.declared.values.Setup.{Setup}
 use Rattle.store.specs.declared.values.NodeReplica.{NodeReplica}
@@ -47,12 +48,13 @@ IsSized config c (Log g) = HasLogSizes config c g.value
 IsSized config c (Replica n) = (shapes_of n.value.replica.maps ≡ c.shapes) × (n.value.hand ≡ resting_hand config n.value.replica.tail)
 IsSized config c (Desk d) = length d.value.slots ≡ config.slots
 
--- what sessions without a desk may do, and what they note
+-- what sessions may do that share the desks of their nodes, and what they note but at their desk: of what they append from their batch
+-- the places
 abbrev pub session_rules : Rules (Progress CatalogueView) SessionNote (StoreValue Maps)
-session_rules = single_rules store_meaning
+session_rules = desk_rules store_meaning
 
 abbrev pub session_noting : Noting CatalogueView Value
-session_noting = single_noting
+session_noting = desk_noting view_of Looked
 
 abbrev pub store_rules : Rules (Progress CatalogueView) SessionNote Value
 store_rules = the_rules store_meaning session_rules view_of IsSized
@@ -67,7 +69,7 @@ opening_progress s = first_progress s.config s.catalogue
 abbrev pub opening_notes : Setup → List SessionNote
 opening_notes s = replicate (sessions_of s.config) fresh_note
 
--- what the shelf is opened with: the log, and each node's replica
+-- a new log, and a new replica with its empty hand
 abbrev pub IsOpenedLog : List Shape → ℕ → ℕ → Value → Type 0
 IsOpenedLog shapes window limit (Log g) = g.value ≡ opened_log shapes window limit
 IsOpenedLog shapes window limit (Replica n) = ⊥
@@ -80,6 +82,3 @@ abbrev pub IsOpenedReplica : List Shape → ℕ → Value → Type 0
 IsOpenedReplica shapes window (Log g) = ⊥
 IsOpenedReplica shapes window (Desk g) = ⊥
 IsOpenedReplica shapes window (Replica n) = n.value ≡ opened_node shapes window
-
-abbrev pub AreOpened : Config → CatalogueView → List (Option Value) → Type 0
-AreOpened config c values = (log node : Value) × (values ≡ Some log ∷ Some node ∷ []) × IsOpenedLog c.shapes config.window config.limit log × IsOpenedReplica c.shapes config.window node

@@ -1,25 +1,26 @@
 -- What a session knows, and what its calls on the shelf make of that.
-use Rattle.std.specs.Prelude.{◌≡◌, ℕ, ◌+◌, ◌<◌, ◌≤◌, min, List, [], ◌∷◌, length, drop, Result, MatchResult, Some, None, slice_get}
+use Rattle.std.specs.Prelude.{◌≡◌, ℕ, ◌+◌, ◌<◌, ◌≤◌, min, List, [], ◌∷◌, length, drop, Some, slice_get}
 use Rattle.maps.specs.Maps.{shapes_of}
 use Rattle.ownlock.specs.declared.known.Known.{Known}
 use Rattle.ownlock.specs.Rules.{leader}
 use Rattle.ownlock.specs.Seats.{At}
 use Rattle.loader.specs.CatalogueView.{CatalogueView}
 use Rattle.oplog.specs.declared.records.Record.{Record}
-use Rattle.oplog.specs.declared.answers.Ended.{Ended}
-use Rattle.oplog.specs.declared.configuration.TheConstants.{MAX_LIMIT}
+use Rattle.oplog.specs.declared.answers.Appended.{Appended}
+use Rattle.oplog.specs.declared.configuration.TheConstants.{MAX_LIMIT, MAX_NODES}
 use Rattle.oplog.specs.Logs.{Log as LogView, tail_of, left_of, room_in}
-use Rattle.oplog.specs.History.{maps_after}
-use Rattle.oplog.specs.Sessions.{IsSessionOf}
+use Rattle.oplog.specs.History.{History, maps_after}
+use Rattle.oplog.specs.Sessions.{IsSessionOf, session}
 use Rattle.machine.specs.declared.running.Outcome.{Outcome}
 use Rattle.replica.specs.StoreMeaning.{store_meaning}
 use Rattle.replica.specs.Views.{RepliesView}
 use Rattle.replica.specs.Replaying.{IsAnswered}
 use Rattle.progress.specs.declared.sessions.Progress.{Progress}
 use Rattle.progress.specs.declared.sessions.SessionNote.{SessionNote}
-use Rattle.progress.specs.Accounts.{Accounts, Extends, IsAllowed, IsWellFormed}
+use Rattle.progress.specs.Accounts.{Accounts, Extends, IsWellFormed}
 use Rattle.progress.specs.Agreement.{LogAgrees, ReplicaAgrees, replica_place}
-use Rattle.progress.specs.Single.{next_record, note_with}
+use Rattle.progress.specs.Moves.{placed_from, unplaced}
+use Rattle.store.specs.declared.steps.Caller.{Caller}
 use Rattle.store.specs.declared.values.NodeReplica.{NodeReplica}
 use Rattle.store.specs.declared.values.Value.{Value}
 use Rattle.store.specs.declared.values.Value.TheVariants.{Log, Replica, Desk}
@@ -95,16 +96,19 @@ pub record HoldsReplica (k : SessionKnown) (w : Value) : Type 0 where
 abbrev pub HoldsLog : SessionKnown → Type 0
 HoldsLog k = (x : Value) × (a : ℕ) × At a (leader, x) k.held
 
--- the session holds nothing, and that place of the shelf has its node's replica
-pub record IsFree (place : ℕ) (k : SessionKnown) : Type 0 where
-  pub node : ℕ
-  pub place_is : place ≡ replica_place k.progress.config node
-  pub own : IsSessionOf k.progress.config node k.session
+-- the session is that of the caller's slot, and holds nothing
+pub record IsFree (caller : Caller) (k : SessionKnown) : Type 0 where
+  pub own : k.session ≡ session k.progress.config caller.node caller.slot
+  pub within : caller.slot < k.progress.config.slots
+  pub near : caller.node < k.progress.config.nodes
   pub held : k.held ≡ []
 
--- the record is the next one of the session, which waits for nothing, and the operation is allowed
-abbrev pub IsNext : SessionKnown → Record → Type 0
-IsNext k r = (r ≡ next_record k.session k.note r.op) × (k.note.pending ≡ None) × (k.note.batch ≡ []) × IsAllowed store_meaning k.progress.catalogue r.op
+-- its store has this catalogue and so many nodes, each with a replica and a desk on the shelf behind the log
+pub record IsOnShelf (places nodes : ℕ) (c : CatalogueView) (k : SessionKnown) : Type 0 where
+  pub places_are : places ≡ 1 + nodes + nodes
+  pub few : nodes ≤ MAX_NODES
+  pub nodes_are : k.progress.config.nodes ≡ nodes
+  pub catalogue_is : k.progress.catalogue ≡ c
 
 -- ---- what its calls leave
 
@@ -126,8 +130,8 @@ pub record HasRaised (k after : SessionKnown) (n : ℕ) : Type 0 where
 abbrev pub KeepsLogSizes : LogView → LogView → Type 0
 KeepsLogSizes g h = (h.window ≡ g.window) × (h.limit ≡ g.limit) × (shapes_of h.base_maps ≡ shapes_of g.base_maps)
 
--- the log h has room for a record, if the history may have one more; it is g with a base that may have risen to the replica's tail
-pub record HasPlace (k after : SessionKnown) (g h : LogView) (n : NodeReplica) : Type 0 where
+-- the log h has room for so many records, if the history may have them; it is g with a base that may have risen to the replica's tail
+pub record HasPlace (k after : SessionKnown) (want : ℕ) (g h : LogView) (n : NodeReplica) : Type 0 where
   pub goes : GoesOn k after
   pub note : after.note ≡ k.note
   pub well : IsWellFormed store_meaning after.progress
@@ -136,21 +140,24 @@ pub record HasPlace (k after : SessionKnown) (g h : LogView) (n : NodeReplica) :
   pub keeps : KeepsLogSizes g h
   pub follows : Follows after.progress n
   pub above : h.base ≤ n.replica.tail
-  pub room : min 1 (left_of h) ≤ room_in h
-  pub ended : left_of g ≡ 0 → h ≡ g
+  pub room : min want (left_of h) ≤ room_in h
 
-abbrev pub HasRoom : SessionKnown → SessionKnown → Value → Value → Value → Type 0
-HasRoom k after (Log g) (Log h) (Replica n) = HasPlace k after g.value h.value n.value
-HasRoom k after _ _ _ = ⊥
+abbrev pub HasRoom : SessionKnown → SessionKnown → ℕ → Value → Value → Value → Type 0
+HasRoom k after want (Log g) (Log h) (Replica n) = HasPlace k after want g.value h.value n.value
+HasRoom k after want _ _ _ = ⊥
 
--- the log was taken and put back with the record r, or as it was where it had all its records; the hand of v has what its replica has still to apply
-pub record HasAppended (k after : SessionKnown) (r : Record) (result : Result ℕ Ended) (v : Value) : Type 0 where
+-- the log was taken and put back with the first of these records, all of them where the history may have so many, whose places the
+-- session notes; the hand of v has what its replica has still to apply
+pub record HasAppended (k after : SessionKnown) (records : History) (a : Appended) (v : Value) : Type 0 where
   pub goes : GoesOn k after
   pub stands : Stands after
   pub rest : HasRest after.progress v
-  pub placed : MatchResult result
-      (λ i. (length k.progress.history ≤ i) × (tail_in v ≤ i) × (i < MAX_LIMIT) × At i r after.progress.history × (after.note ≡ note_with k.note i r.op))
-      (λ _. (after.note ≡ k.note) × (after.progress.config.limit ≤ length after.progress.history))
+  pub count : a.count ≤ length records
+  pub within : a.first + a.count ≤ MAX_LIMIT
+  pub above : tail_in v ≤ a.first
+  pub note : after.note ≡ record k.note { batch = placed_from a.first a.count (unplaced records) }
+  pub placed : (j : ℕ) (r : Record) → j < a.count → At j r records → At (a.first + j) r after.progress.history
+  pub ended : a.count < length records → after.progress.config.limit ≤ length after.progress.history
 
 -- of each record from the place t on, the outcome is kept, if its place is one of those that are kept
 abbrev pub KeepsOutcomesOf : Progress CatalogueView → ℕ → RepliesView → RepliesView → Type 0

@@ -1,15 +1,19 @@
-// The steps on the log and a node's replica as values that were taken from the shelf. No call here takes a lock or memory.
+// The steps on the log, a node's replica and its desk as values that were taken from the shelf. No call here takes a lock or memory.
 
-ghost use Rattle.std.specs.Prelude.{◌≡◌, ◌↔◌, ◌≤◌, IsTrue, None, [], ◌∷◌};
+ghost use Rattle.std.specs.Prelude.{◌≡◌, ◌↔◌, ◌≤◌, ℕ, IsTrue, None};
 ghost use Rattle.verifier.specs.declared.refusal.Mode.TheVariants.{Read};
 ghost use Rattle.store.specs.Refusals.{early_refusal};
 ghost use Rattle.store.specs.Lent.{CanAppend};
-ghost use Rattle.store.specs.Held.{IsAppended, IsReplica, IsLog, IsFull, IsWide, tail_in, CanKeepUp, IsKeptUp, CanFollowIn, HasFollowed, CanReclaimIn, IsReclaimed, CanAppendIn, HasAppendedIn, CanReplayIn, HasReplayed, IsReplicaOf, Replies as RepliesIn};
+ghost use Rattle.store.specs.Held.{IsAppended, IsReplica, IsLog, LacksRoom, IsWide, tail_in, CanKeepUp, IsKeptUp, CanFollowIn, HasFollowed, CanReclaimIn, IsReclaimed, CanAppendIn, HasAppendedIn, CanReplayIn, HasReplayed, IsReplicaOf, Replies as RepliesIn};
+ghost use Rattle.store.specs.AtDesk.{IsReady};
+ghost use Rattle.store.specs.Combining.{IsAtIn, HasReplied};
+ghost use Rattle.store.specs.Standing.{SessionKnown};
 
-use crate::lent;
 use crate::values::{NodeReplica, Value};
+use crate::{desks, lent};
+use combiner::Batch;
 use loader::Catalogue;
-use oplog::{Ended, LogState, Record};
+use oplog::{Appended, LogState, Record};
 use readpath::{ReadAnswer, answer, ready};
 use replica::Replies;
 
@@ -39,14 +43,14 @@ pub(crate) fn follow(log: &Value, node: &mut Value, catalogue: &Catalogue)
     }
 }
 
-// Whether the history may have more records, but the log has no room for one.
-pub(crate) fn is_full(log: &Value) -> bool
+// Whether the log has no room for so many records, of those that the history may still have.
+pub(crate) fn lacks_room(log: &Value, want: usize) -> bool
     requires log { IsLog log.now }
-    ensures full { IsTrue result ↔ IsFull log.now }
+    ensures lacks { IsTrue result ↔ LacksRoom want log.now }
     ensures wide { IsWide log.now }
 {
     match log {
-        Value::Log(log) => log.room() == 0 && log.left() > 0,
+        Value::Log(log) => log.room() < want.min(log.left()),
         Value::Replica(_) | Value::Desk(_) => unreachable!(),
     }
 }
@@ -65,25 +69,25 @@ pub(crate) fn reclaim(log: &mut Value, node: &Value)
     }
 }
 
-// Appends a record, answers its place in the history, and copies what the replica has still to apply.
-pub(crate) fn append(log: &mut Value, node: &mut Value, next: Record) -> Result<u64, Ended>
-    requires can { CanAppendIn next log.old node.old }
-    ensures appended { HasAppendedIn next log.old log.new node.old node.new result }
+// Appends as many of the records as the history may still have, and copies what the replica has still to apply.
+pub(crate) fn append(log: &mut Value, node: &mut Value, records: &[Record]) -> Appended
+    requires can { CanAppendIn records.now log.old node.old }
+    ensures appended { HasAppendedIn records.now log.old log.new node.old node.new result }
 {
     match (log, node) {
-        (Value::Log(log), Value::Replica(node)) => append_one(log, node, next),
+        (Value::Log(log), Value::Replica(node)) => append_some(log, node, records),
         _ => unreachable!(),
     }
 }
 
-fn append_one(log: &mut LogState, node: &mut NodeReplica, next: Record) -> Result<u64, Ended>
-    requires can { CanAppend (next ∷ []) log.old node.old }
-    ensures appended { IsAppended next log.old log.new node.old node.new result }
+fn append_some(log: &mut LogState, node: &mut NodeReplica, records: &[Record]) -> Appended
+    requires can { CanAppend records.now log.old node.old }
+    ensures appended { IsAppended records.now log.old log.new node.old node.new result }
 {
-    let index = log.tail();
-    match lent::append(log, node, &[next]) {
-        Ok(_) => Ok(index),
-        Err(ended) => Err(ended),
+    let first = log.tail();
+    match lent::append(log, node, records) {
+        Ok(appended) => appended,
+        Err(_) => Appended { first, count: 0 },
     }
 }
 
@@ -136,5 +140,16 @@ pub(crate) fn answer_in(
     match (node, catalogue.program(program)) {
         (Value::Replica(node), Some(accepted)) => answer(accepted, &mut node.replica, argument),
         _ => unreachable!(),
+    }
+}
+
+// Hands the answers of the batch to the slots of its requests.
+pub(crate) fn reply_in(desk: &mut Value, batch: Batch)
+    requires own { (k : SessionKnown) × (slot : ℕ) × IsAtIn slot k desk.old × IsReady k batch }
+    ensures replied { HasReplied batch desk.old desk.new }
+{
+    match desk {
+        Value::Desk(desk) => desks::reply(desk, batch),
+        Value::Log(_) | Value::Replica(_) => unreachable!(),
     }
 }

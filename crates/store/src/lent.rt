@@ -37,8 +37,8 @@ pub fn append(
     appended
 }
 
-/// Copies into the node's hand what its replica has still to apply.
-pub fn copy(log: &LogState, node: &mut NodeReplica)
+// Copies into the node's hand what its replica has still to apply.
+fn copy(log: &LogState, node: &mut NodeReplica)
     requires can { CanCopy log.now node.old }
     ensures node { node.new ≡ copied log.now node.old }
     ensures within { tail_of log.now ≤ MAX_LIMIT }

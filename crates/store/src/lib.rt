@@ -3,18 +3,20 @@
 #![tactic(auto)]
 
 mod answers;
+mod closed;
+mod combining;
 pub mod desks;
 mod held;
 pub mod lent;
 mod opening;
+mod requests;
 mod session;
 mod steps;
 mod store;
-#[cfg(test)]
-mod tests;
 mod values;
 
 pub use answers::{Answer, StoreRefused};
+pub use closed::Closed;
 pub use session::Session;
-pub use store::{Closed, Store};
+pub use store::Store;
 pub use values::{NodeReplica, Setup, Value};

@@ -1,19 +1,24 @@
 // What a shelf with desks is opened with: the log, and then the replica and the desk of each node.
 
-ghost use Rattle.std.specs.Prelude.{◌≡◌, ◌+◌, ◌<◌, ◌≤◌, length, replicate, IfOk};
+ghost use Rattle.std.specs.Prelude.{◌≡◌, ◌+◌, ◌*◌, ◌<◌, ◌≤◌, [], length, replicate, vec_capacity, IfOk};
 ghost use Rattle.maps.specs.Shapes.{AreShapesOk};
 ghost use Rattle.oplog.specs.Limits.{IsConfig, IsWindow};
 ghost use Rattle.oplog.specs.declared.configuration.TheConstants.{MAX_NODES, MAX_NODE_SLOTS};
 ghost use Rattle.ownlock.specs.Knowledge.{AllAgree};
 ghost use Rattle.progress.specs.LogSteps.{first_progress, fresh_note};
-ghost use Rattle.store.specs.Shelving.{IsOpenedReplica, sessions_of};
-ghost use Rattle.store.specs.Places.{AreFilled, IsOpenedDesk, AreKept, AreShelved, shared_rules};
+ghost use Rattle.ownlock.specs.Seats.{all_sessions};
+ghost use Rattle.store.specs.Shelving.{IsOpenedReplica, opening_notes, opening_progress, sessions_of, store_rules};
+ghost use Rattle.store.specs.Sessions.{fresh_sessions};
+ghost use Rattle.store.specs.Places.{AreFilled, IsOpenedDesk, AreKept, AreShelved};
 
-use crate::values::{Value, shelved_log, shelved_replica};
+use crate::session::Session;
+use crate::steps::Caller;
+use crate::values::{Setup, Value, shelved_log, shelved_replica};
 use combiner::Desk;
 use loader::Catalogue;
 use maps::Shape;
 use oplog::Config;
+use ownlock::{Seat, Shelf};
 use std::alloc::{AllocError, Global};
 
 // A new desk, as a value of the shelf.
@@ -72,7 +77,7 @@ pub(crate) fn shelved_places(
 ) -> Result<Vec<Option<Value>>, AllocError>
     requires config { IsConfig config.now }
     ensures values { IfOk result (λ v. AreShelved config.now catalogue.now v.items) }
-    ensures agree { IfOk result (λ v. AllAgree shared_rules (first_progress config.now catalogue.now) (replicate (sessions_of config.now) fresh_note) v.items) }
+    ensures agree { IfOk result (λ v. AllAgree store_rules (first_progress config.now catalogue.now) (replicate (sessions_of config.now) fresh_note) v.items) }
 {
     let window = config.window as usize;
     let shapes = catalogue.shapes();
@@ -83,4 +88,44 @@ pub(crate) fn shelved_places(
     push_replicas(alloc, &mut values, shapes, window, nodes)?;
     push_desks(alloc, &mut values, nodes, config.slots as usize)?;
     Ok(values)
+}
+
+// How many sessions a store has: one for each slot of each node.
+pub(crate) fn session_count(config: &Config) -> usize
+    requires config { IsConfig config.now }
+    ensures count { result ≡ sessions_of config.now }
+{
+    config.nodes as usize * config.slots as usize
+}
+
+// The slot of the session with that number.
+fn caller_of(slots: usize, number: usize) -> Caller
+    requires some { 0 < slots }
+    ensures own { number ≡ result.node * slots + result.slot }
+    ensures within { result.slot < slots }
+{
+    Caller {
+        node: number / slots,
+        slot: number % slots,
+    }
+}
+
+// A session for each slot of each node, in ascending order, each with a seat of its own.
+pub(crate) fn push_sessions(
+    shelf: &Shelf<Value>,
+    mut seat: Seat<Value>,
+    setup: &Setup,
+    sessions: &mut Vec<Session>,
+)
+    requires own { seat.shelf ≡ shelf.now.id }
+    requires config { IsConfig setup.now.config }
+    requires all { seat.sessions ≡ all_sessions (opening_progress setup.now) 0 (opening_notes setup.now) }
+    requires room { (sessions.old.items ≡ []) × (sessions_of setup.now.config ≤ vec_capacity sessions.old) }
+    ensures sessions { sessions.new.items ≡ fresh_sessions shelf.now.id setup.now.config setup.now.catalogue 0 (sessions_of setup.now.config) }
+{
+    for number in 0..session_count(&setup.config) {
+        let own = shelf.split(&mut seat);
+        let caller = caller_of(setup.config.slots as usize, number);
+        sessions.push_reserved(Session::new(own, caller));
+    }
 }

@@ -1,22 +1,21 @@
 // A session's calls.
 
-ghost use Rattle.std.specs.Prelude.{◌≡◌, ◌≤◌, true, [], ◌∷◌, length, None, Some, Err, MatchResult};
+ghost use Rattle.std.specs.Prelude.{◌≡◌, ◌≤◌, [], ◌∷◌, length, None, Some, Err};
 ghost use Rattle.verifier.specs.declared.refusal.Mode.TheVariants.{Update, Read};
-ghost use Rattle.loader.specs.CatalogueView.{CatalogueView};
-ghost use Rattle.oplog.specs.declared.configuration.Config.{Config};
 ghost use Rattle.progress.specs.Accounts.{Extends, IsWellFormed};
-ghost use Rattle.replica.specs.StoreMeaning.{store_meaning, is_operation};
+ghost use Rattle.replica.specs.StoreMeaning.{store_meaning};
 ghost use Rattle.store.specs.declared.answers.StoreRefused.{StoreRefused};
-ghost use Rattle.store.specs.declared.answers.StoreRefused.TheVariants.{Ended};
 ghost use Rattle.store.specs.Refusals.{early_refusal};
-ghost use Rattle.store.specs.Sessions.{IsOf, TellsUpdate, TellsRead, fresh_known, fresh_session, known_of};
+ghost use Rattle.store.specs.Requests.{said};
+ghost use Rattle.store.specs.Sessions.{IsOf, IsIdle, TellsUpdate, TellsRead, known_of, session_view};
 
 use crate::answers::{Answer, StoreRefused};
-use crate::steps::{Question, Shared, query, update};
+use crate::requests::{complete, post_only};
+use crate::steps::{Caller, Question, query};
 use crate::store::Store;
 use crate::values::Value;
+use combiner::Reply;
 use loader::Catalogue;
-use oplog::{Op, Record};
 use ownlock::Seat;
 use readpath::ReadAnswer;
 use std::marker::Model;
@@ -27,9 +26,7 @@ use verifier::Mode;
 /// `Store::close`.
 pub struct Session {
     seat: Seat<Value>,
-    node: u32,
-    author: u16,
-    answered: u64,
+    caller: Caller,
 }
 
 impl Model for Session {
@@ -39,7 +36,7 @@ impl Model for Session {
 
     ghost view = { λ s. session_view s.seat };
 
-    ghost invariant = { λ s. IsIdle s.seat s.node s.author s.answered };
+    ghost invariant = { λ s. IsIdle s.seat s.caller };
 }
 
 // Why a program and its argument are refused before anything is done.
@@ -64,33 +61,33 @@ pub(crate) fn refusal(
     }
 }
 
+// What the call says of what became of its update.
+fn answer_of(reply: Reply) -> Result<Answer, StoreRefused>
+    ensures said { result ≡ said reply }
+{
+    match reply {
+        Reply::Placed { index, reply } => Ok(Answer { index, reply }),
+        Reply::Ended => Err(StoreRefused::Ended),
+    }
+}
+
 impl Session {
-    // The one session of this seat, which is new, at its node's slot 0.
-    pub(crate) fn first(seat: Seat<Value>) -> Session
-        requires first { (config : Config) × (c : CatalogueView) × (seat.sessions ≡ fresh_known config c ∷ []) × (config.nodes ≡ 1) × (config.slots ≡ 1) }
-        ensures shelf { result.shelf ≡ seat.shelf }
-        ensures fresh { (config : Config) (c : CatalogueView) → seat.sessions ≡ fresh_known config c ∷ [] → result ≡ fresh_session seat.shelf config c }
+    // The session of that slot, with its seat.
+    pub(crate) fn new(seat: Seat<Value>, caller: Caller) -> Session
+        requires idle { IsIdle seat caller }
+        ensures session { result ≡ session_view seat }
     {
-        Session {
-            seat,
-            node: 0,
-            author: 0,
-            answered: 0,
-        }
+        Session { seat, caller }
     }
 
-    pub(crate) fn into_seat(self) -> Seat<Value>
-        ensures shelf { result.shelf ≡ self.shelf }
-        ensures known { result.sessions ≡ known_of self ∷ [] }
-        ensures idle { self.note.pending ≡ None }
+    // Its seat, and its slot.
+    pub(crate) fn into_parts(self) -> (Seat<Value>, Caller)
+        ensures shelf { result.0.shelf ≡ self.shelf }
+        ensures known { result.0.sessions ≡ known_of self ∷ [] }
+        ensures idle { IsIdle result.0 result.1 }
     {
-        let Session {
-            seat,
-            node: _,
-            author: _,
-            answered: _,
-        } = self;
-        seat
+        let Session { seat, caller } = self;
+        (seat, caller)
     }
 
     /// Runs an update program of the store on its argument, as the next operation of the history.
@@ -107,6 +104,7 @@ impl Session {
         argument: &[u8],
     ) -> Result<Answer, StoreRefused>
         requires own { IsOf store.now self.old }
+        ensures own { IsOf store.now self.new }
         ensures same { (self.new.shelf ≡ self.old.shelf) × (self.new.session ≡ self.old.session) }
         ensures grown { Extends self.old.progress self.new.progress }
         ensures well_formed { early_refusal store.now.catalogue Update program argument.now ≡ None → IsWellFormed store_meaning self.new.progress }
@@ -115,34 +113,10 @@ impl Session {
         ensures answered { early_refusal store.now.catalogue Update program argument.now ≡ None
             → TellsUpdate self.old self.new (record { program = program; argument = argument.now }) result }
     {
-        match refusal(store.catalogue(), Mode::Update, program, argument) {
-            Some(refused) => Err(refused),
-            None => self.submit(rt, store, Op::new(program, argument)),
-        }
-    }
-
-    // The operation as the session's next record.
-    fn submit<R: Wait>(&mut self, rt: &R, store: &Store, op: Op) -> Result<Answer, StoreRefused>
-        requires own { IsOf store.now self.old }
-        requires update { is_operation Update store.now.catalogue op ≡ true }
-        ensures same { (self.new.shelf ≡ self.old.shelf) × (self.new.session ≡ self.old.session) }
-        ensures grown { Extends self.old.progress self.new.progress }
-        ensures well_formed { IsWellFormed store_meaning self.new.progress }
-        ensures answered { TellsUpdate self.old self.new op result }
-    {
-        let next = Record {
-            author: self.author,
-            seq: self.answered,
-            op,
-        };
-        let place = self.node as usize + 1;
-        match update(rt, store.shared(), &mut self.seat, place, next) {
-            Ok(answer) => {
-                self.answered += 1;
-                Ok(answer)
-            }
-            Err(_) => Err(StoreRefused::Ended),
-        }
+        let shared = store.shared();
+        let asked = Question { program, argument };
+        post_only(rt, shared, &mut self.seat, self.caller, asked)?;
+        answer_of(complete(rt, shared, &mut self.seat, self.caller))
     }
 
     /// Runs a read program of the store on the maps of the session's node, once these have seen everything that was completed
@@ -159,6 +133,7 @@ impl Session {
         argument: &[u8],
     ) -> Result<ReadAnswer, StoreRefused>
         requires own { IsOf store.now self.old }
+        ensures own { IsOf store.now self.new }
         ensures same { (self.new.shelf ≡ self.old.shelf) × (self.new.session ≡ self.old.session) × (self.new.note ≡ self.old.note) }
         ensures grown { Extends self.old.progress self.new.progress }
         ensures well_formed { IsWellFormed store_meaning self.new.progress }
@@ -169,9 +144,8 @@ impl Session {
         match refusal(store.catalogue(), Mode::Read, program, argument) {
             Some(refused) => Err(refused),
             None => {
-                let place = self.node as usize + 1;
                 let question = Question { program, argument };
-                Ok(query(rt, store.shared(), &mut self.seat, place, question))
+                Ok(query(rt, store.shared(), &mut self.seat, self.caller, question))
             }
         }
     }

@@ -1,34 +1,41 @@
 // What a session does on the shelf.
 
-ghost use Rattle.std.specs.Prelude.{◌≡◌, ◌+◌, ◌<◌, ◌≤◌, ℕ, [], ◌∷◌, length, None, Some, slice_get, IfOk};
+ghost use Rattle.std.specs.Prelude.{◌≡◌, ◌<◌, ◌≤◌, length, None};
 ghost use Rattle.verifier.specs.declared.refusal.Mode.TheVariants.{Read};
-ghost use Rattle.machine.specs.declared.running.Outcome.{Outcome as TheOutcome};
 ghost use Rattle.ownlock.specs.Seats.{IsSession};
 ghost use Rattle.replica.specs.StoreMeaning.{store_meaning};
 ghost use Rattle.progress.specs.Accounts.{IsWellFormed};
+ghost use Rattle.progress.specs.Moves.{unplaced};
 ghost use Rattle.store.specs.Refusals.{early_refusal};
 ghost use Rattle.store.specs.Held.{tail_in, IsReplica};
-ghost use Rattle.store.specs.Sessions.{IsUpdated, IsReadBy};
-ghost use Rattle.store.specs.Standing.{SessionKnown, Stands, LogIs, FollowsIn, AgreesIn, HoldsLog, HoldsReplica, IsFree, HasRest, IsNext, HasRaised, HasRoom, HasAppended, HasCaughtUp, IsBroughtUp};
+ghost use Rattle.store.specs.Sessions.{IsReadBy};
+ghost use Rattle.store.specs.Standing.{SessionKnown, Stands, LogIs, FollowsIn, AgreesIn, HoldsLog, HoldsReplica, IsFree, IsOnShelf, HasRest, HasRaised, HasRoom, HasAppended, HasCaughtUp, IsBroughtUp};
 
-use crate::answers::Answer;
 use crate::held::{
-    answer_in, append, follow, is_full, is_ready, keep_up, reclaim, replay, replica_tail,
+    answer_in, append, follow, is_ready, keep_up, lacks_room, reclaim, replay, replica_tail,
 };
 use crate::values::Value;
 use loader::Catalogue;
-use oplog::{Ended, Record};
+use oplog::{Appended, Record};
 use ownlock::{LEADER, Seat, Shelf};
 use readpath::ReadAnswer;
 use replica::Replies;
 use std::marker::Brand;
 use std::sync::Wait;
 
-// What all sessions of a store share: its shelf, and its catalogue.
+// What all sessions of a store share: its shelf, its catalogue, and how many nodes it has.
 #[derive(Clone, Copy)]
 pub(crate) struct Shared<'a> {
     pub(crate) shelf: &'a Shelf<Value>,
     pub(crate) catalogue: &'a Catalogue,
+    pub(crate) nodes: usize,
+}
+
+// A slot of a node: the session that works there.
+#[derive(Clone, Copy)]
+pub(crate) struct Caller {
+    pub(crate) node: usize,
+    pub(crate) slot: usize,
 }
 
 // What a read asks for: a program, by its number, and its argument.
@@ -48,56 +55,63 @@ fn raise_to(shelf: &Shelf<Value>, seat: &mut Seat<Value>, node: &Value)
     shelf.raise(seat, replica_tail(node));
 }
 
-// While the log is held: a replica below its base becomes the base, and a log without room gets the replica as its base, once
-// that has applied everything and all is completed.
+// While the log is held: a replica below its base becomes the base, and a log without room for so many records gets the replica
+// as its base, once that has applied everything and all is completed.
 fn make_room(
-    shelf: &Shelf<Value>,
+    shared: Shared<'_>,
     seat: &mut Seat<Value>,
     log: &mut Value,
     node: &mut Value,
-    catalogue: &Catalogue,
+    want: usize,
 )
-    requires own { seat.old.shelf ≡ shelf.now.id }
+    requires own { seat.old.shelf ≡ shared.shelf.now.id }
+    requires few { want ≤ 16 }
     requires holds { (k : SessionKnown) × IsSession seat.old k × HoldsLog k × LogIs k.progress log.old × FollowsIn k.progress node.old
-        × IsWellFormed store_meaning k.progress × (k.progress.catalogue ≡ catalogue.now) }
+        × IsWellFormed store_meaning k.progress × (k.progress.catalogue ≡ shared.catalogue.now) }
     ensures same { seat.new.shelf ≡ seat.old.shelf }
-    ensures room { (k : SessionKnown) → IsSession seat.old k → (after : SessionKnown) × IsSession seat.new after × HasRoom k after log.old log.new node.new }
+    ensures room { (k : SessionKnown) → IsSession seat.old k → (after : SessionKnown) × IsSession seat.new after
+        × HasRoom k after want log.old log.new node.new }
 {
+    let Shared {
+        shelf,
+        catalogue,
+        nodes: _,
+    } = shared;
     keep_up(log, node);
-    if is_full(log) {
+    if lacks_room(log, want) {
         follow(log, node, catalogue);
         raise_to(shelf, seat, node);
         reclaim(log, node);
     }
 }
 
-// Takes the log, makes room and appends the record, copies what the replica has still to apply into its hand, and puts the log
-// back.
-fn append_and_copy<R: Wait>(
+// Takes the log, makes room and appends as many of the records as the history may still have, copies what the replica has still
+// to apply into its hand, and puts the log back.
+pub(crate) fn append_and_copy<R: Wait>(
     rt: &R,
     shared: Shared<'_>,
     seat: &mut Seat<Value>,
     node: &mut Value,
-    next: Record,
-) -> Result<u64, Ended>
+    records: &[Record],
+) -> Appended
     requires own { seat.old.shelf ≡ shared.shelf.now.id }
     requires there { 0 < shared.shelf.now.places }
+    requires few { length records.now ≤ 16 }
     requires holds { (k : SessionKnown) × IsSession seat.old k × HoldsReplica k node.old × AgreesIn k.progress node.old × Stands k
-        × IsNext k next × (k.progress.catalogue ≡ shared.catalogue.now) }
+        × (k.note.batch ≡ unplaced records.now) × (k.progress.catalogue ≡ shared.catalogue.now) }
     ensures same { seat.new.shelf ≡ seat.old.shelf }
     ensures appended { (k : SessionKnown) → IsSession seat.old k → (after : SessionKnown) × IsSession seat.new after
-        × HasAppended k after next result node.new }
+        × HasAppended k after records.now result node.new }
 {
-    let Shared { shelf, catalogue } = shared;
-    let mut log = shelf.take(rt, seat, LEADER);
-    make_room(shelf, seat, &mut log.value, node, catalogue);
-    let appended = append(&mut log.value, node, next);
-    shelf.put::<Brand>(seat, log);
+    let mut log = shared.shelf.take(rt, seat, LEADER);
+    make_room(shared, seat, &mut log.value, node, records.len());
+    let appended = append(&mut log.value, node, records);
+    shared.shelf.put::<Brand>(seat, log);
     appended
 }
 
 // Replays the records in the hand, and raises the completed tail to the replica's.
-fn catch_up(
+pub(crate) fn catch_up(
     shelf: &Shelf<Value>,
     seat: &mut Seat<Value>,
     node: &mut Value,
@@ -112,56 +126,6 @@ fn catch_up(
 {
     replay(node, catalogue, replies);
     raise_to(shelf, seat, node);
-}
-
-// The place of a record that was appended, and 0 for one that was not.
-fn place_of(appended: &Result<u64, Ended>) -> u64
-    ensures place { IfOk appended.now (λ i. result ≡ i) }
-{
-    match appended {
-        Ok(index) => *index,
-        Err(_) => 0,
-    }
-}
-
-// The reply of the first outcome that was kept.
-fn first_reply(replies: &Replies) -> u64
-    requires kept { (o : TheOutcome) × (slice_get replies.now.outcomes 0 ≡ Some (Some o)) }
-    ensures reply { (o : TheOutcome) → slice_get replies.now.outcomes 0 ≡ Some (Some o) → result ≡ o.reply }
-{
-    match replies.get(0) {
-        Some(outcome) => outcome.reply,
-        None => unreachable!(),
-    }
-}
-
-// Appends the record, brings the replica at that place of the shelf up to it, and answers its place and reply.
-pub(crate) fn update<R: Wait>(
-    rt: &R,
-    shared: Shared<'_>,
-    seat: &mut Seat<Value>,
-    place: usize,
-    next: Record,
-) -> Result<Answer, Ended>
-    requires own { seat.old.shelf ≡ shared.shelf.now.id }
-    requires there { place < shared.shelf.now.places }
-    requires idle { (k : SessionKnown) × IsSession seat.old k × IsFree place k × IsNext k next × (k.progress.catalogue ≡ shared.catalogue.now) }
-    ensures same { seat.new.shelf ≡ seat.old.shelf }
-    ensures updated { (k : SessionKnown) → IsSession seat.old k → (after : SessionKnown) × IsSession seat.new after × IsUpdated k after next.op result }
-{
-    let Shared { shelf, catalogue } = shared;
-    let mut node = shelf.take(rt, seat, place);
-    let appended = append_and_copy(rt, shared, seat, &mut node.value, next);
-    let mut replies = Replies::new(place_of(&appended), 1);
-    catch_up(shelf, seat, &mut node.value, catalogue, &mut replies);
-    shelf.put::<Brand>(seat, node);
-    match appended {
-        Ok(index) => Ok(Answer {
-            index,
-            reply: first_reply(&replies),
-        }),
-        Err(ended) => Err(ended),
-    }
 }
 
 // Takes the log, brings the replica up to its end while it is held, puts it back, and raises the completed tail to the replica's.
@@ -187,25 +151,29 @@ fn refresh<R: Wait>(
     raise_to(shelf, seat, node);
 }
 
-// Runs a read program on the replica at that place of the shelf, once it has reached the tail that is completed now.
+// Runs a read program on the replica of the caller's node, once it has reached the tail that is completed now.
 pub(crate) fn query<R: Wait>(
     rt: &R,
     shared: Shared<'_>,
     seat: &mut Seat<Value>,
-    place: usize,
+    caller: Caller,
     question: Question<'_>,
 ) -> ReadAnswer
     requires own { seat.old.shelf ≡ shared.shelf.now.id }
-    requires there { place < shared.shelf.now.places }
-    requires idle { (k : SessionKnown) × IsSession seat.old k × IsFree place k × (k.progress.catalogue ≡ shared.catalogue.now) }
+    requires idle { (k : SessionKnown) × IsSession seat.old k × IsFree caller k
+        × IsOnShelf shared.shelf.now.places shared.nodes shared.catalogue.now k }
     requires asked { early_refusal shared.catalogue.now Read question.program question.argument.now ≡ None }
     ensures same { seat.new.shelf ≡ seat.old.shelf }
     ensures read { (k : SessionKnown) → IsSession seat.old k → (after : SessionKnown) × IsSession seat.new after
         × IsReadBy k after (record { program = question.entry.program; argument = question.entry.argument.now }) result }
 {
-    let Shared { shelf, catalogue } = shared;
+    let Shared {
+        shelf,
+        catalogue,
+        nodes: _,
+    } = shared;
     let done = shelf.done(seat);
-    let mut node = shelf.take(rt, seat, place);
+    let mut node = shelf.take(rt, seat, 1 + caller.node);
     bring_up(rt, shared, seat, &mut node.value, done);
     let answer = answer_in(
         &mut node.value,

@@ -1,52 +1,23 @@
 // A store of replicas.
 
-ghost use Rattle.std.specs.Prelude.{◌≡◌, ◌≢◌, ◌↔◌, ◌+◌, [], ◌∷◌, length, IsTrue, IfOk, IfErr, MatchResult, option_map, Some, None};
+ghost use Rattle.std.specs.Prelude.{◌≡◌, ◌≢◌, ◌↔◌, ◌+◌, ◌<◌, ◌≤◌, length, IfOk, IfErr, MatchResult};
 ghost use Rattle.oplog.specs.declared.configuration.OpenError.TheVariants.{OutOfLimits};
-ghost use Rattle.std.specs.Global.{Box};
-ghost use Rattle.oplog.specs.Logs.{Log};
-ghost use Rattle.store.specs.declared.values.NodeReplica.{NodeReplica as TheNode};
-ghost use Rattle.store.specs.declared.values.Value.TheVariants.{Log as LogPlace, Replica as ReplicaPlace};
+ghost use Rattle.oplog.specs.declared.configuration.TheConstants.{MAX_NODES};
+ghost use Rattle.oplog.specs.Limits.{IsConfig};
 ghost use Rattle.store.specs.Shelving.{sessions_of};
-ghost use Rattle.store.specs.Sessions.{fresh_session};
-ghost use Rattle.store.specs.Opening.{IsOpenable, AreOf, IsClosed};
+ghost use Rattle.store.specs.Sessions.{fresh_sessions};
+ghost use Rattle.store.specs.Opening.{AreOf, AreIdle, IsClosed, known_back};
 
+use crate::closed::Closed;
+use crate::opening::{push_sessions, session_count, shelved_places};
 use crate::session::Session;
 use crate::steps::Shared;
-use crate::values::{NodeReplica, Setup, Value, shelved_values};
+use crate::values::{Setup, Value};
 use loader::Catalogue;
-use oplog::{Config, LogState, OpenError};
-use ownlock::Shelf;
-use replica::Replica;
+use oplog::{Config, OpenError};
+use ownlock::{Seat, Shelf};
 use std::alloc::Global;
 use std::marker::Model;
-
-/// What a closed store leaves.
-#[derive(Drop)]
-pub struct Closed {
-    log: Box<LogState>,
-    node: Box<NodeReplica>,
-}
-
-impl Closed {
-    /// The log.
-    pub fn log(&self) -> &LogState
-        ensures log { result.now ≡ self.now.log.value }
-    {
-        &self.log
-    }
-
-    /// The replica of a node.
-    pub fn replica(&self, node: u32) -> Option<&Replica>
-        ensures first { node ≡ 0 → option_map (λ r. r.now) result ≡ Some self.now.node.value.replica }
-        ensures others { node ≢ 0 → option_map (λ r. r.now) result ≡ None }
-    {
-        if node == 0 {
-            Some(&self.node.replica)
-        } else {
-            None
-        }
-    }
-}
 
 /// A log of updates, and a replica of the maps for each node. Sessions work on it from any number of threads.
 #[derive(Drop)]
@@ -57,49 +28,20 @@ pub struct Store {
 
 impl Model for Store {
     ghost use Rattle.std.specs.Prelude.{◌≡◌, ◌+◌};
-    ghost use Rattle.store.specs.Opening.{IsOpenable};
+    ghost use Rattle.oplog.specs.Limits.{IsConfig};
     ghost use Rattle.store.specs.Sessions.{StoreView};
 
     ghost Value = { StoreView };
 
     ghost view = { λ s. record { id = s.shelf.id; config = s.setup.config; catalogue = s.setup.catalogue } };
 
-    // The shelf was opened for this setup, and has a place for the log and one for each node's replica.
-    ghost invariant = { λ s. (s.shelf.setup ≡ s.setup) × (s.shelf.places ≡ 1 + s.setup.config.nodes) × IsOpenable s.setup.config };
-}
-
-// Whether a store is built for this configuration.
-fn is_openable(config: &Config) -> bool
-    ensures openable { IsTrue result ↔ IsOpenable config.now }
-{
-    config.nodes == 1 && config.slots == 1 && config.is_within_limits()
-}
-
-// The log that a place of the shelf gave back.
-fn log_in(value: Option<Option<Value>>) -> Box<LogState>
-    requires log { (g : Box Log) × (value ≡ Some (Some (LogPlace g))) }
-    ensures log { (g : Box Log) → value ≡ Some (Some (LogPlace g)) → result ≡ g }
-{
-    match value {
-        Some(Some(Value::Log(log))) => log,
-        _ => unreachable!(),
-    }
-}
-
-// The replica that a place of the shelf gave back.
-fn replica_in(value: Option<Option<Value>>) -> Box<NodeReplica>
-    requires replica { (n : Box TheNode) × (value ≡ Some (Some (ReplicaPlace n))) }
-    ensures replica { (n : Box TheNode) → value ≡ Some (Some (ReplicaPlace n)) → result ≡ n }
-{
-    match value {
-        Some(Some(Value::Replica(node))) => node,
-        _ => unreachable!(),
-    }
+    // The shelf was opened for this setup, and has a place for the log, and two for each node: its replica's and its desk's.
+    ghost invariant = { λ s. (s.shelf.setup ≡ s.setup) × (s.shelf.places ≡ 1 + s.setup.config.nodes + s.setup.config.nodes) × IsConfig s.setup.config };
 }
 
 impl Store {
-    /// A store without an operation, and its sessions: one for each slot of each node, in ascending order. For now it is built
-    /// for one node of one slot. No later call takes memory.
+    /// A store without an operation, and its sessions: one for each slot of each node, in ascending order. No later call takes
+    /// memory.
     ///
     /// # Errors
     ///
@@ -109,18 +51,20 @@ impl Store {
         config: Config,
         catalogue: Catalogue,
     ) -> Result<(Store, Vec<Session>), OpenError>
-        ensures limits { IfErr result (λ e. (e ≡ OutOfLimits) ↔ (IsOpenable config → ⊥)) }
-        ensures openable { IfOk result (λ t. IsOpenable config) }
+        ensures limits { IfErr result (λ e. (e ≡ OutOfLimits) ↔ (IsConfig config → ⊥)) }
+        ensures openable { IfOk result (λ t. IsConfig config) }
         ensures store { IfOk result (λ t. (t.0.config ≡ config) × (t.0.catalogue ≡ catalogue)) }
-        ensures sessions { IfOk result (λ t. t.1.items ≡ fresh_session t.0.id config catalogue ∷ []) }
+        ensures sessions { IfOk result (λ t. t.1.items ≡ fresh_sessions t.0.id config catalogue 0 (sessions_of config)) }
+        ensures count { IfOk result (λ t. length t.1.items ≡ sessions_of config) }
+        ensures own { IfOk result (λ t. AreOf t.0 t.1.items) }
     {
-        if !is_openable(&config) {
+        if !config.is_within_limits() {
             return Err(OpenError::OutOfLimits);
         }
-        let Ok(values) = shelved_values(alloc, &config, &catalogue) else {
+        let Ok(values) = shelved_places(alloc, &config, &catalogue) else {
             return Err(OpenError::NoMemory);
         };
-        let Ok(mut sessions) = Vec::with_capacity(alloc, 1) else {
+        let Ok(mut sessions) = Vec::with_capacity(alloc, session_count(&config)) else {
             return Err(OpenError::NoMemory);
         };
         let setup = Setup { config, catalogue };
@@ -128,7 +72,7 @@ impl Store {
             sessions.destroy_empty();
             return Err(OpenError::NoMemory);
         };
-        sessions.push_reserved(Session::first(seat));
+        push_sessions(&shelf, seat, &setup, &mut sessions);
         Ok((Store { shelf, setup }, sessions))
     }
 
@@ -137,35 +81,54 @@ impl Store {
     /// # Errors
     ///
     /// S5 where a session is missing: the store and the sessions come back.
-    pub fn close(self, mut sessions: Vec<Session>) -> Result<Closed, (Store, Vec<Session>)>
+    pub fn close(self, sessions: Vec<Session>) -> Result<Closed, (Store, Vec<Session>)>
         requires own { AreOf self sessions.items }
         ensures whole { MatchResult result (λ _. length sessions.items ≡ sessions_of self.config) (λ _. length sessions.items ≢ sessions_of self.config) }
         ensures back { IfErr result (λ t. (t.0 ≡ self) × (t.1.items ≡ sessions.items)) }
-        ensures closed { IfOk result (λ r. IsClosed self sessions.items r.log.value r.node.value.replica) }
+        ensures closed { IfOk result (λ c. IsClosed self sessions.items c) }
     {
-        if sessions.len() != 1 {
+        if sessions.len() != session_count(&self.setup.config) {
             return Err((self, sessions));
         }
-        let Some(session) = sessions.pop() else {
+        let seat = self.join_seats(sessions);
+        let Store { shelf, setup } = self;
+        let mut values = shelf.close_joined(seat);
+        values.truncate(1 + setup.config.nodes as usize);
+        Ok(Closed::new(values))
+    }
+
+    // One seat with all these sessions, the last first.
+    fn join_seats(&self, mut sessions: Vec<Session>) -> Seat<Value>
+        requires own { AreOf self.now sessions.items }
+        requires some { 0 < length sessions.items }
+        ensures shelf { result.shelf ≡ self.now.id }
+        ensures joined { result.sessions ≡ known_back sessions.items }
+        ensures idle { AreIdle sessions.items }
+    {
+        let Some(last) = sessions.pop() else {
             unreachable!()
         };
+        let (mut all, _) = last.into_parts();
+        while let Some(next) = sessions.pop() {
+            let (seat, _) = next.into_parts();
+            self.shelf.join(&mut all, seat);
+        }
         sessions.destroy_empty();
-        let Store { shelf, .. } = self;
-        let mut values = shelf.close_joined(session.into_seat());
-        let node = replica_in(values.pop());
-        let log = log_in(values.pop());
-        Ok(Closed { log, node })
+        all
     }
 
     // What its sessions share.
     pub(crate) fn shared(&self) -> Shared<'_>
         ensures shelf { result.shelf.now.id ≡ self.now.id }
-        ensures places { result.shelf.now.places ≡ 1 + self.now.config.nodes }
+        ensures places { result.shelf.now.places ≡ 1 + self.now.config.nodes + self.now.config.nodes }
+        ensures nodes { (result.nodes ≡ self.now.config.nodes) × (self.now.config.nodes ≤ MAX_NODES) }
+        ensures config { IsConfig self.now.config }
         ensures catalogue { result.catalogue.now ≡ self.now.catalogue }
     {
         Shared {
             shelf: &self.shelf,
             catalogue: &self.setup.catalogue,
+            nodes: self.setup.config.nodes as usize,
         }
     }
 

@@ -2,8 +2,8 @@
 
 ghost use Rattle.std.specs.Prelude.{◌≡◌, IfOk};
 ghost use Rattle.maps.specs.Shapes.{AreShapesOk};
-ghost use Rattle.oplog.specs.Limits.{IsConfig, IsWindow, IsLimit};
-ghost use Rattle.store.specs.Shelving.{IsOpenedLog, IsOpenedReplica, AreOpened};
+ghost use Rattle.oplog.specs.Limits.{IsWindow, IsLimit};
+ghost use Rattle.store.specs.Shelving.{IsOpenedLog, IsOpenedReplica};
 
 use combiner::Desk;
 use loader::Catalogue;
@@ -46,7 +46,7 @@ impl Shelved for Value {
     type Setup = Setup;
 
     ghost use Rattle.replica.specs.StoreMeaning.{store_meaning};
-    ghost use Rattle.progress.proofs.StoreRules.{single_store};
+    ghost use Rattle.progress.proofs.StoreRules.{desk_store};
     ghost use Rattle.progress.proofs.StoreLaws.{laws_seen};
     ghost use Rattle.store.specs.Shelving.{view_of, IsSized, store_rules, opening_progress, opening_notes};
 
@@ -56,7 +56,7 @@ impl Shelved for Value {
 
     ghost first_notes = { opening_notes };
 
-    ghost laws = { laws_seen (single_store store_meaning) view_of IsSized };
+    ghost laws = { laws_seen (desk_store store_meaning) view_of IsSized };
 }
 
 // A new log, as a value of the shelf.
@@ -88,23 +88,4 @@ pub(crate) fn shelved_replica(
     let replica = Replica::open(alloc, shapes)?;
     let hand = Hand::open(alloc, window)?;
     Ok(Value::Replica(Box::new(alloc, NodeReplica { replica, hand })?))
-}
-
-// The log and the node's replica, in the order of their places.
-pub(crate) fn shelved_values(
-    alloc: Global,
-    config: &Config,
-    catalogue: &Catalogue,
-) -> Result<Vec<Option<Value>>, AllocError>
-    requires config { IsConfig config.now }
-    ensures values { IfOk result (λ v. AreOpened config.now catalogue.now v.items) }
-{
-    let window = config.window as usize;
-    let shapes = catalogue.shapes();
-    let mut values = Vec::with_capacity(alloc, 2)?;
-    let log = shelved_log(alloc, shapes, window, config.limit as usize)?;
-    values.push_reserved(Some(log));
-    let replica = shelved_replica(alloc, shapes, window)?;
-    values.push_reserved(Some(replica));
-    Ok(values)
 }

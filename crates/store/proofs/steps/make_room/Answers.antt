@@ -36,10 +36,10 @@ reclaim-requires c =
     let u = kept_up_in i.0.progress x c.args.node.now z i.3 i.4 c.keep_up.ensures.kept in
     let all = followed_all i.0.progress x z c.follow.new.node i.3 u.0 u.1 (subst (λ d. HasFollowed d x z c.follow.new.node) (sym i.6) c.follow.ensures.followed) in
     let up = c.raise_to.ensures.raised i.0 i.1 in
-    record { can = reclaims i.0 up.0 x c.follow.new.node i.2 up.2 i.3 all c.is_full.ensures.wide (c.is_full.ensures.full.0 c.if-is_full.true) }
+    record { can = reclaims i.0 up.0 c.args.want c.requires.few x c.follow.new.node i.2 up.2 i.3 all c.lacks_room.ensures.wide (c.lacks_room.ensures.lacks.0 c.if-lacks_room.true) }
 
-pub returns-then-is_full-clause-room : goal.returns-then-is_full-clause-room
-returns-then-is_full-clause-room c k is =
+pub returns-then-lacks_room-clause-room : goal.returns-then-lacks_room-clause-room
+returns-then-lacks_room-clause-room c k is =
     let i = c.requires.holds in
     let x = c.args.log.now in
     let z = c.keep_up.new.node in
@@ -47,14 +47,14 @@ returns-then-is_full-clause-room c k is =
     let u = kept_up_in i.0.progress x c.args.node.now z i.3 i.4 c.keep_up.ensures.kept in
     let all = followed_all i.0.progress x z c.follow.new.node i.3 u.0 u.1 (subst (λ d. HasFollowed d x z c.follow.new.node) (sym i.6) c.follow.ensures.followed) in
     let up = c.raise_to.ensures.raised i.0 i.1 in
-    let full = c.is_full.ensures.full.0 c.if-is_full.true in
-    (up.0, up.1, subst (λ q. HasRoom q up.0 x c.reclaim.new.log c.follow.new.node) e (freed_in i.0 up.0 x c.follow.new.node i.2 up.2 c.reclaim.new.log i.3 all c.is_full.ensures.wide full c.reclaim.ensures.reclaimed))
+    let full = c.lacks_room.ensures.lacks.0 c.if-lacks_room.true in
+    (up.0, up.1, subst (λ q. HasRoom q up.0 c.args.want x c.reclaim.new.log c.follow.new.node) e (freed_in i.0 up.0 c.args.want c.requires.few x c.follow.new.node i.2 up.2 c.reclaim.new.log i.3 all c.lacks_room.ensures.wide full c.reclaim.ensures.reclaimed))
 
-pub returns-else-is_full-clause-room : goal.returns-else-is_full-clause-room
-returns-else-is_full-clause-room c k is =
+pub returns-else-lacks_room-clause-room : goal.returns-else-lacks_room-clause-room
+returns-else-lacks_room-clause-room c k is =
     let i = c.requires.holds in
     let x = c.args.log.now in
     let z = c.keep_up.new.node in
     let e = one_known c.args.seat.now i.0 k i.1 is in
     let u = kept_up_in i.0.progress x c.args.node.now z i.3 i.4 c.keep_up.ensures.kept in
-    (k, is, subst (λ q. HasRoom q q x x z) e (roomy i.0 x z i.5 i.3 u.0 u.1 (λ f. not_true c.is_full.result c.if-is_full.false (c.is_full.ensures.full.1 f))))
+    (k, is, subst (λ q. HasRoom q q c.args.want x x z) e (roomy i.0 c.args.want x z i.5 i.3 u.0 u.1 (λ f. not_true c.lacks_room.result c.if-lacks_room.false (c.lacks_room.ensures.lacks.1 f))))

@@ -1,13 +1,86 @@
-use Rattle.std.proofs.Common.{◌≡◌, true, None, sym, ◌∙◌, subst}
-use Rattle.maps.specs.Maps.{AreBytes}
+use Rattle.std.proofs.Common.{◌≡◌, sym, ap, ◌∙◌, subst, refl}
 use Rattle.verifier.specs.declared.refusal.Mode.TheVariants.{Update}
-use Rattle.replica.specs.StoreMeaning.{is_operation}
+use Rattle.oplog.specs.Operations.{Operation}
 use Rattle.store.specs.Refusals.{early_refusal}
-use Rattle.store.proofs.Asked.{is_asked}
+use Rattle.store.specs.Sessions.{SessionView, TellsUpdate, session_view}
+use Rattle.store.proofs.Invoked.{has_asked, has_grown, invoked, is_idle, not_refused, same_session, seen_as, stays_well, still_of, tells_update}
 use Rattle.store.proofs.session.Session.invoke.Goals as goal
 
-pub submit-requires-clause-update : goal.submit-requires-clause-update
-submit-requires-clause-update g c =
-    let is = c.new.ensures.operation in
-    let none = subst (λ z. early_refusal z Update c.args.program c.args.argument.now ≡ None) c.catalogue.ensures.catalogue (sym c.refusal.ensures.refusal ∙ c.in-None.is) in
-    subst (λ o. is_operation Update c.args.store.now.catalogue o ≡ true) (sym is) (is_asked Update c.args.store.now.catalogue c.args.program c.args.argument.now none (subst (λ o. AreBytes o.argument) is c.new.ensures.bytes))
+pub invariant_of-self-2 : goal.invariant_of-self-2
+invariant_of-self-2 g c =
+    let k = c.self.invariant.known in
+    let op : Operation = record { program = c.args.program; argument = c.args.argument.now } in
+    let none = not_refused (early_refusal c.shared-shared.result.catalogue.now Update c.args.program c.args.argument.now) c.post_only.result c.in_ok-post_only.field-0 (λ r e. (c.post_only.ensures.refused r e).0) c.in_ok-post_only.was in
+    let p = (c.post_only.ensures.posted none).1 k c.self.invariant.is in
+    let was = sym c.self.view_is ∙ seen_as c.self.inside.seat k c.self.invariant.is in
+    let config = ap (λ (z : SessionView). z.progress.config) (sym was) ∙ c.requires.own.config in
+    let asked = has_asked k p.0 op c.args.store.now.config p.2 config c.shared-shared.ensures.config c.self.invariant.batch c.self.invariant.within c.self.invariant.well_formed in
+    let f = c.complete.ensures.completed p.0 p.2.request p.1 asked in
+    let v = invoked k p.0 f.0 op c.complete.result p.2 f.2 in
+    is_idle k f.0 op c.complete.result v c.self.inside.seat c.complete.new.seat c.self.inside.caller c.self.invariant refl f.1
+
+pub returns-clause-own : goal.returns-clause-own
+returns-clause-own g c =
+    let k = c.self.invariant.known in
+    let op : Operation = record { program = c.args.program; argument = c.args.argument.now } in
+    let none = not_refused (early_refusal c.shared-shared.result.catalogue.now Update c.args.program c.args.argument.now) c.post_only.result c.in_ok-post_only.field-0 (λ r e. (c.post_only.ensures.refused r e).0) c.in_ok-post_only.was in
+    let p = (c.post_only.ensures.posted none).1 k c.self.invariant.is in
+    let was = sym c.self.view_is ∙ seen_as c.self.inside.seat k c.self.invariant.is in
+    let config = ap (λ (z : SessionView). z.progress.config) (sym was) ∙ c.requires.own.config in
+    let asked = has_asked k p.0 op c.args.store.now.config p.2 config c.shared-shared.ensures.config c.self.invariant.batch c.self.invariant.within c.self.invariant.well_formed in
+    let f = c.complete.ensures.completed p.0 p.2.request p.1 asked in
+    let v = invoked k p.0 f.0 op c.complete.result p.2 f.2 in
+    let shelf = c.complete.ensures.same ∙ (c.post_only.ensures.same ∙ (ap (λ (z : SessionView). z.shelf) c.self.view_is ∙ c.requires.own.shelf)) in
+    still_of c.args.store.now c.args.self.now (session_view c.complete.new.seat) c.self.inside.seat.shelf c.complete.new.seat.shelf k f.0 op c.complete.result v was (seen_as c.complete.new.seat f.0 f.1) c.requires.own shelf
+
+pub returns-clause-same : goal.returns-clause-same
+returns-clause-same g c =
+    let k = c.self.invariant.known in
+    let op : Operation = record { program = c.args.program; argument = c.args.argument.now } in
+    let none = not_refused (early_refusal c.shared-shared.result.catalogue.now Update c.args.program c.args.argument.now) c.post_only.result c.in_ok-post_only.field-0 (λ r e. (c.post_only.ensures.refused r e).0) c.in_ok-post_only.was in
+    let p = (c.post_only.ensures.posted none).1 k c.self.invariant.is in
+    let was = sym c.self.view_is ∙ seen_as c.self.inside.seat k c.self.invariant.is in
+    let config = ap (λ (z : SessionView). z.progress.config) (sym was) ∙ c.requires.own.config in
+    let asked = has_asked k p.0 op c.args.store.now.config p.2 config c.shared-shared.ensures.config c.self.invariant.batch c.self.invariant.within c.self.invariant.well_formed in
+    let f = c.complete.ensures.completed p.0 p.2.request p.1 asked in
+    let v = invoked k p.0 f.0 op c.complete.result p.2 f.2 in
+    (c.complete.ensures.same ∙ (c.post_only.ensures.same ∙ ap (λ (z : SessionView). z.shelf) c.self.view_is), same_session c.args.store.now c.args.self.now (session_view c.complete.new.seat) c.self.inside.seat.shelf c.complete.new.seat.shelf k f.0 op c.complete.result v was (seen_as c.complete.new.seat f.0 f.1))
+
+pub returns-clause-grown : goal.returns-clause-grown
+returns-clause-grown g c =
+    let k = c.self.invariant.known in
+    let op : Operation = record { program = c.args.program; argument = c.args.argument.now } in
+    let none = not_refused (early_refusal c.shared-shared.result.catalogue.now Update c.args.program c.args.argument.now) c.post_only.result c.in_ok-post_only.field-0 (λ r e. (c.post_only.ensures.refused r e).0) c.in_ok-post_only.was in
+    let p = (c.post_only.ensures.posted none).1 k c.self.invariant.is in
+    let was = sym c.self.view_is ∙ seen_as c.self.inside.seat k c.self.invariant.is in
+    let config = ap (λ (z : SessionView). z.progress.config) (sym was) ∙ c.requires.own.config in
+    let asked = has_asked k p.0 op c.args.store.now.config p.2 config c.shared-shared.ensures.config c.self.invariant.batch c.self.invariant.within c.self.invariant.well_formed in
+    let f = c.complete.ensures.completed p.0 p.2.request p.1 asked in
+    let v = invoked k p.0 f.0 op c.complete.result p.2 f.2 in
+    has_grown c.args.store.now c.args.self.now (session_view c.complete.new.seat) c.self.inside.seat.shelf c.complete.new.seat.shelf k f.0 op c.complete.result v was (seen_as c.complete.new.seat f.0 f.1)
+
+pub returns-clause-well_formed : goal.returns-clause-well_formed
+returns-clause-well_formed g c early =
+    let k = c.self.invariant.known in
+    let op : Operation = record { program = c.args.program; argument = c.args.argument.now } in
+    let none = not_refused (early_refusal c.shared-shared.result.catalogue.now Update c.args.program c.args.argument.now) c.post_only.result c.in_ok-post_only.field-0 (λ r e. (c.post_only.ensures.refused r e).0) c.in_ok-post_only.was in
+    let p = (c.post_only.ensures.posted none).1 k c.self.invariant.is in
+    let was = sym c.self.view_is ∙ seen_as c.self.inside.seat k c.self.invariant.is in
+    let config = ap (λ (z : SessionView). z.progress.config) (sym was) ∙ c.requires.own.config in
+    let asked = has_asked k p.0 op c.args.store.now.config p.2 config c.shared-shared.ensures.config c.self.invariant.batch c.self.invariant.within c.self.invariant.well_formed in
+    let f = c.complete.ensures.completed p.0 p.2.request p.1 asked in
+    let v = invoked k p.0 f.0 op c.complete.result p.2 f.2 in
+    stays_well c.args.store.now c.args.self.now (session_view c.complete.new.seat) c.self.inside.seat.shelf c.complete.new.seat.shelf k f.0 op c.complete.result v was (seen_as c.complete.new.seat f.0 f.1)
+
+pub returns-clause-answered : goal.returns-clause-answered
+returns-clause-answered g c early =
+    let k = c.self.invariant.known in
+    let op : Operation = record { program = c.args.program; argument = c.args.argument.now } in
+    let none = not_refused (early_refusal c.shared-shared.result.catalogue.now Update c.args.program c.args.argument.now) c.post_only.result c.in_ok-post_only.field-0 (λ r e. (c.post_only.ensures.refused r e).0) c.in_ok-post_only.was in
+    let p = (c.post_only.ensures.posted none).1 k c.self.invariant.is in
+    let was = sym c.self.view_is ∙ seen_as c.self.inside.seat k c.self.invariant.is in
+    let config = ap (λ (z : SessionView). z.progress.config) (sym was) ∙ c.requires.own.config in
+    let asked = has_asked k p.0 op c.args.store.now.config p.2 config c.shared-shared.ensures.config c.self.invariant.batch c.self.invariant.within c.self.invariant.well_formed in
+    let f = c.complete.ensures.completed p.0 p.2.request p.1 asked in
+    let v = invoked k p.0 f.0 op c.complete.result p.2 f.2 in
+    subst (λ r. TellsUpdate c.args.self.now (session_view c.complete.new.seat) op r) (sym c.answer_of.ensures.said) (tells_update c.args.store.now c.args.self.now (session_view c.complete.new.seat) c.self.inside.seat.shelf c.complete.new.seat.shelf k f.0 op c.complete.result v was (seen_as c.complete.new.seat f.0 f.1) c.self.invariant.pending c.self.invariant.batch)

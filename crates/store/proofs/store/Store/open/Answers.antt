@@ -1,6 +1,19 @@
-use Rattle.std.proofs.Common.{refl}
-use Rattle.store.proofs.Opened.{agree}
+use Rattle.std.proofs.Common.{sym, ap, ◌∙◌, refl, subst, length}
+use Rattle.replica.specs.StoreMeaning.{store_meaning}
+use Rattle.progress.proofs.Finish.{opens}
+use Rattle.store.specs.Opening.{AreOf}
+use Rattle.store.specs.Sessions.{StoreView}
+use Rattle.store.specs.Shelving.{sessions_of}
+use Rattle.store.proofs.Fresh.{fresh_long, fresh_of}
 use Rattle.store.proofs.store.Store.open.Goals as goal
 
-pub open-requires-clause-agree : goal.open-requires-clause-agree
-open-requires-clause-agree c = agree c.args.config c.args.catalogue c.in-Ok.values.items ((c.if-not-is_openable.ensures.openable.0 refl).nodes) c.in-Ok.ensures.values
+pub open-requires-clause-accounts : goal.open-requires-clause-accounts
+open-requires-clause-accounts c = (opens store_meaning c.args.config c.args.catalogue (sessions_of c.args.config)).0
+
+pub returns-clause-count : goal.returns-clause-count
+returns-clause-count c = ap length c.push_sessions.ensures.sessions ∙ fresh_long c.args.config c.args.catalogue _ 0 (sessions_of c.args.config)
+
+pub returns-clause-own : goal.returns-clause-own
+returns-clause-own c =
+    let store : StoreView = record { id = c.in-Ok-open.shelf.id; config = c.args.config; catalogue = c.args.catalogue } in
+    subst (λ z. AreOf store z) (sym c.push_sessions.ensures.sessions) (fresh_of c.args.config c.args.catalogue store 0 (sessions_of c.args.config) refl refl)

@@ -1,0 +1,179 @@
+-- What was appended and replayed are the answers of the batch, and these are handed over.
+use Rattle.std.proofs.Common.{◌≡◌, ℕ, ◌+◌, ◌<◌, ◌≤◌, List, [], ◌∷◌, map, length, length-set, sym, refl, ap, ◌∙◌, subst, arith, ⊎_elim, Option, Some, slice_get, slice_set}
+use native.Mathlib.Decide.{ℕ_discrete}
+use Rattle.std.proofs.lemmas.Bool.{cases_lt}
+use Rattle.std.proofs.lemmas.List.{length-replicate}
+use Rattle.std.proofs.lemmas.Option.{same_Some}
+use Rattle.ownlock.specs.Seats.{At}
+use Rattle.machine.specs.declared.running.Outcome.{Outcome}
+use Rattle.oplog.specs.declared.answers.Appended.{Appended}
+use Rattle.oplog.specs.declared.configuration.Config.{Config}
+use Rattle.oplog.specs.declared.records.Record.{Record}
+use Rattle.oplog.specs.History.{History, reply_at}
+use Rattle.combiner.specs.Desks.{BatchView, DeskView, replied}
+use Rattle.combiner.specs.declared.slots.Reply.{Reply}
+use Rattle.combiner.specs.declared.slots.Reply.TheVariants.{Placed, Ended}
+use Rattle.replica.proofs.Kept.{get-set_same, get-set_other}
+use Rattle.replica.specs.StoreMeaning.{store_meaning}
+use Rattle.replica.specs.Views.{RepliesView, no_replies}
+use Rattle.progress.specs.declared.sessions.Claim.{Claim}
+use Rattle.progress.specs.declared.sessions.SessionNote.{SessionNote}
+use Rattle.progress.specs.Accounts.{Accounts, Extends}
+use Rattle.progress.specs.Batches.{Ascend}
+use Rattle.progress.specs.DeskSteps.{Gives}
+use Rattle.progress.specs.Moves.{placed_from, record_of, unplaced}
+use Rattle.progress.proofs.Lists.{at_below, at_of}
+use Rattle.progress.proofs.Parts.{placed_back}
+use Rattle.progress.proofs.Puts.{at_there}
+use Rattle.progress.proofs.Tellings.{reply_on}
+use Rattle.progress.specs.Values.{TheDesk}
+use Rattle.store.specs.declared.values.Value.{Value}
+use Rattle.store.specs.declared.values.Value.TheVariants.{Log, Replica, Desk}
+use Rattle.store.specs.AtDesk.{IsReady}
+use Rattle.store.specs.Combining.{HasCombined, HasReplied, IsAnswerOf}
+use Rattle.store.specs.Held.{tail_in}
+use Rattle.store.specs.Shelving.{view_of}
+use Rattle.store.specs.Standing.{SessionKnown, GoesOn, HasAppended, HasCaughtUp, Stands}
+use Rattle.store.proofs.Batched.{at_unplaced, long_placed, long_unplaced, records_of_placed, records_of_unplaced}
+use Rattle.store.proofs.Finished.{Back, reply_kept}
+use Rattle.store.proofs.StoreLaws.{store_laws}
+use Rattle.store.proofs.Taken.{TookReplica}
+use Rattle.store.proofs.TakenDesk.{BackDesk, desk_or}
+
+abbrev K : Type 0
+K = SessionKnown
+
+-- ---- the answers are set one after another
+
+abbrev pub AreSet : Appended → RepliesView → ℕ → List (Option Reply) → Type 0
+AreSet a replies n answers = (k : ℕ) → k < n → (reply : Reply) × (slice_get answers k ≡ Some (Some reply)) × IsAnswerOf a replies k reply
+
+pub set_more : (a : Appended) (replies : RepliesView) (n : ℕ) (old new : List (Option Reply)) (reply : Reply) → n < length old → new ≡ slice_set old n (Some reply) → AreSet a replies n old → IsAnswerOf a replies n reply → AreSet a replies (n + 1) new
+set_more a replies n old new reply lt is before now k below = subst (λ z. (x : Reply) × (slice_get z k ≡ Some (Some x)) × IsAnswerOf a replies k x) (sym is) (by (ℕ_discrete k n))
+  where
+    by : Dec (k ≡ n) → (x : Reply) × (slice_get (slice_set old n (Some reply)) k ≡ Some (Some x)) × IsAnswerOf a replies k x
+    by (yes e) = subst (λ i. (x : Reply) × (slice_get (slice_set old n (Some reply)) i ≡ Some (Some x)) × IsAnswerOf a replies i x) (sym e) (reply, get-set_same old n (Some reply) lt, now)
+    by (no ne) = let b = before k (⊎_elim (λ l. l) (λ g. absurd (ne (omega (arith, g, below)))) (cases_lt k n)) in (b.0, get-set_other old n k (Some reply) ne ∙ b.1, b.2)
+
+-- ---- a batch that is ready stays so
+
+pub ready_on : (k t : K) (b : BatchView) (ns : List SessionNote) → t.note ≡ k.note → Extends k.progress t.progress → Stands k → Accounts store_meaning t.progress ns → IsReady k b → IsReady t b
+ready_on k t b ns note grown stands w r = record {
+  first = r.first;
+  is_first = subst (λ (n : SessionNote). At 0 r.first n.batch) (sym note) r.is_first;
+  records = r.records ∙ ap (λ (n : SessionNote). map record_of n.batch) (sym note);
+  ascend = r.ascend;
+  gives = λ j c at. let g = r.gives j c (subst (λ (n : SessionNote). At j c n.batch) note at) in (g.0, g.1, gives_on c g.0 g.2);
+}
+  where
+    gives_on : (c : Claim) (reply : Reply) → Gives store_meaning k.progress c reply → Gives store_meaning t.progress c reply
+    gives_on c (Placed i x) g =
+        let lt = g.1 in let up = grown.completed in let low = stands.accounts.completed in
+        (g.0, omega (arith, lt, up), sym (reply_on store_meaning k.progress t.progress i c.request.op grown (omega (arith, lt, low))) ∙ g.2)
+    gives_on c Ended g =
+        let at = g.1 in let up = grown.completed in let same = ap (λ (z : Config). z.limit) grown.config in let top = w.limit in let end = w.completed in
+        (g.0, omega (arith, at, up, same, top, end))
+
+-- ---- from what was appended and replayed to the answers
+
+-- the session t has its replica, a once the records were appended, r once they are replayed
+module _ (t a r : K) (rs : History) (app : Appended) (v w : Value) (old new : RepliesView) (h : HasAppended t a rs app v) (c : HasCaughtUp a r v w old new) (is : old ≡ no_replies app.first app.count) where
+  reply_of : (j : ℕ) (q : Record) → j < app.count → At j q rs → (o : Outcome) × (slice_get new.outcomes j ≡ Some (Some o)) × (reply_at store_meaning a.progress.catalogue a.progress.history (app.first + j) q.op ≡ Some o.reply)
+  reply_of j q lt at =
+      let low = h.above in
+      let long : length old.outcomes ≡ app.count = ap (λ z. length z.outcomes) is ∙ length-replicate app.count _ in
+      reply_kept a q j (app.first + j) (tail_in v) old new (h.placed j q lt at) (omega (arith, low)) (ap (λ z. z.first + j) is) (omega (arith, long, lt)) c.replies
+
+  pub kept : (j : ℕ) → j < app.count → (o : Outcome) × (slice_get new.outcomes j ≡ Some (Some o))
+  kept j lt =
+      let low = h.count in
+      let q = at_there rs j (omega (arith, lt, low)) in
+      let o = reply_of j q.0 lt q.1 in
+      (o.0, o.1)
+
+  module _ (f : K) (end : Back r f) (b : BatchView) (records : b.records ≡ rs) (some : 0 < length rs) (ascend : Ascend rs) (set : AreSet app new (length rs) b.answers) where
+    abbrev placed : List Claim
+    placed = placed_from app.first app.count (unplaced rs)
+
+    batch : f.note.batch ≡ placed
+    batch = ap (λ (n : SessionNote). n.batch) (end.note ∙ (c.note ∙ h.note))
+
+    to_f : Extends a.progress f.progress
+    to_f = store_laws.extends_on a.progress r.progress f.progress c.goes.extends end.extends
+
+    first : (x : Claim) × At 0 x placed
+    first = at_there placed 0 (let long = long_placed app.first app.count (unplaced rs) ∙ long_unplaced rs in omega (arith, long, some))
+
+    gives : (j : ℕ) (u : Claim) → At j u placed → (reply : Reply) × (slice_get b.answers j ≡ Some (Some reply)) × Gives store_meaning f.progress u reply
+    gives j u at =
+        let p = placed_back app.first app.count (unplaced rs) j u at in
+        let q = at_unplaced rs j p.0 p.1 in
+        let s = set j (at_below rs j p.0.request q.0) in
+        (s.0, s.1, by s.0 s.2)
+      where
+        p : (x : Claim) × At j x (unplaced rs) × (u.request ≡ x.request) × ((j < app.count) → u.place ≡ Some (app.first + j)) × ((app.count ≤ j) → u.place ≡ x.place)
+        p = placed_back app.first app.count (unplaced rs) j u at
+
+        there : At j u.request rs
+        there = subst (λ z. At j z rs) (sym p.2) (at_unplaced rs j p.0 p.1).0
+
+        by : (reply : Reply) → IsAnswerOf app new j reply → Gives store_meaning f.progress u reply
+        by (Placed i x) o =
+            let lt = o.0 in
+            let k = reply_of j u.request lt there in
+            let one : k.0 ≡ o.2.0 = same_Some k.0 o.2.0 (same_Some (Some k.0) (Some o.2.0) (sym k.1 ∙ o.2.1)) in
+            let below = at_below a.progress.history (app.first + j) u.request (h.placed j u.request lt there) in
+            let done = c.completed in
+            let up = end.extends.completed in
+            let here = o.1 in (
+              p.3 lt ∙ ap Some (sym o.1),
+              omega (arith, below, done, up, here),
+              ap (λ z. reply_at store_meaning f.progress.catalogue f.progress.history z u.request.op) o.1 ∙ (sym (reply_on store_meaning a.progress f.progress (app.first + j) u.request.op to_f (omega (arith, below))) ∙ (k.2 ∙ ap (λ (z : Outcome). Some z.reply) one ∙ ap Some (sym o.2.2))),
+            )
+        by Ended o =
+            let short = at_below rs j u.request there in
+            let full = h.ended (omega (arith, o, short)) in
+            let done = c.completed in
+            let up = end.extends.completed in
+            let same = ap (λ (z : Config). z.limit) to_f.config in
+            let top = end.stands.accounts.limit in
+            let low = end.stands.accounts.completed in
+            (p.4 o ∙ (at_unplaced rs j p.0 p.1).1, omega (arith, full, done, up, same, top, low))
+
+    pub ready : IsReady f b
+    ready = record {
+      first = first.0;
+      is_first = subst (λ z. At 0 first.0 z) (sym batch) first.1;
+      records = records ∙ (sym (records_of_unplaced rs) ∙ (sym (records_of_placed app.first app.count (unplaced rs)) ∙ ap (λ z. map record_of z) (sym batch)));
+      ascend = subst Ascend (sym records) ascend;
+      gives = λ j u at. gives j u (subst (λ z. At j u z) batch at);
+    }
+
+    module _ (k : K) (p : ℕ) (x : Value) (took : TookReplica p k t x) where
+      pub from_k : Extends k.progress f.progress
+      from_k = store_laws.extends_on k.progress t.progress f.progress took.extends (store_laws.extends_on t.progress a.progress f.progress h.goes.extends to_f)
+
+      pub session_is : f.session ≡ k.session
+      session_is = end.session ∙ (c.goes.session ∙ (h.goes.session ∙ took.session))
+
+      pub combined : (z : K) → HasCombined f z → HasCombined k z
+      combined z d = record {
+        session = d.session ∙ session_is;
+        held = d.held;
+        note = d.note ∙ (ap (λ (n : SessionNote). record n { batch = [] }) (end.note ∙ (c.note ∙ h.note)) ∙ ap (λ (n : SessionNote). record n { batch = [] }) took.note);
+        extends = store_laws.extends_on k.progress f.progress z.progress from_k d.extends;
+        stands = d.stands;
+      }
+
+-- ---- the answers are handed over
+
+pub handed : (k t z : K) → t.note ≡ k.note → BackDesk k z (record t.note { batch = [] }) → HasCombined k z
+handed k t z note b = record { session = b.session; held = b.held; note = b.note ∙ ap (λ (n : SessionNote). record n { batch = [] }) note; extends = b.extends; stands = b.stands }
+
+-- the desk as it is seen once the answers are there
+pub seen_replied : (b : BatchView) (v w : Value) (x : DeskView) → HasReplied b v w → view_of v ≡ TheDesk x → view_of w ≡ TheDesk (replied b x)
+seen_replied b (Desk d) (Desk e) x r is = ap TheDesk r ∙ ap (λ z. TheDesk (replied b (desk_or x z))) is
+seen_replied b (Desk d) (Log g) x r is = absurd r
+seen_replied b (Desk d) (Replica n) x r is = absurd r
+seen_replied b (Log g) w x r is = absurd r
+seen_replied b (Replica n) w x r is = absurd r

@@ -1,0 +1,147 @@
+-- A session's update, from its post to its answer.
+use Rattle.std.proofs.Common.{◌≡◌, ℕ, suc, ◌+◌, ◌<◌, ◌≤◌, ◌^◌, List, [], ◌∷◌, ◌++◌, length, length-append, sym, refl, ap, ◌∙◌, subst, arith, Option, Some, None, Result, Ok, Err}
+use Rattle.ownlock.specs.Seats.{IsSession, SeatView, ShelfId}
+use Rattle.loader.specs.CatalogueView.{CatalogueView}
+use Rattle.combiner.specs.declared.slots.Reply.{Reply}
+use Rattle.combiner.specs.declared.slots.Reply.TheVariants.{Placed, Ended}
+use Rattle.oplog.specs.declared.configuration.Config.{Config}
+use Rattle.oplog.specs.Limits.{IsConfig}
+use Rattle.oplog.specs.Operations.{Operation}
+use Rattle.replica.specs.StoreMeaning.{store_meaning}
+use Rattle.progress.specs.declared.sessions.Pending.{Pending}
+use Rattle.progress.specs.declared.sessions.Progress.{Progress}
+use Rattle.progress.specs.declared.sessions.SessionNote.{SessionNote}
+use Rattle.progress.specs.Accounts.{Extends, IsWellFormed}
+use Rattle.progress.specs.Moves.{answered_with}
+use Rattle.progress.specs.Told.{Tells}
+use Rattle.progress.proofs.Finish.{grown_long}
+use Rattle.progress.proofs.Moved.{some_none}
+use Rattle.store.specs.declared.answers.StoreRefused.{StoreRefused}
+use Rattle.store.specs.declared.steps.Caller.{Caller}
+use Rattle.store.specs.declared.values.Value.{Value}
+use Rattle.store.specs.AtDesk.{HasAsked}
+use Rattle.store.specs.Requests.{HasCompleted, HasPosted, said}
+use Rattle.store.specs.Sessions.{IsIdle, IsOf, SessionView, StoreView, TellsUpdate, request_of, session_view}
+use Rattle.store.specs.Standing.{IsFree, SessionKnown, Stands}
+use Rattle.store.proofs.Resumed.{free_by}
+use Rattle.store.proofs.StoreLaws.{store_laws}
+use Rattle.store.proofs.Taken.{well_formed}
+
+abbrev K : Type 0
+K = SessionKnown
+
+abbrev S : Type 0
+S = SeatView (Progress CatalogueView) SessionNote Value
+
+-- a call that was not refused
+pub not_refused : (o : Option StoreRefused) (result : Result (Unit {0}) StoreRefused) (x : (Unit {0})) → ((r : StoreRefused) → o ≡ Some r → result ≡ Err r) → result ≡ Ok x → o ≡ None
+not_refused None result x refused ok = refl
+not_refused (Some r) result x refused ok = absurd (no_both (sym (refused r refl) ∙ ok))
+  where
+    no_both : Err r ≡ Ok x → ⊥
+    no_both e = cc
+
+-- what a session may ask, whose history has a limit
+pub has_asked : (k a : K) (op : Operation) (config : Config) (p : HasPosted k a op) → k.progress.config ≡ config → IsConfig config → k.note.batch ≡ [] → length k.note.answered ≤ length k.progress.history → IsWellFormed store_meaning k.progress → HasAsked a p.request
+has_asked k a op config p same limits alone within well = record {
+  pending = ap (λ (n : SessionNote). n.pending) p.note;
+  alone = ap (λ (n : SessionNote). n.batch) p.note ∙ alone;
+  few = subst (λ (n : SessionNote). suc (length n.answered) < 2 ^ 64) (sym p.note) (let top = well.limit in let most = limits.limit.1 in let is = ap (λ (z : Config). z.limit) same in omega (arith, within, top, most, is));
+}
+
+-- the whole call
+pub record Invoked (k f : K) (op : Operation) (reply : Reply) : Type 0 where
+  pub session : f.session ≡ k.session
+  pub held : f.held ≡ []
+  pub extends : Extends k.progress f.progress
+  pub stands : Stands f
+  pub note : f.note ≡ answered_with k.note op reply
+  pub tells : Tells store_meaning f.progress k.session (length k.note.answered) (request_of k.progress op) reply
+
+pub invoked : (k a f : K) (op : Operation) (reply : Reply) (p : HasPosted k a op) → HasCompleted a f p.request reply → Invoked k f op reply
+invoked k a f op reply p c = record {
+  session = c.back.session ∙ p.back.session;
+  held = c.back.held;
+  extends = store_laws.extends_on k.progress a.progress f.progress p.back.extends c.back.extends;
+  stands = c.back.stands;
+  note = c.note ∙ (λ i. answered_with (p.note i) (p.op_is i) reply) ∙ noted reply;
+  tells = told reply (subst (λ (z : ℕ × SessionNote). Tells store_meaning f.progress z.0 (length z.1.answered) p.request reply) (λ i. (p.back.session i, p.note i)) c.tells);
+}
+  where
+    noted : (reply : Reply) → answered_with (record k.note { pending = Some p.request }) op reply ≡ answered_with k.note op reply
+    noted (Placed i x) = refl
+    noted Ended = refl
+
+    told : (reply : Reply) → Tells store_meaning f.progress k.session (length k.note.answered) p.request reply → Tells store_meaning f.progress k.session (length k.note.answered) (request_of k.progress op) reply
+    told (Placed i x) t =
+        let far = p.seen in let low = t.0 in
+        subst (λ (z : Operation). Tells store_meaning f.progress k.session (length k.note.answered) (request_of k.progress z) (Placed i x)) p.op_is (omega (arith, far, low), t.1, t.2, t.3)
+    told Ended t = t
+
+-- ---- the session, once it has its answer
+
+module _ (k f : K) (op : Operation) (reply : Reply) (v : Invoked k f op reply) where
+  pub is_idle : (old new : S) (caller : Caller) → (i : IsIdle old caller) → i.known ≡ k → IsSession new f → IsIdle new caller
+  is_idle old new caller i same is = record {
+    known = f;
+    is = is;
+    free = free_by caller k f v.session v.held v.extends (subst (λ z. IsFree caller z) same i.free);
+    pending = ap (λ (n : SessionNote). n.pending) v.note ∙ none_pending reply;
+    batch = ap (λ (n : SessionNote). n.batch) v.note ∙ (same_batch reply ∙ (ap (λ (z : K). z.note.batch) (sym same) ∙ i.batch));
+    well_formed = well_formed f.progress v.stands.notes v.stands.accounts;
+    within = ap_length (fits reply v.tells);
+  }
+    where
+      none_pending : (reply : Reply) → (answered_with k.note op reply).pending ≡ None
+      none_pending (Placed i x) = refl
+      none_pending Ended = refl
+
+      same_batch : (reply : Reply) → (answered_with k.note op reply).batch ≡ k.note.batch
+      same_batch (Placed i x) = refl
+      same_batch Ended = refl
+
+      low : length k.note.answered ≤ length k.progress.history
+      low = subst (λ (z : K). length z.note.answered ≤ length z.progress.history) same i.within
+
+      fits : (reply : Reply) → Tells store_meaning f.progress k.session (length k.note.answered) (request_of k.progress op) reply → length (answered_with k.note op reply).answered ≤ length f.progress.history
+      fits (Placed i x) t = let more = length-append k.note.answered (record { place = i; op = op } ∷ []) in let far = t.0 in let lt = t.1 in let top = v.stands.accounts.completed in let small = low in omega (arith, more, far, lt, top, small)
+      fits Ended t = let long = grown_long store_meaning k.progress f.progress v.extends in let small = low in omega (arith, long, small)
+
+      ap_length : length (answered_with k.note op reply).answered ≤ length f.progress.history → length f.note.answered ≤ length f.progress.history
+      ap_length h = subst (λ (n : SessionNote). length n.answered ≤ length f.progress.history) (sym v.note) h
+
+-- ---- as its user sees it
+
+abbrev pub view_known : ShelfId → K → SessionView
+view_known shelf k = record { shelf = shelf; session = k.session; progress = k.progress; note = k.note }
+
+pub seen_as : (s : S) (k : K) → IsSession s k → session_view s ≡ view_known s.shelf k
+seen_as s k is = ap (λ z. session_view (record { shelf = s.shelf; sessions = z })) is
+
+module _ (store : StoreView) (old new : SessionView) (id shelf : ShelfId) (k f : K) (op : Operation) (reply : Reply) (v : Invoked k f op reply) (was : old ≡ view_known id k) (now : new ≡ view_known shelf f) where
+  -- what is said of the sessions as they are known holds of them as they are seen
+  both : (P : SessionView → SessionView → Type 0) → P (view_known id k) (view_known shelf f) → P old new
+  both P h = subst (λ (z : SessionView × SessionView). P z.0 z.1) (λ i. (sym was i, sym now i)) h
+
+  pub still_of : IsOf store old → shelf ≡ store.id → IsOf store new
+  still_of own same = record {
+    shelf = ap (λ (z : SessionView). z.shelf) now ∙ same;
+    config = ap (λ (z : SessionView). z.progress.config) now ∙ (sym v.extends.config ∙ (ap (λ (z : SessionView). z.progress.config) (sym was) ∙ own.config));
+    catalogue = ap (λ (z : SessionView). z.progress.catalogue) now ∙ (sym v.extends.catalogue ∙ (ap (λ (z : SessionView). z.progress.catalogue) (sym was) ∙ own.catalogue));
+  }
+
+  pub same_session : new.session ≡ old.session
+  same_session = both (λ a b. b.session ≡ a.session) v.session
+
+  pub has_grown : Extends old.progress new.progress
+  has_grown = both (λ a b. Extends a.progress b.progress) v.extends
+
+  pub stays_well : IsWellFormed store_meaning new.progress
+  stays_well = both (λ a b. IsWellFormed store_meaning b.progress) (well_formed f.progress v.stands.notes v.stands.accounts)
+
+  pub tells_update : k.note.pending ≡ None → k.note.batch ≡ [] → TellsUpdate old new op (said reply)
+  tells_update free alone = both (λ a b. TellsUpdate a b op (said reply)) (by reply v.tells v.note)
+    where
+      by : (reply : Reply) → Tells store_meaning f.progress k.session (length k.note.answered) (request_of k.progress op) reply → f.note ≡ answered_with k.note op reply → TellsUpdate (view_known id k) (view_known shelf f) op (said reply)
+      by (Placed i x) t note = (t, note ∙ λ j. record { answered = k.note.answered ++ record { place = i; op = op } ∷ []; pending = None; batch = alone j })
+      by Ended t note = (refl, t, note ∙ λ j. record k.note { pending = sym free j })

@@ -1,0 +1,96 @@
+use Rattle.std.proofs.Common.{◌+◌, ◌<◌, [], ◌∷◌, length, sym, ap, ◌∙◌, subst}
+use Rattle.ownlock.proofs.Seats.{one_known}
+use Rattle.progress.specs.declared.sessions.SessionNote.{SessionNote}
+use Rattle.progress.specs.Moves.{unplaced}
+use Rattle.store.specs.Combining.{HasClaimed}
+use Rattle.store.specs.Standing.{HasAppended, IsFree, IsOnShelf}
+use Rattle.store.proofs.Combined.{combined, from_k, kept, ready, session_is}
+use Rattle.store.proofs.Finished.{back, holds_on, may_put_replica}
+use Rattle.store.proofs.Taken.{free_on, may_take_replica, shelf_on, took_replica}
+use Rattle.store.proofs.combining.combine.Goals as goal
+
+pub take-node-requires-clause-may : goal.take-node-requires-clause-may
+take-node-requires-clause-may g c =
+    let i = c.requires.claimed in
+    (i.0, i.1, may_take_replica i.0 c.args.caller i.2)
+
+pub append_and_copy-appended-requires-clause-holds : goal.append_and_copy-appended-requires-clause-holds
+append_and_copy-appended-requires-clause-holds g c =
+    let i = c.requires.claimed in
+    let w = c.take-node.result.value in
+    let t = c.take-node.ensures.taken i.0 i.1 in
+    let b = took_replica i.0 t.0 c.args.caller w i.2 t.1 in
+    (t.0, t.2, b.holds, b.agrees, b.stands, ap (λ (n : SessionNote). n.batch) b.note ∙ (i.3.noted ∙ ap unplaced (sym c.records.ensures.records)), sym b.extends.catalogue ∙ i.4.catalogue_is)
+
+pub put-requires-clause-may : goal.put-requires-clause-may
+put-requires-clause-may g c =
+    let i = c.requires.claimed in
+    let w = c.take-node.result.value in
+    let t = c.take-node.ensures.taken i.0 i.1 in
+    let b = took_replica i.0 t.0 c.args.caller w i.2 t.1 in
+    let a = c.append_and_copy-appended.ensures.appended t.0 t.2 in
+    let h = holds_on t.0 a.0 w a.2.goes b.holds in
+    let r = c.catch_up.ensures.caught a.0 a.1 in
+    let held = r.2.goes.held ∙ (a.2.goes.held ∙ (b.held ∙ ap (λ z. (z, w) ∷ []) (sym c.take-node.ensures.same.1))) in
+    (r.0, r.1, may_put_replica r.0 w (holds_on a.0 r.0 w r.2.goes h) c.catch_up.new.seat.sessions r.1 c.catch_up.new.node _ held r.2.agrees r.2.within)
+
+pub answer_batch-requires-clause-kept : goal.answer_batch-requires-clause-kept
+answer_batch-requires-clause-kept g c =
+    let i = c.requires.claimed in
+    let t = c.take-node.ensures.taken i.0 i.1 in
+    let a = c.append_and_copy-appended.ensures.appended t.0 t.2 in
+    let r = c.catch_up.ensures.caught a.0 a.1 in
+    kept t.0 a.0 r.0 c.records.result.now c.append_and_copy-appended.result c.append_and_copy-appended.new.node c.catch_up.new.node c.new-replies.result c.catch_up.new.replies a.2 r.2 c.new-replies.ensures.none
+
+pub hand_over-requires-clause-ready : goal.hand_over-requires-clause-ready
+hand_over-requires-clause-ready g c =
+    let i = c.requires.claimed in
+    let w = c.take-node.result.value in
+    let rs = c.args.batch.records in
+    let t = c.take-node.ensures.taken i.0 i.1 in
+    let b = took_replica i.0 t.0 c.args.caller w i.2 t.1 in
+    let a = c.append_and_copy-appended.ensures.appended t.0 t.2 in
+    let v = c.append_and_copy-appended.new.node in
+    let app = c.append_and_copy-appended.result in
+    let done = subst (λ z. HasAppended t.0 a.0 z app v) c.records.ensures.records a.2 in
+    let h = holds_on t.0 a.0 w a.2.goes b.holds in
+    let r = c.catch_up.ensures.caught a.0 a.1 in
+    let held = r.2.goes.held ∙ (a.2.goes.held ∙ (b.held ∙ ap (λ z. (z, w) ∷ []) (sym c.take-node.ensures.same.1))) in
+    let p = c.put.ensures.put r.0 r.1 in
+    let f = back r.0 w (holds_on a.0 r.0 w r.2.goes h) c.catch_up.new.seat.sessions r.1 c.catch_up.new.node c.take-node.result.place held r.2.agrees r.2.within p.0 p.1.0 p.1.1 in
+    let old = c.new-replies.result in
+    let new = c.catch_up.new.replies in
+    let none = c.new-replies.ensures.none in
+    let y = c.answer_batch.new.batch in
+    let set = c.answer_batch.ensures.answers in
+    let grown = from_k t.0 a.0 r.0 rs app v c.catch_up.new.node old new done r.2 none _ f y c.answer_batch.ensures.records i.3.some i.3.ascend set i.0 (1 + c.args.caller.node) w b in
+    let session = session_is t.0 a.0 r.0 rs app v c.catch_up.new.node old new done r.2 none _ f y c.answer_batch.ensures.records i.3.some i.3.ascend set i.0 (1 + c.args.caller.node) w b in (
+      _,
+      p.2,
+      free_on c.args.caller i.0 _ session f.held grown i.2,
+      ready t.0 a.0 r.0 rs app v c.catch_up.new.node old new done r.2 none _ f y c.answer_batch.ensures.records i.3.some i.3.ascend set,
+      shelf_on c.args.shared.shelf.now.places c.args.shared.nodes c.args.shared.catalogue.now i.0 _ grown i.4,
+      f.stands,
+    )
+
+pub returns-clause-combined : goal.returns-clause-combined
+returns-clause-combined g c k is =
+    let i = c.requires.claimed in
+    let w = c.take-node.result.value in
+    let rs = c.args.batch.records in
+    let e = one_known c.args.seat.now i.0 k i.1 is in
+    let free = subst (λ z. IsFree c.args.caller z) e i.2 in
+    let claimed = subst (λ z. HasClaimed z c.args.batch) e i.3 in
+    let t = c.take-node.ensures.taken k is in
+    let b = took_replica k t.0 c.args.caller w free t.1 in
+    let a = c.append_and_copy-appended.ensures.appended t.0 t.2 in
+    let v = c.append_and_copy-appended.new.node in
+    let app = c.append_and_copy-appended.result in
+    let done = subst (λ z. HasAppended t.0 a.0 z app v) c.records.ensures.records a.2 in
+    let h = holds_on t.0 a.0 w a.2.goes b.holds in
+    let r = c.catch_up.ensures.caught a.0 a.1 in
+    let held = r.2.goes.held ∙ (a.2.goes.held ∙ (b.held ∙ ap (λ z. (z, w) ∷ []) (sym c.take-node.ensures.same.1))) in
+    let p = c.put.ensures.put r.0 r.1 in
+    let f = back r.0 w (holds_on a.0 r.0 w r.2.goes h) c.catch_up.new.seat.sessions r.1 c.catch_up.new.node c.take-node.result.place held r.2.agrees r.2.within p.0 p.1.0 p.1.1 in
+    let z = c.hand_over.ensures.combined _ p.2 in
+    (z.0, z.1, combined t.0 a.0 r.0 rs app v c.catch_up.new.node c.new-replies.result c.catch_up.new.replies done r.2 c.new-replies.ensures.none _ f c.answer_batch.new.batch c.answer_batch.ensures.records claimed.some claimed.ascend c.answer_batch.ensures.answers k (1 + c.args.caller.node) w b z.0 z.2)

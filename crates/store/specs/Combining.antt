@@ -1,0 +1,47 @@
+-- What a session has that combines the requests of its node, and what it leaves.
+use Rattle.std.specs.Prelude.{◌≡◌, ℕ, ◌+◌, ◌<◌, ◌≤◌, [], length, Some, slice_get}
+use Rattle.machine.specs.declared.running.Outcome.{Outcome}
+use Rattle.oplog.specs.declared.answers.Appended.{Appended}
+use Rattle.combiner.specs.Desks.{BatchView, replied}
+use Rattle.combiner.specs.declared.slots.Reply.{Reply}
+use Rattle.combiner.specs.declared.slots.Reply.TheVariants.{Placed, Ended}
+use Rattle.replica.specs.Views.{RepliesView}
+use Rattle.progress.specs.Accounts.{Extends}
+use Rattle.progress.specs.Batches.{Ascend}
+use Rattle.progress.specs.Moves.{unplaced}
+use Rattle.store.specs.declared.values.Value.{Value}
+use Rattle.store.specs.declared.values.Value.TheVariants.{Log, Replica, Desk}
+use Rattle.store.specs.AtDesk.{IsAt}
+use Rattle.store.specs.Standing.{SessionKnown, Stands}
+
+-- the session combines the requests of this batch, by ascending authors, none of which has a place
+pub record HasClaimed (k : SessionKnown) (b : BatchView) : Type 0 where
+  pub noted : k.note.batch ≡ unplaced b.records
+  pub some : 0 < length b.records
+  pub ascend : Ascend b.records
+
+-- the session has handed all answers of its batch over, and holds nothing
+pub record HasCombined (k after : SessionKnown) : Type 0 where
+  pub session : after.session ≡ k.session
+  pub held : after.held ≡ []
+  pub note : after.note ≡ record k.note { batch = [] }
+  pub extends : Extends k.progress after.progress
+  pub stands : Stands after
+
+-- the answer to the k-th request: one that was appended has its place and the reply that was kept, and to the others the history has ended
+abbrev pub IsAnswerOf : Appended → RepliesView → ℕ → Reply → Type 0
+IsAnswerOf a replies k (Placed i reply) = (k < a.count) × (i ≡ a.first + k) × ((o : Outcome) × (slice_get replies.outcomes k ≡ Some (Some o)) × (reply ≡ o.reply))
+IsAnswerOf a replies k Ended = a.count ≤ k
+
+-- ---- a desk that is held
+
+-- the value is a desk that has the session's slot
+abbrev pub IsAtIn : ℕ → SessionKnown → Value → Type 0
+IsAtIn slot k (Log g) = ⊥
+IsAtIn slot k (Replica n) = ⊥
+IsAtIn slot k (Desk d) = IsAt slot k d.value
+
+-- the desk with the answers of the batch
+abbrev pub HasReplied : BatchView → Value → Value → Type 0
+HasReplied b (Desk d) (Desk e) = e.value ≡ replied b d.value
+HasReplied b _ _ = ⊥

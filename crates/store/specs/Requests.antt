@@ -1,0 +1,72 @@
+-- What a session does at its desk with a request of its own, from its post to its answer.
+use Rattle.std.specs.Prelude.{◌≡◌, ℕ, ◌<◌, ◌≤◌, [], length, Some, Result, Ok, Err}
+use Rattle.oplog.specs.Operations.{Operation}
+use Rattle.combiner.specs.Desks.{posted}
+use Rattle.combiner.specs.declared.slots.Reply.{Reply}
+use Rattle.combiner.specs.declared.slots.Reply.TheVariants.{Placed, Ended}
+use Rattle.replica.specs.StoreMeaning.{store_meaning}
+use Rattle.progress.specs.declared.sessions.Pending.{Pending}
+use Rattle.progress.specs.Accounts.{Extends}
+use Rattle.progress.specs.Batches.{Ascend}
+use Rattle.progress.specs.Moves.{answered_with, unplaced}
+use Rattle.progress.specs.Told.{Tells}
+use Rattle.store.specs.declared.answers.Answer.{Answer}
+use Rattle.store.specs.declared.answers.StoreRefused.{StoreRefused}
+use Rattle.store.specs.declared.answers.StoreRefused.TheVariants.{Ended as TheEnd}
+use Rattle.store.specs.declared.desks.Turn.{Turn}
+use Rattle.store.specs.declared.desks.Turn.TheVariants.{Collects, Combines, Waits}
+use Rattle.store.specs.declared.values.Value.{Value}
+use Rattle.store.specs.declared.values.Value.TheVariants.{Log, Replica, Desk}
+use Rattle.store.specs.AtDesk.{IsTurn}
+use Rattle.store.specs.Standing.{SessionKnown, Stands}
+
+-- ---- a desk that is held
+
+-- the desk with the operation in that slot
+abbrev pub HasPostedIn : ℕ → Operation → Value → Value → Type 0
+HasPostedIn slot op (Desk d) (Desk e) = posted slot op d.value ≡ Some e.value
+HasPostedIn slot op _ _ = ⊥
+
+-- the desk after the session's turn there
+abbrev pub HasLooked : ℕ → Value → Value → Turn → Type 0
+HasLooked slot (Desk d) (Desk e) turn = IsTurn slot d.value e.value turn
+HasLooked slot _ _ turn = ⊥
+
+-- ---- what its calls leave
+
+-- the session holds nothing, and what it knows has grown
+pub record IsBack (k after : SessionKnown) : Type 0 where
+  pub session : after.session ≡ k.session
+  pub held : after.held ≡ []
+  pub extends : Extends k.progress after.progress
+  pub stands : Stands after
+
+-- the session has posted the operation, and waits for its answer; when it did, the history was no shorter than it had known
+pub record HasPosted (k after : SessionKnown) (op : Operation) : Type 0 where
+  pub back : IsBack k after
+  pub request : Pending
+  pub op_is : request.op ≡ op
+  pub seen : length k.progress.history ≤ request.seen
+  pub note : after.note ≡ record k.note { pending = Some request }
+
+-- what the session notes of its turn, and what it may say of an answer
+abbrev pub Turns : SessionKnown → SessionKnown → Pending → Turn → Type 0
+Turns k after o (Collects reply) = (after.note ≡ answered_with k.note o.op reply) × Tells store_meaning after.progress k.session (length k.note.answered) o reply
+Turns k after o (Combines batch) = (after.note ≡ record k.note { batch = unplaced batch.records }) × (0 < length batch.records) × Ascend batch.records
+Turns k after o Waits = after.note ≡ k.note
+
+pub record HasTurned (k after : SessionKnown) (o : Pending) (turn : Turn) : Type 0 where
+  pub back : IsBack k after
+  pub turns : Turns k after o turn
+
+-- the session has its answer
+pub record HasCompleted (k after : SessionKnown) (o : Pending) (reply : Reply) : Type 0 where
+  pub back : IsBack k after
+  pub note : after.note ≡ answered_with k.note o.op reply
+  pub tells : Tells store_meaning after.progress k.session (length k.note.answered) o reply
+
+-- ---- what the call answers then
+
+abbrev pub said : Reply → Result Answer StoreRefused
+said (Placed i reply) = Ok (record { index = i; reply = reply })
+said Ended = Err TheEnd

@@ -1,0 +1,143 @@
+// What a session does at its node's desk with an update of its own, from its post to its answer.
+
+ghost use Rattle.std.specs.Prelude.{◌≡◌, None, Some, true, Err, IsOk};
+ghost use Rattle.verifier.specs.declared.refusal.Mode.TheVariants.{Update};
+ghost use Rattle.ownlock.specs.Seats.{IsSession};
+ghost use Rattle.progress.specs.declared.sessions.Pending.{Pending};
+ghost use Rattle.replica.specs.StoreMeaning.{is_operation};
+ghost use Rattle.store.specs.declared.answers.StoreRefused.{StoreRefused as TheRefusal};
+ghost use Rattle.store.specs.AtDesk.{HasAsked};
+ghost use Rattle.store.specs.Combining.{IsAtIn};
+ghost use Rattle.store.specs.Refusals.{early_refusal};
+ghost use Rattle.store.specs.Requests.{HasPostedIn, HasLooked, HasPosted, HasTurned, HasCompleted};
+ghost use Rattle.store.specs.Standing.{SessionKnown, IsFree, IsOnShelf};
+
+use crate::answers::StoreRefused;
+use crate::combining::combine;
+use crate::desks;
+use crate::desks::Turn;
+use crate::session::refusal;
+use crate::steps::{Caller, Question, Shared};
+use crate::values::Value;
+use combiner::Reply;
+use crossbeam_utils::Backoff;
+use oplog::Op;
+use ownlock::Seat;
+use std::marker::Brand;
+use std::sync::Wait;
+use verifier::Mode;
+
+// Posts the operation in a slot of the desk.
+fn post_in(desk: &mut Value, slot: usize, op: Op)
+    requires own { (k : SessionKnown) × IsAtIn slot k desk.old × (k.note.pending ≡ None) }
+    ensures posted { HasPostedIn slot op desk.old desk.new }
+{
+    match desk {
+        Value::Desk(desk) => desks::post(desk, slot, op),
+        Value::Log(_) | Value::Replica(_) => unreachable!(),
+    }
+}
+
+// The turn of the session of that slot at the desk.
+fn look_in(desk: &mut Value, slot: usize) -> Turn
+    requires own { (k : SessionKnown) × (o : Pending) × IsAtIn slot k desk.old × HasAsked k o }
+    ensures looked { HasLooked slot desk.old desk.new result }
+{
+    match desk {
+        Value::Desk(desk) => desks::look(desk, slot),
+        Value::Log(_) | Value::Replica(_) => unreachable!(),
+    }
+}
+
+// Posts an operation at the desk of the caller's node.
+fn post<R: Wait>(rt: &R, shared: Shared<'_>, seat: &mut Seat<Value>, caller: Caller, op: Op)
+    requires own { seat.old.shelf ≡ shared.shelf.now.id }
+    requires idle { (k : SessionKnown) × IsSession seat.old k × IsFree caller k × (k.note.pending ≡ None)
+        × IsOnShelf shared.shelf.now.places shared.nodes shared.catalogue.now k }
+    requires update { is_operation Update shared.catalogue.now op ≡ true }
+    ensures same { seat.new.shelf ≡ seat.old.shelf }
+    ensures posted { (k : SessionKnown) → IsSession seat.old k → (after : SessionKnown) × IsSession seat.new after × HasPosted k after op }
+{
+    let mut desk = shared.shelf.take(rt, seat, 1 + shared.nodes + caller.node);
+    post_in(&mut desk.value, caller.slot, op);
+    shared.shelf.put::<Brand>(seat, desk);
+}
+
+// Posts an update at the desk of the caller's node, unless it is refused: S1 to S3. It goes on with `complete`.
+pub(crate) fn post_only<R: Wait>(
+    rt: &R,
+    shared: Shared<'_>,
+    seat: &mut Seat<Value>,
+    caller: Caller,
+    asked: Question<'_>,
+) -> Result<(), StoreRefused>
+    requires own { seat.old.shelf ≡ shared.shelf.now.id }
+    requires idle { (k : SessionKnown) × IsSession seat.old k × IsFree caller k × (k.note.pending ≡ None)
+        × IsOnShelf shared.shelf.now.places shared.nodes shared.catalogue.now k }
+    ensures same { seat.new.shelf ≡ seat.old.shelf }
+    ensures refused { (r : TheRefusal) → early_refusal shared.entry.catalogue.now Update asked.entry.program asked.entry.argument.now ≡ Some r
+        → (result ≡ Err r) × (seat.new ≡ seat.old) }
+    ensures posted { early_refusal shared.entry.catalogue.now Update asked.entry.program asked.entry.argument.now ≡ None → IsOk result
+        × ((k : SessionKnown) → IsSession seat.old k → (after : SessionKnown) × IsSession seat.new after
+        × HasPosted k after (record { program = asked.entry.program; argument = asked.entry.argument.now })) }
+{
+    let refused = refusal(
+        shared.catalogue,
+        Mode::Update,
+        asked.program,
+        asked.argument,
+    );
+    if let Some(refused) = refused {
+        return Err(refused);
+    }
+    post(
+        rt,
+        shared,
+        seat,
+        caller,
+        Op::new(asked.program, asked.argument),
+    );
+    Ok(())
+}
+
+// One turn at the desk of the caller's node: collects the answer that waits there; else claims the posted requests, where nobody
+// combines; else nothing.
+fn turn<R: Wait>(rt: &R, shared: Shared<'_>, seat: &mut Seat<Value>, caller: Caller) -> Turn
+    requires own { seat.old.shelf ≡ shared.shelf.now.id }
+    requires asked { (k : SessionKnown) × (o : Pending) × IsSession seat.old k × IsFree caller k × HasAsked k o
+        × IsOnShelf shared.shelf.now.places shared.nodes shared.catalogue.now k }
+    ensures same { seat.new.shelf ≡ seat.old.shelf }
+    ensures turned { (k : SessionKnown) (o : Pending) → IsSession seat.old k → HasAsked k o → (after : SessionKnown) × IsSession seat.new after
+        × HasTurned k after o result }
+{
+    let mut desk = shared.shelf.take(rt, seat, 1 + shared.nodes + caller.node);
+    let turn = look_in(&mut desk.value, caller.slot);
+    shared.shelf.put::<Brand>(seat, desk);
+    turn
+}
+
+// Waits for the answer to the request that the caller has posted, and collects it. Where nobody combines the requests of its
+// node, the caller does.
+pub(crate) fn complete<R: Wait>(
+    rt: &R,
+    shared: Shared<'_>,
+    seat: &mut Seat<Value>,
+    caller: Caller,
+) -> Reply
+    requires own { seat.old.shelf ≡ shared.shelf.now.id }
+    requires asked { (k : SessionKnown) × (o : Pending) × IsSession seat.old k × IsFree caller k × HasAsked k o
+        × IsOnShelf shared.shelf.now.places shared.nodes shared.catalogue.now k }
+    ensures same { seat.new.shelf ≡ seat.old.shelf }
+    ensures completed { (k : SessionKnown) (o : Pending) → IsSession seat.old k → HasAsked k o → (after : SessionKnown) × IsSession seat.new after
+        × HasCompleted k after o result }
+{
+    let backoff = Backoff::new();
+    for _ in rt.forever() {
+        match turn(rt, shared, seat, caller) {
+            Turn::Collects(reply) => return reply,
+            Turn::Combines(batch) => combine(rt, shared, seat, caller, batch),
+            Turn::Waits => backoff.snooze(),
+        }
+    }
+    unreachable!()
+}
