@@ -1,4 +1,4 @@
-use Rattle.std.proofs.Common.{◌≡◌, ◌++◌, map, take}
+use Rattle.std.proofs.Common.{◌≡◌, map, take}
 use Rattle.stress.specs.Lines.{transcript_text}
 use Rattle.stress.specs.Shown.{told_of}
 use Rattle.stress.proofs.lines.transcript.Given as goal

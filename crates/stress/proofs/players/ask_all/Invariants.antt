@@ -1,4 +1,3 @@
-use Rattle.std.proofs.Common.{◌≡◌}
 use Rattle.store.specs.Sessions.{IsOf}
 use Rattle.stress.proofs.players.ask_all.Given as goal
 

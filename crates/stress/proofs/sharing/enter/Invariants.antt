@@ -1,4 +1,4 @@
-use Rattle.std.proofs.Common.{◌≡◌, ◌+◌, ◌≤◌, length, All, vec_capacity}
+use Rattle.std.proofs.Common.{◌≡◌, ◌+◌, length, All, vec_capacity}
 use Rattle.store.specs.Sessions.{IsOf, StoreView}
 use Rattle.stress.specs.Playing.{IsPlaying}
 use Rattle.stress.proofs.sharing.enter.Given as goal

@@ -1,4 +1,4 @@
-use Rattle.std.proofs.Common.{Some, subst, rules}
+use Rattle.std.proofs.Common.{subst, rules}
 use Rattle.std.specs.Prelude.{IfSome}
 use Rattle.std.proofs.lemmas.List.Elements.{All-pop, All-push}
 use Rattle.store.specs.Sessions.{IsOf}

@@ -1,7 +1,5 @@
-use Rattle.std.proofs.Common.{◌≡◌, ◌∙◌, List, ◌++◌, take, drop, sym, ap, subst, All, length, rules}
+use Rattle.std.proofs.Common.{◌≡◌, ◌∙◌, ◌++◌, take, drop, sym, ap, subst, All, length, rules}
 use Rattle.std.proofs.Math.Seq.{take-append_seam}
-use Rattle.stress.specs.declared.players.Player.{Player}
-use Rattle.store.specs.Sessions.{IsOf}
 use Rattle.stress.specs.Playing.{IsPlaying}
 use Rattle.stress.proofs.sharing.play_all.Goals as goal
 use Rattle.stress.proofs.sharing.play_all.Goals.{After-destroy_empty}
