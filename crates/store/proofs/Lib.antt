@@ -22,3 +22,4 @@ pub mod Turning
 pub mod Invoked
 pub mod Closing
 pub mod Watched
+pub mod EachSession

@@ -1,3 +1,2 @@
 mod Script
-mod Sessions
 mod Texts

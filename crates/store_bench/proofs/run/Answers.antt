@@ -1,7 +1,7 @@
 use Rattle.std.proofs.Common.{sym, subst}
 use Rattle.std.specs.List.{All}
 use Rattle.store.specs.Sessions.{IsOf}
-use Rattle.store_bench.proofs.Sessions.{all_of_at}
+use Rattle.store.proofs.EachSession.{all_of_at}
 use Rattle.store_bench.proofs.run.Goals as goal
 
 pub serve-requires-clause-own : goal.serve-requires-clause-own

@@ -1,5 +1,5 @@
 use Rattle.store.specs.Sessions.{IsOf}
-use Rattle.stress.proofs.Sessions.{all_of_at}
+use Rattle.store.proofs.EachSession.{all_of_at}
 use Rattle.stress.proofs.sharing.open.Goals as goal
 
 pub unreachable-requires : goal.unreachable-requires

@@ -1,4 +1,4 @@
--- What holds of each element of a list, by its index and by where it stands.
+-- What holds of each element of a list, by its index and by where it stands: of each session of a store, say.
 use Rattle.std.proofs.Common.{◌≡◌, ℕ, zero, suc, ◌<◌, List, [], ◌∷◌, length, get_or, refl, subst, arith}
 use mathlib.Core.Option.{some-injective}
 use native.Mathlib.Nat.{not-suc-le-zero, le_of_suc-le-suc}
