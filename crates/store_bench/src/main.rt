@@ -169,12 +169,7 @@ fn mix_all<R: Threads + Wait + Sync>(rt: &R, store: &Store, sessions: &mut [Sess
 }
 
 // What the first session is asked for: so many updates, or so many reads.
-fn first_answer<R: Wait>(
-    rt: &R,
-    store: &Store,
-    sessions: &mut [Session],
-    line: &str,
-) -> Option<u64>
+fn first_answer<R: Wait>(rt: &R, store: &Store, sessions: &mut [Session], line: &str) -> Option<u64>
     requires own { All (IsOf store.now) sessions.old }
     ensures own { All (IsOf store.now) sessions.new }
 {

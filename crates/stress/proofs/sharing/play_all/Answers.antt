@@ -12,6 +12,6 @@ pub returns : goal.returns
 returns g c =
     let long : length c.play_together.new.players ≡ c.enter.new.players.len = search rules in
     let left = ap (λ n. take n (c.play_together.new.players ++ drop (length c.play_together.new.players) c.enter.new.players.items)) (sym long)
-        ∙ take-append_seam c.play_together.new.players (drop (length c.play_together.new.players) c.enter.new.players.items) in
+    ∙ take-append_seam c.play_together.new.players (drop (length c.play_together.new.players) c.enter.new.players.items) in
     let playing = subst (λ xs. All (IsPlaying c.args.ground.now.store.now) xs) (sym left) c.play_together.ensures.playing in
     record { back = (c.leave.ensures.count ∙ ap length left ∙ search rules, c.leave.ensures.own c.args.ground.now.store.now playing) }
