@@ -11,4 +11,6 @@ mod replicas;
 #[cfg(test)]
 mod single_store;
 #[cfg(test)]
+mod two_nodes;
+#[cfg(test)]
 mod window;

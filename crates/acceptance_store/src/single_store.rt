@@ -18,9 +18,9 @@ const PEEK: &str =
 const MANIFEST: &str =
     "map array 8 16\nprogram bump update 4 bump.hex\nprogram peek read 4 peek.hex\n";
 
-const ZERO: [u8; 4] = [0; 4];
+pub(crate) const ZERO: [u8; 4] = [0; 4];
 
-fn counter(alloc: Global) -> Option<Catalogue> {
+pub(crate) fn counter(alloc: Global) -> Option<Catalogue> {
     let files = [("bump.hex", BUMP), ("peek.hex", PEEK)];
     load_manifest(alloc, MANIFEST, &files).ok()
 }
