@@ -21,7 +21,7 @@ use Rattle.progress.specs.DeskNotes.{Looked, desk_noting, desk_in, desk_held, no
 use Rattle.progress.proofs.Desks.{posted_is, collected_is}
 use Rattle.progress.proofs.Lists.{at_below, get_of}
 use Rattle.progress.proofs.Puts.{seen_desk_may_put}
-use Rattle.progress.proofs.StoreRules.{batch_appends, desk_store, single_notes}
+use Rattle.progress.proofs.StoreRules.{batch_appends, desk_store}
 use Rattle.progress.proofs.Picked.{picked}
 
 -- the slot of a session, from the number of its node's first session
@@ -68,7 +68,7 @@ module _ {C M V : Type 0} (E : Meaning C M) (view : V → StoreValue M) (IsSized
   pub desk_picked : DeskPicked E view IsSized
   desk_picked deed sessions k p a v w x y n' at isx isy keeps low mine step noted is =
       let e = desk_picks deed sessions k w y is isy in
-      picked (desk_store E) view (single_notes view) IsSized _ _ (put_note (desk_noting view deed) sessions (view w)) (λ _. n') k p w e.0 (ap (λ g. g k.note) e.1 ∙ noted) (seen_desk_may_put E view IsSized k p a v w x y n' at isx isy keeps low mine step)
+      picked (desk_store E) view (desk_notes view) IsSized _ _ (put_note (desk_noting view deed) sessions (view w)) (λ _. n') k p w e.0 (ap (λ g. g k.note) e.1 ∙ noted) (seen_desk_may_put E view IsSized k p a v w x y n' at isx isy keeps low mine step)
 
   pub batch_noted : BatchNoted E view IsSized
   batch_noted deed known c n x y k s =

@@ -9,7 +9,6 @@ pub mod Puts
 pub mod Ended
 pub mod Kept
 pub mod Seen
-pub mod Alone
 pub mod StoreRules
 pub mod Tellings
 pub mod Finish

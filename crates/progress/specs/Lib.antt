@@ -4,14 +4,13 @@ pub mod Values
 pub mod Accounts
 pub mod Agreement
 pub mod Told
--- Which changes are allowed, and the laws that keep all of that: with desks, without, and under any rules of a store.
+-- Which changes are allowed, and the laws that keep all of that: with desks, and under any rules of a store.
 pub mod Moves
 pub mod Seen
 pub mod StoreRules
 pub mod DeskSteps
 pub mod LogSteps
 pub mod Tellings
-pub mod Single
 pub mod Putting
 pub mod Picks
 pub mod DeskNotes

@@ -1,5 +1,5 @@
 -- What a session may say of its answer, and what the history holds in the end.
-use Rattle.std.specs.Prelude.{◌≡◌, ℕ, suc, ◌<◌, ◌≤◌, ◌==◌, filter, List, [], ◌∷◌, length, Some, None}
+use Rattle.std.specs.Prelude.{◌≡◌, ℕ, suc, ◌<◌, ◌≤◌, ◌==◌, filter, List, [], ◌∷◌, ◌++◌, length, Some, None}
 use Rattle.ownlock.specs.Seats.{At}
 use Rattle.oplog.specs.Operations.{Operation}
 use Rattle.oplog.specs.declared.records.Record.{Record}
@@ -25,6 +25,10 @@ records_of a history = filter (λ (r : Record). r.author == a) history
 abbrev pub numbered : ℕ → ℕ → List AnsweredUpdate → History
 numbered a seq [] = []
 numbered a seq (u ∷ us) = record { author = a; seq = seq; op = u.op } ∷ numbered a (suc seq) us
+
+-- the note, once the session was answered op at place i; it waits for nothing then, and combines nothing
+abbrev pub note_with : SessionNote → ℕ → Operation → SessionNote
+note_with n i op = record { answered = n.answered ++ record { place = i; op = op } ∷ []; pending = None; batch = [] }
 
 module _ {C M : Type 0} (E : Meaning C M) where
   -- the answer to the request o of session c, its next by this number: the place is not before the history's length at the call, is

@@ -5,7 +5,6 @@ ghost use Rattle.progress.specs.DeskSteps.{DeskPuts, DeskMayPut};
 ghost use Rattle.progress.specs.LogSteps.{LogPuts, ReplicaPuts, Opens, BatchAppends};
 ghost use Rattle.progress.specs.Told.{DeskTells, Ends};
 ghost use Rattle.progress.specs.StoreRules.{IsStoreRules, IsNoting};
-ghost use Rattle.progress.specs.Single.{single_rules, single_noting, SingleKeeps, OneMoreSteps, OwnAppends};
 ghost use Rattle.progress.specs.Tellings.{TailIs, Replays, ReplayedAgrees, PlacedTells, ReadsTell, EndedTells};
 ghost use Rattle.progress.specs.Putting.{the_rules, StoreOpens, AgreesLog, AgreesReplica, MayTakeFirst, MayTakeSecond, MayTakeDesk, TakesLog, TakesReplica, TakesItsReplica, TakesDesk, SameMayPut, LogMayPut, ReplicaMayPut, SeenDeskMayPut};
 ghost use Rattle.progress.specs.DeskNotes.{Looked, desk_noting, PostNoted, ClaimNoted, CollectNoted, DeskPicked, DeskIs, BatchNoted};
@@ -43,20 +42,10 @@ pub fn tells<E: Effects>()
     ensures ends { Ends E.meaning }
 {}
 
-/// Without desks: the same of the moves of a session that appends its own request and counts it as answered at once.
-pub fn single_laws<E: Effects>()
-    ensures laws { Laws (single_rules E.meaning) }
-    ensures append { SingleKeeps E.meaning }
-    ensures step { OneMoreSteps E.meaning }
-{}
-
-/// Both kinds of rules are a store's: what is said below of any rules is said of these. What a session may append is one record of
-/// its own without desks, and some of its batch with them.
+/// The rules with desks are a store's: what is said below of any rules is said of these. What a session may append is some of its
+/// batch.
 pub fn store_rules<S: Viewed>()
-    ensures single { IsStoreRules S.meaning (single_rules S.meaning) }
     ensures desks { IsStoreRules S.meaning (desk_rules S.meaning) }
-    ensures notes { IsNoting {C = S.Catalogue} S.view single_noting }
-    ensures own { OwnAppends S.meaning }
     ensures batch { BatchAppends S.meaning }
 {}
 

@@ -5,7 +5,6 @@ use Rattle.ownlock.specs.Seats.{At, left_with, without}
 use Rattle.ownlock.specs.Knowledge.{MayPut, Possible}
 use Rattle.loader.specs.CatalogueView.{CatalogueView}
 use Rattle.progress.specs.declared.sessions.Progress.{Progress}
-use Rattle.progress.specs.declared.sessions.SessionNote.{SessionNote}
 use Rattle.progress.proofs.Lists.{at_behind, at_front}
 use Rattle.progress.proofs.Picked.{puts_account}
 use Rattle.progress.proofs.Putting.{same_may_put}

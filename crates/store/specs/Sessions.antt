@@ -12,8 +12,7 @@ use Rattle.progress.specs.declared.sessions.SessionNote.{SessionNote}
 use Rattle.combiner.specs.declared.slots.Reply.TheVariants.{Placed, Ended as EndedAnswer}
 use Rattle.progress.specs.Accounts.{Extends, IsWellFormed}
 use Rattle.progress.specs.LogSteps.{first_progress, fresh_note}
-use Rattle.progress.specs.Single.{note_with}
-use Rattle.progress.specs.Told.{Tells, ReadTells}
+use Rattle.progress.specs.Told.{Tells, ReadTells, note_with}
 use Rattle.store.specs.declared.answers.Answer.{Answer}
 use Rattle.store.specs.declared.answers.StoreRefused.{StoreRefused}
 use Rattle.store.specs.declared.answers.StoreRefused.TheVariants.{Ended as TheEnd}
