@@ -1,3 +1,4 @@
 mod Script
 mod Sessions
 mod Texts
+mod Told
