@@ -13,6 +13,8 @@ mod replicas;
 #[cfg(test)]
 mod single_store;
 #[cfg(test)]
+mod two_nodes;
+#[cfg(test)]
 mod window;
 #[cfg(test)]
 mod worlds;

@@ -7,7 +7,6 @@ use loader::{Catalogue, load_manifest};
 use oplog::Config;
 use readpath::ReadAnswer;
 use std::alloc::Global;
-use std::sync::Wait;
 use store::{Answer, Closed, Session, Store, StoreRefused};
 
 const BUMP: &str =
@@ -19,9 +18,9 @@ const PEEK: &str =
 const MANIFEST: &str =
     "map array 8 16\nprogram bump update 4 bump.hex\nprogram peek read 4 peek.hex\n";
 
-const ZERO: [u8; 4] = [0; 4];
+pub(crate) const ZERO: [u8; 4] = [0; 4];
 
-fn counter(alloc: Global) -> Option<Catalogue> {
+pub(crate) fn counter(alloc: Global) -> Option<Catalogue> {
     let files = [("bump.hex", BUMP), ("peek.hex", PEEK)];
     load_manifest(alloc, MANIFEST, &files).ok()
 }
@@ -35,34 +34,6 @@ fn single(window: u32, limit: u32) -> Config
         window,
         limit,
     }
-}
-
-// An update, after which the session is still one of the store.
-fn update<R: Wait>(
-    rt: &R,
-    store: &Store,
-    session: &mut Session,
-    program: u16,
-    argument: &[u8],
-) -> Result<Answer, StoreRefused>
-    requires own { IsOf store.now session.old }
-    ensures own { IsOf store.now session.new }
-{
-    session.invoke(rt, store, program, argument)
-}
-
-// A read, after which the session is still one of the store.
-fn read<R: Wait>(
-    rt: &R,
-    store: &Store,
-    session: &mut Session,
-    program: u16,
-    argument: &[u8],
-) -> Result<ReadAnswer, StoreRefused>
-    requires own { IsOf store.now session.old }
-    ensures own { IsOf store.now session.new }
-{
-    session.read(rt, store, program, argument)
 }
 
 // Ends the store, once its session is back.
@@ -86,21 +57,21 @@ fn one_update_at_most(rt: HostRuntime) {
     let (store, mut sessions) = opened.expect(&rt, "store");
     let mut session = sessions.pop().expect(&rt, "session");
     let first = Answer { index: 0, reply: 1 };
-    assert_eq!(rt; update(&rt, &store, &mut session, 0, &ZERO), Ok(first));
-    let short = update(&rt, &store, &mut session, 0, &[0]);
-    let reader = update(&rt, &store, &mut session, 1, &ZERO);
-    let unknown = update(&rt, &store, &mut session, 2, &[]);
-    let ended = update(&rt, &store, &mut session, 0, &ZERO);
+    assert_eq!(rt; session.invoke(&rt, &store, 0, &ZERO), Ok(first));
+    let short = session.invoke(&rt, &store, 0, &[0]);
+    let reader = session.invoke(&rt, &store, 1, &ZERO);
+    let unknown = session.invoke(&rt, &store, 2, &[]);
+    let ended = session.invoke(&rt, &store, 0, &ZERO);
     assert_eq!(rt; short, Err(StoreRefused::ArgumentLength));
     assert_eq!(rt; reader, Err(StoreRefused::WrongMode));
     assert_eq!(rt; unknown, Err(StoreRefused::UnknownProgram));
     assert_eq!(rt; ended, Err(StoreRefused::Ended));
     assert_eq!(rt;
-        read(&rt, &store, &mut session, 0, &ZERO),
+        session.read(&rt, &store, 0, &ZERO),
         Err(StoreRefused::WrongMode)
     );
     let seen = ReadAnswer { point: 1, reply: 1 };
-    assert_eq!(rt; read(&rt, &store, &mut session, 1, &ZERO), Ok(seen));
+    assert_eq!(rt; session.read(&rt, &store, 1, &ZERO), Ok(seen));
     let Err((store, sessions)) = store.close(sessions) else {
         unreachable!()
     };
@@ -122,9 +93,9 @@ fn forty_updates_in_a_window_of_sixteen(rt: HostRuntime) {
             index,
             reply: index + 1,
         };
-        assert_eq!(rt; update(&rt, &store, &mut session, 0, &ZERO), Ok(want));
+        assert_eq!(rt; session.invoke(&rt, &store, 0, &ZERO), Ok(want));
     }
-    let ended = update(&rt, &store, &mut session, 0, &ZERO);
+    let ended = session.invoke(&rt, &store, 0, &ZERO);
     assert_eq!(rt; ended, Err(StoreRefused::Ended));
     let closed = close(store, session, room);
     assert_eq!(rt; (closed.log().base(), closed.log().tail()), (32, 40));

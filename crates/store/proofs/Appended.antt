@@ -1,5 +1,5 @@
 -- Records of the session's batch are appended to a log that has room for them, and the log is put back.
-use Rattle.std.proofs.Common.{set, ◌≡◌, ℕ, ◌+◌, ◌-◌, ◌<◌, ◌≤◌, min, List, [], ◌∷◌, ◌++◌, map, length, length-append, take, drop, sym, refl, ap, ◌∙◌, subst, arith, ⊎_elim}
+use Rattle.std.proofs.Common.{set, ◌≡◌, ℕ, ◌+◌, ◌<◌, ◌≤◌, min, List, [], ◌∷◌, ◌++◌, map, length, length-append, take, drop, sym, refl, ap, ◌∙◌, subst, arith, ⊎_elim}
 use Rattle.std.specs.Global.{Box}
 use Rattle.std.proofs.lemmas.Bool.{cases_lt}
 use Rattle.std.proofs.lemmas.List.{length-take-le}
@@ -12,12 +12,9 @@ use Rattle.ownlock.specs.Knowledge.{Possible}
 use Rattle.loader.specs.CatalogueView.{CatalogueView}
 use Rattle.oplog.specs.declared.answers.Appended.{Appended}
 use Rattle.oplog.specs.declared.configuration.Config.{Config}
-use Rattle.oplog.specs.declared.configuration.TheConstants.{MAX_LIMIT}
-use Rattle.oplog.specs.declared.records.Record.{Record}
 use Rattle.oplog.specs.History.{History, maps_after}
-use Rattle.oplog.specs.Logs.{Log as LogView, tail_of, left_of}
+use Rattle.oplog.specs.Logs.{Log as LogView, left_of}
 use Rattle.replica.specs.StoreMeaning.{store_meaning}
-use Rattle.progress.specs.declared.sessions.Claim.{Claim}
 use Rattle.progress.specs.declared.sessions.Progress.{Progress}
 use Rattle.progress.specs.declared.sessions.SessionNote.{SessionNote}
 use Rattle.progress.specs.Accounts.{Extends}
@@ -26,18 +23,16 @@ use Rattle.progress.specs.LogSteps.{LogStep}
 use Rattle.progress.specs.Moves.{placed_from, record_of, unplaced}
 use Rattle.progress.specs.Putting.{KeepsSizes}
 use Rattle.progress.specs.Picks.{put_progress, put_note, IsPut}
-use Rattle.progress.specs.StoreRules.{IsLogAfter}
 use Rattle.progress.proofs.DeskNotes.{batch_noted}
 use Rattle.progress.proofs.Tellings.{tail_is}
 use Rattle.progress.proofs.Picked.{log_picks, log_picked, puts_account}
-use Rattle.progress.proofs.Finish.{grown_long}
 use Rattle.progress.proofs.Lists.{at_behind}
 use Rattle.store.specs.declared.values.NodeReplica.{NodeReplica}
 use Rattle.store.specs.declared.values.Value.{Value}
 use Rattle.store.specs.declared.values.Value.TheVariants.{Log, Replica, Desk}
 use Rattle.store.specs.Shelving.{view_of, IsSized, session_rules, session_noting, store_rules, log_value}
 use Rattle.store.specs.Held.{CanAppendIn, IsAppended, HasAppendedIn}
-use Rattle.store.specs.Standing.{SessionKnown, HoldsReplica, GoesOn, IsLogOf, HasOthers, HasPlace, HasRoom, HasAppended}
+use Rattle.store.specs.Standing.{SessionKnown, GoesOn, IsLogOf, HasOthers, HasPlace, HasRoom, HasAppended}
 use Rattle.store.proofs.StoreLaws.{session_laws, session_notes, store_laws}
 use Rattle.store.proofs.Batched.{at_taken, at_unplaced, long_unplaced, taken_unplaced}
 use Rattle.store.proofs.Taken.{TookLog}

@@ -1,5 +1,5 @@
 -- The records of a batch, and the places that the first of them have.
-use Rattle.std.proofs.Common.{◌≡◌, ℕ, zero, suc, ◌<◌, ◌≤◌, List, [], ◌∷◌, map, length, take, sym, refl, ap, ◌∙◌, subst, arith, None}
+use Rattle.std.proofs.Common.{◌≡◌, ℕ, zero, suc, ◌<◌, List, [], ◌∷◌, map, length, take, sym, refl, ap, subst, arith, None}
 use mathlib.Core.Option.{some-injective}
 use Rattle.ownlock.specs.Seats.{At}
 use Rattle.oplog.specs.History.{History}

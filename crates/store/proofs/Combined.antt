@@ -1,5 +1,5 @@
 -- What was appended and replayed are the answers of the batch, and these are handed over.
-use Rattle.std.proofs.Common.{◌≡◌, ℕ, ◌+◌, ◌<◌, ◌≤◌, List, [], ◌∷◌, map, length, length-set, sym, refl, ap, ◌∙◌, subst, arith, ⊎_elim, Option, Some, slice_get, slice_set}
+use Rattle.std.proofs.Common.{◌≡◌, ℕ, ◌+◌, ◌<◌, ◌≤◌, List, [], map, length, sym, ap, ◌∙◌, subst, arith, ⊎_elim, Option, Some, slice_get, slice_set}
 use native.Mathlib.Decide.{ℕ_discrete}
 use Rattle.std.proofs.lemmas.Bool.{cases_lt}
 use Rattle.std.proofs.lemmas.List.{length-replicate}
@@ -22,7 +22,7 @@ use Rattle.progress.specs.Accounts.{Accounts, Extends}
 use Rattle.progress.specs.Batches.{Ascend}
 use Rattle.progress.specs.DeskSteps.{Gives}
 use Rattle.progress.specs.Moves.{placed_from, record_of, unplaced}
-use Rattle.progress.proofs.Lists.{at_below, at_of}
+use Rattle.progress.proofs.Lists.{at_below}
 use Rattle.progress.proofs.Parts.{placed_back}
 use Rattle.progress.proofs.Puts.{at_there}
 use Rattle.progress.proofs.Tellings.{reply_on}
@@ -33,7 +33,7 @@ use Rattle.store.specs.AtDesk.{IsReady}
 use Rattle.store.specs.Combining.{HasCombined, HasReplied, IsAnswerOf}
 use Rattle.store.specs.Held.{tail_in}
 use Rattle.store.specs.Shelving.{view_of}
-use Rattle.store.specs.Standing.{SessionKnown, GoesOn, HasAppended, HasCaughtUp, Stands}
+use Rattle.store.specs.Standing.{SessionKnown, HasAppended, HasCaughtUp, Stands}
 use Rattle.store.proofs.Batched.{at_unplaced, long_placed, long_unplaced, records_of_placed, records_of_unplaced}
 use Rattle.store.proofs.Finished.{Back, reply_kept}
 use Rattle.store.proofs.StoreLaws.{store_laws}

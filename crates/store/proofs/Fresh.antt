@@ -1,14 +1,12 @@
 -- The sessions of a new store, one for each slot of each node.
-use Rattle.std.proofs.Common.{◌≡◌, ℕ, zero, suc, ◌+◌, ◌*◌, ◌<◌, ◌≤◌, List, [], ◌∷◌, ◌++◌, length, replicate, sym, refl, ap, ◌∙◌, subst, arith, mul-le-mul_right, suc-mul, ⊎_elim}
+use Rattle.std.proofs.Common.{◌≡◌, ℕ, zero, suc, ◌+◌, ◌*◌, ◌<◌, ◌≤◌, List, [], ◌∷◌, ◌++◌, length, replicate, sym, refl, ap, ◌∙◌, subst, arith, mul-le-mul_right, ⊎_elim}
 use Rattle.std.proofs.lemmas.Bool.{cases_lt}
 use mathlib.Core.Option.{some-injective}
-use Rattle.ownlock.specs.Seats.{At, HoldsNone, SeatView, ShelfId, all_sessions}
+use Rattle.ownlock.specs.Seats.{HoldsNone, SeatView, ShelfId, all_sessions}
 use Rattle.loader.specs.CatalogueView.{CatalogueView}
 use Rattle.oplog.specs.declared.configuration.Config.{Config}
-use Rattle.replica.specs.StoreMeaning.{store_meaning}
 use Rattle.progress.specs.declared.sessions.Progress.{Progress}
 use Rattle.progress.specs.declared.sessions.SessionNote.{SessionNote}
-use Rattle.progress.specs.Accounts.{IsWellFormed}
 use Rattle.progress.specs.LogSteps.{first_progress, fresh_note}
 use Rattle.progress.proofs.Lists.{at_none}
 use Rattle.store.specs.declared.steps.Caller.{Caller}
@@ -16,7 +14,7 @@ use Rattle.store.specs.declared.values.Value.{Value}
 use Rattle.store.specs.Opening.{AreOf}
 use Rattle.store.specs.Sessions.{IsIdle, IsOf, SessionView, StoreView, fresh_known, fresh_session, fresh_sessions, session_view}
 use Rattle.store.specs.Shelving.{sessions_of}
-use Rattle.store.specs.Standing.{IsFree, SessionKnown}
+use Rattle.store.specs.Standing.{SessionKnown}
 
 abbrev S : Type 0
 S = SeatView (Progress CatalogueView) SessionNote Value

@@ -1,5 +1,5 @@
 -- A session's update, from its post to its answer.
-use Rattle.std.proofs.Common.{◌≡◌, ℕ, suc, ◌+◌, ◌<◌, ◌≤◌, ◌^◌, List, [], ◌∷◌, ◌++◌, length, length-append, sym, refl, ap, ◌∙◌, subst, arith, Option, Some, None, Result, Ok, Err}
+use Rattle.std.proofs.Common.{◌≡◌, ℕ, suc, ◌<◌, ◌≤◌, ◌^◌, [], ◌∷◌, ◌++◌, length, length-append, sym, refl, ap, ◌∙◌, subst, arith, Option, Some, None, Result, Ok, Err}
 use Rattle.ownlock.specs.Seats.{IsSession, SeatView, ShelfId}
 use Rattle.loader.specs.CatalogueView.{CatalogueView}
 use Rattle.combiner.specs.declared.slots.Reply.{Reply}
@@ -8,14 +8,12 @@ use Rattle.oplog.specs.declared.configuration.Config.{Config}
 use Rattle.oplog.specs.Limits.{IsConfig}
 use Rattle.oplog.specs.Operations.{Operation}
 use Rattle.replica.specs.StoreMeaning.{store_meaning}
-use Rattle.progress.specs.declared.sessions.Pending.{Pending}
 use Rattle.progress.specs.declared.sessions.Progress.{Progress}
 use Rattle.progress.specs.declared.sessions.SessionNote.{SessionNote}
 use Rattle.progress.specs.Accounts.{Extends, IsWellFormed}
 use Rattle.progress.specs.Moves.{answered_with}
 use Rattle.progress.specs.Told.{Tells}
 use Rattle.progress.proofs.Finish.{grown_long}
-use Rattle.progress.proofs.Moved.{some_none}
 use Rattle.store.specs.declared.answers.StoreRefused.{StoreRefused}
 use Rattle.store.specs.declared.steps.Caller.{Caller}
 use Rattle.store.specs.declared.values.Value.{Value}

@@ -1,7 +1,6 @@
 -- The seats of all sessions are joined, one after another from the last on.
 use Rattle.std.proofs.Common.{◌≡◌, ℕ, zero, suc, ◌+◌, List, [], ◌∷◌, ◌++◌, length, length-append, append_assoc, sym, refl, ap, ◌∙◌, subst, ⊎_elim, arith, Option, None}
 use mathlib.Core.Option.{some-injective}
-use lib.ListN.{get_elem?}
 use Rattle.ownlock.specs.Seats.{At, HoldsNone, SeatView, ShelfId}
 use Rattle.loader.specs.CatalogueView.{CatalogueView}
 use Rattle.progress.specs.declared.sessions.Progress.{Progress}

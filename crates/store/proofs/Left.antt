@@ -1,12 +1,11 @@
 -- The log and the replicas that a closed store leaves.
-use Rattle.std.proofs.Common.{◌≡◌, ℕ, zero, suc, ◌+◌, ◌≤◌, List, [], ◌∷◌, length, sym, refl, ap, ◌∙◌, subst, arith, Option, Some, None, slice_get}
+use Rattle.std.proofs.Common.{◌≡◌, ℕ, zero, suc, ◌+◌, ◌≤◌, List, [], ◌∷◌, length, sym, refl, subst, arith, Option, Some, None, slice_get}
 use Rattle.std.proofs.lemmas.Option.{slice_get_past}
 use Rattle.std.specs.Global.{Box}
 use Rattle.replica.specs.Views.{ReplicaView}
-use Rattle.progress.proofs.Moved.{some_none}
 use Rattle.store.specs.declared.values.NodeReplica.{NodeReplica}
 use Rattle.store.specs.declared.values.Value.{Value}
-use Rattle.store.specs.declared.values.Value.TheVariants.{Log as LogPlace, Replica}
+use Rattle.store.specs.declared.values.Value.TheVariants.{Replica}
 use Rattle.store.specs.Opening.{AreLeft, replica_slots, replicas_in}
 
 -- what stands at a place of the values, and what at a place of the replicas

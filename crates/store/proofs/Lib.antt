@@ -21,3 +21,4 @@ pub mod Resumed
 pub mod Turning
 pub mod Invoked
 pub mod Closing
+pub mod Watched

@@ -1,8 +1,5 @@
 -- What a store opens with agrees.
-use Rattle.std.proofs.Common.{◌≡◌, zero, suc, List, [], ◌∷◌, replicate, sym, refl, ap, subst, arith, Option, Some, ℕ, ◌*◌, ◌∙◌}
-use Rattle.ownlock.specs.Rules.{leader}
-use Rattle.ownlock.specs.Seats.{At, all_sessions}
-use Rattle.ownlock.specs.Knowledge.{AllAgree, MayPut}
+use Rattle.std.proofs.Common.{◌≡◌, List, [], ◌∷◌, sym, refl, ap, subst}
 use Rattle.maps.specs.declared.shapes.Shape.{Shape}
 use Rattle.maps.specs.Maps.{shapes_of}
 use Rattle.maps.specs.MapSets.{opening_maps}
@@ -10,11 +7,7 @@ use Rattle.loader.specs.CatalogueView.{CatalogueView}
 use Rattle.oplog.specs.declared.configuration.Config.{Config}
 use Rattle.replica.specs.StoreMeaning.{store_meaning}
 use Rattle.progress.specs.Values.{TheLog, TheReplica}
-use Rattle.progress.specs.LogSteps.{first_progress, fresh_note, first_log, first_replica}
-use Rattle.progress.proofs.Putting.{store_opens, same_may_put}
-use Rattle.store.specs.Sessions.{fresh_known}
-use Rattle.store.specs.Standing.{SessionKnown}
-use Rattle.store.proofs.StoreLaws.{session_laws}
+use Rattle.progress.specs.LogSteps.{first_log, first_replica}
 use Rattle.store.specs.declared.values.NodeReplica.{NodeReplica}
 use Rattle.store.specs.declared.values.Value.{Value}
 use Rattle.store.specs.declared.values.Value.TheVariants.{Log, Replica, Desk}

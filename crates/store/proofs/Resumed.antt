@@ -1,6 +1,5 @@
 -- A session waits for its answer, turn after turn.
-use Rattle.std.proofs.Common.{◌≡◌, ℕ, suc, ◌<◌, ◌≤◌, ◌^◌, List, [], ◌∷◌, length, sym, refl, ap, ◌∙◌, subst}
-use Rattle.ownlock.specs.Seats.{IsSession, SeatView}
+use Rattle.std.proofs.Common.{◌≡◌, ℕ, suc, ◌<◌, ◌^◌, [], length, sym, refl, ap, ◌∙◌, subst}
 use Rattle.loader.specs.CatalogueView.{CatalogueView}
 use Rattle.combiner.specs.Desks.{BatchView}
 use Rattle.combiner.specs.declared.slots.Reply.{Reply}

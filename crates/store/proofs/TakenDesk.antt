@@ -1,5 +1,5 @@
 -- The place of its node's desk is taken, and put back after what the session did there.
-use Rattle.std.proofs.Common.{◌≡◌, ℕ, ◌+◌, ◌<◌, List, [], ◌∷◌, length, sym, refl, ap, ◌∙◌, subst, arith, eq-eqb, if◌then◌else◌}
+use Rattle.std.proofs.Common.{◌≡◌, ℕ, ◌<◌, List, [], ◌∷◌, length, sym, refl, ap, ◌∙◌, subst, eq-eqb, if◌then◌else◌}
 use lib.ListN.{get_elem?}
 use Rattle.maps.specs.Maps.{Maps}
 use Rattle.ownlock.specs.Seats.{At, without}

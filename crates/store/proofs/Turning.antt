@@ -1,5 +1,5 @@
 -- What a session did at its desk: it posted, or had its turn; and what it is, once the desk is back.
-use Rattle.std.proofs.Common.{◌≡◌, ℕ, suc, ◌+◌, ◌*◌, ◌-◌, ◌<◌, ◌≤◌, ◌^◌, List, [], ◌∷◌, length, sym, refl, ap, ◌∙◌, subst, arith, Option, Some, None, slice_get}
+use Rattle.std.proofs.Common.{◌≡◌, ℕ, ◌+◌, ◌*◌, ◌-◌, ◌<◌, List, [], ◌∷◌, length, sym, refl, ap, ◌∙◌, subst, arith, Option, Some, None, slice_get}
 use mathlib.Core.Bool.{false}
 use Rattle.std.specs.Option.{option_and_then, option_map}
 use Rattle.ownlock.specs.Seats.{At}
@@ -21,7 +21,6 @@ use Rattle.progress.specs.declared.sessions.SessionNote.{SessionNote}
 use Rattle.progress.specs.Values.{TheDesk}
 use Rattle.progress.specs.Accounts.{Extends, IsAllowed}
 use Rattle.progress.specs.Agreement.{StageAgrees}
-use Rattle.progress.specs.Batches.{Ascend}
 use Rattle.progress.specs.DeskNotes.{ClaimedThere, CollectedThere, DeskDeed, Looked, PostedThere, desk_held, desk_in, desk_note, stage_at}
 use Rattle.progress.specs.Moves.{answered_with, unplaced}
 use Rattle.progress.specs.Told.{Tells}
@@ -36,7 +35,7 @@ use Rattle.store.specs.declared.desks.Turn.TheVariants.{Collects, Combines, Wait
 use Rattle.store.specs.declared.steps.Caller.{Caller}
 use Rattle.store.specs.declared.values.Value.{Value}
 use Rattle.store.specs.declared.values.Value.TheVariants.{Log, Replica, Desk}
-use Rattle.store.specs.AtDesk.{HasAsked, IsAt, IsTurn, Steps}
+use Rattle.store.specs.AtDesk.{HasAsked, IsTurn, Steps}
 use Rattle.store.specs.Requests.{HasLooked, HasPosted, HasPostedIn, HasTurned, IsBack, Turns}
 use Rattle.store.specs.Sessions.{request_of}
 use Rattle.store.specs.Shelving.{IsSized, store_rules, view_of}

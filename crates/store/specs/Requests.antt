@@ -16,7 +16,7 @@ use Rattle.store.specs.declared.answers.StoreRefused.TheVariants.{Ended as TheEn
 use Rattle.store.specs.declared.desks.Turn.{Turn}
 use Rattle.store.specs.declared.desks.Turn.TheVariants.{Collects, Combines, Waits}
 use Rattle.store.specs.declared.values.Value.{Value}
-use Rattle.store.specs.declared.values.Value.TheVariants.{Log, Replica, Desk}
+use Rattle.store.specs.declared.values.Value.TheVariants.{Desk}
 use Rattle.store.specs.AtDesk.{IsTurn}
 use Rattle.store.specs.Standing.{SessionKnown, Stands}
 

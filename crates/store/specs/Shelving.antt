@@ -1,5 +1,5 @@
 -- What the values on a store's shelf have to do with the progress and the notes of its sessions.
-use Rattle.std.specs.Prelude.{◌≡◌, ℕ, ◌*◌, List, [], ◌∷◌, length, replicate, Option, Some}
+use Rattle.std.specs.Prelude.{◌≡◌, ℕ, ◌*◌, List, [], length, replicate}
 use Rattle.ownlock.specs.Rules.{Rules}
 use Rattle.maps.specs.Maps.{Maps, shapes_of}
 use Rattle.loader.specs.CatalogueView.{CatalogueView}

@@ -3,7 +3,7 @@ use Rattle.std.specs.Prelude.{◌≡◌, ℕ, ◌+◌, ◌<◌, ◌≤◌, min, 
 use Rattle.maps.specs.Maps.{shapes_of}
 use Rattle.ownlock.specs.declared.known.Known.{Known}
 use Rattle.ownlock.specs.Rules.{leader}
-use Rattle.ownlock.specs.Seats.{At}
+use Rattle.ownlock.specs.Seats.{At, IsSession, SeatView}
 use Rattle.loader.specs.CatalogueView.{CatalogueView}
 use Rattle.oplog.specs.declared.records.Record.{Record}
 use Rattle.oplog.specs.declared.answers.Appended.{Appended}
@@ -109,6 +109,10 @@ pub record IsOnShelf (places nodes : ℕ) (c : CatalogueView) (k : SessionKnown)
   pub few : nodes ≤ MAX_NODES
   pub nodes_are : k.progress.config.nodes ≡ nodes
   pub catalogue_is : k.progress.catalogue ≡ c
+
+-- the seat is one session, that of the caller's slot, which holds nothing
+abbrev pub IsThere : SeatView (Progress CatalogueView) SessionNote Value → Caller → (places nodes : ℕ) → CatalogueView → Type 0
+IsThere s caller places nodes c = (k : SessionKnown) × IsSession s k × IsFree caller k × IsOnShelf places nodes c k
 
 -- ---- what its calls leave
 

@@ -13,6 +13,8 @@ mod requests;
 mod session;
 mod steps;
 mod store;
+#[cfg(test)]
+mod tests;
 mod values;
 
 pub use answers::{Answer, StoreRefused};

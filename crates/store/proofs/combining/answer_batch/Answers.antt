@@ -1,4 +1,4 @@
-use Rattle.std.proofs.Common.{◌≡◌, ap, ◌∙◌, sym, arith, length, length-set}
+use Rattle.std.proofs.Common.{ap, ◌∙◌, arith, length, length-set}
 use Rattle.store.proofs.Combined.{set_more}
 use Rattle.store.proofs.combining.answer_batch.Goals as goal
 

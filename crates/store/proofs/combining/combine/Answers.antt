@@ -1,9 +1,9 @@
-use Rattle.std.proofs.Common.{◌+◌, ◌<◌, [], ◌∷◌, length, sym, ap, ◌∙◌, subst}
+use Rattle.std.proofs.Common.{◌+◌, [], ◌∷◌, sym, ap, ◌∙◌, subst}
 use Rattle.ownlock.proofs.Seats.{one_known}
 use Rattle.progress.specs.declared.sessions.SessionNote.{SessionNote}
 use Rattle.progress.specs.Moves.{unplaced}
 use Rattle.store.specs.Combining.{HasClaimed}
-use Rattle.store.specs.Standing.{HasAppended, IsFree, IsOnShelf}
+use Rattle.store.specs.Standing.{HasAppended, IsFree}
 use Rattle.store.proofs.Combined.{combined, from_k, kept, ready, session_is}
 use Rattle.store.proofs.Finished.{back, holds_on, may_put_replica}
 use Rattle.store.proofs.Taken.{free_on, may_take_replica, shelf_on, took_replica}

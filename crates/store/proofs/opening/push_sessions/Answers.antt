@@ -1,7 +1,6 @@
-use Rattle.std.proofs.Common.{rules, sym, ap, ◌∙◌, ◌≡◌, ◌<◌, ◌≤◌, length, refl, vec_capacity, arith}
+use Rattle.std.proofs.Common.{rules, ap, ◌∙◌, ◌<◌, length, refl, arith}
 use Rattle.store.specs.Shelving.{sessions_of}
-use Rattle.store.specs.Sessions.{fresh_known}
-use Rattle.store.proofs.Fresh.{fresh_long, idle_seats, left_from, next_seat, seated_more, starts_idle}
+use Rattle.store.proofs.Fresh.{fresh_long, idle_seats, next_seat, seated_more, starts_idle}
 use Rattle.store.proofs.opening.push_sessions.Goals as goal
 
 pub split-own-requires-clause-some : goal.split-own-requires-clause-some

@@ -1,9 +1,8 @@
-use Rattle.std.proofs.Common.{refl, sym, ap, subst, ◌∙◌}
+use Rattle.std.proofs.Common.{refl, subst, ◌∙◌}
 use Rattle.ownlock.proofs.Seats.{one_known}
 use Rattle.store.specs.AtDesk.{HasAsked}
 use Rattle.store.specs.Requests.{HasTurned}
 use Rattle.store.specs.Standing.{IsFree}
-use Rattle.store.specs.declared.desks.Turn.TheVariants.{Collects, Combines, Waits}
 use Rattle.store.proofs.Resumed.{asked_by, free_back, free_then, has_claimed, has_completed, resumed_combined, resumed_first, resumed_waited, shelf_then}
 use Rattle.store.proofs.requests.complete.Goals as goal
 

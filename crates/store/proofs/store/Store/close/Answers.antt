@@ -1,4 +1,4 @@
-use Rattle.std.proofs.Common.{rules, ◌≡◌, ◌+◌, ◌<◌, length, take, sym, ap, ◌∙◌, subst, arith}
+use Rattle.std.proofs.Common.{rules, ◌≡◌, ◌+◌, ◌<◌, length, take, sym, ap, ◌∙◌, subst}
 use Rattle.ownlock.specs.Seats.{HoldsNone}
 use Rattle.store.specs.Opening.{AreLeft, AreOf, IsClosed, closed_view}
 use Rattle.store.specs.Sessions.{StoreView}
