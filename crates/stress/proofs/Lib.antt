@@ -1,2 +1,3 @@
 mod Script
 mod Texts
+mod Told

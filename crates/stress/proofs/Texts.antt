@@ -1,5 +1,6 @@
 -- What is answered, from what was read.
 use Rattle.std.proofs.Common.{◌≡◌, inr, ℕ, Bool, true, false, List, [], Option, Some, None, Result, Ok, Err, string_bytes, refl, sym, subst}
+use native.Mathlib.Nat.{not-suc-le-zero}
 use Rattle.std.specs.Prelude.{IfSome, MatchResult}
 use Rattle.loader.specs.NamedFiles.{named_in}
 use Rattle.loader.specs.Loading.{Outcome, loaded}
@@ -43,7 +44,7 @@ module _ (r : Option (List ℕ)) (o : Option Contents) (q : Option (List ℕ)) w
 module _ (config : Config) where
   -- there is always some answer
   to_calls : (calls : Result (List Called) ℕ) → (a : Answer) × IsScriptAnswer calls a
-  to_calls (Ok calls) = (record { text = transcript_text []; verdict = verdicts.Good }, ([], refl))
+  to_calls (Ok calls) = (record { text = transcript_text []; verdict = verdicts.Good }, ([], (λ i j d low below. absurd (not-suc-le-zero below)), refl))
   to_calls (Err n) = (bad_line n, refl)
 
   by_sizes : (sizes : Bool) (calls : Result (List Called) ℕ) → (a : Answer) × BySizes sizes (IsScriptAnswer calls) a

@@ -1,6 +1,7 @@
 -- The lines of a transcript.
-use Rattle.std.specs.Prelude.{ℕ, List, ◌++◌, codes, decimal}
+use Rattle.std.specs.Prelude.{ℕ, ◌+◌, ◌*◌, ◌^◌, List, ◌++◌, codes, decimal}
 use Rattle.std.specs.List.{flat_map}
+use Rattle.std.specs.List.Sorted.{IsNonDecreasingBy}
 use Rattle.stress.specs.Calls.{Called}
 
 -- what a session was told: the place of its update and the reply there, how many updates its read has seen and the reply, or that the
@@ -14,6 +15,16 @@ pub data Said : Type 0 where
 pub record ToldCall : Type 0 where
   pub call : Called
   pub said : Said
+
+-- where a line stands: an update at its place, a read behind the updates that it has seen and before the others, and what has ended
+-- behind all
+abbrev pub rank : Said → ℕ
+rank (Updated index reply) = 2 * index + 1
+rank (Seen point reply) = 2 * point
+rank Ended = 2 ^ 65
+
+abbrev pub AreOrdered : List ToldCall → Type 0
+AreOrdered told = IsNonDecreasingBy (λ t. rank t.said) told
 
 -- PLACE NAME HEX REPLY behind a letter
 abbrev pub answered_text : List ℕ → ℕ → Called → ℕ → List ℕ

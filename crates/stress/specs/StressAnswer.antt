@@ -13,11 +13,11 @@ use Rattle.console.specs.Answer.{Answer, not_text, refusal_answer}
 use Rattle.console.specs.RunAnswer.{bad_line}
 use Rattle.console.specs.ScheduleAnswer.{are_sizes, sizes_refused}
 use Rattle.stress.specs.Calls.{Called, script_calls}
-use Rattle.stress.specs.Lines.{ToldCall, transcript_text}
+use Rattle.stress.specs.Lines.{ToldCall, AreOrdered, transcript_text}
 
--- the lines of some calls that were answered
+-- the lines of some calls, in their order
 abbrev pub IsTranscript : Answer → Type 0
-IsTranscript a = (told : List ToldCall) × (a ≡ record { text = transcript_text told; verdict = verdicts.Good })
+IsTranscript a = (told : List ToldCall) × AreOrdered told × (a ≡ record { text = transcript_text told; verdict = verdicts.Good })
 
 -- a transcript, or the first bad line alone
 abbrev pub IsScriptAnswer : Result (List Called) ℕ → Answer → Type 0

@@ -1,8 +1,8 @@
 // The lines of the transcript.
 
-ghost use Rattle.std.specs.Prelude.{◌≡◌, ◌++◌, OnOk, IfOk};
-ghost use Rattle.stress.specs.Lines.{answered_text, told_text, transcript_text};
-ghost use Rattle.stress.specs.Shown.{called, told_of};
+ghost use Rattle.std.specs.Prelude.{◌≡◌, ◌++◌, List, OnOk, IfOk};
+ghost use Rattle.stress.specs.Lines.{ToldCall, AreOrdered, rank, answered_text, told_text, transcript_text};
+ghost use Rattle.stress.specs.Shown.{called, said_of, told_of};
 
 use crate::calls::ScriptCall;
 use console::put_numbered;
@@ -25,13 +25,15 @@ pub(crate) struct Told<'a> {
     pub said: Said,
 }
 
-// Where a line stands: an update at its place, a read before the update of the place that it has seen all before, and what has
-// ended behind all.
-fn rank(said: Said) -> (u64, u8) {
+// Where a line stands: an update at its place, a read behind the updates that it has seen and before the others, and what has ended
+// behind all.
+fn rank(said: Said) -> u128
+    ensures { result ≡ rank (said_of said) }
+{
     match said {
-        Said::Seen(answer) => (answer.point, 0),
-        Said::Updated(answer) => (answer.index, 1),
-        Said::Ended => (u64::MAX, 2),
+        Said::Updated(answer) => 2 * answer.index as u128 + 1,
+        Said::Seen(answer) => 2 * answer.point as u128,
+        Said::Ended => 1 << 65,
     }
 }
 
@@ -69,7 +71,7 @@ fn put_told(out: &mut Vec<u8>, told: &Told) -> Result<(), AllocError>
 
 // The transcript: the calls in the order of their places, those of one place in the order in which they come.
 pub(crate) fn transcript(alloc: Global, mut told: Vec<Told<'_>>) -> Result<Vec<u8>, AllocError>
-    ensures { IfOk result (λ text. (lines : _) × (text.items ≡ transcript_text lines)) }
+    ensures { IfOk result (λ text. (lines : List ToldCall) × AreOrdered lines × (text.items ≡ transcript_text lines)) }
 {
     told.sort_by_key(|t| rank(t.said))?;
     let mut out = Vec::new(alloc);

@@ -1,6 +1,6 @@
 // One store for all threads: it is opened, each session makes its calls on a thread of its own, and it is closed.
 
-ghost use Rattle.std.specs.Prelude.{◌≡◌, ◌+◌, ◌*◌, ◌≤◌, ◌<◌, ℕ, [], length, All, IfOk, vec_capacity};
+ghost use Rattle.std.specs.Prelude.{◌≡◌, ◌+◌, ◌*◌, ◌≤◌, ◌<◌, [], length, All, IfOk, vec_capacity};
 ghost use Rattle.oplog.specs.Limits.{IsConfig};
 ghost use Rattle.store.specs.Sessions.{IsOf, StoreView};
 ghost use Rattle.stress.specs.Playing.{IsReady, AreIn, IsPlaying};
@@ -63,18 +63,30 @@ fn enter<'a>(alloc: Global, sessions: &mut Vec<Session>, players: &mut Vec<Playe
     }
 }
 
-// Each player's session comes back, and what it was told, in the order of their numbers.
+// Both lists, one behind the other.
+fn joined<'a>(
+    told: Result<Vec<Told<'a>>, AllocError>,
+    more: Result<Vec<Told<'a>>, AllocError>,
+) -> Result<Vec<Told<'a>>, AllocError> {
+    let mut told = told?;
+    let mut more = more?;
+    told.append(&mut more)?;
+    Ok(told)
+}
+
+// Each player's session comes back, the first one first. What they were told, in this order.
 fn leave<'a>(
+    alloc: Global,
     players: &mut Vec<Player<'a>>,
     sessions: &mut Vec<Session>,
-    outcomes: &mut Vec<Result<Vec<Told<'a>>, AllocError>>,
-)
-    requires empty { (sessions.old.items ≡ []) × (outcomes.old.items ≡ []) }
-    requires room { (length players.old.items ≤ vec_capacity sessions.old) × (length players.old.items ≤ vec_capacity outcomes.old) }
+) -> Result<Vec<Told<'a>>, AllocError>
+    requires empty { sessions.old.items ≡ [] }
+    requires room { length players.old.items ≤ vec_capacity sessions.old }
     ensures gone { players.new.items ≡ [] }
     ensures count { length sessions.new.items ≡ length players.old.items }
     ensures own { (store : StoreView) → All (IsPlaying store) players.old.items → All (IsOf store) sessions.new.items }
 {
+    let mut all = Ok(Vec::new(alloc));
     while let Some(player) = players.pop() {
         let Player {
             session,
@@ -82,8 +94,9 @@ fn leave<'a>(
             told,
         } = player;
         sessions.push_reserved(session);
-        outcomes.push_reserved(told);
+        all = joined(all, told);
     }
+    all
 }
 
 // Lets all players make their calls, each on a thread of its own.
@@ -108,38 +121,24 @@ fn play_together<'a, R: Threads + Wait + Sync, G: Gate + Sync>(
     );
 }
 
-// Lets all sessions make their calls, and gives them back.
+// Lets all sessions make their calls, and gives them back. What they were told, session by session.
 fn play_all<'a, R: Threads + Wait + Sync, G: Gate + Sync>(
     rt: &R,
     ground: &Playground<'_, 'a, G>,
-    mut sessions: Vec<Session>,
+    sessions: &mut Vec<Session>,
     mut players: Vec<Player<'a>>,
-    outcomes: &mut Vec<Result<Vec<Told<'a>>, AllocError>>,
-) -> Vec<Session>
+) -> Result<Vec<Told<'a>>, AllocError>
     requires some { 0 < ground.now.sessions }
-    requires all { AreIn ground.now.store.now ground.now.sessions sessions.items }
+    requires all { AreIn ground.now.store.now ground.now.sessions sessions.old.items }
     requires ready { All (IsReady ground.now.store.now.catalogue) ground.now.calls.now }
-    requires empty { (players.items ≡ []) × (outcomes.old.items ≡ []) }
-    requires room { (ground.now.sessions ≤ vec_capacity players) × (ground.now.sessions ≤ vec_capacity outcomes.old) }
-    ensures back { AreIn ground.now.store.now ground.now.sessions result.items }
+    requires room { (players.items ≡ []) × (ground.now.sessions ≤ vec_capacity players) }
+    ensures back { AreIn ground.now.store.now ground.now.sessions sessions.new.items }
 {
-    enter(ground.alloc, &mut sessions, &mut players);
+    enter(ground.alloc, sessions, &mut players);
     play_together(rt, ground, &mut players);
-    leave(&mut players, &mut sessions, outcomes);
+    let told = leave(ground.alloc, &mut players, sessions);
     players.destroy_empty();
-    sessions
-}
-
-// What all sessions were told, session by session.
-fn gathered<'a>(
-    alloc: Global,
-    outcomes: Vec<Result<Vec<Told<'a>>, AllocError>>,
-) -> Result<Vec<Told<'a>>, AllocError> {
-    let mut all = Vec::new(alloc);
-    for outcome in outcomes {
-        all.extend_from_slice(&outcome?)?;
-    }
-    Ok(all)
+    told
 }
 
 // Makes the calls on a new store, and closes it. What the sessions were told, session by session.
@@ -154,9 +153,8 @@ pub(crate) fn tell_all<'a, R: Threads + Wait + Sync, F, G: Gate + Sync>(
 {
     let (alloc, config) = (trial.alloc, trial.config);
     let count = (config.nodes * config.slots) as usize;
-    let mut outcomes = Vec::with_capacity(alloc, count)?;
     let players = Vec::with_capacity(alloc, count)?;
-    let Ok((store, sessions)) = open(alloc, config, catalogue) else {
+    let Ok((store, mut sessions)) = open(alloc, config, catalogue) else {
         players.destroy_empty();
         return Err(AllocError);
     };
@@ -167,7 +165,7 @@ pub(crate) fn tell_all<'a, R: Threads + Wait + Sync, F, G: Gate + Sync>(
         calls,
         sessions: count,
     };
-    let sessions = play_all(rt, &ground, sessions, players, &mut outcomes);
+    let told = play_all(rt, &ground, &mut sessions, players);
     close(store, sessions);
-    gathered(alloc, outcomes)
+    told
 }

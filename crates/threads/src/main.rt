@@ -2,7 +2,7 @@
 //! store is closed.
 #![tactic(auto)]
 
-ghost use Rattle.std.specs.Prelude.{◌≡◌, length, All, IfSome};
+ghost use Rattle.std.specs.Prelude.{◌≡◌, ◌<◌, length, All, IfSome};
 ghost use Rattle.store.specs.Sessions.{IsOf};
 ghost use Rattle.store.specs.Shelving.{sessions_of};
 
@@ -79,11 +79,12 @@ fn count<R: Wait>(
 fn count_together<R: Threads + Wait + Sync>(
     rt: &R,
     store: &Store,
-    sessions: &mut [Session],
+    sessions: &mut Vec<Session>,
     programs: Programs,
 ) -> u64
-    requires own { All (IsOf store.now) sessions.old }
-    ensures own { All (IsOf store.now) sessions.new }
+    requires own { All (IsOf store.now) sessions.old.items }
+    ensures own { All (IsOf store.now) sessions.new.items }
+    ensures count { length sessions.new.items ≡ length sessions.old.items }
 {
     let right = AtomicU64::new(0);
     thread::for_each_mut(
@@ -98,9 +99,29 @@ fn count_together<R: Threads + Wait + Sync>(
     right.load(Ordering::SeqCst)
 }
 
+// What one of the sessions reads.
+fn read_once<R: Wait>(
+    rt: &R,
+    store: &Store,
+    sessions: &mut Vec<Session>,
+    programs: Programs,
+) -> Result<ReadAnswer, StoreRefused>
+    requires own { All (IsOf store.now) sessions.old.items }
+    requires some { 0 < length sessions.old.items }
+    ensures own { All (IsOf store.now) sessions.new.items }
+    ensures count { length sessions.new.items ≡ length sessions.old.items }
+{
+    let Some(mut session) = sessions.pop() else {
+        unreachable!()
+    };
+    let seen = session.read(rt, store, programs.peek, &KEY);
+    sessions.push_reserved(session);
+    seen
+}
+
 // A store, and a session for each slot of each of its nodes.
 fn open(alloc: Global, catalogue: Catalogue) -> Option<(Store, Vec<Session>)>
-    ensures sessions { IfSome result (λ t. All (IsOf t.0) t.1.items × (length t.1.items ≡ sessions_of t.0.config)) }
+    ensures sessions { IfSome result (λ t. All (IsOf t.0) t.1.items × (length t.1.items ≡ sessions_of t.0.config) × (0 < length t.1.items)) }
 {
     Store::open(alloc, SIZES, catalogue).ok()
 }
@@ -136,11 +157,7 @@ fn counted<R: Threads + Wait + Sync>(rt: &R, alloc: Global) -> Option<Told> {
     let (store, mut sessions) = open(alloc, catalogue)?;
     let right = count_together(rt, &store, &mut sessions, programs);
     // 3. All threads are done: a read now sees all that they did, at whichever node.
-    let Some(mut session) = sessions.pop() else {
-        unreachable!()
-    };
-    let seen = session.read(rt, &store, programs.peek, &KEY);
-    sessions.push_reserved(session);
+    let seen = read_once(rt, &store, &mut sessions, programs);
     // 4. The end. The compiler sees that no session is lost.
     let closed = close(store, sessions);
     Some(Told {

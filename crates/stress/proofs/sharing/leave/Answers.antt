@@ -10,10 +10,8 @@ loop-player-preserved c =
     let h = c.loop-player.invariant in (
       search rules,
       search rules,
-      search rules,
-      search rules,
       λ store all.
-          let taken = All-pop (IsPlaying store) c.loop-player.players.items c.pop.new.self.items c.pop.result c.pop.ensures.items (h.4 store all).0 in
+          let taken = All-pop (IsPlaying store) c.loop-player.players.items c.pop.new.self.items c.pop.result c.pop.ensures.items (h.2 store all).0 in
           let last : IsOf store c.in-Some.player.session = subst (λ r. IfSome r (IsPlaying store)) c.in-Some.is taken.1 in
-          (taken.0, rw c.push_reserved.ensures.items (All-push (IsOf store) c.loop-player.sessions.items c.in-Some.player.session (h.4 store all).1 last)),
+          (taken.0, rw c.push_reserved.ensures.items (All-push (IsOf store) c.loop-player.sessions.items c.in-Some.player.session (h.2 store all).1 last)),
     )
