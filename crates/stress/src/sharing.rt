@@ -115,7 +115,8 @@ fn play_together<'a, R: Threads + Wait + Sync, G: Gate + Sync>(
         players,
         ground.sessions,
         &|_number: usize, player: &mut Player|
-            requires { IsOf ground.now.store.now player.now.session × All (IsReady ground.now.store.now.catalogue) ground.now.calls.now × (0 < ground.now.sessions) }
+            requires { IsOf ground.now.store.now player.now.session × All (IsReady ground.now.store.now.catalogue) ground.now.calls.now
+                × (0 < ground.now.sessions) }
             ensures { IsOf ground.entry.now.store.now player.exit.now.session }
         { play(rt, ground, player) },
     );
