@@ -1,7 +1,7 @@
 // What a line of a script does.
 
 ghost use Rattle.std.specs.Prelude.{◌≡◌, ◌≤◌, Some, length, IfOk, OnOk};
-ghost use Rattle.oplog.specs.declared.records.TheConstants.{MAX_ARG_LEN};
+ghost use Rattle.maps.specs.declared.shapes.TheConstants.{MAX_ARG_LEN};
 ghost use Rattle.oplog.specs.History.{History};
 ghost use Rattle.replica.specs.StoreMeaning.{program_at};
 ghost use Rattle.console.specs.RunAnswer.{performed, numbered, called, line_turn};

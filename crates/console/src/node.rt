@@ -5,7 +5,7 @@ ghost use Rattle.verifier.specs.declared.refusal.Mode.TheVariants.{Update, Read}
 ghost use Rattle.maps.specs.Maps.{shapes_of};
 ghost use Rattle.machine.specs.Effects.{effect, effect_of};
 ghost use Rattle.oplog.specs.Logs.{tail_of, room_in};
-ghost use Rattle.oplog.specs.declared.records.TheConstants.{MAX_ARG_LEN};
+ghost use Rattle.maps.specs.declared.shapes.TheConstants.{MAX_ARG_LEN};
 ghost use Rattle.console.specs.Running.{IsSteady, Follows, IsCallOf, IsUpdated, HasEnded};
 
 use loader::Catalogue;

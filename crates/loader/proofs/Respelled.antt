@@ -8,8 +8,7 @@ use Rattle.maps.specs.declared.shapes.Shape.TheVariants.{Array, Hash}
 use Rattle.verifier.specs.declared.refusal.Mode.{Mode}
 use Rattle.verifier.specs.declared.refusal.Mode.TheVariants.{Update, Read}
 use Rattle.text.specs.Fields.{split_at_space}
-use Rattle.maps.specs.declared.shapes.TheConstants.{MAX_KEY_BYTES, MAX_VALUE_BYTES, MAX_ENTRIES}
-use Rattle.verifier.specs.declared.signature.TheConstants.{MAX_ARG_LEN}
+use Rattle.maps.specs.declared.shapes.TheConstants.{MAX_ARG_LEN, MAX_KEY_BYTES, MAX_VALUE_BYTES, MAX_ENTRIES}
 use Rattle.text.specs.Words.{IsFrom, number_within, is_name_byte, is_name}
 use Rattle.text.specs.declared.lines.TheConstants.{LINE_BYTES}
 use Rattle.text.proofs.LineReadings.{by_words, by_hash, by_empty}

@@ -6,7 +6,7 @@ use Rattle.std.proofs.lemmas.List.{length_push, map-append, nil_from_length}
 use Rattle.loader.specs.declared.refusals.LoadFault.{LoadFault}
 use Rattle.loader.specs.declared.refusals.LoadFault.TheVariants as faults
 use Rattle.maps.specs.declared.shapes.Shape.{Shape}
-use Rattle.verifier.specs.declared.signature.TheConstants.{MAX_ARG_LEN}
+use Rattle.maps.specs.declared.shapes.TheConstants.{MAX_ARG_LEN}
 use Rattle.verifier.specs.Accepted.{IsAccepted}
 use Rattle.loader.specs.Grammar.{ProgramLine, Meaning, Comment, Map, Program, line_meaning}
 use Rattle.maps.specs.Shapes.{IsShapeOk, AreShapesOk}

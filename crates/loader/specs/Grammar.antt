@@ -8,8 +8,7 @@ use Rattle.verifier.specs.declared.refusal.Mode.TheVariants as modes
 use Rattle.text.specs.Lines.{kind_of, by_kind}
 use Rattle.text.specs.Fields.{split_at_space}
 use Rattle.text.specs.Words.{◌>>=◌, number_within, is_name}
-use Rattle.maps.specs.declared.shapes.TheConstants.{MAX_KEY_BYTES, MAX_VALUE_BYTES, MAX_ENTRIES}
-use Rattle.verifier.specs.declared.signature.TheConstants.{MAX_ARG_LEN}
+use Rattle.maps.specs.declared.shapes.TheConstants.{MAX_ARG_LEN, MAX_KEY_BYTES, MAX_VALUE_BYTES, MAX_ENTRIES}
 use Rattle.loader.specs.declared.paths.TheConstants.{PATH_BYTES}
 
 -- a printable character of ASCII, but no space

@@ -2,7 +2,7 @@
 use Rattle.std.specs.Prelude.{◌≤◌, length}
 use Rattle.text.specs.declared.words.TheConstants.{NAME_BYTES}
 use Rattle.maps.specs.Shapes.{IsShapeOk}
-use Rattle.verifier.specs.declared.signature.TheConstants.{MAX_ARG_LEN}
+use Rattle.maps.specs.declared.shapes.TheConstants.{MAX_ARG_LEN}
 use Rattle.loader.specs.declared.grammar.ProgramLine.{ProgramLine as TheLine}
 use Rattle.loader.specs.declared.grammar.Line.{Line}
 use Rattle.loader.specs.declared.grammar.Line.TheVariants as lines

@@ -5,9 +5,9 @@ ghost use Rattle.loader.specs.Grammar.{mode_of, array_meaning, hash_meaning, map
 ghost use Rattle.loader.specs.LineShown.{meaning_of, LineFits};
 
 use crate::paths::is_path;
-use maps::{MAX_ENTRIES, MAX_KEY_BYTES, MAX_VALUE_BYTES, Shape};
+use maps::{MAX_ARG_LEN, MAX_ENTRIES, MAX_KEY_BYTES, MAX_VALUE_BYTES, Shape};
 use text::{LineKind, is_name, kind_of, number_within, split_at_space};
-use verifier::{MAX_ARG_LEN, Mode};
+use verifier::Mode;
 
 // A program: its name, mode, argument length and file.
 #[derive(Clone, Copy)]

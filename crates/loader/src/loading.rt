@@ -3,7 +3,7 @@
 ghost use Rattle.std.specs.Prelude.{◌≡◌, ◌≤◌, MatchResult, Ok, length};
 ghost use Rattle.text.specs.declared.words.TheConstants.{NAME_BYTES};
 ghost use Rattle.maps.specs.Shapes.{IsShapeOk};
-ghost use Rattle.verifier.specs.declared.signature.TheConstants.{MAX_ARG_LEN};
+ghost use Rattle.maps.specs.declared.shapes.TheConstants.{MAX_ARG_LEN};
 ghost use Rattle.loader.specs.ProgramFiles.{files_of};
 ghost use Rattle.loader.specs.LineShown.{program_of};
 ghost use Rattle.loader.specs.Loading.{is_taken, with_map, with_entry, with_program, after_line, loaded};

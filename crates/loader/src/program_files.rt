@@ -3,7 +3,7 @@
 ghost use Rattle.std.specs.Prelude.{◌≡◌, ◌≤◌, length, option_map};
 ghost use Rattle.text.specs.declared.words.TheConstants.{NAME_BYTES};
 ghost use Rattle.maps.specs.Shapes.{AreShapesOk};
-ghost use Rattle.verifier.specs.declared.signature.TheConstants.{MAX_ARG_LEN};
+ghost use Rattle.maps.specs.declared.shapes.TheConstants.{MAX_ARG_LEN};
 ghost use Rattle.loader.specs.ProgramFiles.{files_of, file_named, bytes_of_hex, instructions_of, checked_program, or_bad_line, entry_for};
 ghost use Rattle.loader.specs.LineShown.{program_of};
 ghost use Rattle.loader.specs.Refusal.{Gives};

@@ -8,3 +8,4 @@ pub mod WholeBlocks
 pub mod Copied
 pub mod Opened
 pub mod OpeningShapes
+pub mod StoredShapes

@@ -24,6 +24,9 @@ pub const MAX_ENTRIES: u32 = 65_536;
 /// The most bytes of all maps of a program.
 pub const MAX_TOTAL_BYTES: u32 = 16_777_216;
 
+/// The most bytes of the argument that a program of these maps gets.
+pub const MAX_ARG_LEN: usize = 64;
+
 /// The kind of a map and its sizes: the bytes of a key and of a value, and the number of entries.
 #[derive(Clone, Copy, PartialEq, Eq, Debug)]
 pub enum Shape {

@@ -3,7 +3,7 @@ use Rattle.std.specs.Prelude.{◌≡◌, ℕ, ◌≤◌, List, length, take}
 use Rattle.std.proofs.Common.{sym, ap, ◌∙◌}
 use Rattle.maps.specs.Maps.{AreBytes}
 use Rattle.maps.specs.MapSets.{maps_of}
-use Rattle.oplog.specs.declared.records.TheConstants.{MAX_ARG_LEN}
+use Rattle.maps.specs.declared.shapes.TheConstants.{MAX_ARG_LEN}
 use Rattle.oplog.specs.declared.records.Op.TheInside as ops
 use Rattle.oplog.specs.declared.log_state.LogState.TheInside as logs
 use Rattle.oplog.specs.Operations.{Operation, padded}

@@ -1,6 +1,6 @@
 -- An operation as its users see it.
 use Rattle.std.specs.Prelude.{ℕ, ◌-◌, List, ◌++◌, length, replicate}
-use Rattle.oplog.specs.declared.records.TheConstants.{MAX_ARG_LEN}
+use Rattle.maps.specs.declared.shapes.TheConstants.{MAX_ARG_LEN}
 
 -- a program of the catalogue, by its number, and the bytes of its argument
 pub record Operation : Type 0 where

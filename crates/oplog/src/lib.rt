@@ -14,4 +14,4 @@ pub use configuration::{
 };
 pub use hand::Hand;
 pub use log_state::LogState;
-pub use records::{MAX_ARG_LEN, Op, Record};
+pub use records::{Op, Record};

@@ -4,10 +4,8 @@ ghost use Rattle.std.specs.Prelude.{◌≡◌, ◌≤◌, length, []};
 ghost use Rattle.maps.specs.Maps.{AreBytes};
 ghost use Rattle.oplog.specs.Operations.{padded};
 
+use maps::MAX_ARG_LEN;
 use std::marker::Model;
-
-/// The most bytes that an argument has.
-pub const MAX_ARG_LEN: usize = 64;
 
 /// An operation: a program of the catalogue, by its number there, and its argument of at most [`MAX_ARG_LEN`]. It is copied
 /// as one block of bytes.

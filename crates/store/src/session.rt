@@ -1,6 +1,7 @@
 // A session's calls.
 
 ghost use Rattle.std.specs.Prelude.{◌≡◌, ◌≤◌, [], ◌∷◌, length, None, Some, Err};
+ghost use Rattle.maps.specs.declared.shapes.TheConstants.{MAX_ARG_LEN};
 ghost use Rattle.verifier.specs.declared.refusal.Mode.TheVariants.{Update, Read};
 ghost use Rattle.progress.specs.Accounts.{Extends, IsWellFormed};
 ghost use Rattle.replica.specs.StoreMeaning.{store_meaning};
@@ -47,7 +48,7 @@ pub(crate) fn refusal(
     argument: &[u8],
 ) -> Option<StoreRefused>
     ensures refusal { result ≡ early_refusal catalogue.now mode program argument.now }
-    ensures short { result ≡ None → length argument.now ≤ 64 }
+    ensures short { result ≡ None → length argument.now ≤ MAX_ARG_LEN }
 {
     let Some(accepted) = catalogue.program(program) else {
         return Some(StoreRefused::UnknownProgram);

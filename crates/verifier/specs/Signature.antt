@@ -3,7 +3,7 @@ use Rattle.std.specs.Prelude.{ℕ, ◌≤◌, List}
 use Rattle.maps.specs.declared.shapes.Shape.{Shape}
 use Rattle.maps.specs.Shapes.{AreShapesOk}
 use Rattle.verifier.specs.declared.refusal.Mode.{Mode}
-use Rattle.verifier.specs.declared.signature.TheConstants.{MAX_ARG_LEN}
+use Rattle.maps.specs.declared.shapes.TheConstants.{MAX_ARG_LEN}
 
 -- its maps, the length of its argument, and its mode
 pub record Signature : Type 0 where

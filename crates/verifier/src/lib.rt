@@ -19,5 +19,4 @@ mod visiting;
 pub use accepted::Accepted;
 pub use laws::{no_refusal_where_typable, refusal_is_first_broken, refused_is_untypable};
 pub use refusal::{Mode, Refused, VerifyError, VerifyFault};
-pub use signature::MAX_ARG_LEN;
 pub use verification::verify;

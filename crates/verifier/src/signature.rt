@@ -11,9 +11,6 @@ use maps::Shape;
 use regkind::Kind;
 use std::marker::Model;
 
-/// The most bytes of an argument.
-pub const MAX_ARG_LEN: usize = 64;
-
 /// What a program is checked for: the shapes of its maps, the length of its argument in bytes, and its mode.
 #[derive(Drop)]
 pub(crate) struct Signature<'a> {

@@ -16,11 +16,11 @@ ghost use Rattle.verifier.specs.Verdict.{verdict};
 
 use crate::accepted::Accepted;
 use crate::refusal::{Mode, Refused, VerifyError, VerifyFault};
-use crate::signature::{MAX_ARG_LEN, Signature};
+use crate::signature::Signature;
 use crate::visiting::visit;
 use flow::structure;
 use insn::{Insn, MAX_SLOTS};
-use maps::Shape;
+use maps::{MAX_ARG_LEN, Shape};
 use regkind::Frame;
 use std::alloc::{AllocError, Global};
 

@@ -1,7 +1,7 @@
 use Rattle.std.proofs.Common.{sym, ap, ◌∙◌}
 use Rattle.maps.specs.Maps.{shapes_of}
 use Rattle.oplog.specs.Logs.{Log}
-use Rattle.oplog.proofs.StoredShapes.{stored_are}
+use Rattle.maps.proofs.StoredShapes.{stored_are}
 use Rattle.oplog.proofs.log_state.LogState.reclaim.Goals as goal
 
 pub copy_from-requires : goal.copy_from-requires
