@@ -24,7 +24,7 @@ use Rattle.schedule.proofs.Answers.{answers_length}
 use Rattle.schedule.proofs.Desks.{answers_placed, answers_ended}
 use Rattle.schedule.proofs.Keeping.{same_lists}
 use Rattle.schedule.proofs.Lists.{get_some}
-use Rattle.store.specs.AtDesk.{IsAnswered, IsAnswerOf}
+use Rattle.store.specs.AtDesk.{HasAnswers, IsAnswerOf}
 use Rattle.store_laws.specs.AtDesks.{PostIsAStep, CollectIsAStep, ClaimIsAStep, IsInLog, ReplyIsAStep}
 use Rattle.store_laws.proofs.Nodes.{cond_yes, both, one_step}
 
@@ -69,7 +69,7 @@ claim_is_a_step s g node y b absent turn =
 abbrev batch_with : History → List (Option Reply) → BatchView
 batch_with rs answers = record { records = rs; answers = answers }
 
-module _ (a : Appended) (kept : RepliesView) (b : BatchView) (x : IsAnswered a kept b) where
+module _ (a : Appended) (kept : RepliesView) (b : BatchView) (x : HasAnswers a kept b) where
   -- the answer to a request is the one that the batch in the log has
   answer_is : (k : ℕ) (r : Record) (given : Reply) → slice_get b.records k ≡ Some r → IsAnswerOf a kept k given
       → slice_get (answers_from a.first kept.outcomes b.records) k ≡ Some (Some given)

@@ -21,8 +21,8 @@ use Rattle.schedule.specs.Trace.{Back, ReadBack}
 use Rattle.schedule.specs.Steps.{Part, silent, claimed_batch, with_appended, no_records, append, replay, finish, reclaim, rebase, session_at, with_call_or_back, with_read, read_answer}
 use Rattle.schedule.proofs.Keeping.{keeps_after}
 use Rattle.store.specs.declared.values.NodeReplica.{NodeReplica}
-use Rattle.store.specs.Lent.{appended, copied, replayed, reclaimed, rebased, CanAppend, CanFollow, CanReclaim, CanRebase}
-use Rattle.store_laws.specs.Nodes.{NodeStep, after_steps, IsNodeOf, AreMade, replays, replies_of, with_replies, HasApplied, AppendIsAStep, ReplayIsSteps, FollowIsSteps, ReclaimIsAStep, RebaseIsAStep, RaiseIsSteps, AnswerIsAStep}
+use Rattle.store.specs.Lent.{appended, copied, replayed, told, reclaimed, rebased, CanAppend, CanFollow, CanReclaim, CanRebase}
+use Rattle.store_laws.specs.Nodes.{NodeStep, after_steps, IsNodeOf, AreMade, replays, replies_of, with_replies, HasApplied, AppendIsAStep, ReplayIsSteps, FollowIsSteps, ReclaimIsAStep, RebaseIsAStep, FinishIsSteps, AnswerIsAStep}
 
 -- ---- tests
 
@@ -207,7 +207,7 @@ module _ (n : NodeReplica) (node : NodeView) (is : IsNodeOf n node) where
 
   -- ---- the completed tail
 
-  raised : (g : Log) → g.done < n.replica.tail → AreMade (finish ∷ []) g node (record g { done = max g.done n.replica.tail }) n node.batch
+  raised : (g : Log) → g.done < n.replica.tail → AreMade (finish ∷ []) g node (told n g) n node.batch
   raised g lt = record {
     after = node;
     taken = one_step finish g node (silent (record g { done = node.replica.tail }) node)
@@ -219,7 +219,7 @@ module _ (n : NodeReplica) (node : NodeView) (is : IsNodeOf n node) where
     reads = refl;
   }
 
-  not_raised : (g : Log) → n.replica.tail ≤ g.done → AreMade [] g node (record g { done = max g.done n.replica.tail }) n node.batch
+  not_raised : (g : Log) → n.replica.tail ≤ g.done → AreMade [] g node (told n g) n node.batch
   not_raised g le = record {
     after = node;
     taken = ap (λ d. Some (record { log = record g { done = d }; node = node })) (let most : g.done ≡ max g.done n.replica.tail = omega arith in most);
@@ -229,10 +229,10 @@ module _ (n : NodeReplica) (node : NodeView) (is : IsNodeOf n node) where
     reads = refl;
   }
 
-  raise_made : (g : Log) → AreMade (if nat_lt g.done n.replica.tail then finish ∷ [] else []) g node (record g { done = max g.done n.replica.tail }) n node.batch
-  raise_made g = ⊎_elim
-      (λ lt. subst (λ b. AreMade (if b then finish ∷ [] else []) g node (record g { done = max g.done n.replica.tail }) n node.batch) (sym (lt-ltb g.done n.replica.tail lt)) (raised g lt))
-      (λ le. subst (λ b. AreMade (if b then finish ∷ [] else []) g node (record g { done = max g.done n.replica.tail }) n node.batch) (sym (le-ltb g.done n.replica.tail le)) (not_raised g le))
+  finish_made : (g : Log) → AreMade (if nat_lt g.done n.replica.tail then finish ∷ [] else []) g node (told n g) n node.batch
+  finish_made g = ⊎_elim
+      (λ lt. subst (λ b. AreMade (if b then finish ∷ [] else []) g node (told n g) n node.batch) (sym (lt-ltb g.done n.replica.tail lt)) (raised g lt))
+      (λ le. subst (λ b. AreMade (if b then finish ∷ [] else []) g node (told n g) n node.batch) (sym (le-ltb g.done n.replica.tail le)) (not_raised g le))
       (cases_lt g.done n.replica.tail)
 
 pub append_is_a_step : AppendIsAStep
@@ -253,24 +253,32 @@ reclaim_is_a_step g n node is can = reclaim_made n node is g can
 pub rebase_is_a_step : RebaseIsAStep
 rebase_is_a_step g n node is can = rebase_made n node is g can
 
-pub raise_is_steps : RaiseIsSteps
-raise_is_steps g n node is = raise_made n node is g
+pub finish_is_steps : FinishIsSteps
+finish_is_steps g n node is = finish_made n node is g
+
+-- a reply, in the event that says it
+said : (f : ℕ → Part) (o : Option ReadEffect) (reply : ℕ) → option_map (λ e. e.reply) o ≡ Some reply → option_map (λ e. f e.reply) o ≡ Some (f reply)
+said f None reply e = ap (option_map f) e
+said f (Some x) reply e = ap (option_map f) e
 
 pub answer_is_a_step : AnswerIsAStep
-answer_is_a_step m s read e g n node is begun reached completed replies =
+answer_is_a_step m s read reply g n node is begun reached completed replies =
     ap (λ o. option_and_then part (option_and_then (λ r. r) o)) begun
     ∙ cond_yes _ _ _
     (both (nat_le read.seen node.replica.tail) (nat_le node.replica.tail g.done)
     (le-leb read.seen node.replica.tail (subst (λ t. read.seen ≤ t) (sym same) reached))
     (le-leb node.replica.tail g.done (subst (λ t. t ≤ g.done) (sym same) completed)))
-    ∙ ap (λ r. option_map (told r.tail) (store_meaning.read m.catalogue read.op r.maps)) is.replica
-    ∙ ap (λ o. option_map (told n.replica.tail) o) replies
+    ∙ ap (λ r. option_map (λ (e : ReadEffect). answered r.tail e.reply) (store_meaning.read m.catalogue read.op r.maps)) is.replica
+    ∙ said (answered n.replica.tail) (store_meaning.read m.catalogue read.op n.replica.maps) reply replies
   where
     same : node.replica.tail ≡ n.replica.tail
     same = ap (λ r. r.tail) is.replica
 
-    told : ℕ → ReadEffect → Part
-    told point f = with_call_or_back (Back (session_at node s) (ReadBack (record { point = point; reply = f.reply }))) g (with_read node s None)
+    answered : ℕ → ℕ → Part
+    answered point x = with_call_or_back (Back (session_at node s) (ReadBack (record { point = point; reply = x }))) g (with_read node s None)
 
     part : BegunRead → Option Part
-    part r = cond (nat_le r.seen node.replica.tail && nat_le node.replica.tail g.done) (option_map (told node.replica.tail) (store_meaning.read m.catalogue r.op node.replica.maps)) None
+    part r =
+        cond (nat_le r.seen node.replica.tail && nat_le node.replica.tail g.done)
+        (option_map (λ (e : ReadEffect). answered node.replica.tail e.reply) (store_meaning.read m.catalogue r.op node.replica.maps))
+        None

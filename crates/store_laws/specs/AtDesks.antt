@@ -14,7 +14,7 @@ use Rattle.schedule.specs.declared.parts.NodeBatch.TheVariants.{Absent, Held, In
 use Rattle.schedule.specs.Worlds.{NodeView}
 use Rattle.schedule.specs.Steps.{post, claim, reply, collect}
 use Rattle.store.specs.declared.desks.Turn.TheVariants.{Collects, Combines}
-use Rattle.store.specs.AtDesk.{IsAnswered, IsTurn}
+use Rattle.store.specs.AtDesk.{HasAnswers, IsTurn}
 use Rattle.store_laws.specs.Nodes.{NodeStep, after_steps}
 
 -- the step may be taken, and makes of the node this one; the log is as it was
@@ -49,5 +49,6 @@ pub record IsInLog (a : Appended) (kept : RepliesView) (b : BatchView) (w : Writ
 -- and all that the replica has applied is completed, as when the combiner put the replica back
 abbrev pub ReplyIsAStep : Type 0
 ReplyIsAStep =
-    (a : Appended) (kept : RepliesView) (b : BatchView) (g : Log) (node : NodeView) (w : Written) → IsAnswered a kept b → node.batch ≡ InLog w → IsInLog a kept b w
-    → node.hand.records ≡ [] → node.replica.tail ≤ g.done → Makes reply g node (record node { desk = replied b node.desk; batch = Absent })
+    (a : Appended) (kept : RepliesView) (b : BatchView) (g : Log) (node : NodeView) (w : Written) → HasAnswers a kept b
+    → node.batch ≡ InLog w → IsInLog a kept b w → node.hand.records ≡ [] → node.replica.tail ≤ g.done
+    → Makes reply g node (record node { desk = replied b node.desk; batch = Absent })

@@ -1,10 +1,9 @@
 -- The log, and a node's replica and hand, as they are lent to a session, and the steps of every schedule on them.
-use Rattle.std.specs.Prelude.{◌≡◌, ℕ, ◌+◌, ◌≤◌, max, List, [], ◌∷◌, length, Option, Some, None, slice_get, nat_lt, if◌then◌else◌}
+use Rattle.std.specs.Prelude.{◌≡◌, ℕ, ◌+◌, ◌≤◌, List, [], ◌∷◌, length, Option, Some, None, slice_get, nat_lt, if◌then◌else◌}
 use Rattle.std.specs.Option.{option_and_then}
-use Rattle.oplog.specs.History.{History, ReadEffect}
+use Rattle.oplog.specs.History.{History}
 use Rattle.oplog.specs.Logs.{Log, records_from}
 use Rattle.combiner.specs.Desks.{BatchView}
-use Rattle.replica.specs.StoreMeaning.{store_meaning}
 use Rattle.replica.specs.Views.{RepliesView, no_replies}
 use Rattle.replica.specs.Replaying.{KeepsOutcomes}
 use Rattle.schedule.specs.declared.parts.Opening.{Opening}
@@ -15,7 +14,7 @@ use Rattle.schedule.specs.Worlds.{NodeView, written}
 use Rattle.schedule.specs.Trace.{Back, ReadBack}
 use Rattle.schedule.specs.Steps.{Part, session_at, with_call_or_back, with_read, append, replay, finish, read_answer, reclaim, rebase}
 use Rattle.store.specs.declared.values.NodeReplica.{NodeReplica}
-use Rattle.store.specs.Lent.{appended, copied, replayed, reclaimed, rebased, CanAppend, CanReplay, CanFollow, CanReclaim, CanRebase}
+use Rattle.store.specs.Lent.{appended, copied, replayed, told, reclaimed, rebased, RepliesThere, CanAppend, CanReplay, CanFollow, CanReclaim, CanRebase}
 
 -- a step of a node: what it makes of the log and of the node, or none where it may not be taken
 abbrev pub NodeStep : Type 0
@@ -102,11 +101,11 @@ abbrev pub RebaseIsAStep : Type 0
 RebaseIsAStep =
     (g : Log) (n : NodeReplica) (node : NodeView) → IsNodeOf n node → CanRebase g n → AreMade (rebase ∷ []) g node g (rebased g n) node.batch
 
--- to raise the completed tail to the replica's is the step finish, where it is below that
-abbrev pub RaiseIsSteps : Type 0
-RaiseIsSteps =
+-- to tell the log that all is completed that the replica has applied is the step finish, where the completed tail is below that
+abbrev pub FinishIsSteps : Type 0
+FinishIsSteps =
     (g : Log) (n : NodeReplica) (node : NodeView) → IsNodeOf n node
-    → AreMade (if nat_lt g.done n.replica.tail then finish ∷ [] else []) g node (record g { done = max g.done n.replica.tail }) n node.batch
+    → AreMade (if nat_lt g.done n.replica.tail then finish ∷ [] else []) g node (told n g) n node.batch
 
 -- ---- reads
 
@@ -114,8 +113,7 @@ RaiseIsSteps =
 -- step readanswer, whose event says the replica's tail and the reply there
 abbrev pub AnswerIsAStep : Type 0
 AnswerIsAStep =
-    (m : Opening) (s : ℕ) (read : BegunRead) (e : ReadEffect) (g : Log) (n : NodeReplica) (node : NodeView)
-    → IsNodeOf n node → slice_get node.reads s ≡ Some (Some read) → read.seen ≤ n.replica.tail → n.replica.tail ≤ g.done
-    → store_meaning.read m.catalogue read.op n.replica.maps ≡ Some e
+    (m : Opening) (s : ℕ) (read : BegunRead) (reply : ℕ) (g : Log) (n : NodeReplica) (node : NodeView) → IsNodeOf n node
+    → slice_get node.reads s ≡ Some (Some read) → read.seen ≤ n.replica.tail → n.replica.tail ≤ g.done → RepliesThere m.catalogue read.op n reply
     → read_answer m s g node
-    ≡ Some (with_call_or_back (Back (session_at node s) (ReadBack (record { point = n.replica.tail; reply = e.reply }))) g (with_read node s None))
+    ≡ Some (with_call_or_back (Back (session_at node s) (ReadBack (record { point = n.replica.tail; reply = reply }))) g (with_read node s None))

@@ -9,7 +9,7 @@ ghost use Rattle.progress.specs.declared.sessions.SessionNote.{SessionNote};
 ghost use Rattle.store.specs.declared.values.Value.{Value};
 ghost use Rattle.store.specs.Shelving.{store_rules};
 ghost use Rattle.store_laws.specs.Meanwhile.{Meanwhile};
-ghost use Rattle.store_laws.specs.Nodes.{AppendIsAStep, ReplayIsSteps, FollowIsSteps, ReclaimIsAStep, RebaseIsAStep, RaiseIsSteps, AnswerIsAStep};
+ghost use Rattle.store_laws.specs.Nodes.{AppendIsAStep, ReplayIsSteps, FollowIsSteps, FinishIsSteps, ReclaimIsAStep, RebaseIsAStep, AnswerIsAStep};
 ghost use Rattle.store_laws.specs.AtDesks.{PostIsAStep, CollectIsAStep, ClaimIsAStep, ReplyIsAStep};
 
 /// Between any two atomic steps of a store's threads one history, with its completed tail, has grown from what every session knows; the
@@ -28,9 +28,9 @@ pub fn lent_values_are_steps()
     ensures append { AppendIsAStep }
     ensures replay { ReplayIsSteps }
     ensures follow { FollowIsSteps }
+    ensures finish { FinishIsSteps }
     ensures reclaim { ReclaimIsAStep }
     ensures rebase { RebaseIsAStep }
-    ensures raise { RaiseIsSteps }
     ensures answer { AnswerIsAStep }
 {}
 
