@@ -1,6 +1,5 @@
 -- The calls on a lent log and a lent replica are steps.
 use Rattle.std.proofs.Common.{◌≡◌, ℕ, suc, ◌+◌, ◌-◌, ◌<◌, ◌≤◌, Bool, true, [], ◌∷◌, length, Option, Some, None, refl, sym, ap, ◌∙◌, subst, ⊎_elim, arith}
-use Rattle.maps.specs.Maps.{Maps}
 use Rattle.loader.specs.CatalogueView.{CatalogueView}
 use Rattle.std.specs.Prelude.{option_map, ◌&&◌, ◌||◌, not, max, cond, nat_le, nat_lt, if◌then◌else◌}
 use Rattle.std.specs.Option.{option_and_then}
@@ -58,11 +57,11 @@ own_replies (Held b) = refl
 own_replies (InLog w) = refl
 
 -- records behind the places whose replies are kept
-keeps_all : (c : CatalogueView) (maps : Maps) (begin : ℕ) (rs : History) (kept : RepliesView) → kept.first + length kept.outcomes ≤ begin → KeepsOutcomes c maps begin rs kept kept
-keeps_all c maps begin rs kept applied = record {
+keeps_all : (c : CatalogueView) (r : ReplicaView) (rs : History) (kept : RepliesView) → kept.first + length kept.outcomes ≤ r.tail → KeepsOutcomes c r.maps r.tail rs kept kept
+keeps_all c r rs kept applied = record {
   first = refl;
   count = refl;
-  replayed = λ k i r lt at same. absurd (omega (arith, applied, lt, same));
+  replayed = λ k i q lt at same. absurd (omega (arith, applied, lt, same));
   others = λ k off. refl;
 }
 
@@ -245,7 +244,7 @@ pub follow_is_steps : FollowIsSteps
 follow_is_steps m g n node is can applied =
     subst (λ b. AreMade (replays m (records_from g n.replica.tail)) g node g (replayed m.catalogue (copied g n)) b) (own_replies node.batch)
     (follow_made n node is m g (replies_of node.batch) can.empty can (records_from g n.replica.tail)
-    (keeps_all m.catalogue n.replica.maps n.replica.tail (records_from g n.replica.tail) (replies_of node.batch) applied) refl)
+    (keeps_all m.catalogue n.replica (records_from g n.replica.tail) (replies_of node.batch) applied) refl)
 
 pub reclaim_is_a_step : ReclaimIsAStep
 reclaim_is_a_step g n node is can = reclaim_made n node is g can

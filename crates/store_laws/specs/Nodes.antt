@@ -67,7 +67,7 @@ abbrev pub with_replies : RepliesView → NodeBatch → NodeBatch
 with_replies kept (InLog w) = InLog (record w { replies = kept })
 with_replies kept batch = batch
 
--- the replica has applied all records that the batch has a place for
+-- the replica has applied every record whose reply the batch keeps
 abbrev pub HasApplied : NodeReplica → NodeBatch → Type 0
 HasApplied n b = (replies_of b).first + length (replies_of b).outcomes ≤ n.replica.tail
 
