@@ -17,11 +17,11 @@ use Rattle.schedule.specs.declared.parts.NodeBatch.{NodeBatch}
 use Rattle.schedule.specs.declared.parts.NodeBatch.TheVariants.{Absent, Held, InLog}
 use Rattle.schedule.specs.Worlds.{NodeView, room_for, grown, written, batch_after, to_run, replayed as node_replayed, reclaimed as log_reclaimed, rebased as node_rebased}
 use Rattle.schedule.specs.Trace.{Back, ReadBack}
-use Rattle.schedule.specs.Steps.{Part, silent, claimed_batch, with_appended, no_records, append, replay, finish, reclaim, rebase, session_at, with_call_or_back, with_read, read_answer}
+use Rattle.schedule.specs.Steps.{Part, silent, claimed_batch, with_appended, no_records, append, replay, finish, reclaim, rebase, session_at, with_call_or_back, with_read}
 use Rattle.schedule.proofs.Keeping.{keeps_after}
 use Rattle.store.specs.declared.values.NodeReplica.{NodeReplica}
 use Rattle.store.specs.Lent.{appended, copied, replayed, told, reclaimed, rebased, CanAppend, CanFollow, CanReclaim, CanRebase}
-use Rattle.store_laws.specs.Nodes.{NodeStep, after_steps, IsNodeOf, AreMade, replays, replies_of, with_replies, HasApplied, AppendIsAStep, ReplayIsSteps, FollowIsSteps, ReclaimIsAStep, RebaseIsAStep, FinishIsSteps, AnswerIsAStep}
+use Rattle.store_laws.specs.Nodes.{NodeStep, after_steps, IsNodeOf, AreMade, replays, replies_of, with_replies, AppendIsAStep, ReplayIsSteps, FollowIsSteps, ReclaimIsAStep, RebaseIsAStep, FinishIsSteps, AnswerIsAStep}
 
 -- ---- tests
 

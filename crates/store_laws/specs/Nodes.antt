@@ -62,7 +62,7 @@ abbrev pub replies_of : NodeBatch → RepliesView
 replies_of (InLog w) = w.replies
 replies_of batch = no_replies 0 0
 
--- the batch with these replies, where it is in the log
+-- the batch with these replies, where it is in the log; any other stays
 abbrev pub with_replies : RepliesView → NodeBatch → NodeBatch
 with_replies kept (InLog w) = InLog (record w { replies = kept })
 with_replies kept batch = batch
