@@ -49,7 +49,7 @@ pub record AreMade (steps : List NodeStep) (g : Log) (node : NodeView) (h : Log)
 -- ---- appending
 
 -- to append a batch and copy what the replica lacks is the step append of a node that has claimed that batch; it is in the log then, with
--- the first place and the count that the call answers, of none where the history has ended, and with no replies yet
+-- the first place and the count that the call answers (where the history has ended, none of it is), and no reply is kept yet
 abbrev pub AppendIsAStep : Type 0
 AppendIsAStep =
     (b : BatchView) (g : Log) (n : NodeReplica) (node : NodeView) → IsNodeOf n node → node.batch ≡ Held b → CanAppend b.records g n
