@@ -29,8 +29,8 @@ use Rattle.progress.proofs.Tellings.{reply_on}
 use Rattle.progress.specs.Values.{TheDesk}
 use Rattle.store.specs.declared.values.Value.{Value}
 use Rattle.store.specs.declared.values.Value.TheVariants.{Log, Replica, Desk}
-use Rattle.store.specs.AtDesk.{IsReady}
-use Rattle.store.specs.Combining.{HasCombined, HasReplied, IsAnswerOf}
+use Rattle.store.specs.AtDesk.{IsReady, IsAnswerOf, HasAnswers}
+use Rattle.store.specs.Combining.{HasCombined, HasReplied}
 use Rattle.store.specs.Held.{tail_in}
 use Rattle.store.specs.Shelving.{view_of}
 use Rattle.store.specs.Standing.{SessionKnown, HasAppended, HasCaughtUp, Stands}
@@ -63,6 +63,9 @@ ready_on k t b ns note grown stands w r = record {
   is_first = subst (λ (n : SessionNote). At 0 r.first n.batch) (sym note) r.is_first;
   records = r.records ∙ ap (λ (n : SessionNote). map record_of n.batch) (sym note);
   ascend = r.ascend;
+  appended = r.appended;
+  kept = r.kept;
+  answered = r.answered;
   gives = λ j c at. let g = r.gives j c (subst (λ (n : SessionNote). At j c n.batch) note at) in (g.0, g.1, gives_on c g.0 g.2);
 }
   where
@@ -84,6 +87,9 @@ module _ (t a r : K) (rs : History) (app : Appended) (v w : Value) (old new : Re
       let long : length old.outcomes ≡ app.count = ap (λ z. length z.outcomes) is ∙ length-replicate app.count _ in
       reply_kept a q j (app.first + j) (tail_in v) old new (h.placed j q lt at) (omega (arith, low)) (ap (λ z. z.first + j) is) (omega (arith, long, lt)) c.replies
 
+  pub counted : length new.outcomes ≡ app.count
+  counted = c.count ∙ (ap (λ z. length z.outcomes) is ∙ length-replicate app.count _)
+
   pub kept : (j : ℕ) → j < app.count → (o : Outcome) × (slice_get new.outcomes j ≡ Some (Some o))
   kept j lt =
       let low = h.count in
@@ -91,7 +97,10 @@ module _ (t a r : K) (rs : History) (app : Appended) (v w : Value) (old new : Re
       let o = reply_of j q.0 lt q.1 in
       (o.0, o.1)
 
-  module _ (f : K) (end : Back r f) (b : BatchView) (records : b.records ≡ rs) (some : 0 < length rs) (ascend : Ascend rs) (set : AreSet app new (length rs) b.answers) where
+  module _ (f : K) (end : Back r f) (b : BatchView) (records : b.records ≡ rs) (some : 0 < length rs) (ascend : Ascend rs) (answered : HasAnswers app new b) where
+    set : AreSet app new (length rs) b.answers
+    set k lt = answered.answers k (subst (λ n. k < n) (ap length (sym records)) lt)
+
     abbrev placed : List Claim
     placed = placed_from app.first app.count (unplaced rs)
 
@@ -146,6 +155,9 @@ module _ (t a r : K) (rs : History) (app : Appended) (v w : Value) (old new : Re
       is_first = subst (λ z. At 0 first.0 z) (sym batch) first.1;
       records = records ∙ (sym (records_of_unplaced rs) ∙ (sym (records_of_placed app.first app.count (unplaced rs)) ∙ ap (λ z. map record_of z) (sym batch)));
       ascend = subst Ascend (sym records) ascend;
+      appended = app;
+      kept = new;
+      answered = answered;
       gives = λ j u at. gives j u (subst (λ z. At j u z) batch at);
     }
 

@@ -188,6 +188,14 @@ has_raised k before n m is (notes, may) = record {
   still = λ h. may.0.1 h.1 (leader, h.0) h.2 refl;
 }
 
+-- as many outcomes are kept as before
+counted_in : (c : CatalogueView) (v w : Value) (old new : RepliesView) → HasReplayed c v w old new → length new.outcomes ≡ length old.outcomes
+counted_in c (Replica n) (Replica m) old new h = h.1.count
+counted_in c (Replica n) (Log m) old new h = absurd h
+counted_in c (Replica n) (Desk m) old new h = absurd h
+counted_in c (Log n) w old new h = absurd h
+counted_in c (Desk n) w old new h = absurd h
+
 -- the replica has applied all that the session k knew, and that is completed
 pub caught : (k after : K) (v w : Value) (c : CatalogueView) (old new : RepliesView) (n : ℕ) → k.progress.catalogue ≡ c → HasRest k.progress v → HasReplayed c v w old new → HasRaised k after n → n ≡ tail_in w → HasCaughtUp k after v w old new
 caught k after v w c old new n same rest played up is =
@@ -202,5 +210,6 @@ caught k after v w c old new n same rest played up is =
       completed = omega (arith, is, tail, done);
       agrees = all_agrees k.progress after.progress w up.goes.extends (omega (arith, is, tail, done)) all;
       within = omega (arith, tail, long);
+      count = counted_in k.progress.catalogue v w old new r;
       replies = keeps_in k.progress v w old new rest r;
     }

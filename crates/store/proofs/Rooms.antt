@@ -14,8 +14,8 @@ use Rattle.store.specs.declared.values.NodeReplica.{NodeReplica}
 use Rattle.store.specs.declared.values.Value.{Value}
 use Rattle.store.specs.declared.values.Value.TheVariants.{Log, Replica, Desk}
 use Rattle.store.specs.Shelving.{log_value}
-use Rattle.store.specs.Lent.{reclaimed}
-use Rattle.store.specs.Held.{LacksRoom, IsWide, told, tail_in, CanReclaimIn, IsReclaimed}
+use Rattle.store.specs.Lent.{told, reclaimed}
+use Rattle.store.specs.Held.{LacksRoom, IsWide, tail_in, CanReclaimIn, IsReclaimed}
 use Rattle.store.specs.Standing.{SessionKnown, FollowsIn, IsLogOf, LogIs, HoldsLog, HasPlace, HasRoom, HasRaised}
 use Rattle.store.proofs.StoreLaws.{store_laws}
 use Rattle.store.proofs.Taken.{well_formed}
@@ -34,7 +34,7 @@ K = SessionKnown
 -- what was replayed while the log was held, once that is completed, is the base of a log without records
 module _ (k after : K) (g : LogView) (u : NodeReplica) (is : IsLogOf k.progress g) (all : HasAll k.progress u) (up : HasRaised k after u.replica.tail) (holds : HoldsLog k) (want : ℕ) (few : want ≤ 16) (wide : 16 ≤ g.window) (lacks : room_in g < min want (left_of g)) where
   abbrev told_log : LogView
-  told_log = told u.replica.tail g
+  told_log = told u g
 
   abbrev h : LogView
   h = reclaimed u told_log

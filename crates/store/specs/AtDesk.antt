@@ -1,10 +1,14 @@
 -- A session at its node's desk while that is lent to it: what it may find there, and what its calls are.
-use Rattle.std.specs.Prelude.{◌≡◌, ℕ, suc, ◌<◌, ◌^◌, List, [], map, length, Some, None, slice_get, true, false}
+use Rattle.std.specs.Prelude.{◌≡◌, ℕ, suc, ◌+◌, ◌<◌, ◌≤◌, ◌^◌, List, [], map, length, Some, None, slice_get, true, false}
+use Rattle.machine.specs.declared.running.Outcome.{Outcome}
 use Rattle.ownlock.specs.Seats.{At}
+use Rattle.oplog.specs.declared.answers.Appended.{Appended}
 use Rattle.oplog.specs.Sessions.{session}
 use Rattle.combiner.specs.Desks.{DeskView, BatchView, batch_of, claimed, collected, has_combiner, has_request}
 use Rattle.combiner.specs.declared.slots.Reply.{Reply}
+use Rattle.combiner.specs.declared.slots.Reply.TheVariants.{Placed, Ended}
 use Rattle.replica.specs.StoreMeaning.{store_meaning}
+use Rattle.replica.specs.Views.{RepliesView}
 use Rattle.progress.specs.declared.sessions.Pending.{Pending}
 use Rattle.progress.specs.declared.sessions.Claim.{Claim}
 use Rattle.progress.specs.declared.sessions.SessionNote.{SessionNote}
@@ -34,12 +38,26 @@ pub record HasAsked (k : SessionKnown) (o : Pending) : Type 0 where
   pub alone : k.note.batch ≡ []
   pub few : suc (length k.note.answered) < 2 ^ 64
 
--- the session combines the requests of this batch, in whose order it notes them, and has the answer to each
+-- the answer to the k-th request: one that was appended has its place and the reply that was kept, and to the others the history has ended
+abbrev pub IsAnswerOf : Appended → RepliesView → ℕ → Reply → Type 0
+IsAnswerOf a kept k (Placed i reply) = (k < a.count) × (i ≡ a.first + k) × ((o : Outcome) × (slice_get kept.outcomes k ≡ Some (Some o)) × (reply ≡ o.reply))
+IsAnswerOf a kept k Ended = a.count ≤ k
+
+-- each request of the batch has its answer, where so many were appended from that place on, and these outcomes were kept of them
+pub record HasAnswers (a : Appended) (kept : RepliesView) (b : BatchView) : Type 0 where
+  pub count : length kept.outcomes ≡ a.count
+  pub sizes : length b.answers ≡ length b.records
+  pub answers : (k : ℕ) → k < length b.records → (reply : Reply) × (slice_get b.answers k ≡ Some (Some reply)) × IsAnswerOf a kept k reply
+
+-- the session combines the requests of this batch, in whose order it notes them, has appended and replayed them, and has the answer to each
 pub record IsReady (k : SessionKnown) (b : BatchView) : Type 0 where
   pub first : Claim
   pub is_first : At 0 first k.note.batch
   pub records : b.records ≡ map record_of k.note.batch
   pub ascend : Ascend b.records
+  pub appended : Appended
+  pub kept : RepliesView
+  pub answered : HasAnswers appended kept b
   pub gives : (j : ℕ) (t : Claim) → At j t k.note.batch → (reply : Reply) × (slice_get b.answers j ≡ Some (Some reply)) × Gives store_meaning k.progress t reply
 
 -- the session may put the desk back as y, with the note n

@@ -1,11 +1,6 @@
 -- What a session has that combines the requests of its node, and what it leaves.
-use Rattle.std.specs.Prelude.{◌≡◌, ℕ, ◌+◌, ◌<◌, ◌≤◌, [], length, Some, slice_get}
-use Rattle.machine.specs.declared.running.Outcome.{Outcome}
-use Rattle.oplog.specs.declared.answers.Appended.{Appended}
+use Rattle.std.specs.Prelude.{◌≡◌, ℕ, ◌<◌, [], length}
 use Rattle.combiner.specs.Desks.{BatchView, replied}
-use Rattle.combiner.specs.declared.slots.Reply.{Reply}
-use Rattle.combiner.specs.declared.slots.Reply.TheVariants.{Placed, Ended}
-use Rattle.replica.specs.Views.{RepliesView}
 use Rattle.progress.specs.Accounts.{Extends}
 use Rattle.progress.specs.Batches.{Ascend}
 use Rattle.progress.specs.Moves.{unplaced}
@@ -27,11 +22,6 @@ pub record HasCombined (k after : SessionKnown) : Type 0 where
   pub note : after.note ≡ record k.note { batch = [] }
   pub extends : Extends k.progress after.progress
   pub stands : Stands after
-
--- the answer to the k-th request: one that was appended has its place and the reply that was kept, and to the others the history has ended
-abbrev pub IsAnswerOf : Appended → RepliesView → ℕ → Reply → Type 0
-IsAnswerOf a replies k (Placed i reply) = (k < a.count) × (i ≡ a.first + k) × ((o : Outcome) × (slice_get replies.outcomes k ≡ Some (Some o)) × (reply ≡ o.reply))
-IsAnswerOf a replies k Ended = a.count ≤ k
 
 -- ---- a desk that is held
 

@@ -1,5 +1,5 @@
 -- The steps on the log and a node's replica as values that were taken from the shelf.
-use Rattle.std.specs.Prelude.{◌≡◌, ℕ, max, min, ◌<◌, ◌≤◌, [], length, Some, option_map}
+use Rattle.std.specs.Prelude.{◌≡◌, ℕ, min, ◌<◌, ◌≤◌, [], length, Some, option_map}
 use Rattle.maps.specs.Maps.{shapes_of}
 use Rattle.loader.specs.CatalogueView.{CatalogueView}
 use Rattle.oplog.specs.Operations.{Operation}
@@ -14,7 +14,7 @@ use Rattle.replica.specs.Replaying.{KeepsOutcomes}
 use Rattle.store.specs.declared.values.NodeReplica.{NodeReplica}
 use Rattle.store.specs.declared.values.Value.{Value}
 use Rattle.store.specs.declared.values.Value.TheVariants.{Log, Replica, Desk}
-use Rattle.store.specs.Lent.{appended, copied, replayed, reclaimed, rebased, CanAppend, CanFollow, CanReplay}
+use Rattle.store.specs.Lent.{appended, copied, replayed, told, reclaimed, rebased, RepliesThere, CanAppend, CanFollow, CanReplay}
 
 -- a replica, and how many records it has applied
 abbrev pub IsReplica : Value → Type 0
@@ -73,12 +73,8 @@ CanReclaimIn (Log g) (Replica n) =
     (g.value.base < n.value.replica.tail) × (n.value.replica.tail ≤ tail_of g.value) × (shapes_of n.value.replica.maps ≡ shapes_of g.value.base_maps)
 CanReclaimIn _ _ = ⊥
 
--- the log with a completed tail of at least n
-abbrev pub told : ℕ → LogView → LogView
-told n g = record g { done = max g.done n }
-
 abbrev pub IsReclaimed : Value → Value → Value → Type 0
-IsReclaimed (Log g) (Replica n) (Log h) = h.value ≡ reclaimed n.value (told n.value.replica.tail g.value)
+IsReclaimed (Log g) (Replica n) (Log h) = h.value ≡ reclaimed n.value (told n.value g.value)
 IsReclaimed _ _ _ = ⊥
 
 -- ---- records are appended, and the hand has what the replica has still to apply
@@ -121,4 +117,4 @@ IsReplicaOf c (Replica n) = shapes_of n.value.replica.maps ≡ c.shapes
 abbrev pub Replies : CatalogueView → Operation → Value → ℕ → Type 0
 Replies c op (Log g) reply = ⊥
 Replies c op (Desk g) reply = ⊥
-Replies c op (Replica n) reply = option_map (λ e. e.reply) (store_meaning.read c op n.value.replica.maps) ≡ Some reply
+Replies c op (Replica n) reply = RepliesThere c op n.value reply

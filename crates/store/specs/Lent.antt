@@ -1,7 +1,8 @@
 -- What a session does with the log and its node's replica while both are lent to it: each call is a step of these two.
-use Rattle.std.specs.Prelude.{◌≡◌, ◌+◌, ◌<◌, ◌≤◌, ◌^◌, [], ◌++◌, length, take, min}
+use Rattle.std.specs.Prelude.{◌≡◌, ℕ, ◌+◌, ◌<◌, ◌≤◌, ◌^◌, [], ◌++◌, length, take, min, max, Some, option_map}
 use Rattle.maps.specs.Maps.{shapes_of}
 use Rattle.loader.specs.CatalogueView.{CatalogueView}
+use Rattle.oplog.specs.Operations.{Operation}
 use Rattle.oplog.specs.Logs.{Log, tail_of, left_of, room_in, records_from}
 use Rattle.oplog.specs.History.{History, after}
 use Rattle.replica.specs.StoreMeaning.{store_meaning, AreUpdates}
@@ -51,6 +52,12 @@ pub record CanFollow (c : CatalogueView) (g : Log) (n : NodeReplica) : Type 0 wh
   pub shapes : shapes_of n.replica.maps ≡ c.shapes
   pub updates : AreUpdates c (records_from g n.replica.tail)
 
+-- ---- finish: all that the replica has applied is completed
+
+-- the log is told so, if it doesn't know it
+abbrev pub told : NodeReplica → Log → Log
+told n g = record g { done = max g.done n.replica.tail }
+
 -- ---- reclaim: the replica becomes the log's base, and the records before it are dropped
 
 abbrev pub reclaimed : NodeReplica → Log → Log
@@ -60,6 +67,12 @@ pub record CanReclaim (n : NodeReplica) (g : Log) : Type 0 where
   pub above : g.base < n.replica.tail
   pub completed : n.replica.tail ≤ g.done
   pub shapes : shapes_of n.replica.maps ≡ shapes_of g.base_maps
+
+-- ---- answer: a read is run on the replica
+
+-- it replies this there
+abbrev pub RepliesThere : CatalogueView → Operation → NodeReplica → ℕ → Type 0
+RepliesThere c op n reply = option_map (λ e. e.reply) (store_meaning.read c op n.replica.maps) ≡ Some reply
 
 -- ---- rebase: the log's base becomes the replica
 

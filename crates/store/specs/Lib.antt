@@ -5,10 +5,11 @@ pub mod Opening
 -- The steps on held values, which the public calls on lent values cite.
 pub mod Lent
 pub mod AtDesk
--- Scaffolding: what the store's inner functions speak of; no promise stands on it.
+-- The values of its shelf, the rules of its sessions there, and what a session knows: of these the promises cite some.
 pub mod Shelving
-pub mod Held
 pub mod Standing
+-- Scaffolding: what the store's inner functions speak of; no promise stands on it.
+pub mod Held
 pub mod Places
 pub mod Combining
 pub mod Requests

@@ -176,6 +176,7 @@ pub record HasCaughtUp (k after : SessionKnown) (v w : Value) (old new : Replies
   pub completed : length k.progress.history ≤ after.progress.completed
   pub agrees : AgreesIn after.progress w
   pub within : tail_in w ≤ length after.progress.history
+  pub count : length new.outcomes ≡ length old.outcomes
   pub replies : KeepsOutcomesOf k.progress (tail_in v) old new
 
 -- the replica was brought up to at least that tail

@@ -3,10 +3,9 @@
 ghost use Rattle.std.specs.Prelude.{◌≡◌, ◌+◌, ◌<◌, ◌≤◌, ℕ, length, Some, slice_get};
 ghost use Rattle.machine.specs.declared.running.Outcome.{Outcome as TheOutcome};
 ghost use Rattle.oplog.specs.declared.configuration.TheConstants.{MAX_LIMIT};
-ghost use Rattle.combiner.specs.declared.slots.Reply.{Reply as TheReply};
 ghost use Rattle.ownlock.specs.Seats.{IsSession};
-ghost use Rattle.store.specs.AtDesk.{IsReady};
-ghost use Rattle.store.specs.Combining.{HasClaimed, HasCombined, IsAnswerOf};
+ghost use Rattle.store.specs.AtDesk.{IsReady, IsAnswerOf, HasAnswers};
+ghost use Rattle.store.specs.Combining.{HasClaimed, HasCombined};
 ghost use Rattle.store.specs.Standing.{SessionKnown, Stands, IsFree, IsOnShelf};
 
 use crate::held::reply_in;
@@ -70,10 +69,10 @@ fn answer_of(appended: Appended, replies: &Replies, k: usize) -> Reply
 // Sets the answer of each request.
 fn answer_batch(batch: &mut Batch, appended: Appended, replies: &Replies)
     requires few { appended.first + appended.count ≤ MAX_LIMIT }
+    requires count { length replies.now.outcomes ≡ appended.count }
     requires kept { (k : ℕ) → k < appended.count → (o : TheOutcome) × (slice_get replies.now.outcomes k ≡ Some (Some o)) }
     ensures records { batch.new.records ≡ batch.old.records }
-    ensures answers { (k : ℕ) → k < length batch.old.records → (reply : TheReply) × (slice_get batch.new.answers k ≡ Some (Some reply))
-        × IsAnswerOf appended replies.now k reply }
+    ensures answered { HasAnswers appended replies.now batch.new }
 {
     for k in 0..batch.records().len() {
         batch.answer(k, answer_of(appended, replies, k));

@@ -24,9 +24,9 @@ pub enum Turn {
     Waits,
 }
 
-/// Posts an operation in the session's slot. It waits for no other.
+/// Posts an update of the store's catalogue in the session's slot. The session waits for no other answer.
 pub fn post(desk: &mut Desk, slot: usize, op: Op)
-    requires own { (k : SessionKnown) × IsAt slot k desk.old × (k.note.pending ≡ None) }
+    requires own { (k : SessionKnown) × IsAt slot k desk.old × (k.note.pending ≡ None) × IsAllowed store_meaning k.progress.catalogue op }
     ensures posted { posted slot op desk.old ≡ Some desk.new }
     ensures step { (k : SessionKnown) → IsAt slot k desk.old → IsAllowed store_meaning k.progress.catalogue op
         → Steps k desk.old (record k.note { pending = Some (request_of k.progress op) }) desk.new }

@@ -14,7 +14,7 @@ use crate::{desks, lent};
 use combiner::Batch;
 use loader::Catalogue;
 use oplog::{Appended, LogState, Record};
-use readpath::{ReadAnswer, answer, ready};
+use readpath::{ReadAnswer, ready};
 use replica::Replies;
 
 // Makes the log's base the replica, where that lies below it.
@@ -62,7 +62,7 @@ pub(crate) fn reclaim(log: &mut Value, node: &Value)
 {
     match (log, node) {
         (Value::Log(log), Value::Replica(node)) => {
-            log.raise_done(node.replica.tail());
+            lent::finish(log, node);
             lent::reclaim(log, node);
         }
         _ => unreachable!(),
@@ -137,9 +137,9 @@ pub(crate) fn answer_in(
     ensures reply { RepliesIn catalogue.now (record { program = program; argument = argument.now }) node.old result.reply }
     ensures same { node.new ≡ node.old }
 {
-    match (node, catalogue.program(program)) {
-        (Value::Replica(node), Some(accepted)) => answer(accepted, &mut node.replica, argument),
-        _ => unreachable!(),
+    match node {
+        Value::Replica(node) => lent::answer(node, catalogue, program, argument),
+        Value::Log(_) | Value::Desk(_) => unreachable!(),
     }
 }
 

@@ -1,16 +1,19 @@
 //! What a session does with the log and its node's replica while both are lent to it: each call is a step of these two. No call
 //! here takes a lock or memory.
 
-ghost use Rattle.std.specs.Prelude.{◌≡◌, ◌↔◌, ◌≤◌, length, min, IfOk, IsErr};
+ghost use Rattle.std.specs.Prelude.{◌≡◌, ◌↔◌, ◌≤◌, None, length, min, IfOk, IsErr};
 ghost use Rattle.maps.specs.Maps.{shapes_of};
+ghost use Rattle.verifier.specs.declared.refusal.Mode.TheVariants.{Read};
 ghost use Rattle.oplog.specs.declared.configuration.TheConstants.{MAX_LIMIT};
 ghost use Rattle.oplog.specs.Logs.{tail_of, left_of};
 ghost use Rattle.replica.specs.Replaying.{KeepsOutcomes};
-ghost use Rattle.store.specs.Lent.{appended, copied, replayed, reclaimed, rebased, CanAppend, CanCopy, CanFollow, CanReplay, CanReclaim, CanRebase};
+ghost use Rattle.store.specs.Refusals.{early_refusal};
+ghost use Rattle.store.specs.Lent.{appended, copied, replayed, told, reclaimed, rebased, RepliesThere, CanAppend, CanCopy, CanFollow, CanReplay, CanReclaim, CanRebase};
 
 use crate::values::NodeReplica;
 use loader::Catalogue;
 use oplog::{Appended, Ended, LogState, Record};
+use readpath::ReadAnswer;
 use replica::Replies;
 
 /// Appends as many records of a batch, from its front, as the history may still have, and copies into the node's hand what its
@@ -68,6 +71,13 @@ pub fn follow(log: &LogState, node: &mut NodeReplica, catalogue: &Catalogue)
     replay(node, catalogue, &mut replies);
 }
 
+/// Tells the log that all is completed that the node's replica has applied.
+pub fn finish(log: &mut LogState, node: &NodeReplica)
+    ensures log { log.new ≡ told node.now log.old }
+{
+    log.raise_done(node.replica.tail());
+}
+
 /// Makes the node's replica the log's base, and drops the records before it. The replica lies above the base that was, and is
 /// completed as far as the log was told.
 pub fn reclaim(log: &mut LogState, node: &NodeReplica)
@@ -85,4 +95,23 @@ pub fn rebase(log: &LogState, node: &mut NodeReplica)
     let base = log.base();
     node.replica.rebase(base, log.base_maps());
     node.hand.clear(base);
+}
+
+/// Runs a read program of the catalogue on the node's replica, which it leaves as it was.
+pub fn answer(
+    node: &mut NodeReplica,
+    catalogue: &Catalogue,
+    program: u16,
+    argument: &[u8],
+) -> ReadAnswer
+    requires shapes { shapes_of node.old.replica.maps ≡ catalogue.now.shapes }
+    requires asked { early_refusal catalogue.now Read program argument.now ≡ None }
+    ensures point { result.point ≡ node.old.replica.tail }
+    ensures reply { RepliesThere catalogue.now (record { program = program; argument = argument.now }) node.old result.reply }
+    ensures same { node.new ≡ node.old }
+{
+    let Some(accepted) = catalogue.program(program) else {
+        unreachable!()
+    };
+    readpath::answer(accepted, &mut node.replica, argument)
 }

@@ -4,7 +4,8 @@ ghost use Rattle.std.specs.Prelude.{◌≡◌, None, Some, true, Err, IsOk};
 ghost use Rattle.verifier.specs.declared.refusal.Mode.TheVariants.{Update};
 ghost use Rattle.ownlock.specs.Seats.{IsSession};
 ghost use Rattle.progress.specs.declared.sessions.Pending.{Pending};
-ghost use Rattle.replica.specs.StoreMeaning.{is_operation};
+ghost use Rattle.replica.specs.StoreMeaning.{is_operation, store_meaning};
+ghost use Rattle.progress.specs.Accounts.{IsAllowed};
 ghost use Rattle.store.specs.declared.answers.StoreRefused.{StoreRefused as TheRefusal};
 ghost use Rattle.store.specs.AtDesk.{HasAsked};
 ghost use Rattle.store.specs.Combining.{IsAtIn};
@@ -29,7 +30,7 @@ use verifier::Mode;
 
 // Posts the operation in a slot of the desk.
 fn post_in(desk: &mut Value, slot: usize, op: Op)
-    requires own { (k : SessionKnown) × IsAtIn slot k desk.old × (k.note.pending ≡ None) }
+    requires own { (k : SessionKnown) × IsAtIn slot k desk.old × (k.note.pending ≡ None) × IsAllowed store_meaning k.progress.catalogue op }
     ensures posted { HasPostedIn slot op desk.old desk.new }
 {
     match desk {

@@ -110,7 +110,7 @@ impl Session {
         ensures grown { Extends self.old.progress self.new.progress }
         ensures well_formed { early_refusal store.now.catalogue Update program argument.now ≡ None → IsWellFormed store_meaning self.new.progress }
         ensures early { (r : StoreRefused) → early_refusal store.now.catalogue Update program argument.now ≡ Some r → (result ≡ Err r)
-            × (self.new.note ≡ self.old.note) }
+            × (self.new ≡ self.old) }
         ensures answered { early_refusal store.now.catalogue Update program argument.now ≡ None
             → TellsUpdate self.old self.new (record { program = program; argument = argument.now }) result }
     {
@@ -138,7 +138,8 @@ impl Session {
         ensures same { (self.new.shelf ≡ self.old.shelf) × (self.new.session ≡ self.old.session) × (self.new.note ≡ self.old.note) }
         ensures grown { Extends self.old.progress self.new.progress }
         ensures well_formed { IsWellFormed store_meaning self.new.progress }
-        ensures early { (r : StoreRefused) → early_refusal store.now.catalogue Read program argument.now ≡ Some r → result ≡ Err r }
+        ensures early { (r : StoreRefused) → early_refusal store.now.catalogue Read program argument.now ≡ Some r → (result ≡ Err r)
+            × (self.new ≡ self.old) }
         ensures answered { early_refusal store.now.catalogue Read program argument.now ≡ None
             → TellsRead self.old self.new (record { program = program; argument = argument.now }) result }
     {

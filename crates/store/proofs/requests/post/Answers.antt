@@ -21,7 +21,8 @@ post_in-requires g c =
     let place = 1 + c.args.shared.nodes + c.args.caller.node in
     let t = c.take-desk.ensures.taken i.0 i.1 in
     let b = took_desk i.0 t.0 c.args.caller place v i.2 (ap (λ n. 1 + n + c.args.caller.node) (sym i.4.nodes_are)) t.1 in
-    record { own = (t.0, is_at_in c.args.caller i.0 t.0 place v b, ap (λ n. n.pending) b.note ∙ i.3) }
+    let may = subst (λ z. IsAllowed store_meaning z c.args.op) (sym i.4.catalogue_is) c.requires.update in
+    record { own = (t.0, is_at_in c.args.caller i.0 t.0 place v b, ap (λ n. n.pending) b.note ∙ i.3, subst (λ z. IsAllowed store_meaning z c.args.op) b.extends.catalogue may) }
 
 pub put-requires-clause-may : goal.put-requires-clause-may
 put-requires-clause-may g c =
