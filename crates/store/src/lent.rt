@@ -71,8 +71,9 @@ pub fn follow(log: &LogState, node: &mut NodeReplica, catalogue: &Catalogue)
     replay(node, catalogue, &mut replies);
 }
 
-/// Tells the log that all is completed that the node's replica has applied.
+/// Tells the log that all is completed that the node's replica has applied, which the log has.
 pub fn finish(log: &mut LogState, node: &NodeReplica)
+    requires within { node.now.replica.tail ≤ tail_of log.old }
     ensures log { log.new ≡ told node.now log.old }
 {
     log.raise_done(node.replica.tail());

@@ -108,7 +108,7 @@ impl Session {
         ensures own { IsOf store.now self.new }
         ensures same { (self.new.shelf ≡ self.old.shelf) × (self.new.session ≡ self.old.session) }
         ensures grown { Extends self.old.progress self.new.progress }
-        ensures well_formed { early_refusal store.now.catalogue Update program argument.now ≡ None → IsWellFormed store_meaning self.new.progress }
+        ensures well_formed { IsWellFormed store_meaning self.new.progress }
         ensures early { (r : StoreRefused) → early_refusal store.now.catalogue Update program argument.now ≡ Some r → (result ≡ Err r)
             × (self.new ≡ self.old) }
         ensures answered { early_refusal store.now.catalogue Update program argument.now ≡ None

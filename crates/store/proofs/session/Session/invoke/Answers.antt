@@ -60,7 +60,7 @@ returns-clause-grown g c =
     has_grown c.args.store.now c.args.self.now (session_view c.complete.new.seat) c.self.inside.seat.shelf c.complete.new.seat.shelf k f.0 op c.complete.result v was (seen_as c.complete.new.seat f.0 f.1)
 
 pub returns-clause-well_formed : goal.returns-clause-well_formed
-returns-clause-well_formed g c early =
+returns-clause-well_formed g c =
     let k = c.self.invariant.known in
     let op : Operation = record { program = c.args.program; argument = c.args.argument.now } in
     let none = not_refused (early_refusal c.shared-shared.result.catalogue.now Update c.args.program c.args.argument.now) c.post_only.result c.in_ok-post_only.field-0 (λ r e. (c.post_only.ensures.refused r e).0) c.in_ok-post_only.was in
