@@ -9,8 +9,8 @@ use arrayvec::ArrayVec;
 use oplog::Record;
 use std::marker::Model;
 
-/// The requests that a combiner claimed at its desk, by ascending slots, and the answer of each once it has one. It ends in
-/// [`Desk::reply`](crate::Desk::reply).
+/// The requests that a combiner claimed at its desk, by ascending slots, and the answer of each once it has one. It is lent to
+/// [`Desk::claim`](crate::Desk::claim), which fills it, and to [`Desk::reply`](crate::Desk::reply).
 #[derive(Drop)]
 pub struct Batch {
     records: ArrayVec<Record, 16>,
@@ -30,14 +30,22 @@ impl Model for Batch {
 }
 
 impl Batch {
-    // A batch without a request.
-    pub(crate) fn empty() -> Batch
+    /// A batch without a request.
+    pub fn new() -> Batch
         ensures empty { result ≡ record { records = []; answers = [] } }
     {
         Batch {
             records: ArrayVec::new(),
             answers: ArrayVec::new(),
         }
+    }
+
+    // Takes all its requests out.
+    pub(crate) fn clear(&mut self)
+        ensures empty { self.new ≡ record { records = []; answers = [] } }
+    {
+        self.records.clear();
+        self.answers.clear();
     }
 
     // One more request, which has no answer yet.

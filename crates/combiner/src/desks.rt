@@ -1,6 +1,6 @@
 // The desk of a node.
 
-ghost use Rattle.std.specs.Prelude.{◌≡◌, suc, ◌+◌, ◌<◌, ◌≤◌, ◌^◌, true, length, slice_get, Some, None, OnErr, IfOk, MatchResult, MatchOption};
+ghost use Rattle.std.specs.Prelude.{◌≡◌, suc, ◌+◌, ◌<◌, ◌≤◌, ◌^◌, true, length, slice_get, Some, None, OnOk, OnErr, MatchResult, MatchOption};
 ghost use Rattle.oplog.specs.declared.configuration.TheConstants.{MAX_NODES, MAX_NODE_SLOTS};
 ghost use Rattle.combiner.specs.declared.slots.Slot.{Slot as TheSlot};
 ghost use Rattle.combiner.specs.declared.slots.DeskRefused.TheVariants.{SlotBusy};
@@ -59,9 +59,10 @@ impl Desk {
         ensures posted { MatchResult result (λ _. posted slot op self.old ≡ Some self.new) (λ e. (e ≡ SlotBusy) × (posted slot op self.old ≡ None)) }
         ensures same { OnErr result (self.new ≡ self.old) }
     {
-        let Slot { stage, count } = self.slot(slot);
-        match stage {
+        let here = self.at(slot);
+        match here.stage {
             Stage::Empty => {
+                let count = here.count;
                 let stage = Stage::Posted(op);
                 self.put(slot, Slot { stage, count });
                 Ok(())
@@ -75,7 +76,15 @@ impl Desk {
         requires slot { slot < length self.now.slots }
         ensures slot { slice_get self.now.slots slot ≡ Some result }
     {
-        self.slots[..self.count][slot]
+        *self.at(slot)
+    }
+
+    // A slot, where it lies.
+    fn at(&self, slot: usize) -> &Slot
+        requires slot { slot < length self.now.slots }
+        ensures slot { slice_get self.now.slots slot ≡ Some result.now }
+    {
+        &self.slots[..self.count][slot]
     }
 
     // Puts something else into a slot.
@@ -121,36 +130,37 @@ impl Desk {
         self.node * self.slot_count() as u16 + slot as u16
     }
 
-    /// Claims the posted requests as one batch, by ascending slots. A combiner is then at work until it replies.
+    /// Claims the posted requests as one batch, by ascending slots: the batch that is lent has these and no others then. A
+    /// combiner is then at work until it replies.
     ///
     /// # Errors
     ///
     /// B2 where no slot has a request without an answer, B3 where a combiner is at work; nothing is changed then.
-    pub fn claim(&mut self) -> Result<Batch, DeskRefused>
-        ensures claimed { IfOk result (λ b. (self.new ≡ claimed self.old) × (b ≡ batch_of self.old)) }
+    pub fn claim(&mut self, batch: &mut Batch) -> Result<(), DeskRefused>
+        ensures claimed { OnOk result ((self.new ≡ claimed self.old) × (batch.new ≡ batch_of self.old)) }
         ensures refused { MatchResult result (λ _. claim_refusal self.old ≡ None) (λ e. claim_refusal self.old ≡ Some e) }
-        ensures same { OnErr result (self.new ≡ self.old) }
+        ensures same { OnErr result ((self.new ≡ self.old) × (batch.new ≡ batch.old)) }
     {
         if self.claimed() {
             Err(DeskRefused::CombinerAtWork)
         } else if self.has_request() {
-            Ok(self.claim_posted())
+            self.claim_posted(batch);
+            Ok(())
         } else {
             Err(DeskRefused::NothingPosted)
         }
     }
 
-    // All posted requests, which are claimed.
-    fn claim_posted(&mut self) -> Batch
+    // All posted requests, which are claimed, go into the batch, and nothing else.
+    fn claim_posted(&mut self, batch: &mut Batch)
         ensures desk { self.new ≡ claimed self.old }
-        ensures batch { result ≡ batch_of self.old }
+        ensures batch { batch.new ≡ batch_of self.old }
     {
-        let mut batch = Batch::empty();
+        batch.clear();
         let slots = self.slot_count();
         for slot in 0..slots {
-            self.claim_slot(slot, &mut batch);
+            self.claim_slot(slot, batch);
         }
-        batch
     }
 
     // The request of a slot, if one is posted there, goes into the batch.
@@ -160,31 +170,29 @@ impl Desk {
         ensures claims { (x : TheSlot) → slice_get self.old.slots slot ≡ Some x → ClaimsSlot x (first_author self.old + slot) batch.old batch.new }
         ensures desk { (x : TheSlot) → slice_get self.old.slots slot ≡ Some x → self.new ≡ with_slot self.old slot (claimed_slot x) }
     {
-        let author = self.author(slot);
-        let Slot { stage, count } = self.slot(slot);
-        let stage = match stage {
-            Stage::Posted(op) => {
-                batch.push(Record {
-                    author,
-                    op,
-                    seq: count,
-                });
-                Stage::Claimed
-            }
-            other => other,
+        let here = self.at(slot);
+        let Stage::Posted(op) = here.stage else {
+            return;
         };
+        let count = here.count;
+        batch.push(Record {
+            author: self.author(slot),
+            op,
+            seq: count,
+        });
+        let stage = Stage::Claimed;
         self.put(slot, Slot { stage, count });
     }
 
     /// Hands the answers of a batch to the slots of its requests. The batch is this desk's, and each of its answers is set.
-    pub fn reply(&mut self, batch: Batch)
-        requires own { IsBatchOf self.old batch }
-        requires answered { IsAnswered batch }
-        ensures replied { self.new ≡ replied batch self.old }
+    pub fn reply(&mut self, batch: &Batch)
+        requires own { IsBatchOf self.old batch.now }
+        requires answered { IsAnswered batch.now }
+        ensures replied { self.new ≡ replied batch.now self.old }
     {
         let mut next = 0;
         for slot in 0..self.slot_count() {
-            next = self.answer_slot(slot, &batch, next);
+            next = self.answer_slot(slot, batch, next);
         }
     }
 
@@ -198,17 +206,15 @@ impl Desk {
             → self.new ≡ with_slot self.old slot (answered_slot (answer_no next batch.now.answers) x) }
         ensures next { (x : TheSlot) → slice_get self.old.slots slot ≡ Some x → result ≡ next + uses x.stage }
     {
-        let Slot { stage, count } = self.slot(slot);
-        match stage {
+        let here = self.at(slot);
+        match here.stage {
             Stage::Claimed => {
+                let count = here.count;
                 let stage = Stage::Answered(batch.answer_no(next));
                 self.put(slot, Slot { stage, count });
                 next + 1
             }
-            stage => {
-                self.put(slot, Slot { stage, count });
-                next
-            }
+            _ => next,
         }
     }
 
@@ -220,13 +226,13 @@ impl Desk {
             ((collected slot self.old ≡ None) × (self.new ≡ self.old))
             (λ reply. collected slot self.old ≡ Some (record { reply = reply; desk = self.new })) }
     {
-        let Slot { stage, count } = self.slot(slot);
-        let Stage::Answered(reply) = stage else {
+        let here = self.at(slot);
+        let Stage::Answered(reply) = here.stage else {
             return None;
         };
         let count = match reply {
-            Reply::Placed { .. } => count + 1,
-            Reply::Ended => count,
+            Reply::Placed { .. } => here.count + 1,
+            Reply::Ended => here.count,
         };
         let stage = Stage::Empty;
         self.put(slot, Slot { stage, count });

@@ -139,8 +139,9 @@ impl Node {
         if !matches!(self.batch, NodeBatch::Absent) {
             return StepAnswer::NotNow;
         }
-        match self.desk.claim() {
-            Ok(batch) => {
+        let mut batch = Batch::new();
+        match self.desk.claim(&mut batch) {
+            Ok(()) => {
                 self.batch = NodeBatch::Held(batch);
                 StepAnswer::Done
             }
@@ -360,7 +361,7 @@ impl Node {
         }
         match mem::replace(&mut self.batch, NodeBatch::Absent) {
             NodeBatch::InLog(written) => {
-                self.desk.reply(answered(written));
+                self.desk.reply(&answered(written));
                 StepAnswer::Done
             }
             _ => unreachable!(),

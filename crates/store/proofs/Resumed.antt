@@ -57,11 +57,11 @@ asked_by k m o note a = record {
 }
 
 -- a turn at which it claimed
-pub has_claimed : (m t : K) (o : Pending) (b : BatchView) → HasTurned m t o (Combines b) → HasClaimed t b
+pub has_claimed : (m t : K) (o : Pending) (b : BatchView) → HasTurned m t o b Combines → HasClaimed t b
 has_claimed m t o b h = record { noted = ap (λ (n : SessionNote). n.batch) h.turns.0; some = h.turns.1; ascend = h.turns.2 }
 
 -- it waits on, once it has combined, and where there was nothing to do
-pub resumed_combined : (caller : Caller) (k m t n : K) (o : Pending) (b : BatchView) → IsFree caller k → HasAsked k o → Resumed k m → HasTurned m t o (Combines b) → HasCombined t n → Resumed k n
+pub resumed_combined : (caller : Caller) (k m t n : K) (o : Pending) (b : BatchView) → IsFree caller k → HasAsked k o → Resumed k m → HasTurned m t o b Combines → HasCombined t n → Resumed k n
 resumed_combined caller k m t n o b free asked r h c = record {
   session = c.session ∙ (h.back.session ∙ r.session);
   held = c.held ∙ sym free.held;
@@ -69,8 +69,8 @@ resumed_combined caller k m t n o b free asked r h c = record {
   extends = store_laws.extends_on k.progress m.progress n.progress r.extends (store_laws.extends_on m.progress t.progress n.progress h.back.extends c.extends);
 }
 
-pub resumed_waited : (caller : Caller) (k m t : K) (o : Pending) → IsFree caller k → Resumed k m → HasTurned m t o Waits → Resumed k t
-resumed_waited caller k m t o free r h = record {
+pub resumed_waited : (caller : Caller) (k m t : K) (o : Pending) (b : BatchView) → IsFree caller k → Resumed k m → HasTurned m t o b Waits → Resumed k t
+resumed_waited caller k m t o b free r h = record {
   session = h.back.session ∙ r.session;
   held = h.back.held ∙ sym free.held;
   note = h.turns ∙ r.note;
@@ -78,8 +78,8 @@ resumed_waited caller k m t o free r h = record {
 }
 
 -- and it has its answer
-pub has_completed : (k m t : K) (o : Pending) (reply : Reply) → Resumed k m → HasTurned m t o (Collects reply) → HasCompleted k t o reply
-has_completed k m t o reply r h = record {
+pub has_completed : (k m t : K) (o : Pending) (b : BatchView) (reply : Reply) → Resumed k m → HasTurned m t o b (Collects reply) → HasCompleted k t o reply
+has_completed k m t o b reply r h = record {
   back = record { session = h.back.session ∙ r.session; held = h.back.held; extends = store_laws.extends_on k.progress m.progress t.progress r.extends h.back.extends; stands = h.back.stands };
   note = h.turns.0 ∙ ap (λ (n : SessionNote). answered_with n o.op reply) r.note;
   tells = subst (λ (z : ℕ × SessionNote). Tells store_meaning t.progress z.0 (length z.1.answered) o reply) (λ i. (r.session i, r.note i)) h.turns.1;

@@ -60,12 +60,12 @@ seen_posted slot op (Desk d) (Replica e) x h is = absurd h
 seen_posted slot op (Log d) w x h is = absurd h
 seen_posted slot op (Replica d) w x h is = absurd h
 
-pub seen_turn : (slot : ℕ) (v w : Value) (x : DeskView) (turn : Turn) → HasLooked slot v w turn → view_of v ≡ TheDesk x → (y : DeskView) × (view_of w ≡ TheDesk y) × IsTurn slot x y turn
-seen_turn slot (Desk d) (Desk e) x turn h is = (e.value, refl, subst (λ z. IsTurn slot z e.value turn) (ap (desk_or x) is) h)
-seen_turn slot (Desk d) (Log e) x turn h is = absurd h
-seen_turn slot (Desk d) (Replica e) x turn h is = absurd h
-seen_turn slot (Log d) w x turn h is = absurd h
-seen_turn slot (Replica d) w x turn h is = absurd h
+pub seen_turn : (slot : ℕ) (v w : Value) (x : DeskView) (batch : BatchView) (turn : Turn) → HasLooked slot v w batch turn → view_of v ≡ TheDesk x → (y : DeskView) × (view_of w ≡ TheDesk y) × IsTurn slot x y batch turn
+seen_turn slot (Desk d) (Desk e) x batch turn h is = (e.value, refl, subst (λ z. IsTurn slot z e.value batch turn) (ap (desk_or x) is) h)
+seen_turn slot (Desk d) (Log e) x batch turn h is = absurd h
+seen_turn slot (Desk d) (Replica e) x batch turn h is = absurd h
+seen_turn slot (Log d) w x batch turn h is = absurd h
+seen_turn slot (Replica d) w x batch turn h is = absurd h
 
 pub is_back : (k f : K) (n : SessionNote) → BackDesk k f n → IsBack k f
 is_back k f n b = record { session = b.session; held = b.held; extends = b.extends; stands = b.stands }
@@ -169,41 +169,41 @@ module _ (caller : Caller) (k t : K) (p : ℕ) (v w : Value) (o : Pending) (b : 
         ap (λ z. deed_in z w) is ∙ (ap (λ z. deed_by z after) taken ∙ ap (λ z. deed_by (Some z) after) m.2)
 
   -- what the turn comes to
-  pub record Put (turn : Turn) : Type 0 where
+  pub record Put (batch : BatchView) (turn : Turn) : Type 0 where
     pub may : DeskMayBePut (deed_in sessions w) sessions t p w
-    pub back : (l : L) (ns : List SessionNote) → Possible store_rules t l ns → HasTurned k (desk_back (deed_in sessions w) sessions t p w l) o turn
+    pub back : (l : L) (ns : List SessionNote) → Possible store_rules t l ns → HasTurned k (desk_back (deed_in sessions w) sessions t p w l) o batch turn
 
   -- one that is noted
-  noted_put : (turn : Turn) (deed : DeskDeed) (y : DeskView) (n : SessionNote) → view_of w ≡ TheDesk y → Steps t b.desk n y → desk_note view_of deed t y t.note ≡ n → deed_in sessions w ≡ deed
-      → ((f : K) → f.note ≡ n → Extends t.progress f.progress → IsBack k f → Turns k f o turn) → Put turn
-  noted_put turn deed y n isw step noted deed_eq tells = record {
+  noted_put : (batch : BatchView) (turn : Turn) (deed : DeskDeed) (y : DeskView) (n : SessionNote) → view_of w ≡ TheDesk y → Steps t b.desk n y → desk_note view_of deed t y t.note ≡ n → deed_in sessions w ≡ deed
+      → ((f : K) → f.note ≡ n → Extends t.progress f.progress → IsBack k f → Turns k f o batch turn) → Put batch turn
+  noted_put batch turn deed y n isw step noted deed_eq tells = record {
     may = subst (λ d. DeskMayBePut d sessions t p w) (sym deed_eq) (may_put_desk caller k t p v b sessions is deed w y n isw step noted);
     back = λ l ns can.
         let f = back_desk caller k t p v b sessions is deed w y n isw step noted l ns can in
         let same = ap (λ g. g l) (desk_picks store_meaning view_of IsSized deed sessions t w y is isw).0 in
-        subst (λ d. HasTurned k (desk_back d sessions t p w l) o turn) (sym deed_eq)
+        subst (λ d. HasTurned k (desk_back d sessions t p w l) o batch turn) (sym deed_eq)
         (record { back = is_back k _ n f; turns = tells _ f.note (subst (λ z. Extends t.progress z) (sym same) can.0.0) (is_back k _ n f) });
   }
 
-  pub put_turn : (turn : Turn) → HasLooked caller.slot v w turn → Put turn
-  put_turn turn looked = by turn s.2
+  pub put_turn : (batch : BatchView) (turn : Turn) → HasLooked caller.slot v w batch turn → Put batch turn
+  put_turn batch turn looked = by turn s.2
     where
-      s : (y : DeskView) × (view_of w ≡ TheDesk y) × IsTurn caller.slot b.desk y turn
-      s = seen_turn caller.slot v w b.desk turn looked b.seen
+      s : (y : DeskView) × (view_of w ≡ TheDesk y) × IsTurn caller.slot b.desk y batch turn
+      s = seen_turn caller.slot v w b.desk batch turn looked b.seen
 
-      by : (turn : Turn) → IsTurn caller.slot b.desk s.0 turn → Put turn
+      by : (turn : Turn) → IsTurn caller.slot b.desk s.0 batch turn → Put batch turn
       by (Collects reply) i =
-          let steps = turn_steps caller.slot t o b.desk s.0 (Collects reply) i b.here asked_then in
-          noted_put (Collects reply) CollectedThere s.0 (answered_with t.note o.op reply) s.1 steps.0 (collect_noted view_of t p caller.slot v o reply b.desk s.0 t.note b.held b.seen b.here.own asked_then.pending i) (collect_deed s.0 s.1 reply i)
+          let steps = turn_steps caller.slot t o b.desk s.0 batch (Collects reply) i b.here asked_then in
+          noted_put batch (Collects reply) CollectedThere s.0 (answered_with t.note o.op reply) s.1 steps.0 (collect_noted view_of t p caller.slot v o reply b.desk s.0 t.note b.held b.seen b.here.own asked_then.pending i) (collect_deed s.0 s.1 reply i)
           (λ f note on back. (
             note ∙ ap (λ (n : SessionNote). answered_with n o.op reply) b.note,
             subst (λ (z : ℕ × SessionNote). Tells store_meaning f.progress z.0 (length z.1.answered) o reply) (λ j. (b.session j, b.note j))
                 (tells_on t.progress f.progress back.stands.notes t.session (length t.note.answered) o reply b.here.accounts.completed on back.stands.accounts steps.1),
           ))
-      by (Combines batch) i =
-          let steps = turn_steps caller.slot t o b.desk s.0 (Combines batch) i b.here asked_then in
+      by Combines i =
+          let steps = turn_steps caller.slot t o b.desk s.0 batch Combines i b.here asked_then in
           let same : unplaced (batch_of b.desk).records ≡ unplaced batch.records = ap (λ (z : BatchView). unplaced z.records) (sym i.4) in
-          noted_put (Combines batch) ClaimedThere s.0 (record t.note { batch = unplaced batch.records }) s.1 steps.0 (claim_noted view_of t p v b.desk s.0 t.note b.held b.seen ∙ ap (λ z. record t.note { batch = z }) same) (claim_deed s.0 s.1 i.0 i.1 i.3)
+          noted_put batch Combines ClaimedThere s.0 (record t.note { batch = unplaced batch.records }) s.1 steps.0 (claim_noted view_of t p v b.desk s.0 t.note b.held b.seen ∙ ap (λ z. record t.note { batch = z }) same) (claim_deed s.0 s.1 i.0 i.1 i.3)
           (λ f note on back. (
             note ∙ ap (λ (n : SessionNote). record n { batch = unplaced batch.records }) b.note,
             subst (λ (z : BatchView). 0 < length z.records) (sym i.4) (some_claimed b.desk i.2),
@@ -215,5 +215,5 @@ module _ (caller : Caller) (k t : K) (p : ℕ) (v w : Value) (o : Pending) (b : 
             may = subst (λ d. DeskMayBePut d sessions t p w) (sym deed) (may_put_same_desk caller k t p v b sessions is w same);
             back = λ l ns can.
                 let f = back_same_desk caller k t p v b sessions is w same l ns can in
-                subst (λ d. HasTurned k (desk_back d sessions t p w l) o Waits) (sym deed) (record { back = is_back k _ k.note f; turns = f.note });
+                subst (λ d. HasTurned k (desk_back d sessions t p w l) o batch Waits) (sym deed) (record { back = is_back k _ k.note f; turns = f.note });
           }

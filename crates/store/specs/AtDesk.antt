@@ -65,20 +65,20 @@ abbrev pub Steps : SessionKnown → DeskView → SessionNote → DeskView → Ty
 Steps k x n y = DeskStep store_meaning k.progress k.session k.note x n y
 
 -- what a session did that looked for its answer: it collected the one that waits; else it claimed all posted requests, where nobody
--- combines; else nothing
-abbrev pub IsTurn : ℕ → DeskView → DeskView → Turn → Type 0
-IsTurn slot x y (Collects reply) = collected slot x ≡ Some (record { reply = reply; desk = y })
-IsTurn slot x y (Combines batch) = (collected slot x ≡ None) × (has_combiner x ≡ false) × (has_request x ≡ true) × (y ≡ claimed x) × (batch ≡ batch_of x)
-IsTurn slot x y Waits = (collected slot x ≡ None) × (y ≡ x)
+-- combines, and the batch has them; else nothing
+abbrev pub IsTurn : ℕ → DeskView → DeskView → BatchView → Turn → Type 0
+IsTurn slot x y batch (Collects reply) = collected slot x ≡ Some (record { reply = reply; desk = y })
+IsTurn slot x y batch Combines = (collected slot x ≡ None) × (has_combiner x ≡ false) × (has_request x ≡ true) × (y ≡ claimed x) × (batch ≡ batch_of x)
+IsTurn slot x y batch Waits = (collected slot x ≡ None) × (y ≡ x)
 
 -- which is a step of the session: what it collects it may say of its request, and the batch is by ascending authors
-abbrev pub TurnSteps : SessionKnown → Pending → DeskView → DeskView → Turn → Type 0
-TurnSteps k o x y (Collects reply) = Steps k x (answered_with k.note o.op reply) y × Tells store_meaning k.progress k.session (length k.note.answered) o reply
-TurnSteps k o x y (Combines batch) = Steps k x (record k.note { batch = unplaced batch.records }) y × Ascend batch.records
-TurnSteps k o x y Waits = y ≡ x
+abbrev pub TurnSteps : SessionKnown → Pending → DeskView → DeskView → BatchView → Turn → Type 0
+TurnSteps k o x y batch (Collects reply) = Steps k x (answered_with k.note o.op reply) y × Tells store_meaning k.progress k.session (length k.note.answered) o reply
+TurnSteps k o x y batch Combines = Steps k x (record k.note { batch = unplaced batch.records }) y × Ascend batch.records
+TurnSteps k o x y batch Waits = y ≡ x
 
 -- what a claim is
-abbrev pub IsClaim : DeskView → DeskView → Turn → Type 0
-IsClaim x y (Collects reply) = ⊥
-IsClaim x y (Combines batch) = (has_combiner x ≡ false) × (has_request x ≡ true) × (y ≡ claimed x) × (batch ≡ batch_of x)
-IsClaim x y Waits = y ≡ x
+abbrev pub IsClaim : DeskView → DeskView → BatchView → Turn → Type 0
+IsClaim x y batch (Collects reply) = ⊥
+IsClaim x y batch Combines = (has_combiner x ≡ false) × (has_request x ≡ true) × (y ≡ claimed x) × (batch ≡ batch_of x)
+IsClaim x y batch Waits = y ≡ x

@@ -1,5 +1,5 @@
 -- The steps on the log and a node's replica as values that were taken from the shelf.
-use Rattle.std.specs.Prelude.{◌≡◌, ℕ, min, ◌<◌, ◌≤◌, [], length, Some, option_map}
+use Rattle.std.specs.Prelude.{◌≡◌, ℕ, min, ◌<◌, ◌≤◌, [], length}
 use Rattle.maps.specs.Maps.{shapes_of}
 use Rattle.loader.specs.CatalogueView.{CatalogueView}
 use Rattle.oplog.specs.Operations.{Operation}
@@ -8,7 +8,6 @@ use Rattle.oplog.specs.History.{History}
 use Rattle.oplog.specs.declared.configuration.TheConstants.{MAX_LIMIT}
 use Rattle.oplog.specs.Limits.{IsWindow}
 use Rattle.oplog.specs.Logs.{Log as LogView, tail_of, left_of, room_in}
-use Rattle.replica.specs.StoreMeaning.{store_meaning}
 use Rattle.replica.specs.Views.{RepliesView}
 use Rattle.replica.specs.Replaying.{KeepsOutcomes}
 use Rattle.store.specs.declared.values.NodeReplica.{NodeReplica}

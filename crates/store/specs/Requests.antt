@@ -1,7 +1,7 @@
 -- What a session does at its desk with a request of its own, from its post to its answer.
 use Rattle.std.specs.Prelude.{◌≡◌, ℕ, ◌<◌, ◌≤◌, [], length, Some, Result, Ok, Err}
 use Rattle.oplog.specs.Operations.{Operation}
-use Rattle.combiner.specs.Desks.{posted}
+use Rattle.combiner.specs.Desks.{BatchView, posted}
 use Rattle.combiner.specs.declared.slots.Reply.{Reply}
 use Rattle.combiner.specs.declared.slots.Reply.TheVariants.{Placed, Ended}
 use Rattle.replica.specs.StoreMeaning.{store_meaning}
@@ -27,10 +27,10 @@ abbrev pub HasPostedIn : ℕ → Operation → Value → Value → Type 0
 HasPostedIn slot op (Desk d) (Desk e) = posted slot op d.value ≡ Some e.value
 HasPostedIn slot op _ _ = ⊥
 
--- the desk after the session's turn there
-abbrev pub HasLooked : ℕ → Value → Value → Turn → Type 0
-HasLooked slot (Desk d) (Desk e) turn = IsTurn slot d.value e.value turn
-HasLooked slot _ _ turn = ⊥
+-- the desk and the batch after the session's turn there
+abbrev pub HasLooked : ℕ → Value → Value → BatchView → Turn → Type 0
+HasLooked slot (Desk d) (Desk e) batch turn = IsTurn slot d.value e.value batch turn
+HasLooked slot _ _ batch turn = ⊥
 
 -- ---- what its calls leave
 
@@ -50,14 +50,14 @@ pub record HasPosted (k after : SessionKnown) (op : Operation) : Type 0 where
   pub note : after.note ≡ record k.note { pending = Some request }
 
 -- what the session notes of its turn, and what it may say of an answer
-abbrev pub Turns : SessionKnown → SessionKnown → Pending → Turn → Type 0
-Turns k after o (Collects reply) = (after.note ≡ answered_with k.note o.op reply) × Tells store_meaning after.progress k.session (length k.note.answered) o reply
-Turns k after o (Combines batch) = (after.note ≡ record k.note { batch = unplaced batch.records }) × (0 < length batch.records) × Ascend batch.records
-Turns k after o Waits = after.note ≡ k.note
+abbrev pub Turns : SessionKnown → SessionKnown → Pending → BatchView → Turn → Type 0
+Turns k after o batch (Collects reply) = (after.note ≡ answered_with k.note o.op reply) × Tells store_meaning after.progress k.session (length k.note.answered) o reply
+Turns k after o batch Combines = (after.note ≡ record k.note { batch = unplaced batch.records }) × (0 < length batch.records) × Ascend batch.records
+Turns k after o batch Waits = after.note ≡ k.note
 
-pub record HasTurned (k after : SessionKnown) (o : Pending) (turn : Turn) : Type 0 where
+pub record HasTurned (k after : SessionKnown) (o : Pending) (batch : BatchView) (turn : Turn) : Type 0 where
   pub back : IsBack k after
-  pub turns : Turns k after o turn
+  pub turns : Turns k after o batch turn
 
 -- the session has its answer
 pub record HasCompleted (k after : SessionKnown) (o : Pending) (reply : Reply) : Type 0 where

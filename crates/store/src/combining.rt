@@ -25,10 +25,10 @@ pub(crate) fn combine<R: Wait>(
     shared: Shared<'_>,
     seat: &mut Seat<Value>,
     caller: Caller,
-    mut batch: Batch,
+    batch: &mut Batch,
 )
     requires own { seat.old.shelf ≡ shared.shelf.now.id }
-    requires claimed { (k : SessionKnown) × IsSession seat.old k × IsFree caller k × HasClaimed k batch
+    requires claimed { (k : SessionKnown) × IsSession seat.old k × IsFree caller k × HasClaimed k batch.old
         × IsOnShelf shared.shelf.now.places shared.nodes shared.catalogue.now k }
     ensures same { seat.new.shelf ≡ seat.old.shelf }
     ensures combined { (k : SessionKnown) → IsSession seat.old k → (after : SessionKnown) × IsSession seat.new after × HasCombined k after }
@@ -43,7 +43,7 @@ pub(crate) fn combine<R: Wait>(
     let mut replies = Replies::new(appended.first, appended.count);
     catch_up(shelf, seat, &mut node.value, catalogue, &mut replies);
     shelf.put::<Brand>(seat, node);
-    answer_batch(&mut batch, appended, &replies);
+    answer_batch(batch, appended, &replies);
     hand_over(rt, shared, seat, caller, batch);
 }
 
@@ -85,10 +85,10 @@ fn hand_over<R: Wait>(
     shared: Shared<'_>,
     seat: &mut Seat<Value>,
     caller: Caller,
-    batch: Batch,
+    batch: &Batch,
 )
     requires own { seat.old.shelf ≡ shared.shelf.now.id }
-    requires ready { (k : SessionKnown) × IsSession seat.old k × IsFree caller k × IsReady k batch
+    requires ready { (k : SessionKnown) × IsSession seat.old k × IsFree caller k × IsReady k batch.now
         × IsOnShelf shared.shelf.now.places shared.nodes shared.catalogue.now k × Stands k }
     ensures same { seat.new.shelf ≡ seat.old.shelf }
     ensures combined { (k : SessionKnown) → IsSession seat.old k → (after : SessionKnown) × IsSession seat.new after × HasCombined k after }

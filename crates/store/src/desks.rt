@@ -18,8 +18,8 @@ use oplog::Op;
 pub enum Turn {
     /// It collected the answer.
     Collects(Reply),
-    /// It combines the requests of its node.
-    Combines(Batch),
+    /// It combines the requests of its node, which are in the batch that was lent.
+    Combines,
     /// It waits for another that does.
     Waits,
 }
@@ -37,33 +37,34 @@ pub fn post(desk: &mut Desk, slot: usize, op: Op)
     }
 }
 
-/// Collects the answer that waits in the session's slot. Where there is none, claims the posted requests, if nobody combines.
-pub fn look(desk: &mut Desk, slot: usize) -> Turn
+/// Collects the answer that waits in the session's slot. Where there is none, claims the posted requests, if nobody combines:
+/// the batch has these then.
+pub fn look(desk: &mut Desk, slot: usize, batch: &mut Batch) -> Turn
     requires own { (k : SessionKnown) × (o : Pending) × IsAt slot k desk.old × HasAsked k o }
-    ensures turn { IsTurn slot desk.old desk.new result }
-    ensures step { (k : SessionKnown) (o : Pending) → IsAt slot k desk.old → HasAsked k o → TurnSteps k o desk.old desk.new result }
+    ensures turn { IsTurn slot desk.old desk.new batch.new result }
+    ensures step { (k : SessionKnown) (o : Pending) → IsAt slot k desk.old → HasAsked k o → TurnSteps k o desk.old desk.new batch.new result }
 {
     match desk.collect(slot) {
         Some(reply) => Turn::Collects(reply),
-        None => claim(desk),
+        None => claim(desk, batch),
     }
 }
 
 /// Hands the answers of the batch that the session combines to the slots of its requests.
-pub fn reply(desk: &mut Desk, batch: Batch)
-    requires own { (k : SessionKnown) × (slot : ℕ) × IsAt slot k desk.old × IsReady k batch }
-    ensures replied { desk.new ≡ replied batch desk.old }
-    ensures step { (k : SessionKnown) → IsReady k batch → Steps k desk.old (record k.note { batch = [] }) desk.new }
+pub fn reply(desk: &mut Desk, batch: &Batch)
+    requires own { (k : SessionKnown) × (slot : ℕ) × IsAt slot k desk.old × IsReady k batch.now }
+    ensures replied { desk.new ≡ replied batch.now desk.old }
+    ensures step { (k : SessionKnown) → IsReady k batch.now → Steps k desk.old (record k.note { batch = [] }) desk.new }
 {
     desk.reply(batch);
 }
 
 // Claims the posted requests, if nobody combines.
-fn claim(desk: &mut Desk) -> Turn
-    ensures claims { IsClaim desk.old desk.new result }
+fn claim(desk: &mut Desk, batch: &mut Batch) -> Turn
+    ensures claims { IsClaim desk.old desk.new batch.new result }
 {
-    match desk.claim() {
-        Ok(batch) => Turn::Combines(batch),
+    match desk.claim(batch) {
+        Ok(()) => Turn::Combines,
         Err(_) => Turn::Waits,
     }
 }

@@ -144,9 +144,9 @@ pub(crate) fn answer_in(
 }
 
 // Hands the answers of the batch to the slots of its requests.
-pub(crate) fn reply_in(desk: &mut Value, batch: Batch)
-    requires own { (k : SessionKnown) × (slot : ℕ) × IsAtIn slot k desk.old × IsReady k batch }
-    ensures replied { HasReplied batch desk.old desk.new }
+pub(crate) fn reply_in(desk: &mut Value, batch: &Batch)
+    requires own { (k : SessionKnown) × (slot : ℕ) × IsAtIn slot k desk.old × IsReady k batch.now }
+    ensures replied { HasReplied batch.now desk.old desk.new }
 {
     match desk {
         Value::Desk(desk) => desks::reply(desk, batch),

@@ -20,7 +20,7 @@ use crate::desks::Turn;
 use crate::session::refusal;
 use crate::steps::{Caller, Question, Shared};
 use crate::values::Value;
-use combiner::Reply;
+use combiner::{Batch, Reply};
 use crossbeam_utils::Backoff;
 use oplog::Op;
 use ownlock::Seat;
@@ -39,13 +39,13 @@ fn post_in(desk: &mut Value, slot: usize, op: Op)
     }
 }
 
-// The turn of the session of that slot at the desk.
-fn look_in(desk: &mut Value, slot: usize) -> Turn
+// The turn of the session of that slot at the desk, with a batch for what it claims.
+fn look_in(desk: &mut Value, slot: usize, batch: &mut Batch) -> Turn
     requires own { (k : SessionKnown) × (o : Pending) × IsAtIn slot k desk.old × HasAsked k o }
-    ensures looked { HasLooked slot desk.old desk.new result }
+    ensures looked { HasLooked slot desk.old desk.new batch.new result }
 {
     match desk {
-        Value::Desk(desk) => desks::look(desk, slot),
+        Value::Desk(desk) => desks::look(desk, slot, batch),
         Value::Log(_) | Value::Replica(_) => unreachable!(),
     }
 }
@@ -101,29 +101,36 @@ pub(crate) fn post_only<R: Wait>(
     Ok(())
 }
 
-// One turn at the desk of the caller's node: collects the answer that waits there; else claims the posted requests, where nobody
-// combines; else nothing.
-fn turn<R: Wait>(rt: &R, shared: Shared<'_>, seat: &mut Seat<Value>, caller: Caller) -> Turn
+// One turn at the desk of the caller's node: collects the answer that waits there; else claims the posted requests into the batch,
+// where nobody combines; else nothing.
+fn turn<R: Wait>(
+    rt: &R,
+    shared: Shared<'_>,
+    seat: &mut Seat<Value>,
+    caller: Caller,
+    batch: &mut Batch,
+) -> Turn
     requires own { seat.old.shelf ≡ shared.shelf.now.id }
     requires asked { (k : SessionKnown) × (o : Pending) × IsSession seat.old k × IsFree caller k × HasAsked k o
         × IsOnShelf shared.shelf.now.places shared.nodes shared.catalogue.now k }
     ensures same { seat.new.shelf ≡ seat.old.shelf }
     ensures turned { (k : SessionKnown) (o : Pending) → IsSession seat.old k → HasAsked k o → (after : SessionKnown) × IsSession seat.new after
-        × HasTurned k after o result }
+        × HasTurned k after o batch.new result }
 {
     let mut desk = shared.shelf.take(rt, seat, 1 + shared.nodes + caller.node);
-    let turn = look_in(&mut desk.value, caller.slot);
+    let turn = look_in(&mut desk.value, caller.slot, batch);
     shared.shelf.put::<Brand>(seat, desk);
     turn
 }
 
 // Waits for the answer to the request that the caller has posted, and collects it. Where nobody combines the requests of its
-// node, the caller does.
+// node, the caller does, and has them in the batch meanwhile.
 pub(crate) fn complete<R: Wait>(
     rt: &R,
     shared: Shared<'_>,
     seat: &mut Seat<Value>,
     caller: Caller,
+    batch: &mut Batch,
 ) -> Reply
     requires own { seat.old.shelf ≡ shared.shelf.now.id }
     requires asked { (k : SessionKnown) × (o : Pending) × IsSession seat.old k × IsFree caller k × HasAsked k o
@@ -134,9 +141,9 @@ pub(crate) fn complete<R: Wait>(
 {
     let backoff = Backoff::new();
     for _ in rt.forever() {
-        match turn(rt, shared, seat, caller) {
+        match turn(rt, shared, seat, caller, batch) {
             Turn::Collects(reply) => return reply,
-            Turn::Combines(batch) => combine(rt, shared, seat, caller, batch),
+            Turn::Combines => combine(rt, shared, seat, caller, batch),
             Turn::Waits => backoff.snooze(),
         }
     }

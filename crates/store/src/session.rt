@@ -15,7 +15,7 @@ use crate::requests::{complete, post_only};
 use crate::steps::{Caller, Question, query};
 use crate::store::Store;
 use crate::values::Value;
-use combiner::Reply;
+use combiner::{Batch, Reply};
 use loader::Catalogue;
 use ownlock::Seat;
 use readpath::ReadAnswer;
@@ -28,6 +28,8 @@ use verifier::Mode;
 pub struct Session {
     seat: Seat<Value>,
     caller: Caller,
+    // Room for the requests that it combines.
+    batch: Batch,
 }
 
 impl Model for Session {
@@ -78,7 +80,11 @@ impl Session {
         requires idle { IsIdle seat caller }
         ensures session { result ≡ session_view seat }
     {
-        Session { seat, caller }
+        Session {
+            seat,
+            caller,
+            batch: Batch::new(),
+        }
     }
 
     // Its seat, and its slot.
@@ -87,7 +93,11 @@ impl Session {
         ensures known { result.0.sessions ≡ known_of self ∷ [] }
         ensures idle { IsIdle result.0 result.1 }
     {
-        let Session { seat, caller } = self;
+        let Session {
+            seat,
+            caller,
+            batch: _batch,
+        } = self;
         (seat, caller)
     }
 
@@ -117,7 +127,8 @@ impl Session {
         let shared = store.shared();
         let asked = Question { program, argument };
         post_only(rt, shared, &mut self.seat, self.caller, asked)?;
-        answer_of(complete(rt, shared, &mut self.seat, self.caller))
+        let reply = complete(rt, shared, &mut self.seat, self.caller, &mut self.batch);
+        answer_of(reply)
     }
 
     /// Runs a read program of the store on the maps of the session's node, once these have seen everything that was completed

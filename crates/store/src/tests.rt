@@ -14,7 +14,7 @@ use crate::session::{Session, refusal};
 use crate::steps::{Caller, Question, Shared, query};
 use crate::store::Store;
 use crate::values::Value;
-use combiner::Reply;
+use combiner::{Batch, Reply};
 use crossbeam_utils::Backoff;
 use loader::{Catalogue, load_manifest};
 use oplog::Config;
@@ -128,7 +128,11 @@ fn answered_by_other<R: Wait>(
     let _ = post_only(rt, store.shared(), &mut seat, caller, asked);
     let answer = other.invoke(rt, store, 0, &ZERO);
     let _ = other.into_parts();
-    (answer, complete(rt, store.shared(), &mut seat, caller))
+    let mut batch = Batch::new();
+    (
+        answer,
+        complete(rt, store.shared(), &mut seat, caller, &mut batch),
+    )
 }
 
 // Raises and reads the completed tail, and reads on the replica, which is ready.

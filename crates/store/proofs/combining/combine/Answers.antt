@@ -54,7 +54,7 @@ pub hand_over-requires-clause-ready : goal.hand_over-requires-clause-ready
 hand_over-requires-clause-ready g c =
     let i = c.requires.claimed in
     let w = c.take-node.result.value in
-    let rs = c.args.batch.records in
+    let rs = c.args.batch.now.records in
     let t = c.take-node.ensures.taken i.0 i.1 in
     let b = took_replica i.0 t.0 c.args.caller w i.2 t.1 in
     let a = c.append_and_copy-appended.ensures.appended t.0 t.2 in
@@ -85,10 +85,10 @@ pub returns-clause-combined : goal.returns-clause-combined
 returns-clause-combined g c k is =
     let i = c.requires.claimed in
     let w = c.take-node.result.value in
-    let rs = c.args.batch.records in
+    let rs = c.args.batch.now.records in
     let e = one_known c.args.seat.now i.0 k i.1 is in
     let free = subst (λ z. IsFree c.args.caller z) e i.2 in
-    let claimed = subst (λ z. HasClaimed z c.args.batch) e i.3 in
+    let claimed = subst (λ z. HasClaimed z c.args.batch.now) e i.3 in
     let t = c.take-node.ensures.taken k is in
     let b = took_replica k t.0 c.args.caller w free t.1 in
     let a = c.append_and_copy-appended.ensures.appended t.0 t.2 in

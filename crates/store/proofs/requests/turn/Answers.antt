@@ -32,7 +32,7 @@ put-requires-clause-may g c =
     let all = c.take-desk.new.seat.sessions in (
       t.0,
       t.2,
-      subst (λ z. DeskMayBePut (deed_in all w) all t.0 z w) (sym c.take-desk.ensures.same.1) (put_turn c.args.caller i.0 t.0 place v w i.1 b all t.2 i.4 c.look_in-turn.result c.look_in-turn.ensures.looked).may,
+      subst (λ z. DeskMayBePut (deed_in all w) all t.0 z w) (sym c.take-desk.ensures.same.1) (put_turn c.args.caller i.0 t.0 place v w i.1 b all t.2 i.4 c.look_in-turn.new.batch c.look_in-turn.result c.look_in-turn.ensures.looked).may,
     )
 
 pub returns-clause-turned : goal.returns-clause-turned
@@ -48,5 +48,5 @@ returns-clause-turned g c k o is asked =
     let b = took_desk k t.0 c.args.caller place v free (ap (λ n. 1 + n + c.args.caller.node) (sym on.nodes_are)) t.1 in
     let all = c.take-desk.new.seat.sessions in
     let p = c.put.ensures.put t.0 t.2 in
-    let back = (put_turn c.args.caller k t.0 place v w o b all t.2 asked c.look_in-turn.result c.look_in-turn.ensures.looked).back p.0 p.1.0 p.1.1 in
-    (_, p.2, subst (λ z. HasTurned k (desk_back (deed_in all w) all t.0 z w p.0) o c.look_in-turn.result) (sym c.take-desk.ensures.same.1) back)
+    let back = (put_turn c.args.caller k t.0 place v w o b all t.2 asked c.look_in-turn.new.batch c.look_in-turn.result c.look_in-turn.ensures.looked).back p.0 p.1.0 p.1.1 in
+    (_, p.2, subst (λ z. HasTurned k (desk_back (deed_in all w) all t.0 z w p.0) o c.look_in-turn.new.batch c.look_in-turn.result) (sym c.take-desk.ensures.same.1) back)

@@ -6,7 +6,7 @@ use Rattle.combiner.proofs.desks.Desk.reply.Goals as goal
 pub answer_slot-next-requires-clause-slot : goal.answer_slot-next-requires-clause-slot
 answer_slot-next-requires-clause-slot c =
     let same : length c.loop-slot.self.slots ≡ length c.args.self.now.slots =
-    ap (λ d. length d.slots) c.loop-slot.invariant.desk ∙ answered_length c.loop-slot.slot c.args.batch.answers c.args.self.now.slots in
+    ap (λ d. length d.slots) c.loop-slot.invariant.desk ∙ answered_length c.loop-slot.slot c.args.batch.now.answers c.args.self.now.slots in
     let count = c.slot_count-slot-end.ensures.count in
     let more = c.loop-slot-test.true in
     omega arith
@@ -25,7 +25,7 @@ answer_slot-next-requires-clause-answer c =
     let count = c.slot_count-slot-end.ensures.count in
     let more = c.loop-slot-test.true in
     let lt : c.loop-slot.slot < length c.args.self.now.slots = omega arith in
-    answer_there c.args.self.now c.loop-slot.self c.args.batch c.loop-slot.slot c.loop-slot.next lt c.loop-slot.invariant.desk c.loop-slot.invariant.next c.requires.own c.requires.answered
+    answer_there c.args.self.now c.loop-slot.self c.args.batch.now c.loop-slot.slot c.loop-slot.next lt c.loop-slot.invariant.desk c.loop-slot.invariant.next c.requires.own c.requires.answered
 
 pub loop-slot-preserved : goal.loop-slot-preserved
 loop-slot-preserved c =
@@ -33,8 +33,8 @@ loop-slot-preserved c =
     let more = c.loop-slot-test.true in
     let lt : c.loop-slot.slot < length c.args.self.now.slots = omega arith in
     record {
-      desk = desk_turn c.args.self.now c.loop-slot.self c.answer_slot-next.new.self c.args.batch.answers c.loop-slot.slot c.loop-slot.next lt c.loop-slot.invariant.desk c.loop-slot.invariant.next c.answer_slot-next.ensures.desk;
-      next = next_turn c.args.self.now c.loop-slot.self c.args.batch.answers c.loop-slot.slot c.loop-slot.next c.answer_slot-next.result lt c.loop-slot.invariant.desk c.loop-slot.invariant.next c.answer_slot-next.ensures.next;
+      desk = desk_turn c.args.self.now c.loop-slot.self c.answer_slot-next.new.self c.args.batch.now.answers c.loop-slot.slot c.loop-slot.next lt c.loop-slot.invariant.desk c.loop-slot.invariant.next c.answer_slot-next.ensures.desk;
+      next = next_turn c.args.self.now c.loop-slot.self c.args.batch.now.answers c.loop-slot.slot c.loop-slot.next c.answer_slot-next.result lt c.loop-slot.invariant.desk c.loop-slot.invariant.next c.answer_slot-next.ensures.next;
     }
 
 pub returns : goal.returns
@@ -43,4 +43,4 @@ returns c =
     let past = c.loop-slot-test.false in
     let upto = c.loop-slot.auto.slot-end in
     let all : c.loop-slot.slot ≡ length c.args.self.now.slots = omega arith in
-    record { replied = replied_whole c.args.self.now c.loop-slot.self c.args.batch c.loop-slot.slot all c.loop-slot.invariant.desk c.requires.own c.requires.answered }
+    record { replied = replied_whole c.args.self.now c.loop-slot.self c.args.batch.now c.loop-slot.slot all c.loop-slot.invariant.desk c.requires.own c.requires.answered }

@@ -15,9 +15,9 @@ invariant_of-self-2 g c =
     let was = sym c.self.view_is ∙ seen_as c.self.inside.seat k c.self.invariant.is in
     let config = ap (λ (z : SessionView). z.progress.config) (sym was) ∙ c.requires.own.config in
     let asked = has_asked k p.0 op c.args.store.now.config p.2 config c.shared-shared.ensures.config c.self.invariant.batch c.self.invariant.within c.self.invariant.well_formed in
-    let f = c.complete.ensures.completed p.0 p.2.request p.1 asked in
-    let v = invoked k p.0 f.0 op c.complete.result p.2 f.2 in
-    is_idle k f.0 op c.complete.result v c.self.inside.seat c.complete.new.seat c.self.inside.caller c.self.invariant refl f.1
+    let f = c.complete-reply.ensures.completed p.0 p.2.request p.1 asked in
+    let v = invoked k p.0 f.0 op c.complete-reply.result p.2 f.2 in
+    is_idle k f.0 op c.complete-reply.result v c.self.inside.seat c.complete-reply.new.seat c.self.inside.caller c.self.invariant refl f.1
 
 pub returns-clause-own : goal.returns-clause-own
 returns-clause-own g c =
@@ -28,10 +28,10 @@ returns-clause-own g c =
     let was = sym c.self.view_is ∙ seen_as c.self.inside.seat k c.self.invariant.is in
     let config = ap (λ (z : SessionView). z.progress.config) (sym was) ∙ c.requires.own.config in
     let asked = has_asked k p.0 op c.args.store.now.config p.2 config c.shared-shared.ensures.config c.self.invariant.batch c.self.invariant.within c.self.invariant.well_formed in
-    let f = c.complete.ensures.completed p.0 p.2.request p.1 asked in
-    let v = invoked k p.0 f.0 op c.complete.result p.2 f.2 in
-    let shelf = c.complete.ensures.same ∙ (c.post_only.ensures.same ∙ (ap (λ (z : SessionView). z.shelf) c.self.view_is ∙ c.requires.own.shelf)) in
-    still_of c.args.store.now c.args.self.now (session_view c.complete.new.seat) c.self.inside.seat.shelf c.complete.new.seat.shelf k f.0 op c.complete.result v was (seen_as c.complete.new.seat f.0 f.1) c.requires.own shelf
+    let f = c.complete-reply.ensures.completed p.0 p.2.request p.1 asked in
+    let v = invoked k p.0 f.0 op c.complete-reply.result p.2 f.2 in
+    let shelf = c.complete-reply.ensures.same ∙ (c.post_only.ensures.same ∙ (ap (λ (z : SessionView). z.shelf) c.self.view_is ∙ c.requires.own.shelf)) in
+    still_of c.args.store.now c.args.self.now (session_view c.complete-reply.new.seat) c.self.inside.seat.shelf c.complete-reply.new.seat.shelf k f.0 op c.complete-reply.result v was (seen_as c.complete-reply.new.seat f.0 f.1) c.requires.own shelf
 
 pub returns-clause-same : goal.returns-clause-same
 returns-clause-same g c =
@@ -42,9 +42,9 @@ returns-clause-same g c =
     let was = sym c.self.view_is ∙ seen_as c.self.inside.seat k c.self.invariant.is in
     let config = ap (λ (z : SessionView). z.progress.config) (sym was) ∙ c.requires.own.config in
     let asked = has_asked k p.0 op c.args.store.now.config p.2 config c.shared-shared.ensures.config c.self.invariant.batch c.self.invariant.within c.self.invariant.well_formed in
-    let f = c.complete.ensures.completed p.0 p.2.request p.1 asked in
-    let v = invoked k p.0 f.0 op c.complete.result p.2 f.2 in
-    (c.complete.ensures.same ∙ (c.post_only.ensures.same ∙ ap (λ (z : SessionView). z.shelf) c.self.view_is), same_session c.args.store.now c.args.self.now (session_view c.complete.new.seat) c.self.inside.seat.shelf c.complete.new.seat.shelf k f.0 op c.complete.result v was (seen_as c.complete.new.seat f.0 f.1))
+    let f = c.complete-reply.ensures.completed p.0 p.2.request p.1 asked in
+    let v = invoked k p.0 f.0 op c.complete-reply.result p.2 f.2 in
+    (c.complete-reply.ensures.same ∙ (c.post_only.ensures.same ∙ ap (λ (z : SessionView). z.shelf) c.self.view_is), same_session c.args.store.now c.args.self.now (session_view c.complete-reply.new.seat) c.self.inside.seat.shelf c.complete-reply.new.seat.shelf k f.0 op c.complete-reply.result v was (seen_as c.complete-reply.new.seat f.0 f.1))
 
 pub returns-clause-grown : goal.returns-clause-grown
 returns-clause-grown g c =
@@ -55,9 +55,9 @@ returns-clause-grown g c =
     let was = sym c.self.view_is ∙ seen_as c.self.inside.seat k c.self.invariant.is in
     let config = ap (λ (z : SessionView). z.progress.config) (sym was) ∙ c.requires.own.config in
     let asked = has_asked k p.0 op c.args.store.now.config p.2 config c.shared-shared.ensures.config c.self.invariant.batch c.self.invariant.within c.self.invariant.well_formed in
-    let f = c.complete.ensures.completed p.0 p.2.request p.1 asked in
-    let v = invoked k p.0 f.0 op c.complete.result p.2 f.2 in
-    has_grown c.args.store.now c.args.self.now (session_view c.complete.new.seat) c.self.inside.seat.shelf c.complete.new.seat.shelf k f.0 op c.complete.result v was (seen_as c.complete.new.seat f.0 f.1)
+    let f = c.complete-reply.ensures.completed p.0 p.2.request p.1 asked in
+    let v = invoked k p.0 f.0 op c.complete-reply.result p.2 f.2 in
+    has_grown c.args.store.now c.args.self.now (session_view c.complete-reply.new.seat) c.self.inside.seat.shelf c.complete-reply.new.seat.shelf k f.0 op c.complete-reply.result v was (seen_as c.complete-reply.new.seat f.0 f.1)
 
 pub returns-clause-well_formed : goal.returns-clause-well_formed
 returns-clause-well_formed g c =
@@ -68,9 +68,9 @@ returns-clause-well_formed g c =
     let was = sym c.self.view_is ∙ seen_as c.self.inside.seat k c.self.invariant.is in
     let config = ap (λ (z : SessionView). z.progress.config) (sym was) ∙ c.requires.own.config in
     let asked = has_asked k p.0 op c.args.store.now.config p.2 config c.shared-shared.ensures.config c.self.invariant.batch c.self.invariant.within c.self.invariant.well_formed in
-    let f = c.complete.ensures.completed p.0 p.2.request p.1 asked in
-    let v = invoked k p.0 f.0 op c.complete.result p.2 f.2 in
-    stays_well c.args.store.now c.args.self.now (session_view c.complete.new.seat) c.self.inside.seat.shelf c.complete.new.seat.shelf k f.0 op c.complete.result v was (seen_as c.complete.new.seat f.0 f.1)
+    let f = c.complete-reply.ensures.completed p.0 p.2.request p.1 asked in
+    let v = invoked k p.0 f.0 op c.complete-reply.result p.2 f.2 in
+    stays_well c.args.store.now c.args.self.now (session_view c.complete-reply.new.seat) c.self.inside.seat.shelf c.complete-reply.new.seat.shelf k f.0 op c.complete-reply.result v was (seen_as c.complete-reply.new.seat f.0 f.1)
 
 pub returns-clause-answered : goal.returns-clause-answered
 returns-clause-answered g c early =
@@ -81,6 +81,6 @@ returns-clause-answered g c early =
     let was = sym c.self.view_is ∙ seen_as c.self.inside.seat k c.self.invariant.is in
     let config = ap (λ (z : SessionView). z.progress.config) (sym was) ∙ c.requires.own.config in
     let asked = has_asked k p.0 op c.args.store.now.config p.2 config c.shared-shared.ensures.config c.self.invariant.batch c.self.invariant.within c.self.invariant.well_formed in
-    let f = c.complete.ensures.completed p.0 p.2.request p.1 asked in
-    let v = invoked k p.0 f.0 op c.complete.result p.2 f.2 in
-    subst (λ r. TellsUpdate c.args.self.now (session_view c.complete.new.seat) op r) (sym c.answer_of.ensures.said) (tells_update c.args.store.now c.args.self.now (session_view c.complete.new.seat) c.self.inside.seat.shelf c.complete.new.seat.shelf k f.0 op c.complete.result v was (seen_as c.complete.new.seat f.0 f.1) c.self.invariant.pending c.self.invariant.batch)
+    let f = c.complete-reply.ensures.completed p.0 p.2.request p.1 asked in
+    let v = invoked k p.0 f.0 op c.complete-reply.result p.2 f.2 in
+    subst (λ r. TellsUpdate c.args.self.now (session_view c.complete-reply.new.seat) op r) (sym c.answer_of.ensures.said) (tells_update c.args.store.now c.args.self.now (session_view c.complete-reply.new.seat) c.self.inside.seat.shelf c.complete-reply.new.seat.shelf k f.0 op c.complete-reply.result v was (seen_as c.complete-reply.new.seat f.0 f.1) c.self.invariant.pending c.self.invariant.batch)
