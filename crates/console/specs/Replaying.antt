@@ -1,11 +1,17 @@
 -- What is kept while a transcript is replayed. Clauses of private functions alone cite this.
 use Rattle.std.specs.Prelude.{◌≡◌, Bool, true, false}
 use Rattle.loader.specs.CatalogueView.{CatalogueView}
+use Rattle.oplog.specs.Logs.{tail_of}
 use Rattle.console.specs.declared.replaying.Replaying.{Replaying}
 use Rattle.console.specs.declared.replaying.LineVerdict.{LineVerdict}
 use Rattle.console.specs.declared.replaying.LineVerdict.TheVariants as lines
+use Rattle.console.specs.declared.replaying.ReplayEnd.{ReplayEnd}
+use Rattle.console.specs.declared.replaying.ReplayEnd.TheVariants as ends
+use Rattle.console.specs.declared.status.Verdict.TheVariants as verdicts
 use Rattle.console.specs.Running.{Follows}
-use Rattle.console.specs.ReplayAnswer.{Replayed, LineOutcome, Bad, Differs, Agrees}
+use Rattle.console.specs.Answer.{Answer}
+use Rattle.console.specs.RunAnswer.{bad_line}
+use Rattle.console.specs.ReplayAnswer.{Replayed, LineOutcome, Bad, Differs, Agrees, good_text, differing_line}
 
 -- so much was replayed
 pub record HasReplayed (c : CatalogueView) (at : Replayed) (r : Replaying) : Type 0 where
@@ -28,3 +34,9 @@ LineReplayed c outcome answer r = ⊥
 abbrev pub compared_verdict : Bool → LineVerdict
 compared_verdict true = lines.Agrees
 compared_verdict false = lines.Differs
+
+-- what is answered to a transcript whose replay ended so
+abbrev pub ended_answer : ReplayEnd → Replaying → Answer
+ended_answer ends.Agrees r = record { text = good_text (tail_of r.node.log) r.reads r.ended; verdict = verdicts.Good }
+ended_answer (ends.Bad n) r = bad_line n
+ended_answer (ends.Differs n) r = differing_line n

@@ -5,7 +5,7 @@ ghost use Rattle.console.specs.RunAnswer.{bad_line_text};
 ghost use Rattle.console.specs.ReplayAnswer.{good_text, differs_text};
 
 use crate::run_texts::put_bad_line;
-use crate::texts::put_number;
+use crate::texts::put_numbered;
 use std::alloc::{AllocError, Global};
 
 // The numbers of updates, of reads, and of updates after the history's end.
@@ -18,12 +18,9 @@ pub(crate) fn good_text(
     ensures { IfOk result (λ v. v.items ≡ good_text updates reads ended) }
 {
     let mut out = Vec::new(alloc);
-    out.extend_from_slice(b"good ")?;
-    put_number(&mut out, updates)?;
-    out.extend_from_slice(b" ")?;
-    put_number(&mut out, reads)?;
-    out.extend_from_slice(b" ")?;
-    put_number(&mut out, ended)?;
+    put_numbered(&mut out, b"good ", updates)?;
+    put_numbered(&mut out, b" ", reads)?;
+    put_numbered(&mut out, b" ", ended)?;
     out.extend_from_slice(b"\n")?;
     Ok(out)
 }
@@ -33,8 +30,7 @@ pub(crate) fn differs_text(alloc: Global, number: u32) -> Result<Vec<u8>, AllocE
     ensures { IfOk result (λ v. v.items ≡ differs_text number) }
 {
     let mut out = Vec::new(alloc);
-    out.extend_from_slice(b"line ")?;
-    put_number(&mut out, number as u64)?;
+    put_numbered(&mut out, b"line ", number as u64)?;
     out.extend_from_slice(b" differs\n")?;
     Ok(out)
 }

@@ -5,6 +5,7 @@ ghost use Rattle.loader.specs.Loading.{Outcome};
 ghost use Rattle.text.specs.Lines.{lines_of};
 ghost use Rattle.console.specs.Answer.{not_text};
 ghost use Rattle.console.specs.ReplayAnswer.{transcript_answer, nothing_replayed, replayed, replay_answer, IsReplayAnswer};
+ghost use Rattle.console.specs.Replaying.{ended_answer};
 ghost use Rattle.console.specs.Report.{answer_of, Reports, ReportsSome};
 ghost use Rattle.console.specs.Input.{FailsAs};
 ghost use Rattle.console.specs.Loaded.{LoadedIs};
@@ -14,13 +15,37 @@ use crate::folder::Folder;
 use crate::input::InputFault;
 use crate::inputs::read_inputs;
 use crate::replay_texts::{bad_line, differs_text, good_text};
-use crate::replaying::{LineVerdict, Replaying};
+use crate::replaying::{ReplayEnd, Replaying};
 use crate::reporting::{Reply, report};
 use crate::status::{Status, Verdict};
 use loader::Catalogue;
 use std::alloc::{AllocError, Global};
 use std::io::{Read, Write};
-use text::NumberedLines;
+
+// What is answered to a transcript whose replay ended so.
+fn end_reply(alloc: Global, end: ReplayEnd, replaying: &Replaying) -> Result<Reply, AllocError>
+    ensures { IfOk result (λ r. answer_of r ≡ ended_answer end replaying.now) }
+{
+    match end {
+        ReplayEnd::Agrees => Ok(Reply {
+            text: good_text(
+                alloc,
+                replaying.node.tail(),
+                replaying.reads,
+                replaying.ended,
+            )?,
+            verdict: Verdict::Good,
+        }),
+        ReplayEnd::Bad(number) => Ok(Reply {
+            text: bad_line(alloc, number)?,
+            verdict: Verdict::Refused,
+        }),
+        ReplayEnd::Differs(number) => Ok(Reply {
+            text: differs_text(alloc, number)?,
+            verdict: Verdict::Differs,
+        }),
+    }
+}
 
 // What a catalogue's programs answer to a transcript.
 fn transcript_reply(
@@ -31,33 +56,8 @@ fn transcript_reply(
     ensures { IfOk result (λ r. answer_of r ≡ transcript_answer catalogue.now 1 nothing_replayed (lines_of transcript.now)) }
 {
     let mut replaying = Replaying::open(alloc, catalogue)?;
-    let mut lines = NumberedLines::new(transcript);
-    while let Some((number, line)) = lines.take_line() {
-        match replaying.take_line(catalogue, line) {
-            LineVerdict::Agrees => {}
-            LineVerdict::Bad => {
-                return Ok(Reply {
-                    text: bad_line(alloc, number)?,
-                    verdict: Verdict::Refused,
-                });
-            }
-            LineVerdict::Differs => {
-                return Ok(Reply {
-                    text: differs_text(alloc, number)?,
-                    verdict: Verdict::Differs,
-                });
-            }
-        }
-    }
-    Ok(Reply {
-        text: good_text(
-            alloc,
-            replaying.node.tail(),
-            replaying.reads,
-            replaying.ended,
-        )?,
-        verdict: Verdict::Good,
-    })
+    let end = replaying.take_lines(catalogue, transcript);
+    end_reply(alloc, end, &replaying)
 }
 
 // What a manifest that was loaded and a transcript get.
