@@ -8,13 +8,14 @@ ghost use Rattle.text.specs.Lines.{lines_of};
 ghost use Rattle.console.specs.ReplayAnswer.{Replayed, operation_of, update_agrees, read_agrees, with_update, answered_outcome, ended_outcome, line_outcome, transcript_answer};
 ghost use Rattle.console.specs.ReplayAnswer.{nothing_replayed, next_count};
 ghost use Rattle.oplog.specs.Operations.{Operation as TheOperation};
-ghost use Rattle.console.specs.Replaying.{HasReplayed, IsCompared, LineReplayed, compared_verdict, ended_answer};
+ghost use Rattle.console.specs.Replaying.{HasReplayed, IsCompared, LineReplayed, compared_verdict, ended_answer, ended_verdict};
 ghost use Rattle.console.specs.Running.{IsSteady, IsCallOf};
 ghost use Rattle.console.specs.ScriptShown.{call_of, answered_of};
 
 use crate::calls::Numbered;
 use crate::node::SingleNode;
 use crate::script::ProgramCall;
+use crate::status::Verdict;
 use crate::transcripts::{AnsweredCall, TranscriptLine, read_transcript_line};
 use loader::Catalogue;
 use std::alloc::{AllocError, Global};
@@ -43,6 +44,19 @@ pub(crate) enum ReplayEnd {
     Agrees,
     Bad(u32),
     Differs(u32),
+}
+
+impl ReplayEnd {
+    // What the transcript is then.
+    pub(crate) fn verdict(self) -> Verdict
+        ensures { result ≡ ended_verdict self }
+    {
+        match self {
+            ReplayEnd::Agrees => Verdict::Good,
+            ReplayEnd::Bad(_) => Verdict::Refused,
+            ReplayEnd::Differs(_) => Verdict::Differs,
+        }
+    }
 }
 
 // The program that a call names, where it has this mode and the argument has its length.

@@ -5,7 +5,6 @@ ghost use Rattle.loader.specs.Loading.{Outcome};
 ghost use Rattle.text.specs.Lines.{lines_of};
 ghost use Rattle.console.specs.Answer.{not_text};
 ghost use Rattle.console.specs.ReplayAnswer.{transcript_answer, nothing_replayed, replayed, replay_answer, IsReplayAnswer};
-ghost use Rattle.console.specs.Replaying.{ended_answer};
 ghost use Rattle.console.specs.Report.{answer_of, Reports, ReportsSome};
 ghost use Rattle.console.specs.Input.{FailsAs};
 ghost use Rattle.console.specs.Loaded.{LoadedIs};
@@ -14,38 +13,13 @@ use crate::catalogues::Loaded;
 use crate::folder::Folder;
 use crate::input::InputFault;
 use crate::inputs::read_inputs;
-use crate::replay_texts::{bad_line, differs_text, good_text};
-use crate::replaying::{ReplayEnd, Replaying};
+use crate::replay_texts::put_end;
+use crate::replaying::Replaying;
 use crate::reporting::{Reply, report};
-use crate::status::{Status, Verdict};
+use crate::status::Status;
 use loader::Catalogue;
 use std::alloc::{AllocError, Global};
 use std::io::{Read, Write};
-
-// What is answered to a transcript whose replay ended so.
-fn end_reply(alloc: Global, end: ReplayEnd, replaying: &Replaying) -> Result<Reply, AllocError>
-    ensures { IfOk result (λ r. answer_of r ≡ ended_answer end replaying.now) }
-{
-    match end {
-        ReplayEnd::Agrees => Ok(Reply {
-            text: good_text(
-                alloc,
-                replaying.node.tail(),
-                replaying.reads,
-                replaying.ended,
-            )?,
-            verdict: Verdict::Good,
-        }),
-        ReplayEnd::Bad(number) => Ok(Reply {
-            text: bad_line(alloc, number)?,
-            verdict: Verdict::Refused,
-        }),
-        ReplayEnd::Differs(number) => Ok(Reply {
-            text: differs_text(alloc, number)?,
-            verdict: Verdict::Differs,
-        }),
-    }
-}
 
 // What a catalogue's programs answer to a transcript.
 fn transcript_reply(
@@ -57,7 +31,10 @@ fn transcript_reply(
 {
     let mut replaying = Replaying::open(alloc, catalogue)?;
     let end = replaying.take_lines(catalogue, transcript);
-    end_reply(alloc, end, &replaying)
+    let mut text = Vec::new(alloc);
+    put_end(&mut text, end, &replaying)?;
+    let verdict = end.verdict();
+    Ok(Reply { text, verdict })
 }
 
 // What a manifest that was loaded and a transcript get.
