@@ -1,19 +1,17 @@
 -- The loop over the lines of a transcript: one line on, a line that ends it, and the end.
-use Rattle.std.proofs.Common.{◌≡◌, ℕ, Bool, true, false, List, [], ◌∷◌, Some, refl, sym, ap, subst, ◌∙◌}
+use Rattle.std.proofs.Common.{◌≡◌, ℕ, Bool, true, false, List, [], ◌∷◌, Some, refl, sym, subst, ◌∙◌}
 use Rattle.std.specs.Prelude.{if◌then◌else◌}
 use Rattle.verifier.specs.declared.refusal.Mode.TheVariants.{Read}
 use Rattle.oplog.specs.Operations.{Operation}
 use Rattle.text.specs.Lines.{next_line}
 use Rattle.loader.specs.CatalogueView.{CatalogueView}
-use Rattle.console.specs.declared.status.Verdict.{Verdict}
-use Rattle.console.specs.declared.status.Verdict.TheVariants as verdicts
 use Rattle.console.specs.declared.replaying.Replaying.{Replaying}
 use Rattle.console.specs.declared.replaying.LineVerdict.{LineVerdict}
 use Rattle.console.specs.declared.replaying.LineVerdict.TheVariants as lines
 use Rattle.console.specs.Answer.{Answer}
-use Rattle.console.specs.RunAnswer.{bad_line, bad_line_text}
+use Rattle.console.specs.RunAnswer.{bad_line}
 use Rattle.console.specs.Transcript.{AnsweredCall}
-use Rattle.console.specs.ReplayAnswer.{Replayed, LineOutcome, Bad, Differs, Agrees, operation_of, compared, answered_outcome, line_outcome, read_agrees, next_count, good_answer, differs_text, differing_line, by_outcome, transcript_answer}
+use Rattle.console.specs.ReplayAnswer.{Replayed, LineOutcome, Bad, Differs, Agrees, operation_of, compared, answered_outcome, line_outcome, read_agrees, next_count, good_answer, differing_line, by_outcome, transcript_answer}
 use Rattle.console.specs.Replaying.{HasReplayed, IsCompared, LineReplayed, compared_verdict}
 
 -- a call whose operation is known
