@@ -11,7 +11,7 @@ mod twins;
 use proved::{BUMP, PEEK, Proved, bytes, programs};
 use std::hint::black_box;
 use std::time::{Duration, Instant};
-use twins::{Caller, Locked, Replicated, Sizes, Twin};
+use twins::{Caller, Locked, Mix, Replicated, Sizes, Twin, call_often};
 
 unsafe extern "C" {
     // Runs a program so often on an array of so many counters: see crates/machine_bench.
@@ -35,17 +35,13 @@ fn word(call: Call) -> &'static str {
     }
 }
 
-// The sum of the replies of so many calls, on each of the first 64 counters in turn.
+// The sum of the replies of so many calls of one kind.
 fn twin_calls(twin: &impl Twin, call: Call, times: u64) -> u64 {
-    (0..times).fold(0, |sum, i| {
-        let argument = [(i % 64) as u8, 0, 0, 0];
-        let caller = Caller { node: 0, slot: 0 };
-        let reply = match call {
-            Call::Update => twin.update(caller, argument),
-            Call::Read => twin.read(caller, argument),
-        };
-        sum.wrapping_add(black_box(reply))
-    })
+    let reads = match call {
+        Call::Update => 0,
+        Call::Read => 100,
+    };
+    call_often(twin, Caller { node: 0, slot: 0 }, Mix { reads, times })
 }
 
 fn timed(f: impl FnOnce() -> u64) -> (u64, Duration) {

@@ -2,7 +2,7 @@
 //! reads, and prints how many calls a second each makes.
 
 use crate::proved::{Proved, programs};
-use crate::twins::{Caller, Locked, ReadersWriter, Replicated, Sizes, Twin};
+use crate::twins::{Caller, Locked, Mix, ReadersWriter, Replicated, Sizes, Twin, call_often};
 use std::hint::black_box;
 use std::thread;
 use std::time::{Duration, Instant};
@@ -15,22 +15,13 @@ const CALLS: u64 = 30_000;
 
 const SIZES: Sizes = Sizes { window: 4_096, entries: 64, value: 8 };
 
-// So many calls of one caller, of which so many of 100 are reads, on each of the first 64 counters in turn.
-fn calls(twin: &impl Twin, caller: Caller, reads: u64, times: u64) {
-    for i in 0..times {
-        let argument = [(i % 64) as u8, 0, 0, 0];
-        let reply = if i % 100 < reads { twin.read(caller, argument) } else { twin.update(caller, argument) };
-        black_box(reply);
-    }
-}
-
 // How long so many threads take, which go round the nodes.
 fn twin_time(twin: &impl Twin, nodes: usize, threads: usize, reads: u64) -> Duration {
     let start = Instant::now();
     thread::scope(|scope| {
         for thread in 0..threads {
             let caller = Caller { node: thread % nodes, slot: thread / nodes };
-            scope.spawn(move || calls(twin, caller, reads, CALLS));
+            scope.spawn(move || black_box(call_often(twin, caller, Mix { reads, times: CALLS })));
         }
     });
     start.elapsed()

@@ -48,7 +48,19 @@ reports old new got a (Err faults.NotText) wrote known = subst (λ x. Reports ol
 reports old new got a (Err faults.NoMemory) wrote known = no_memory_sent old new got a wrote
 reports old new got a (Err faults.CannotRead) wrote known = none_read old new got a wrote
 
--- the same for an answer to what may be unknown
+-- the same for an answer to what may be unknown: one text, a manifest with its folder, and these with another text
+pub reports_text : (answers : List ℕ → Answer) (r : Option (List ℕ)) (old new : Option (List ℕ)) (got : Status) (prepared : Result Reply InputFault) → Writes old new got prepared
+    → IfSome r (λ s. MatchResult prepared (λ x. answer_of x ≡ answers s) (λ e. FailsAs e (answers s ≡ not_text))) → IfSome r (λ s. Reports old new got (answers s))
+reports_text answers None old new got prepared wrote known = tt
+reports_text answers (Some s) old new got prepared wrote known = reports old new got (answers s) prepared wrote known
+
+pub reports_files : (answers : List ℕ → Contents → Answer) (r : Option (List ℕ)) (o : Option Contents) (old new : Option (List ℕ)) (got : Status) (prepared : Result Reply InputFault)
+    → Writes old new got prepared → IfSome r (λ m. IfSome o (λ h. MatchResult prepared (λ x. answer_of x ≡ answers m h) (λ e. FailsAs e (answers m h ≡ not_text))))
+    → IfSome r (λ m. IfSome o (λ h. Reports old new got (answers m h)))
+reports_files answers None o old new got prepared wrote known = tt
+reports_files answers (Some m) None old new got prepared wrote known = tt
+reports_files answers (Some m) (Some h) old new got prepared wrote known = reports old new got (answers m h) prepared wrote known
+
 pub reports_known : (answers : List ℕ → Contents → List ℕ → Answer) (r : Option (List ℕ)) (o : Option Contents) (q : Option (List ℕ)) (old new : Option (List ℕ)) (got : Status) (prepared : Result Reply InputFault)
     → Writes old new got prepared → IfSome r (λ m. IfSome o (λ h. IfSome q (λ s. MatchResult prepared (λ x. answer_of x ≡ answers m h s) (λ e. FailsAs e (answers m h s ≡ not_text)))))
     → IfSome r (λ m. IfSome o (λ h. IfSome q (λ s. Reports old new got (answers m h s))))

@@ -1,23 +1,18 @@
 -- The loop over the lines of a transcript: one line on, a line that ends it, and the end.
-use Rattle.std.proofs.Common.{◌≡◌, ℕ, Bool, true, false, List, [], ◌∷◌, Some, refl, sym, ap, subst, ◌∙◌}
+use Rattle.std.proofs.Common.{◌≡◌, ℕ, Bool, true, false, List, [], ◌∷◌, Some, refl, sym, subst, ◌∙◌}
 use Rattle.std.specs.Prelude.{if◌then◌else◌}
 use Rattle.verifier.specs.declared.refusal.Mode.TheVariants.{Read}
 use Rattle.oplog.specs.Operations.{Operation}
 use Rattle.text.specs.Lines.{next_line}
 use Rattle.loader.specs.CatalogueView.{CatalogueView}
-use Rattle.console.specs.declared.status.Verdict.{Verdict}
-use Rattle.console.specs.declared.status.Verdict.TheVariants as verdicts
 use Rattle.console.specs.declared.replaying.Replaying.{Replaying}
 use Rattle.console.specs.declared.replaying.LineVerdict.{LineVerdict}
 use Rattle.console.specs.declared.replaying.LineVerdict.TheVariants as lines
 use Rattle.console.specs.Answer.{Answer}
-use Rattle.console.specs.RunAnswer.{bad_line, bad_line_text}
+use Rattle.console.specs.RunAnswer.{bad_line}
 use Rattle.console.specs.Transcript.{AnsweredCall}
-use Rattle.console.specs.ReplayAnswer.{Replayed, LineOutcome, Bad, Differs, Agrees, operation_of, compared, answered_outcome, line_outcome, read_agrees, next_count, good_answer, differs_text, differing_line, by_outcome, transcript_answer}
+use Rattle.console.specs.ReplayAnswer.{Replayed, LineOutcome, Bad, Differs, Agrees, operation_of, compared, answered_outcome, line_outcome, read_agrees, next_count, good_answer, differing_line, by_outcome, transcript_answer}
 use Rattle.console.specs.Replaying.{HasReplayed, IsCompared, LineReplayed, compared_verdict}
-
-abbrev answer : Verdict → List ℕ → Answer
-answer verdict text = record { text = text; verdict = verdict }
 
 -- a call whose operation is known
 pub of_operation : (c : CatalogueView) (at : Replayed) (a : AnsweredCall) (op : Operation) (v : LineVerdict) (r : Replaying) → Some op ≡ operation_of c a.mode a.call
@@ -58,16 +53,16 @@ module _ (c : CatalogueView) (n : ℕ) (at : Replayed) (all : List (List ℕ)) (
   bad Differs r told is = absurd told
   bad (Agrees more) r told is = absurd told
 
-  pub bad_here : (r : Replaying) (text : List ℕ) → LineReplayed c (line_outcome c at line) lines.Bad r → text ≡ bad_line_text n → answer verdicts.Refused text ≡ total
-  bad_here r text told is = ap (answer verdicts.Refused) is ∙ bad (line_outcome c at line) r told here_is
+  pub bad_here : (r : Replaying) → LineReplayed c (line_outcome c at line) lines.Bad r → bad_line n ≡ total
+  bad_here r told = bad (line_outcome c at line) r told here_is
 
   differing : (o : LineOutcome) (r : Replaying) → LineReplayed c o lines.Differs r → by_outcome n next o ≡ total → differing_line n ≡ total
   differing Bad r told is = absurd told
   differing Differs r told is = is
   differing (Agrees more) r told is = absurd told
 
-  pub differs_here : (r : Replaying) (text : List ℕ) → LineReplayed c (line_outcome c at line) lines.Differs r → text ≡ differs_text n → answer verdicts.Differs text ≡ total
-  differs_here r text told is = ap (answer verdicts.Differs) is ∙ differing (line_outcome c at line) r told here_is
+  pub differs_here : (r : Replaying) → LineReplayed c (line_outcome c at line) lines.Differs r → differing_line n ≡ total
+  differs_here r told = differing (line_outcome c at line) r told here_is
 
 pub all_agree : (c : CatalogueView) (n : ℕ) (at : Replayed) (all : List (List ℕ)) → all ≡ [] → good_answer at ≡ transcript_answer c n at all
 unfolding transcript_answer

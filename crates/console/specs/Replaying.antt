@@ -1,11 +1,18 @@
 -- What is kept while a transcript is replayed. Clauses of private functions alone cite this.
-use Rattle.std.specs.Prelude.{◌≡◌, Bool, true, false}
+use Rattle.std.specs.Prelude.{◌≡◌, ℕ, Bool, true, false, List}
 use Rattle.loader.specs.CatalogueView.{CatalogueView}
+use Rattle.oplog.specs.Logs.{tail_of}
 use Rattle.console.specs.declared.replaying.Replaying.{Replaying}
 use Rattle.console.specs.declared.replaying.LineVerdict.{LineVerdict}
 use Rattle.console.specs.declared.replaying.LineVerdict.TheVariants as lines
+use Rattle.console.specs.declared.replaying.ReplayEnd.{ReplayEnd}
+use Rattle.console.specs.declared.replaying.ReplayEnd.TheVariants as ends
+use Rattle.console.specs.declared.status.Verdict.{Verdict}
+use Rattle.console.specs.declared.status.Verdict.TheVariants as verdicts
 use Rattle.console.specs.Running.{Follows}
-use Rattle.console.specs.ReplayAnswer.{Replayed, LineOutcome, Bad, Differs, Agrees}
+use Rattle.console.specs.Answer.{Answer}
+use Rattle.console.specs.RunAnswer.{bad_line_text}
+use Rattle.console.specs.ReplayAnswer.{Replayed, LineOutcome, Bad, Differs, Agrees, good_text, differs_text}
 
 -- so much was replayed
 pub record HasReplayed (c : CatalogueView) (at : Replayed) (r : Replaying) : Type 0 where
@@ -28,3 +35,17 @@ LineReplayed c outcome answer r = ⊥
 abbrev pub compared_verdict : Bool → LineVerdict
 compared_verdict true = lines.Agrees
 compared_verdict false = lines.Differs
+
+-- what is written where a replay ended so, and what the transcript is then
+abbrev pub ended_text : ReplayEnd → Replaying → List ℕ
+ended_text ends.Agrees r = good_text (tail_of r.node.log) r.reads r.ended
+ended_text (ends.Bad n) r = bad_line_text n
+ended_text (ends.Differs n) r = differs_text n
+
+abbrev pub ended_verdict : ReplayEnd → Verdict
+ended_verdict ends.Agrees = verdicts.Good
+ended_verdict (ends.Bad n) = verdicts.Refused
+ended_verdict (ends.Differs n) = verdicts.Differs
+
+abbrev pub ended_answer : ReplayEnd → Replaying → Answer
+ended_answer end r = record { text = ended_text end r; verdict = ended_verdict end }

@@ -1,42 +1,46 @@
 // What `replay` writes.
 
-ghost use Rattle.std.specs.Prelude.{◌≡◌, IfOk};
+ghost use Rattle.std.specs.Prelude.{◌≡◌, ◌++◌, IfOk, OnOk};
 ghost use Rattle.console.specs.RunAnswer.{bad_line_text};
 ghost use Rattle.console.specs.ReplayAnswer.{good_text, differs_text};
+ghost use Rattle.console.specs.Replaying.{ended_text};
 
+use crate::replaying::{ReplayEnd, Replaying};
 use crate::run_texts::put_bad_line;
-use crate::texts::put_number;
+use crate::texts::put_numbered;
 use std::alloc::{AllocError, Global};
 
 // The numbers of updates, of reads, and of updates after the history's end.
-pub(crate) fn good_text(
-    alloc: Global,
-    updates: u64,
-    reads: u64,
-    ended: u64,
-) -> Result<Vec<u8>, AllocError>
-    ensures { IfOk result (λ v. v.items ≡ good_text updates reads ended) }
+fn put_good(out: &mut Vec<u8>, updates: u64, reads: u64, ended: u64) -> Result<(), AllocError>
+    ensures { OnOk result (out.new.items ≡ out.old.items ++ good_text updates reads ended) }
 {
-    let mut out = Vec::new(alloc);
-    out.extend_from_slice(b"good ")?;
-    put_number(&mut out, updates)?;
-    out.extend_from_slice(b" ")?;
-    put_number(&mut out, reads)?;
-    out.extend_from_slice(b" ")?;
-    put_number(&mut out, ended)?;
-    out.extend_from_slice(b"\n")?;
-    Ok(out)
+    put_numbered(out, b"good ", updates)?;
+    put_numbered(out, b" ", reads)?;
+    put_numbered(out, b" ", ended)?;
+    out.extend_from_slice(b"\n")
 }
 
 // The line of this number tells something else.
-pub(crate) fn differs_text(alloc: Global, number: u32) -> Result<Vec<u8>, AllocError>
-    ensures { IfOk result (λ v. v.items ≡ differs_text number) }
+fn put_differs(out: &mut Vec<u8>, number: u32) -> Result<(), AllocError>
+    ensures { OnOk result (out.new.items ≡ out.old.items ++ differs_text number) }
 {
-    let mut out = Vec::new(alloc);
-    out.extend_from_slice(b"line ")?;
-    put_number(&mut out, number as u64)?;
-    out.extend_from_slice(b" differs\n")?;
-    Ok(out)
+    put_numbered(out, b"line ", number as u64)?;
+    out.extend_from_slice(b" differs\n")
+}
+
+// How a replay ended.
+pub(crate) fn put_end(
+    out: &mut Vec<u8>,
+    end: ReplayEnd,
+    replaying: &Replaying,
+) -> Result<(), AllocError>
+    ensures { OnOk result (out.new.items ≡ out.old.items ++ ended_text end replaying.now) }
+{
+    match end {
+        ReplayEnd::Agrees => put_good(out, replaying.node.tail(), replaying.reads, replaying.ended),
+        ReplayEnd::Bad(number) => put_bad_line(out, number),
+        ReplayEnd::Differs(number) => put_differs(out, number),
+    }
 }
 
 /// What is written where the line of this number is bad.

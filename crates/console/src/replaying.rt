@@ -4,18 +4,22 @@ ghost use Rattle.std.specs.Prelude.{◌≡◌, ◌≤◌, [], length, Some, opti
 ghost use Rattle.verifier.specs.declared.refusal.Mode.TheVariants.{Update, Read};
 ghost use Rattle.maps.specs.declared.shapes.TheConstants.{MAX_ARG_LEN};
 ghost use Rattle.replica.specs.StoreMeaning.{program_at};
-ghost use Rattle.console.specs.ReplayAnswer.{Replayed, operation_of, update_agrees, read_agrees, with_update, answered_outcome, ended_outcome, line_outcome, nothing_replayed, next_count};
+ghost use Rattle.text.specs.Lines.{lines_of};
+ghost use Rattle.console.specs.ReplayAnswer.{Replayed, operation_of, update_agrees, read_agrees, with_update, answered_outcome, ended_outcome, line_outcome, transcript_answer};
+ghost use Rattle.console.specs.ReplayAnswer.{nothing_replayed, next_count};
 ghost use Rattle.oplog.specs.Operations.{Operation as TheOperation};
-ghost use Rattle.console.specs.Replaying.{HasReplayed, IsCompared, LineReplayed, compared_verdict};
+ghost use Rattle.console.specs.Replaying.{HasReplayed, IsCompared, LineReplayed, compared_verdict, ended_answer, ended_verdict};
 ghost use Rattle.console.specs.Running.{IsSteady, IsCallOf};
 ghost use Rattle.console.specs.ScriptShown.{call_of, answered_of};
 
 use crate::calls::Numbered;
 use crate::node::SingleNode;
 use crate::script::ProgramCall;
+use crate::status::Verdict;
 use crate::transcripts::{AnsweredCall, TranscriptLine, read_transcript_line};
 use loader::Catalogue;
 use std::alloc::{AllocError, Global};
+use text::NumberedLines;
 use verifier::Mode;
 
 // One node, and how many reads and ended calls there were beside its updates.
@@ -32,6 +36,27 @@ pub(crate) enum LineVerdict {
     Bad,
     Differs,
     Agrees,
+}
+
+// How a replay ends: at the end of the transcript, or at the line of a number.
+#[derive(Clone, Copy)]
+pub(crate) enum ReplayEnd {
+    Agrees,
+    Bad(u32),
+    Differs(u32),
+}
+
+impl ReplayEnd {
+    // What the transcript is then.
+    pub(crate) fn verdict(self) -> Verdict
+        ensures { result ≡ ended_verdict self }
+    {
+        match self {
+            ReplayEnd::Agrees => Verdict::Good,
+            ReplayEnd::Bad(_) => Verdict::Refused,
+            ReplayEnd::Differs(_) => Verdict::Differs,
+        }
+    }
 }
 
 // The program that a call names, where it has this mode and the argument has its length.
@@ -170,5 +195,22 @@ impl Replaying {
             Some(TranscriptLine::Answered(call)) => self.answered(catalogue, &call),
             Some(TranscriptLine::Ended(call)) => self.after_end(catalogue, &call),
         }
+    }
+
+    // Takes the lines of a transcript, up to the first that does not agree.
+    pub(crate) fn take_lines(&mut self, catalogue: &Catalogue, transcript: &str) -> ReplayEnd
+        requires steady { IsSteady catalogue.now self.old.node }
+        requires nothing { HasReplayed catalogue.now nothing_replayed self.old }
+        ensures { ended_answer result self.new ≡ transcript_answer catalogue.now 1 nothing_replayed (lines_of transcript.now) }
+    {
+        let mut lines = NumberedLines::new(transcript);
+        while let Some((number, line)) = lines.take_line() {
+            match self.take_line(catalogue, line) {
+                LineVerdict::Agrees => {}
+                LineVerdict::Bad => return ReplayEnd::Bad(number),
+                LineVerdict::Differs => return ReplayEnd::Differs(number),
+            }
+        }
+        ReplayEnd::Agrees
     }
 }

@@ -1,8 +1,8 @@
 // The lines of a transcript.
 
 ghost use Rattle.std.specs.Prelude.{◌≡◌, ◌≤◌, length, option_map};
-ghost use Rattle.console.specs.Transcript.{answered_call, ended_call, transcript_meaning, transcript_line_meaning};
-ghost use Rattle.console.specs.ScriptShown.{call_of, answered_of, told_of};
+ghost use Rattle.console.specs.Transcript.{Answered, Ended, answered_call, ended_call, transcript_meaning, transcript_line_meaning};
+ghost use Rattle.console.specs.ScriptShown.{told_of};
 
 use crate::script::{ProgramCall, named_call};
 use text::{LINE_BYTES, LineKind, kind_of, number, split_at_space};
@@ -27,9 +27,9 @@ pub(crate) enum TranscriptLine<'a> {
 
 // PLACE NAME HEX REPLY
 #[tactic(auto, unfolding(crate::specs::Transcript::answered_call))]
-fn answered_call(mode: Mode, text: &str) -> Option<AnsweredCall<'_>>
+fn answered_line(mode: Mode, text: &str) -> Option<TranscriptLine<'_>>
     requires { length text.now ≤ LINE_BYTES }
-    ensures { option_map answered_of result ≡ answered_call mode text.now }
+    ensures { option_map told_of result ≡ option_map Answered (answered_call mode text.now) }
 {
     let (place, rest) = split_at_space(text)?;
     let (name, rest) = split_at_space(rest)?;
@@ -37,22 +37,23 @@ fn answered_call(mode: Mode, text: &str) -> Option<AnsweredCall<'_>>
     let place = number(place)?;
     let call = named_call(name, digits)?;
     let reply = number(reply)?;
-    Some(AnsweredCall {
+    Some(TranscriptLine::Answered(AnsweredCall {
         mode,
         place,
         call,
         reply,
-    })
+    }))
 }
 
 // NAME HEX
 #[tactic(auto, unfolding(crate::specs::Transcript::ended_call))]
-fn ended_call(text: &str) -> Option<ProgramCall<'_>>
+fn ended_line(text: &str) -> Option<TranscriptLine<'_>>
     requires { length text.now ≤ LINE_BYTES }
-    ensures { option_map call_of result ≡ ended_call text.now }
+    ensures { option_map told_of result ≡ option_map Ended (ended_call text.now) }
 {
     let (name, digits) = split_at_space(text)?;
-    named_call(name, digits)
+    let call = named_call(name, digits)?;
+    Some(TranscriptLine::Ended(call))
 }
 
 // What the words of a line say.
@@ -63,11 +64,11 @@ fn transcript_words(line: &str) -> Option<TranscriptLine<'_>>
 {
     let (letter, rest) = split_at_space(line)?;
     if letter == "u" {
-        Some(TranscriptLine::Answered(answered_call(Mode::Update, rest)?))
+        answered_line(Mode::Update, rest)
     } else if letter == "r" {
-        Some(TranscriptLine::Answered(answered_call(Mode::Read, rest)?))
+        answered_line(Mode::Read, rest)
     } else if letter == "e" {
-        Some(TranscriptLine::Ended(ended_call(rest)?))
+        ended_line(rest)
     } else {
         None
     }

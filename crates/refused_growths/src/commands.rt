@@ -2,55 +2,87 @@
 
 use crate::endings::{Ending, judged};
 use crate::schedules::SIZES;
-use crate::served::{BUMP_LINE, BUMP_TEXT, Command, MANIFEST, SCRIPT, STEPS, TRANSCRIPT, written};
+use crate::served::{
+    BUMP_LINE, BUMP_TEXT, CALLS, Command, MANIFEST, SCRIPT, STEPS, TRANSCRIPT, written,
+};
 use crate::streams::{Narrow, Programs, Slow, Turns};
 use console::{Setup, Status, assemble, check, disassemble, replay, run, schedule};
+use oplog::Config;
 use std::alloc::Global;
+use std::sync::Wait;
+use std::thread::Threads;
+use stress::{OpenGate, Trial, stress};
+
+// Sizes of one session: with no other beside it, its calls have the same places each time.
+const ONE_SESSION: Config = Config {
+    nodes: 1,
+    slots: 1,
+    window: 16,
+    limit: 100,
+};
+
+// `stress` on the manifest and its calls.
+fn stressed<R: Threads + Wait + Sync>(
+    rt: &R,
+    alloc: Global,
+    reads: &Turns,
+    out: &mut Narrow<'_>,
+) -> Status {
+    let trial = Trial {
+        alloc,
+        config: ONE_SESSION,
+        folder: &Programs { turns: reads },
+        gate: &OpenGate,
+    };
+    let mut manifest = Slow::new(MANIFEST, reads);
+    let mut calls = Slow::new(CALLS, reads);
+    stress(rt, &trial, &mut manifest, &mut calls, out)
+}
 
 /// A command on the texts that it is served.
-pub fn ended(alloc: Global, command: Command, reads: &Turns, out: &mut Narrow<'_>) -> Status {
+pub fn ended<R: Threads + Wait + Sync>(
+    rt: &R,
+    alloc: Global,
+    command: Command,
+    reads: &Turns,
+    out: &mut Narrow<'_>,
+) -> Status {
     let folder = Programs { turns: reads };
     let mut manifest = Slow::new(MANIFEST, reads);
     match command {
         Command::Check => check(alloc, &folder, &mut manifest, out),
-        Command::Run => run(
-            alloc,
-            &folder,
-            &mut manifest,
-            &mut Slow::new(SCRIPT, reads),
-            out,
-        ),
+        Command::Run => {
+            let mut script = Slow::new(SCRIPT, reads);
+            run(alloc, &folder, &mut manifest, &mut script, out)
+        }
         Command::Assemble => assemble(alloc, &mut Slow::new(BUMP_TEXT, reads), out),
         Command::Disassemble => disassemble(alloc, &mut Slow::new(BUMP_LINE, reads), out),
         Command::Schedule => {
-            let setup = Setup {
-                config: SIZES,
-                folder: &folder,
-            };
+            let config = SIZES;
+            let folder = &folder;
+            let mut steps = Slow::new(STEPS, reads);
             schedule(
                 alloc,
-                setup,
+                Setup { config, folder },
                 &mut manifest,
-                &mut Slow::new(STEPS, reads),
+                &mut steps,
                 out,
             )
         }
-        Command::Replay => replay(
-            alloc,
-            &folder,
-            &mut manifest,
-            &mut Slow::new(TRANSCRIPT, reads),
-            out,
-        ),
+        Command::Replay => {
+            let mut transcript = Slow::new(TRANSCRIPT, reads);
+            replay(alloc, &folder, &mut manifest, &mut transcript, out)
+        }
+        Command::Stress => stressed(rt, alloc, reads, out),
     }
 }
 
 /// How a command ends where nothing but memory may fail.
-pub fn ending(alloc: Global, command: Command) -> Ending {
+pub fn ending<R: Threads + Wait + Sync>(rt: &R, alloc: Global, command: Command) -> Ending {
     let reads = Turns::new(0);
     let writes = Turns::new(0);
     let mut out = Narrow::new(&writes, true);
-    match ended(alloc, command, &reads, &mut out) {
+    match ended(rt, alloc, command, &reads, &mut out) {
         Status::Good => judged(out.text() == written(command).as_bytes()),
         Status::NoMemory if out.text() == b"no memory\n".as_slice() => Ending::NoMemory,
         _ => Ending::Other,

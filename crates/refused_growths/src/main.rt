@@ -16,6 +16,8 @@ use endings::Ending;
 use std::alloc::Global;
 use std::io;
 use std::io::Read;
+use std::sync::Wait;
+use std::thread::Threads;
 
 // Whether the calls alone are asked for.
 fn is_for_calls(rt: &HostRuntime) -> bool {
@@ -26,7 +28,7 @@ fn is_for_calls(rt: &HostRuntime) -> bool {
     }
 }
 
-fn write_ending(rt: &HostRuntime, name: &str, number: &str, ending: Ending) -> io::Result<()> {
+fn write_ending<R: Print>(rt: &R, name: &str, number: &str, ending: Ending) -> io::Result<()> {
     match ending {
         Ending::Ordinary => println!(rt; "{name}: ordinary"),
         Ending::NoMemory => println!(rt; "{name}: {number}"),
@@ -56,18 +58,18 @@ fn write_store_calls(rt: &HostRuntime, alloc: Global, store: Ending) -> io::Resu
 }
 
 // Each command.
-fn write_commands(rt: &HostRuntime, alloc: Global) -> io::Result<()> {
+fn write_commands<R: Threads + Wait + Sync + Print>(rt: &R, alloc: Global) -> io::Result<()> {
     for (name, command) in served::COMMANDS {
-        let ending = commands::ending(alloc, command);
+        let ending = commands::ending(rt, alloc, command);
         write_ending(rt, name, "no memory, status 4", ending)?;
     }
     Ok(())
 }
 
 // Each command, with each read and each write failing in turn.
-fn write_transfers(rt: &HostRuntime, alloc: Global) -> io::Result<()> {
+fn write_transfers<R: Threads + Wait + Sync + Print>(rt: &R, alloc: Global) -> io::Result<()> {
     for (name, command) in served::COMMANDS {
-        match transfers::failed_in_turn(alloc, command) {
+        match transfers::failed_in_turn(rt, alloc, command) {
             Some(tried) => println!(rt;
                 "{name}: {} reads and {} writes failed in turn",
                 tried.reads, tried.writes

@@ -26,6 +26,9 @@ pub const STEPS: &str =
 /// The calls of those steps and their answers.
 pub const TRANSCRIPT: &str = "u 0 bump 00000000 1\nr 1 peek 00000000 1\n";
 
+/// Counts, reads, and counts again: calls that `stress` makes all.
+pub const CALLS: &str = "bump 00000000\npeek 00000000\nbump 00000000\n";
+
 /// A command.
 #[derive(Clone, Copy)]
 pub enum Command {
@@ -35,16 +38,18 @@ pub enum Command {
     Disassemble,
     Schedule,
     Replay,
+    Stress,
 }
 
 /// Each command by its name.
-pub const COMMANDS: [(&str, Command); 6] = [
+pub const COMMANDS: [(&str, Command); 7] = [
     ("check", Command::Check),
     ("run", Command::Run),
     ("asm", Command::Assemble),
     ("dis", Command::Disassemble),
     ("schedule", Command::Schedule),
     ("replay", Command::Replay),
+    ("stress", Command::Stress),
 ];
 
 /// What a command writes.
@@ -63,5 +68,6 @@ pub fn written(command: Command) -> &'static str {
             "ok\nok\nok\nok\nok\nok\nok place 0 reply 1\nok\nok point 1 reply 1\nlog base 0 tail 1 done 1\nnode 0 tail 1\n"
         }
         Command::Replay => "good 1 1 0\n",
+        Command::Stress => "u 0 bump 00000000 1\nr 1 peek 00000000 1\nu 1 bump 00000000 2\n",
     }
 }

@@ -5,6 +5,8 @@ use crate::served::{Command, written};
 use crate::streams::{Narrow, Turns};
 use console::Status;
 use std::alloc::Global;
+use std::sync::Wait;
+use std::thread::Threads;
 
 /// How many reads and writes failed.
 #[derive(Clone, Copy)]
@@ -14,31 +16,42 @@ pub struct Tried {
 }
 
 // Where this read fails, nothing is written and no further read is made.
-fn stops_at_read(alloc: Global, command: Command, fails_at: u64) -> bool {
+fn stops_at_read<R: Threads + Wait + Sync>(
+    rt: &R,
+    alloc: Global,
+    command: Command,
+    fails_at: u64,
+) -> bool {
     let reads = Turns::new(fails_at);
     let writes = Turns::new(0);
     let mut out = Narrow::new(&writes, true);
-    let status = ended(alloc, command, &reads, &mut out);
+    let status = ended(rt, alloc, command, &reads, &mut out);
     status == Status::CannotRead && reads.made() == fails_at && writes.made() == 0
 }
 
 // Where this write fails, or takes nothing, what was written before stands and no further write is made.
-fn stops_at_write(alloc: Global, command: Command, fails_at: u64, is_error: bool) -> bool {
+fn stops_at_write<R: Threads + Wait + Sync>(
+    rt: &R,
+    alloc: Global,
+    command: Command,
+    fails_at: u64,
+    is_error: bool,
+) -> bool {
     let reads = Turns::new(0);
     let writes = Turns::new(fails_at);
     let mut out = Narrow::new(&writes, is_error);
-    let status = ended(alloc, command, &reads, &mut out);
+    let status = ended(rt, alloc, command, &reads, &mut out);
     let is_beginning = written(command).as_bytes().starts_with(out.text());
     let is_all_before = out.text().len() as u64 + 1 == fails_at;
     status == Status::CannotWrite && writes.made() == fails_at && is_beginning && is_all_before
 }
 
 // How many reads and writes the command makes, where none fails and its answer is the ordinary one.
-fn unhindered(alloc: Global, command: Command) -> Option<Tried> {
+fn unhindered<R: Threads + Wait + Sync>(rt: &R, alloc: Global, command: Command) -> Option<Tried> {
     let reads = Turns::new(0);
     let writes = Turns::new(0);
     let mut out = Narrow::new(&writes, true);
-    let status = ended(alloc, command, &reads, &mut out);
+    let status = ended(rt, alloc, command, &reads, &mut out);
     if status != Status::Good || out.text() != written(command).as_bytes() {
         return None;
     }
@@ -49,16 +62,20 @@ fn unhindered(alloc: Global, command: Command) -> Option<Tried> {
 }
 
 /// How many reads and writes failed in turn; none where the command once answered otherwise than it must.
-pub fn failed_in_turn(alloc: Global, command: Command) -> Option<Tried> {
-    let tried = unhindered(alloc, command)?;
+pub fn failed_in_turn<R: Threads + Wait + Sync>(
+    rt: &R,
+    alloc: Global,
+    command: Command,
+) -> Option<Tried> {
+    let tried = unhindered(rt, alloc, command)?;
     for fails_at in 1..=tried.reads {
-        if !stops_at_read(alloc, command, fails_at) {
+        if !stops_at_read(rt, alloc, command, fails_at) {
             return None;
         }
     }
     for fails_at in 1..=tried.writes {
-        let stops = stops_at_write(alloc, command, fails_at, true);
-        if !stops || !stops_at_write(alloc, command, fails_at, false) {
+        let stops = stops_at_write(rt, alloc, command, fails_at, true);
+        if !stops || !stops_at_write(rt, alloc, command, fails_at, false) {
             return None;
         }
     }

@@ -10,13 +10,12 @@ ghost use Rattle.store.specs.Shelving.{sessions_of};
 
 use loader::{Catalogue, load_manifest};
 use oplog::{Config, MAX_LIMIT};
-use readpath::ReadAnswer;
 use std::alloc::Global;
 use std::process::ExitCode;
 use std::sync::Wait;
 use std::thread;
 use std::thread::Threads;
-use store::{Answer, Session, Store, StoreRefused};
+use store::{Session, Store};
 
 // Adds one to a counter, and replies what it is then.
 const BUMP: &str =
@@ -71,83 +70,25 @@ fn argument(i: u64) -> [u8; 4] {
     [(i % 64) as u8, 0, 0, 0]
 }
 
-// An update, after which the session is still one of the store.
-fn update<R: Wait>(
-    rt: &R,
-    store: &Store,
-    session: &mut Session,
-    i: u64,
-) -> Result<Answer, StoreRefused>
-    requires own { IsOf store.now session.old }
-    ensures own { IsOf store.now session.new }
-{
-    session.invoke(rt, store, 0, &argument(i))
-}
-
-// A read, after which the session is still one of the store.
-fn read<R: Wait>(
-    rt: &R,
-    store: &Store,
-    session: &mut Session,
-    i: u64,
-) -> Result<ReadAnswer, StoreRefused>
-    requires own { IsOf store.now session.old }
-    ensures own { IsOf store.now session.new }
-{
-    session.read(rt, store, 1, &argument(i))
-}
-
-// So many updates, and the sum of their replies.
-fn update_often<R: Wait>(
-    rt: &R,
-    store: &Store,
-    session: &mut Session,
-    times: u64,
-) -> Result<u64, StoreRefused>
+// Makes the calls of a session, one after another, and adds up their replies, modulo 2^64. None where one is refused.
+fn call_often<R: Wait>(rt: &R, store: &Store, session: &mut Session, mix: Mix) -> Option<u64>
     requires own { IsOf store.now session.old }
     ensures own { IsOf store.now session.new }
 {
     let mut sum = 0u64;
-    for i in 0..times {
-        sum = sum.wrapping_add(update(rt, store, session, i)?.reply);
-    }
-    Ok(sum)
-}
-
-// So many reads, and the sum of their replies.
-fn read_often<R: Wait>(
-    rt: &R,
-    store: &Store,
-    session: &mut Session,
-    times: u64,
-) -> Result<u64, StoreRefused>
-    requires own { IsOf store.now session.old }
-    ensures own { IsOf store.now session.new }
-{
-    let mut sum = 0u64;
-    for i in 0..times {
-        sum = sum.wrapping_add(read(rt, store, session, i)?.reply);
-    }
-    Ok(sum)
-}
-
-// So many calls, of which so many of 100 are reads. None where one is refused.
-fn mix_often<R: Wait>(rt: &R, store: &Store, session: &mut Session, mix: Mix) -> Option<()>
-    requires own { IsOf store.now session.old }
-    ensures own { IsOf store.now session.new }
-{
     for i in 0..mix.times {
-        if i % 100 < mix.reads {
-            read(rt, store, session, i).ok()?;
+        let reply = if i % 100 < mix.reads {
+            session.read(rt, store, 1, &argument(i)).ok()?.reply
         } else {
-            update(rt, store, session, i).ok()?;
-        }
+            session.invoke(rt, store, 0, &argument(i)).ok()?.reply
+        };
+        sum = sum.wrapping_add(reply);
     }
-    Some(())
+    Some(sum)
 }
 
-// Lets each session make its calls, on a thread of its own.
-fn mix_all<R: Threads + Wait + Sync>(rt: &R, store: &Store, sessions: &mut [Session], mix: Mix)
+// Lets each session make these calls, on a thread of its own.
+fn call_all<R: Threads + Wait + Sync>(rt: &R, store: &Store, sessions: &mut [Session], mix: Mix)
     requires own { All (IsOf store.now) sessions.old }
     ensures own { All (IsOf store.now) sessions.new }
 {
@@ -163,7 +104,7 @@ fn mix_all<R: Threads + Wait + Sync>(rt: &R, store: &Store, sessions: &mut [Sess
             requires { IsOf store.now session.now }
             ensures { IsOf store.entry.now session.exit.now }
         {
-            let _made = mix_often(rt, store, session, mix);
+            let _sum = call_often(rt, store, session, mix);
         },
     );
 }
@@ -176,11 +117,12 @@ fn first_answer<R: Wait>(rt: &R, store: &Store, sessions: &mut [Session], line: 
     let (word, times) = line.split_once(' ')?;
     let times: u64 = times.parse().ok()?;
     let session = sessions.first_mut()?;
-    match word {
-        "update" => update_often(rt, store, session, times).ok(),
-        "read" => read_often(rt, store, session, times).ok(),
-        _ => None,
-    }
+    let reads = match word {
+        "update" => 0,
+        "read" => 100,
+        _ => return None,
+    };
+    call_often(rt, store, session, Mix { reads, times })
 }
 
 // The calls that a line asks all sessions for.
@@ -204,7 +146,7 @@ fn answer<R: Threads + Wait + Sync>(
 {
     match line.strip_prefix("threads ") {
         Some(rest) => {
-            mix_all(rt, store, sessions, mix_in(rest)?);
+            call_all(rt, store, sessions, mix_in(rest)?);
             Some(0)
         }
         None => first_answer(rt, store, sessions, line),

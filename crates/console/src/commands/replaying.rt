@@ -13,14 +13,13 @@ use crate::catalogues::Loaded;
 use crate::folder::Folder;
 use crate::input::InputFault;
 use crate::inputs::read_inputs;
-use crate::replay_texts::{bad_line, differs_text, good_text};
-use crate::replaying::{LineVerdict, Replaying};
+use crate::replay_texts::put_end;
+use crate::replaying::Replaying;
 use crate::reporting::{Reply, report};
-use crate::status::{Status, Verdict};
+use crate::status::Status;
 use loader::Catalogue;
 use std::alloc::{AllocError, Global};
 use std::io::{Read, Write};
-use text::NumberedLines;
 
 // What a catalogue's programs answer to a transcript.
 fn transcript_reply(
@@ -31,33 +30,11 @@ fn transcript_reply(
     ensures { IfOk result (λ r. answer_of r ≡ transcript_answer catalogue.now 1 nothing_replayed (lines_of transcript.now)) }
 {
     let mut replaying = Replaying::open(alloc, catalogue)?;
-    let mut lines = NumberedLines::new(transcript);
-    while let Some((number, line)) = lines.take_line() {
-        match replaying.take_line(catalogue, line) {
-            LineVerdict::Agrees => {}
-            LineVerdict::Bad => {
-                return Ok(Reply {
-                    text: bad_line(alloc, number)?,
-                    verdict: Verdict::Refused,
-                });
-            }
-            LineVerdict::Differs => {
-                return Ok(Reply {
-                    text: differs_text(alloc, number)?,
-                    verdict: Verdict::Differs,
-                });
-            }
-        }
-    }
-    Ok(Reply {
-        text: good_text(
-            alloc,
-            replaying.node.tail(),
-            replaying.reads,
-            replaying.ended,
-        )?,
-        verdict: Verdict::Good,
-    })
+    let end = replaying.take_lines(catalogue, transcript);
+    let mut text = Vec::new(alloc);
+    put_end(&mut text, end, &replaying)?;
+    let verdict = end.verdict();
+    Ok(Reply { text, verdict })
 }
 
 // What a manifest that was loaded and a transcript get.

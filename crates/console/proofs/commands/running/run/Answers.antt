@@ -1,7 +1,12 @@
 use Rattle.std.proofs.Common.{inl, refl}
-use Rattle.console.specs.RunAnswer.{IsRunAnswer}
-use Rattle.console.proofs.Reported.{reports_some}
+use Rattle.console.specs.RunAnswer.{run_answer, IsRunAnswer}
+use Rattle.console.proofs.Reported.{reports_some, reports_known}
 use Rattle.console.proofs.commands.running.run.Goals as goal
 
 pub returns-clause-ended : goal.returns-clause-ended
 returns-clause-ended g c = reports_some IsRunAnswer (inl refl) (g.W.Write.contents c.args.writer.now) (g.W.Write.contents c.report.new.writer) c.report.result c.prepare.result c.report.ensures c.prepare.ensures.some
+
+pub returns-clause-written : goal.returns-clause-written
+returns-clause-written g c =
+    reports_known run_answer (g.R.Read.remaining c.args.manifest.now) (g.F.Folder.holds c.args.folder.now) (g.S.Read.remaining c.args.script.now) (g.W.Write.contents c.args.writer.now) (g.W.Write.contents c.report.new.writer)
+    c.report.result c.prepare.result c.report.ensures c.prepare.ensures.known

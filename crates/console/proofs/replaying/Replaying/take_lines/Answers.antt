@@ -2,12 +2,12 @@ use Rattle.std.proofs.Common.{◌∙◌, ap}
 use Rattle.text.specs.Lines.{LinesLeft}
 use Rattle.console.specs.ReplayAnswer.{transcript_answer, nothing_replayed}
 use Rattle.console.proofs.TranscriptLines.{goes_on, bad_here, differs_here, all_agree}
-use Rattle.console.proofs.commands.replaying.transcript_reply.Goals as goal
+use Rattle.console.proofs.replaying.Replaying.take_lines.Goals as goal
 
 pub loop-number-init : goal.loop-number-init
 loop-number-init c =
     let begin = ap (λ (l : LinesLeft). transcript_answer c.args.catalogue.now l.number nothing_replayed l.lines) c.new-lines.ensures.all in
-    (c.in_ok-replaying.ensures.steady, (nothing_replayed, c.in_ok-replaying.ensures.nothing, begin))
+    (c.requires.steady, (nothing_replayed, c.requires.nothing, begin))
 
 pub loop-number-preserved : goal.loop-number-preserved
 loop-number-preserved c =
@@ -21,19 +21,16 @@ pub returns-in-Bad : goal.returns-in-Bad
 returns-in-Bad c =
     let h = c.loop-number.invariant.1 in
     let taken = c.in-Some.ensures.taken in
-    bad_here c.args.catalogue.now c.loop-number.lines.number h.0 c.loop-number.lines.lines c.in-Some.line.now c.take_line.new.self.lines taken.0 _ h.2 c.take_line-in-Some.new.self
-    c.in_ok-bad_line-in-Bad.field-0.items (c.in-Bad.ensures.replayed h.0 h.1) (rw taken.1 at c.in_ok-bad_line-in-Bad.ensures)
+    rw taken.1 (bad_here c.args.catalogue.now c.loop-number.lines.number h.0 c.loop-number.lines.lines c.in-Some.line.now c.take_line.new.self.lines taken.0 _ h.2 c.take_line-in-Some.new.self (c.in-Bad.ensures.replayed h.0 h.1))
 
 pub returns-in-Differs : goal.returns-in-Differs
 returns-in-Differs c =
     let h = c.loop-number.invariant.1 in
     let taken = c.in-Some.ensures.taken in
-    differs_here c.args.catalogue.now c.loop-number.lines.number h.0 c.loop-number.lines.lines c.in-Some.line.now c.take_line.new.self.lines taken.0 _ h.2 c.take_line-in-Some.new.self
-    c.in_ok-differs_text-in-Differs.field-0.items (c.in-Differs.ensures.replayed h.0 h.1) (rw taken.1 at c.in_ok-differs_text-in-Differs.ensures)
+    rw taken.1 (differs_here c.args.catalogue.now c.loop-number.lines.number h.0 c.loop-number.lines.lines c.in-Some.line.now c.take_line.new.self.lines taken.0 _ h.2 c.take_line-in-Some.new.self (c.in-Differs.ensures.replayed h.0 h.1))
 
 pub returns : goal.returns
 returns c =
     let h = c.loop-number.invariant.1 in
     let taken = c.in_default.ensures.taken in
-    let count = c.tail.ensures ∙ h.1.placed.count in
-    rw (c.in_ok-good_text.ensures, count, h.1.reads, h.1.ended) (all_agree c.args.catalogue.now c.loop-number.lines.number h.0 c.loop-number.lines.lines taken.0 ∙ h.2)
+    rw (h.1.placed.count, h.1.reads, h.1.ended) (all_agree c.args.catalogue.now c.loop-number.lines.number h.0 c.loop-number.lines.lines taken.0 ∙ h.2)

@@ -3,12 +3,12 @@ use Rattle.text.specs.Lines.{lines_of}
 use Rattle.console.specs.Running.{IsSteady}
 use Rattle.console.specs.ReplayAnswer.{Replayed, transcript_answer, nothing_replayed}
 use Rattle.console.specs.Replaying.{HasReplayed}
-use Rattle.console.proofs.commands.replaying.transcript_reply.Given as goal
+use Rattle.console.proofs.replaying.Replaying.take_lines.Given as goal
 
 abbrev pub invariant-loop-number : goal.invariant-loop-number
 invariant-loop-number l =
-    IsSteady l.catalogue l.replaying.node
-    × ((at : Replayed) × HasReplayed l.catalogue at l.replaying
+    IsSteady l.catalogue l.self.node
+    × ((at : Replayed) × HasReplayed l.catalogue at l.self
     × (transcript_answer l.catalogue l.lines.number at l.lines.lines ≡ transcript_answer l.catalogue 1 nothing_replayed (lines_of l.transcript)))
 
 abbrev pub decreases-loop-number : goal.decreases-loop-number

@@ -1,6 +1,6 @@
 use Rattle.std.proofs.Common.{◌<◌, sym, subst}
 use Rattle.store.specs.Sessions.{IsOf}
-use Rattle.store_bench.proofs.mix_all.Goals as goal
+use Rattle.store_bench.proofs.call_all.Goals as goal
 
 pub for_each_mut-requires-clause-accepts : goal.for_each_mut-requires-clause-accepts
 for_each_mut-requires-clause-accepts g c κs within i p below same = subst (λ q. IsOf c.args.store.now q) (sym same) (c.requires.own i p.now below)

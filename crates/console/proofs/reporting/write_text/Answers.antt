@@ -1,0 +1,8 @@
+use Rattle.std.proofs.Common.{inl, inr, refl}
+use Rattle.console.proofs.reporting.write_text.Goals as goal
+
+pub returns-in-Ok : goal.returns-in-Ok
+returns-in-Ok g c = inl (refl, c.in-Ok.ensures.sent)
+
+pub returns-in-Err : goal.returns-in-Err
+returns-in-Err g c = inr (refl, c.in-Err.ensures.stopped)
