@@ -9,6 +9,6 @@ mod table;
 pub use entry::Entry;
 pub use map_set::MapSet;
 pub use shapes::{
-    INDEX_BYTES, MAX_ARG_LEN, MAX_ENTRIES, MAX_KEY_BYTES, MAX_MAPS, MAX_TOTAL_BYTES, MAX_VALUE_BYTES, MapError,
-    Shape, ShapeFault, shapes_ok,
+    INDEX_BYTES, MAX_ARG_LEN, MAX_ENTRIES, MAX_KEY_BYTES, MAX_MAPS, MAX_TOTAL_BYTES,
+    MAX_VALUE_BYTES, MapError, Shape, ShapeFault, shapes_ok,
 };
