@@ -1,4 +1,8 @@
-use Rattle.std.proofs.Common.{rules, ◌≤◌, arith}
+use Rattle.std.proofs.Common.{rules, ◌≡◌, ◌≤◌, length, take, sym, subst, ◌∙◌, arith}
+use Rattle.std.specs.Prelude.{IfSome}
+use Rattle.std.proofs.lemmas.List.{length-take-le}
+use Rattle.std.proofs.lemmas.Option.{slice_get_within}
+use Rattle.maps.specs.Shapes.{AreShapesOk, key_size}
 use Rattle.machine.proofs.Looking.{same_map}
 use Rattle.machine.proofs.Altering.{shape_ok, delete_key_told, deleted_leads}
 use Rattle.machine.proofs.calls.call_delete.Goals as goal
@@ -24,3 +28,38 @@ returns c = record {
       c.fetch-key.result c.delete.new.maps c.delete.result c.fetch-key.ensures.copied c.delete.ensures.answers
       (record { maps = c.delete.ensures.others; shapes = c.delete.ensures.shapes });
 }
+
+pub fetch-key-requires-clause-limits : goal.fetch-key-requires-clause-limits
+fetch-key-requires-clause-limits c = subst AreShapesOk c.requires.told.shapes c.requires.told.limits
+
+pub fetch-key-requires-clause-some : goal.fetch-key-requires-clause-some
+fetch-key-requires-clause-some c =
+    let s = c.requires.told in
+    let ok = shape_ok c.args.maps.now s.signature c.from-m.result c.shape.result s.limits s.shapes c.shape.ensures.shape in
+    omega (arith, ok.key.0, c.key_bytes-key_bytes.ensures.key)
+
+pub fetch-key-requires-clause-few : goal.fetch-key-requires-clause-few
+fetch-key-requires-clause-few c =
+    let s = c.requires.told in
+    let ok = shape_ok c.args.maps.now s.signature c.from-m.result c.shape.result s.limits s.shapes c.shape.ensures.shape in
+    omega (arith, ok.key.1, c.key_bytes-key_bytes.ensures.key)
+
+pub slice_bounds-delete-end : goal.slice_bounds-delete-end
+slice_bounds-delete-end c =
+    let s = c.requires.told in
+    let ok = shape_ok c.args.maps.now s.signature c.from-m.result c.shape.result s.limits s.shapes c.shape.ensures.shape in
+    let few : c.key_bytes-key_bytes.result ≤ 64 = omega (arith, ok.key.1, c.key_bytes-key_bytes.ensures.key) in
+    let inside : c.key_bytes-key_bytes.result ≤ length c.fetch-key.result = search rules in
+    sym (length-take-le c.key_bytes-key_bytes.result c.fetch-key.result inside)
+
+pub delete-requires-clause-map : goal.delete-requires-clause-map
+delete-requires-clause-map c = slice_get_within _ c.from-m.result c.shape.result c.shape.ensures.shape
+
+pub delete-requires-clause-key : goal.delete-requires-clause-key
+delete-requires-clause-key c =
+    let s = c.requires.told in
+    let ok = shape_ok c.args.maps.now s.signature c.from-m.result c.shape.result s.limits s.shapes c.shape.ensures.shape in
+    let few : c.key_bytes-key_bytes.result ≤ 64 = omega (arith, ok.key.1, c.key_bytes-key_bytes.ensures.key) in
+    let inside : c.key_bytes-key_bytes.result ≤ length c.fetch-key.result = search rules in
+    subst (λ o. IfSome o (λ shape. length (take c.key_bytes-key_bytes.result c.fetch-key.result) ≡ key_size shape)) (sym c.shape.ensures.shape)
+    (length-take-le c.key_bytes-key_bytes.result c.fetch-key.result inside ∙ c.key_bytes-key_bytes.ensures.key)

@@ -1,6 +1,8 @@
-use Rattle.std.proofs.Common.{rules, ◌≤◌, ap, ◌∙◌, arith}
-use Rattle.std.specs.Prelude.{slice_index_or}
+use Rattle.std.proofs.Common.{rules, ◌≡◌, ◌≤◌, length, take, ap, sym, subst, ◌∙◌, arith}
+use Rattle.std.specs.Prelude.{slice_index_or, IfSome}
+use Rattle.std.proofs.lemmas.List.{length-take-le}
 use Rattle.std.proofs.lemmas.Option.{slice_get_within}
+use Rattle.maps.specs.Shapes.{AreShapesOk, key_size, value_size}
 use Rattle.regkind.specs.declared.frames.Kind.TheVariants.{Unreadable}
 use Rattle.machine.proofs.Looking.{same_map}
 use Rattle.machine.proofs.Altering.{shape_ok, updates, update_key_told, update_value_told, updated_leads}
@@ -73,3 +75,43 @@ returns c = record {
       c.fetch-key.result c.fetch-value.result c.update.new.maps c.update.result c.fetch-key.ensures.copied c.fetch-value.ensures.copied c.update.ensures.answers
       (record { maps = c.update.ensures.others; shapes = c.update.ensures.shapes });
 }
+
+pub fetch-key-requires-clause-limits : goal.fetch-key-requires-clause-limits
+fetch-key-requires-clause-limits c = subst AreShapesOk c.requires.told.shapes c.requires.told.limits
+
+pub fetch-value-requires-clause-limits : goal.fetch-value-requires-clause-limits
+fetch-value-requires-clause-limits c = subst AreShapesOk c.requires.told.shapes c.requires.told.limits
+
+pub slice_bounds-update-end : goal.slice_bounds-update-end
+slice_bounds-update-end c =
+    let s = c.requires.told in
+    let ok = shape_ok c.args.maps.now s.signature c.from-m.result c.shape-shape.result s.limits s.shapes c.shape-shape.ensures.shape in
+    let few : c.key_bytes-key_bytes.result ≤ 64 = omega (arith, ok.key.1, c.key_bytes-key_bytes.ensures.key) in
+    let inside : c.key_bytes-key_bytes.result ≤ length c.fetch-key.result = search rules in
+    sym (length-take-le c.key_bytes-key_bytes.result c.fetch-key.result inside)
+
+pub update-requires-clause-key : goal.update-requires-clause-key
+update-requires-clause-key c =
+    let s = c.requires.told in
+    let ok = shape_ok c.args.maps.now s.signature c.from-m.result c.shape-shape.result s.limits s.shapes c.shape-shape.ensures.shape in
+    let few : c.key_bytes-key_bytes.result ≤ 64 = omega (arith, ok.key.1, c.key_bytes-key_bytes.ensures.key) in
+    let inside : c.key_bytes-key_bytes.result ≤ length c.fetch-key.result = search rules in
+    subst (λ o. IfSome o (λ shape. length (take c.key_bytes-key_bytes.result c.fetch-key.result) ≡ key_size shape)) (sym c.shape-shape.ensures.shape)
+    (length-take-le c.key_bytes-key_bytes.result c.fetch-key.result inside ∙ c.key_bytes-key_bytes.ensures.key)
+
+pub slice_bounds-update-end-2 : goal.slice_bounds-update-end-2
+slice_bounds-update-end-2 c =
+    let s = c.requires.told in
+    let ok = shape_ok c.args.maps.now s.signature c.from-m.result c.shape-shape.result s.limits s.shapes c.shape-shape.ensures.shape in
+    let few : c.value_bytes-value_bytes.result ≤ 256 = omega (arith, ok.value.1, c.value_bytes-value_bytes.ensures.value) in
+    let inside : c.value_bytes-value_bytes.result ≤ length c.fetch-value.result = search rules in
+    sym (length-take-le c.value_bytes-value_bytes.result c.fetch-value.result inside)
+
+pub update-requires-clause-value : goal.update-requires-clause-value
+update-requires-clause-value c =
+    let s = c.requires.told in
+    let ok = shape_ok c.args.maps.now s.signature c.from-m.result c.shape-shape.result s.limits s.shapes c.shape-shape.ensures.shape in
+    let few : c.value_bytes-value_bytes.result ≤ 256 = omega (arith, ok.value.1, c.value_bytes-value_bytes.ensures.value) in
+    let inside : c.value_bytes-value_bytes.result ≤ length c.fetch-value.result = search rules in
+    subst (λ o. IfSome o (λ shape. length (take c.value_bytes-value_bytes.result c.fetch-value.result) ≡ value_size shape)) (sym c.shape-shape.ensures.shape)
+    (length-take-le c.value_bytes-value_bytes.result c.fetch-value.result inside ∙ c.value_bytes-value_bytes.ensures.value)
