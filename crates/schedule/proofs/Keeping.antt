@@ -4,9 +4,9 @@ use Rattle.std.specs.Prelude.{slice_get, ◌⊎◌}
 use Rattle.std.proofs.lemmas.Option.{none-some, same_Some}
 use Rattle.std.proofs.lemmas.Bool.{cases_lt}
 use Rattle.maps.specs.Maps.{Maps, HasShapes, shapes_of}
-use Rattle.loader.specs.CatalogueView.{CatalogueView, IsCatalogue}
+use Rattle.loader.specs.CatalogueView.{CatalogueView}
 use Rattle.oplog.specs.declared.records.Record.{Record}
-use Rattle.oplog.specs.History.{Effect, History, after, maps_after, left_by}
+use Rattle.oplog.specs.History.{Effect, History, after, left_by}
 use Rattle.oplog.specs.Logs.{HandView}
 use Rattle.replica.specs.StoreMeaning.{store_meaning, outcome_of, AreUpdates}
 use Rattle.replica.specs.Views.{ReplicaView, RepliesView}
@@ -20,7 +20,7 @@ use Rattle.schedule.specs.declared.parts.Opening.{Opening}
 use Rattle.schedule.specs.Worlds.{NodeView, with_effect, outcomes_after, batch_after, replayed}
 use Rattle.schedule.specs.Taking.{CanRun}
 use Rattle.schedule.proofs.Lists.{get_some}
-use Rattle.schedule.proofs.Replays.{after_next, after_all, first_there, later_there}
+use Rattle.schedule.proofs.Replays.{after_all}
 
 -- two lists that are equal at each place
 pub same_lists : {A : Type 0} (xs ys : List A) → length xs ≡ length ys → ((k : ℕ) → k < length xs → slice_get xs k ≡ slice_get ys k) → xs ≡ ys
@@ -31,11 +31,6 @@ same_lists (x ∷ xs) (y ∷ ys) l e =
     let first : x ≡ y = same_Some x y (e 0 (omega arith)) in
     let rest : xs ≡ ys = same_lists xs ys (omega arith) (λ k lt. e (suc k) (omega arith)) in
     ap (λ z. z ∷ xs) first ∙ ap (λ zs. y ∷ zs) rest
-
--- each of the records takes effect, in turn
-abbrev pub AllTake : CatalogueView → Maps → History → Type 0
-AllTake c maps [] = Unit {0}
-AllTake c maps (r ∷ rs) = ((e : Effect Maps) × (store_meaning.update c r.op maps ≡ Some e)) × AllTake c (left_by (store_meaning.update c r.op maps) maps) rs
 
 effect_count : (kept : RepliesView) (place : ℕ) (o : Option (Effect Maps)) → length (with_effect kept place o).outcomes ≡ length kept.outcomes
 effect_count kept place None = refl
@@ -83,20 +78,20 @@ first_at c maps place k q r rs kept done g at lt is =
     ∙ at_with kept place k (outcome_of done) at lt
 
 -- the place of the i-th record
-after_at : (c : CatalogueView) (maps : Maps) (place k i : ℕ) (rs : History) (kept : RepliesView) (r : Record) (done : Effect Maps) → AllTake c maps rs → slice_get rs i ≡ Some r → kept.first + k ≡ place + i → k < length kept.outcomes
+after_at : (c : CatalogueView) (maps : Maps) (place k i : ℕ) (rs : History) (kept : RepliesView) (r : Record) (done : Effect Maps) → slice_get rs i ≡ Some r → kept.first + k ≡ place + i → k < length kept.outcomes
     → store_meaning.update c r.op (after store_meaning c maps (take i rs)) ≡ Some done → slice_get (outcomes_after c maps place rs kept).outcomes k ≡ Some (Some (outcome_of done))
-after_at c maps place k i [] kept r done all g at lt is = absurd (none-some r g)
-after_at c maps place k zero (q ∷ []) kept r done all g at lt is = first_at c maps place k q r [] kept done g (omega arith) lt is
-after_at c maps place k zero (q ∷ (z ∷ rs)) kept r done all g at lt is = first_at c maps place k q r (z ∷ rs) kept done g (omega arith) lt is
-after_at c maps place k (suc i) (q ∷ rs) kept r done all g at lt is =
+after_at c maps place k i [] kept r done g at lt is = absurd (none-some r g)
+after_at c maps place k zero (q ∷ []) kept r done g at lt is = first_at c maps place k q r [] kept done g (omega arith) lt is
+after_at c maps place k zero (q ∷ (z ∷ rs)) kept r done g at lt is = first_at c maps place k q r (z ∷ rs) kept done g (omega arith) lt is
+after_at c maps place k (suc i) (q ∷ rs) kept r done g at lt is =
     let o : Option (Effect Maps) = store_meaning.update c q.op maps in
     let first = effect_first kept place o in
     let count = effect_count kept place o in
-    after_at c (left_by o maps) (place + 1) k i rs (with_effect kept place o) r done all.1 g (omega arith) (omega arith) is
+    after_at c (left_by o maps) (place + 1) k i rs (with_effect kept place o) r done g (omega arith) (omega arith) is
 
 -- what a replay says that it keeps is what the function says
-pub keeps_after : (c : CatalogueView) (maps : Maps) (place : ℕ) (rs : History) (old new : RepliesView) → AllTake c maps rs → KeepsOutcomes c maps place rs old new → new ≡ outcomes_after c maps place rs old
-keeps_after c maps place rs old new all x =
+pub keeps_after : (c : CatalogueView) (maps : Maps) (place : ℕ) (rs : History) (old new : RepliesView) → KeepsOutcomes c maps place rs old new → new ≡ outcomes_after c maps place rs old
+keeps_after c maps place rs old new x =
     let first : new.first ≡ (outcomes_after c maps place rs old).first = x.first ∙ sym (after_first c maps place rs old) in
     let count : length new.outcomes ≡ length (outcomes_after c maps place rs old).outcomes = x.count ∙ sym (after_count c maps place rs old) in
     let same : new.outcomes ≡ (outcomes_after c maps place rs old).outcomes = same_lists new.outcomes (outcomes_after c maps place rs old).outcomes count (λ k lt. each k lt) in
@@ -106,7 +101,7 @@ keeps_after c maps place rs old new all x =
     there k i inside lt at =
         let r = get_some rs i inside in
         let w = x.replayed k i r.0 lt r.1 at in
-        w.1 ∙ ap (λ o. Some (Some o)) (w.2).outcome ∙ sym (after_at c maps place k i rs old r.0 (w.2).done all r.1 at lt (w.2).takes)
+        w.1 ∙ ap (λ o. Some (Some o)) (w.2).outcome ∙ sym (after_at c maps place k i rs old r.0 (w.2).done r.1 at lt (w.2).takes)
 
     each : (k : ℕ) → k < length new.outcomes → slice_get new.outcomes k ≡ slice_get (outcomes_after c maps place rs old).outcomes k
     each k lt =
@@ -121,17 +116,6 @@ keeps_after c maps place rs old new all x =
 
 -- ---- the function in the records' order
 
--- the records are the next ones of a history of which each takes effect
-pub all_take : (c : CatalogueView) (h rs : History) (tail : ℕ) (maps : Maps) → IsCatalogue c → AreUpdates c h → ((j : ℕ) (f : Record) → slice_get rs j ≡ Some f → slice_get h (tail + j) ≡ Some f)
-    → maps ≡ maps_after store_meaning c h tail → AllTake c maps rs
-all_take c h [] tail maps whole updates next is = tt
-all_take c h (r ∷ rs) tail maps whole updates next is =
-    let there = first_there h rs r tail next in
-    let has = (have_effects c whole h updates).updates tail r.op (updates tail r there) in
-    let known = ap (λ y. store_meaning.update c r.op y) is ∙ has.1 in
-    let step = ap (λ y. left_by (store_meaning.update c r.op y) y) is ∙ sym (after_next c h tail r there) in
-    ((_, known), all_take c h rs (tail + 1) (left_by (store_meaning.update c r.op maps) maps) whole updates (later_there h rs r tail next) step)
-
 module _ {c : CatalogueView} {node : NodeView} (x : CanRun c node) where
   pub run_shapes : shapes_of node.replica.maps ≡ c.shapes
   run_shapes = (subst (λ maps. HasShapes c.shapes maps) (sym x.maps) ((have_effects c x.catalogue x.history x.updates).shapes node.replica.tail)).same
@@ -141,9 +125,6 @@ module _ {c : CatalogueView} {node : NodeView} (x : CanRun c node) where
 
   pub run_allowed : AreUpdates c node.hand.records
   run_allowed k r g = x.updates (node.replica.tail + k) r (x.next k r g)
-
-  run_takes : AllTake c node.replica.maps node.hand.records
-  run_takes = all_take c x.history node.hand.records node.replica.tail node.replica.maps x.catalogue x.updates x.next x.maps
 
   abbrev pub ran_to : Opening → ReplicaView → HandView → NodeBatch → NodeView
   ran_to m replica hand batch = record { replica = replica; hand = hand; desk = node.desk; batch = batch; reads = node.reads }
@@ -169,7 +150,7 @@ module _ {c : CatalogueView} {node : NodeView} (x : CanRun c node) where
       → ran_to m replica hand (InLog (record b { replies = replies })) ≡ replayed m node.hand.records node
   ran_written m replica hand b replies same is tail maps left keeps =
       ran_with m replica hand (InLog (record b { replies = replies })) same tail maps left
-      (ap (λ v. InLog (record b { replies = v })) (keeps_after c node.replica.maps node.replica.tail node.hand.records b.replies replies run_takes keeps)
+      (ap (λ v. InLog (record b { replies = v })) (keeps_after c node.replica.maps node.replica.tail node.hand.records b.replies replies keeps)
       ∙ ap (λ v. batch_after c node.replica.maps node.replica.tail node.hand.records v) (sym is))
 
   not_written : (b : NodeBatch) → ((w : Written) → b ≡ InLog w → ⊥) → b ≡ batch_after c node.replica.maps node.replica.tail node.hand.records b

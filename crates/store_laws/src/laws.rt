@@ -9,7 +9,7 @@ ghost use Rattle.progress.specs.declared.sessions.SessionNote.{SessionNote};
 ghost use Rattle.store.specs.declared.values.Value.{Value};
 ghost use Rattle.store.specs.Shelving.{store_rules};
 ghost use Rattle.store_laws.specs.Meanwhile.{Meanwhile};
-ghost use Rattle.store_laws.specs.Nodes.{AppendIsAStep, ReplayIsSteps, FollowIsSteps, ReclaimIsAStep, RebaseIsAStep, RaiseIsSteps, AnswerIsAStep};
+ghost use Rattle.store_laws.specs.Nodes.{AppendIsAStep, ReplayIsSteps, FollowIsSteps, FinishIsSteps, ReclaimIsAStep, RebaseIsAStep, AnswerIsAStep};
 ghost use Rattle.store_laws.specs.AtDesks.{PostIsAStep, CollectIsAStep, ClaimIsAStep, ReplyIsAStep};
 
 /// Between any two atomic steps of a store's threads one history, with its completed tail, has grown from what every session knows; the
@@ -21,19 +21,21 @@ pub fn between_steps()
         → Meanwhile sessions s }
 {}
 
-/// What the calls of `store::lent` make of the log and of a node's replica and hand, and what a raise of the completed tail makes of
-/// the log's own, and what a read is answered on a lent replica: each is a list of steps of that node, which may be taken there.
+/// What the calls of `store::lent` make of the log, of a node's replica and hand, and of its batch: each is a list of steps of that
+/// node, which may be taken there. The batch that is appended stands in the log then, a replay keeps its replies, and no other call
+/// changes it. The desk stays, and so do the reads that were begun there, but for the one that is answered.
 pub fn lent_values_are_steps()
     ensures append { AppendIsAStep }
     ensures replay { ReplayIsSteps }
     ensures follow { FollowIsSteps }
+    ensures finish { FinishIsSteps }
     ensures reclaim { ReclaimIsAStep }
     ensures rebase { RebaseIsAStep }
-    ensures raise { RaiseIsSteps }
     ensures answer { AnswerIsAStep }
 {}
 
-/// What the calls of `store::desks` make of a node's desk: each is a step of that node, or nothing.
+/// What the calls of `store::desks` make of a node's desk: each is a step of that node, or nothing. A batch is handed out with the
+/// answers that were kept of it while it stood in the log.
 pub fn lent_desks_are_steps()
     ensures post { PostIsAStep }
     ensures collect { CollectIsAStep }
