@@ -1,6 +1,6 @@
 //! Desks: one request a slot, one combiner at a time, and each answer at its own slot.
 
-use combiner::{Desk, DeskRefused, Reply};
+use combiner::{Batch, Desk, DeskRefused, Reply};
 use oplog::Op;
 
 #[test]
@@ -15,8 +15,8 @@ fn one_request_a_slot(rt: HostRuntime) {
 #[test]
 fn nothing_to_claim(rt: HostRuntime) {
     let mut desk = Desk::new(0, 2);
-    match desk.claim() {
-        Ok(_) => assert!(&rt; false),
+    match desk.claim(&mut Batch::new()) {
+        Ok(()) => assert!(&rt; false),
         Err(refused) => assert_eq!(rt; refused.number(), 2),
     }
 }
@@ -25,14 +25,13 @@ fn nothing_to_claim(rt: HostRuntime) {
 fn one_combiner_at_a_time(rt: HostRuntime) {
     let mut desk = Desk::new(1, 2);
     assert!(&rt; desk.post(1, Op::new(3, &[1])).is_ok());
-    let first = desk.claim();
-    assert!(&rt; first.is_ok());
+    let mut batch = Batch::new();
+    assert!(&rt; desk.claim(&mut batch).is_ok());
     assert!(&rt; desk.claimed());
-    match desk.claim() {
-        Ok(_) => assert!(&rt; false),
+    match desk.claim(&mut batch) {
+        Ok(()) => assert!(&rt; false),
         Err(refused) => assert_eq!(rt; refused.number(), 3),
     }
-    let Ok(batch) = first else { return };
     let authors: u16 = batch.records()[0].author;
     assert_eq!(rt; (batch.records().len(), authors), (1, 3));
 }

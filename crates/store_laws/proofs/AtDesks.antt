@@ -51,7 +51,7 @@ post_is_a_step m s op g node y no_reads update e =
 -- ---- collect
 
 pub collect_is_a_step : CollectIsAStep
-collect_is_a_step s g node y answer turn =
+collect_is_a_step s g node y b answer turn =
     one_step (collect s) g node (with_call_or_back (Back (session_at node s) (Updated answer)) g (record node { desk = y }))
     (ap (λ o. option_map (λ c. with_call_or_back (Back (session_at node s) (Updated c.reply)) g (record node { desk = c.desk })) o) turn)
 

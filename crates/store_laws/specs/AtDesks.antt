@@ -30,13 +30,13 @@ PostIsAStep =
 -- to collect the answer that waits is the step collect
 abbrev pub CollectIsAStep : Type 0
 CollectIsAStep =
-    (s : ℕ) (g : Log) (node : NodeView) (y : DeskView) (answer : Reply) → IsTurn s node.desk y (Collects answer)
+    (s : ℕ) (g : Log) (node : NodeView) (y : DeskView) (b : BatchView) (answer : Reply) → IsTurn s node.desk y b (Collects answer)
     → Makes (collect s) g node (record node { desk = y })
 
 -- to claim the posted requests, where the node has no batch, is the step claim
 abbrev pub ClaimIsAStep : Type 0
 ClaimIsAStep =
-    (s : ℕ) (g : Log) (node : NodeView) (y : DeskView) (b : BatchView) → node.batch ≡ Absent → IsTurn s node.desk y (Combines b)
+    (s : ℕ) (g : Log) (node : NodeView) (y : DeskView) (b : BatchView) → node.batch ≡ Absent → IsTurn s node.desk y b Combines
     → Makes claim g node (record node { desk = y; batch = Held b })
 
 -- the batch in the log is of the requests of this one, has the place that its first record was appended at, and the replies that were kept
