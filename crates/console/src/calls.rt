@@ -12,6 +12,7 @@ use crate::node::SingleNode;
 use crate::run_texts::{put_read, put_refused, put_update};
 use crate::script::{ProgramCall, ScriptLine, read_line};
 use loader::Catalogue;
+use replica::{StoreRefused, find_program};
 use std::alloc::AllocError;
 use verifier::{Accepted, Mode};
 
@@ -50,7 +51,7 @@ fn perform(
         }
         Mode::Update => match node.submit(catalogue, number, argument) {
             Some(outcome) => put_update(out, place, outcome),
-            None => put_refused(out, 4),
+            None => put_refused(out, StoreRefused::Ended),
         },
     }
 }
@@ -69,15 +70,12 @@ fn run_numbered(
         → OnOk result (IsTaken catalogue.now (numbered catalogue.now h argument.now number) node.new out.old.items out.new.items) }
 {
     let Some(number) = number else {
-        return put_refused(out, 1);
+        return put_refused(out, StoreRefused::UnknownProgram);
     };
-    let Some(program) = catalogue.program(number) else {
-        return put_refused(out, 1);
-    };
-    if argument.len() != program.arg_len() {
-        return put_refused(out, 2);
+    match find_program(catalogue, number, argument) {
+        Ok(program) => perform(node, catalogue, Numbered { number, program }, argument, out),
+        Err(refused) => put_refused(out, refused),
     }
-    perform(node, catalogue, Numbered { number, program }, argument, out)
 }
 
 // Runs the program that a line calls, and writes what it answers.

@@ -18,6 +18,7 @@ use crate::script::ProgramCall;
 use crate::status::Verdict;
 use crate::transcripts::{AnsweredCall, TranscriptLine, read_transcript_line};
 use loader::Catalogue;
+use replica::find_program_of;
 use std::alloc::{AllocError, Global};
 use text::NumberedLines;
 use verifier::Mode;
@@ -69,16 +70,8 @@ fn find<'a>(catalogue: &'a Catalogue, mode: Mode, call: &ProgramCall) -> Option<
     ensures mode { IfSome result (λ n. (n.program.now.mode ≡ mode) × (n.program.now.shapes ≡ catalogue.now.shapes)) }
 {
     let number = catalogue.number(call.name)?;
-    let program = catalogue.program(number)?;
-    let is_mode = match (program.mode(), mode) {
-        (Mode::Update, Mode::Update) | (Mode::Read, Mode::Read) => true,
-        _ => false,
-    };
-    if is_mode && call.argument.len() == program.arg_len() {
-        Some(Numbered { number, program })
-    } else {
-        None
-    }
+    let program = find_program_of(catalogue, mode, number, call.argument.as_slice()).ok()?;
+    Some(Numbered { number, program })
 }
 
 // What a line is found to be whose call agrees, or does not.

@@ -1,11 +1,13 @@
 // What `run` writes.
 
 ghost use Rattle.std.specs.Prelude.{◌≡◌, ◌≤◌, ◌+◌, ◌++◌, length, drop, decimal, OnOk};
+ghost use Rattle.replica.specs.Refusals.{store_fault_number};
 ghost use Rattle.console.specs.RunAnswer.{outcome_text, update_text, read_text, refused_text, bad_line_text};
 
 use crate::texts::put_numbered;
 use itoa::write_digits;
 use machine::Outcome;
+use replica::StoreRefused;
 use std::alloc::AllocError;
 
 // How many bytes an outcome's line has at most: its words, and three numbers of 20 digits.
@@ -71,10 +73,10 @@ pub(crate) fn put_read(out: &mut Vec<u8>, point: u64, outcome: Outcome) -> Resul
 }
 
 // The line of a call that is refused for this reason.
-pub(crate) fn put_refused(out: &mut Vec<u8>, number: u8) -> Result<(), AllocError>
-    ensures { OnOk result (out.new.items ≡ out.old.items ++ refused_text number) }
+pub(crate) fn put_refused(out: &mut Vec<u8>, refused: StoreRefused) -> Result<(), AllocError>
+    ensures { OnOk result (out.new.items ≡ out.old.items ++ refused_text (store_fault_number refused)) }
 {
-    put_numbered(out, b"refused S", number as u64)?;
+    put_numbered(out, b"refused S", refused.number() as u64)?;
     out.extend_from_slice(b"\n")
 }
 

@@ -3,3 +3,4 @@ pub mod Kept
 pub mod Afters
 pub mod Histories
 pub mod Tested
+pub mod Asked

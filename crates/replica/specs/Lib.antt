@@ -1,5 +1,7 @@
--- To be believed: what an operation of a catalogue means, a replica as its users see it, and which outcomes are kept.
+-- To be believed: what an operation of a catalogue means, which calls are refused early, a replica as its users see it, and which
+-- outcomes are kept.
 pub mod StoreMeaning
+pub mod Refusals
 pub mod Views
 pub mod Replaying
 -- Laws: in every history each operation has an effect.

@@ -3,9 +3,11 @@
 
 mod laws;
 mod operations;
+mod refusals;
 mod replicas;
 mod replying;
 
 pub use laws::{histories_have_effects, operations_are_tested};
+pub use refusals::{StoreRefused, find_program, find_program_of};
 pub use replicas::Replica;
 pub use replying::Replies;

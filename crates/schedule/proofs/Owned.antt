@@ -4,13 +4,10 @@ use Rattle.std.specs.Prelude.{slice_get, ◌⊎◌, ◌&&◌, ◌||◌, ◌==◌
 use Rattle.std.specs.List.{list_any}
 use Rattle.std.proofs.lemmas.Option.{none-some}
 use Rattle.std.proofs.lemmas.Bool.{and_parts, or_cases, leb-true, ltb-true, false≢true}
-use Rattle.maps.specs.Maps.{AreBytes, HasShapes, shapes_of}
-use Rattle.verifier.specs.declared.refusal.Mode.{Mode}
-use Rattle.verifier.specs.declared.refusal.Mode.TheVariants.{Update, Read}
-use Rattle.verifier.specs.Accepted.{Checked}
+use Rattle.maps.specs.Maps.{HasShapes, shapes_of}
+use Rattle.verifier.specs.declared.refusal.Mode.TheVariants.{Read}
 use Rattle.loader.specs.CatalogueView.{CatalogueView}
 use Rattle.oplog.specs.declared.configuration.TheConstants.{MAX_LIMIT}
-use Rattle.oplog.specs.Operations.{Operation}
 use Rattle.oplog.specs.History.{History}
 use Rattle.oplog.specs.Logs.{Log, tail_of}
 use Rattle.oplog.specs.Sessions.{session}
@@ -21,8 +18,8 @@ use Rattle.combiner.specs.declared.slots.Stage.TheVariants.{Empty, Posted, Claim
 use Rattle.combiner.specs.declared.slots.Slot.{Slot}
 use Rattle.combiner.specs.Slots.{is_claimed}
 use Rattle.combiner.specs.Desks.{DeskView, first_author, claimed_from, has_combiner, has_request, claim_refusal, claimed, batch_of, IsBatchOf}
-use Rattle.replica.specs.StoreMeaning.{program_at, is_mode, IsOperation, is_operation}
-use Rattle.replica.proofs.Tested.{is_tested, tests_true}
+use Rattle.replica.specs.StoreMeaning.{IsOperation, is_operation}
+use Rattle.replica.proofs.Tested.{is_tested}
 use Rattle.replica.proofs.Histories.{have_effects}
 use Rattle.schedule.specs.declared.parts.BegunRead.{BegunRead}
 use Rattle.schedule.specs.declared.parts.NodeBatch.{NodeBatch}
@@ -154,26 +151,6 @@ can_run {m} {g} {node} c same x next =
 pub replay_taken : (m : Opening) (g : Log) (node new : NodeView) → has_next g node ≡ true → new ≡ replayed m (to_run g node.replica.tail node.hand.records) node → TakesPart (replay m g node) g node g new answers.Done
 replay_taken m g node new next is =
     subst (λ b. TakesPart (cond b (Some (record { log = g; node = replayed m (to_run g node.replica.tail node.hand.records) node; event = None })) None) g node g new answers.Done) (sym next) (refl, refl, is)
-
--- ---- operations
-
--- an argument of its length makes an operation of a program of its mode
-pub asked : (mode : Mode) (c : CatalogueView) (op : Operation) (program : ℕ) (argument : List ℕ) (p : Checked) → Some p ≡ program_at c program → length argument ≡ p.arg_len → is_mode p.mode mode ≡ true → AreBytes op.argument
-    → op ≡ record { program = program; argument = argument } → is_operation mode c op ≡ true
-asked mode c op program argument p named long fits bytes is =
-    tests_true mode c op (record {
-      program = p;
-      named = ap (λ o. program_at c o.program) is ∙ sym named;
-      mode_is = same_mode p.mode mode fits;
-      length_is = ap (λ o. length o.argument) is ∙ long;
-      bytes = bytes;
-    })
-  where
-    same_mode : (one other : Mode) → is_mode one other ≡ true → one ≡ other
-    same_mode Update Update e = refl
-    same_mode Read Read e = refl
-    same_mode Update Read e = absurd (false≢true e)
-    same_mode Read Update e = absurd (false≢true e)
 
 -- ---- reads
 

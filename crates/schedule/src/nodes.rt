@@ -20,7 +20,7 @@ use combiner::{Batch, Desk, Reply, Stage};
 use loader::Catalogue;
 use oplog::{CopyAnswer, Hand, LogState, Op};
 use readpath::{ReadAnswer, answer, ready};
-use replica::{Replica, Replies};
+use replica::{Replica, Replies, find_program_of};
 use std::alloc::{AllocError, Global};
 use std::marker::Model;
 use std::mem;
@@ -56,10 +56,7 @@ fn operation(catalogue: &Catalogue, mode: Mode, program: u64, argument: &[u8]) -
     if program >= catalogue.len() as u64 {
         return None;
     }
-    let accepted = catalogue.program(program as u16)?;
-    if argument.len() != accepted.arg_len() || accepted.mode() != mode {
-        return None;
-    }
+    find_program_of(catalogue, mode, program as u16, argument).ok()?;
     Some(Op::new(program as u16, argument))
 }
 

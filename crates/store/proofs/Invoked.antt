@@ -14,7 +14,7 @@ use Rattle.progress.specs.Accounts.{Extends, IsWellFormed}
 use Rattle.progress.specs.Moves.{answered_with}
 use Rattle.progress.specs.Told.{Tells}
 use Rattle.progress.proofs.Finish.{grown_long}
-use Rattle.store.specs.declared.answers.StoreRefused.{StoreRefused}
+use Rattle.replica.specs.declared.refusals.StoreRefused.{StoreRefused}
 use Rattle.store.specs.declared.steps.Caller.{Caller}
 use Rattle.store.specs.declared.values.Value.{Value}
 use Rattle.store.specs.AtDesk.{HasAsked}

@@ -1,7 +1,6 @@
 pub mod StoreLaws
 pub mod Places
 pub mod Followed
-pub mod Asked
 pub mod Taken
 pub mod Played
 pub mod Rooms

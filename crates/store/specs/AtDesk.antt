@@ -82,3 +82,9 @@ abbrev pub IsClaim : DeskView → DeskView → BatchView → Turn → Type 0
 IsClaim x y batch (Collects reply) = ⊥
 IsClaim x y batch Combines = (has_combiner x ≡ false) × (has_request x ≡ true) × (y ≡ claimed x) × (batch ≡ batch_of x)
 IsClaim x y batch Waits = y ≡ x
+
+-- the lent batch changes only where the session combines
+abbrev pub KeepsBatch : BatchView → BatchView → Turn → Type 0
+KeepsBatch old new (Collects reply) = new ≡ old
+KeepsBatch old new Combines = Unit {0}
+KeepsBatch old new Waits = new ≡ old

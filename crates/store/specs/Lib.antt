@@ -1,6 +1,5 @@
--- To be believed: what each answer tells its session, which calls are refused early, what a store is opened with and gives back.
+-- To be believed: what each answer tells its session, what a store is opened with and gives back.
 pub mod Sessions
-pub mod Refusals
 pub mod Opening
 -- The steps on held values, which the public calls on lent values cite.
 pub mod Lent

@@ -11,8 +11,8 @@ use Rattle.progress.specs.Batches.{Ascend}
 use Rattle.progress.specs.Moves.{answered_with, unplaced}
 use Rattle.progress.specs.Told.{Tells}
 use Rattle.store.specs.declared.answers.Answer.{Answer}
-use Rattle.store.specs.declared.answers.StoreRefused.{StoreRefused}
-use Rattle.store.specs.declared.answers.StoreRefused.TheVariants.{Ended as TheEnd}
+use Rattle.replica.specs.declared.refusals.StoreRefused.{StoreRefused}
+use Rattle.replica.specs.declared.refusals.StoreRefused.TheVariants.{Ended as TheEnd}
 use Rattle.store.specs.declared.desks.Turn.{Turn}
 use Rattle.store.specs.declared.desks.Turn.TheVariants.{Collects, Combines, Waits}
 use Rattle.store.specs.declared.values.Value.{Value}

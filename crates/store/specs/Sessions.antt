@@ -14,8 +14,8 @@ use Rattle.progress.specs.Accounts.{Extends, IsWellFormed}
 use Rattle.progress.specs.LogSteps.{first_progress, fresh_note}
 use Rattle.progress.specs.Told.{Tells, ReadTells, note_with}
 use Rattle.store.specs.declared.answers.Answer.{Answer}
-use Rattle.store.specs.declared.answers.StoreRefused.{StoreRefused}
-use Rattle.store.specs.declared.answers.StoreRefused.TheVariants.{Ended as TheEnd}
+use Rattle.replica.specs.declared.refusals.StoreRefused.{StoreRefused}
+use Rattle.replica.specs.declared.refusals.StoreRefused.TheVariants.{Ended as TheEnd}
 use Rattle.store.specs.declared.steps.Caller.{Caller}
 use Rattle.store.specs.declared.values.Value.{Value}
 use Rattle.store.specs.Standing.{SessionKnown, IsFree}

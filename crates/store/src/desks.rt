@@ -6,7 +6,7 @@ ghost use Rattle.combiner.specs.Desks.{posted, replied};
 ghost use Rattle.replica.specs.StoreMeaning.{store_meaning};
 ghost use Rattle.progress.specs.Accounts.{IsAllowed};
 ghost use Rattle.progress.specs.declared.sessions.Pending.{Pending};
-ghost use Rattle.store.specs.AtDesk.{IsAt, IsClaim, IsReady, HasAsked, IsTurn, TurnSteps, Steps};
+ghost use Rattle.store.specs.AtDesk.{IsAt, IsClaim, IsReady, HasAsked, IsTurn, TurnSteps, KeepsBatch, Steps};
 ghost use Rattle.store.specs.Sessions.{request_of};
 ghost use Rattle.store.specs.Standing.{SessionKnown};
 
@@ -38,10 +38,11 @@ pub fn post(desk: &mut Desk, slot: usize, op: Op)
 }
 
 /// Collects the answer that waits in the session's slot. Where there is none, claims the posted requests, if nobody combines:
-/// the batch has these then.
+/// the batch has these then, and is as it was otherwise.
 pub fn look(desk: &mut Desk, slot: usize, batch: &mut Batch) -> Turn
     requires own { (k : SessionKnown) × (o : Pending) × IsAt slot k desk.old × HasAsked k o }
     ensures turn { IsTurn slot desk.old desk.new batch.new result }
+    ensures kept { KeepsBatch batch.old batch.new result }
     ensures step { (k : SessionKnown) (o : Pending) → IsAt slot k desk.old → HasAsked k o → TurnSteps k o desk.old desk.new batch.new result }
 {
     match desk.collect(slot) {
@@ -62,6 +63,7 @@ pub fn reply(desk: &mut Desk, batch: &Batch)
 // Claims the posted requests, if nobody combines.
 fn claim(desk: &mut Desk, batch: &mut Batch) -> Turn
     ensures claims { IsClaim desk.old desk.new batch.new result }
+    ensures kept { KeepsBatch batch.old batch.new result }
 {
     match desk.claim(batch) {
         Ok(()) => Turn::Combines,

@@ -2,7 +2,7 @@
 
 ghost use Rattle.std.specs.Prelude.{◌≡◌, ◌↔◌, ◌≤◌, ℕ, IsTrue, None};
 ghost use Rattle.verifier.specs.declared.refusal.Mode.TheVariants.{Read};
-ghost use Rattle.store.specs.Refusals.{early_refusal};
+ghost use Rattle.replica.specs.Refusals.{early_refusal};
 ghost use Rattle.store.specs.Lent.{CanAppend};
 ghost use Rattle.store.specs.Held.{IsAppended, IsReplica, IsLog, LacksRoom, IsWide, tail_in, CanKeepUp, IsKeptUp, CanFollowIn, HasFollowed, CanReclaimIn, IsReclaimed, CanAppendIn, HasAppendedIn, CanReplayIn, HasReplayed, IsReplicaOf, Replies as RepliesIn};
 ghost use Rattle.store.specs.AtDesk.{IsReady};

@@ -7,7 +7,7 @@ ghost use Rattle.verifier.specs.declared.refusal.Mode.TheVariants.{Read};
 ghost use Rattle.oplog.specs.declared.configuration.TheConstants.{MAX_LIMIT};
 ghost use Rattle.oplog.specs.Logs.{tail_of, left_of};
 ghost use Rattle.replica.specs.Replaying.{KeepsOutcomes};
-ghost use Rattle.store.specs.Refusals.{early_refusal};
+ghost use Rattle.replica.specs.Refusals.{early_refusal};
 ghost use Rattle.store.specs.Lent.{appended, copied, replayed, told, reclaimed, rebased, RepliesThere, CanAppend, CanCopy, CanFollow, CanReplay, CanReclaim, CanRebase};
 
 use crate::values::NodeReplica;

@@ -17,8 +17,9 @@ mod store;
 mod tests;
 mod values;
 
-pub use answers::{Answer, StoreRefused};
+pub use answers::Answer;
 pub use closed::Closed;
+pub use replica::StoreRefused;
 pub use session::Session;
 pub use store::Store;
 pub use values::{NodeReplica, Setup, Value};

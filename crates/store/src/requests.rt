@@ -6,24 +6,23 @@ ghost use Rattle.ownlock.specs.Seats.{IsSession};
 ghost use Rattle.progress.specs.declared.sessions.Pending.{Pending};
 ghost use Rattle.replica.specs.StoreMeaning.{is_operation, store_meaning};
 ghost use Rattle.progress.specs.Accounts.{IsAllowed};
-ghost use Rattle.store.specs.declared.answers.StoreRefused.{StoreRefused as TheRefusal};
+ghost use Rattle.replica.specs.declared.refusals.StoreRefused.{StoreRefused as TheRefusal};
 ghost use Rattle.store.specs.AtDesk.{HasAsked};
 ghost use Rattle.store.specs.Combining.{IsAtIn};
-ghost use Rattle.store.specs.Refusals.{early_refusal};
+ghost use Rattle.replica.specs.Refusals.{early_refusal};
 ghost use Rattle.store.specs.Requests.{HasPostedIn, HasLooked, HasPosted, HasTurned, HasCompleted};
 ghost use Rattle.store.specs.Standing.{SessionKnown, IsFree, IsOnShelf};
 
-use crate::answers::StoreRefused;
 use crate::combining::combine;
 use crate::desks;
 use crate::desks::Turn;
-use crate::session::refusal;
 use crate::steps::{Caller, Question, Shared};
 use crate::values::Value;
 use combiner::{Batch, Reply};
 use crossbeam_utils::Backoff;
 use oplog::Op;
 use ownlock::Seat;
+use replica::{StoreRefused, find_program_of};
 use std::marker::Brand;
 use std::sync::Wait;
 use verifier::Mode;
@@ -82,22 +81,9 @@ pub(crate) fn post_only<R: Wait>(
         × ((k : SessionKnown) → IsSession seat.old k → (after : SessionKnown) × IsSession seat.new after
         × HasPosted k after (record { program = asked.entry.program; argument = asked.entry.argument.now })) }
 {
-    let refused = refusal(
-        shared.catalogue,
-        Mode::Update,
-        asked.program,
-        asked.argument,
-    );
-    if let Some(refused) = refused {
-        return Err(refused);
-    }
-    post(
-        rt,
-        shared,
-        seat,
-        caller,
-        Op::new(asked.program, asked.argument),
-    );
+    let Question { program, argument } = asked;
+    find_program_of(shared.catalogue, Mode::Update, program, argument)?;
+    post(rt, shared, seat, caller, Op::new(program, argument));
     Ok(())
 }
 

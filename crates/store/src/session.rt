@@ -1,24 +1,23 @@
 // A session's calls.
 
-ghost use Rattle.std.specs.Prelude.{◌≡◌, ◌≤◌, [], ◌∷◌, length, None, Some, Err};
-ghost use Rattle.maps.specs.declared.shapes.TheConstants.{MAX_ARG_LEN};
+ghost use Rattle.std.specs.Prelude.{◌≡◌, [], ◌∷◌, None, Some, Err};
 ghost use Rattle.verifier.specs.declared.refusal.Mode.TheVariants.{Update, Read};
 ghost use Rattle.progress.specs.Accounts.{Extends, IsWellFormed};
 ghost use Rattle.replica.specs.StoreMeaning.{store_meaning};
-ghost use Rattle.store.specs.declared.answers.StoreRefused.{StoreRefused};
-ghost use Rattle.store.specs.Refusals.{early_refusal};
+ghost use Rattle.replica.specs.declared.refusals.StoreRefused.{StoreRefused};
+ghost use Rattle.replica.specs.Refusals.{early_refusal};
 ghost use Rattle.store.specs.Requests.{said};
 ghost use Rattle.store.specs.Sessions.{IsOf, IsIdle, TellsUpdate, TellsRead, known_of, session_view};
 
-use crate::answers::{Answer, StoreRefused};
+use crate::answers::Answer;
 use crate::requests::{complete, post_only};
 use crate::steps::{Caller, Question, query};
 use crate::store::Store;
 use crate::values::Value;
 use combiner::{Batch, Reply};
-use loader::Catalogue;
 use ownlock::Seat;
 use readpath::ReadAnswer;
+use replica::{StoreRefused, find_program_of};
 use std::marker::Model;
 use std::sync::Wait;
 use verifier::Mode;
@@ -40,28 +39,6 @@ impl Model for Session {
     ghost view = { λ s. session_view s.seat };
 
     ghost invariant = { λ s. IsIdle s.seat s.caller };
-}
-
-// Why a program and its argument are refused before anything is done.
-pub(crate) fn refusal(
-    catalogue: &Catalogue,
-    mode: Mode,
-    program: u16,
-    argument: &[u8],
-) -> Option<StoreRefused>
-    ensures refusal { result ≡ early_refusal catalogue.now mode program argument.now }
-    ensures short { result ≡ None → length argument.now ≤ MAX_ARG_LEN }
-{
-    let Some(accepted) = catalogue.program(program) else {
-        return Some(StoreRefused::UnknownProgram);
-    };
-    if argument.len() != accepted.arg_len() {
-        return Some(StoreRefused::ArgumentLength);
-    }
-    match (mode, accepted.mode()) {
-        (Mode::Update, Mode::Update) | (Mode::Read, Mode::Read) => None,
-        (Mode::Update, Mode::Read) | (Mode::Read, Mode::Update) => Some(StoreRefused::WrongMode),
-    }
 }
 
 // What the call says of what became of its update.
@@ -154,12 +131,9 @@ impl Session {
         ensures answered { early_refusal store.now.catalogue Read program argument.now ≡ None
             → TellsRead self.old self.new (record { program = program; argument = argument.now }) result }
     {
-        match refusal(store.catalogue(), Mode::Read, program, argument) {
-            Some(refused) => Err(refused),
-            None => {
-                let question = Question { program, argument };
-                Ok(query(rt, store.shared(), &mut self.seat, self.caller, question))
-            }
-        }
+        let Session { seat, caller, .. } = self;
+        find_program_of(store.catalogue(), Mode::Read, program, argument)?;
+        let question = Question { program, argument };
+        Ok(query(rt, store.shared(), seat, *caller, question))
     }
 }

@@ -6,7 +6,7 @@ ghost use Rattle.ownlock.specs.Seats.{IsSession};
 ghost use Rattle.replica.specs.StoreMeaning.{store_meaning};
 ghost use Rattle.progress.specs.Accounts.{IsWellFormed};
 ghost use Rattle.progress.specs.Moves.{unplaced};
-ghost use Rattle.store.specs.Refusals.{early_refusal};
+ghost use Rattle.replica.specs.Refusals.{early_refusal};
 ghost use Rattle.store.specs.Held.{tail_in, IsReplica};
 ghost use Rattle.store.specs.Sessions.{IsReadBy};
 ghost use Rattle.store.specs.Standing.{SessionKnown, Stands, LogIs, FollowsIn, AgreesIn, HoldsLog, HoldsReplica, IsFree, IsOnShelf, HasRest, HasRaised, HasRoom, HasAppended, HasCaughtUp, IsBroughtUp};

@@ -4,13 +4,13 @@
 ghost use Rattle.std.specs.Prelude.{◌≡◌, ◌+◌, ◌*◌, ◌<◌, ◌≤◌, None, IfSome, length};
 ghost use Rattle.verifier.specs.declared.refusal.Mode.TheVariants.{Read, Update};
 ghost use Rattle.store.specs.Opening.{AreOf};
-ghost use Rattle.store.specs.Refusals.{early_refusal};
+ghost use Rattle.replica.specs.Refusals.{early_refusal};
 ghost use Rattle.store.specs.Sessions.{IsOf};
 ghost use Rattle.store.specs.Standing.{IsThere};
 
-use crate::answers::{Answer, StoreRefused};
+use crate::answers::Answer;
 use crate::requests::{complete, post_only};
-use crate::session::{Session, refusal};
+use crate::session::Session;
 use crate::steps::{Caller, Question, Shared, query};
 use crate::store::Store;
 use crate::values::Value;
@@ -20,6 +20,7 @@ use loader::{Catalogue, load_manifest};
 use oplog::Config;
 use ownlock::{LEADER, Seat};
 use readpath::ReadAnswer;
+use replica::{StoreRefused, find_program_of};
 use std::alloc::Global;
 use std::marker::Brand;
 use std::sync::Wait;
@@ -357,7 +358,7 @@ fn own_of(store: &Store, session: Session) -> Own
 #[test]
 fn is_answered_by_another(rt: HostRuntime) {
     let (store, mut sessions) = opened(rt.alloc(), 1, 2, 100).expect(&rt, "store");
-    assert!(rt; refusal(store.catalogue(), Mode::Update, 0, &ZERO).is_none());
+    assert!(rt; find_program_of(store.catalogue(), Mode::Update, 0, &ZERO).is_ok());
     let other = last_of(&store, &mut sessions);
     let first = last_of(&store, &mut sessions);
     sessions.destroy_empty();
@@ -370,7 +371,7 @@ fn is_answered_by_another(rt: HostRuntime) {
 #[test]
 fn ends_within_a_batch(rt: HostRuntime) {
     let (store, mut sessions) = opened(rt.alloc(), 1, 2, 1).expect(&rt, "store");
-    assert!(rt; refusal(store.catalogue(), Mode::Update, 0, &ZERO).is_none());
+    assert!(rt; find_program_of(store.catalogue(), Mode::Update, 0, &ZERO).is_ok());
     let other = last_of(&store, &mut sessions);
     let first = last_of(&store, &mut sessions);
     sessions.destroy_empty();
@@ -382,7 +383,7 @@ fn ends_within_a_batch(rt: HostRuntime) {
 #[test]
 fn reads_while_the_log_is_held(rt: HostRuntime) {
     let (store, mut sessions) = opened(rt.alloc(), 1, 2, 100).expect(&rt, "store");
-    assert!(rt; refusal(store.catalogue(), Mode::Read, 1, &ZERO).is_none());
+    assert!(rt; find_program_of(store.catalogue(), Mode::Read, 1, &ZERO).is_ok());
     let other = last_of(&store, &mut sessions);
     let one = last_of(&store, &mut sessions);
     sessions.destroy_empty();

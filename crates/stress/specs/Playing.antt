@@ -3,7 +3,7 @@ use Rattle.std.specs.Prelude.{◌≡◌, ℕ, List, length, Some, None}
 use Rattle.std.specs.List.{All}
 use Rattle.loader.specs.CatalogueView.{CatalogueView}
 use Rattle.console.specs.Script.{ProgramCall, Call, line_meaning}
-use Rattle.store.specs.Refusals.{early_refusal}
+use Rattle.replica.specs.Refusals.{early_refusal}
 use Rattle.store.specs.Sessions.{StoreView, SessionView, IsOf}
 use Rattle.stress.specs.declared.calls.ScriptCall.{ScriptCall}
 use Rattle.stress.specs.declared.calls.LineCall.{LineCall}

@@ -3,13 +3,14 @@
 ghost use Rattle.std.specs.Prelude.{◌≡◌, IfOk, IfSome, None};
 ghost use Rattle.text.specs.Lines.{lines_of};
 ghost use Rattle.console.specs.ScriptShown.{call_of};
-ghost use Rattle.store.specs.Refusals.{early_refusal};
+ghost use Rattle.replica.specs.Refusals.{early_refusal};
 ghost use Rattle.stress.specs.Calls.{program_named, line_calls, script_calls};
 ghost use Rattle.stress.specs.Playing.{IsReadyLine, AreReady};
 ghost use Rattle.stress.specs.Shown.{calls_in, ReadAs};
 
 use console::{ProgramCall, ScriptLine, read_line};
 use loader::Catalogue;
+use replica::find_program;
 use std::alloc::{AllocError, Global};
 use text::NumberedLines;
 use verifier::Mode;
@@ -45,12 +46,8 @@ fn program_named(catalogue: &Catalogue, call: &ProgramCall) -> Option<(u16, Mode
     ensures ready { IfSome result (λ p. early_refusal catalogue.now p.1 p.0 call.now.argument.items ≡ None) }
 {
     let number = catalogue.number(call.name)?;
-    let program = catalogue.program(number)?;
-    if call.argument.len() == program.arg_len() {
-        Some((number, program.mode()))
-    } else {
-        None
-    }
+    let program = find_program(catalogue, number, call.argument.as_slice()).ok()?;
+    Some((number, program.mode()))
 }
 
 // What a line says.

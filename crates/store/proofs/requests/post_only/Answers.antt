@@ -2,8 +2,8 @@ use Rattle.std.proofs.Common.{rules, ◌≡◌, true, None, sym, subst}
 use Rattle.maps.specs.Maps.{AreBytes}
 use Rattle.verifier.specs.declared.refusal.Mode.TheVariants.{Update}
 use Rattle.replica.specs.StoreMeaning.{is_operation}
-use Rattle.store.specs.Refusals.{early_refusal}
-use Rattle.store.proofs.Asked.{is_asked}
+use Rattle.replica.specs.Refusals.{early_refusal}
+use Rattle.replica.proofs.Asked.{is_asked}
 use Rattle.store.proofs.requests.post_only.Goals as goal
 
 pub post-requires-clause-update : goal.post-requires-clause-update

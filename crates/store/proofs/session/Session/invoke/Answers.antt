@@ -1,7 +1,7 @@
 use Rattle.std.proofs.Common.{sym, ap, ◌∙◌, subst, refl}
 use Rattle.verifier.specs.declared.refusal.Mode.TheVariants.{Update}
 use Rattle.oplog.specs.Operations.{Operation}
-use Rattle.store.specs.Refusals.{early_refusal}
+use Rattle.replica.specs.Refusals.{early_refusal}
 use Rattle.store.specs.Sessions.{SessionView, TellsUpdate, session_view}
 use Rattle.store.proofs.Invoked.{has_asked, has_grown, invoked, is_idle, not_refused, same_session, seen_as, stays_well, still_of, tells_update}
 use Rattle.store.proofs.session.Session.invoke.Goals as goal

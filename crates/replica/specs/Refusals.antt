@@ -1,12 +1,12 @@
--- What a session's call may be asked for, and the refusal of one that it may not.
+-- Which calls on a store are refused before anything is done.
 use Rattle.std.specs.Prelude.{ℕ, List, length, Option, Some, None, ◌==◌, if◌then◌else◌}
 use Rattle.verifier.specs.declared.refusal.Mode.{Mode}
 use Rattle.verifier.specs.declared.refusal.Mode.TheVariants.{Update, Read}
 use Rattle.verifier.specs.Accepted.{Checked}
 use Rattle.loader.specs.CatalogueView.{CatalogueView}
 use Rattle.replica.specs.StoreMeaning.{program_at}
-use Rattle.store.specs.declared.answers.StoreRefused.{StoreRefused}
-use Rattle.store.specs.declared.answers.StoreRefused.TheVariants.{UnknownProgram, ArgumentLength, WrongMode, Ended}
+use Rattle.replica.specs.declared.refusals.StoreRefused.{StoreRefused}
+use Rattle.replica.specs.declared.refusals.StoreRefused.TheVariants.{UnknownProgram, ArgumentLength, WrongMode, Ended}
 
 -- the number that a refusal shows after its letter S
 abbrev pub store_fault_number : StoreRefused → ℕ
@@ -30,3 +30,11 @@ program_refusal mode argument (Some program) = if length argument == program.arg
 -- length, else of another mode
 abbrev pub early_refusal : CatalogueView → Mode → ℕ → List ℕ → Option StoreRefused
 early_refusal c mode program argument = program_refusal mode argument (program_at c program)
+
+-- the same where a program of either mode will do: unknown, else of another length
+abbrev pub length_refusal : List ℕ → Option Checked → Option StoreRefused
+length_refusal argument None = Some UnknownProgram
+length_refusal argument (Some program) = if length argument == program.arg_len then None else Some ArgumentLength
+
+abbrev pub call_refusal : CatalogueView → ℕ → List ℕ → Option StoreRefused
+call_refusal c program argument = length_refusal argument (program_at c program)

@@ -9,21 +9,23 @@ use Rattle.verifier.specs.Accepted.{Checked}
 use Rattle.loader.specs.CatalogueView.{CatalogueView}
 use Rattle.replica.specs.StoreMeaning.{program_at, is_operation}
 use Rattle.replica.proofs.Tested.{tests_true}
-use Rattle.progress.proofs.Moved.{some_none}
-use Rattle.store.specs.declared.answers.StoreRefused.TheVariants.{UnknownProgram, ArgumentLength, WrongMode}
-use Rattle.store.specs.Refusals.{mode_refusal, program_refusal, early_refusal}
+use Rattle.replica.specs.declared.refusals.StoreRefused.TheVariants.{ArgumentLength}
+use Rattle.replica.specs.Refusals.{mode_refusal, program_refusal, early_refusal}
 
 same_mode : (asked mode : Mode) → mode_refusal asked mode ≡ None → mode ≡ asked
 same_mode Update Update e = refl
 same_mode Read Read e = refl
-same_mode Update Read e = absurd (some_none WrongMode (Some WrongMode) refl e)
-same_mode Read Update e = absurd (some_none WrongMode (Some WrongMode) refl e)
+same_mode Update Read e = absurd cc
+same_mode Read Update e = absurd cc
 
 pub asked_program : (mode : Mode) (argument : List ℕ) (o : Option Checked) → program_refusal mode argument o ≡ None → (p : Checked) × (o ≡ Some p) × (p.mode ≡ mode) × (length argument ≡ p.arg_len)
-asked_program mode argument None e = absurd (some_none UnknownProgram (Some UnknownProgram) refl e)
+asked_program mode argument None e = absurd cc
 asked_program mode argument (Some p) e = dite (ℕ_discrete (length argument) p.arg_len)
     (λ same. (p, refl, same_mode mode p.mode (sym (ap (λ b. if b then mode_refusal mode p.mode else Some ArgumentLength) (eq-eqb (length argument) p.arg_len same)) ∙ e), same))
-    (λ other. absurd (some_none ArgumentLength (Some ArgumentLength) refl (sym (ap (λ b. if b then mode_refusal mode p.mode else Some ArgumentLength) (ne_eqb (length argument) p.arg_len other)) ∙ e)))
+    (λ other. absurd (no_length (sym (ap (λ b. if b then mode_refusal mode p.mode else Some ArgumentLength) (ne_eqb (length argument) p.arg_len other)) ∙ e)))
+  where
+    no_length : Some ArgumentLength ≡ None → ⊥
+    no_length f = cc
 
 pub is_asked : (mode : Mode) (c : CatalogueView) (program : ℕ) (argument : List ℕ) → early_refusal c mode program argument ≡ None → AreBytes argument → is_operation mode c (record { program = program; argument = argument }) ≡ true
 is_asked mode c program argument e bytes =
