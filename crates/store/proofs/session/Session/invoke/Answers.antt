@@ -1,4 +1,4 @@
-use Rattle.std.proofs.Common.{sym, ap, ◌∙◌, subst, refl}
+use Rattle.std.proofs.Common.{rules, sym, ap, ◌∙◌, subst, refl}
 use Rattle.verifier.specs.declared.refusal.Mode.TheVariants.{Update}
 use Rattle.oplog.specs.Operations.{Operation}
 use Rattle.replica.specs.Refusals.{early_refusal}
@@ -19,8 +19,8 @@ invariant_of-self-2 g c =
     let v = invoked k p.0 f.0 op c.complete-reply.result p.2 f.2 in
     is_idle k f.0 op c.complete-reply.result v c.self.inside.seat c.complete-reply.new.seat c.self.inside.caller c.self.invariant refl f.1
 
-pub returns-clause-own : goal.returns-clause-own
-returns-clause-own g c =
+pub returns : goal.returns
+returns g c =
     let k = c.self.invariant.known in
     let op : Operation = record { program = c.args.program; argument = c.args.argument.now } in
     let none = not_refused (early_refusal c.shared-shared.result.catalogue.now Update c.args.program c.args.argument.now) c.post_only.result c.in_ok-post_only.field-0 (λ r e. (c.post_only.ensures.refused r e).0) c.in_ok-post_only.was in
@@ -30,57 +30,15 @@ returns-clause-own g c =
     let asked = has_asked k p.0 op c.args.store.now.config p.2 config c.shared-shared.ensures.config c.self.invariant.batch c.self.invariant.within c.self.invariant.well_formed in
     let f = c.complete-reply.ensures.completed p.0 p.2.request p.1 asked in
     let v = invoked k p.0 f.0 op c.complete-reply.result p.2 f.2 in
-    let shelf = c.complete-reply.ensures.same ∙ (c.post_only.ensures.same ∙ (ap (λ (z : SessionView). z.shelf) c.self.view_is ∙ c.requires.own.shelf)) in
-    still_of c.args.store.now c.args.self.now (session_view c.complete-reply.new.seat) c.self.inside.seat.shelf c.complete-reply.new.seat.shelf k f.0 op c.complete-reply.result v was (seen_as c.complete-reply.new.seat f.0 f.1) c.requires.own shelf
-
-pub returns-clause-same : goal.returns-clause-same
-returns-clause-same g c =
-    let k = c.self.invariant.known in
-    let op : Operation = record { program = c.args.program; argument = c.args.argument.now } in
-    let none = not_refused (early_refusal c.shared-shared.result.catalogue.now Update c.args.program c.args.argument.now) c.post_only.result c.in_ok-post_only.field-0 (λ r e. (c.post_only.ensures.refused r e).0) c.in_ok-post_only.was in
-    let p = (c.post_only.ensures.posted none).1 k c.self.invariant.is in
-    let was = sym c.self.view_is ∙ seen_as c.self.inside.seat k c.self.invariant.is in
-    let config = ap (λ (z : SessionView). z.progress.config) (sym was) ∙ c.requires.own.config in
-    let asked = has_asked k p.0 op c.args.store.now.config p.2 config c.shared-shared.ensures.config c.self.invariant.batch c.self.invariant.within c.self.invariant.well_formed in
-    let f = c.complete-reply.ensures.completed p.0 p.2.request p.1 asked in
-    let v = invoked k p.0 f.0 op c.complete-reply.result p.2 f.2 in
-    (c.complete-reply.ensures.same ∙ (c.post_only.ensures.same ∙ ap (λ (z : SessionView). z.shelf) c.self.view_is), same_session c.args.store.now c.args.self.now (session_view c.complete-reply.new.seat) c.self.inside.seat.shelf c.complete-reply.new.seat.shelf k f.0 op c.complete-reply.result v was (seen_as c.complete-reply.new.seat f.0 f.1))
-
-pub returns-clause-grown : goal.returns-clause-grown
-returns-clause-grown g c =
-    let k = c.self.invariant.known in
-    let op : Operation = record { program = c.args.program; argument = c.args.argument.now } in
-    let none = not_refused (early_refusal c.shared-shared.result.catalogue.now Update c.args.program c.args.argument.now) c.post_only.result c.in_ok-post_only.field-0 (λ r e. (c.post_only.ensures.refused r e).0) c.in_ok-post_only.was in
-    let p = (c.post_only.ensures.posted none).1 k c.self.invariant.is in
-    let was = sym c.self.view_is ∙ seen_as c.self.inside.seat k c.self.invariant.is in
-    let config = ap (λ (z : SessionView). z.progress.config) (sym was) ∙ c.requires.own.config in
-    let asked = has_asked k p.0 op c.args.store.now.config p.2 config c.shared-shared.ensures.config c.self.invariant.batch c.self.invariant.within c.self.invariant.well_formed in
-    let f = c.complete-reply.ensures.completed p.0 p.2.request p.1 asked in
-    let v = invoked k p.0 f.0 op c.complete-reply.result p.2 f.2 in
-    has_grown c.args.store.now c.args.self.now (session_view c.complete-reply.new.seat) c.self.inside.seat.shelf c.complete-reply.new.seat.shelf k f.0 op c.complete-reply.result v was (seen_as c.complete-reply.new.seat f.0 f.1)
-
-pub returns-clause-well_formed : goal.returns-clause-well_formed
-returns-clause-well_formed g c =
-    let k = c.self.invariant.known in
-    let op : Operation = record { program = c.args.program; argument = c.args.argument.now } in
-    let none = not_refused (early_refusal c.shared-shared.result.catalogue.now Update c.args.program c.args.argument.now) c.post_only.result c.in_ok-post_only.field-0 (λ r e. (c.post_only.ensures.refused r e).0) c.in_ok-post_only.was in
-    let p = (c.post_only.ensures.posted none).1 k c.self.invariant.is in
-    let was = sym c.self.view_is ∙ seen_as c.self.inside.seat k c.self.invariant.is in
-    let config = ap (λ (z : SessionView). z.progress.config) (sym was) ∙ c.requires.own.config in
-    let asked = has_asked k p.0 op c.args.store.now.config p.2 config c.shared-shared.ensures.config c.self.invariant.batch c.self.invariant.within c.self.invariant.well_formed in
-    let f = c.complete-reply.ensures.completed p.0 p.2.request p.1 asked in
-    let v = invoked k p.0 f.0 op c.complete-reply.result p.2 f.2 in
-    stays_well c.args.store.now c.args.self.now (session_view c.complete-reply.new.seat) c.self.inside.seat.shelf c.complete-reply.new.seat.shelf k f.0 op c.complete-reply.result v was (seen_as c.complete-reply.new.seat f.0 f.1)
-
-pub returns-clause-answered : goal.returns-clause-answered
-returns-clause-answered g c early =
-    let k = c.self.invariant.known in
-    let op : Operation = record { program = c.args.program; argument = c.args.argument.now } in
-    let none = not_refused (early_refusal c.shared-shared.result.catalogue.now Update c.args.program c.args.argument.now) c.post_only.result c.in_ok-post_only.field-0 (λ r e. (c.post_only.ensures.refused r e).0) c.in_ok-post_only.was in
-    let p = (c.post_only.ensures.posted none).1 k c.self.invariant.is in
-    let was = sym c.self.view_is ∙ seen_as c.self.inside.seat k c.self.invariant.is in
-    let config = ap (λ (z : SessionView). z.progress.config) (sym was) ∙ c.requires.own.config in
-    let asked = has_asked k p.0 op c.args.store.now.config p.2 config c.shared-shared.ensures.config c.self.invariant.batch c.self.invariant.within c.self.invariant.well_formed in
-    let f = c.complete-reply.ensures.completed p.0 p.2.request p.1 asked in
-    let v = invoked k p.0 f.0 op c.complete-reply.result p.2 f.2 in
-    subst (λ r. TellsUpdate c.args.self.now (session_view c.complete-reply.new.seat) op r) (sym c.answer_of.ensures.said) (tells_update c.args.store.now c.args.self.now (session_view c.complete-reply.new.seat) c.self.inside.seat.shelf c.complete-reply.new.seat.shelf k f.0 op c.complete-reply.result v was (seen_as c.complete-reply.new.seat f.0 f.1) c.self.invariant.pending c.self.invariant.batch)
+    let seat = c.complete-reply.new.seat in
+    let new = session_view seat in
+    let now = seen_as seat f.0 f.1 in
+    let same = c.complete-reply.ensures.same ∙ (c.post_only.ensures.same ∙ ap (λ (z : SessionView). z.shelf) c.self.view_is) in
+    record {
+      own = still_of c.args.store.now c.args.self.now new c.self.inside.seat.shelf seat.shelf k f.0 op c.complete-reply.result v was now c.requires.own (same ∙ c.requires.own.shelf);
+      same = (same, same_session c.args.store.now c.args.self.now new c.self.inside.seat.shelf seat.shelf k f.0 op c.complete-reply.result v was now);
+      grown = has_grown c.args.store.now c.args.self.now new c.self.inside.seat.shelf seat.shelf k f.0 op c.complete-reply.result v was now;
+      well_formed = stays_well c.args.store.now c.args.self.now new c.self.inside.seat.shelf seat.shelf k f.0 op c.complete-reply.result v was now;
+      early = search rules;
+      answered = λ _. subst (λ r. TellsUpdate c.args.self.now new op r) (sym c.answer_of.ensures.said) (tells_update c.args.store.now c.args.self.now new c.self.inside.seat.shelf seat.shelf k f.0 op c.complete-reply.result v was now c.self.invariant.pending c.self.invariant.batch);
+    }
