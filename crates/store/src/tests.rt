@@ -78,14 +78,24 @@ struct Told {
     asked: Result<Answer, StoreRefused>,
 }
 
-fn programs(alloc: Global) -> Option<Catalogue> {
-    load_manifest(alloc, MANIFEST, &[("bump.hex", BUMP), ("peek.hex", PEEK)]).ok()
+// The catalogue of both programs.
+fn programs(alloc: Global) -> Option<Catalogue>
+    ensures update { IfSome result (λ c. early_refusal c Update 0 ZERO ≡ None) }
+    ensures read { IfSome result (λ c. early_refusal c Read 1 ZERO ≡ None) }
+{
+    let files = [("bump.hex", BUMP), ("peek.hex", PEEK)];
+    let catalogue = load_manifest(alloc, MANIFEST, &files).ok()?;
+    find_program_of(&catalogue, Mode::Update, 0, &ZERO).ok()?;
+    find_program_of(&catalogue, Mode::Read, 1, &ZERO).ok()?;
+    Some(catalogue)
 }
 
 // A store of so many nodes and slots for these programs and so many records, and its sessions.
 fn opened(alloc: Global, nodes: u32, slots: u32, limit: u32) -> Option<(Store, Vec<Session>)>
     ensures own { IfSome result (λ t. AreOf t.0 t.1.items) }
     ensures count { IfSome result (λ t. length t.1.items ≡ nodes * slots) }
+    ensures update { IfSome result (λ t. early_refusal t.0.catalogue Update 0 ZERO ≡ None) }
+    ensures read { IfSome result (λ t. early_refusal t.0.catalogue Read 1 ZERO ≡ None) }
 {
     let catalogue = programs(alloc)?;
     let config = Config {
@@ -358,7 +368,6 @@ fn own_of(store: &Store, session: Session) -> Own
 #[test]
 fn is_answered_by_another(rt: HostRuntime) {
     let (store, mut sessions) = opened(rt.alloc(), 1, 2, 100).expect(&rt, "store");
-    assert!(rt; find_program_of(store.catalogue(), Mode::Update, 0, &ZERO).is_ok());
     let other = last_of(&store, &mut sessions);
     let first = last_of(&store, &mut sessions);
     sessions.destroy_empty();
@@ -371,7 +380,6 @@ fn is_answered_by_another(rt: HostRuntime) {
 #[test]
 fn ends_within_a_batch(rt: HostRuntime) {
     let (store, mut sessions) = opened(rt.alloc(), 1, 2, 1).expect(&rt, "store");
-    assert!(rt; find_program_of(store.catalogue(), Mode::Update, 0, &ZERO).is_ok());
     let other = last_of(&store, &mut sessions);
     let first = last_of(&store, &mut sessions);
     sessions.destroy_empty();
@@ -383,7 +391,6 @@ fn ends_within_a_batch(rt: HostRuntime) {
 #[test]
 fn reads_while_the_log_is_held(rt: HostRuntime) {
     let (store, mut sessions) = opened(rt.alloc(), 1, 2, 100).expect(&rt, "store");
-    assert!(rt; find_program_of(store.catalogue(), Mode::Read, 1, &ZERO).is_ok());
     let other = last_of(&store, &mut sessions);
     let one = last_of(&store, &mut sessions);
     sessions.destroy_empty();
@@ -391,22 +398,39 @@ fn reads_while_the_log_is_held(rt: HostRuntime) {
     assert_eq!(rt; (done, answer.point, answer.reply), (0, 0, 0));
 }
 
-#[test]
-fn goes_on_while_a_replica_is_held(rt: HostRuntime) {
-    let (store, mut sessions) = opened(rt.alloc(), 2, 3, 100).expect(&rt, "store");
-    let _ = last_of(&store, &mut sessions).into_parts();
-    let _ = last_of(&store, &mut sessions).into_parts();
-    let mut beside = last_of(&store, &mut sessions);
-    let watching = own_of(&store, last_of(&store, &mut sessions));
-    let mut asking = last_of(&store, &mut sessions);
-    let holding = own_of(&store, last_of(&store, &mut sessions));
+// The sessions of two nodes of three slots, of which the second holds its replica.
+fn beside_a_held_replica<R: Wait + Threads + Sync>(
+    rt: &R,
+    store: &Store,
+    mut sessions: Vec<Session>,
+) -> Told
+    requires own { AreOf store.now sessions.items }
+    requires six { length sessions.items ≡ 6 }
+{
+    let _ = last_of(store, &mut sessions).into_parts();
+    let _ = last_of(store, &mut sessions).into_parts();
+    let mut beside = last_of(store, &mut sessions);
+    let watching = own_of(store, last_of(store, &mut sessions));
+    let mut asking = last_of(store, &mut sessions);
+    let holding = own_of(store, last_of(store, &mut sessions));
     sessions.destroy_empty();
     let pair = Pair { holding, watching };
-    let told = two_nodes(&rt, &store, &mut asking, &mut beside, pair);
+    let told = two_nodes(rt, store, &mut asking, &mut beside, pair);
     let _ = asking.into_parts();
     let _ = beside.into_parts();
-    assert_eq!(rt; told.in_time, (true, true));
-    assert_eq!(rt; told.calls.update, Ok(Answer { index: 0, reply: 1 }));
-    assert_eq!(rt; told.calls.read, Ok(ReadAnswer { point: 1, reply: 1 }));
-    assert_eq!(rt; told.asked, Ok(Answer { index: 1, reply: 2 }));
+    told
+}
+
+#[test]
+fn goes_on_while_a_replica_is_held(rt: HostRuntime) {
+    let (store, sessions) = opened(rt.alloc(), 2, 3, 100).expect(&rt, "store");
+    let told = beside_a_held_replica(&rt, &store, sessions);
+    let calls = (told.calls.update, told.calls.read, told.asked);
+    let first = Ok(Answer { index: 0, reply: 1 });
+    let second = Ok(Answer { index: 1, reply: 2 });
+    let read = Ok(ReadAnswer { point: 1, reply: 1 });
+    assert_eq!(rt;
+        (told.in_time, calls),
+        ((true, true), (first, read, second))
+    );
 }
