@@ -49,28 +49,27 @@ pub enum Call<'a> {
     },
 }
 
+// What a command is: its help, whether it takes the sizes of a store, and the words that must stand behind it, each with its help.
+#[derive(Clone, Copy)]
+struct Row<'a> {
+    name: &'a str,
+    about: &'a str,
+    after: &'a str,
+    is_sized: bool,
+    words: &'a [(&'a str, &'a str)],
+}
+
+// The sizes of a store that options set, each with what it is by default and its help.
+const SIZES: [(&str, &str, &str); 4] = [
+    ("nodes", "2", help::NODES),
+    ("slots", "2", help::SLOTS),
+    ("window", "64", help::WINDOW),
+    ("limit", "1000000", help::LIMIT),
+];
+
 // A word that must stand in the command line.
 fn word<'a>(alloc: Global, name: &'a str, help: &'a str) -> Arg<'a> {
     Arg::new(alloc, name).required(true).help(help)
-}
-
-fn manifest<'a>(alloc: Global) -> Arg<'a> {
-    word(alloc, "MANIFEST", help::MANIFEST)
-}
-
-// A command with its help.
-fn helped<'a>(alloc: Global, name: &'a str, about: &'a str, after: &'a str) -> Command<'a> {
-    Command::new(alloc, name).about(about).after_help(after)
-}
-
-fn check_command<'a>(alloc: Global) -> Result<Command<'a>, AllocError> {
-    helped(alloc, "check", help::CHECK, help::AFTER_CHECK).arg(manifest(alloc))
-}
-
-fn run_command<'a>(alloc: Global) -> Result<Command<'a>, AllocError> {
-    helped(alloc, "run", help::RUN, help::AFTER_RUN)
-        .arg(manifest(alloc))?
-        .arg(word(alloc, "SCRIPT", help::SCRIPT))
 }
 
 // An option whose value is a number of 32 bits.
@@ -83,71 +82,145 @@ fn size<'a>(alloc: Global, name: &'a str, default: &'a str, help: &'a str) -> Ar
         .help(help)
 }
 
-// A command with the options that are a store's sizes.
-fn sized<'a>(alloc: Global, command: Command<'a>) -> Result<Command<'a>, AllocError> {
-    command
-        .arg(size(alloc, "nodes", "2", help::NODES))?
-        .arg(size(alloc, "slots", "2", help::SLOTS))?
-        .arg(size(alloc, "window", "64", help::WINDOW))?
-        .arg(size(alloc, "limit", "1000000", help::LIMIT))
+// Appends the arguments of a command.
+fn list_arguments<'a>(
+    alloc: Global,
+    row: Row<'a>,
+    arguments: &mut Vec<Arg<'a>>,
+) -> Result<(), AllocError> {
+    if row.is_sized {
+        for &(name, default, help) in &SIZES {
+            arguments.push(size(alloc, name, default, help))?;
+        }
+    }
+    for &(name, help) in row.words {
+        arguments.push(word(alloc, name, help))?;
+    }
+    Ok(())
 }
 
-fn schedule_command<'a>(alloc: Global) -> Result<Command<'a>, AllocError> {
-    let command = helped(alloc, "schedule", help::SCHEDULE, help::AFTER_SCHEDULE);
-    sized(alloc, command)?
-        .arg(manifest(alloc))?
-        .arg(word(alloc, "STEPS", help::STEPS))
+// A command with its help.
+fn helped<'a>(alloc: Global, name: &'a str, about: &'a str, after: &'a str) -> Command<'a> {
+    Command::new(alloc, name).about(about).after_help(after)
 }
 
-fn stress_command<'a>(alloc: Global) -> Result<Command<'a>, AllocError> {
-    let command = helped(alloc, "stress", help::STRESS, help::AFTER_STRESS);
-    sized(alloc, command)?
-        .arg(manifest(alloc))?
-        .arg(word(alloc, "SCRIPT", help::SCRIPT))
+// The command of a row.
+fn row_command<'a>(alloc: Global, row: Row<'a>) -> Result<Command<'a>, AllocError> {
+    let mut arguments = Vec::new(alloc);
+    list_arguments(alloc, row, &mut arguments)?;
+    helped(alloc, row.name, row.about, row.after).args(arguments)
 }
 
-fn replay_command<'a>(alloc: Global) -> Result<Command<'a>, AllocError> {
-    helped(alloc, "replay", help::REPLAY, help::AFTER_REPLAY)
-        .arg(manifest(alloc))?
-        .arg(word(alloc, "TRANSCRIPT", help::TRANSCRIPT))
+// Appends the command of a row.
+fn list_command<'a>(
+    alloc: Global,
+    row: Row<'a>,
+    commands: &mut Vec<Command<'a>>,
+) -> Result<(), AllocError> {
+    Ok(commands.push(row_command(alloc, row)?)?)
 }
 
-fn asm_command<'a>(alloc: Global) -> Result<Command<'a>, AllocError> {
-    helped(alloc, "asm", help::ASM, help::AFTER_ASM).arg(word(alloc, "FILE", help::SOURCE))
+// Appends the commands that look at programs.
+fn list_programs<'a>(alloc: Global, commands: &mut Vec<Command<'a>>) -> Result<(), AllocError> {
+    list_command(
+        alloc,
+        Row {
+            name: "check",
+            about: help::CHECK,
+            after: help::AFTER_CHECK,
+            is_sized: false,
+            words: &[("MANIFEST", help::MANIFEST)],
+        },
+        commands,
+    )?;
+    list_command(
+        alloc,
+        Row {
+            name: "asm",
+            about: help::ASM,
+            after: help::AFTER_ASM,
+            is_sized: false,
+            words: &[("FILE", help::SOURCE)],
+        },
+        commands,
+    )?;
+    list_command(
+        alloc,
+        Row {
+            name: "dis",
+            about: help::DIS,
+            after: help::AFTER_DIS,
+            is_sized: false,
+            words: &[("FILE", help::PROGRAM)],
+        },
+        commands,
+    )
 }
 
-fn dis_command<'a>(alloc: Global) -> Result<Command<'a>, AllocError> {
-    helped(alloc, "dis", help::DIS, help::AFTER_DIS).arg(word(alloc, "FILE", help::PROGRAM))
+// Appends the commands that run a store.
+fn list_stores<'a>(alloc: Global, commands: &mut Vec<Command<'a>>) -> Result<(), AllocError> {
+    list_command(
+        alloc,
+        Row {
+            name: "run",
+            about: help::RUN,
+            after: help::AFTER_RUN,
+            is_sized: false,
+            words: &[("MANIFEST", help::MANIFEST), ("SCRIPT", help::SCRIPT)],
+        },
+        commands,
+    )?;
+    list_command(
+        alloc,
+        Row {
+            name: "replay",
+            about: help::REPLAY,
+            after: help::AFTER_REPLAY,
+            is_sized: false,
+            words: &[
+                ("MANIFEST", help::MANIFEST),
+                ("TRANSCRIPT", help::TRANSCRIPT),
+            ],
+        },
+        commands,
+    )?;
+    list_command(
+        alloc,
+        Row {
+            name: "schedule",
+            about: help::SCHEDULE,
+            after: help::AFTER_SCHEDULE,
+            is_sized: true,
+            words: &[("MANIFEST", help::MANIFEST), ("STEPS", help::STEPS)],
+        },
+        commands,
+    )?;
+    list_command(
+        alloc,
+        Row {
+            name: "stress",
+            about: help::STRESS,
+            after: help::AFTER_STRESS,
+            is_sized: true,
+            words: &[("MANIFEST", help::MANIFEST), ("SCRIPT", help::SCRIPT)],
+        },
+        commands,
+    )
 }
 
-// Adds a command, if it could be made.
-fn with<'a>(
-    command: Command<'a>,
-    added: Result<Command<'a>, AllocError>,
-) -> Result<Command<'a>, AllocError> {
-    command.subcommand(added?)
-}
-
-// Adds the commands that look at programs.
-fn with_programs<'a>(alloc: Global, command: Command<'a>) -> Result<Command<'a>, AllocError> {
-    let command = with(command, check_command(alloc))?;
-    let command = with(command, asm_command(alloc))?;
-    with(command, dis_command(alloc))
-}
-
-// Adds the commands that run a store.
-fn with_stores<'a>(alloc: Global, command: Command<'a>) -> Result<Command<'a>, AllocError> {
-    let command = with(command, run_command(alloc))?;
-    let command = with(command, replay_command(alloc))?;
-    let command = with(command, schedule_command(alloc))?;
-    with(command, stress_command(alloc))
+// Appends the commands.
+fn list_commands<'a>(alloc: Global, commands: &mut Vec<Command<'a>>) -> Result<(), AllocError> {
+    list_programs(alloc, commands)?;
+    list_stores(alloc, commands)
 }
 
 fn command<'a>(alloc: Global) -> Result<Command<'a>, AllocError> {
-    let command = helped(alloc, "nrbpf", help::ABOUT, help::AFTER)
+    let mut commands = Vec::new(alloc);
+    list_commands(alloc, &mut commands)?;
+    helped(alloc, "nrbpf", help::ABOUT, help::AFTER)
         .subcommand_required(true)
-        .arg_required_else_help(true);
-    with_stores(alloc, with_programs(alloc, command)?)
+        .arg_required_else_help(true)
+        .subcommands(commands)
 }
 
 // The sizes that the options name.
