@@ -7,56 +7,45 @@ use clap::{Arg, ArgMatches, Command};
 use oplog::Config;
 use std::alloc::{AllocError, Global};
 
-/// What is asked for.
-pub enum Call<'a> {
-    /// Check the manifest of this path.
-    Check(&'a str),
-    /// Assemble the text of this path.
-    Assemble(&'a str),
-    /// Disassemble the program file of this path.
-    Disassemble(&'a str),
+/// What is to be done.
+#[derive(Clone, Copy)]
+pub enum Task {
+    /// Check a manifest.
+    Check,
+    /// Assemble a text.
+    Assemble,
+    /// Disassemble a program file.
+    Disassemble,
     /// Run a script.
-    Run {
-        /// The path of the manifest.
-        manifest: &'a str,
-        /// The path of the script.
-        script: &'a str,
-    },
+    Run,
     /// Replay a transcript.
-    Replay {
-        /// The path of the manifest.
-        manifest: &'a str,
-        /// The path of the transcript.
-        transcript: &'a str,
-    },
-    /// Take a list of steps.
-    Schedule {
-        /// The sizes of the store.
-        config: Config,
-        /// The path of the manifest.
-        manifest: &'a str,
-        /// The path of the steps.
-        steps: &'a str,
-    },
-    /// Make the calls of a script on threads.
-    Stress {
-        /// The sizes of the store.
-        config: Config,
-        /// The path of the manifest.
-        manifest: &'a str,
-        /// The path of the script.
-        script: &'a str,
-    },
+    Replay,
+    /// Take a list of steps on a store of these sizes.
+    Schedule(Config),
+    /// Make the calls of a script on threads, on a store of these sizes.
+    Stress(Config),
 }
 
-// What a command is: its help, whether it takes the sizes of a store, and the words that must stand behind it, each with its help.
+/// What is asked for.
+#[derive(Clone, Copy)]
+pub struct Call<'a> {
+    /// What is to be done.
+    pub task: Task,
+    /// The path of the manifest, empty where the task reads none.
+    pub manifest: &'a str,
+    /// The path of the other file, empty where the task reads none.
+    pub file: &'a str,
+}
+
+// What a command is: its help, whether it takes the sizes of a store and a manifest, and the name and the help of the file that it reads besides.
 #[derive(Clone, Copy)]
 struct Row<'a> {
     name: &'a str,
     about: &'a str,
     after: &'a str,
     is_sized: bool,
-    words: &'a [(&'a str, &'a str)],
+    has_manifest: bool,
+    file: Option<(&'a str, &'a str)>,
 }
 
 // The sizes of a store that options set, each with what it is by default and its help.
@@ -67,9 +56,12 @@ const SIZES: [(&str, &str, &str); 4] = [
     ("limit", "1000000", help::LIMIT),
 ];
 
-// A word that must stand in the command line.
-fn word<'a>(alloc: Global, name: &'a str, help: &'a str) -> Arg<'a> {
-    Arg::new(alloc, name).required(true).help(help)
+// A path that must stand in the command line.
+fn path<'a>(alloc: Global, id: &'a str, name: &'a str, help: &'a str) -> Arg<'a> {
+    Arg::new(alloc, id)
+        .value_name(name)
+        .required(true)
+        .help(help)
 }
 
 // An option whose value is a number of 32 bits.
@@ -93,8 +85,11 @@ fn list_arguments<'a>(
             arguments.push(size(alloc, name, default, help))?;
         }
     }
-    for &(name, help) in row.words {
-        arguments.push(word(alloc, name, help))?;
+    if row.has_manifest {
+        arguments.push(path(alloc, "MANIFEST", "MANIFEST", help::MANIFEST))?;
+    }
+    if let Some((name, help)) = row.file {
+        arguments.push(path(alloc, "FILE", name, help))?;
     }
     Ok(())
 }
@@ -129,7 +124,8 @@ fn list_programs<'a>(alloc: Global, commands: &mut Vec<Command<'a>>) -> Result<(
             about: help::CHECK,
             after: help::AFTER_CHECK,
             is_sized: false,
-            words: &[("MANIFEST", help::MANIFEST)],
+            has_manifest: true,
+            file: None,
         },
         commands,
     )?;
@@ -140,7 +136,8 @@ fn list_programs<'a>(alloc: Global, commands: &mut Vec<Command<'a>>) -> Result<(
             about: help::ASM,
             after: help::AFTER_ASM,
             is_sized: false,
-            words: &[("FILE", help::SOURCE)],
+            has_manifest: false,
+            file: Some(("FILE", help::SOURCE)),
         },
         commands,
     )?;
@@ -151,7 +148,8 @@ fn list_programs<'a>(alloc: Global, commands: &mut Vec<Command<'a>>) -> Result<(
             about: help::DIS,
             after: help::AFTER_DIS,
             is_sized: false,
-            words: &[("FILE", help::PROGRAM)],
+            has_manifest: false,
+            file: Some(("FILE", help::PROGRAM)),
         },
         commands,
     )
@@ -166,7 +164,8 @@ fn list_stores<'a>(alloc: Global, commands: &mut Vec<Command<'a>>) -> Result<(),
             about: help::RUN,
             after: help::AFTER_RUN,
             is_sized: false,
-            words: &[("MANIFEST", help::MANIFEST), ("SCRIPT", help::SCRIPT)],
+            has_manifest: true,
+            file: Some(("SCRIPT", help::SCRIPT)),
         },
         commands,
     )?;
@@ -177,10 +176,8 @@ fn list_stores<'a>(alloc: Global, commands: &mut Vec<Command<'a>>) -> Result<(),
             about: help::REPLAY,
             after: help::AFTER_REPLAY,
             is_sized: false,
-            words: &[
-                ("MANIFEST", help::MANIFEST),
-                ("TRANSCRIPT", help::TRANSCRIPT),
-            ],
+            has_manifest: true,
+            file: Some(("TRANSCRIPT", help::TRANSCRIPT)),
         },
         commands,
     )?;
@@ -191,7 +188,8 @@ fn list_stores<'a>(alloc: Global, commands: &mut Vec<Command<'a>>) -> Result<(),
             about: help::SCHEDULE,
             after: help::AFTER_SCHEDULE,
             is_sized: true,
-            words: &[("MANIFEST", help::MANIFEST), ("STEPS", help::STEPS)],
+            has_manifest: true,
+            file: Some(("STEPS", help::STEPS)),
         },
         commands,
     )?;
@@ -202,7 +200,8 @@ fn list_stores<'a>(alloc: Global, commands: &mut Vec<Command<'a>>) -> Result<(),
             about: help::STRESS,
             after: help::AFTER_STRESS,
             is_sized: true,
-            words: &[("MANIFEST", help::MANIFEST), ("SCRIPT", help::SCRIPT)],
+            has_manifest: true,
+            file: Some(("SCRIPT", help::SCRIPT)),
         },
         commands,
     )
@@ -233,45 +232,26 @@ fn config_of(matches: &ArgMatches) -> Option<Config> {
     })
 }
 
-// The call of a command that reads a manifest.
-fn manifest_call<'a>(manifest: &'a str, matches: &ArgMatches<'a>) -> Call<'a> {
-    if let Some(script) = matches.get_str("SCRIPT") {
-        return match config_of(matches) {
-            Some(config) => Call::Stress {
-                config,
-                manifest,
-                script,
-            },
-            None => Call::Run { manifest, script },
-        };
-    }
-    if let Some(transcript) = matches.get_str("TRANSCRIPT") {
-        return Call::Replay {
-            manifest,
-            transcript,
-        };
-    }
-    match (config_of(matches), matches.get_str("STEPS")) {
-        (Some(config), Some(steps)) => Call::Schedule {
-            config,
-            manifest,
-            steps,
-        },
-        _ => Call::Check(manifest),
-    }
+// What the command of this name does.
+fn task_of(name: &str, matches: &ArgMatches) -> Option<Task> {
+    Some(match name {
+        "check" => Task::Check,
+        "asm" => Task::Assemble,
+        "dis" => Task::Disassemble,
+        "run" => Task::Run,
+        "replay" => Task::Replay,
+        "schedule" => Task::Schedule(config_of(matches)?),
+        _ => Task::Stress(config_of(matches)?),
+    })
 }
 
 // The call of a command with these arguments.
 fn call_of<'a>(name: &str, matches: &ArgMatches<'a>) -> Option<Call<'a>> {
-    if let Some(file) = matches.get_str("FILE") {
-        return Some(if name == "asm" {
-            Call::Assemble(file)
-        } else {
-            Call::Disassemble(file)
-        });
-    }
-    let manifest = matches.get_str("MANIFEST")?;
-    Some(manifest_call(manifest, matches))
+    Some(Call {
+        task: task_of(name, matches)?,
+        manifest: matches.get_str("MANIFEST").unwrap_or(""),
+        file: matches.get_str("FILE").unwrap_or(""),
+    })
 }
 
 // The call that a command line asks for, if it names a command.
