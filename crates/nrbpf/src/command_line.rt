@@ -2,8 +2,7 @@
 
 use crate::help;
 use clap::builder::ValueParser;
-use clap::error::{Error, ErrorKind};
-use clap::{Arg, ArgMatches, Command};
+use clap::{Arg, ArgMatches, Command, Error};
 use oplog::Config;
 use std::alloc::{AllocError, Global};
 
@@ -56,6 +55,12 @@ const SIZES: [(&str, &str, &str); 4] = [
     ("limit", "1000000", help::LIMIT),
 ];
 
+// Appends one more.
+fn append<T: Drop>(items: &mut Vec<T>, item: T) -> Result<(), AllocError> {
+    items.push(item)?;
+    Ok(())
+}
+
 // A path that must stand in the command line.
 fn path<'a>(alloc: Global, id: &'a str, name: &'a str, help: &'a str) -> Arg<'a> {
     Arg::new(alloc, id)
@@ -82,16 +87,19 @@ fn list_arguments<'a>(
 ) -> Result<(), AllocError> {
     if row.is_sized {
         for &(name, default, help) in &SIZES {
-            arguments.push(size(alloc, name, default, help))?;
+            append(arguments, size(alloc, name, default, help))?;
         }
     }
     if row.has_manifest {
-        arguments.push(path(alloc, "MANIFEST", "MANIFEST", help::MANIFEST))?;
+        append(
+            arguments,
+            path(alloc, "MANIFEST", "MANIFEST", help::MANIFEST),
+        )?;
     }
-    if let Some((name, help)) = row.file {
-        arguments.push(path(alloc, "FILE", name, help))?;
+    match row.file {
+        Some((name, help)) => append(arguments, path(alloc, "FILE", name, help)),
+        None => Ok(()),
     }
-    Ok(())
 }
 
 // A command with its help.
@@ -112,7 +120,7 @@ fn list_command<'a>(
     row: Row<'a>,
     commands: &mut Vec<Command<'a>>,
 ) -> Result<(), AllocError> {
-    Ok(commands.push(row_command(alloc, row)?)?)
+    append(commands, row_command(alloc, row)?)
 }
 
 // Appends the commands that look at programs.
@@ -260,17 +268,9 @@ fn named_call<'a>(matches: &ArgMatches<'a>) -> Option<Call<'a>> {
     call_of(name, inner)
 }
 
-// The call that the words ask of a command, or what is wrong with them.
-fn matched<'a>(command: &mut Command<'a>, words: &'a [String]) -> Result<Call<'a>, Error> {
-    let matches = command.try_get_matches_from_mut(words)?;
-    match named_call(&matches) {
-        Some(call) => Ok(call),
-        None => Err(command.error(ErrorKind::MissingSubcommand, "no command")?),
-    }
-}
-
-/// The call that the words of a command line ask for, the first of them the program's name.
-pub fn read<'a>(alloc: Global, words: &'a [String]) -> Result<Call<'a>, Error> {
-    let mut command = command(alloc)?;
-    matched(&mut command, words)
+/// The call that the words of a command line ask for, the first of them the program's name. Words that name no command are an
+/// `Err`, as a command must be named, and `None` says only that the parser broke that rule.
+pub fn read<'a>(alloc: Global, words: &'a [String]) -> Result<Option<Call<'a>>, Error> {
+    let matches = command(alloc)?.try_get_matches_from(words)?;
+    Ok(named_call(&matches))
 }

@@ -79,7 +79,8 @@ fn main(rt: HostRuntime) -> ExitCode {
         Err(_) => return ExitCode::from(FAULT),
     };
     match command_line::read(rt.alloc(), words.as_slice()) {
-        Ok(call) => finish(&rt, answer(&rt, &call)),
+        Ok(Some(call)) => finish(&rt, answer(&rt, &call)),
+        Ok(None) => ExitCode::from(FAULT),
         Err(error) => {
             let _ = error.print(&rt);
             ExitCode::from(error.exit_code() as u8)
