@@ -123,10 +123,21 @@ fn list_command<'a>(
     append(commands, row_command(alloc, row)?)
 }
 
-// Appends the commands that look at programs.
-fn list_programs<'a>(alloc: Global, commands: &mut Vec<Command<'a>>) -> Result<(), AllocError> {
-    list_command(
-        alloc,
+// Appends the commands of rows.
+fn list_rows<'a>(
+    alloc: Global,
+    rows: &[Row<'a>],
+    commands: &mut Vec<Command<'a>>,
+) -> Result<(), AllocError> {
+    for row in rows {
+        list_command(alloc, *row, commands)?;
+    }
+    Ok(())
+}
+
+// The commands that look at programs.
+fn program_rows<'a>() -> [Row<'a>; 3] {
+    [
         Row {
             name: "check",
             about: help::CHECK,
@@ -135,10 +146,6 @@ fn list_programs<'a>(alloc: Global, commands: &mut Vec<Command<'a>>) -> Result<(
             has_manifest: true,
             file: None,
         },
-        commands,
-    )?;
-    list_command(
-        alloc,
         Row {
             name: "asm",
             about: help::ASM,
@@ -147,10 +154,6 @@ fn list_programs<'a>(alloc: Global, commands: &mut Vec<Command<'a>>) -> Result<(
             has_manifest: false,
             file: Some(("FILE", help::SOURCE)),
         },
-        commands,
-    )?;
-    list_command(
-        alloc,
         Row {
             name: "dis",
             about: help::DIS,
@@ -159,14 +162,12 @@ fn list_programs<'a>(alloc: Global, commands: &mut Vec<Command<'a>>) -> Result<(
             has_manifest: false,
             file: Some(("FILE", help::PROGRAM)),
         },
-        commands,
-    )
+    ]
 }
 
-// Appends the commands that run a store.
-fn list_stores<'a>(alloc: Global, commands: &mut Vec<Command<'a>>) -> Result<(), AllocError> {
-    list_command(
-        alloc,
+// The commands that run a store.
+fn store_rows<'a>() -> [Row<'a>; 4] {
+    [
         Row {
             name: "run",
             about: help::RUN,
@@ -175,10 +176,6 @@ fn list_stores<'a>(alloc: Global, commands: &mut Vec<Command<'a>>) -> Result<(),
             has_manifest: true,
             file: Some(("SCRIPT", help::SCRIPT)),
         },
-        commands,
-    )?;
-    list_command(
-        alloc,
         Row {
             name: "replay",
             about: help::REPLAY,
@@ -187,10 +184,6 @@ fn list_stores<'a>(alloc: Global, commands: &mut Vec<Command<'a>>) -> Result<(),
             has_manifest: true,
             file: Some(("TRANSCRIPT", help::TRANSCRIPT)),
         },
-        commands,
-    )?;
-    list_command(
-        alloc,
         Row {
             name: "schedule",
             about: help::SCHEDULE,
@@ -199,10 +192,6 @@ fn list_stores<'a>(alloc: Global, commands: &mut Vec<Command<'a>>) -> Result<(),
             has_manifest: true,
             file: Some(("STEPS", help::STEPS)),
         },
-        commands,
-    )?;
-    list_command(
-        alloc,
         Row {
             name: "stress",
             about: help::STRESS,
@@ -211,14 +200,13 @@ fn list_stores<'a>(alloc: Global, commands: &mut Vec<Command<'a>>) -> Result<(),
             has_manifest: true,
             file: Some(("SCRIPT", help::SCRIPT)),
         },
-        commands,
-    )
+    ]
 }
 
 // Appends the commands.
 fn list_commands<'a>(alloc: Global, commands: &mut Vec<Command<'a>>) -> Result<(), AllocError> {
-    list_programs(alloc, commands)?;
-    list_stores(alloc, commands)
+    list_rows(alloc, &program_rows(), commands)?;
+    list_rows(alloc, &store_rows(), commands)
 }
 
 fn command<'a>(alloc: Global) -> Result<Command<'a>, AllocError> {
