@@ -114,15 +114,6 @@ fn row_command<'a>(alloc: Global, row: Row<'a>) -> Result<Command<'a>, AllocErro
     helped(alloc, row.name, row.about, row.after).args(arguments)
 }
 
-// Appends the command of a row.
-fn list_command<'a>(
-    alloc: Global,
-    row: Row<'a>,
-    commands: &mut Vec<Command<'a>>,
-) -> Result<(), AllocError> {
-    append(commands, row_command(alloc, row)?)
-}
-
 // Appends the commands of rows.
 fn list_rows<'a>(
     alloc: Global,
@@ -130,7 +121,7 @@ fn list_rows<'a>(
     commands: &mut Vec<Command<'a>>,
 ) -> Result<(), AllocError> {
     for row in rows {
-        list_command(alloc, *row, commands)?;
+        append(commands, row_command(alloc, *row)?)?;
     }
     Ok(())
 }

@@ -16,12 +16,12 @@ use std::thread::Threads;
 use stress::{OpenGate, Trial, stress};
 
 // Does a task, with what it reads and where it writes.
-fn perform<R: AllocGlobal + Threads + Wait + Sync, F: Folder, M: Read, S: Read, W: Write>(
+fn perform<R: AllocGlobal + Threads + Wait + Sync, F: Folder, I: Read, W: Write>(
     rt: &R,
     task: Task,
     folder: &F,
-    manifest: &mut M,
-    file: &mut S,
+    manifest: &mut I,
+    file: &mut I,
     writer: &mut W,
 ) -> Status {
     let alloc = rt.alloc();
