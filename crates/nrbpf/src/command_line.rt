@@ -36,7 +36,8 @@ pub struct Call<'a> {
     pub file: &'a str,
 }
 
-// What a command is: its help, whether it takes the sizes of a store and a manifest, and the name and the help of the file that it reads besides.
+// What a command is: its help, whether it takes the sizes of a store and a manifest, and the name and the help of the file that it
+// reads besides.
 #[derive(Clone, Copy)]
 struct Row<'a> {
     name: &'a str,
@@ -200,6 +201,7 @@ fn list_commands<'a>(alloc: Global, commands: &mut Vec<Command<'a>>) -> Result<(
     list_rows(alloc, &store_rows(), commands)
 }
 
+// The command line of the program.
 fn command<'a>(alloc: Global) -> Result<Command<'a>, AllocError> {
     let mut commands = Vec::new(alloc);
     list_commands(alloc, &mut commands)?;
@@ -228,7 +230,8 @@ fn task_of(name: &str, matches: &ArgMatches) -> Option<Task> {
         "run" => Task::Run,
         "replay" => Task::Replay,
         "schedule" => Task::Schedule(config_of(matches)?),
-        _ => Task::Stress(config_of(matches)?),
+        "stress" => Task::Stress(config_of(matches)?),
+        _ => return None,
     })
 }
 
@@ -247,8 +250,8 @@ fn named_call<'a>(matches: &ArgMatches<'a>) -> Option<Call<'a>> {
     call_of(name, inner)
 }
 
-/// The call that the words of a command line ask for, the first of them the program's name. Words that name no command are an
-/// `Err`, as a command must be named, and `None` says only that the parser broke that rule.
+/// The call that the words of a command line ask for, the first of them the program's name. The parser refuses words that name no
+/// command; `None` where it did not.
 pub fn read<'a>(alloc: Global, words: &'a [String]) -> Result<Option<Call<'a>>, Error> {
     let matches = command(alloc)?.try_get_matches_from(words)?;
     Ok(named_call(&matches))
