@@ -2,75 +2,72 @@
 
 use crate::help;
 use clap::builder::ValueParser;
-use clap::error::{Error, ErrorKind};
-use clap::{Arg, ArgMatches, Command};
+use clap::{Arg, ArgMatches, Command, Error};
 use oplog::Config;
 use std::alloc::{AllocError, Global};
 
-/// What is asked for.
-pub enum Call<'a> {
-    /// Check the manifest of this path.
-    Check(&'a str),
-    /// Assemble the text of this path.
-    Assemble(&'a str),
-    /// Disassemble the program file of this path.
-    Disassemble(&'a str),
+/// What is to be done.
+#[derive(Clone, Copy)]
+pub enum Task {
+    /// Check a manifest.
+    Check,
+    /// Assemble a text.
+    Assemble,
+    /// Disassemble a program file.
+    Disassemble,
     /// Run a script.
-    Run {
-        /// The path of the manifest.
-        manifest: &'a str,
-        /// The path of the script.
-        script: &'a str,
-    },
+    Run,
     /// Replay a transcript.
-    Replay {
-        /// The path of the manifest.
-        manifest: &'a str,
-        /// The path of the transcript.
-        transcript: &'a str,
-    },
-    /// Take a list of steps.
-    Schedule {
-        /// The sizes of the store.
-        config: Config,
-        /// The path of the manifest.
-        manifest: &'a str,
-        /// The path of the steps.
-        steps: &'a str,
-    },
-    /// Make the calls of a script on threads.
-    Stress {
-        /// The sizes of the store.
-        config: Config,
-        /// The path of the manifest.
-        manifest: &'a str,
-        /// The path of the script.
-        script: &'a str,
-    },
+    Replay,
+    /// Take a list of steps on a store of these sizes.
+    Schedule(Config),
+    /// Make the calls of a script on threads, on a store of these sizes.
+    Stress(Config),
 }
 
-// A word that must stand in the command line.
-fn word<'a>(alloc: Global, name: &'a str, help: &'a str) -> Arg<'a> {
-    Arg::new(alloc, name).required(true).help(help)
+/// What is asked for.
+#[derive(Clone, Copy)]
+pub struct Call<'a> {
+    /// What is to be done.
+    pub task: Task,
+    /// The path of the manifest, empty where the task reads none.
+    pub manifest: &'a str,
+    /// The path of the other file, empty where the task reads none.
+    pub file: &'a str,
 }
 
-fn manifest<'a>(alloc: Global) -> Arg<'a> {
-    word(alloc, "MANIFEST", help::MANIFEST)
+// What a command is: its help, whether it takes the sizes of a store and a manifest, and the name and the help of the file that it
+// reads besides.
+#[derive(Clone, Copy)]
+struct Row<'a> {
+    name: &'a str,
+    about: &'a str,
+    after: &'a str,
+    is_sized: bool,
+    has_manifest: bool,
+    file: Option<(&'a str, &'a str)>,
 }
 
-// A command with its help.
-fn helped<'a>(alloc: Global, name: &'a str, about: &'a str, after: &'a str) -> Command<'a> {
-    Command::new(alloc, name).about(about).after_help(after)
+// The sizes of a store that options set, each with what it is by default and its help.
+const SIZES: [(&str, &str, &str); 4] = [
+    ("nodes", "2", help::NODES),
+    ("slots", "2", help::SLOTS),
+    ("window", "64", help::WINDOW),
+    ("limit", "1000000", help::LIMIT),
+];
+
+// Appends one more.
+fn append<T: Drop>(items: &mut Vec<T>, item: T) -> Result<(), AllocError> {
+    items.push(item)?;
+    Ok(())
 }
 
-fn check_command<'a>(alloc: Global) -> Result<Command<'a>, AllocError> {
-    helped(alloc, "check", help::CHECK, help::AFTER_CHECK).arg(manifest(alloc))
-}
-
-fn run_command<'a>(alloc: Global) -> Result<Command<'a>, AllocError> {
-    helped(alloc, "run", help::RUN, help::AFTER_RUN)
-        .arg(manifest(alloc))?
-        .arg(word(alloc, "SCRIPT", help::SCRIPT))
+// A path that must stand in the command line.
+fn path<'a>(alloc: Global, id: &'a str, name: &'a str, help: &'a str) -> Arg<'a> {
+    Arg::new(alloc, id)
+        .value_name(name)
+        .required(true)
+        .help(help)
 }
 
 // An option whose value is a number of 32 bits.
@@ -83,71 +80,135 @@ fn size<'a>(alloc: Global, name: &'a str, default: &'a str, help: &'a str) -> Ar
         .help(help)
 }
 
-// A command with the options that are a store's sizes.
-fn sized<'a>(alloc: Global, command: Command<'a>) -> Result<Command<'a>, AllocError> {
-    command
-        .arg(size(alloc, "nodes", "2", help::NODES))?
-        .arg(size(alloc, "slots", "2", help::SLOTS))?
-        .arg(size(alloc, "window", "64", help::WINDOW))?
-        .arg(size(alloc, "limit", "1000000", help::LIMIT))
+// Appends the arguments of a command.
+fn list_arguments<'a>(
+    alloc: Global,
+    row: Row<'a>,
+    arguments: &mut Vec<Arg<'a>>,
+) -> Result<(), AllocError> {
+    if row.is_sized {
+        for &(name, default, help) in &SIZES {
+            append(arguments, size(alloc, name, default, help))?;
+        }
+    }
+    if row.has_manifest {
+        append(
+            arguments,
+            path(alloc, "MANIFEST", "MANIFEST", help::MANIFEST),
+        )?;
+    }
+    match row.file {
+        Some((name, help)) => append(arguments, path(alloc, "FILE", name, help)),
+        None => Ok(()),
+    }
 }
 
-fn schedule_command<'a>(alloc: Global) -> Result<Command<'a>, AllocError> {
-    let command = helped(alloc, "schedule", help::SCHEDULE, help::AFTER_SCHEDULE);
-    sized(alloc, command)?
-        .arg(manifest(alloc))?
-        .arg(word(alloc, "STEPS", help::STEPS))
+// A command with its help.
+fn helped<'a>(alloc: Global, name: &'a str, about: &'a str, after: &'a str) -> Command<'a> {
+    Command::new(alloc, name).about(about).after_help(after)
 }
 
-fn stress_command<'a>(alloc: Global) -> Result<Command<'a>, AllocError> {
-    let command = helped(alloc, "stress", help::STRESS, help::AFTER_STRESS);
-    sized(alloc, command)?
-        .arg(manifest(alloc))?
-        .arg(word(alloc, "SCRIPT", help::SCRIPT))
+// The command of a row.
+fn row_command<'a>(alloc: Global, row: Row<'a>) -> Result<Command<'a>, AllocError> {
+    let mut arguments = Vec::new(alloc);
+    list_arguments(alloc, row, &mut arguments)?;
+    helped(alloc, row.name, row.about, row.after).args(arguments)
 }
 
-fn replay_command<'a>(alloc: Global) -> Result<Command<'a>, AllocError> {
-    helped(alloc, "replay", help::REPLAY, help::AFTER_REPLAY)
-        .arg(manifest(alloc))?
-        .arg(word(alloc, "TRANSCRIPT", help::TRANSCRIPT))
+// Appends the commands of rows.
+fn list_rows<'a>(
+    alloc: Global,
+    rows: &[Row<'a>],
+    commands: &mut Vec<Command<'a>>,
+) -> Result<(), AllocError> {
+    for row in rows {
+        append(commands, row_command(alloc, *row)?)?;
+    }
+    Ok(())
 }
 
-fn asm_command<'a>(alloc: Global) -> Result<Command<'a>, AllocError> {
-    helped(alloc, "asm", help::ASM, help::AFTER_ASM).arg(word(alloc, "FILE", help::SOURCE))
+// The commands that look at programs.
+fn program_rows<'a>() -> [Row<'a>; 3] {
+    [
+        Row {
+            name: "check",
+            about: help::CHECK,
+            after: help::AFTER_CHECK,
+            is_sized: false,
+            has_manifest: true,
+            file: None,
+        },
+        Row {
+            name: "asm",
+            about: help::ASM,
+            after: help::AFTER_ASM,
+            is_sized: false,
+            has_manifest: false,
+            file: Some(("FILE", help::SOURCE)),
+        },
+        Row {
+            name: "dis",
+            about: help::DIS,
+            after: help::AFTER_DIS,
+            is_sized: false,
+            has_manifest: false,
+            file: Some(("FILE", help::PROGRAM)),
+        },
+    ]
 }
 
-fn dis_command<'a>(alloc: Global) -> Result<Command<'a>, AllocError> {
-    helped(alloc, "dis", help::DIS, help::AFTER_DIS).arg(word(alloc, "FILE", help::PROGRAM))
+// The commands that run a store.
+fn store_rows<'a>() -> [Row<'a>; 4] {
+    [
+        Row {
+            name: "run",
+            about: help::RUN,
+            after: help::AFTER_RUN,
+            is_sized: false,
+            has_manifest: true,
+            file: Some(("SCRIPT", help::SCRIPT)),
+        },
+        Row {
+            name: "replay",
+            about: help::REPLAY,
+            after: help::AFTER_REPLAY,
+            is_sized: false,
+            has_manifest: true,
+            file: Some(("TRANSCRIPT", help::TRANSCRIPT)),
+        },
+        Row {
+            name: "schedule",
+            about: help::SCHEDULE,
+            after: help::AFTER_SCHEDULE,
+            is_sized: true,
+            has_manifest: true,
+            file: Some(("STEPS", help::STEPS)),
+        },
+        Row {
+            name: "stress",
+            about: help::STRESS,
+            after: help::AFTER_STRESS,
+            is_sized: true,
+            has_manifest: true,
+            file: Some(("SCRIPT", help::SCRIPT)),
+        },
+    ]
 }
 
-// Adds a command, if it could be made.
-fn with<'a>(
-    command: Command<'a>,
-    added: Result<Command<'a>, AllocError>,
-) -> Result<Command<'a>, AllocError> {
-    command.subcommand(added?)
+// Appends the commands.
+fn list_commands<'a>(alloc: Global, commands: &mut Vec<Command<'a>>) -> Result<(), AllocError> {
+    list_rows(alloc, &program_rows(), commands)?;
+    list_rows(alloc, &store_rows(), commands)
 }
 
-// Adds the commands that look at programs.
-fn with_programs<'a>(alloc: Global, command: Command<'a>) -> Result<Command<'a>, AllocError> {
-    let command = with(command, check_command(alloc))?;
-    let command = with(command, asm_command(alloc))?;
-    with(command, dis_command(alloc))
-}
-
-// Adds the commands that run a store.
-fn with_stores<'a>(alloc: Global, command: Command<'a>) -> Result<Command<'a>, AllocError> {
-    let command = with(command, run_command(alloc))?;
-    let command = with(command, replay_command(alloc))?;
-    let command = with(command, schedule_command(alloc))?;
-    with(command, stress_command(alloc))
-}
-
+// The command line of the program.
 fn command<'a>(alloc: Global) -> Result<Command<'a>, AllocError> {
-    let command = helped(alloc, "nrbpf", help::ABOUT, help::AFTER)
+    let mut commands = Vec::new(alloc);
+    list_commands(alloc, &mut commands)?;
+    helped(alloc, "nrbpf", help::ABOUT, help::AFTER)
         .subcommand_required(true)
-        .arg_required_else_help(true);
-    with_stores(alloc, with_programs(alloc, command)?)
+        .arg_required_else_help(true)
+        .subcommands(commands)
 }
 
 // The sizes that the options name.
@@ -160,45 +221,27 @@ fn config_of(matches: &ArgMatches) -> Option<Config> {
     })
 }
 
-// The call of a command that reads a manifest.
-fn manifest_call<'a>(manifest: &'a str, matches: &ArgMatches<'a>) -> Call<'a> {
-    if let Some(script) = matches.get_str("SCRIPT") {
-        return match config_of(matches) {
-            Some(config) => Call::Stress {
-                config,
-                manifest,
-                script,
-            },
-            None => Call::Run { manifest, script },
-        };
-    }
-    if let Some(transcript) = matches.get_str("TRANSCRIPT") {
-        return Call::Replay {
-            manifest,
-            transcript,
-        };
-    }
-    match (config_of(matches), matches.get_str("STEPS")) {
-        (Some(config), Some(steps)) => Call::Schedule {
-            config,
-            manifest,
-            steps,
-        },
-        _ => Call::Check(manifest),
-    }
+// What the command of this name does.
+fn task_of(name: &str, matches: &ArgMatches) -> Option<Task> {
+    Some(match name {
+        "check" => Task::Check,
+        "asm" => Task::Assemble,
+        "dis" => Task::Disassemble,
+        "run" => Task::Run,
+        "replay" => Task::Replay,
+        "schedule" => Task::Schedule(config_of(matches)?),
+        "stress" => Task::Stress(config_of(matches)?),
+        _ => return None,
+    })
 }
 
 // The call of a command with these arguments.
 fn call_of<'a>(name: &str, matches: &ArgMatches<'a>) -> Option<Call<'a>> {
-    if let Some(file) = matches.get_str("FILE") {
-        return Some(if name == "asm" {
-            Call::Assemble(file)
-        } else {
-            Call::Disassemble(file)
-        });
-    }
-    let manifest = matches.get_str("MANIFEST")?;
-    Some(manifest_call(manifest, matches))
+    Some(Call {
+        task: task_of(name, matches)?,
+        manifest: matches.get_str("MANIFEST").unwrap_or(""),
+        file: matches.get_str("FILE").unwrap_or(""),
+    })
 }
 
 // The call that a command line asks for, if it names a command.
@@ -207,17 +250,9 @@ fn named_call<'a>(matches: &ArgMatches<'a>) -> Option<Call<'a>> {
     call_of(name, inner)
 }
 
-// The call that the words ask of a command, or what is wrong with them.
-fn matched<'a>(command: &mut Command<'a>, words: &'a [String]) -> Result<Call<'a>, Error> {
-    let matches = command.try_get_matches_from_mut(words)?;
-    match named_call(&matches) {
-        Some(call) => Ok(call),
-        None => Err(command.error(ErrorKind::MissingSubcommand, "no command")?),
-    }
-}
-
-/// The call that the words of a command line ask for, the first of them the program's name.
-pub fn read<'a>(alloc: Global, words: &'a [String]) -> Result<Call<'a>, Error> {
-    let mut command = command(alloc)?;
-    matched(&mut command, words)
+/// The call that the words of a command line ask for, the first of them the program's name. The parser refuses words that name no
+/// command; `None` where it did not.
+pub fn read<'a>(alloc: Global, words: &'a [String]) -> Result<Option<Call<'a>>, Error> {
+    let matches = command(alloc)?.try_get_matches_from(words)?;
+    Ok(named_call(&matches))
 }

@@ -5,123 +5,62 @@ mod command_line;
 mod disk;
 mod help;
 
-use command_line::Call;
-use console::{Setup, Status, assemble, check, disassemble, replay, run, schedule};
+use command_line::{Call, Task};
+use console::{Folder, Setup, Status, assemble, check, disassemble, replay, run, schedule};
 use disk::{Disk, LateFile};
-use oplog::Config;
-use std::io;
+use std::io::{self, Print, Read, Write};
 use std::process::ExitCode;
+use std::rt::Files;
 use std::sync::Wait;
 use std::thread::Threads;
 use stress::{OpenGate, Trial, stress};
 
-// Runs `check` on a manifest's file and standard output.
-fn check_file(rt: &HostRuntime, manifest: &str) -> Status {
-    check(
-        rt.alloc(),
-        &Disk { rt },
-        &mut LateFile::new(rt, manifest),
-        &mut io::writer(rt),
-    )
-}
-
-// Runs `run` on the files of a manifest and a script, and standard output.
-fn run_files(rt: &HostRuntime, manifest: &str, script: &str) -> Status {
-    run(
-        rt.alloc(),
-        &Disk { rt },
-        &mut LateFile::new(rt, manifest),
-        &mut LateFile::new(rt, script),
-        &mut io::writer(rt),
-    )
-}
-
-// Runs `replay` on the files of a manifest and a transcript, and standard output.
-fn replay_files(rt: &HostRuntime, manifest: &str, transcript: &str) -> Status {
-    replay(
-        rt.alloc(),
-        &Disk { rt },
-        &mut LateFile::new(rt, manifest),
-        &mut LateFile::new(rt, transcript),
-        &mut io::writer(rt),
-    )
-}
-
-// Runs `schedule` on the files of a manifest and of steps, and standard output.
-fn schedule_files(rt: &HostRuntime, config: Config, manifest: &str, steps: &str) -> Status {
-    let folder = &Disk { rt };
-    schedule(
-        rt.alloc(),
-        Setup { config, folder },
-        &mut LateFile::new(rt, manifest),
-        &mut LateFile::new(rt, steps),
-        &mut io::writer(rt),
-    )
-}
-
-// Runs `stress` on the files of a manifest and a script, and standard output. `threads` is the runtime too, by what only `main`
-// knows of it: that it may start threads.
-fn stress_files<R: Threads + Wait + Sync>(
-    rt: &HostRuntime,
-    threads: &R,
-    config: Config,
-    manifest: &str,
-    script: &str,
+// Does a task, with what it reads and where it writes.
+fn perform<R: AllocGlobal + Threads + Wait + Sync, F: Folder, I: Read, W: Write>(
+    rt: &R,
+    task: Task,
+    folder: &F,
+    manifest: &mut I,
+    file: &mut I,
+    writer: &mut W,
 ) -> Status {
-    let trial = Trial {
-        alloc: rt.alloc(),
-        config,
-        folder: &Disk { rt },
-        gate: &OpenGate,
-    };
-    stress(
-        threads,
-        &trial,
-        &mut LateFile::new(rt, manifest),
-        &mut LateFile::new(rt, script),
+    let alloc = rt.alloc();
+    match task {
+        Task::Check => check(alloc, folder, manifest, writer),
+        Task::Assemble => assemble(alloc, file, writer),
+        Task::Disassemble => disassemble(alloc, file, writer),
+        Task::Run => run(alloc, folder, manifest, file, writer),
+        Task::Replay => replay(alloc, folder, manifest, file, writer),
+        Task::Schedule(config) => {
+            schedule(alloc, Setup { config, folder }, manifest, file, writer)
+        }
+        Task::Stress(config) => {
+            let gate = &OpenGate;
+            let trial = Trial {
+                alloc,
+                config,
+                folder,
+                gate,
+            };
+            stress(rt, &trial, manifest, file, writer)
+        }
+    }
+}
+
+// Answers a call from the files that it names, on standard output. A file that its task does not read is not opened.
+fn answer<R: Files + Print + AllocGlobal + Threads + Wait + Sync>(rt: &R, call: &Call) -> Status {
+    perform(
+        rt,
+        call.task,
+        &Disk { rt },
+        &mut LateFile::new(rt, call.manifest),
+        &mut LateFile::new(rt, call.file),
         &mut io::writer(rt),
     )
 }
 
-// Runs `asm` on a text's file and standard output.
-fn assemble_file(rt: &HostRuntime, file: &str) -> Status {
-    assemble(
-        rt.alloc(),
-        &mut LateFile::new(rt, file),
-        &mut io::writer(rt),
-    )
-}
-
-// Runs `dis` on a program's file and standard output.
-fn disassemble_file(rt: &HostRuntime, file: &str) -> Status {
-    disassemble(
-        rt.alloc(),
-        &mut LateFile::new(rt, file),
-        &mut io::writer(rt),
-    )
-}
-
-fn answer<R: Threads + Wait + Sync>(rt: &HostRuntime, threads: &R, call: Call) -> ExitCode {
-    let status = match call {
-        Call::Check(manifest) => check_file(rt, manifest),
-        Call::Assemble(file) => assemble_file(rt, file),
-        Call::Disassemble(file) => disassemble_file(rt, file),
-        Call::Run { manifest, script } => run_files(rt, manifest, script),
-        Call::Replay {
-            manifest,
-            transcript,
-        } => replay_files(rt, manifest, transcript),
-        Call::Schedule {
-            config,
-            manifest,
-            steps,
-        } => schedule_files(rt, config, manifest, steps),
-        Call::Stress {
-            config,
-            manifest,
-            script,
-        } => stress_files(rt, threads, config, manifest, script),
-    };
+// Says on standard error what a command could not say on standard output, and gives the exit status.
+fn finish(rt: &HostRuntime, status: Status) -> ExitCode {
     if let Some(complaint) = status.complaint() {
         let _ = eprintln!(rt; "{complaint}");
     }
@@ -140,7 +79,8 @@ fn main(rt: HostRuntime) -> ExitCode {
         Err(_) => return ExitCode::from(FAULT),
     };
     match command_line::read(rt.alloc(), words.as_slice()) {
-        Ok(call) => answer(&rt, &rt, call),
+        Ok(Some(call)) => finish(&rt, answer(&rt, &call)),
+        Ok(None) => ExitCode::from(FAULT),
         Err(error) => {
             let _ = error.print(&rt);
             ExitCode::from(error.exit_code() as u8)
