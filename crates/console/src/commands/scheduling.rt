@@ -8,6 +8,7 @@ ghost use Rattle.console.specs.ScheduleAnswer.{steps_answer, catalogue_answer, s
 ghost use Rattle.console.specs.Report.{answer_of, Reports, ReportsSome};
 ghost use Rattle.console.specs.Input.{FailsAs};
 ghost use Rattle.console.specs.Loaded.{LoadedIs};
+ghost use Rattle.console.specs.RunAnswer.{behind};
 
 use crate::catalogues::Loaded;
 use crate::folder::Folder;
@@ -34,6 +35,31 @@ pub struct Setup<'a, F> {
     pub folder: &'a F,
 }
 
+// Takes the steps of a list up to the first bad line, or writes where the store is at the end, and tells whether
+// the list is good.
+fn take_lines(
+    alloc: Global,
+    world: &mut World,
+    nodes: u32,
+    steps: &str,
+    out: &mut Vec<u8>,
+) -> Result<Verdict, AllocError>
+    requires { length world.old.world.nodes ≡ nodes }
+    ensures { IfOk result (λ verdict. record { text = out.new.items; verdict = verdict }
+        ≡ behind out.old.items (steps_answer world.old.opening 1 world.old.world (lines_of steps.now))) }
+{
+    let mut lines = NumberedLines::new(steps);
+    while let Some((number, line)) = lines.take_line() {
+        let is_good = take_step_line(alloc, world, line, out)?;
+        if !is_good {
+            put_bad_line(out, number)?;
+            return Ok(Verdict::Refused);
+        }
+    }
+    put_end(out, world, nodes)?;
+    Ok(Verdict::Good)
+}
+
 // What a new store answers to a list of steps.
 fn steps_reply(
     alloc: Global,
@@ -46,22 +72,8 @@ fn steps_reply(
 {
     let mut world = world;
     let mut text = Vec::new(alloc);
-    let mut lines = NumberedLines::new(steps);
-    while let Some((number, line)) = lines.take_line() {
-        let is_good = take_step_line(alloc, &mut world, line, &mut text)?;
-        if !is_good {
-            put_bad_line(&mut text, number)?;
-            return Ok(Reply {
-                text,
-                verdict: Verdict::Refused,
-            });
-        }
-    }
-    put_end(&mut text, &world, config.nodes)?;
-    Ok(Reply {
-        text,
-        verdict: Verdict::Good,
-    })
+    let verdict = take_lines(alloc, &mut world, config.nodes, steps, &mut text)?;
+    Ok(Reply { text, verdict })
 }
 
 // What a catalogue answers to a list of steps, in a store of these sizes.
