@@ -4,7 +4,7 @@ ghost use Rattle.std.specs.Prelude.{◌≡◌, length, IfOk, IfSome, MatchResult
 ghost use Rattle.loader.specs.Loading.{Outcome};
 ghost use Rattle.text.specs.Lines.{lines_of};
 ghost use Rattle.console.specs.Answer.{not_text};
-ghost use Rattle.console.specs.ScheduleAnswer.{steps_answer, catalogue_answer, scheduled, schedule_answer, IsScheduleAnswer};
+ghost use Rattle.console.specs.ScheduleAnswer.{sizes_refused as refused_sizes, steps_answer, catalogue_answer, scheduled, schedule_answer, IsScheduleAnswer};
 ghost use Rattle.console.specs.Report.{answer_of, Reports, ReportsSome};
 ghost use Rattle.console.specs.Input.{FailsAs};
 ghost use Rattle.console.specs.Loaded.{LoadedIs};
@@ -63,17 +63,26 @@ fn take_lines(
 // What a new store answers to a list of steps.
 fn steps_reply(
     alloc: Global,
-    world: World,
-    config: Config,
+    world: &mut World,
+    nodes: u32,
     steps: &str,
 ) -> Result<Reply, AllocError>
-    requires { length world.world.nodes ≡ config.nodes }
-    ensures { IfOk result (λ r. answer_of r ≡ steps_answer world.opening 1 world.world (lines_of steps.now)) }
+    requires { length world.old.world.nodes ≡ nodes }
+    ensures { IfOk result (λ r. answer_of r ≡ steps_answer world.old.opening 1 world.old.world (lines_of steps.now)) }
 {
-    let mut world = world;
     let mut text = Vec::new(alloc);
-    let verdict = take_lines(alloc, &mut world, config.nodes, steps, &mut text)?;
+    let verdict = take_lines(alloc, world, nodes, steps, &mut text)?;
     Ok(Reply { text, verdict })
+}
+
+// The answer where the sizes of a store are out of their limits.
+fn sizes_reply(alloc: Global) -> Result<Reply, AllocError>
+    ensures { IfOk result (λ r. answer_of r ≡ refused_sizes) }
+{
+    Ok(Reply {
+        text: sizes_refused(alloc)?,
+        verdict: Verdict::Refused,
+    })
 }
 
 // What a catalogue answers to a list of steps, in a store of these sizes.
@@ -86,11 +95,8 @@ fn catalogue_reply(
     ensures { IfOk result (λ r. answer_of r ≡ catalogue_answer config catalogue steps.now) }
 {
     match World::open(alloc, config, catalogue) {
-        Ok(world) => steps_reply(alloc, world, config, steps),
-        Err(OpenError::OutOfLimits) => Ok(Reply {
-            text: sizes_refused(alloc)?,
-            verdict: Verdict::Refused,
-        }),
+        Ok(mut world) => steps_reply(alloc, &mut world, config.nodes, steps),
+        Err(OpenError::OutOfLimits) => sizes_reply(alloc),
         Err(OpenError::NoMemory) => Err(AllocError),
     }
 }
