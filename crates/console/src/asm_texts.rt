@@ -3,7 +3,7 @@
 ghost use Rattle.std.specs.Prelude.{◌≡◌, IfOk};
 ghost use Rattle.console.specs.AsmAnswer.{hex_line, asm_refusal_text, decode_refusal_text, bad_hex_line};
 
-use crate::texts::put_numbered;
+use crate::texts::put_pair;
 use asm::AsmRefusal;
 use insn::{DecodeRefusal, Insn, encode};
 use std::alloc::{AllocError, Global};
@@ -23,9 +23,8 @@ pub(crate) fn asm_refusal_text(alloc: Global, refusal: AsmRefusal) -> Result<Vec
     ensures { IfOk result (λ v. v.items ≡ asm_refusal_text refusal) }
 {
     let mut out = Vec::new(alloc);
-    put_numbered(&mut out, b"line ", refusal.line as u64)?;
-    put_numbered(&mut out, b": A", refusal.why.number() as u64)?;
-    out.extend_from_slice(b"\n")?;
+    let why = refusal.why.number();
+    put_pair(&mut out, b"line ", refusal.line as u64, b": A", why as u64)?;
     Ok(out)
 }
 
@@ -37,9 +36,8 @@ pub(crate) fn decode_refusal_text(
     ensures { IfOk result (λ v. v.items ≡ decode_refusal_text refusal) }
 {
     let mut out = Vec::new(alloc);
-    put_numbered(&mut out, b"D", refusal.why.number() as u64)?;
-    put_numbered(&mut out, b" slot ", refusal.slot as u64)?;
-    out.extend_from_slice(b"\n")?;
+    let why = refusal.why.number();
+    put_pair(&mut out, b"D", why as u64, b" slot ", refusal.slot as u64)?;
     Ok(out)
 }
 

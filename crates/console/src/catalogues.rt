@@ -1,6 +1,6 @@
 // The catalogue that a manifest and its files say.
 
-ghost use Rattle.std.specs.Prelude.{IfOk};
+ghost use Rattle.std.specs.Prelude.{Err, IfOk};
 ghost use Rattle.loader.specs.Loading.{loaded};
 ghost use Rattle.console.specs.Input.{owned_files};
 ghost use Rattle.console.specs.Loaded.{LoadedIs};
@@ -9,7 +9,7 @@ use crate::input::lent;
 use crate::reporting::Reply;
 use crate::status::Verdict;
 use crate::texts::refusal_text;
-use loader::{Catalogue, LoadError, load_manifest};
+use loader::{Catalogue, LoadError, LoadRefusal, load_manifest};
 use std::alloc::{AllocError, Global};
 
 /// The catalogue; or what a command answers to a refused manifest.
@@ -19,6 +19,16 @@ pub enum Loaded {
     Catalogue(Catalogue),
     /// It is refused.
     Refused(Reply),
+}
+
+// What a command answers to a manifest that is refused.
+fn refused(alloc: Global, refusal: LoadRefusal) -> Result<Loaded, AllocError>
+    ensures { IfOk result (LoadedIs (Err refusal)) }
+{
+    Ok(Loaded::Refused(Reply {
+        text: refusal_text(alloc, refusal)?,
+        verdict: Verdict::Refused,
+    }))
 }
 
 // Loads a manifest with its files.
@@ -33,9 +43,6 @@ pub(crate) fn load(
     match load_manifest(alloc, manifest, &files) {
         Ok(catalogue) => Ok(Loaded::Catalogue(catalogue)),
         Err(LoadError::NoMemory) => Err(AllocError),
-        Err(LoadError::Refused(refusal)) => Ok(Loaded::Refused(Reply {
-            text: refusal_text(alloc, refusal)?,
-            verdict: Verdict::Refused,
-        })),
+        Err(LoadError::Refused(refusal)) => refused(alloc, refusal),
     }
 }

@@ -1,29 +1,14 @@
 // What `schedule` writes.
 
-ghost use Rattle.std.specs.Prelude.{◌≡◌, ◌++◌, length, slice_get, codes, decimal, OnOk, IfOk};
+ghost use Rattle.std.specs.Prelude.{◌≡◌, ◌++◌, length, slice_get, OnOk, IfOk};
 ghost use Rattle.console.specs.ScheduleAnswer.{step_text, log_text, end_text, sizes_refused};
 ghost use Rattle.console.specs.Scheduling.{node_line};
 
-use crate::texts::put_numbered;
+use crate::texts::{put_numbered, put_pair};
 use combiner::Reply;
 use oplog::LogState;
 use schedule::{StepAnswer, World};
 use std::alloc::{AllocError, Global};
-
-// Two numbers in a line.
-fn put_pair(
-    out: &mut Vec<u8>,
-    before: &[u8],
-    first: u64,
-    between: &[u8],
-    second: u64,
-) -> Result<(), AllocError>
-    ensures { OnOk result (out.new.items ≡ out.old.items ++ (before.now ++ (decimal first ++ (between.now ++ (decimal second ++ codes "\n"))))) }
-{
-    put_numbered(out, before, first)?;
-    put_numbered(out, between, second)?;
-    out.extend_from_slice(b"\n")
-}
 
 // The line of a step.
 pub(crate) fn put_step(out: &mut Vec<u8>, answer: StepAnswer) -> Result<(), AllocError>

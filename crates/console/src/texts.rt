@@ -1,6 +1,6 @@
 // What the commands write.
 
-ghost use Rattle.std.specs.Prelude.{◌≡◌, ◌++◌, OnOk, IfOk, decimal, slice_get};
+ghost use Rattle.std.specs.Prelude.{◌≡◌, ◌++◌, OnOk, IfOk, codes, decimal, slice_get};
 ghost use Rattle.console.specs.Texts.{program_line, line_if_any, programs_text, fault_text, refusal_text, not_text_line, no_memory_line};
 
 use itoa::Buffer;
@@ -36,6 +36,21 @@ pub fn put_numbered(out: &mut Vec<u8>, before: &[u8], n: u64) -> Result<(), Allo
 {
     out.extend_from_slice(before)?;
     put_number(out, n)
+}
+
+// Two numbers in a line.
+pub(crate) fn put_pair(
+    out: &mut Vec<u8>,
+    before: &[u8],
+    first: u64,
+    between: &[u8],
+    second: u64,
+) -> Result<(), AllocError>
+    ensures { OnOk result (out.new.items ≡ out.old.items ++ (before.now ++ (decimal first ++ (between.now ++ (decimal second ++ codes "\n"))))) }
+{
+    put_numbered(out, before, first)?;
+    put_numbered(out, between, second)?;
+    out.extend_from_slice(b"\n")
 }
 
 // A program's line.

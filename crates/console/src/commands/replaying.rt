@@ -8,18 +8,29 @@ ghost use Rattle.console.specs.ReplayAnswer.{transcript_answer, nothing_replayed
 ghost use Rattle.console.specs.Report.{answer_of, Reports, ReportsSome};
 ghost use Rattle.console.specs.Input.{FailsAs};
 ghost use Rattle.console.specs.Loaded.{LoadedIs};
+ghost use Rattle.console.specs.Replaying.{ended_answer};
 
 use crate::catalogues::Loaded;
 use crate::folder::Folder;
 use crate::input::InputFault;
 use crate::inputs::read_inputs;
 use crate::replay_texts::put_end;
-use crate::replaying::Replaying;
+use crate::replaying::{ReplayEnd, Replaying};
 use crate::reporting::{Reply, report};
 use crate::status::Status;
 use loader::Catalogue;
 use std::alloc::{AllocError, Global};
 use std::io::{Read, Write};
+
+// What is answered where a replay ended so.
+fn end_reply(alloc: Global, end: ReplayEnd, replaying: &Replaying) -> Result<Reply, AllocError>
+    ensures { IfOk result (λ r. answer_of r ≡ ended_answer end replaying.now) }
+{
+    let mut text = Vec::new(alloc);
+    put_end(&mut text, end, replaying)?;
+    let verdict = end.verdict();
+    Ok(Reply { text, verdict })
+}
 
 // What a catalogue's programs answer to a transcript.
 fn transcript_reply(
@@ -31,10 +42,7 @@ fn transcript_reply(
 {
     let mut replaying = Replaying::open(alloc, catalogue)?;
     let end = replaying.take_lines(catalogue, transcript);
-    let mut text = Vec::new(alloc);
-    put_end(&mut text, end, &replaying)?;
-    let verdict = end.verdict();
-    Ok(Reply { text, verdict })
+    end_reply(alloc, end, &replaying)
 }
 
 // What a manifest that was loaded and a transcript get.

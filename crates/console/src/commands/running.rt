@@ -1,12 +1,13 @@
 // The command `run`.
 
-ghost use Rattle.std.specs.Prelude.{◌≡◌, IfOk, IfSome, MatchResult};
+ghost use Rattle.std.specs.Prelude.{◌≡◌, [], IfOk, IfSome, MatchResult};
 ghost use Rattle.loader.specs.Loading.{Outcome};
 ghost use Rattle.console.specs.Answer.{not_text};
-ghost use Rattle.console.specs.RunAnswer.{script_answer, ran, run_answer, IsRunAnswer};
+ghost use Rattle.console.specs.RunAnswer.{behind, script_answer, ran, run_answer, IsRunAnswer};
 ghost use Rattle.console.specs.Report.{answer_of, Reports, ReportsSome};
 ghost use Rattle.console.specs.Input.{FailsAs};
 ghost use Rattle.console.specs.Loaded.{LoadedIs};
+ghost use Rattle.console.specs.Running.{IsSteady, Follows};
 
 use crate::calls::take_line;
 use crate::catalogues::Loaded;
@@ -22,27 +23,50 @@ use std::alloc::{AllocError, Global};
 use std::io::{Read, Write};
 use text::NumberedLines;
 
+// Runs the lines of a script up to the first bad one, and tells whether the script is good.
+fn take_lines(
+    node: &mut SingleNode,
+    catalogue: &Catalogue,
+    script: &str,
+    out: &mut Vec<u8>,
+) -> Result<Verdict, AllocError>
+    requires steady { IsSteady catalogue.now node.old }
+    requires nothing { Follows catalogue.now [] node.old }
+    ensures { IfOk result (λ verdict. record { text = out.new.items; verdict = verdict } ≡ behind out.old.items (script_answer catalogue.now script.now)) }
+{
+    let mut lines = NumberedLines::new(script);
+    while let Some((number, line)) = lines.take_line() {
+        let is_good = take_line(node, catalogue, line, out)?;
+        if !is_good {
+            put_bad_line(out, number)?;
+            return Ok(Verdict::Refused);
+        }
+    }
+    Ok(Verdict::Good)
+}
+
+// What a new node answers to a script.
+fn node_reply(
+    alloc: Global,
+    node: &mut SingleNode,
+    catalogue: &Catalogue,
+    script: &str,
+) -> Result<Reply, AllocError>
+    requires steady { IsSteady catalogue.now node.old }
+    requires nothing { Follows catalogue.now [] node.old }
+    ensures { IfOk result (λ r. answer_of r ≡ script_answer catalogue.now script.now) }
+{
+    let mut text = Vec::new(alloc);
+    let verdict = take_lines(node, catalogue, script, &mut text)?;
+    Ok(Reply { text, verdict })
+}
+
 // What a catalogue's programs answer to a script.
 fn script_reply(alloc: Global, catalogue: &Catalogue, script: &str) -> Result<Reply, AllocError>
     ensures { IfOk result (λ r. answer_of r ≡ script_answer catalogue.now script.now) }
 {
     let mut node = SingleNode::open(alloc, catalogue)?;
-    let mut text = Vec::new(alloc);
-    let mut lines = NumberedLines::new(script);
-    while let Some((number, line)) = lines.take_line() {
-        let is_good = take_line(&mut node, catalogue, line, &mut text)?;
-        if !is_good {
-            put_bad_line(&mut text, number)?;
-            return Ok(Reply {
-                text,
-                verdict: Verdict::Refused,
-            });
-        }
-    }
-    Ok(Reply {
-        text,
-        verdict: Verdict::Good,
-    })
+    node_reply(alloc, &mut node, catalogue, script)
 }
 
 // What a manifest that was loaded and a script get.

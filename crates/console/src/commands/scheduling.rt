@@ -4,10 +4,11 @@ ghost use Rattle.std.specs.Prelude.{◌≡◌, length, IfOk, IfSome, MatchResult
 ghost use Rattle.loader.specs.Loading.{Outcome};
 ghost use Rattle.text.specs.Lines.{lines_of};
 ghost use Rattle.console.specs.Answer.{not_text};
-ghost use Rattle.console.specs.ScheduleAnswer.{steps_answer, catalogue_answer, scheduled, schedule_answer, IsScheduleAnswer};
+ghost use Rattle.console.specs.ScheduleAnswer.{sizes_refused as refused_sizes, steps_answer, catalogue_answer, scheduled, schedule_answer, IsScheduleAnswer};
 ghost use Rattle.console.specs.Report.{answer_of, Reports, ReportsSome};
 ghost use Rattle.console.specs.Input.{FailsAs};
 ghost use Rattle.console.specs.Loaded.{LoadedIs};
+ghost use Rattle.console.specs.RunAnswer.{behind};
 
 use crate::catalogues::Loaded;
 use crate::folder::Folder;
@@ -34,33 +35,53 @@ pub struct Setup<'a, F> {
     pub folder: &'a F,
 }
 
+// Takes the steps of a list up to the first bad line, or writes where the store is at the end, and tells whether
+// the list is good.
+fn take_lines(
+    alloc: Global,
+    world: &mut World,
+    nodes: u32,
+    steps: &str,
+    out: &mut Vec<u8>,
+) -> Result<Verdict, AllocError>
+    requires { length world.old.world.nodes ≡ nodes }
+    ensures { IfOk result (λ verdict. record { text = out.new.items; verdict = verdict }
+        ≡ behind out.old.items (steps_answer world.old.opening 1 world.old.world (lines_of steps.now))) }
+{
+    let mut lines = NumberedLines::new(steps);
+    while let Some((number, line)) = lines.take_line() {
+        let is_good = take_step_line(alloc, world, line, out)?;
+        if !is_good {
+            put_bad_line(out, number)?;
+            return Ok(Verdict::Refused);
+        }
+    }
+    put_end(out, world, nodes)?;
+    Ok(Verdict::Good)
+}
+
 // What a new store answers to a list of steps.
 fn steps_reply(
     alloc: Global,
-    world: World,
-    config: Config,
+    world: &mut World,
+    nodes: u32,
     steps: &str,
 ) -> Result<Reply, AllocError>
-    requires { length world.world.nodes ≡ config.nodes }
-    ensures { IfOk result (λ r. answer_of r ≡ steps_answer world.opening 1 world.world (lines_of steps.now)) }
+    requires { length world.old.world.nodes ≡ nodes }
+    ensures { IfOk result (λ r. answer_of r ≡ steps_answer world.old.opening 1 world.old.world (lines_of steps.now)) }
 {
-    let mut world = world;
     let mut text = Vec::new(alloc);
-    let mut lines = NumberedLines::new(steps);
-    while let Some((number, line)) = lines.take_line() {
-        let is_good = take_step_line(alloc, &mut world, line, &mut text)?;
-        if !is_good {
-            put_bad_line(&mut text, number)?;
-            return Ok(Reply {
-                text,
-                verdict: Verdict::Refused,
-            });
-        }
-    }
-    put_end(&mut text, &world, config.nodes)?;
+    let verdict = take_lines(alloc, world, nodes, steps, &mut text)?;
+    Ok(Reply { text, verdict })
+}
+
+// The answer where the sizes of a store are out of their limits.
+fn sizes_reply(alloc: Global) -> Result<Reply, AllocError>
+    ensures { IfOk result (λ r. answer_of r ≡ refused_sizes) }
+{
     Ok(Reply {
-        text,
-        verdict: Verdict::Good,
+        text: sizes_refused(alloc)?,
+        verdict: Verdict::Refused,
     })
 }
 
@@ -74,11 +95,8 @@ fn catalogue_reply(
     ensures { IfOk result (λ r. answer_of r ≡ catalogue_answer config catalogue steps.now) }
 {
     match World::open(alloc, config, catalogue) {
-        Ok(world) => steps_reply(alloc, world, config, steps),
-        Err(OpenError::OutOfLimits) => Ok(Reply {
-            text: sizes_refused(alloc)?,
-            verdict: Verdict::Refused,
-        }),
+        Ok(mut world) => steps_reply(alloc, &mut world, config.nodes, steps),
+        Err(OpenError::OutOfLimits) => sizes_reply(alloc),
         Err(OpenError::NoMemory) => Err(AllocError),
     }
 }

@@ -2,12 +2,13 @@ use Rattle.std.proofs.Common.{◌≡◌, length}
 use Rattle.text.specs.Lines.{lines_of}
 use Rattle.console.specs.RunAnswer.{behind}
 use Rattle.console.specs.ScheduleAnswer.{steps_answer}
-use Rattle.console.proofs.commands.scheduling.steps_reply.Given as goal
+use Rattle.console.proofs.commands.scheduling.take_lines.Given as goal
 
 abbrev pub invariant-loop-number : goal.invariant-loop-number
 invariant-loop-number l =
-    (l.world.opening ≡ l.fn.world.opening) × (length l.world.world.nodes ≡ l.config.nodes)
-    × (behind l.text.items (steps_answer l.fn.world.opening l.lines.number l.world.world l.lines.lines) ≡ steps_answer l.fn.world.opening 1 l.fn.world.world (lines_of l.steps))
+    (l.world.opening ≡ l.fn.world.opening) × (length l.world.world.nodes ≡ l.nodes)
+    × (behind l.out.items (steps_answer l.fn.world.opening l.lines.number l.world.world l.lines.lines)
+    ≡ behind l.fn.out.items (steps_answer l.fn.world.opening 1 l.fn.world.world (lines_of l.steps)))
 
 abbrev pub decreases-loop-number : goal.decreases-loop-number
 decreases-loop-number l = length l.lines.lines

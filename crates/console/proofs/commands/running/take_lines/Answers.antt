@@ -2,19 +2,19 @@ use Rattle.std.proofs.Common.{◌≡◌, [], ◌∙◌, true, false, ap, rules}
 use Rattle.text.specs.Lines.{LinesLeft}
 use Rattle.console.specs.RunAnswer.{behind, lines_answer}
 use Rattle.console.proofs.RunLines.{good_on, bad_here, all_done}
-use Rattle.console.proofs.commands.running.script_reply.Goals as goal
+use Rattle.console.proofs.commands.running.take_lines.Goals as goal
 
 pub loop-number-init : goal.loop-number-init
 loop-number-init c =
-    let begin = ap (λ (l : LinesLeft). behind [] (lines_answer c.args.catalogue.now l.number [] l.lines)) c.new-lines.ensures.all in
-    (c.in_ok-node.ensures.steady, ([], c.in_ok-node.ensures.empty, rw c.new-text.ensures.items begin))
+    let begin = ap (λ (l : LinesLeft). behind c.args.out.now.items (lines_answer c.args.catalogue.now l.number [] l.lines)) c.new-lines.ensures.all in
+    (c.requires.steady, ([], c.requires.nothing, begin))
 
 pub returns-then-not-is_good : goal.returns-then-not-is_good
 returns-then-not-is_good c =
     let h = c.loop-number.invariant.1 in
     let taken = c.in-Some.ensures.taken in
     let off : c.in_ok-is_good.is_good ≡ false = search rules in
-    bad_here c.args.catalogue.now c.loop-number.lines.number h.0 c.loop-number.text.items c.loop-number.lines.lines c.in-Some.line.now c.take_line.new.self.lines taken.0 c.take_line-in-Some.new.node
+    bad_here c.args.catalogue.now c.loop-number.lines.number h.0 c.loop-number.out.items c.loop-number.lines.lines c.in-Some.line.now c.take_line.new.self.lines taken.0 c.take_line-in-Some.new.node
     c.take_line-in-Some.new.out.items c.put_bad_line.new.out.items (rw off at (c.in_ok-is_good.ensures.taken h.0 h.1)) (rw taken.1 at c.in_ok-put_bad_line.ensures) ∙ h.2
 
 pub loop-number-preserved : goal.loop-number-preserved
@@ -23,7 +23,7 @@ loop-number-preserved c =
     let taken = c.in-Some.ensures.taken in
     let on : c.in_ok-is_good.is_good ≡ true = search rules in (
       c.in_ok-is_good.ensures.steady,
-      rw taken.2 (good_on c.args.catalogue.now c.loop-number.lines.number h.0 c.loop-number.text.items c.loop-number.lines.lines c.in-Some.line.now c.take_line.new.self.lines taken.0
+      rw taken.2 (good_on c.args.catalogue.now c.loop-number.lines.number h.0 c.loop-number.out.items c.loop-number.lines.lines c.in-Some.line.now c.take_line.new.self.lines taken.0
           c.take_line-in-Some.new.node c.take_line-in-Some.new.out.items _ (rw on at (c.in_ok-is_good.ensures.taken h.0 h.1)) h.2),
     )
 
@@ -31,4 +31,4 @@ pub returns : goal.returns
 returns c =
     let h = c.loop-number.invariant.1 in
     let taken = c.in_default.ensures.taken in
-    all_done c.args.catalogue.now c.loop-number.lines.number h.0 c.loop-number.text.items c.loop-number.lines.lines taken.0 ∙ h.2
+    all_done c.args.catalogue.now c.loop-number.lines.number h.0 c.loop-number.out.items c.loop-number.lines.lines taken.0 ∙ h.2
