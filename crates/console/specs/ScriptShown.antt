@@ -1,5 +1,4 @@
 -- What a line that was read says, without where its text lies. Clauses of private functions alone cite this.
-use Rattle.std.specs.Prelude.{ℕ, List, Option, Some, None, if◌then◌else◌, codes, bytes_eq}
 use Rattle.console.specs.declared.script.ProgramCall.{ProgramCall as TheCall}
 use Rattle.console.specs.declared.script.ScriptLine.{ScriptLine}
 use Rattle.console.specs.declared.script.ScriptLine.TheVariants as lines
@@ -44,14 +43,6 @@ step_of (steps.Finish node) = said.Finish node
 step_of (steps.Reply node) = said.Reply node
 step_of (steps.Reclaim node) = said.Reclaim node
 step_of (steps.Rebase node) = said.Rebase node
-
--- the step of a node that has one of the last of the words
-abbrev pub late_node_step : List ℕ → ℕ → Option StepMeaning
-late_node_step word node =
-    if bytes_eq word (codes "reply") then Some (said.Reply node)
-    else if bytes_eq word (codes "reclaim") then Some (said.Reclaim node)
-    else if bytes_eq word (codes "rebase") then Some (said.Rebase node)
-    else None
 
 -- ---- transcripts
 

@@ -1,8 +1,8 @@
 // The lines of a list of steps.
 
 ghost use Rattle.std.specs.Prelude.{◌≡◌, ◌≤◌, length, option_map};
-ghost use Rattle.console.specs.StepLine.{Post, ReadBegin, Collect, ReadAnswer, slot_at, call_at, node_step, node_words, step_meaning, step_line_meaning};
-ghost use Rattle.console.specs.ScriptShown.{slot_of, slot_call_of, step_of, late_node_step};
+ghost use Rattle.console.specs.StepLine.{slot_at, call_at, node_step, node_words, step_meaning, step_line_meaning};
+ghost use Rattle.console.specs.ScriptShown.{slot_of, slot_call_of, step_of};
 
 use crate::script::{ProgramCall, named_call};
 use text::{LINE_BYTES, LineKind, kind_of, number, split_at_space};
@@ -65,51 +65,6 @@ fn call_at(text: &str) -> Option<CallAt<'_>>
     Some(CallAt { node, slot, call })
 }
 
-// The step of a call that posts an update.
-fn post(text: &str) -> Option<StepLine<'_>>
-    requires { length text.now ≤ LINE_BYTES }
-    ensures { option_map step_of result ≡ option_map Post (call_at text.now) }
-{
-    Some(StepLine::Post(call_at(text)?))
-}
-
-// The step of a call that begins a read.
-fn read_begin(text: &str) -> Option<StepLine<'_>>
-    requires { length text.now ≤ LINE_BYTES }
-    ensures { option_map step_of result ≡ option_map ReadBegin (call_at text.now) }
-{
-    Some(StepLine::ReadBegin(call_at(text)?))
-}
-
-// The step of a slot that collects a reply.
-fn collect(text: &str) -> Option<StepLine<'_>>
-    ensures { option_map step_of result ≡ option_map Collect (slot_at text.now) }
-{
-    Some(StepLine::Collect(slot_at(text)?))
-}
-
-// The step of a slot that answers a read.
-fn read_answer(text: &str) -> Option<StepLine<'_>>
-    ensures { option_map step_of result ≡ option_map ReadAnswer (slot_at text.now) }
-{
-    Some(StepLine::ReadAnswer(slot_at(text)?))
-}
-
-// The step of a node that has one of the last of the words.
-fn late_node_step(word: &str, node: u64) -> Option<StepLine<'_>>
-    ensures { option_map step_of result ≡ late_node_step word.now node }
-{
-    if word == "reply" {
-        Some(StepLine::Reply(node))
-    } else if word == "reclaim" {
-        Some(StepLine::Reclaim(node))
-    } else if word == "rebase" {
-        Some(StepLine::Rebase(node))
-    } else {
-        None
-    }
-}
-
 // The step of a node that has this word.
 fn node_step(word: &str, node: u64) -> Option<StepLine<'_>>
     ensures { option_map step_of result ≡ node_step word.now node }
@@ -122,36 +77,34 @@ fn node_step(word: &str, node: u64) -> Option<StepLine<'_>>
         Some(StepLine::Replay(node))
     } else if word == "finish" {
         Some(StepLine::Finish(node))
+    } else if word == "reply" {
+        Some(StepLine::Reply(node))
+    } else if word == "reclaim" {
+        Some(StepLine::Reclaim(node))
+    } else if word == "rebase" {
+        Some(StepLine::Rebase(node))
     } else {
-        late_node_step(word, node)
+        None
     }
 }
 
-// The step of the node that the second word says.
-#[tactic(auto, unfolding(crate::specs::StepLine::node_words))]
-fn node_words<'a>(word: &'a str, text: &str) -> Option<StepLine<'a>>
-    ensures { option_map step_of result ≡ node_words word.now text.now }
-{
-    node_step(word, number(text)?)
-}
-
 // The step that the words of a line say.
-#[tactic(auto, unfolding(crate::specs::StepLine::step_meaning))]
+#[tactic(auto, unfolding(crate::specs::StepLine::step_meaning, crate::specs::StepLine::node_words))]
 fn step_words(line: &str) -> Option<StepLine<'_>>
     requires { length line.now ≤ LINE_BYTES }
     ensures { option_map step_of result ≡ step_meaning line.now }
 {
     let (word, rest) = split_at_space(line)?;
     if word == "post" {
-        post(rest)
+        Some(StepLine::Post(call_at(rest)?))
     } else if word == "readbegin" {
-        read_begin(rest)
+        Some(StepLine::ReadBegin(call_at(rest)?))
     } else if word == "collect" {
-        collect(rest)
+        Some(StepLine::Collect(slot_at(rest)?))
     } else if word == "readanswer" {
-        read_answer(rest)
+        Some(StepLine::ReadAnswer(slot_at(rest)?))
     } else {
-        node_words(word, rest)
+        node_step(word, number(rest)?)
     }
 }
 
