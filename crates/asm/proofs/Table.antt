@@ -1,9 +1,10 @@
 -- The table of words: each row is spelled as its word, and each word is in a row.
-use Rattle.std.proofs.Common.{◌≡◌, ℕ, Bool, true, false, ◌⊎◌, inl, inr, List, [], ◌∷◌, ◌++◌, codes, refl, sym, ap, ◌∙◌, Option, Some, cond, lit<, lit≤}
+use Rattle.std.proofs.Common.{◌≡◌, ◌↔◌, subst, ℕ, Bool, true, false, ◌⊎◌, inl, inr, List, [], ◌∷◌, ◌++◌, codes, refl, sym, ap, ◌∙◌, Option, Some, cond, lit<, lit≤}
 use Rattle.std.specs.Fmt.{decimal}
 use Rattle.std.specs.List.{AllByRecursion}
 use Rattle.std.specs.Str.{bytes_eq}
 use Rattle.std.proofs.lemmas.Fmt.{decimal_digit, decimal_step}
+use Rattle.std.proofs.lemmas.Slice.Eq.{bytes_eq-Decides}
 use Rattle.insn.specs.declared.instruction.Operation.TheVariants.{Add, Sub, Mul, Div, Or, And, Lsh, Rsh, Mod, Xor, Mov, Arsh, Sdiv, Smod}
 use Rattle.insn.specs.declared.instruction.Condition.TheVariants.{Jeq, Jgt, Jge, Jset, Jne, Jsgt, Jsge, Jlt, Jle, Jslt, Jsle}
 use Rattle.insn.specs.declared.instruction.Order.TheVariants.{Little, Big, Always}
@@ -132,3 +133,24 @@ said spelled (row ∷ rows) word m e =
 pub each_is_said : (m : Mnemonic) → HasWord m → IsSaid WORDS m
 unfolding meaning_of
 each_is_said m h = said (λ text. text.now) WORDS (word_of m) m (word_is_read m h)
+
+-- ---- what the rows say, together
+
+-- a row of this word has its meaning, and that of the rows behind it holds of the others
+row_means : (b : Bool) (x m : Mnemonic) (rest : Option Mnemonic) (P : Type 0) → cond b (Some x) rest ≡ Some m → (b ≡ true → x ≡ m → P) → (rest ≡ Some m → P) → P
+row_means true x m rest P e here behind = here refl cc
+row_means false x m rest P e here behind = behind e
+
+-- a word that means this by some row is the word for it
+meant_by : {R : Type 0} (spelled : R → List ℕ) (rows : List (R × Mnemonic)) (word : List ℕ) (m : Mnemonic)
+    → AllByRecursion (IsSpelled spelled) rows → AllByRecursion (λ row. HasWord row.1) rows → meaning_in spelled rows word ≡ Some m → HasWord m × (word ≡ word_of m)
+meant_by spelled [] word m is has e = absurd cc
+meant_by spelled (row ∷ rows) word m is has e =
+    row_means (bytes_eq (spelled row.0) word) row.1 m (meaning_in spelled rows word) (HasWord m × (word ≡ word_of m)) e
+    (λ same means. (subst HasWord means has.0, sym ((bytes_eq-Decides (spelled row.0) word).0 same) ∙ (is.0 ∙ ap word_of means)))
+    (λ later. meant_by spelled rows word m is.1 has.1 later)
+
+-- a word means this exactly where it is the word for it
+pub words_are_spelled : (word : List ℕ) (m : Mnemonic) → (meaning_of word ≡ Some m) ↔ (HasWord m × (word ≡ word_of m))
+unfolding meaning_of
+words_are_spelled word m = (meant_by (λ text. text.now) WORDS word m rows_are_spelled rows_have_words, λ h. ap meaning_of h.1 ∙ word_is_read m h.0)

@@ -1,4 +1,4 @@
--- To be believed: the canonical text of a program, and the numbers of refusals.
+-- The canonical text of a program, and the numbers of refusals.
 pub mod Text
 pub mod Refusal
 -- How a text is read, rule by rule: what `assemble` promises. That these are the intended rules is shown by the rows of

@@ -16,5 +16,5 @@ mod words;
 
 pub use assembling::assemble;
 pub use disassembling::disassemble;
-pub use laws::assemble_inverts_disassemble;
+pub use laws::{assemble_inverts_disassemble, each_word_is_its_spelling};
 pub use refusals::{AsmError, AsmFault, AsmRefusal};

@@ -38,7 +38,7 @@ pub enum AsmFault {
 impl AsmFault {
     /// The number n of An.
     pub fn number(self) -> u8
-        ensures { result ≡ fault_number self }
+        ensures number { result ≡ fault_number self }
     {
         match self {
             AsmFault::UnknownWord => 1,
@@ -77,7 +77,7 @@ pub enum AsmError {
 impl AsmError {
     /// The number n of An, 0 where memory ran out.
     pub fn number(self) -> u8
-        ensures { result ≡ error_number self }
+        ensures number { result ≡ error_number self }
     {
         match self {
             AsmError::NoMemory => 0,
@@ -87,7 +87,7 @@ impl AsmError {
 
     /// The bad line, from 1, and 0 where memory ran out.
     pub fn line(self) -> u32
-        ensures { result ≡ error_line self }
+        ensures line { result ≡ error_line self }
     {
         match self {
             AsmError::NoMemory => 0,

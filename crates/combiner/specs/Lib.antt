@@ -1,6 +1,6 @@
--- What has to be believed: slots, and what post, claim, reply and collect make of a desk.
+-- Slots, and what post, claim, reply and collect make of a desk.
 pub mod Slots
 pub mod Desks
--- Scaffolding of loops.
+-- What loops have done so far.
 pub mod Claiming
 pub mod Answering

@@ -23,7 +23,7 @@ pub enum StructureRule {
 impl StructureRule {
     /// The number of the rule, from 1 to 5.
     pub fn number(self) -> u8
-        ensures { result ≡ rule_number self }
+        ensures number { result ≡ rule_number self }
     {
         match self {
             StructureRule::TargetOutside => 1,

@@ -1,4 +1,4 @@
--- To be believed: which bytes an instruction has, where it stands and leads, and what is refused first.
+-- Which bytes an instruction has, where it stands and leads, and what is refused first.
 pub mod Encoding
 pub mod Layout
 pub mod Sizes
@@ -7,5 +7,5 @@ pub mod Table
 pub mod Refusal
 -- The same as a function, which two laws tie to those: the crates above cite it.
 pub mod Decoded
--- Scaffolding: how an instruction lies in memory. A law says that forms lie there one for one; no promise stands on more of it.
+-- How an instruction lies in memory. A law says that forms lie there one for one.
 pub mod Flat

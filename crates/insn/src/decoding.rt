@@ -46,7 +46,7 @@ pub enum DecodeFault {
 impl DecodeFault {
     /// The number, from 1 to 9, that a refusal shows after its letter D.
     pub fn number(self) -> u8
-        ensures { result ≡ fault_number self }
+        ensures number { result ≡ fault_number self }
     {
         match self {
             DecodeFault::NotWholeSlots => 1,
@@ -89,7 +89,7 @@ impl DecodeError {
 
     /// The number, from 0 to 9, that it shows after its letter D: 0 where memory ran out.
     pub fn number(self) -> u8
-        ensures { result ≡ error_number self }
+        ensures number { result ≡ error_number self }
     {
         match self {
             DecodeError::NoMemory => 0,
@@ -99,7 +99,7 @@ impl DecodeError {
 
     /// The slot of the refusal, from 0, and 0 where memory ran out.
     pub fn slot(self) -> u32
-        ensures { result ≡ error_slot self }
+        ensures slot { result ≡ error_slot self }
     {
         match self {
             DecodeError::NoMemory => 0,

@@ -19,6 +19,6 @@ pub use encoding::{encode, encode_inverts_decode, one_instruction_is_a_program};
 pub use flat::{Division, Op, forms_lie_one_for_one};
 pub use instruction::{
     Condition, Edge, Fields, Form, Insn, MAX_SLOTS, Operation, Order, Size, Source, distance,
-    size_counts_slots,
+    limits, size_counts_slots,
 };
 pub use uses::opcodes_are_those_of_instructions;

@@ -1,5 +1,5 @@
--- To be believed: where a key stands, for each call.
+-- Where a key stands, for each call.
 pub mod Places
--- Scaffolding: the index as a tree, and the way through it; no public clause cites these.
+-- The index as a tree, and the way through it.
 pub mod Indexes
 pub mod Walks

@@ -1,7 +1,8 @@
 -- What callers see of an index.
-use Rattle.std.specs.Prelude.{◌≡◌, ◌≢◌, ℕ, zero, suc, List, [], ◌∷◌, Option, Some, None, length}
+use Rattle.std.specs.Prelude.{◌≡◌, ◌≢◌, ◌≤◌, ℕ, zero, suc, List, [], ◌∷◌, Option, Some, None, length}
 use Rattle.keyindex.specs.declared.index.KeyIndex.{KeyIndex}
-use Rattle.keyindex.specs.Indexes.{key_at}
+use Rattle.keyindex.specs.Walks.{walk}
+use Rattle.keyindex.specs.Indexes.{at, key_at}
 
 -- the key that stands at a place; none where the place is free
 abbrev pub key_in : KeyIndex → ℕ → Option (List ℕ)
@@ -39,3 +40,12 @@ pub record HasSizes (s : KeyIndex) (size entries buckets : ℕ) : Type 0 where
 -- the second has as many bytes to a key, places and buckets as the first
 abbrev pub SameSizes : KeyIndex → KeyIndex → Type 0
 SameSizes s t = HasSizes t s.size (places s) s.buckets
+
+-- the node at a place, 0 for no place
+abbrev pub node_at : Option ℕ → ℕ
+node_at None = 0
+node_at (Some place) = suc place
+
+-- from its bucket along its bits a key leads there in at most so many steps, one node a step
+abbrev pub LeadsWithin : ℕ → KeyIndex → List ℕ → Option ℕ → Type 0
+LeadsWithin n s key place = (d : ℕ) × (d ≤ n) × (walk s.buckets (at s.links.items) key d ≡ node_at place)

@@ -17,6 +17,13 @@ pub const MAX_PLACES: usize = 65_536;
 /// The most buckets of an index.
 pub const MAX_BUCKETS: usize = 131_072;
 
+/// The limits that the definitions cite, as numbers.
+pub fn limits()
+    ensures bytes_of_a_key { MAX_KEY_SIZE ≡ 64 }
+    ensures places_of_an_index { MAX_PLACES ≡ 65536 }
+    ensures buckets_of_an_index { MAX_BUCKETS ≡ 131072 }
+{}
+
 /// Keys of one size, each at a place. All room is taken by [`KeyIndex::open`]. A place keeps its key until the next
 /// [`KeyIndex::remove`]. Finding a key takes at most one step more than it has bits, for every choice of keys.
 ///
@@ -56,7 +63,7 @@ struct Spot {
 }
 
 impl KeyIndex {
-    ghost use Rattle.keyindex.specs.Places.{key_in, places, keys_of, filled, HasSizes, SameSizes, IsAbsent};
+    ghost use Rattle.keyindex.specs.Places.{key_in, places, keys_of, filled, HasSizes, SameSizes, IsAbsent, LeadsWithin};
 
     /// An index with no key, of so many places, for keys of `size` bytes.
     pub fn open(
@@ -139,12 +146,13 @@ impl KeyIndex {
         }
     }
 
-    /// The place where a key stands, if it does.
+    /// The place where a key stands, if it does. Whether it does is told by the links along its bits, at most as many as these.
     pub fn lookup(&self, key: &[u8]) -> Option<u32>
         requires key { length key.now ≡ self.now.size }
         ensures place { IfSome result (λ p. p < places self.now) }
         ensures found { IfSome result (λ p. key_in self.now p ≡ Some key.now) }
         ensures absent { IfNone result (IsAbsent self.now key.now) }
+        ensures way { LeadsWithin (8 * self.now.size) self.now key.now result }
     {
         let spot = self.find(key);
         if spot.node == 0 {

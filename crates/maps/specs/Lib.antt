@@ -1,9 +1,9 @@
--- To be believed: which shapes maps may have, finite maps, their places, and the numbers and pointers of the machine.
+-- Which shapes maps may have, finite maps, their places, and the numbers and pointers of the machine.
 pub mod Shapes
 pub mod Maps
 pub mod Values
 pub mod MapSets
 pub mod LentValue
--- Scaffolding: maps as blocks of bytes, and a part of a block that is lent; no public clause cites these.
+-- Maps as blocks of bytes, and a part of a block that is lent.
 pub mod Blocks
 pub mod Lent

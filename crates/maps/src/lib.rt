@@ -10,5 +10,5 @@ pub use entry::Entry;
 pub use map_set::MapSet;
 pub use shapes::{
     INDEX_BYTES, MAX_ARG_LEN, MAX_ENTRIES, MAX_KEY_BYTES, MAX_MAPS, MAX_TOTAL_BYTES,
-    MAX_VALUE_BYTES, MapError, Shape, ShapeFault, shapes_ok,
+    MAX_VALUE_BYTES, MapError, Shape, ShapeFault, limits, shapes_ok,
 };

@@ -27,6 +27,17 @@ pub const MAX_TOTAL_BYTES: u32 = 16_777_216;
 /// The most bytes of the argument that a program of these maps gets.
 pub const MAX_ARG_LEN: usize = 64;
 
+/// The limits that the definitions cite, as numbers.
+pub fn limits()
+    ensures maps_of_a_program { MAX_MAPS ≡ 16 }
+    ensures bytes_of_an_index { INDEX_BYTES ≡ 4 }
+    ensures bytes_of_a_key { MAX_KEY_BYTES ≡ 64 }
+    ensures bytes_of_a_value { MAX_VALUE_BYTES ≡ 256 }
+    ensures entries_of_a_map { MAX_ENTRIES ≡ 65536 }
+    ensures bytes_of_all_maps { MAX_TOTAL_BYTES ≡ 16777216 }
+    ensures bytes_of_an_argument { MAX_ARG_LEN ≡ 64 }
+{}
+
 /// The kind of a map and its sizes: the bytes of a key and of a value, and the number of entries.
 #[derive(Clone, Copy, PartialEq, Eq, Debug)]
 pub enum Shape {

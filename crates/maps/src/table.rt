@@ -78,6 +78,7 @@ impl Table {
         requires { start + size ≤ vec_len self.old.block }
         ensures* writes_back { sem 𝓛 (LendsBlock self.entry start result) }
         ensures value { result.now ≡ take size (drop start self.old.block.items) }
+        ensures size { length result.now ≡ size }
     {
         let block = &mut self.block;
         block.slice_mut(start..start + size)

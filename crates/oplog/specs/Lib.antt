@@ -1,10 +1,10 @@
--- To be believed: operations, what a history of them means, whose record each is, the sizes of a store, and the log.
+-- Operations, what a history of them means, whose record each is, the sizes of a store, and the log.
 pub mod Operations
 pub mod History
 pub mod Sessions
 pub mod Limits
 pub mod Logs
 pub mod CopyAnswers
--- Scaffolding: how models tell the values of the log apart and read their fields; no public clause cites these.
+-- How models tell the values of the log apart and read their fields.
 pub mod Codes
 pub mod Fields

@@ -1,5 +1,7 @@
 // What the calls of the log answer.
 
+ghost use Rattle.std.specs.Prelude.{◌≡◌};
+
 use std::fmt;
 use thiserror::Error;
 
@@ -16,6 +18,15 @@ pub struct Appended {
 #[derive(Clone, Copy, Debug, PartialEq, Eq, Error)]
 #[error("L1: the history has all its records")]
 pub struct Ended;
+
+impl Ended {
+    /// The number that a refusal shows after its letter L.
+    pub fn number(self) -> u8
+        ensures number { result ≡ 1 }
+    {
+        1
+    }
+}
 
 /// Whether records are copied out of the log.
 #[derive(Clone, Copy, Debug, PartialEq, Eq)]

@@ -21,6 +21,15 @@ pub const MAX_WINDOW: usize = 4_096;
 /// The most records that a history may have.
 pub const MAX_LIMIT: usize = 1_000_000;
 
+/// The limits that the definitions cite, as numbers.
+pub fn limits()
+    ensures nodes_of_a_store { MAX_NODES ≡ 8 }
+    ensures slots_of_a_node { MAX_NODE_SLOTS ≡ 16 }
+    ensures smallest_window { MIN_WINDOW ≡ 16 }
+    ensures largest_window { MAX_WINDOW ≡ 4096 }
+    ensures records_of_a_history { MAX_LIMIT ≡ 1000000 }
+{}
+
 /// The sizes of a store.
 #[derive(Clone, Copy, Debug, PartialEq, Eq)]
 pub struct Config {

@@ -10,7 +10,7 @@ mod records;
 
 pub use answers::{Appended, CopyAnswer, Ended};
 pub use configuration::{
-    Config, MAX_LIMIT, MAX_NODE_SLOTS, MAX_NODES, MAX_WINDOW, MIN_WINDOW, OpenError,
+    Config, MAX_LIMIT, MAX_NODE_SLOTS, MAX_NODES, MAX_WINDOW, MIN_WINDOW, OpenError, limits,
 };
 pub use hand::Hand;
 pub use log_state::LogState;

@@ -1,4 +1,4 @@
--- To be believed: which lines, fields, names, numbers and digits a text has.
+-- Which lines, fields, names, numbers and digits a text has.
 pub mod Lines
 pub mod Fields
 pub mod Words

@@ -12,6 +12,6 @@ mod words;
 
 pub use digits::{FIELD_BYTES, hex_field, spaced_hex};
 pub use fields::split_at_space;
-pub use laws::{fields_are_cut_at_spaces, numerals_are_decimals};
+pub use laws::{fields_are_cut_at_spaces, limits, numerals_are_decimals};
 pub use lines::{LINE_BYTES, LineKind, NumberedLines, kind_of};
 pub use words::{NAME_BYTES, is_name, number, number_within};

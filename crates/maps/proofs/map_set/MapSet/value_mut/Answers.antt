@@ -1,4 +1,4 @@
-use Rattle.std.proofs.Common.{◌≡◌, ◌*◌, ◌<◌, length, drop, Some, refl, sym, subst, ap, ◌∙◌, arith, length-take, length-drop}
+use Rattle.std.proofs.Common.{◌≡◌, ◌*◌, ◌<◌, length, Some, refl, sym, subst, ap, ◌∙◌, arith}
 use Rattle.std.proofs.lemmas.List.{length-map}
 use Rattle.std.proofs.lemmas.Option.{slice_get_within}
 use Rattle.maps.specs.Shapes.{value_size}
@@ -25,17 +25,13 @@ invariant_of-self-lent c w =
 
 pub returns : goal.returns
 returns c =
-    let fits = bounds c.self.inside.tables.items c.args.self.now c.args.entry.map c.args.entry.place c.index_mut-table.result.now c.value_bytes-size.result c.self.view_is c.self.invariant c.requires.stands c.index_mut-table.ensures.value c.value_bytes-size.ensures.value in
     let is = value_is c.self.inside.tables.items c.args.self.now c.args.entry.map c.args.entry.place c.index_mut-table.result.now c.value_bytes-size.result c.self.view_is c.self.invariant c.requires.stands c.index_mut-table.ensures.value c.value_bytes-size.ensures.value in
     let ts = c.self.inside.tables.items in
     let t = c.index_mut-table.result.now in
     let size = c.value_bytes-size.result in
-    let start = c.args.entry.place * size in
     let at = standing ts c.args.self.now c.args.entry.map c.args.entry.place t c.self.view_is c.self.invariant c.requires.stands c.index_mut-table.ensures.value in
     let within : c.args.entry.map < length ts = subst (λ n. c.args.entry.map < n) (length-map ts stored) (subst (λ (x : Contents). c.args.entry.map < length x) (sym c.self.view_is) (slice_get_within c.args.self.now c.args.entry.map (stored t) at.0.there)) in
-    let taken = length-take size (drop start t.block.items) in
-    let dropped = length-drop start t.block.items in
-    let many : length c.bytes_mut.result.now ≡ value_size t.shape = ap length c.bytes_mut.ensures.value ∙ (omega (arith, taken, dropped, fits.0) ∙ c.value_bytes-size.ensures.value) in (
+    let many : length c.bytes_mut.result.now ≡ value_size t.shape = c.bytes_mut.ensures.size ∙ c.value_bytes-size.ensures.value in (
       (refl, λ w. view_written ts c.args.self.now c.args.entry t size w c.self.view_is within c.index_mut-table.ensures.value c.value_bytes-size.ensures.value),
       record {
         writes_back = tt;

@@ -1,5 +1,5 @@
-use Rattle.std.proofs.Common.{◌≡◌, ◌∙◌, length, ap, arith, length-take, length-drop}
-use Rattle.std.proofs.Common.{◌*◌, drop}
+use Rattle.std.proofs.Common.{◌∙◌, sym, ap, arith}
+use Rattle.std.proofs.Common.{◌*◌}
 use Rattle.maps.specs.Shapes.{value_size}
 use Rattle.maps.specs.MapSets.{entries_of}
 use Rattle.maps.specs.Blocks.{stored}
@@ -17,18 +17,7 @@ bytes_mut-bytes-requires c =
 
 pub copy_from_slice-requires : goal.copy_from_slice-requires
 copy_from_slice-requires c =
-    let t = c.args.self.now in let u = c.claim-place.new.self in
-    let h = c.claim-place.ensures in
-    let is : IsClaimed t u c.args.key.now c.claim-place.result = record { shape = h.shape; block = h.block; table = h.table; stands = h.place; own = h.own; others = h.others } in
-    let size = c.value_bytes-size.result in
-    let start = c.claim-place.result * size in
-    let fits = claimed_room t u c.args.key.now c.claim-place.result size c.requires.shape is c.value_bytes-size.ensures.value in
-    let taken = length-take size (drop start u.block.items) in
-    let dropped = length-drop start u.block.items in
-    let many = ap length c.bytes_mut-bytes.ensures.value in
-    let width : size ≡ value_size t.shape = c.value_bytes-size.ensures.value ∙ ap value_size h.shape in
-    let long = c.requires.value in
-    omega (arith, taken, dropped, many, width, long, fits.0)
+    c.bytes_mut-bytes.ensures.size ∙ (c.value_bytes-size.ensures.value ∙ (ap value_size c.claim-place.ensures.shape ∙ sym c.requires.value))
 
 pub returns-clause-entries : goal.returns-clause-entries
 returns-clause-entries c =
