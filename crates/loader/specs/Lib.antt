@@ -1,5 +1,5 @@
--- To be believed: the lines of a manifest and what each means, what a program file spells, what a catalogue is and a manifest offers, and
--- the numbers of refusals.
+-- The lines of a manifest and what each means, what a program file spells, what a catalogue is and a manifest offers, and the numbers of
+-- refusals.
 pub mod Grammar
 pub mod NamedFiles
 pub mod CatalogueView
@@ -9,7 +9,7 @@ pub mod Refusal
 -- The same as functions, line by line, which laws tie to those: the crates above cite them.
 pub mod Loading
 pub mod Spelling
--- Scaffolding: what is kept of the lines before the one that is read; clauses of private functions alone cite these.
+-- What is kept of the lines before the one that is read.
 pub mod LineShown
 pub mod PartialView
 pub mod Numbering

@@ -1,7 +1,16 @@
 // What the definitions of a manifest say, in other words.
 
+ghost use Rattle.std.specs.Prelude.{◌≡◌};
+ghost use Rattle.loader.specs.declared.loading.TheConstants.{MAX_PROGRAMS};
+ghost use Rattle.loader.specs.declared.paths.TheConstants.{PATH_BYTES};
 ghost use Rattle.loader.specs.Spelling.{EachLineIsItsSpelling};
 ghost use Rattle.loader.specs.Offers.{LoadedIsOffered, RefusedIsFirstBad};
+
+/// The limits that the definitions cite, as numbers.
+pub fn limits()
+    ensures programs_of_a_catalogue { MAX_PROGRAMS ≡ 256 }
+    ensures bytes_of_a_path { PATH_BYTES ≡ 255 }
+{}
 
 /// A line means a map, a program or a comment exactly where it is spelled so.
 pub fn each_line_is_its_spelling()

@@ -1,10 +1,12 @@
 // Kinds of registers, frames, and what two frames have in common.
 
 ghost use Rattle.std.specs.Prelude.{◌≡◌, ℕ, ◌+◌, ◌<◌, ◌≤◌, ◌↔◌, ◌⊎◌, IsTrue, true, slice_index_or, length};
-ghost use Rattle.std.specs.Int.RustNames.{bit_and};
+ghost use Rattle.std.specs.Int.{bit_at};
 ghost use Rattle.regkind.specs.declared.frames.Kind.{Kind};
 ghost use Rattle.regkind.specs.declared.frames.Kind.TheVariants.{Unreadable};
-ghost use Rattle.regkind.specs.Frames.{Covers, CoversKind, CoversCell, IsFrame, kind, mark, all_marked, with_kind, with_marks, entry_frame};
+ghost use Rattle.regkind.specs.declared.frames.Cell.TheVariants.{Marks};
+ghost use Rattle.regkind.specs.declared.frames.Cell as cells;
+ghost use Rattle.regkind.specs.Frames.{Covers, CoversKind, CoversCell, IsFrame, IsCell, kind, cell, marks_of, is_pointer, mark, all_marked, with_kind, with_cell, with_marks, entry_frame};
 ghost use Rattle.regkind.specs.Frames as frames;
 
 use std::marker::Model;
@@ -30,14 +32,23 @@ pub enum Kind {
     ValueOrNull(u8),
 }
 
-/// What is known before an instruction: each register's kind, and which bytes of the stack are initialised.
+/// What is known of a cell of the stack: eight bytes from a multiple of 8 on.
+#[derive(Clone, Copy, PartialEq, Eq, Debug)]
+pub enum Cell {
+    /// Which of its bytes are initialised: bit b is the mark of the cell's byte b.
+    Marks(u8),
+    /// A pointer of this kind.
+    Spilled(Kind),
+}
+
+/// What is known before an instruction: each register's kind, and what each cell of the stack has.
 ///
-/// A frame weighs 108 bytes: 11 kinds of 4 bytes, and 64 cells, each with the marks of 8 bytes of the stack.
+/// A frame weighs 428 bytes: 11 kinds of 4 bytes, and 64 cells of 6.
 #[derive(Clone, Copy, PartialEq, Eq, Debug)]
 pub struct Frame {
     kinds: [Kind; 11],
-    // bit b of cell c is the mark of byte 8 c + b, counted from the stack's lower end
-    cells: [u8; 64],
+    // cell c is bytes 8 c to 8 c + 7, counted from the stack's lower end
+    cells: [Cell; 64],
 }
 
 impl Model for Frame {
@@ -46,6 +57,11 @@ impl Model for Frame {
     ghost Value = { Frame };
 
     ghost view = { λ f. record { kinds = f.kinds; cells = f.cells } };
+
+    ghost use Rattle.regkind.specs.Frames.{IsFrame};
+
+    // What is spilled is a pointer.
+    ghost invariant = { λ f. IsFrame (record { kinds = f.kinds; cells = f.cells }) };
 
     ghost inverse = { λ f. record { kinds = f.kinds; cells = f.cells } };
 }
@@ -61,7 +77,7 @@ impl Frame {
         kinds[10] = Kind::Stack(0);
         Frame {
             kinds,
-            cells: [0; 64],
+            cells: [Cell::Marks(0); 64],
         }
     }
 
@@ -88,6 +104,24 @@ impl Frame {
         self.kinds[register as usize] = kind;
     }
 
+    /// What a cell of the stack has.
+    pub fn cell(&self, c: usize) -> Cell
+        requires cell { c < 64 }
+        ensures cell { result ≡ cell self.now c }
+        ensures is { IsCell result }
+    {
+        self.cells[c]
+    }
+
+    /// Something else in a cell of the stack.
+    pub fn set_cell(&mut self, c: usize, new: Cell)
+        requires cell { c < 64 }
+        requires is { IsCell new }
+        ensures changed { self.new ≡ with_cell self.old c new }
+    {
+        self.cells[c] = new;
+    }
+
     /// Marks `count` bytes of the stack from byte `at` on, counted from its lower end, as initialised.
     pub fn mark(&mut self, at: usize, count: usize)
         requires within { at + count ≤ 512 }
@@ -96,7 +130,8 @@ impl Frame {
     {
         for k in 0..count {
             let byte = at + k;
-            self.cells[byte / 8] |= 1 << (byte % 8);
+            let marks = marks_of(self.cells[byte / 8]) | 1 << (byte % 8);
+            self.cells[byte / 8] = Cell::Marks(marks);
         }
     }
 
@@ -108,7 +143,7 @@ impl Frame {
     {
         for k in 0..count {
             let byte = at + k;
-            if self.cells[byte / 8] >> (byte % 8) & 1 == 0 {
+            if marks_of(self.cells[byte / 8]) >> (byte % 8) & 1 == 0 {
                 return false;
             }
         }
@@ -116,13 +151,24 @@ impl Frame {
     }
 }
 
-/// What two frames have in common: kinds that differ are unreadable, and a byte is marked where both mark it.
+// The marks of a cell's bytes; those of a pointer have none.
+fn marks_of(cell: Cell) -> u8
+    ensures { result ≡ marks_of cell }
+{
+    match cell {
+        Cell::Marks(marks) => marks,
+        Cell::Spilled(_) => 0,
+    }
+}
+
+/// What two frames have in common: kinds that differ are unreadable, a byte is marked where both mark it, and a pointer stands in a cell
+/// where both have it there.
 pub fn join(x: &Frame, y: &Frame) -> Frame
     ensures frame { IsFrame result }
     ensures meet { (a : frames.Frame) → Covers a result ↔ (Covers a x.now × Covers a y.now) }
 {
     let kinds = common_kinds(&x.kinds, &y.kinds);
-    let cells = common_marks(&x.cells, &y.cells);
+    let cells = common_cells(&x.cells, &y.cells);
     Frame { kinds, cells }
 }
 
@@ -139,15 +185,30 @@ fn common_kinds(x: &[Kind; 11], y: &[Kind; 11]) -> [Kind; 11]
     both
 }
 
-fn common_marks(x: &[u8; 64], y: &[u8; 64]) -> [u8; 64]
+fn common_cells(x: &[Cell; 64], y: &[Cell; 64]) -> [Cell; 64]
     ensures len { length result ≡ 64 }
-    ensures meet { (c : ℕ) → c < 64 → slice_index_or result c 0 ≡ bit_and (slice_index_or x.now c 0) (slice_index_or y.now c 0) }
+    ensures cells { (c : ℕ) → IsCell (slice_index_or x.now c (Marks 0)) → IsCell (slice_index_or result c (Marks 0)) }
+    ensures meet { (c : ℕ) → c < 64 → (a : cells.Cell)
+        → CoversCell a (slice_index_or result c (Marks 0))
+        ↔ (CoversCell a (slice_index_or x.now c (Marks 0)) × CoversCell a (slice_index_or y.now c (Marks 0))) }
 {
-    let mut both = [0; 64];
+    let mut both = [Cell::Marks(0); 64];
     for c in 0..64 {
-        both[c] = x[c] & y[c];
+        both[c] = common_cell(x[c], y[c]);
     }
     both
+}
+
+// The pointer that both have, or the marks of both.
+fn common_cell(x: Cell, y: Cell) -> Cell
+    ensures is { IsCell x → IsCell result }
+    ensures meet { (a : cells.Cell) → CoversCell a result ↔ (CoversCell a x × CoversCell a y) }
+{
+    match (x, y) {
+        (Cell::Marks(a), Cell::Marks(b)) => Cell::Marks(a & b),
+        (Cell::Spilled(a), Cell::Spilled(b)) if a == b => x,
+        _ => Cell::Marks(0),
+    }
 }
 
 // The kind itself, where the two are equal.
@@ -161,7 +222,7 @@ fn common(x: Kind, y: Kind) -> Kind
 pub fn covers(a: &Frame, b: &Frame) -> bool
     ensures covered { IsTrue result ↔ Covers a.now b.now }
 {
-    covers_kinds(&a.kinds, &b.kinds) && covers_marks(&a.cells, &b.cells)
+    covers_kinds(&a.kinds, &b.kinds) && covers_cells(&a.cells, &b.cells)
 }
 
 fn covers_kinds(a: &[Kind; 11], b: &[Kind; 11]) -> bool
@@ -181,8 +242,8 @@ fn covers_kind(a: Kind, b: Kind) -> bool
     a == Kind::Unreadable || a == b
 }
 
-fn covers_marks(a: &[u8; 64], b: &[u8; 64]) -> bool
-    ensures { IsTrue result ↔ ((c : ℕ) → c < 64 → CoversCell (slice_index_or a.now c 0) (slice_index_or b.now c 0)) }
+fn covers_cells(a: &[Cell; 64], b: &[Cell; 64]) -> bool
+    ensures { IsTrue result ↔ ((c : ℕ) → c < 64 → CoversCell (slice_index_or a.now c (Marks 0)) (slice_index_or b.now c (Marks 0))) }
 {
     for c in 0..64 {
         if !covers_cell(a[c], b[c]) {
@@ -192,8 +253,17 @@ fn covers_marks(a: &[u8; 64], b: &[u8; 64]) -> bool
     true
 }
 
-fn covers_cell(a: u8, b: u8) -> bool
+fn covers_cell(a: Cell, b: Cell) -> bool
     ensures { IsTrue result ↔ CoversCell a b }
+{
+    match a {
+        Cell::Marks(marks) => covers_marks(marks, marks_of(b)),
+        Cell::Spilled(_) => a == b,
+    }
+}
+
+fn covers_marks(a: u8, b: u8) -> bool
+    ensures { IsTrue result ↔ ((i : ℕ) → i < 8 → bit_at a i ≡ 1 → bit_at b i ≡ 1) }
 {
     a & b == a
 }

@@ -1,5 +1,4 @@
--- To be believed: what an operation of a catalogue means, which calls are refused early, a replica as its users see it, and which
--- outcomes are kept.
+-- What an operation of a catalogue means, which calls are refused early, a replica as its users see it, and which outcomes are kept.
 pub mod StoreMeaning
 pub mod Refusals
 pub mod Views

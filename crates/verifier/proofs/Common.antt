@@ -1,14 +1,23 @@
 -- What two frames have in common, as it is computed.
-use Rattle.std.proofs.Common.{◌≡◌, ◌≢◌, ℕ, zero, suc, ◌<◌, ◌≤◌, Bool, true, false, cond, refl, sym, ap, ◌∙◌, inl, inr, ⊎_elim, arith, subst}
-use Rattle.std.specs.Prelude.{◌↔◌, ◌&&◌, ◌==◌, ℤ}
+use Rattle.std.proofs.Common.{◌≡◌, ℕ, zero, suc, ◌<◌, ◌≤◌, Bool, true, false, cond, refl, sym, ap, ◌∙◌, inl, inr, ⊎_elim, arith, subst}
+use Rattle.std.specs.Prelude.{◌↔◌, ◌==◌, ℤ}
 use Rattle.std.specs.Ordering.{int_eq}
-use Rattle.std.proofs.lemmas.Bool.{false≢true, and_parts, and_from, cases_lt, cases_eq}
+use Rattle.std.proofs.lemmas.Bool.{false≢true, and_parts, and_from, cases_eq}
 use Rattle.std.proofs.lemmas.Bool.Decides.{Decides-int_eq, Decides-eqb}
 use Rattle.regkind.specs.declared.frames.Kind.{Kind}
 use Rattle.regkind.specs.declared.frames.Kind.TheVariants.{Unreadable, Scalar, Stack, Arg, Map, Value, ValueOrNull}
-use Rattle.regkind.specs.Frames.{Frame, IsFrame, Covers, CoversKind, kind, mark, with_marks}
-use Rattle.regkind.proofs.Laws.{kind-with_kind_same, kind-with_kind_other, mark-with_kind, IsFrame-with_kind, IsFrame-blank, mark-blank, kind-with_marks, IsFrame-with_marks, mark-with_marks_inside, mark-with_marks_outside}
-use Rattle.verifier.specs.Joined.{is_same, common_kind, with_common_kinds, with_common_marks, common}
+use Rattle.regkind.specs.Frames.{Frame, IsFrame, Covers, CoversKind, kind}
+use Rattle.regkind.proofs.Laws.{kind-with_kind_same, kind-with_kind_other, IsFrame-with_kind, IsFrame-blank}
+use Rattle.verifier.specs.Joined.{is_same, common_kind, with_common_kinds, common}
+use Rattle.std.proofs.Common.{◌/◌}
+use Rattle.std.specs.Int.RustNames.{bit_and}
+use Rattle.std.proofs.lemmas.Nat.{and_le_l}
+use Rattle.std.proofs.lemmas.Nat.Bits.{bit_at_and, bit_at-lt, bit_at-zero}
+use Rattle.regkind.specs.declared.frames.Cell.{Cell}
+use Rattle.regkind.specs.declared.frames.Cell.TheVariants.{Marks, Spilled}
+use Rattle.regkind.specs.Frames.{IsCell, CoversCell, CoversMarks, cell}
+use Rattle.regkind.proofs.Laws.{blank_cell, cell-with_cell_same, cell-with_cell_other, IsFrame-with_cell, cells_from_marks, marks_from_cells}
+use Rattle.verifier.specs.Joined.{common_cell, with_common_cells}
 
 -- ---- kinds
 
@@ -75,78 +84,100 @@ kinds_kind a b (suc q) r le lt = ⊎_elim
     (λ ne. kind-with_kind_other (with_common_kinds a b q) q r _ ne ∙ kinds_kind a b q r (omega arith) (omega arith))
     (cases_eq r q)
 
-kinds_mark : (a b : Frame) (n k : ℕ) → mark (with_common_kinds a b n) k ≡ false
+kinds_cell : (a b : Frame) (n c : ℕ) → cell (with_common_kinds a b n) c ≡ Marks 0
 unfolding with_common_kinds
-kinds_mark a b zero k = mark-blank k
-kinds_mark a b (suc r) k = mark-with_kind (with_common_kinds a b r) r _ k ∙ kinds_mark a b r k
+kinds_cell a b zero c = blank_cell c
+kinds_cell a b (suc r) c = kinds_cell a b r c
 
--- a byte more, marked or not
-abbrev more : Bool → Frame → ℕ → Frame
-more m f k = cond m (with_marks f k 1) f
+-- ---- cells
 
-more_frame : (m : Bool) (f : Frame) (k : ℕ) → IsFrame f → IsFrame (more m f k)
-more_frame true f k h = IsFrame-with_marks f k 1 h
-more_frame false f k h = h
+-- what is in common is a cell
+common_is : (a b : Cell) → IsCell a → IsCell b → IsCell (common_cell a b)
+common_is (Marks m) (Marks n) h g = omega (arith, and_le_l m n)
+common_is (Marks m) (Spilled k) h g = omega arith
+common_is (Spilled k) (Marks n) h g = omega arith
+common_is (Spilled k) (Spilled l) h g = by (is_same k l)
+  where
+    by : (s : Bool) → IsCell (cond s (Spilled k) (Marks 0))
+    by true = h
+    by false = omega arith
 
-more_kind : (m : Bool) (f : Frame) (k r : ℕ) → kind (more m f k) r ≡ kind f r
-more_kind true f k r = kind-with_marks f k 1 r
-more_kind false f k r = refl
+no_marks : (c : Cell) → CoversMarks c (Marks 0) → (x : Cell) → CoversMarks c x
+no_marks c h x i lt one = let bad = h i lt one in absurd (omega (arith, bad, bit_at-zero i))
 
-more_same : (m : Bool) (f : Frame) (k : ℕ) → IsFrame f → k < 512 → mark f k ≡ false → mark (more m f k) k ≡ m
-more_same true f k h lt e = mark-with_marks_inside f k 1 k h lt (omega arith) (omega arith)
-more_same false f k h lt e = e
+-- a cell without marks on the right, and one whose marks are those of a pointer
+common_cell_meets : (a b c : Cell) → CoversCell c (common_cell a b) ↔ (CoversCell c a × CoversCell c b)
+common_cell_meets (Marks m) (Marks n) (Marks k) = (
+  λ h. ((λ i lt one. omega (arith, h.0 i lt one, bit_at_and m n i, bit_at-lt m i, bit_at-lt n i), tt), (λ i lt one. omega (arith, h.0 i lt one, bit_at_and m n i, bit_at-lt m i, bit_at-lt n i), tt)),
+  λ h. (λ i lt one. omega (arith, h.0.0 i lt one, h.1.0 i lt one, bit_at_and m n i), tt),
+)
+common_cell_meets (Marks m) (Marks n) (Spilled k) = (λ h. let bad : Marks (bit_and m n) ≡ Spilled k = h.1 in absurd cc, λ h. let bad : Marks m ≡ Spilled k = h.0.1 in absurd cc)
+common_cell_meets (Marks m) (Spilled l) (Marks k) = (λ h. ((no_marks (Marks k) h.0 (Marks m), tt), (h.0, tt)), λ h. (h.1.0, tt))
+common_cell_meets (Marks m) (Spilled l) (Spilled k) = (λ h. let bad : Marks 0 ≡ Spilled k = h.1 in absurd cc, λ h. let bad : Marks m ≡ Spilled k = h.0.1 in absurd cc)
+common_cell_meets (Spilled l) (Marks m) (Marks k) = (λ h. ((h.0, tt), (no_marks (Marks k) h.0 (Marks m), tt)), λ h. (h.0.0, tt))
+common_cell_meets (Spilled l) (Marks m) (Spilled k) = (λ h. let bad : Marks 0 ≡ Spilled k = h.1 in absurd cc, λ h. let bad : Marks m ≡ Spilled k = h.1.1 in absurd cc)
+common_cell_meets (Spilled a) (Spilled b) c = by (is_same a b) refl
+  where
+    by : (s : Bool) → is_same a b ≡ s → CoversCell c (cond s (Spilled a) (Marks 0)) ↔ (CoversCell c (Spilled a) × CoversCell c (Spilled b))
+    by true e = let same = ap Spilled (from_is_same a b e) in (λ h. (h, subst (CoversCell c) same h), λ h. h.0)
+    by false e = (λ h. (left c h, right c h), λ h. back c h.0 h.1)
+      where
+        left : (c : Cell) → CoversCell c (Marks 0) → CoversCell c (Spilled a)
+        left (Marks k) h = (h.0, tt)
+        left (Spilled k) h = let bad : Marks 0 ≡ Spilled k = h.1 in absurd cc
 
-more_other : (m : Bool) (f : Frame) (k j : ℕ) → j ≢ k → mark (more m f k) j ≡ mark f j
-more_other true f k j ne = mark-with_marks_outside f k 1 j (⊎_elim (λ (lt : j < k). inl lt) (λ (ge : k ≤ j). inr (omega arith)) (cases_lt j k))
-more_other false f k j ne = refl
+        right : (c : Cell) → CoversCell c (Marks 0) → CoversCell c (Spilled b)
+        right (Marks k) h = (h.0, tt)
+        right (Spilled k) h = let bad : Marks 0 ≡ Spilled k = h.1 in absurd cc
 
-marks_frame : (a b : Frame) (n : ℕ) → IsFrame (with_common_marks a b n)
-unfolding with_common_marks
-marks_frame a b zero = kinds_frame a b 11
-marks_frame a b (suc k) = more_frame (mark a k && mark b k) (with_common_marks a b k) k (marks_frame a b k)
+        back : (c : Cell) → CoversCell c (Spilled a) → CoversCell c (Spilled b) → CoversCell c (Marks 0)
+        back (Marks k) h g = (h.0, tt)
+        back (Spilled k) h g = let x : Spilled a ≡ Spilled k = h.1 in let y : Spilled b ≡ Spilled k = g.1 in let eq : a ≡ b = cc in let yes : is_same a b ≡ true = subst (λ z. is_same a z ≡ true) eq (is_same_self a) in absurd (false≢true (sym e ∙ yes))
 
-marks_kind : (a b : Frame) (n r : ℕ) → kind (with_common_marks a b n) r ≡ kind (with_common_kinds a b 11) r
-unfolding with_common_marks
-marks_kind a b zero r = refl
-marks_kind a b (suc k) r = more_kind (mark a k && mark b k) (with_common_marks a b k) k r ∙ marks_kind a b k r
+cells_frame : (a b : Frame) (n : ℕ) → IsFrame a → IsFrame b → IsFrame (with_common_cells a b n)
+unfolding with_common_cells
+cells_frame a b zero fa fb = kinds_frame a b 11
+cells_frame a b (suc c) fa fb = IsFrame-with_cell (with_common_cells a b c) c _ (common_is (cell a c) (cell b c) (fa.each c) (fb.each c)) (cells_frame a b c fa fb)
 
-marks_above : (a b : Frame) (n k : ℕ) → n ≤ k → mark (with_common_marks a b n) k ≡ false
-unfolding with_common_marks
-marks_above a b zero k le = kinds_mark a b 11 k
-marks_above a b (suc j) k le = more_other (mark a j && mark b j) (with_common_marks a b j) j k (λ e. omega arith) ∙ marks_above a b j k (omega arith)
+cells_kind : (a b : Frame) (n r : ℕ) → kind (with_common_cells a b n) r ≡ kind (with_common_kinds a b 11) r
+unfolding with_common_cells
+cells_kind a b zero r = refl
+cells_kind a b (suc c) r = cells_kind a b c r
 
-marks_mark : (a b : Frame) (n k : ℕ) → n ≤ 512 → k < n → mark (with_common_marks a b n) k ≡ (mark a k && mark b k)
-unfolding with_common_marks
-marks_mark a b zero k le lt = absurd (omega arith)
-marks_mark a b (suc j) k le lt = ⊎_elim
-    (λ e. subst (λ x. mark (with_common_marks a b (suc j)) x ≡ (mark a x && mark b x)) (sym e) (more_same (mark a j && mark b j) (with_common_marks a b j) j (marks_frame a b j) (omega arith) (marks_above a b j j (omega arith))))
-    (λ ne. more_other (mark a j && mark b j) (with_common_marks a b j) j k ne ∙ marks_mark a b j k (omega arith) (omega arith))
-    (cases_eq k j)
+cells_cell : (a b : Frame) (n c : ℕ) → IsFrame a → IsFrame b → n ≤ 64 → c < n → cell (with_common_cells a b n) c ≡ common_cell (cell a c) (cell b c)
+unfolding with_common_cells
+cells_cell a b zero c fa fb le lt = absurd (omega arith)
+cells_cell a b (suc d) c fa fb le lt = ⊎_elim
+    (λ e. subst (λ x. cell (with_common_cells a b (suc d)) x ≡ common_cell (cell a x) (cell b x)) (sym e) (cell-with_cell_same (with_common_cells a b d) d _ (cells_frame a b d fa fb) (omega arith)))
+    (λ ne. cell-with_cell_other (with_common_cells a b d) d c _ ne ∙ cells_cell a b d c fa fb (omega arith) (omega arith))
+    (cases_eq c d)
 
-pub common_frame : (a b : Frame) → IsFrame (common a b)
-common_frame a b = marks_frame a b 512
+pub common_frame : (a b : Frame) → IsFrame a → IsFrame b → IsFrame (common a b)
+common_frame a b fa fb = cells_frame a b 64 fa fb
 
 common_kinds : (a b : Frame) (r : ℕ) → r < 11 → kind (common a b) r ≡ common_kind (kind a r) (kind b r)
-common_kinds a b r lt = marks_kind a b 512 r ∙ kinds_kind a b 11 r (omega arith) lt
-
-common_marks : (a b : Frame) (k : ℕ) → k < 512 → mark (common a b) k ≡ (mark a k && mark b k)
-common_marks a b k lt = marks_mark a b 512 k (omega arith) lt
+common_kinds a b r lt = cells_kind a b 64 r ∙ kinds_kind a b 11 r (omega arith) lt
 
 -- it says what both say, and nothing else
-pub common_covers : (a b c : Frame) → Covers c (common a b) ↔ (Covers c a × Covers c b)
-common_covers a b c = (
+pub common_covers : (a b c : Frame) → IsFrame a → IsFrame b → Covers c (common a b) ↔ (Covers c a × Covers c b)
+common_covers a b c fa fb = (
   λ h. (
-    record {
-      kinds = λ r lt. ((common_kind_meets (kind a r) (kind b r) (kind c r)).0 (subst (CoversKind (kind c r)) (common_kinds a b r lt) (h.kinds r lt))).0;
-      marks = λ k lt m. (and_parts (mark a k) (mark b k) (sym (common_marks a b k lt) ∙ h.marks k lt m)).0;
-    },
-    record {
-      kinds = λ r lt. ((common_kind_meets (kind a r) (kind b r) (kind c r)).0 (subst (CoversKind (kind c r)) (common_kinds a b r lt) (h.kinds r lt))).1;
-      marks = λ k lt m. (and_parts (mark a k) (mark b k) (sym (common_marks a b k lt) ∙ h.marks k lt m)).1;
-    },
+    whole c a (λ r lt. (by_kind r lt (h.kinds r lt)).0) (λ d lt. (by_cell d lt (cells_of c (common a b) h d lt)).0),
+    whole c b (λ r lt. (by_kind r lt (h.kinds r lt)).1) (λ d lt. (by_cell d lt (cells_of c (common a b) h d lt)).1),
   ),
-  λ h. record {
-    kinds = λ r lt. subst (CoversKind (kind c r)) (sym (common_kinds a b r lt)) ((common_kind_meets (kind a r) (kind b r) (kind c r)).1 (h.0.kinds r lt, h.1.kinds r lt));
-    marks = λ k lt m. common_marks a b k lt ∙ and_from (mark a k) (mark b k) (h.0.marks k lt m) (h.1.marks k lt m);
-  },
+  λ h. whole c (common a b)
+      (λ r lt. subst (CoversKind (kind c r)) (sym (common_kinds a b r lt)) ((common_kind_meets (kind a r) (kind b r) (kind c r)).1 (h.0.kinds r lt, h.1.kinds r lt)))
+      (λ d lt. subst (CoversCell (cell c d)) (sym (cells_cell a b 64 d fa fb (omega arith) lt)) ((common_cell_meets (cell a d) (cell b d) (cell c d)).1 (cells_of c a h.0 d lt, cells_of c b h.1 d lt))),
 )
+  where
+    by_kind : (r : ℕ) → r < 11 → CoversKind (kind c r) (kind (common a b) r) → CoversKind (kind c r) (kind a r) × CoversKind (kind c r) (kind b r)
+    by_kind r lt h = (common_kind_meets (kind a r) (kind b r) (kind c r)).0 (subst (CoversKind (kind c r)) (common_kinds a b r lt) h)
+
+    by_cell : (d : ℕ) → d < 64 → CoversCell (cell c d) (cell (common a b) d) → CoversCell (cell c d) (cell a d) × CoversCell (cell c d) (cell b d)
+    by_cell d lt h = (common_cell_meets (cell a d) (cell b d) (cell c d)).0 (subst (CoversCell (cell c d)) (cells_cell a b 64 d fa fb (omega arith) lt) h)
+
+    cells_of : (a b : Frame) → Covers a b → (c : ℕ) → c < 64 → CoversCell (cell a c) (cell b c)
+    cells_of a b h c lt = (cells_from_marks a b c lt h.marks, h.pointers c lt)
+
+    whole : (a b : Frame) → ((r : ℕ) → r < 11 → CoversKind (kind a r) (kind b r)) → ((c : ℕ) → c < 64 → CoversCell (cell a c) (cell b c)) → Covers a b
+    whole a b kinds cells = record { kinds = kinds; marks = λ k lt m. marks_from_cells a b k (cells (k / 8) (omega arith)).0 m; pointers = λ c lt. (cells c lt).1 }

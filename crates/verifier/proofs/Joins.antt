@@ -129,14 +129,17 @@ module _ (p : List Form) (J : Frames) (Seen : ℕ → Edge → Type 0) (t : ℕ)
       edges x u e h (inl seen) = absurd (c.1 x u e h seen)
       edges x u e h (inr new) = this (frame_after i (J s) d) x u e h new (covers_refl (frame_after i (J s) d))
   goes_in (Some g) leads c = record {
-    frame = common_frame g (frame_after i (J s) d);
+    frame = common_frame g (frame_after i (J s) d) c.frame after;
     entry = λ z. covers_trans _ _ _ both.0 (c.entry z);
     edges = edges;
-    greatest = λ a h0 h1. (common_covers g (frame_after i (J s) d) a).1 (c.greatest a h0 (λ x u e h seen. h1 x u e h (inl seen)), h1 i s d (stands, leads) (inr (refl, refl)));
+    greatest = λ a h0 h1. (common_covers g (frame_after i (J s) d) a c.frame after).1 (c.greatest a h0 (λ x u e h seen. h1 x u e h (inl seen)), h1 i s d (stands, leads) (inr (refl, refl)));
   }
     where
+      after : IsFrame (frame_after i (J s) d)
+      after = after_frame i (J s) d frame
+
       both : Covers (common g (frame_after i (J s) d)) g × Covers (common g (frame_after i (J s) d)) (frame_after i (J s) d)
-      both = (common_covers g (frame_after i (J s) d) (common g (frame_after i (J s) d))).0 (covers_refl (common g (frame_after i (J s) d)))
+      both = (common_covers g (frame_after i (J s) d) (common g (frame_after i (J s) d)) c.frame after).0 (covers_refl (common g (frame_after i (J s) d)))
 
       edges : (x : Form) (u : ℕ) (e : Edge) → Leads p x u e t → With Seen s d u e → Covers (common g (frame_after i (J s) d)) (frame_after x (J u) e)
       edges x u e h (inl seen) = covers_trans _ _ _ both.0 (c.edges x u e h seen)

@@ -2,6 +2,7 @@ pub mod Lists
 pub mod Slots
 pub mod Broken
 pub mod Immediates
+pub mod Spilled
 pub mod Monotone
 pub mod Progress
 pub mod Coming

@@ -1,10 +1,9 @@
 -- A frame that says more breaks no more rules, and leads to frames that say more.
-use Rattle.std.proofs.Common.{◌≡◌, ℕ, zero, suc, ◌+◌, ◌≤◌, Bool, true, false, List, [], ◌∷◌, Option, Some, None, refl, sym, ap, ◌∙◌, inl, inr, ⊎_elim, arith, subst}
-use Rattle.std.specs.Prelude.{◌||◌, ◌&&◌, not, ℤ, pos, negsuc, ◌+ℤ◌, int_le}
+use Rattle.std.proofs.Common.{◌≡◌, ℕ, zero, suc, ◌≤◌, Bool, true, false, cond, List, [], ◌∷◌, Option, Some, None, refl, sym, ap, ◌∙◌, inl, inr, ⊎_elim, arith, subst}
+use Rattle.std.specs.Prelude.{◌||◌, ◌&&◌, not, ◌/◌, ◌<◌, is_none, unwrap_or, ℤ, pos, ◌+ℤ◌}
 use Rattle.std.specs.List.{list_any, AllByRecursion}
 use Rattle.std.proofs.lemmas.Bool.{false≢true, cases_lt}
 use Rattle.std.proofs.lemmas.List.{get_or_past}
-use Rattle.std.proofs.lemmas.Int.{ints}
 use Rattle.insn.specs.declared.instruction.Form.{Form}
 use Rattle.insn.specs.declared.instruction.Form.TheVariants.{Alu, Neg, MovSx, Swap, Load, Store, Imm64, MapRef, Ja, Branch, Call, Exit}
 use Rattle.insn.specs.declared.instruction.Operation.{Operation}
@@ -19,19 +18,22 @@ use Rattle.insn.specs.Sizes.{byte_count}
 use Rattle.insn.specs.declared.instruction.Size.{Size}
 use Rattle.regkind.specs.declared.frames.Kind.{Kind}
 use Rattle.regkind.specs.declared.frames.Kind.TheVariants.{Unreadable, Scalar, Stack, Map, ValueOrNull}
-use Rattle.regkind.specs.Frames.{Frame, Covers, CoversKind, IsFrame, kind, all_marked, with_kind}
+use Rattle.regkind.specs.declared.frames.Cell.{Cell}
+use Rattle.regkind.specs.declared.frames.Cell.TheVariants.{Spilled}
+use Rattle.regkind.specs.Frames.{Frame, Covers, CoversKind, CoversCell, IsCell, IsFrame, kind, cell, all_marked, with_kind, with_cell, with_marks}
 use Rattle.regkind.proofs.Laws as frames
 use Rattle.maps.specs.Values.{Helper, Lookup, Update, Delete, helper_of}
 use Rattle.verifier.specs.declared.refusal.VerifyFault.{VerifyFault}
 use Rattle.verifier.specs.declared.refusal.VerifyFault.TheVariants.{UnreadableRegister, UndefinedOperation, OutOfRegion, UninitialisedStack, UncheckedNull, HelperArgument}
 use Rattle.verifier.specs.Signature.{Signature}
 use Rattle.verifier.specs.Kinds.{is_unreadable, is_pointer, cannot_be_tested}
-use Rattle.verifier.specs.Operands.{call_registers, reads, copied, jumps_at_null}
+use Rattle.verifier.specs.Operands.{call_registers, source_registers, reads, copied, jumps_at_null, source_kind}
 use Rattle.insn.specs.Moves.{distance}
-use Rattle.verifier.specs.Regions.{is_within, lies_in, is_outside, has_unmarked, is_unmarked, Access, access, stack_index, helper_reads}
+use Rattle.verifier.specs.Regions.{is_within, is_outside, has_unmarked, is_unmarked, Access, stack_index, helper_reads, pointer_in}
 use Rattle.verifier.specs.Rules.{breaks, first_broken, rules_in_order, misuses, has_bad_argument}
-use Rattle.verifier.specs.FrameAfter.{frame_after, shifted, result_kind, after_store, after_test, after_call, without_arguments, forgotten, forgetting}
-use Rattle.verifier.proofs.Broken.{or_parts, or_from, both_true, find_none_too, unbroken_rules}
+use Rattle.verifier.specs.FrameAfter.{frame_after, shifted, result_kind, after_store, loaded_kind, after_test, after_call, without_arguments, forgotten, forgetting, forgetting_cells}
+use Rattle.verifier.proofs.Broken.{or_parts, or_from, find_none_too, unbroken_rules}
+use Rattle.verifier.proofs.Spilled.{stack_index_end, pointer_too, marked_is_no_pointer, forgotten_is, forgotten_covers}
 
 -- ---- what is read is known alike
 
@@ -63,10 +65,6 @@ same_unreadable : (a b : Frame) (rs : List ℕ) → SameKinds a b rs → list_an
 same_unreadable a b [] s = refl
 same_unreadable a b (r ∷ rs) s = rw (s.0, same_unreadable a b rs s.1) refl
 
--- so many bytes from a place in the stack on have marks
-stack_index_end : (z : ℤ) (n : ℕ) → lies_in (negsuc 511) (pos 0) z n ≡ true → stack_index z + n ≤ 512
-stack_index_end z n e = let w = both_true (int_le (negsuc 511) z) _ e in grind (arith, ints)
-
 and_not : (w x y : Bool) → (w ≡ true → x ≡ true → y ≡ true) → w && not x ≡ false → w && not y ≡ false
 and_not true true y h e = ap not (h refl refl)
 and_not true false y h e = absurd (false≢true (sym e))
@@ -84,9 +82,21 @@ all_marked_too l a b (x ∷ xs) h e =
     let parts = or_parts (is_unmarked l a x) _ e in
     or_from (is_unmarked l b x) _ (marked_too l a b x.base x.distance x.bytes h parts.0) (all_marked_too l a b xs h parts.1)
 
+-- bytes that are a pointer or marked are that by a frame that says more
+loaded_too : (l : Signature) (a b : Frame) (k : Kind) (d : ℤ) (n : ℕ) → Covers a b → is_none (pointer_in a k d n) && has_unmarked l a k d n ≡ false → is_none (pointer_in b k d n) && has_unmarked l b k d n ≡ false
+loaded_too l a b k d n h e = by (pointer_in a k d n) refl e
+  where
+    neither : (x y : Bool) → y ≡ false → x && y ≡ false
+    neither true y h = h
+    neither false y h = refl
+
+    by : (o : Option Kind) → pointer_in a k d n ≡ o → is_none o && has_unmarked l a k d n ≡ false → is_none (pointer_in b k d n) && has_unmarked l b k d n ≡ false
+    by (Some p) is e = rw (pointer_too a b k d n p h is) refl
+    by None is e = neither (is_none (pointer_in b k d n)) _ (marked_too l a b k d n h e)
+
 load_rule : (l : Signature) (size : Size) (signed : Bool) (dst src : ℕ) (off : ℤ) (a b : Frame) → Covers a b → kind a src ≡ kind b src → (v : VerifyFault) → breaks v l (Load size signed dst src off) a ≡ false → breaks v l (Load size signed dst src off) b ≡ false
 load_rule l size signed dst src off a b h s UninitialisedStack e =
-    subst (λ k. list_any (is_unmarked l b) (access k off (byte_count size) ∷ []) ≡ false) s (all_marked_too l a b (access (kind a src) off (byte_count size) ∷ []) h e)
+    subst (λ k. is_none (pointer_in b k off (byte_count size)) && has_unmarked l b k off (byte_count size) ≡ false) s (loaded_too l a b (kind a src) off (byte_count size) h e)
 load_rule l size signed dst src off a b h s UnreadableRegister e = rw (← s) e
 load_rule l size signed dst src off a b h s UndefinedOperation e = rw (← s) e
 load_rule l size signed dst src off a b h s OutOfRegion e = rw (← s) e
@@ -195,13 +205,44 @@ grown-with_kind a b r k k' g c = record {
   covers = frames.covers-with_kind a b r k k' g.first g.second g.covers c;
 }
 
-grown-after_store : (a b : Frame) (k : Kind) (d : ℤ) (n : ℕ) → Grown a b → Grown (after_store a k d n) (after_store b k d n)
-grown-after_store a b (Stack o) d n g = record {
-  first = frames.IsFrame-with_marks a (stack_index (o +ℤ d)) n g.first;
-  second = frames.IsFrame-with_marks b (stack_index (o +ℤ d)) n g.second;
-  covers = frames.covers-with_marks a b (stack_index (o +ℤ d)) n g.second g.covers;
+grown-with_cell : (a b : Frame) (c : ℕ) (x y : Cell) → Grown a b → IsCell x → IsCell y → CoversCell x y → Grown (with_cell a c x) (with_cell b c y)
+grown-with_cell a b c x y g first second covers = record {
+  first = frames.IsFrame-with_cell a c x first g.first;
+  second = frames.IsFrame-with_cell b c y second g.second;
+  covers = frames.covers-with_cell a b c x y g.first g.second covers g.covers;
 }
-grown-after_store a b k d n g = g
+
+grown-with_marks : (a b : Frame) (at n : ℕ) → Grown a b → Grown (with_marks a at n) (with_marks b at n)
+grown-with_marks a b at n g = record {
+  first = frames.IsFrame-with_marks a at n g.first;
+  second = frames.IsFrame-with_marks b at n g.second;
+  covers = frames.covers-with_marks a b at n g.first g.second g.covers;
+}
+
+grown-after_store : (a b : Frame) (base : Kind) (d : ℤ) (n : ℕ) (k : Kind) → Grown a b → Grown (after_store a base d n k) (after_store b base d n k)
+grown-after_store a b (Stack o) d n k g = by (is_pointer k) refl
+  where
+    place : ℕ
+    place = stack_index (o +ℤ d)
+
+    by : (p : Bool) → is_pointer k ≡ p → Grown (cond p (with_cell a (place / 8) (Spilled k)) (with_marks a place n)) (cond p (with_cell b (place / 8) (Spilled k)) (with_marks b place n))
+    by true is = grown-with_cell a b (place / 8) (Spilled k) (Spilled k) g is is (λ i lt one. one, refl)
+    by false is = grown-with_marks a b place n g
+grown-after_store a b base d n k g = g
+
+-- the same number, or the same pointer
+same_source : (a b : Frame) (src : Source) → SameKinds a b (source_registers src) → source_kind src a ≡ source_kind src b
+same_source a b (Reg r) s = s.0
+same_source a b (Imm imm) s = refl
+
+-- what a load gives is known alike: the same pointer, or a number
+same_loaded : (l : Signature) (a b : Frame) (k : Kind) (d : ℤ) (n : ℕ) → Covers a b → is_none (pointer_in a k d n) && has_unmarked l a k d n ≡ false → loaded_kind a k d n ≡ loaded_kind b k d n
+same_loaded l a b k d n h e = by (pointer_in a k d n) (pointer_in b k d n) refl refl e
+  where
+    by : (x y : Option Kind) → pointer_in a k d n ≡ x → pointer_in b k d n ≡ y → is_none x && has_unmarked l a k d n ≡ false → unwrap_or (pointer_in a k d n) Scalar ≡ unwrap_or (pointer_in b k d n) Scalar
+    by (Some p) y ea eb e = rw (ea, pointer_too a b k d n p h ea) refl
+    by None None ea eb e = rw (ea, eb) refl
+    by None (Some p) ea eb e = absurd (marked_is_no_pointer l b k d n p (marked_too l a b k d n h e) eb)
 
 grown-after_test : (jumps : Option Bool) (a b : Frame) (r : ℕ) (k : Kind) (e : Edge) → Grown a b → Grown (after_test jumps a r k e) (after_test jumps b r k e)
 grown-after_test (Some jumps) a b r (ValueOrNull m) e g = grown-with_kind a b r _ _ g (inr refl)
@@ -224,10 +265,21 @@ grown-forgetting m a b zero g = g
 grown-forgetting m a b (suc n) g =
     grown-with_kind _ _ n _ _ (grown-forgetting m a b n g) (forgotten_too m (kind a n) (kind b n) (covers_kind a b g.first g.covers n))
 
+grown-forgetting_cells : (m : ℕ) (a b : Frame) (n : ℕ) → n ≤ 64 → Grown a b → Grown (forgetting_cells m a n) (forgetting_cells m b n)
+grown-forgetting_cells m a b zero le g = g
+grown-forgetting_cells m a b (suc n) le g =
+    let below : n < 64 = omega arith in
+    let covered : CoversCell (cell a n) (cell b n) = (frames.cells_from_marks a b n below g.covers.marks, g.covers.pointers n below) in
+    grown-with_cell _ _ n _ _ (grown-forgetting_cells m a b n (omega arith) g) (forgotten_is m (cell a n) (g.first.each n)) (forgotten_is m (cell b n) (g.second.each n)) (forgotten_covers m (cell a n) (cell b n) covered)
+
+-- no register and no cell keeps a pointer to a value of the map
+grown-forgotten : (m : ℕ) (a b : Frame) → Grown a b → Grown (with_kind (forgetting_cells m (forgetting m a 11) 64) 0 Scalar) (with_kind (forgetting_cells m (forgetting m b 11) 64) 0 Scalar)
+grown-forgotten m a b g = grown-with_kind _ _ 0 _ _ (grown-forgetting_cells m _ _ 64 (omega arith) (grown-forgetting m a b 11 g)) (inr refl)
+
 grown-after_helper : (h : Helper) (k : Kind) (a b : Frame) → Grown a b → Grown (after_call (Some h) k a) (after_call (Some h) k b)
 grown-after_helper Lookup (Map m) a b g = grown-with_kind _ _ 0 _ _ (grown-without_arguments a b g) (inr refl)
-grown-after_helper Update (Map m) a b g = grown-with_kind _ _ 0 _ _ (grown-forgetting m _ _ 11 (grown-without_arguments a b g)) (inr refl)
-grown-after_helper Delete (Map m) a b g = grown-with_kind _ _ 0 _ _ (grown-forgetting m _ _ 11 (grown-without_arguments a b g)) (inr refl)
+grown-after_helper Update (Map m) a b g = grown-forgotten m _ _ (grown-without_arguments a b g)
+grown-after_helper Delete (Map m) a b g = grown-forgotten m _ _ (grown-without_arguments a b g)
 grown-after_helper h k a b g = g
 
 grown-after_call : (h : Option Helper) (a b : Frame) → SameKinds a b (call_registers h) → Grown a b → Grown (after_call h (kind a 1) a) (after_call h (kind b 1) b)
@@ -236,35 +288,52 @@ grown-after_call (Some Lookup) a b s g = subst (λ k. Grown (after_call (Some Lo
 grown-after_call (Some Update) a b s g = subst (λ k. Grown (after_call (Some Update) (kind a 1) a) (after_call (Some Update) k b)) s.0 (grown-after_helper Update (kind a 1) a b g)
 grown-after_call (Some Delete) a b s g = subst (λ k. Grown (after_call (Some Delete) (kind a 1) a) (after_call (Some Delete) k b)) s.0 (grown-after_helper Delete (kind a 1) a b g)
 
-grown-after : (i : Form) (a b : Frame) (e : Edge) → SameKinds a b (reads i) → Grown a b → Grown (frame_after i a e) (frame_after i b e)
-grown-after (Alu w64 op dst src) a b e s g = grown-with_kind a b dst _ _ g (inr (same_result w64 op dst src a b s))
-grown-after (Neg w64 dst) a b e s g = grown-with_kind a b dst Scalar Scalar g (inr refl)
-grown-after (MovSx w64 bits dst src) a b e s g = grown-with_kind a b dst Scalar Scalar g (inr refl)
-grown-after (Swap order bits dst) a b e s g = grown-with_kind a b dst Scalar Scalar g (inr refl)
-grown-after (Load size signed dst src off) a b e s g = grown-with_kind a b dst Scalar Scalar g (inr refl)
-grown-after (Store size dst off src) a b e s g =
-    subst (λ k. Grown (after_store a (kind a dst) off (byte_count size)) (after_store b k off (byte_count size))) s.0 (grown-after_store a b (kind a dst) off (byte_count size) g)
-grown-after (Imm64 dst value) a b e s g = grown-with_kind a b dst Scalar Scalar g (inr refl)
-grown-after (MapRef dst index) a b e s g = grown-with_kind a b dst _ _ g (inr refl)
-grown-after (Ja long by) a b e s g = g
-grown-after (Branch w64 cond dst src off) a b e s g =
+-- what a load gives is known alike by both
+abbrev LoadsAlike : Form → Frame → Frame → Type 0
+LoadsAlike (Load size signed dst src off) a b = loaded_kind a (kind a src) off (byte_count size) ≡ loaded_kind b (kind b src) off (byte_count size)
+LoadsAlike i a b = Unit {0}
+
+grown-after : (i : Form) (a b : Frame) (e : Edge) → SameKinds a b (reads i) → LoadsAlike i a b → Grown a b → Grown (frame_after i a e) (frame_after i b e)
+grown-after (Alu w64 op dst src) a b e s loads g = grown-with_kind a b dst _ _ g (inr (same_result w64 op dst src a b s))
+grown-after (Neg w64 dst) a b e s loads g = grown-with_kind a b dst Scalar Scalar g (inr refl)
+grown-after (MovSx w64 bits dst src) a b e s loads g = grown-with_kind a b dst Scalar Scalar g (inr refl)
+grown-after (Swap order bits dst) a b e s loads g = grown-with_kind a b dst Scalar Scalar g (inr refl)
+grown-after (Load size signed dst src off) a b e s loads g = grown-with_kind a b dst _ _ g (inr loads)
+grown-after (Store size dst off src) a b e s loads g =
+    let stored = source_kind src a in
+    subst (λ k. Grown (after_store a (kind a dst) off (byte_count size) stored) (after_store b (kind b dst) off (byte_count size) k)) (same_source a b src s.1)
+    (subst (λ k. Grown (after_store a (kind a dst) off (byte_count size) stored) (after_store b k off (byte_count size) stored)) s.0 (grown-after_store a b (kind a dst) off (byte_count size) stored g))
+grown-after (Imm64 dst value) a b e s loads g = grown-with_kind a b dst Scalar Scalar g (inr refl)
+grown-after (MapRef dst index) a b e s loads g = grown-with_kind a b dst _ _ g (inr refl)
+grown-after (Ja long by) a b e s loads g = g
+grown-after (Branch w64 cond dst src off) a b e s loads g =
     let jumps = jumps_at_null w64 cond src in
     subst (λ k. Grown (after_test jumps a dst (kind a dst) e) (after_test jumps b dst k e)) s.0 (grown-after_test jumps a b dst (kind a dst) e g)
-grown-after (Call id) a b e s g = grown-after_call (helper_of id) a b s g
-grown-after Exit a b e s g = g
+grown-after (Call id) a b e s loads g = grown-after_call (helper_of id) a b s g
+grown-after Exit a b e s loads g = g
+
+loads_alike : (l : Signature) (i : Form) (a b : Frame) → IsFrame a → Covers a b → first_broken l i a ≡ None → LoadsAlike i a b
+loads_alike l (Load size signed dst src off) a b fa h ok =
+    let same = (alike l (Load size signed dst src off) a b fa h ok).0 in
+    same_loaded l a b (kind a src) off (byte_count size) h (unbroken_rules l (Load size signed dst src off) a ok).1.1.1.1.1.0 ∙ ap (λ k. loaded_kind b k off (byte_count size)) same
+loads_alike l i a b fa h ok = tt
 
 -- where no rule is broken, a frame that says more leads to one that says more, by either edge
 pub after_mono : (l : Signature) (i : Form) (a b : Frame) (e : Edge) → HasEncoding i → IsFrame a → IsFrame b → Covers a b → first_broken l i a ≡ None → Covers (frame_after i a e) (frame_after i b e)
 after_mono l i a b e instruction fa fb h ok =
-    let g = grown-after i a b e (alike l i a b fa h ok) (record { first = fa; second = fb; covers = h }) in
+    let g = grown-after i a b e (alike l i a b fa h ok) (loads_alike l i a b fa h ok) (record { first = fa; second = fb; covers = h }) in
     g.covers
 
 every_same : (a : Frame) (rs : List ℕ) → SameKinds a a rs
 every_same a [] = tt
 every_same a (r ∷ rs) = (refl, every_same a rs)
 
+loads_same : (i : Form) (a : Frame) → LoadsAlike i a a
+loads_same (Load size signed dst src off) a = refl
+loads_same i a = tt
+
 -- the frame after is a frame
 pub after_frame : (i : Form) (f : Frame) (e : Edge) → IsFrame f → IsFrame (frame_after i f e)
 after_frame i f e h =
-    let g = grown-after i f f e (every_same f (reads i)) (record { first = h; second = h; covers = frames.covers_refl f }) in
+    let g = grown-after i f f e (every_same f (reads i)) (loads_same i f) (record { first = h; second = h; covers = frames.covers_refl f }) in
     g.first

@@ -121,17 +121,17 @@ skip p l frames at none so_far = let moved = reseen p l frames at (Below at) (Be
     from x s t d leads lt = below x s leads.0 lt
 
 -- both edges of the instruction at a slot are seen
-pub both_seen : (p : List Form) (l : Signature) (frames : Table) (n at : ℕ) → Progress p l frames n (With (With (Below at) at Fall) at Jump) → Progress p l frames n (Below (suc at))
-both_seen p l frames n at so_far = reseen p l frames n (With (With (Below at) at Fall) at Jump) (Below (suc at)) (λ x s t d leads h. from s d h) (λ x s t d leads h. to s d h) so_far
+pub both_seen : (p : List Form) (l : Signature) (frames : Table) (n at : ℕ) → Progress p l frames n (With (With (Below at) at Jump) at Fall) → Progress p l frames n (Below (suc at))
+both_seen p l frames n at so_far = reseen p l frames n (With (With (Below at) at Jump) at Fall) (Below (suc at)) (λ x s t d leads h. from s d h) (λ x s t d leads h. to s d h) so_far
   where
-    at_edge : (s : ℕ) (d : Edge) → s ≡ at → With (With (Below at) at Fall) at Jump s d
-    at_edge s Fall e = inl (inr (e, refl))
-    at_edge s Jump e = inr (e, refl)
+    at_edge : (s : ℕ) (d : Edge) → s ≡ at → With (With (Below at) at Jump) at Fall s d
+    at_edge s Jump e = inl (inr (e, refl))
+    at_edge s Fall e = inr (e, refl)
 
-    from : (s : ℕ) (d : Edge) → s < suc at → With (With (Below at) at Fall) at Jump s d
+    from : (s : ℕ) (d : Edge) → s < suc at → With (With (Below at) at Jump) at Fall s d
     from s d lt = ⊎_elim (λ h. inl (inl h)) (λ ge. at_edge s d (omega arith)) (cases_lt s at)
 
-    to : (s : ℕ) (d : Edge) → With (With (Below at) at Fall) at Jump s d → s < suc at
+    to : (s : ℕ) (d : Edge) → With (With (Below at) at Jump) at Fall s d → s < suc at
     to s d (inl (inl h)) = omega arith
     to s d (inl (inr h)) = omega (arith, h.0)
     to s d (inr h) = omega (arith, h.0)

@@ -1,5 +1,5 @@
--- To be believed: what a program is checked for, the kinds of values, the rules, the frame after an instruction, typings, and what is
--- known of an accepted program.
+-- What a program is checked for, the kinds of values, the rules, the frame after an instruction, typings, and what is known of an accepted
+-- program.
 pub mod Signature
 pub mod Kinds
 pub mod Operands
@@ -11,6 +11,6 @@ pub mod Accepted
 -- Functions that laws tie to those: the joined frames, and the first refusal as the crates above cite it.
 pub mod Joined
 pub mod Verdict
--- Scaffolding: what the verifier's inner functions speak of; no promise stands on it.
+-- What the verifier's inner functions speak of.
 pub mod Numbers
 pub mod Pass

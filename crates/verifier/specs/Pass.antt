@@ -56,8 +56,8 @@ pub record VisitsFine (l : Signature) (i : Form) (s : ℕ) (old new : Table) : T
   pub here : slice_get old s ≡ Some (Some frame)
   pub fine : first_broken l i frame ≡ None
   pub between : Table
-  pub falls : Follows i s Fall (frame_after i frame Fall) old between
-  pub jumps : Follows i s Jump (frame_after i frame Jump) between new
+  pub jumps : Follows i s Jump (frame_after i frame Jump) old between
+  pub falls : Follows i s Fall (frame_after i frame Fall) between new
 
 -- what a visit does, and what it answers: the rule that is broken, if one is
 abbrev pub Visits : Signature → Form → ℕ → Table → Table → Option VerifyFault → Type 0

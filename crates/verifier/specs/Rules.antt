@@ -18,7 +18,8 @@ use Rattle.verifier.specs.Signature.{Signature}
 use Rattle.verifier.specs.Kinds.{is_unreadable, is_pointer, is_region_pointer, is_scalar, is_map, cannot_be_dereferenced, cannot_be_moved, cannot_be_tested, is_arg, is_value, is_value_or_null}
 use Rattle.verifier.specs.Operands.{source_registers, reads, writes}
 use Rattle.insn.specs.Moves.{distance}
-use Rattle.verifier.specs.Regions.{is_within, memory_read, memory_written, is_outside, is_unmarked}
+use Rattle.verifier.specs.Regions.{is_within, memory_read, memory_written, is_outside, is_unmarked, access, whole_cell, pointer_in}
+use Rattle.insn.specs.Sizes.{byte_count}
 
 -- ---- what the rules ask
 
@@ -84,16 +85,20 @@ is_read mode = false
 
 -- ---- the rules
 
--- the instruction breaks the rule on this frame
+-- The instruction breaks the rule on this frame. A pointer may be stored where it fills a cell of the stack, and loaded from there; no byte
+-- of it may be read.
 abbrev pub breaks : VerifyFault → Signature → Form → Frame → Bool
 breaks UnreadableRegister l i f = list_any (λ r. is_unreadable (kind f r)) (reads i)
 breaks FramePointerWritten l i f = option_map_or (λ r. r == 10) (writes i) false
 breaks UndefinedOperation l i f = misuses i f
 breaks OffsetOutOfRange l i f = leaves_region l i f
 breaks OutOfRegion l i f = list_any (is_outside l) (memory_read l i f) || list_any (is_outside l) (memory_written i f)
+breaks UninitialisedStack l (Load size signed dst src off) f =
+    is_none (pointer_in f (kind f src) off (byte_count size)) && is_unmarked l f (access (kind f src) off (byte_count size))
 breaks UninitialisedStack l i f = list_any (is_unmarked l f) (memory_read l i f)
 breaks ArgumentWritten l i f = writes_through is_arg i f
-breaks PointerStored l (Store size dst off src) f = any_pointer (source_registers src) f
+breaks PointerStored l (Store size dst off src) f =
+    any_pointer (source_registers src) f && is_none (whole_cell (kind f dst) off (byte_count size))
 breaks UncheckedNull l i f = has_unchecked_base i f
 breaks HelperArgument l (Call id) f = has_bad_argument (helper_of id) f
 breaks UnknownHelperOrMap l (Call id) f = is_none (helper_of id)

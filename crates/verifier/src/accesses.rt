@@ -6,14 +6,14 @@ ghost use Rattle.insn.specs.declared.instruction.Form.TheVariants as form;
 ghost use Rattle.insn.specs.Encoding.{IsSource};
 ghost use Rattle.regkind.specs.Frames as frames;
 ghost use Rattle.verifier.specs.Kinds.{is_unreadable, is_pointer};
-ghost use Rattle.verifier.specs.Operands.{source_registers};
+ghost use Rattle.verifier.specs.Operands.{source_registers, source_kind};
 ghost use Rattle.verifier.specs.Rules.{first_broken, any_pointer};
 
 use crate::context::Context;
 use crate::refusal::{Mode, VerifyFault};
 use crate::regions::{
     cannot_be_dereferenced, has_unmarked, is_arg, is_pointer, is_unreadable, is_value,
-    is_value_or_null,
+    is_value_or_null, pointer_in, whole_cell,
 };
 use insn::{Size, Source};
 use regkind::{Frame, Kind};
@@ -39,7 +39,9 @@ pub(crate) fn broken_by_load(
         Some(VerifyFault::UndefinedOperation)
     } else if !on.signature.is_within(base, off as i64, bytes) {
         Some(VerifyFault::OutOfRegion)
-    } else if has_unmarked(on.frame, base, off as i64, bytes) {
+    } else if pointer_in(on.frame, base, off as i64, bytes).is_none()
+        && has_unmarked(on.frame, base, off as i64, bytes)
+    {
         Some(VerifyFault::UninitialisedStack)
     } else if is_value_or_null(base) {
         Some(VerifyFault::UncheckedNull)
@@ -70,7 +72,7 @@ pub(crate) fn broken_by_store(
         Some(VerifyFault::OutOfRegion)
     } else if is_arg(target) {
         Some(VerifyFault::ArgumentWritten)
-    } else if is_pointer(stored) {
+    } else if is_pointer(stored) && whole_cell(target, off as i64, size.bytes()).is_none() {
         Some(VerifyFault::PointerStored)
     } else if is_value_or_null(target) {
         Some(VerifyFault::UncheckedNull)
@@ -86,6 +88,7 @@ pub(crate) fn source_kind(f: &Frame, src: Source) -> Kind
     requires src { IsSource src }
     ensures unreadable { is_unreadable result ≡ list_any (λ r. is_unreadable (frames.kind f.now r)) (source_registers src) }
     ensures pointer { is_pointer result ≡ any_pointer (source_registers src) f.now }
+    ensures kind { result ≡ source_kind src f.now }
 {
     match src {
         Source::Reg(register) => f.kind(register),

@@ -4,37 +4,57 @@ ghost use Rattle.std.specs.Prelude.{◌≡◌, ◌<◌, ◌≤◌, ◌≤ℤ◌,
 ghost use Rattle.insn.specs.Encoding.{HasEncoding, IsSource};
 ghost use Rattle.maps.specs.Values.{Lookup, Update, Delete};
 ghost use Rattle.regkind.specs.declared.frames.Kind.TheVariants as kinds;
-ghost use Rattle.regkind.specs.Frames.{kind, with_kind};
+ghost use Rattle.regkind.specs.Frames.{IsCell, kind, with_kind};
 ghost use Rattle.verifier.specs.Signature.{IsSignatureOk};
 ghost use Rattle.verifier.specs.Operands.{copied};
 ghost use Rattle.insn.specs.Moves.{distance};
 ghost use Rattle.verifier.specs.Regions.{IsShort, StaysInStack};
 ghost use Rattle.verifier.specs.Rules.{first_broken};
-ghost use Rattle.verifier.specs.FrameAfter.{frame_after, is_null_on, after_call, shifted, FitsShift, result_kind, after_store, after_test, without_arguments, forgetting, forgotten};
+ghost use Rattle.verifier.specs.FrameAfter.{frame_after, is_null_on, after_call, shifted, FitsShift, result_kind, after_store, after_test, without_arguments, forgetting, forgotten, loaded_kind, forgetting_cells, forgotten_cell};
 
-use crate::context::Context;
+use crate::accesses::source_kind;
 use crate::operands::{copied, jumps_at_null};
-use crate::regions::{moved, stack_bytes};
+use crate::regions::{is_pointer, moved, pointer_in, stack_bytes};
+use crate::signature::Signature;
 use insn::{Edge, Form, Operation, Source, distance};
-use regkind::{Frame, Kind};
+use regkind::{Cell, Frame, Kind};
 
-/// The frame after an instruction that breaks no rule on the frame before it, where it jumps or falls through.
-pub(crate) fn frame_after(on: &Context, i: Form, edge: Edge) -> Frame
+/// The frame before an instruction that breaks no rule on it becomes the frame after it, where it jumps or falls through.
+pub(crate) fn advance(f: &mut Frame, l: &Signature, i: Form, edge: Edge)
     requires instruction { HasEncoding i }
-    requires limits { IsSignatureOk on.now.signature.now }
-    requires unbroken { first_broken on.now.signature.now i on.now.frame.now ≡ None }
-    ensures { result ≡ frame_after i on.now.frame.now edge }
+    requires limits { IsSignatureOk l.now }
+    requires unbroken { first_broken l.now i f.old ≡ None }
+    ensures { f.new ≡ frame_after i f.old edge }
 {
-    let f = on.frame;
     match i {
-        Form::Alu { w64, op, dst, src } => with_kind(f, dst, result_kind(f, w64, op, dst, src)),
-        Form::Neg { dst, .. } => with_kind(f, dst, Kind::Scalar),
-        Form::MovSx { dst, .. } => with_kind(f, dst, Kind::Scalar),
-        Form::Swap { dst, .. } => with_kind(f, dst, Kind::Scalar),
-        Form::Load { dst, .. } => with_kind(f, dst, Kind::Scalar),
-        Form::Store { size, dst, off, .. } => after_store(f, f.kind(dst), off, size.bytes()),
-        Form::Imm64 { dst, .. } => with_kind(f, dst, Kind::Scalar),
-        Form::MapRef { dst, index } => with_kind(f, dst, map_kind(index)),
+        Form::Alu { w64, op, dst, src } => {
+            let kind = result_kind(f, w64, op, dst, src);
+            f.set_kind(dst, kind);
+        }
+        Form::Neg { dst, .. } => f.set_kind(dst, Kind::Scalar),
+        Form::MovSx { dst, .. } => f.set_kind(dst, Kind::Scalar),
+        Form::Swap { dst, .. } => f.set_kind(dst, Kind::Scalar),
+        Form::Load {
+            size,
+            dst,
+            src,
+            off,
+            ..
+        } => {
+            let kind = loaded_kind(f, f.kind(src), off, size.bytes());
+            f.set_kind(dst, kind);
+        }
+        Form::Store {
+            size,
+            dst,
+            off,
+            src,
+        } => {
+            let (base, stored) = (f.kind(dst), source_kind(f, src));
+            after_store(f, base, off, size.bytes(), stored);
+        }
+        Form::Imm64 { dst, .. } => f.set_kind(dst, Kind::Scalar),
+        Form::MapRef { dst, index } => f.set_kind(dst, map_kind(index)),
         Form::Branch {
             w64,
             cond,
@@ -44,18 +64,8 @@ pub(crate) fn frame_after(on: &Context, i: Form, edge: Edge) -> Frame
         } => after_test(f, dst, jumps_at_null(w64, cond, src), edge),
         Form::Call { id: 1 } => after_lookup(f),
         Form::Call { id: 2 | 3 } => after_change(f),
-        Form::Call { .. } | Form::Ja { .. } | Form::Exit => *f,
+        Form::Call { .. } | Form::Ja { .. } | Form::Exit => {}
     }
-}
-
-// Another kind for a register.
-fn with_kind(f: &Frame, register: u8, kind: Kind) -> Frame
-    requires register { register < 11 }
-    ensures { result ≡ with_kind f.now register kind }
-{
-    let mut after = *f;
-    after.set_kind(register, kind);
-    after
 }
 
 // The kind of the result of arithmetic.
@@ -97,33 +107,44 @@ fn map_kind(index: i32) -> Kind
     Kind::Map(index as u8)
 }
 
-// Bytes that are stored in the stack are initialised.
-fn after_store(f: &Frame, base: Kind, off: i16, bytes: usize) -> Frame
-    requires within { StaysInStack base off bytes }
-    ensures { result ≡ after_store f.now base off bytes }
+// What is loaded: the pointer of a cell, or else a number.
+fn loaded_kind(f: &Frame, base: Kind, off: i16, bytes: usize) -> Kind
+    ensures { result ≡ loaded_kind f.now base off bytes }
 {
-    let mut after = *f;
+    match pointer_in(f, base, off as i64, bytes) {
+        Some(kind) => kind,
+        None => Kind::Scalar,
+    }
+}
+
+// Bytes that are stored in the stack are initialised; a pointer that is stored in a cell stands there.
+fn after_store(f: &mut Frame, base: Kind, off: i16, bytes: usize, stored: Kind)
+    requires within { StaysInStack base off bytes }
+    requires some { 0 < bytes }
+    ensures { f.new ≡ after_store f.old base off bytes stored }
+{
     if let Kind::Stack(offset) = base {
         if let Some(first) = stack_bytes(moved(offset, off as i64), bytes) {
-            after.mark(first, bytes);
+            if is_pointer(stored) {
+                f.set_cell(first / 8, Cell::Spilled(stored));
+            } else {
+                f.mark(first, bytes);
+            }
         }
     }
-    after
 }
 
 // A register that is tested for null is a number where it is null, else a pointer to a value.
-fn after_test(f: &Frame, register: u8, jumps_at_null: Option<bool>, edge: Edge) -> Frame
+fn after_test(f: &mut Frame, register: u8, jumps_at_null: Option<bool>, edge: Edge)
     requires register { register < 11 }
-    ensures { result ≡ after_test jumps_at_null f.now register (kind f.now register) edge }
+    ensures { f.new ≡ after_test jumps_at_null f.old register (kind f.old register) edge }
 {
     match (jumps_at_null, f.kind(register)) {
-        (Some(jumps), Kind::ValueOrNull(_)) if is_null_on(jumps, edge) => with_kind(
-            f,
-            register,
-            Kind::Scalar,
-        ),
-        (Some(_), Kind::ValueOrNull(map)) => with_kind(f, register, Kind::Value(map, 0)),
-        _ => *f,
+        (Some(jumps), Kind::ValueOrNull(_)) if is_null_on(jumps, edge) => {
+            f.set_kind(register, Kind::Scalar);
+        }
+        (Some(_), Kind::ValueOrNull(map)) => f.set_kind(register, Kind::Value(map, 0)),
+        _ => {}
     }
 }
 
@@ -135,23 +156,25 @@ fn is_null_on(jumps: bool, edge: Edge) -> bool
 }
 
 // After a lookup R0 is a pointer to a value or null, and R1 to R5 are unreadable.
-fn after_lookup(f: &Frame) -> Frame
-    ensures { result ≡ after_call (Some Lookup) (kind f.now 1) f.now }
+fn after_lookup(f: &mut Frame)
+    ensures { f.new ≡ after_call (Some Lookup) (kind f.old 1) f.old }
 {
-    match f.kind(1) {
-        Kind::Map(map) => with_kind(&without_arguments(f), 0, Kind::ValueOrNull(map)),
-        _ => *f,
+    if let Kind::Map(map) = f.kind(1) {
+        without_arguments(f);
+        f.set_kind(0, Kind::ValueOrNull(map));
     }
 }
 
-// After an update or a delete R0 is a number, R1 to R5 are unreadable, and so is every pointer to a value of the map.
-fn after_change(f: &Frame) -> Frame
-    ensures update { result ≡ after_call (Some Update) (kind f.now 1) f.now }
-    ensures delete { result ≡ after_call (Some Delete) (kind f.now 1) f.now }
+// After an update or a delete R0 is a number, R1 to R5 are unreadable, and no register and no cell keeps a pointer to a value of the map.
+fn after_change(f: &mut Frame)
+    ensures update { f.new ≡ after_call (Some Update) (kind f.old 1) f.old }
+    ensures delete { f.new ≡ after_call (Some Delete) (kind f.old 1) f.old }
 {
-    match f.kind(1) {
-        Kind::Map(map) => with_kind(&forgetting(&without_arguments(f), map), 0, Kind::Scalar),
-        _ => *f,
+    if let Kind::Map(map) = f.kind(1) {
+        without_arguments(f);
+        *f = forgetting(f, map);
+        *f = forgetting_cells(f, map);
+        f.set_kind(0, Kind::Scalar);
     }
 }
 
@@ -166,6 +189,29 @@ fn forgetting(f: &Frame, map: u8) -> Frame
     after
 }
 
+// No cell keeps a pointer to a value of the map.
+fn forgetting_cells(f: &Frame, map: u8) -> Frame
+    ensures { result ≡ forgetting_cells map f.now 64 }
+{
+    let mut after = *f;
+    for c in 0..64 {
+        after.set_cell(c, forgotten_cell(f.cell(c), map));
+    }
+    after
+}
+
+// What is in the cell, but a pointer to a value of the map leaves no mark.
+fn forgotten_cell(cell: Cell, map: u8) -> Cell
+    ensures forgotten { result ≡ forgotten_cell map cell }
+    ensures is { IsCell cell → IsCell result }
+{
+    match cell {
+        Cell::Spilled(Kind::Value(of, _)) | Cell::Spilled(Kind::ValueOrNull(of)) if of == map =>
+            Cell::Marks(0),
+        _ => cell,
+    }
+}
+
 // The kind, but of a pointer to a value of the map, tested or not, nothing is known.
 fn forgotten(kind: Kind, map: u8) -> Kind
     ensures { result ≡ forgotten map kind }
@@ -177,14 +223,12 @@ fn forgotten(kind: Kind, map: u8) -> Kind
 }
 
 // R1 to R5 are unreadable after a call.
-fn without_arguments(f: &Frame) -> Frame
-    ensures { result ≡ without_arguments f.now }
+fn without_arguments(f: &mut Frame)
+    ensures { f.new ≡ without_arguments f.old }
 {
-    let mut after = *f;
-    after.set_kind(1, Kind::Unreadable);
-    after.set_kind(2, Kind::Unreadable);
-    after.set_kind(3, Kind::Unreadable);
-    after.set_kind(4, Kind::Unreadable);
-    after.set_kind(5, Kind::Unreadable);
-    after
+    f.set_kind(1, Kind::Unreadable);
+    f.set_kind(2, Kind::Unreadable);
+    f.set_kind(3, Kind::Unreadable);
+    f.set_kind(4, Kind::Unreadable);
+    f.set_kind(5, Kind::Unreadable);
 }

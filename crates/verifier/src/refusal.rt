@@ -43,7 +43,7 @@ pub enum VerifyFault {
     UninitialisedStack,
     /// A byte of the argument, which is read-only, is written.
     ArgumentWritten,
-    /// A pointer is stored in memory.
+    /// A pointer is stored where it does not fill a cell of the stack.
     PointerStored,
     /// The answer of a lookup is used before it is tested for null.
     UncheckedNull,
@@ -60,7 +60,7 @@ pub enum VerifyFault {
 impl VerifyFault {
     /// The number after the `V`.
     pub fn number(self) -> u8
-        ensures { result ≡ fault_number self }
+        ensures number { result ≡ fault_number self }
     {
         self as u8 + 1
     }
@@ -88,7 +88,9 @@ impl VerifyFault {
                 "a byte of the stack is read that was not written on every way here"
             }
             VerifyFault::ArgumentWritten => "the argument is written, which is read-only",
-            VerifyFault::PointerStored => "a pointer is stored",
+            VerifyFault::PointerStored => {
+                "a pointer is stored where it does not fill a cell of the stack"
+            }
             VerifyFault::UncheckedNull => {
                 "a looked-up value is used before it is tested for null"
             }
@@ -130,7 +132,7 @@ pub enum VerifyError {
 impl VerifyError {
     /// The number after the `V`: 0 where there is no memory left.
     pub fn number(self) -> u8
-        ensures { result ≡ error_number self }
+        ensures number { result ≡ error_number self }
     {
         match self {
             VerifyError::NoMemory => 0,
@@ -140,7 +142,7 @@ impl VerifyError {
 
     /// The slot of the instruction that breaks the rule: 0 where there is no memory left.
     pub fn slot(self) -> u32
-        ensures { result ≡ error_slot self }
+        ensures slot { result ≡ error_slot self }
     {
         match self {
             VerifyError::NoMemory => 0,

@@ -1,12 +1,12 @@
 // Kinds, the regions that pointers point into, and how far an access goes there.
 
-ghost use Rattle.std.specs.Prelude.{◌≡◌, ◌+◌, ◌≤◌, ◌+ℤ◌, pos, negsuc, is_some, IfSome};
+ghost use Rattle.std.specs.Prelude.{◌≡◌, ◌+◌, ◌≤◌, ◌+ℤ◌, pos, negsuc, is_some, IfSome, ◌<◌};
 ghost use Rattle.verifier.specs.Signature.{Signature};
 ghost use Rattle.verifier.specs.Kinds.{is_unreadable, is_pointer, is_region_pointer, is_scalar, is_arg, is_value, is_value_or_null};
 ghost use Rattle.verifier.specs.Kinds.{cannot_be_dereferenced, cannot_be_moved, cannot_be_tested};
-ghost use Rattle.verifier.specs.Regions.{lies_in, stack_index, has_unmarked, IsShort, IsSmall};
+ghost use Rattle.verifier.specs.Regions.{lies_in, stack_index, has_unmarked, IsShort, IsSmall, whole_cell, pointer_in};
 
-use regkind::{Frame, Kind};
+use regkind::{Cell, Frame, Kind};
 
 // Nothing is known of the register.
 pub(crate) fn is_unreadable(kind: Kind) -> bool
@@ -98,6 +98,35 @@ pub(crate) fn stack_bytes(at: i64, bytes: usize) -> Option<usize>
         Some((at + 512) as usize)
     } else {
         None
+    }
+}
+
+// The cell of the stack that so many bytes at a distance from a pointer of this kind are, if they are one.
+pub(crate) fn whole_cell(kind: Kind, distance: i64, bytes: usize) -> Option<usize>
+    requires short { IsShort distance }
+    ensures cell { result ≡ whole_cell kind distance bytes }
+    ensures few { IfSome result (λ c. c < 64) }
+{
+    if bytes != 8 {
+        return None;
+    }
+    match kind {
+        Kind::Stack(offset) => match stack_bytes(moved(offset, distance), bytes) {
+            Some(first) if first % 8 == 0 => Some(first / 8),
+            _ => None,
+        },
+        _ => None,
+    }
+}
+
+// The kind of the pointer that these bytes are, if they are a cell that has one.
+pub(crate) fn pointer_in(f: &Frame, kind: Kind, distance: i64, bytes: usize) -> Option<Kind>
+    requires short { IsShort distance }
+    ensures { result ≡ pointer_in f.now kind distance bytes }
+{
+    match f.cell(whole_cell(kind, distance, bytes)?) {
+        Cell::Marks(_) => None,
+        Cell::Spilled(kind) => Some(kind),
     }
 }
 

@@ -4,14 +4,15 @@ ghost use Rattle.std.specs.Prelude.{◌≡◌, ℕ, ◌<◌, ◌≤◌, pos, Som
 ghost use Rattle.insn.specs.Encoding.{HasEncoding};
 ghost use Rattle.insn.specs.Layout.{LeadsTo};
 ghost use Rattle.insn.specs.declared.instruction.Edge.{Edge};
+ghost use Rattle.insn.specs.declared.instruction.Edge.TheVariants.{Fall, Jump};
 ghost use Rattle.regkind.specs.Frames.{Frame, IsFrame};
 ghost use Rattle.verifier.specs.Signature.{IsSignatureOk};
 ghost use Rattle.verifier.specs.Rules.{first_broken};
 ghost use Rattle.verifier.specs.FrameAfter.{frame_after};
-ghost use Rattle.verifier.specs.Pass.{Meets, FlowsInto, Follows, Visits};
+ghost use Rattle.verifier.specs.Pass.{FlowsInto, Follows, Visits};
 
 use crate::context::Context;
-use crate::frames_after::frame_after;
+use crate::frames_after::advance;
 use crate::refusal::VerifyFault;
 use crate::rules::broken_rule;
 use crate::signature::Signature;
@@ -32,18 +33,19 @@ pub(crate) fn visit(
     requires there { (f : Frame) × (slice_get frames.old.items slot ≡ Some (Some f)) × IsFrame f }
     ensures { Visits l.now i slot frames.old.items frames.new.items result }
 {
-    match frames[slot] {
+    match &frames[slot] {
         None => unreachable!(),
-        Some(f) => {
+        Some(here) => {
+            let mut f = *here;
             let on = Context {
-                signature: l,
+                signature: &*l,
                 frame: &f,
             };
             match broken_rule(&on, i) {
                 Some(why) => Some(why),
                 None => {
-                    follow(frames, &on, i, slot, Edge::Fall);
-                    follow(frames, &on, i, slot, Edge::Jump);
+                    jump(frames, &on, i, slot);
+                    fall_through(frames, &mut f, &*l, i, slot);
                     None
                 }
             }
@@ -51,38 +53,50 @@ pub(crate) fn visit(
     }
 }
 
-// The frame after the instruction goes along this edge, if there is one.
-fn follow(frames: &mut Vec<Option<Frame>>, on: &Context, i: Form, slot: usize, edge: Edge)
+// The frame after the instruction goes along its jump, if there is one.
+fn jump(frames: &mut Vec<Option<Frame>>, on: &Context, i: Form, slot: usize)
     requires instruction { HasEncoding i }
     requires limits { IsSignatureOk on.now.signature.now }
     requires unbroken { first_broken on.now.signature.now i on.now.frame.now ≡ None }
     requires frame { IsFrame on.now.frame.now }
     requires few { slot < MAX_SLOTS }
-    requires inside { (t : ℕ) → LeadsTo i slot edge (pos t) → t < vec_len frames.old }
-    ensures { Follows i slot edge (frame_after i on.now.frame.now edge) frames.old.items frames.new.items }
+    requires inside { (t : ℕ) → LeadsTo i slot Jump (pos t) → t < vec_len frames.old }
+    ensures { Follows i slot Jump (frame_after i on.now.frame.now Jump) frames.old.items frames.new.items }
 {
-    if let Some(to) = i.successor(slot, edge) {
-        flow(frames, to, frame_after(on, i, edge));
+    if let Some(to) = i.successor(slot, Edge::Jump) {
+        let mut after = *on.frame;
+        advance(&mut after, on.signature, i, Edge::Jump);
+        flow(frames, to, &after);
     }
 }
 
-// A frame comes in at a slot.
-fn flow(frames: &mut Vec<Option<Frame>>, slot: usize, new: Frame)
-    requires inside { slot < vec_len frames.old }
-    requires frame { IsFrame new }
-    ensures { FlowsInto frames.old.items frames.new.items slot new }
+// The frame before the instruction becomes the one after it, which goes on to the next slot, if the instruction falls through.
+fn fall_through(frames: &mut Vec<Option<Frame>>, f: &mut Frame, l: &Signature, i: Form, slot: usize)
+    requires instruction { HasEncoding i }
+    requires limits { IsSignatureOk l.now }
+    requires unbroken { first_broken l.now i f.old ≡ None }
+    requires frame { IsFrame f.old }
+    requires few { slot < MAX_SLOTS }
+    requires inside { (t : ℕ) → LeadsTo i slot Fall (pos t) → t < vec_len frames.old }
+    ensures { Follows i slot Fall (frame_after i f.old Fall) frames.old.items frames.new.items }
 {
-    frames[slot] = Some(common(frames[slot], new));
+    if let Some(to) = i.successor(slot, Edge::Fall) {
+        advance(f, l, i, Edge::Fall);
+        flow(frames, to, f);
+    }
 }
 
-// What a frame has in common with what is in a slot, if anything is.
-fn common(old: Option<Frame>, new: Frame) -> Frame
-    requires frame { IsFrame new }
-    ensures frame { IsFrame result }
-    ensures meets { Meets (Some old) new result }
+// A frame comes in at a slot: what it has in common with what is there, if anything is, stands there then.
+fn flow(frames: &mut Vec<Option<Frame>>, slot: usize, new: &Frame)
+    requires inside { slot < vec_len frames.old }
+    requires frame { IsFrame new.now }
+    ensures { FlowsInto frames.old.items frames.new.items slot new.now }
 {
-    match old {
-        None => new,
-        Some(old) => join(&old, &new),
+    match &frames[slot] {
+        None => frames[slot] = Some(*new),
+        Some(old) => {
+            let both = join(old, new);
+            frames[slot] = Some(both);
+        }
     }
 }

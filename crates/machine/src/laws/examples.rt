@@ -14,7 +14,7 @@ pub fn programs_run()
     ensures { ProgramsRun }
 {}
 
-/// Two programs that look a key up, on every map: one reads the value, one adds one to it.
+/// Programs that look a key up, on every map: one reads the value, one adds one to it, and one keeps the answer in a cell of the stack.
 pub fn map_programs_run()
     ensures { MapPrograms }
 {}

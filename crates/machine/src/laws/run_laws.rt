@@ -1,6 +1,6 @@
 // Laws of steps and runs.
 
-ghost use Rattle.machine.specs.RunLaws.{StepsAreUnique, ExitsAreFinal, RunsAreUnique, StoresAreLoaded, StepsKeepStates, RunsKeepShapes};
+ghost use Rattle.machine.specs.RunLaws.{StepsAreUnique, ExitsAreFinal, RunsAreUnique, StoresAreLoaded, SpillsAreLoaded, BytesEndSpills, StepsKeepStates, RunsKeepShapes};
 
 /// At most one step leads on from a state.
 pub fn steps_are_unique()
@@ -22,7 +22,17 @@ pub fn stores_are_loaded()
     ensures { StoresAreLoaded }
 {}
 
-/// A step keeps numbers below 2^64, bytes below 256, and the maps' shapes.
+/// A load of the cell into which a pointer was stored gives the pointer, and none of the cell's bytes is there.
+pub fn spills_are_loaded()
+    ensures { SpillsAreLoaded }
+{}
+
+/// A byte stored into a cell with a pointer takes the pointer away, and leaves the cell's other bytes missing.
+pub fn bytes_end_spills()
+    ensures { BytesEndSpills }
+{}
+
+/// A step keeps numbers below 2^64, bytes below 256, pointers in cells in place of bytes, and the maps' shapes.
 pub fn steps_keep_states()
     ensures { StepsKeepStates }
 {}

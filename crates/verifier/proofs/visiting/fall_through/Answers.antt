@@ -1,0 +1,21 @@
+use Rattle.std.proofs.Common.{sym, subst}
+use Rattle.insn.specs.declared.instruction.Edge.TheVariants.{Fall}
+use Rattle.regkind.specs.Frames.{IsFrame}
+use Rattle.verifier.specs.Pass.{FlowsInto}
+use Rattle.verifier.proofs.Monotone.{after_frame}
+use Rattle.verifier.proofs.Steps.{goes, goes_not}
+use Rattle.verifier.proofs.visiting.fall_through.Goals as goal
+
+pub flow-requires-clause-inside : goal.flow-requires-clause-inside
+flow-requires-clause-inside c = c.requires.inside c.in-Some.to ((c.successor.ensures c.in-Some.to).0 c.in-Some.is)
+
+pub flow-requires-clause-frame : goal.flow-requires-clause-frame
+flow-requires-clause-frame c = subst IsFrame (sym c.advance.ensures) (after_frame c.args.i c.args.f.now Fall c.requires.frame)
+
+pub returns-in-Some : goal.returns-in-Some
+returns-in-Some c =
+    goes c.args.i c.args.slot Fall _ c.args.frames.now.items c.flow.new.frames.items c.successor.result c.in-Some.to c.successor.ensures c.in-Some.is
+    (subst (λ g. FlowsInto c.args.frames.now.items c.flow.new.frames.items c.in-Some.to g) c.advance.ensures c.flow.ensures)
+
+pub returns-in_default : goal.returns-in_default
+returns-in_default c = goes_not c.args.i c.args.slot Fall _ c.args.frames.now.items c.successor.result c.successor.ensures c.in_default.is
