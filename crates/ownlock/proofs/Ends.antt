@@ -10,7 +10,7 @@ use Rattle.atomic_table.specs.Table.{State, Final, Seen}
 use Rattle.ownlock.specs.declared.known.Known.{Known}
 use Rattle.ownlock.specs.Rules.{Rules}
 use Rattle.ownlock.specs.Words.{word_of}
-use Rattle.ownlock.specs.Seats.{At, HoldsNone}
+use Rattle.ownlock.specs.Seats.{At, Opened, HoldsNone}
 use Rattle.ownlock.specs.Knowledge.{AllAgree, Closes}
 use Rattle.ownlock.specs.Invariant.{LockInvariant, HeldBySome}
 use Rattle.ownlock.proofs.Keeps.{at_below, at_one}
@@ -70,7 +70,7 @@ long_map : {A B : Type 0} (f : A → B) (xs : List A) → length (map f xs) ≡ 
 long_map f [] = refl
 long_map f (x ∷ xs) = let h = long_map f xs in omega arith
 
-module _ {P N V : Type 0} (R : Rules P N V) (sessions : ℕ) where
+module _ {P N V : Type 0} (R : Rules P N V) (opened : Opened P) where
   abbrev K : Type 0
   K = Known P N V
 
@@ -81,17 +81,17 @@ module _ {P N V : Type 0} (R : Rules P N V) (sessions : ℕ) where
   numbers v = map (λ (k : K). k.session) v
 
   -- the seat id has every session
-  present : (s : St) (r : LockInvariant R sessions s) (id : ℕ) (v : List K) → At id v s.views → length v ≡ sessions → (q : ℕ) → q < sessions → (i : ℕ) × (m : K) × At i m v × (m.session ≡ q)
+  present : (s : St) (r : LockInvariant R opened s) (id : ℕ) (v : List K) → At id v s.views → length v ≡ opened.sessions → (q : ℕ) → q < opened.sessions → (i : ℕ) × (m : K) × At i m v × (m.session ≡ q)
   unfolding numbers
   present s r id v at long q small =
-      let t = everyone (numbers v) sessions (long_map _ v ∙ long)
+      let t = everyone (numbers v) opened.sessions (long_map _ v ∙ long)
       (λ a b x e f. let one = map_at _ v a x e in let two = map_at _ v b x f in r.distinct id a b v one.0 two.0 at one.1 two.1 (one.2 ∙ sym two.2))
       (λ i x e. let one = map_at _ v i x e in let fit = (r.each id i v one.0 at one.1).0 in
-      subst (λ z. z < sessions) one.2 (subst (λ z. one.0.session < z) r.counted (at_below r.notes one.0.session one.0.note fit.possible.1)))
+      subst (λ z. z < opened.sessions) one.2 (subst (λ z. one.0.session < z) r.counted (at_below r.notes one.0.session one.0.note fit.possible.1)))
       q small in
       let k = map_at _ v t.0 q t.1 in (t.0, k.0, k.1, k.2)
 
-  pub closes : (words : List ℕ) (slots : List (Option V)) (id : ℕ) (v : List K) → length v ≡ sessions → HoldsNone v → Final (Seen (LockInvariant R sessions) id v) words slots → Closes R sessions v slots
+  pub closes : (words : List ℕ) (slots : List (Option V)) (id : ℕ) (v : List K) → length v ≡ opened.sessions → HoldsNone v → Final (Seen (LockInvariant R opened) id v) words slots → Closes R opened.sessions v slots
   closes words slots id v long idle (s, (r, at), same_words, same_count, homes) = (r.progress, r.notes, r.accounts, r.counted, (λ i k e. let fit = (r.each id i v k at e).0 in (fit.possible.0.0, fit.possible.1)), agree, (λ q small. present s r id v at long q small))
     where
       no_one : (p : ℕ) → HeldBySome R p s.views → ⊥
@@ -109,14 +109,14 @@ module _ {P N V : Type 0} (R : Rules P N V) (sessions : ℕ) where
           (λ busy. absurd (no_one p (r.busy p (subst (λ z. p < z) (sym same_count) below) busy)))
 
 -- a shelf with no session: nobody holds a place
-pub closes_without : {P N V : Type 0} (R : Rules P N V) (words : List ℕ) (slots : List (Option V)) → Final (LockInvariant R 0) words slots → Closes R 0 [] slots
-closes_without {P} {N} {V} R words slots (s, r, same_words, same_count, homes) = (r.progress, r.notes, r.accounts, r.counted, (λ i k e. absurd (some-ne-none k (sym e))), agree, (λ q small. absurd (omega (arith, small))))
+pub closes_without : {P N V : Type 0} (R : Rules P N V) (opened : Opened P) (words : List ℕ) (slots : List (Option V)) → opened.sessions ≡ 0 → Final (LockInvariant R opened) words slots → Closes R 0 [] slots
+closes_without {P} {N} {V} R opened words slots zero_sessions (s, r, same_words, same_count, homes) = (r.progress, r.notes, r.accounts, r.counted ∙ zero_sessions, (λ i k e. absurd (some-ne-none k (sym e))), agree, (λ q small. absurd (omega (arith, small))))
   where
     no_one : (p : ℕ) → HeldBySome R p s.views → ⊥
     no_one p (j, w, i, m, a, u, at_j, at_i, at_a, is) =
         let known = r.each j i w m at_j at_i in
         let low = at_below r.notes m.session m.note known.0.possible.1 in
-        let none = r.counted in
+        let none = r.counted ∙ zero_sessions in
         omega (arith, low, none)
 
     agree : AllAgree R r.progress r.notes slots

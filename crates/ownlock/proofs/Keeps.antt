@@ -11,7 +11,7 @@ use Rattle.atomic_table.proofs.Lists.{at_set, set_here, set_else, set_again}
 use Rattle.ownlock.specs.declared.known.Known.{Known}
 use Rattle.ownlock.specs.Rules.{Rules, Laws, leader}
 use Rattle.ownlock.specs.Words.{word_of}
-use Rattle.ownlock.specs.Seats.{At}
+use Rattle.ownlock.specs.Seats.{At, Opened}
 use Rattle.ownlock.specs.Invariant.{SessionInvariant, HeldBySome, LockInvariant, StepsAs}
 
 module _ {A : Type 0} where
@@ -35,7 +35,7 @@ one_place p q e = omega (arith, e)
 pub one_session : {P N V : Type 0} (m : Me (Option V) (List (Known P N V))) (k k2 : Known P N V) → StepsAs m k → StepsAs m k2 → k ≡ k2
 one_session {P} {N} {V} m k k2 e f = ap (λ (z : Me (Option V) (List (Known P N V))). get_or z.0 0 k) (sym e ∙ f)
 
-module _ {P N V : Type 0} (R : Rules P N V) (laws : Laws R) (sessions : ℕ) where
+module _ {P N V : Type 0} (R : Rules P N V) (laws : Laws R) (opened : Opened P) where
   abbrev K : Type 0
   K = Known P N V
 
@@ -49,7 +49,7 @@ module _ {P N V : Type 0} (R : Rules P N V) (laws : Laws R) (sessions : ℕ) whe
   Homes = List (kernel.Option (Option V))
 
   -- what a step of the session k at the place p owes
-  pub record Goes (s : St) (r : LockInvariant R sessions s) (id p : ℕ) (k k' : K) (progress : P) (notes : List N) (words : List ℕ) (homes : Homes) (holder : ℕ → ℕ) : Type 0 where
+  pub record Goes (s : St) (r : LockInvariant R opened s) (id p : ℕ) (k k' : K) (progress : P) (notes : List N) (words : List ℕ) (homes : Homes) (holder : ℕ → ℕ) : Type 0 where
     pub here : At id (k ∷ []) s.views
     pub session : k'.session ≡ k.session
     pub accounts : R.Accounts progress notes
@@ -57,7 +57,7 @@ module _ {P N V : Type 0} (R : Rules P N V) (laws : Laws R) (sessions : ℕ) whe
     pub same : p ≢ leader → R.SameHistory r.progress progress
     pub others : (q : ℕ) (y : V) → q ≢ p → R.AgreesWith q r.progress r.notes y → R.AgreesWith q progress notes y
     pub noted : (i : ℕ) (n : N) → i ≢ k.session → At i n r.notes → At i n notes
-    pub counted : length notes ≡ sessions
+    pub counted : length notes ≡ opened.sessions
     pub homes_else : (q : ℕ) → q ≢ p → get_elem? homes q ≡ get_elem? s.homes q
     pub homes_long : length homes ≡ length s.homes
     pub words_else : (q : ℕ) → q ≢ p → get_or words (word_of q) 0 ≡ get_or s.words (word_of q) 0
@@ -70,7 +70,7 @@ module _ {P N V : Type 0} (R : Rules P N V) (laws : Laws R) (sessions : ℕ) whe
     pub busy_here : p < length homes → get_or words (word_of p) 0 ≢ 0 → (a : ℕ) × (u : ℕ × V) × At a u k'.held × (u.0 ≡ p)
     pub held_else : (a : ℕ) (u : ℕ × V) → At a u k.held → u.0 ≢ p → (b : ℕ) × At b u k'.held
 
-  module _ (s : St) (r : LockInvariant R sessions s) (id p : ℕ) (k k' : K) (progress : P) (notes : List N) (words : List ℕ) (homes : Homes) (holder : ℕ → ℕ) (g : Goes s r id p k k' progress notes words homes holder) where
+  module _ (s : St) (r : LockInvariant R opened s) (id p : ℕ) (k k' : K) (progress : P) (notes : List N) (words : List ℕ) (homes : Homes) (holder : ℕ → ℕ) (g : Goes s r id p k k' progress notes words homes holder) where
     abbrev after : List (List K)
     after = set s.views id (k' ∷ [])
 
@@ -134,12 +134,14 @@ module _ {P N V : Type 0} (R : Rules P N V) (laws : Laws R) (sessions : ℕ) whe
         (λ e. let mine = g.busy_here (subst (λ z. z < length homes) e below) (λ h. is (ap (λ z. get_or words (word_of z) 0) e ∙ h)) in (id, k' ∷ [], 0, k', mine.0, mine.1, mine_at, refl, mine.2, mine.3 ∙ sym e))
         (λ ne. still_held q ne (r.busy q (subst (λ z. q < z) g.homes_long below) (λ h. is (g.words_else q ne ∙ h))))
 
-    pub goes : LockInvariant R sessions record { words = words; homes = homes; views = after }
+    pub goes : LockInvariant R opened record { words = words; homes = homes; views = after }
     goes = record {
       progress = progress;
       notes = notes;
       owner = r.owner;
       holder = holder;
+      grown = laws.extends_on _ _ _ r.grown g.extends;
+      placed = g.homes_long ∙ r.placed;
       accounts = g.accounts;
       counted = g.counted;
       wide = g.words_long ∙ (r.wide ∙ ap (λ n. word_of (suc n)) (sym g.homes_long));
@@ -151,11 +153,11 @@ module _ {P N V : Type 0} (R : Rules P N V) (laws : Laws R) (sessions : ℕ) whe
     }
 
   -- the seat that is the session k
-  pub mine_of : (s : St) (r : LockInvariant R sessions s) (id : ℕ) (k : K) → At id (k ∷ []) s.views → SessionInvariant R r.progress r.notes s.homes r.holder k
+  pub mine_of : (s : St) (r : LockInvariant R opened s) (id : ℕ) (k : K) → At id (k ∷ []) s.views → SessionInvariant R r.progress r.notes s.homes r.holder k
   mine_of s r id k at = (r.each id 0 (k ∷ []) k at refl).0
 
   -- no other session holds what is held by the session k
-  pub not_of_others : (s : St) (r : LockInvariant R sessions s) (id p : ℕ) (k : K) → At id (k ∷ []) s.views → r.holder p ≡ k.session
+  pub not_of_others : (s : St) (r : LockInvariant R opened s) (id p : ℕ) (k : K) → At id (k ∷ []) s.views → r.holder p ≡ k.session
       → (j i : ℕ) (v : List K) (m : K) (a : ℕ) (u : ℕ × V) → j ≢ id → At j v s.views → At i m v → At a u m.held → u.0 ≢ p
   not_of_others s r id p k at holds j i v m a u other at_j at_i at_a e =
       let known = r.each j i v m at_j at_i in
@@ -163,7 +165,7 @@ module _ {P N V : Type 0} (R : Rules P N V) (laws : Laws R) (sessions : ℕ) whe
       other (sym known.1 ∙ (ap r.owner same ∙ (r.each id 0 (k ∷ []) k at refl).1))
 
   -- the word of a place, or that of the completed tail, is there
-  pub word_there : (s : St) (r : LockInvariant R sessions s) (p : ℕ) → p ≤ length s.homes → word_of p < length s.words
+  pub word_there : (s : St) (r : LockInvariant R opened s) (p : ℕ) → p ≤ length s.homes → word_of p < length s.words
   word_there s r p below = let long = r.wide in omega (arith, long, below)
 
   -- the words of two places are two
@@ -171,11 +173,11 @@ module _ {P N V : Type 0} (R : Rules P N V) (laws : Laws R) (sessions : ℕ) whe
   word_else words p q n ne = get_or-set_other words (word_of p) (word_of q) n 0 (λ e. ne (omega (arith, e)))
 
   -- a step at a place leaves the word of the completed tail as it is
-  pub tail_else : (s : St) (r : LockInvariant R sessions s) (p n : ℕ) (h : kernel.Option (Option V)) → p < length s.homes
+  pub tail_else : (s : St) (r : LockInvariant R opened s) (p n : ℕ) (h : kernel.Option (Option V)) → p < length s.homes
       → get_or (set s.words (word_of p) n) (word_of (length (set s.homes p h))) 0 ≡ R.completed r.progress
   tail_else s r p n h below =
       ap (λ z. get_or (set s.words (word_of p) n) (word_of z) 0) (length-set s.homes p h) ∙ (word_else s.words p (length s.homes) n (λ e. omega (arith, e, below)) ∙ r.tail)
 
   -- a step that changes nothing
-  pub unmoved : (s : St) (r : LockInvariant R sessions s) (id w : ℕ) (k : K) (c : List (ℕ × Option V)) → At id (k ∷ []) s.views → LockInvariant R sessions (stepped s w (get_or s.words w 0) id c (k ∷ []) keeps)
-  unmoved s r id w k c at = subst (λ (z : List ℕ × List (List K)). LockInvariant R sessions record { words = z.0; homes = s.homes; views = z.1 }) (λ i. (sym (set-get_or s.words w 0) i, sym (set_again s.views id (k ∷ []) at) i)) r
+  pub unmoved : (s : St) (r : LockInvariant R opened s) (id w : ℕ) (k : K) (c : List (ℕ × Option V)) → At id (k ∷ []) s.views → LockInvariant R opened (stepped s w (get_or s.words w 0) id c (k ∷ []) keeps)
+  unmoved s r id w k c at = subst (λ (z : List ℕ × List (List K)). LockInvariant R opened record { words = z.0; homes = s.homes; views = z.1 }) (λ i. (sym (set-get_or s.words w 0) i, sym (set_again s.views id (k ∷ []) at) i)) r

@@ -4,17 +4,16 @@ use mathlib.Core.Logic.{dite}
 use mathlib.Core.Option as kernel
 use mathlib.Core.Option.{some-injective, some-ne-none}
 use native.Mathlib.Decide.{ℕ_discrete}
-use Rattle.std.specs.Option.{unwrap_or}
 use Rattle.atomic_table.specs.Table.{State}
 use Rattle.ownlock.specs.declared.known.Known.{Known}
 use Rattle.ownlock.specs.Rules.{Rules, leader}
 use Rattle.ownlock.specs.Words.{word_of}
-use Rattle.ownlock.specs.Seats.{At}
+use Rattle.ownlock.specs.Seats.{At, Opened}
 use Rattle.ownlock.specs.Invariant.{LockInvariant, HeldBySome}
 use Rattle.ownlock.specs.Between.{Between, Holds, IsHome, IsHeld, IsHomeOrHeld}
-use Rattle.ownlock.proofs.Keeps.{at_below, at_one}
+use Rattle.ownlock.proofs.Keeps.{at_one}
 
-module _ {P N V : Type 0} (R : Rules P N V) (sessions : ℕ) (s : State (Option V) (List (Known P N V))) (r : LockInvariant R sessions s) where
+module _ {P N V : Type 0} (R : Rules P N V) (opened : Opened P) (s : State (Option V) (List (Known P N V))) (r : LockInvariant R opened s) where
   abbrev K : Type 0
   K = Known P N V
 
@@ -52,11 +51,13 @@ module _ {P N V : Type 0} (R : Rules P N V) (sessions : ℕ) (s : State (Option 
   either_way : (p : ℕ) → p < length s.homes → IsHomeOrHeld R s r.progress r.notes p
   either_way p below = dite (ℕ_discrete (get_or s.words (word_of p) 0) 0) (λ is. inl (free p below is)) (λ busy. inr (held p busy (r.busy p below busy)))
 
-  pub between : Between R s sessions
+  pub between : Between R s opened
   between = (
     r.progress,
     r.notes,
     r.accounts,
+    r.grown,
+    r.placed,
     r.counted,
     either_way,
     (λ j i v k at_j at_i. let one = (r.each j i v k at_j at_i).0 in (one.possible.0.0, one.possible.1, one.allowed)),

@@ -11,7 +11,7 @@ use Rattle.atomic_table.proofs.Lists.{at_set, set_here, set_else, at_longer, at_
 use Rattle.ownlock.specs.declared.known.Known.{Known}
 use Rattle.ownlock.specs.Rules.{Rules, Laws}
 use Rattle.ownlock.specs.Words.{word_of}
-use Rattle.ownlock.specs.Seats.{At, SeatView, IsSession, all_sessions, HoldsNone}
+use Rattle.ownlock.specs.Seats.{At, Opened, opened_with, SeatView, IsSession, all_sessions, HoldsNone}
 use Rattle.ownlock.specs.Knowledge.{AllAgree}
 use Rattle.ownlock.specs.Invariant.{SessionInvariant, HeldBySome, LockInvariant, first_of, others_of, out_of, emptied, StepsAs}
 use Rattle.ownlock.proofs.Keeps.{at_below, at_only, at_one}
@@ -105,17 +105,19 @@ module _ {P N V : Type 0} (R : Rules P N V) (laws : Laws R) where
   all_sessions_at : (progress : P) (n : ℕ) (ns : List N) (i : ℕ) (k : K) → At i k (all_sessions progress n ns) → (k.session ≡ n + i) × (k.progress ≡ progress) × (k.held ≡ []) × At i k.note ns
   all_sessions_at progress n [] i k e = absurd (some-ne-none k (sym e))
   all_sessions_at progress n (x ∷ xs) zero k e =
-      let is : record { session = n; progress = progress; note = x; held = [] } ≡ k = some-injective _ k e in
+      let is : record { session = n; progress = progress; note = x; held = []; tails_read = [] } ≡ k = some-injective _ k e in
       let number : n ≡ k.session = ap (λ (z : K). z.session) is in
       (omega arith, sym (ap (λ (z : K). z.progress) is), sym (ap (λ (z : K). z.held) is), ap (λ (z : K). kernel.some z.note) is)
   all_sessions_at progress n (x ∷ xs) (suc i) k e = let t = all_sessions_at progress (suc n) xs i k e in let number = t.0 in (omega arith, t.1, t.2, t.3)
 
   -- the shelf at the start
-  pub opens : (progress : P) (notes : List N) (slots : List (Option V)) (words : List ℕ) → words ≡ blanks (word_of (length slots + 1)) → R.completed progress ≡ 0 → R.Accounts progress notes → AllAgree R progress notes slots
-      → LockInvariant R (length notes) (opening words slots (all_sessions progress 0 notes))
-  opens progress notes slots words blank none whole agree = record {
+  pub opens : (progress : P) (notes : List N) (slots : List (Option V)) (words : List ℕ) → words ≡ blanks (word_of (length slots + 1)) → R.completed progress ≡ 0 → R.Accounts progress notes → AllAgree R progress notes slots → (places : ℕ) → length slots ≡ places
+      → LockInvariant R (opened_with progress places notes) (opening words slots (all_sessions progress 0 notes))
+  opens progress notes slots words blank none whole agree places count = record {
     progress = progress;
     notes = notes;
+    grown = laws.extends_self progress;
+    placed = length_map slots ∙ count;
     owner = λ _. 0;
     holder = λ _. 0;
     accounts = whole;
@@ -168,14 +170,16 @@ module _ {P N V : Type 0} (R : Rules P N V) (laws : Laws R) where
           let two = (all_sessions_at progress 0 notes b m (subst (λ z. At b m z) (sym only.1) at_b)).0 in
           omega (arith, one, two, e)
 
-  module _ (sessions : ℕ) where
+  module _ (opened : Opened P) where
     -- the first session of a seat goes to a new seat
-    pub splits : (id : ℕ) (k : K) (ks : List K) → Splits (LockInvariant R sessions) id (k ∷ ks) (others_of (k ∷ ks)) (first_of (k ∷ ks))
+    pub splits : (id : ℕ) (k : K) (ks : List K) → Splits (LockInvariant R opened) id (k ∷ ks) (others_of (k ∷ ks)) (first_of (k ∷ ks))
     splits id k ks s r at = record {
       progress = r.progress;
       notes = r.notes;
       owner = owner;
       holder = r.holder;
+      grown = r.grown;
+      placed = r.placed;
       accounts = r.accounts;
       counted = r.counted;
       wide = r.wide;
@@ -252,12 +256,14 @@ module _ {P N V : Type 0} (R : Rules P N V) (laws : Laws R) where
             (λ ne. (j, v, i, m, a, u, at_longer left ((k ∷ []) ∷ []) j v (set_else s.views id j ks ne ∙ at_j), at_i, at_a, is))
 
     -- a seat takes in the sessions of another
-    pub joins : (id : ℕ) (v : List K) (other : ℕ) (w : List K) → Joins (LockInvariant R sessions) id v other w (v ++ w) []
+    pub joins : (id : ℕ) (v : List K) (other : ℕ) (w : List K) → Joins (LockInvariant R opened) id v other w (v ++ w) []
     joins id v other w s r at apart there = record {
       progress = r.progress;
       notes = r.notes;
       owner = owner;
       holder = r.holder;
+      grown = r.grown;
+      placed = r.placed;
       accounts = r.accounts;
       counted = r.counted;
       wide = r.wide;

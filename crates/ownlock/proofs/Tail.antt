@@ -1,16 +1,16 @@
 -- A step on the word of the completed tail keeps the invariant, and what it tells.
-use Rattle.std.proofs.Common.{◌≡◌, ◌≢◌, ℕ, suc, max, ◌<◌, ◌≤◌, List, [], ◌∷◌, length, get_or, set, sym, refl, ap, ◌∙◌, subst, arith, length-set, get_or-set_same, Option}
+use Rattle.std.proofs.Common.{◌≡◌, ◌≢◌, ℕ, max, List, [], ◌∷◌, ◌++◌, length, get_or, set, sym, refl, ap, ◌∙◌, subst, arith, length-set, get_or-set_same, Option}
 use mathlib.Core.Option as kernel
 use Rattle.atomic_table.specs.Table.{State, Me, keeps, step, stepped, Allows}
 use Rattle.ownlock.specs.declared.known.Known.{Known}
 use Rattle.ownlock.specs.Rules.{Rules, Laws}
 use Rattle.ownlock.specs.Words.{word_of}
-use Rattle.ownlock.specs.Seats.{At, with_progress}
+use Rattle.ownlock.specs.Seats.{At, Opened, with_progress, having_read}
 use Rattle.ownlock.specs.Knowledge.{Later, Possible}
 use Rattle.ownlock.specs.Invariant.{SessionInvariant, LockInvariant, done_read, done_raised}
 use Rattle.ownlock.proofs.Keeps.{at_below, Goes, goes, mine_of, word_there, word_else}
 
-module _ {P N V : Type 0} (R : Rules P N V) (laws : Laws R) (sessions : ℕ) where
+module _ {P N V : Type 0} (R : Rules P N V) (laws : Laws R) (opened : Opened P) where
   abbrev K : Type 0
   K = Known P N V
 
@@ -24,10 +24,14 @@ module _ {P N V : Type 0} (R : Rules P N V) (laws : Laws R) (sessions : ℕ) whe
   me k c = (k ∷ [], c)
 
   -- the session goes on to a progress with the same history and the completed tail n
-  module _ (s : St) (r : LockInvariant R sessions s) (id : ℕ) (k : K) (at : At id (k ∷ []) s.views) (progress : P) (n : ℕ) (extends : R.Extends r.progress progress) (same : R.SameHistory r.progress progress)
-      (accounts : R.Accounts progress r.notes) (agrees : (q : ℕ) (y : V) → R.AgreesWith q r.progress r.notes y → R.AgreesWith q progress r.notes y) (completed : R.completed progress ≡ n) where
+  module _ (s : St) (r : LockInvariant R opened s) (id : ℕ) (k : K) (at : At id (k ∷ []) s.views) (progress : P) (n : ℕ) (extends : R.Extends r.progress progress) (same : R.SameHistory r.progress progress)
+      (accounts : R.Accounts progress r.notes) (agrees : (q : ℕ) (y : V) → R.AgreesWith q r.progress r.notes y → R.AgreesWith q progress r.notes y) (completed : R.completed progress ≡ n) (tails : List ℕ) where
+    -- it has read these completed tails then
+    abbrev later : K
+    later = record { session = k.session; progress = progress; note = k.note; held = k.held; tails_read = tails }
+
     seen : SessionInvariant R r.progress r.notes s.homes r.holder k
-    seen = mine_of R laws sessions s r id k at
+    seen = mine_of R laws opened s r id k at
 
     abbrev last : ℕ
     last = length s.homes
@@ -35,7 +39,7 @@ module _ {P N V : Type 0} (R : Rules P N V) (laws : Laws R) (sessions : ℕ) whe
     not_last : (q : ℕ) → At q kernel.none s.homes → q ≢ last
     not_last q e is = let below = at_below s.homes q kernel.none e in omega (arith, below, is)
 
-    moves_tail : Goes R laws sessions s r id last k (with_progress k progress) progress r.notes (set s.words (word_of last) n) s.homes r.holder
+    moves_tail : Goes R laws opened s r id last k later progress r.notes (set s.words (word_of last) n) s.homes r.holder
     moves_tail = record {
       here = at;
       session = refl;
@@ -47,8 +51,8 @@ module _ {P N V : Type 0} (R : Rules P N V) (laws : Laws R) (sessions : ℕ) whe
       counted = r.counted;
       homes_else = λ q _. refl;
       homes_long = refl;
-      words_else = λ q ne. word_else R laws sessions s.words last q n ne;
-      tail_here = get_or-set_same s.words (word_of last) n 0 (word_there R laws sessions s r last (omega arith)) ∙ sym completed;
+      words_else = λ q ne. word_else R laws opened s.words last q n ne;
+      tail_here = get_or-set_same s.words (word_of last) n 0 (word_there R laws opened s r last (omega arith)) ∙ sym completed;
       words_long = length-set s.words (word_of last) n;
       holder_else = λ q _. refl;
       not_theirs = λ j i v m a u other at_j at_i at_a e. not_last u.0 ((r.each j i v m at_j at_i).0.out a u at_a).1 e;
@@ -63,12 +67,12 @@ module _ {P N V : Type 0} (R : Rules P N V) (laws : Laws R) (sessions : ℕ) whe
       held_else = λ a u e _. (a, e);
     }
 
-    tail_stands : (c : List (ℕ × Option V)) → LockInvariant R sessions (stepped s (word_of last) n id c (with_progress k progress ∷ []) keeps)
-    tail_stands c = goes R laws sessions s r id last k (with_progress k progress) progress r.notes (set s.words (word_of last) n) s.homes r.holder moves_tail
+    tail_stands : (c : List (ℕ × Option V)) → LockInvariant R opened (stepped s (word_of last) n id c (later ∷ []) keeps)
+    tail_stands c = goes R laws opened s r id last k later progress r.notes (set s.words (word_of last) n) s.homes r.holder moves_tail
 
   -- what the session may find
-  now : (s : St) (r : LockInvariant R sessions s) (id : ℕ) (k : K) → At id (k ∷ []) s.views → Possible R k r.progress r.notes
-  now s r id k at = (mine_of R laws sessions s r id k at).possible
+  now : (s : St) (r : LockInvariant R opened s) (id : ℕ) (k : K) → At id (k ∷ []) s.views → Possible R k r.progress r.notes
+  now s r id k at = (mine_of R laws opened s r id k at).possible
 
   -- and what it may find once the completed tail is raised
   now_raised : (k : K) (l : P) (ns : List N) (n : ℕ) → R.Reaches l n → Possible R k l ns → Possible R k (R.raised l n) ns
@@ -83,20 +87,20 @@ module _ {P N V : Type 0} (R : Rules P N V) (laws : Laws R) (sessions : ℕ) whe
   only_one k k2 e = ap (λ l. get_or l 0 k) e
 
   reads_at : (slots id : ℕ) (k : K) (c : List (ℕ × Option V))
-      → Allows (LockInvariant R sessions) slots id (me k c) (word_of slots) (λ n. n) (done_read R (step slots (word_of slots) 0 0 kernel.none) (me k c))
+      → Allows (LockInvariant R opened) slots id (me k c) (word_of slots) (λ n. n) (done_read R (step slots (word_of slots) 0 0 kernel.none) (me k c))
   reads_at slots id k c s r long at _ =
       let tail : get_or s.words (word_of slots) 0 ≡ R.completed r.progress = ap (λ z. get_or s.words (word_of z) 0) (sym long) ∙ r.tail in (
-        with_progress k r.progress ∷ [],
+        having_read k r.progress (get_or s.words (word_of slots) 0) ∷ [],
         keeps,
         tt,
-        subst (λ z. LockInvariant R sessions (stepped s (word_of z) (get_or s.words (word_of slots) 0) id c (with_progress k r.progress ∷ []) keeps)) long
-            (tail_stands s r id k at r.progress (get_or s.words (word_of slots) 0) (laws.extends_self r.progress) (laws.same_self r.progress) r.accounts (λ q y h. h) (sym tail) c),
-        λ k2 sits. subst (λ (z : K). (progress : P) × ((notes : List N) × Possible R z progress notes) × (get_or s.words (word_of slots) 0 ≡ R.completed progress) × (me (with_progress k r.progress) c ≡ me (with_progress z progress) c)) (only_one k k2 sits)
+        subst (λ z. LockInvariant R opened (stepped s (word_of z) (get_or s.words (word_of slots) 0) id c (having_read k r.progress (get_or s.words (word_of slots) 0) ∷ []) keeps)) long
+            (tail_stands s r id k at r.progress (get_or s.words (word_of slots) 0) (laws.extends_self r.progress) (laws.same_self r.progress) r.accounts (λ q y h. h) (sym tail) (k.tails_read ++ get_or s.words (word_of slots) 0 ∷ []) c),
+        λ k2 sits. subst (λ (z : K). (progress : P) × ((notes : List N) × Possible R z progress notes) × (get_or s.words (word_of slots) 0 ≡ R.completed progress) × (me (having_read k r.progress (get_or s.words (word_of slots) 0)) c ≡ me (having_read z progress (get_or s.words (word_of slots) 0)) c)) (only_one k k2 sits)
             (r.progress, (r.notes, now s r id k at), tail, refl),
       )
 
   raises_at : (slots id n : ℕ) (k : K) (c : List (ℕ × Option V)) → R.Reaches k.progress n
-      → Allows (LockInvariant R sessions) slots id (me k c) (word_of slots) (λ m. max m n) (done_raised R (step slots (word_of slots) n 0 kernel.none) (me k c))
+      → Allows (LockInvariant R opened) slots id (me k c) (word_of slots) (λ m. max m n) (done_raised R (step slots (word_of slots) n 0 kernel.none) (me k c))
   raises_at slots id n k c reaches s r long at _ =
       let tail : get_or s.words (word_of slots) 0 ≡ R.completed r.progress = ap (λ z. get_or s.words (word_of z) 0) (sym long) ∙ r.tail in
       let progress : P = R.raised r.progress n in
@@ -106,19 +110,19 @@ module _ {P N V : Type 0} (R : Rules P N V) (laws : Laws R) (sessions : ℕ) whe
         with_progress k progress ∷ [],
         keeps,
         tt,
-        subst (λ z. LockInvariant R sessions (stepped s (word_of z) (max (get_or s.words (word_of slots) 0) n) id c (with_progress k progress ∷ []) keeps)) long
+        subst (λ z. LockInvariant R opened (stepped s (word_of z) (max (get_or s.words (word_of slots) 0) n) id c (with_progress k progress ∷ []) keeps)) long
             (tail_stands s r id k at progress (max (get_or s.words (word_of slots) 0) n) (laws.raised_extends r.progress n) (laws.raised_same r.progress n) (laws.raised_account r.progress n r.notes may r.accounts)
-            (λ q y h. laws.raised_agrees q y r.progress n r.notes may r.accounts h) up c),
+            (λ q y h. laws.raised_agrees q y r.progress n r.notes may r.accounts h) up k.tails_read c),
         λ k2 sits. subst (λ (z : K). (before : P) × Later R z before × ((notes : List N) × Possible R z (R.raised before n) notes) × (me (with_progress k progress) c ≡ me (with_progress z (R.raised before n)) c)) (only_one k k2 sits)
             (r.progress, known.0, (r.notes, now_raised k r.progress r.notes n may known), refl),
       )
 
   -- the completed tail is read
-  pub reads : (slots id word : ℕ) (m : M) (k : K) → word ≡ word_of slots → m.0 ≡ k ∷ [] → Allows (LockInvariant R sessions) slots id m word (λ n. n) (done_read R (step slots word 0 0 kernel.none) m)
+  pub reads : (slots id word : ℕ) (m : M) (k : K) → word ≡ word_of slots → m.0 ≡ k ∷ [] → Allows (LockInvariant R opened) slots id m word (λ n. n) (done_read R (step slots word 0 0 kernel.none) m)
   reads slots id word m k is sits =
-      subst (λ (z : ℕ × List K). Allows (LockInvariant R sessions) slots id (z.1, m.1) z.0 (λ n. n) (done_read R (step slots z.0 0 0 kernel.none) (z.1, m.1))) (λ i. (sym is i, sym sits i)) (reads_at slots id k m.1)
+      subst (λ (z : ℕ × List K). Allows (LockInvariant R opened) slots id (z.1, m.1) z.0 (λ n. n) (done_read R (step slots z.0 0 0 kernel.none) (z.1, m.1))) (λ i. (sym is i, sym sits i)) (reads_at slots id k m.1)
 
   -- the completed tail is raised
-  pub raises : (slots id word n : ℕ) (m : M) (k : K) → word ≡ word_of slots → m.0 ≡ k ∷ [] → R.Reaches k.progress n → Allows (LockInvariant R sessions) slots id m word (λ o. max o n) (done_raised R (step slots word n 0 kernel.none) m)
+  pub raises : (slots id word n : ℕ) (m : M) (k : K) → word ≡ word_of slots → m.0 ≡ k ∷ [] → R.Reaches k.progress n → Allows (LockInvariant R opened) slots id m word (λ o. max o n) (done_raised R (step slots word n 0 kernel.none) m)
   raises slots id word n m k is sits reaches =
-      subst (λ (z : ℕ × List K). Allows (LockInvariant R sessions) slots id (z.1, m.1) z.0 (λ o. max o n) (done_raised R (step slots z.0 n 0 kernel.none) (z.1, m.1))) (λ i. (sym is i, sym sits i)) (raises_at slots id n k m.1 reaches)
+      subst (λ (z : ℕ × List K). Allows (LockInvariant R opened) slots id (z.1, m.1) z.0 (λ o. max o n) (done_raised R (step slots z.0 n 0 kernel.none) (z.1, m.1))) (λ i. (sym is i, sym sits i)) (raises_at slots id n k m.1 reaches)

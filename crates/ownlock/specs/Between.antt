@@ -5,7 +5,7 @@ use Rattle.atomic_table.specs.Table.{State}
 use Rattle.ownlock.specs.declared.known.Known.{Known}
 use Rattle.ownlock.specs.Rules.{Rules, leader}
 use Rattle.ownlock.specs.Words.{word_of, completed_word}
-use Rattle.ownlock.specs.Seats.{At, View, place_of}
+use Rattle.ownlock.specs.Seats.{At, View, Opened, place_of}
 
 module _ {P N V : Type 0} (s : State (Option V) (View P N V)) where
   -- the session k, the i-th of the seat j, holds the place p as the a-th of its places, and took x from there
@@ -44,10 +44,12 @@ module _ {P N V : Type 0} (R : Rules P N V) (s : State (Option V) (View P N V)) 
   abbrev pub HistoryStandsStill : Type 0
   HistoryStandsStill = (j i a : ℕ) (k : Known P N V) (x : V) → Holds s j i a k leader x → R.SameHistory k.progress progress
 
--- One progress and the notes of all sessions stand for everything that the seats know and that lies on the shelf.
-abbrev pub Between : {P N V : Type 0} → Rules P N V → State (Option V) (View P N V) → ℕ → Type 0
-Between {P} {N} {V} R s sessions =
-    (progress : P) × (notes : List N) × R.Accounts progress notes × (length notes ≡ sessions)
+-- One progress and the notes of all sessions stand for everything that the seats know and that lies on the shelf. The progress has grown
+-- from the one that the shelf was opened with, and there are the places and the sessions that it was opened for.
+abbrev pub Between : {P N V : Type 0} → Rules P N V → State (Option V) (View P N V) → Opened P → Type 0
+Between {P} {N} {V} R s opened =
+    (progress : P) × (notes : List N) × R.Accounts progress notes
+    × R.Extends opened.progress progress × (length s.homes ≡ opened.places) × (length notes ≡ opened.sessions)
     × ((p : ℕ) → p < length s.homes → IsHomeOrHeld R s progress notes p)
     × ((j i : ℕ) (v : View P N V) (k : Known P N V) → At j v s.views → At i k v → IsKnown R s progress notes k)
     × IsCompletedTail R s progress notes

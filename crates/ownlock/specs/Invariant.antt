@@ -6,8 +6,8 @@ use Rattle.atomic_table.specs.Table.{State, Me, Step, rest}
 use Rattle.ownlock.specs.declared.known.Known.{Known}
 use Rattle.ownlock.specs.Rules.{Rules}
 use Rattle.ownlock.specs.Words.{word_of, completed_word}
-use Rattle.ownlock.specs.Seats.{At, View, place_of, without, left_with, with_progress}
-use Rattle.ownlock.specs.Knowledge.{Later, Possible, Acquired, AllAgree}
+use Rattle.ownlock.specs.Seats.{At, View, Opened, place_of, without, left_with, with_progress, having_read}
+use Rattle.ownlock.specs.Knowledge.{Later, Possible, Acquired}
 
 -- the slot of a place that is held has no value
 abbrev pub emptied : {V : Type 0} → ℕ × V → ℕ × Option V
@@ -44,15 +44,18 @@ module _ {P N V : Type 0} (R : Rules P N V) where
   abbrev pub HeldBySome : ℕ → List (View P N V) → Type 0
   HeldBySome p views = (j : ℕ) × (v : View P N V) × (i : ℕ) × (k : Known P N V) × (a : ℕ) × (u : ℕ × V) × At j v views × At i k v × At a u k.held × (u.0 ≡ p)
 
-  pub record LockInvariant (sessions : ℕ) (s : State (Option V) (View P N V)) : Type 0 where
+  pub record LockInvariant (opened : Opened P) (s : State (Option V) (View P N V)) : Type 0 where
     -- the progress of all sessions, and the note of each
     pub progress : P
     pub notes : List N
+    -- it has grown from the one that the shelf was opened with, and the shelf has the places that it was opened with
+    pub grown : R.Extends opened.progress progress
+    pub placed : length s.homes ≡ opened.places
     -- which seat has which session, and which session holds which place
     pub owner : ℕ → ℕ
     pub holder : ℕ → ℕ
     pub accounts : R.Accounts progress notes
-    pub counted : length notes ≡ sessions
+    pub counted : length notes ≡ opened.sessions
     pub wide : length s.words ≡ word_of (suc (length s.homes))
     pub tail : slice_index s.words (completed_word (length s.homes)) ≡ R.completed progress
     pub free : (p : ℕ) → p < length s.homes → slice_index s.words (word_of p) ≡ 0 → (x : V) × At p (kernel.some (Some x)) s.homes × R.AgreesWith p progress notes x
@@ -72,9 +75,9 @@ module _ {P N V : Type 0} (R : Rules P N V) where
   abbrev pub freed : (P → P) → (N → N) → Step (Option V) → Me (Option V) (View P N V) → ℕ → Me (Option V) (View P N V) → Type 0
   freed grown noted st m r m' = (k : Known P N V) (p : ℕ) → m.0 ≡ k ∷ [] → st.word ≡ word_of p → (progress : P) × ((notes : List N) × Possible R k progress notes) × (m' ≡ (left_with k p (grown progress) (noted k.note) ∷ [], rest m.1))
 
-  -- the word of the completed tail is read: the seat knows a progress with that completed tail
+  -- the word of the completed tail is read: the seat knows a progress with that completed tail, and that it has read this
   abbrev pub done_read : Step (Option V) → Me (Option V) (View P N V) → ℕ → Me (Option V) (View P N V) → Type 0
-  done_read st m r m' = (k : Known P N V) → m.0 ≡ k ∷ [] → (progress : P) × ((notes : List N) × Possible R k progress notes) × (r ≡ R.completed progress) × (m' ≡ (with_progress k progress ∷ [], m.1))
+  done_read st m r m' = (k : Known P N V) → m.0 ≡ k ∷ [] → (progress : P) × ((notes : List N) × Possible R k progress notes) × (r ≡ R.completed progress) × (m' ≡ (having_read k progress r ∷ [], m.1))
 
   -- the word of the completed tail is raised: the seat knows a progress with the completed tail so raised
   abbrev pub done_raised : Step (Option V) → Me (Option V) (View P N V) → ℕ → Me (Option V) (View P N V) → Type 0

@@ -1,10 +1,9 @@
--- To be believed: the rules that a user of the lock gives, seats and shelves, what each call tells, and what holds between any two
--- atomic steps.
+-- The rules that a user of the lock gives, seats and shelves, what each call tells, and what holds between any two atomic steps.
 pub mod Rules
 pub mod Seats
 pub mod Knowledge
 pub mod Held
 pub mod Between
--- Scaffolding: where the words stand, and the invariant over words, slots and seats. `Between` says of it what a reader may rely on.
+-- Where the words stand, and the invariant over words, slots and seats. `Between` says of it what a reader may rely on.
 pub mod Words
 pub mod Invariant

@@ -1,5 +1,5 @@
 -- What a seat and a shelf are to their users: plain data.
-use Rattle.std.specs.Prelude.{◌≡◌, ◌≢◌, ℕ, suc, List, [], ◌∷◌, ◌==◌, if◌then◌else◌}
+use Rattle.std.specs.Prelude.{◌≡◌, ◌≢◌, ℕ, suc, List, [], ◌∷◌, ◌++◌, length, ◌==◌, if◌then◌else◌}
 use mathlib.Core.Option as kernel
 use lib.ListN.{get_elem?}
 use Rattle.atomic_table.specs.Seated.{TableId}
@@ -28,6 +28,16 @@ pub record ShelfView (A : Type 0) : Type 0 where
   pub places : ℕ
   pub setup : A
 
+-- what a shelf was opened with: the progress at first, how many places it has, and how many sessions share it
+pub record Opened (P : Type 0) : Type 0 where
+  pub progress : P
+  pub places : ℕ
+  pub sessions : ℕ
+
+-- this progress, so many places, and a session for each of these notes
+abbrev pub opened_with : {P N : Type 0} → P → ℕ → List N → Opened P
+opened_with progress places notes = record { progress = progress; places = places; sessions = length notes }
+
 abbrev pub place_of : {V : Type 0} → ℕ × V → ℕ
 place_of u = u.0
 
@@ -48,20 +58,24 @@ module _ {P N V : Type 0} where
 
   -- the session, once it has taken the place p with the value x
   abbrev pub holding : Known P N V → P → ℕ → V → Known P N V
-  holding k progress p x = record { session = k.session; progress = progress; note = k.note; held = (p, x) ∷ k.held }
+  holding k progress p x = record { session = k.session; progress = progress; note = k.note; held = (p, x) ∷ k.held; tails_read = k.tails_read }
 
   -- the session, once it has put the place p back
   abbrev pub left_with : Known P N V → ℕ → P → N → Known P N V
-  left_with k p progress note = record { session = k.session; progress = progress; note = note; held = without p k.held }
+  left_with k p progress note = record { session = k.session; progress = progress; note = note; held = without p k.held; tails_read = k.tails_read }
 
   -- the session, once it knows this progress
   abbrev pub with_progress : Known P N V → P → Known P N V
-  with_progress k progress = record { session = k.session; progress = progress; note = k.note; held = k.held }
+  with_progress k progress = record { session = k.session; progress = progress; note = k.note; held = k.held; tails_read = k.tails_read }
+
+  -- the session, once it has read the completed tail n, and knows this progress
+  abbrev pub having_read : Known P N V → P → ℕ → Known P N V
+  having_read k progress n = record { session = k.session; progress = progress; note = k.note; held = k.held; tails_read = k.tails_read ++ n ∷ [] }
 
   -- all sessions, from the i-th on, each with its note
   abbrev pub all_sessions : P → ℕ → List N → View P N V
   all_sessions progress i [] = []
-  all_sessions progress i (n ∷ ns) = record { session = i; progress = progress; note = n; held = [] } ∷ all_sessions progress (suc i) ns
+  all_sessions progress i (n ∷ ns) = record { session = i; progress = progress; note = n; held = []; tails_read = [] } ∷ all_sessions progress (suc i) ns
 
   -- no session of the view holds a place
   abbrev pub HoldsNone : View P N V → Type 0

@@ -1,6 +1,6 @@
 // The rule of the table under a shelf, and what each step on a word tells.
-ghost use Rattle.std.specs.Prelude.{[], ◌++◌, length};
-ghost use Rattle.ownlock.specs.Seats.{all_sessions};
+ghost use Rattle.std.specs.Prelude.{[], ◌++◌};
+ghost use Rattle.ownlock.specs.Seats.{all_sessions, opened_with};
 ghost use Rattle.ownlock.specs.Invariant.{LockInvariant, tried, fronted, freed, done_read, done_raised, first_of, others_of};
 
 use crate::change::Change;
@@ -22,7 +22,7 @@ pub struct LockRule<V> {
 }
 
 impl<V: Shelved> TableRule<Option<V>, View<V>, V::Setup> for LockRule<V> {
-    ghost holds = { λ setup. LockInvariant V.rules (length (V.first_notes setup)) };
+    ghost holds = { λ setup. LockInvariant V.rules (opened_with (V.first_progress setup) (V.places setup) (V.first_notes setup)) };
 
     ghost first = { λ setup. all_sessions (V.first_progress setup) 0 (V.first_notes setup) };
 }

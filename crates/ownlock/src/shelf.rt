@@ -2,7 +2,7 @@
 ghost use Rattle.std.specs.Prelude.{◌≡◌, ◌<◌, ◌≤◌, max, List, [], ◌∷◌, ◌++◌, length, replicate, vec_capacity, IfOk, IfErr};
 ghost use Rattle.std.specs.Mem.Slots.{slots_items, slots_len, IsFull};
 ghost use Rattle.ownlock.specs.declared.known.Known.{Known};
-ghost use Rattle.ownlock.specs.Seats.{IsSession, left_with, with_progress, all_sessions, HoldsNone};
+ghost use Rattle.ownlock.specs.Seats.{IsSession, left_with, with_progress, having_read, all_sessions, HoldsNone};
 ghost use Rattle.ownlock.specs.Knowledge.{Later, Acquired, Possible, MayTake, MayPut, AllAgree, Closes, Agreed, AllIdle};
 ghost use Rattle.ownlock.specs.Held.{held_place};
 
@@ -88,6 +88,7 @@ impl<V: Shelved> Shelf<V> {
         setup: &V::Setup,
     ) -> Result<(Shelf<V>, Seat<V>), NotOpened<V>>
         requires leads { 0 < length values.items }
+        requires places { length values.items ≡ V.places setup.now }
         requires none { V.rules.completed (V.first_progress setup.now) ≡ 0 }
         requires accounts { V.rules.Accounts (V.first_progress setup.now) (V.first_notes setup.now) }
         requires agree { AllAgree V.rules (V.first_progress setup.now) (V.first_notes setup.now) values.items }
@@ -156,14 +157,15 @@ impl<V: Shelved> Shelf<V> {
         release::<V, M>(&self.table.shared, &mut seat.pass, place, value);
     }
 
-    /// The completed tail. It waits for nobody, and the session may hold any places: what it took from there still agrees.
+    /// The completed tail, which the session has read then. It waits for nobody, and the session may hold any places: what it took
+    /// from there still agrees.
     pub fn done(&self, seat: &mut Seat<V>) -> u64
         requires own { seat.old.shelf ≡ self.now.id }
         requires one { (k : Known V.Progress V.SessionNote V) × IsSession seat.old k }
         ensures same { seat.new.shelf ≡ seat.old.shelf }
         ensures read { (k : Known V.Progress V.SessionNote V) → IsSession seat.old k → (progress : V.Progress)
             × ((notes : List V.SessionNote) × Possible V.rules k progress notes) × (result ≡ V.rules.completed progress)
-            × IsSession seat.new (with_progress k progress) }
+            × IsSession seat.new (having_read k progress result) }
     {
         let word = word_of(self.table.slot_count());
         self.table.shared.load::<ReadDone>(&mut seat.pass, word)

@@ -11,13 +11,16 @@ pub trait Shelved {
     /// What the first progress and the first notes are made of.
     type Setup;
 
-    ghost use Rattle.std.specs.Prelude.{List};
+    ghost use Rattle.std.specs.Prelude.{ℕ, List};
     ghost use Rattle.ownlock.specs.Rules.{Rules, Laws};
 
     // What a value has to do with the progress and the notes, what a session may hold at once, and which moves it may make.
     ghost rules: { Rules Self.Progress Self.SessionNote Self };
 
     ghost first_progress: { Self.Setup → Self.Progress };
+
+    // How many places there are.
+    ghost places: { Self.Setup → ℕ };
 
     // One note for each session.
     ghost first_notes: { Self.Setup → List Self.SessionNote };

@@ -107,6 +107,7 @@ module _ {C M V : Type 0} {E : Meaning C M} {R : Rules (Progress C) SessionNote 
       let h = may.3 m.1 (p, m.0) m.2 in record {
         session = refl;
         held = refl;
+        tails_read = refl;
         extends = ok.extends k.progress (f l) (laws.extends_on k.progress l (f l) may.0.0 (laws.moves_extend p k.session m.0 l (f l) k.note (g k.note) t.0));
         notes = set ns k.session (g k.note);
         accounts = ok.accounts (f l) (set ns k.session (g k.note)) (laws.moves_account p k.session m.0 l (f l) k.note (g k.note) ns may.2 may.1 h t.0);

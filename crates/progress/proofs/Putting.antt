@@ -61,6 +61,7 @@ module _ {C M V : Type 0} {E : Meaning C M} {R : Rules (Progress C) SessionNote 
         session = ap (λ z. z.session) won.1;
         note = ap (λ z. z.note) won.1;
         held = ap (λ z. z.held) won.1;
+        tails_read = ap (λ z. z.tails_read) won.1;
         extends = subst (λ z. Extends k.progress z) (sym is) (ok.extends k.progress won.0 won.2.0);
         sized = (agreed p k now v won).1;
         notes = won.3.0;

@@ -1,5 +1,5 @@
--- To be believed: when sessions' notes account for one another and for the history, when a log, a replica or a desk agrees with them, and
--- what a session may say of its answer.
+-- When sessions' notes account for one another and for the history, when a log, a replica or a desk agrees with them, and what a session
+-- may say of its answer.
 pub mod Values
 pub mod Accounts
 pub mod Agreement

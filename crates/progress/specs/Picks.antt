@@ -61,6 +61,7 @@ module _ {C M V : Type 0} (E : Meaning C M) (R : Rules (Progress C) SessionNote 
   pub record IsPut (p : ℕ) (k now : Known (Progress C) SessionNote V) : Type 0 where
     pub session : now.session ≡ k.session
     pub held : now.held ≡ without p k.held
+    pub tails_read : now.tails_read ≡ k.tails_read
     pub extends : Extends k.progress now.progress
     pub notes : List SessionNote
     pub accounts : Accounts E now.progress notes

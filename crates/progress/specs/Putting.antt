@@ -45,6 +45,7 @@ module _ {C M V : Type 0} (E : Meaning C M) (R : Rules (Progress C) SessionNote 
     pub session : now.session ≡ k.session
     pub note : now.note ≡ k.note
     pub held : now.held ≡ (p, v) ∷ k.held
+    pub tails_read : now.tails_read ≡ k.tails_read
     pub extends : Extends k.progress now.progress
     pub sized : IsSized now.progress.config now.progress.catalogue v
     pub notes : List SessionNote

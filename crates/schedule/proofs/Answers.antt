@@ -22,10 +22,10 @@ use Rattle.schedule.specs.Trace.{ReadBack, Back}
 use Rattle.schedule.specs.Worlds.{NodeView, WorldView, answers_from, answered_batch}
 use Rattle.schedule.specs.Steps.{Part, Took, with_call_or_back, put_part, part_of, node_of, took, world_of, world_after, trace_after, with_event, session_at, read_at, with_read, read_answer}
 use Rattle.schedule.specs.Stands.{BatchStands, WrittenStands, Stands}
-use Rattle.schedule.specs.Taking.{WorldState, store_of, KeepsStanding, step_answer, answers_to, TakesPart, Takes, IsOfStore, IsStanding, IsRun}
+use Rattle.schedule.specs.Taking.{WorldState, store_of, step_answer, answers_to, TakesPart, Takes, IsOfStore, IsStanding, IsRun}
 use Rattle.schedule.proofs.Lists.{get_some, set_same, set_off, set_back}
 use Rattle.schedule.proofs.Options.{map_gives}
-use Rattle.schedule.proofs.Desks.{answers_placed, answers_ended, is_answered}
+use Rattle.schedule.proofs.Desks.{answers_placed, answers_ended}
 use Rattle.schedule.proofs.Keeping.{same_lists}
 use Rattle.schedule.proofs.Owned.{history_short}
 use Rattle.schedule.proofs.Appends.{take_snoc}
@@ -87,8 +87,15 @@ module _ {m : Opening} {g : Log} {node : NodeView} (x : IsOfStore m g node) (b :
     short = (let a = wr.ahead in let t = x.stands.replica.tail in let l = history_short x in omega arith);
   }
 
-  pub all_answered : node.replica.tail ≤ g.done → IsAnswered (answered_batch b)
-  all_answered below = is_answered m (record { log = g; nodes = [] }) x.history x.places x.trace x.number node b x.stands is (nothing node.hand.records empty) below
+-- each request of it is answered
+pub all_answered : (b : Written) → IsRun b → IsAnswered (answered_batch b)
+all_answered b run k lt =
+    let r = get_some b.batch.records k lt in
+    let count = run.count in
+    ⊎_elim
+    (λ has. let o = run.outcomes k has lt in (Placed (b.first + k) (o.0).reply, answers_placed b.batch.records b.replies.outcomes b.first k r.0 (Some o.0) r.1 o.1))
+    (λ late. (Ended, answers_ended b.batch.records b.replies.outcomes b.first k r.0 r.1 (omega arith)))
+    (cases_lt k b.count)
 
 -- ---- reads
 
@@ -156,15 +163,6 @@ still_standing s new step answer x takes = go (took s.opening s.world step) take
     go : (o : Option Took) → Takes o s new answer → ((more : History) × (later : List ℕ) × Stands s.opening (world_after s.world o) (x.history ++ more) (x.places ++ later) (trace_after x.trace o)) → IsStanding new
     go None (is, same) k = subst IsStanding (sym same) x
     go (Some r) (is, same) k = subst IsStanding (sym same) (record { config = x.config; history = x.history ++ k.0; places = x.places ++ k.1; trace = with_event x.trace r.event; stands = k.2 })
-
--- a history that stands for the store before the step, longer, stands for it afterwards
-pub keeps_standing : (s new : WorldState) (step : Step) (answer : StepAnswer) → Takes (took s.opening s.world step) s new answer → KeepsStanding s step new
-keeps_standing s new step answer takes h places t x = go (took s.opening s.world step) takes (step_keeps s.opening s.world h places t step x)
-  where
-    go : (o : Option Took) → Takes o s new answer → ((more : History) × (later : List ℕ) × Stands s.opening (world_after s.world o) (h ++ more) (places ++ later) (trace_after t o))
-        → (more : History) × (later : List ℕ) × Stands new.opening new.world (h ++ more) (places ++ later) (trace_after t o)
-    go None (is, same) k = (k.0, k.1, subst (λ v. Stands v.opening v.world (h ++ k.0) (places ++ k.1) t) (sym same) k.2)
-    go (Some r) (is, same) k = (k.0, k.1, subst (λ v. Stands v.opening v.world (h ++ k.0) (places ++ k.1) (with_event t r.event)) (sym same) k.2)
 
 -- ---- several steps
 

@@ -15,7 +15,7 @@ use Rattle.combiner.specs.declared.slots.Stage.{Stage}
 use Rattle.combiner.specs.declared.slots.Stage.TheVariants.{Empty, Posted, Claimed, Answered}
 use Rattle.combiner.specs.declared.slots.Slot.{Slot}
 use Rattle.combiner.specs.Slots.{claimed_stage, claimed_slot, requests_from, answered_stage, with_answer}
-use Rattle.combiner.specs.Desks.{first_author, has_request, batch_of, claimed, claimed_from, IsBatchOf, IsAnswered, answer_for, replied}
+use Rattle.combiner.specs.Desks.{first_author, has_request, batch_of, claimed, claimed_from, IsBatchOf, answer_for, replied}
 use Rattle.replica.specs.StoreMeaning.{outcome_of}
 use Rattle.schedule.specs.declared.parts.BegunRead.{BegunRead}
 use Rattle.schedule.specs.declared.parts.Written.{Written}
@@ -25,7 +25,7 @@ use Rattle.schedule.specs.declared.parts.Opening.{Opening}
 use Rattle.schedule.specs.Worlds.{NodeView, WorldView, answers_from, answered_batch}
 use Rattle.schedule.specs.Steps.{Part, claim, reply, no_records, no_batch, appended_batch}
 use Rattle.schedule.specs.Stands.{OpenAt, ReplyStands, StageStands, DeskStands, NodeStands, BatchStands, WrittenStands, Stands, batch_in, place_in}
-use Rattle.schedule.proofs.Lists.{get_in, get_some, set_length}
+use Rattle.schedule.proofs.Lists.{get_in, set_length}
 use Rattle.schedule.proofs.Options.{cond_gives, then_gives, none_is, no_batch_is, appended_is}
 use Rattle.schedule.proofs.Slots.{claims_own, requests_have, request_of, claimed_has, claimed_once, answered_get, answered_length, AllAnswered, none_claimed, answer_found}
 use Rattle.schedule.proofs.Calls.{nodes_put, Kept, same_history, session_is}
@@ -171,10 +171,6 @@ module _ (m : Opening) (w : WorldView) (h : History) (places : Places) (t : Trac
         (λ c x count opened. (r.op, c, subst (λ v. OpenAt m h places t x count Update r.op (if v then Some (b.first + k) else None) c) no opened, all)),
       ))
       (cases_lt k b.count)
-
-  -- each request of the batch is answered
-  pub is_answered : IsAnswered (answered_batch b)
-  is_answered k lt = let r = get_some b.batch.records k lt in let a = answer_at k r.0 r.1 in (a.0, a.1)
 
   answer_is : (k : ℕ) (r : Record) (g : slice_get b.batch.records k ≡ Some r) → answer_for r.author b.batch.records (answered_batch b).answers ≡ Some ((answer_at k r g).0)
   answer_is k r g = answer_found b.batch.records (answered_batch b).answers k r (Some ((answer_at k r g).0)) g ((answer_at k r g).1) (λ j q f same. once j k q r f g same)

@@ -15,3 +15,4 @@ pub mod Keeping
 pub mod Owned
 pub mod Answers
 pub mod ReadOff
+pub mod OnCalls

@@ -16,7 +16,7 @@ use Rattle.schedule.specs.declared.steps.Step.{Step}
 use Rattle.schedule.specs.declared.steps.Step.TheVariants.{Post, Claim, Append, Replay, Finish, Reply, Collect, ReadBegin, ReadAnswer, Reclaim, Rebase}
 use Rattle.schedule.specs.declared.steps.StepAnswer.TheVariants as answers
 use Rattle.schedule.specs.Trace.{Answer, Updated, ReadBack, Event, Call, Back, Trace, Places}
-use Rattle.schedule.specs.Worlds.{NodeView, WorldView, opened, room_for}
+use Rattle.schedule.specs.Worlds.{NodeView, WorldView, room_for}
 use Rattle.schedule.specs.Steps.{Part, Took, with_call_or_back, put_part, part_of, node_of, took, session_at, is_idle, with_read, read_at, no_batch, no_records, claimed_batch, appended_batch, has_next, with_event, world_after, trace_after, trace_of}
 use Rattle.schedule.specs.Stands.{DeskStands, Stands}
 use Rattle.schedule.specs.Taking.{answer_of, step_answer, answers_to}
@@ -24,7 +24,7 @@ use Rattle.schedule.specs.ReadOff.{event_of, before_events, read_off}
 use Rattle.schedule.specs.Headline.{TraceIsReadOff}
 use Rattle.schedule.proofs.Options.{cond_gives, map_gives, then_gives}
 use Rattle.schedule.proofs.Calls.{session_is}
-use Rattle.schedule.proofs.Runs.{step_keeps, opening_stands}
+use Rattle.schedule.proofs.Runs.{step_keeps}
 
 -- an event is the one that the step and its answer tell
 abbrev IsTold : Config → Step → Option Event → Type 0
@@ -131,16 +131,16 @@ before_append : (o : Option Event) (ts : Trace) → before_events o [] ++ ts ≡
 before_append None ts = refl
 before_append (Some e) ts = refl
 
--- from a store that stands
-steps_told : (m : Opening) (steps : List Step) (w : WorldView) (h : History) (places : Places) (t : Trace) → Stands m w h places t → trace_of m w t steps ≡ t ++ read_off m.config steps (answers_to m w steps)
-steps_told m [] w h places t x = sym (append_nil t)
-steps_told m (step ∷ steps) w h places t x =
-    let k = step_keeps m w h places t step x in
+-- from a store that stands, whatever its trace
+pub steps_told : (m : Opening) (steps : List Step) (w : WorldView) (h : History) (places : Places) (past t : Trace) → Stands m w h places past → trace_of m w t steps ≡ t ++ read_off m.config steps (answers_to m w steps)
+steps_told m [] w h places past t x = sym (append_nil t)
+steps_told m (step ∷ steps) w h places past t x =
+    let k = step_keeps m w h places past step x in
     let rest : Trace = read_off m.config steps (answers_to m (world_after w (took m w step)) steps) in
-    steps_told m steps (world_after w (took m w step)) (h ++ k.0) (places ++ k.1) (trace_after t (took m w step)) k.2
+    steps_told m steps (world_after w (took m w step)) (h ++ k.0) (places ++ k.1) (trace_after past (took m w step)) (trace_after t (took m w step)) k.2
     ∙ ap (λ s. s ++ rest) (trace_step t (took m w step))
     ∙ append_assoc t (before_events (event_in (took m w step)) []) rest
-    ∙ ap (λ s. t ++ s) (before_append (event_in (took m w step)) rest ∙ ap (λ e. before_events e rest) (sym (step_told m w h places t step x)))
+    ∙ ap (λ s. t ++ s) (before_append (event_in (took m w step)) rest ∙ ap (λ e. before_events e rest) (sym (step_told m w h places past step x)))
 
 pub trace_is_read_off : TraceIsReadOff
-trace_is_read_off m steps whole = steps_told m steps (opened m) [] [] [] (opening_stands m whole)
+trace_is_read_off m w h places past t steps x = steps_told m steps w h places past t x

@@ -19,7 +19,7 @@ use Rattle.schedule.specs.Stands.{NodeStands, StageStands, Stands}
 use Rattle.loader.specs.CatalogueView.{IsCatalogue}
 use Rattle.oplog.specs.Limits.{IsConfig}
 use Rattle.oplog.specs.Logs.{Log, opened_log}
-use Rattle.schedule.specs.Taking.{opened_store, store_of, IsStanding}
+use Rattle.schedule.specs.Taking.{store_of, IsStanding}
 use Rattle.schedule.specs.Headline.{EverySchedule, StepKeeps, StepsKeep, OpeningStands, StandingIsExplained}
 use Rattle.schedule.proofs.Options.{then_gives, map_gives}
 use Rattle.schedule.proofs.Calls.{Kept, same_history, keeps_post, keeps_collect, keeps_read_begin, keeps_read_answer}
@@ -155,17 +155,16 @@ steps_keep m w h places t steps x = run_stands m steps w h places t x
 
 pub standing_is_explained : StandingIsExplained
 standing_is_explained m w h places t x = record {
-  history = h;
-  places = places;
   explains = x.explains;
   tail = x.log.ends;
+  nodes = x.count;
   replicas = λ n node g. let r = (x.nodes n node g).replica in (r.tail, r.maps);
 }
 
 pub every_schedule : EverySchedule
 every_schedule m steps whole =
     let r = run_stands m steps (opened m) [] [] [] (opening_stands m whole) in
-    standing_is_explained m (world_of m (opened m) steps) r.0 r.1 (trace_of m (opened m) [] steps) r.2
+    (r.0, r.1, standing_is_explained m (world_of m (opened m) steps) r.0 r.1 (trace_of m (opened m) [] steps) r.2)
 
 -- one node more
 pub nodes_next : (m : Opening) (first count : ℕ) → opened_nodes m first (count + 1) ≡ opened_nodes m first count ++ opened_node m (first + count) ∷ []
@@ -175,10 +174,13 @@ nodes_next m first (suc count) =
     let j : suc first + count ≡ first + suc count = omega arith in
     ap (opened_nodes m first) i ∙ ap (λ ns. opened_node m first ∷ ns) (nodes_next m (suc first) count ∙ ap (λ k. opened_nodes m (suc first) count ++ opened_node m k ∷ []) j)
 
-pub opening_is_standing : (m : Opening) → IsConfig m.config → IsCatalogue m.catalogue → IsStanding (opened_store m)
-opening_is_standing m config whole = record { config = config; history = []; places = []; trace = []; stands = opening_stands m whole }
+-- a log and nodes that are new stand for the empty history
+pub new_stands : (m : Opening) (g : Log) (nodes : List NodeView) → IsCatalogue m.catalogue → g ≡ opened_log m.catalogue.shapes m.config.window m.config.limit → nodes ≡ opened_nodes m 0 m.config.nodes
+    → Stands m (record { log = g; nodes = nodes }) [] [] []
+new_stands m g nodes whole is are =
+    subst (λ k. Stands m (record { log = k; nodes = nodes }) [] [] []) (sym is)
+    (subst (λ ns. Stands m (record { log = opened_log m.catalogue.shapes m.config.window m.config.limit; nodes = ns }) [] [] []) (sym are) (opening_stands m whole))
 
--- a log and nodes that are new
 pub new_is_standing : (m : Opening) (g : Log) (nodes : List NodeView) → IsConfig m.config → IsCatalogue m.catalogue → g ≡ opened_log m.catalogue.shapes m.config.window m.config.limit → nodes ≡ opened_nodes m 0 m.config.nodes
     → IsStanding (store_of m g nodes)
-new_is_standing m g nodes config whole is are = subst (λ k. IsStanding (store_of m k nodes)) (sym is) (subst (λ ns. IsStanding (store_of m (opened_log m.catalogue.shapes m.config.window m.config.limit) ns)) (sym are) (opening_is_standing m config whole))
+new_is_standing m g nodes config whole is are = record { config = config; history = []; places = []; trace = []; stands = new_stands m g nodes whole is are }

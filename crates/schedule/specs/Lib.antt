@@ -1,4 +1,4 @@
--- What has to be believed: traces and what explains them, the store as one value, its steps, the trace as read off their answers, and the headline.
+-- Traces and what explains them, the store as one value, its steps, the trace as read off their answers, and the headline.
 pub mod Trace
 pub mod Explains
 pub mod Worlds

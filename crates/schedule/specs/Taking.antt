@@ -1,5 +1,5 @@
 -- What a call that takes a step does.
-use Rattle.std.specs.Prelude.{◌≡◌, ℕ, ◌+◌, ◌^◌, ◌<◌, ◌≤◌, Bool, false, ◌&&◌, nat_le, List, [], ◌∷◌, ◌++◌, length, Option, Some, None, slice_get}
+use Rattle.std.specs.Prelude.{◌≡◌, ℕ, ◌+◌, ◌^◌, ◌<◌, ◌≤◌, Bool, false, ◌&&◌, nat_le, List, [], ◌∷◌, length, Option, Some, None, slice_get}
 use Rattle.machine.specs.declared.running.Outcome.{Outcome}
 use Rattle.loader.specs.CatalogueView.{CatalogueView, IsCatalogue}
 use Rattle.oplog.specs.declared.configuration.TheConstants.{MAX_LIMIT}
@@ -17,7 +17,7 @@ use Rattle.schedule.specs.declared.steps.StepAnswer.{StepAnswer}
 use Rattle.schedule.specs.declared.steps.StepAnswer.TheVariants as answers
 use Rattle.schedule.specs.Trace.{Updated, ReadBack, Event, Call, Back, Trace, Places}
 use Rattle.schedule.specs.Worlds.{NodeView, WorldView, opened, room_for, to_run}
-use Rattle.schedule.specs.Steps.{Part, Took, took, world_after, trace_after}
+use Rattle.schedule.specs.Steps.{Part, Took, took, world_after}
 use Rattle.schedule.specs.Stands.{LogStands, NodeStands, Stands}
 
 -- a store, with what it was opened with
@@ -49,12 +49,6 @@ TakesPart (Some p) g node g' node' answer = (answer ≡ answer_of p.event) × (g
 abbrev pub Takes : Option Took → WorldState → WorldState → StepAnswer → Type 0
 Takes None old new answer = (answer ≡ answers.NotNow) × (new ≡ old)
 Takes (Some r) old new answer = (answer ≡ answer_of r.event) × (new ≡ record old { world = r.world })
-
--- a history that stands for the store leads to one that begins with it, with those places kept and the step's event added
-abbrev pub KeepsStanding : WorldState → Step → WorldState → Type 0
-KeepsStanding old step new =
-    (h : History) (places : Places) (t : Trace) → Stands old.opening old.world h places t
-    → (more : History) × (later : Places) × Stands new.opening new.world (h ++ more) (places ++ later) (trace_after t (took old.opening old.world step))
 
 -- what a step answers, taken or not
 abbrev pub step_answer : Option Took → StepAnswer

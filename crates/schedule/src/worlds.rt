@@ -1,13 +1,15 @@
 // A store as one value, and its steps.
 
-ghost use Rattle.std.specs.Prelude.{◌≡◌, ◌↔◌, ◌<◌, ◌≤◌, [], length, replicate, slice_get, Some, None, option_map, IfOk, IfErr, OnErr};
+ghost use Rattle.std.specs.Prelude.{◌≡◌, ◌↔◌, ◌<◌, ◌≤◌, [], ◌∷◌, length, replicate, slice_get, Some, None, option_map, IfOk, IfErr, OnErr};
 ghost use Rattle.maps.specs.Shapes.{AreShapesOk};
 ghost use Rattle.loader.specs.CatalogueView.{IsCatalogue};
 ghost use Rattle.oplog.specs.Limits.{IsConfig};
 ghost use Rattle.oplog.specs.declared.configuration.OpenError.TheVariants.{OutOfLimits};
 ghost use Rattle.schedule.specs.Worlds.{opened_node, opened_nodes};
 ghost use Rattle.schedule.specs.Steps.{node_of, took, world_of};
-ghost use Rattle.schedule.specs.Taking.{Takes, KeepsStanding, opened_store, answers_to};
+ghost use Rattle.schedule.specs.Stands.{Stands};
+ghost use Rattle.schedule.specs.Taking.{Takes, IsStanding, opened_store, answers_to};
+ghost use Rattle.schedule.specs.Headline.{StepsAreExplained};
 
 use crate::nodes::Node;
 use crate::parts::Opening;
@@ -64,6 +66,7 @@ impl World {
         ensures limits { IfErr result (λ e. (e ≡ OutOfLimits) ↔ (IsConfig config → ⊥)) }
         ensures within { IfOk result (λ w. IsConfig config) }
         ensures opened { IfOk result (λ w. w ≡ opened_store (record { config = config; catalogue = catalogue })) }
+        ensures stands { IfOk result (λ w. Stands w.opening w.world [] [] []) }
     {
         if !config.is_within_limits() {
             return Err(OpenError::OutOfLimits);
@@ -107,10 +110,10 @@ impl World {
         }
     }
 
-    /// Takes a step, if it may be taken now.
+    /// Takes a step, if it may be taken now. One history explains its answer, with all calls and answers of the store before.
     pub fn step(&mut self, step: &Step) -> StepAnswer
         ensures taken { Takes (took self.old.opening self.old.world step.now) self.old self.new result }
-        ensures stands { KeepsStanding self.old step.now self.new }
+        ensures explained { StepsAreExplained self.old (step.now ∷ []) (result ∷ []) self.new }
     {
         let number = step.node();
         if number < self.nodes.len() as u64 {
@@ -120,18 +123,26 @@ impl World {
         }
     }
 
+    // Some history stands for the store, as it always does.
+    fn stands(&self)
+        ensures stands { IsStanding self.now }
+    {
+        let _log = &self.log;
+    }
+
     // Takes a step of a node that is there, if it may be taken now.
     fn step_at(&mut self, number: usize, step: &Step) -> StepAnswer
         requires node { number ≡ node_of step.now }
         requires there { number < length self.old.world.nodes }
         ensures taken { Takes (took self.old.opening self.old.world step.now) self.old self.new result }
-        ensures stands { KeepsStanding self.old step.now self.new }
+        ensures explained { StepsAreExplained self.old (step.now ∷ []) (result ∷ []) self.new }
     {
         self.nodes[number].take(&self.opening, &mut self.log, step)
     }
 }
 
-/// Takes the steps one after another, each if it may be taken then. All memory is taken before the first.
+/// Takes the steps one after another, each if it may be taken then. All memory is taken before the first. One history explains what
+/// these steps are answered, with all calls and answers of the store before.
 ///
 /// # Errors
 ///
@@ -143,8 +154,10 @@ pub fn run_steps(
 ) -> Result<Vec<StepAnswer>, AllocError>
     ensures world { IfOk result (λ answers. world.new ≡ record world.old { world = world_of world.old.opening world.old.world steps.now }) }
     ensures answers { IfOk result (λ answers. answers.items ≡ answers_to world.old.opening world.old.world steps.now) }
+    ensures explained { IfOk result (λ answers. StepsAreExplained world.old steps.now answers.items world.new) }
     ensures same { OnErr result (world.new ≡ world.old) }
 {
+    world.stands();
     let mut answers = Vec::with_capacity(alloc, steps.len())?;
     for step in steps {
         let answer = world.step(step);

@@ -149,6 +149,7 @@ module _ (k t m : K) (w : Value) (g : Box LogView) (h : LogView) (h2 : Box LogVi
     goes = record {
       session = put.session ∙ (p.goes.session ∙ b.session);
       held = put.held ∙ ap (λ z. without 0 z) (p.goes.held ∙ b.held);
+      tails_read = put.tails_read ∙ (p.goes.tails_read ∙ b.tails_read);
       extends = store_laws.extends_on k.progress m.progress f.progress from_k put.extends;
     }
 

@@ -5,6 +5,7 @@ use Rattle.std.proofs.lemmas.List.{length-map}
 use Rattle.std.specs.Option.{option_and_then}
 use Rattle.ownlock.specs.Seats.{At}
 use Rattle.oplog.specs.Operations.{Operation}
+use Rattle.oplog.specs.declared.answers.Appended.{Appended}
 use Rattle.combiner.specs.Slots.{is_empty, slot as slot_with}
 use Rattle.combiner.specs.Desks.{DeskView, BatchView, IsBatchOf, IsAnswered, replied, batch_of, claim_refusal, claimed, collected, has_combiner, has_request, posted, with_slot}
 use Rattle.combiner.specs.declared.slots.Slot.{Slot}
@@ -12,22 +13,25 @@ use Rattle.combiner.specs.declared.slots.Stage.{Stage}
 use Rattle.combiner.specs.declared.slots.Stage.TheVariants.{Empty, Posted, Claimed, Answered}
 use Rattle.combiner.specs.declared.slots.DeskRefused.TheVariants.{NothingPosted, CombinerAtWork}
 use Rattle.replica.specs.StoreMeaning.{store_meaning}
+use Rattle.replica.specs.Views.{RepliesView}
+use Rattle.combiner.specs.declared.slots.Reply.{Reply}
+use Rattle.progress.specs.declared.sessions.Claim.{Claim}
 use Rattle.progress.specs.declared.sessions.Pending.{Pending}
 use Rattle.progress.specs.declared.sessions.SessionNote.{SessionNote}
 use Rattle.progress.specs.Accounts.{IsAllowed}
 use Rattle.progress.specs.Agreement.{StageAgrees, SlotAgrees}
-use Rattle.progress.specs.DeskSteps.{PostStep, ClaimStep, ReplyStep, CollectStep}
+use Rattle.progress.specs.DeskSteps.{PostStep, ClaimStep, ReplyStep, CollectStep, Gives}
 use Rattle.progress.specs.Batches.{Ascend}
 use Rattle.progress.specs.Moves.{record_of, unplaced}
 use Rattle.progress.proofs.Batches.{batch_is, claims_ascend}
 use Rattle.progress.proofs.Desks.{collected_is}
 use Rattle.progress.proofs.Ended.{answered}
-use Rattle.progress.proofs.Lists.{at_of, at_one, get_of}
+use Rattle.progress.proofs.Lists.{at_below, at_of, at_one, get_of}
 use Rattle.progress.proofs.Moved.{some_none}
 use Rattle.progress.proofs.Puts.{at_there}
 use Rattle.store.specs.declared.desks.Turn.{Turn}
 use Rattle.store.specs.declared.desks.Turn.TheVariants.{Collects, Combines, Waits}
-use Rattle.store.specs.AtDesk.{IsAt, HasAsked, IsReady, IsTurn, IsClaim, Steps, TurnSteps}
+use Rattle.store.specs.AtDesk.{IsAt, HasAnswers, HasAsked, IsReady, IsTurn, IsClaim, Steps, TurnSteps}
 use Rattle.store.specs.Sessions.{request_of}
 use Rattle.store.specs.Standing.{SessionKnown}
 
@@ -108,14 +112,34 @@ turn_steps slot k o x y batch Waits t i asked = t.1
 
 -- ---- reply
 
-pub is_batch : (slot : ℕ) (k : SessionKnown) (x : DeskView) (b : BatchView) (i : IsAt slot k x) → IsReady k b → IsBatchOf x b
-is_batch slot k x b i r = batch_is store_meaning k.progress i.notes k.session k.note x b 0 r.first i.accounts i.here (slot, i.within, i.own, i.near) i.agrees r.is_first r.records r.ascend
+-- the answers may be set before they are handed over
+pub ready_as : (k : SessionKnown) (b c : BatchView) (a : Appended) (kept : RepliesView) → c.records ≡ b.records → IsReady k b a kept → IsReady k c a kept
+ready_as k b c a kept same r = record {
+  some = r.some;
+  records = same ∙ r.records;
+  ascend = subst Ascend (sym same) r.ascend;
+  within = r.within;
+  count = r.count;
+  outcomes = r.outcomes;
+  gives = r.gives;
+}
 
-pub is_answered : (k : SessionKnown) (b : BatchView) → IsReady k b → IsAnswered b
-is_answered k b r j lt =
-    let long = ap length r.records ∙ length-map k.note.batch record_of in
-    let t = at_there k.note.batch j (omega (arith, lt, long)) in
-    let g = r.gives j t.0 t.1 in (g.0, g.1)
+module _ (k : SessionKnown) (b : BatchView) (a : Appended) (kept : RepliesView) (r : IsReady k b a kept) where
+  first : (t : Claim) × At 0 t k.note.batch
+  first = at_there k.note.batch 0 r.some
 
-pub reply_steps : (k : SessionKnown) (x y : DeskView) (b : BatchView) → y ≡ replied b x → IsReady k b → Steps k x (record k.note { batch = [] }) y
-reply_steps k x y b e r = ReplyStep b 0 r.first r.is_first r.records r.gives refl e
+  pub is_batch : (slot : ℕ) (x : DeskView) (i : IsAt slot k x) → IsBatchOf x b
+  is_batch slot x i = batch_is store_meaning k.progress i.notes k.session k.note x b 0 first.0 i.accounts i.here (slot, i.within, i.own, i.near) i.agrees first.1 r.records r.ascend
+
+  pub reply_steps : (x y : DeskView) → y ≡ replied b x → HasAnswers a kept b → Steps k x (record k.note { batch = [] }) y
+  reply_steps x y e set = ReplyStep b 0 first.0 first.1 r.records each refl e
+    where
+      each : (j : ℕ) (t : Claim) → At j t k.note.batch → (reply : Reply) × (slice_get b.answers j ≡ Some (Some reply)) × Gives store_meaning k.progress t reply
+      each j t at =
+          let long = ap length r.records ∙ length-map k.note.batch record_of in
+          let lt = at_below k.note.batch j t at in
+          let s = set.answers j (omega (arith, long, lt)) in
+          (s.0, s.1, r.gives j t s.0 at s.2)
+
+pub is_answered : (b : BatchView) (a : Appended) (kept : RepliesView) → HasAnswers a kept b → IsAnswered b
+is_answered b a kept set j lt = let s = set.answers j lt in (s.0, s.1)

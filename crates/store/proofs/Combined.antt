@@ -57,16 +57,15 @@ set_more a replies n old new reply lt is before now k below = subst (λ z. (x : 
 
 -- ---- a batch that is ready stays so
 
-pub ready_on : (k t : K) (b : BatchView) (ns : List SessionNote) → t.note ≡ k.note → Extends k.progress t.progress → Stands k → Accounts store_meaning t.progress ns → IsReady k b → IsReady t b
-ready_on k t b ns note grown stands w r = record {
-  first = r.first;
-  is_first = subst (λ (n : SessionNote). At 0 r.first n.batch) (sym note) r.is_first;
+pub ready_on : (k t : K) (b : BatchView) (a : Appended) (kept : RepliesView) (ns : List SessionNote) → t.note ≡ k.note → Extends k.progress t.progress → Stands k → Accounts store_meaning t.progress ns → IsReady k b a kept → IsReady t b a kept
+ready_on k t b a kept ns note grown stands w r = record {
+  some = subst (λ (n : SessionNote). 0 < length n.batch) (sym note) r.some;
   records = r.records ∙ ap (λ (n : SessionNote). map record_of n.batch) (sym note);
   ascend = r.ascend;
-  appended = r.appended;
-  kept = r.kept;
-  answered = r.answered;
-  gives = λ j c at. let g = r.gives j c (subst (λ (n : SessionNote). At j c n.batch) note at) in (g.0, g.1, gives_on c g.0 g.2);
+  within = r.within;
+  count = r.count;
+  outcomes = r.outcomes;
+  gives = λ j c reply at o. gives_on c reply (r.gives j c reply (subst (λ (n : SessionNote). At j c n.batch) note at) o);
 }
   where
     gives_on : (c : Claim) (reply : Reply) → Gives store_meaning k.progress c reply → Gives store_meaning t.progress c reply
@@ -87,20 +86,17 @@ module _ (t a r : K) (rs : History) (app : Appended) (v w : Value) (old new : Re
       let long : length old.outcomes ≡ app.count = ap (λ z. length z.outcomes) is ∙ length-replicate app.count _ in
       reply_kept a q j (app.first + j) (tail_in v) old new (h.placed j q lt at) (omega (arith, low)) (ap (λ z. z.first + j) is) (omega (arith, long, lt)) c.replies
 
-  pub counted : length new.outcomes ≡ app.count
+  counted : length new.outcomes ≡ app.count
   counted = c.count ∙ (ap (λ z. length z.outcomes) is ∙ length-replicate app.count _)
 
-  pub kept : (j : ℕ) → j < app.count → (o : Outcome) × (slice_get new.outcomes j ≡ Some (Some o))
+  kept : (j : ℕ) → j < app.count → (o : Outcome) × (slice_get new.outcomes j ≡ Some (Some o))
   kept j lt =
       let low = h.count in
       let q = at_there rs j (omega (arith, lt, low)) in
       let o = reply_of j q.0 lt q.1 in
       (o.0, o.1)
 
-  module _ (f : K) (end : Back r f) (b : BatchView) (records : b.records ≡ rs) (some : 0 < length rs) (ascend : Ascend rs) (answered : HasAnswers app new b) where
-    set : AreSet app new (length rs) b.answers
-    set k lt = answered.answers k (subst (λ n. k < n) (ap length (sym records)) lt)
-
+  module _ (f : K) (end : Back r f) (b : BatchView) (records : b.records ≡ rs) (some : 0 < length rs) (ascend : Ascend rs) where
     abbrev placed : List Claim
     placed = placed_from app.first app.count (unplaced rs)
 
@@ -110,15 +106,8 @@ module _ (t a r : K) (rs : History) (app : Appended) (v w : Value) (old new : Re
     to_f : Extends a.progress f.progress
     to_f = store_laws.extends_on a.progress r.progress f.progress c.goes.extends end.extends
 
-    first : (x : Claim) × At 0 x placed
-    first = at_there placed 0 (let long = long_placed app.first app.count (unplaced rs) ∙ long_unplaced rs in omega (arith, long, some))
-
-    gives : (j : ℕ) (u : Claim) → At j u placed → (reply : Reply) × (slice_get b.answers j ≡ Some (Some reply)) × Gives store_meaning f.progress u reply
-    gives j u at =
-        let p = placed_back app.first app.count (unplaced rs) j u at in
-        let q = at_unplaced rs j p.0 p.1 in
-        let s = set j (at_below rs j p.0.request q.0) in
-        (s.0, s.1, by s.0 s.2)
+    gives : (j : ℕ) (u : Claim) (reply : Reply) → At j u placed → IsAnswerOf app new j reply → Gives store_meaning f.progress u reply
+    gives j u reply at = by reply
       where
         p : (x : Claim) × At j x (unplaced rs) × (u.request ≡ x.request) × ((j < app.count) → u.place ≡ Some (app.first + j)) × ((app.count ≤ j) → u.place ≡ x.place)
         p = placed_back app.first app.count (unplaced rs) j u at
@@ -149,16 +138,15 @@ module _ (t a r : K) (rs : History) (app : Appended) (v w : Value) (old new : Re
             let low = end.stands.accounts.completed in
             (p.4 o ∙ (at_unplaced rs j p.0 p.1).1, omega (arith, full, done, up, same, top, low))
 
-    pub ready : IsReady f b
+    pub ready : IsReady f b app new
     ready = record {
-      first = first.0;
-      is_first = subst (λ z. At 0 first.0 z) (sym batch) first.1;
+      some = subst (λ z. 0 < length z) (sym batch) (let long = long_placed app.first app.count (unplaced rs) ∙ long_unplaced rs in omega (arith, long, some));
       records = records ∙ (sym (records_of_unplaced rs) ∙ (sym (records_of_placed app.first app.count (unplaced rs)) ∙ ap (λ z. map record_of z) (sym batch)));
       ascend = subst Ascend (sym records) ascend;
-      appended = app;
-      kept = new;
-      answered = answered;
-      gives = λ j u at. gives j u (subst (λ z. At j u z) batch at);
+      within = h.within;
+      count = counted;
+      outcomes = kept;
+      gives = λ j u reply at. gives j u reply (subst (λ z. At j u z) batch at);
     }
 
     module _ (k : K) (p : ℕ) (x : Value) (took : TookReplica p k t x) where

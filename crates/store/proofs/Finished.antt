@@ -2,7 +2,7 @@
 use Rattle.std.proofs.Common.{eq-eqb, if◌then◌else◌, ◌≡◌, ℕ, ◌+◌, ◌<◌, ◌≤◌, List, [], ◌∷◌, length, sym, refl, ap, ◌∙◌, subst, arith, Some, slice_get, option_map}
 use lib.ListN.{get_elem?}
 use Rattle.ownlock.specs.Rules.{leader}
-use Rattle.ownlock.specs.Seats.{At, without, with_progress, left_with}
+use Rattle.ownlock.specs.Seats.{At, without, having_read, left_with}
 use Rattle.ownlock.specs.Knowledge.{Possible, MayPut}
 use Rattle.machine.specs.declared.running.Outcome.{Outcome}
 use Rattle.loader.specs.CatalogueView.{CatalogueView}
@@ -77,6 +77,7 @@ pub record Back (k f : K) : Type 0 where
   pub session : f.session ≡ k.session
   pub note : f.note ≡ k.note
   pub held : f.held ≡ []
+  pub tails_read : f.tails_read ≡ k.tails_read
   pub extends : Extends k.progress f.progress
   pub stands : Stands f
 
@@ -118,6 +119,7 @@ module _ (k : K) (w : Value) (h : HoldsReplica k w) (sessions : List K) (is : se
         session = p.session;
         note = same_note v a;
         held = p.held ∙ (ap (λ z. without (replica_place k.progress.config h.node) z) h.held ∙ none h.node w);
+        tails_read = p.tails_read;
         extends = p.extends;
         stands = record { notes = p.notes; accounts = p.accounts; here = p.here };
       }
@@ -158,7 +160,7 @@ module _ (k t : K) (y x : Value) (b : TookLog k t y x) where
         let p = puts_account session_laws view_of session_notes IsSized (put_progress sessions (view_of x)) (put_note session_noting sessions (view_of x)) t 0 x l ns put_zero may in
         let s = same_picks session_laws view_of session_notes IsSized sessions t 0 0 x x l ns is at_log refl may in
         record {
-          goes = record { session = p.session ∙ b.session; held = p.held ∙ ap (λ z. without 0 z) b.held; extends = store_laws.extends_on k.progress t.progress _ b.extends p.extends };
+          goes = record { session = p.session ∙ b.session; held = p.held ∙ ap (λ z. without 0 z) b.held; tails_read = p.tails_read ∙ b.tails_read; extends = store_laws.extends_on k.progress t.progress _ b.extends p.extends };
           note = s.1 ∙ b.note;
           on = p.extends;
         }
@@ -179,7 +181,7 @@ module _ (k t : K) (y x : Value) (b : TookLog k t y x) where
         let rise = b.extends.completed in
         let low = b.stands.accounts.completed in
         record {
-          goes = record { session = up.goes.session ∙ s.goes.session; held = up.goes.held ∙ s.goes.held; extends = store_laws.extends_on k.progress f.progress after.progress s.goes.extends up.goes.extends };
+          goes = record { session = up.goes.session ∙ s.goes.session; held = up.goes.held ∙ s.goes.held; tails_read = up.goes.tails_read ∙ s.goes.tails_read; extends = store_laws.extends_on k.progress f.progress after.progress s.goes.extends up.goes.extends };
           note = up.note ∙ s.note;
           agrees = all_agrees t.progress after.progress v on (omega (arith, tail, done)) all;
           within = omega (arith, tail, long);
@@ -190,10 +192,10 @@ pub is_up : (k : K) (v : Value) (done : ℕ) → AgreesIn k.progress v → Stand
 is_up k v done a s far =
     let low = tail_low k.progress v a in
     let all = s.accounts.completed in
-    record { goes = record { session = refl; held = refl; extends = store_laws.extends_self k.progress }; note = refl; agrees = a; within = omega (arith, low, all); reached = far }
+    record { goes = record { session = refl; held = refl; tails_read = refl; extends = store_laws.extends_self k.progress }; note = refl; agrees = a; within = omega (arith, low, all); reached = far }
 
-pub up_enough : (k f : K) (v : Value) (done : ℕ) → done ≤ k.progress.completed → IsBroughtUp k f k.progress.completed v → IsBroughtUp k f done v
-up_enough k f v done low u = let far = u.reached in record { goes = u.goes; note = u.note; agrees = u.agrees; within = u.within; reached = omega (arith, low, far) }
+pub up_enough : (k f : K) (v : Value) (done far : ℕ) → done ≤ far → IsBroughtUp k f far v → IsBroughtUp k f done v
+up_enough k f v done most low u = let far = u.reached in record { goes = u.goes; note = u.note; agrees = u.agrees; within = u.within; reached = omega (arith, low, far) }
 
 pub of_shapes : (l : L) (v : Value) (c : CatalogueView) → l.catalogue ≡ c → AgreesIn l v → IsReplicaOf c v
 of_shapes l (Replica n) c e a = a.1.0 ∙ ap (λ (z : CatalogueView). z.shapes) e
@@ -207,12 +209,16 @@ told_read l m (Replica n) op c begun reply grown a low first is same =
 told_read l m (Log g) op c begun reply grown a low first is same = absurd a
 told_read l m (Desk g) op c begun reply grown a low first is same = absurd a
 
-pub is_read : (p : ℕ) (k t b f : K) (from : L) (w v : Value) (done : ℕ) (op : Operation) (c : CatalogueView) (answer : ReadAnswer) → Extends k.progress from → done ≡ from.completed → TookReplica p (with_progress k from) t w → IsBroughtUp t b done v → Back b f
+pub is_read : (p : ℕ) (k t b f : K) (from : L) (w v : Value) (done : ℕ) (op : Operation) (c : CatalogueView) (answer : ReadAnswer) → Extends k.progress from → done ≡ from.completed → TookReplica p (having_read k from done) t w → IsBroughtUp t b done v → Back b f
     → b.progress.catalogue ≡ c → answer.point ≡ tail_in v → Replies c op v answer.reply → IsReadBy k f op answer
 is_read p k t b f from w v done op c answer grown is took up end same point reply =
     let far = up.reached in let rise = grown.completed in
     record {
       session = end.session ∙ (up.goes.session ∙ took.session);
+      begun = done;
+      more = [];
+      read = end.tails_read ∙ (up.goes.tails_read ∙ took.tails_read);
+      reached = omega (arith, far, point);
       held = end.held;
       note = end.note ∙ (up.note ∙ took.note);
       well_formed = well_formed f.progress end.stands.notes end.stands.accounts;
@@ -220,5 +226,5 @@ is_read p k t b f from w v done op c answer grown is took up end same point repl
       tells = subst (λ z. ReadTells store_meaning f.progress k.progress.completed op z answer.reply) (sym point) (told_read b.progress f.progress v op c k.progress.completed answer.reply end.extends up.agrees up.within (omega (arith, far, rise, is)) reply same);
     }
 
-pub later_catalogue : (p : ℕ) (k t b : K) (from : L) (w v : Value) (done : ℕ) (c : CatalogueView) → Extends k.progress from → TookReplica p (with_progress k from) t w → IsBroughtUp t b done v → k.progress.catalogue ≡ c → b.progress.catalogue ≡ c
+pub later_catalogue : (p : ℕ) (k t b : K) (from : L) (w v : Value) (done : ℕ) (c : CatalogueView) → Extends k.progress from → TookReplica p (having_read k from done) t w → IsBroughtUp t b done v → k.progress.catalogue ≡ c → b.progress.catalogue ≡ c
 later_catalogue p k t b from w v done c g took up is = sym up.goes.extends.catalogue ∙ (sym took.extends.catalogue ∙ (sym g.catalogue ∙ is))

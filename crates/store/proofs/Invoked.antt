@@ -111,7 +111,7 @@ module _ (k f : K) (op : Operation) (reply : Reply) (v : Invoked k f op reply) w
 -- ---- as its user sees it
 
 abbrev pub view_known : ShelfId → K → SessionView
-view_known shelf k = record { shelf = shelf; session = k.session; progress = k.progress; note = k.note }
+view_known shelf k = record { shelf = shelf; session = k.session; progress = k.progress; note = k.note; tails_read = k.tails_read }
 
 pub seen_as : (s : S) (k : K) → IsSession s k → session_view s ≡ view_known s.shelf k
 seen_as s k is = ap (λ z. session_view (record { shelf = s.shelf; sessions = z })) is

@@ -181,12 +181,15 @@ followed_all l (Desk g) y z is f low h = absurd is
 -- once the completed tail is raised to m
 pub has_raised : (k : K) (before : L) (n m : ℕ) → m ≡ n → ((notes : List SessionNote) × Possible store_rules k (raised before m) notes) → HasRaised k (with_progress k (raised before m)) n
 has_raised k before n m is (notes, may) = record {
-  goes = record { session = refl; held = refl; extends = may.0.0 };
+  goes = record { session = refl; held = refl; tails_read = refl; extends = may.0.0 };
   note = refl;
   stands = record { notes = notes; accounts = may.2; here = may.1 };
   completed = omega (arith, is, le-max_right before.completed m);
   still = λ h. may.0.1 h.1 (leader, h.0) h.2 refl;
 }
+
+pub raised_as : (k after : K) (n m : ℕ) → HasRaised k after n → n ≡ m → HasRaised k after m
+raised_as k after n m up is = subst (HasRaised k after) is up
 
 -- as many outcomes are kept as before
 counted_in : (c : CatalogueView) (v w : Value) (old new : RepliesView) → HasReplayed c v w old new → length new.outcomes ≡ length old.outcomes

@@ -91,7 +91,7 @@ module _ (k : K) (want : ℕ) (x z : Value) where
     where
       by : (x z : Value) → LogIs k.progress x → FollowsIn k.progress z → IsAbove x z → (LacksRoom want x → ⊥) → HasRoom k k want x x z
       by (Log g) (Replica n) is f low not = record {
-        goes = record { session = refl; held = refl; extends = store_laws.extends_self k.progress };
+        goes = record { session = refl; held = refl; tails_read = refl; extends = store_laws.extends_self k.progress };
         note = refl;
         well = w;
         same = refl;

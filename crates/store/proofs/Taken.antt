@@ -108,6 +108,7 @@ may_take_replica k caller free = (may_take_first session_laws view_of IsSized k 
 -- what it is, once it has taken it
 pub record TookReplica (p : ℕ) (k t : K) (w : Value) : Type 0 where
   pub held : t.held ≡ (p, w) ∷ []
+  pub tails_read : t.tails_read ≡ k.tails_read
   pub session : t.session ≡ k.session
   pub note : t.note ≡ k.note
   pub extends : Extends k.progress t.progress
@@ -123,6 +124,7 @@ took_replica k t caller w free won =
     let held = i.held ∙ ap (λ z. (1 + caller.node, w) ∷ z) free.held in
     record {
       held = held;
+      tails_read = i.tails_read;
       session = i.session;
       note = i.note;
       extends = i.extends;
@@ -155,6 +157,7 @@ pub record TookLog (k t : K) (y x : Value) : Type 0 where
   pub note : t.note ≡ k.note
   pub extends : Extends k.progress t.progress
   pub held : t.held ≡ (0, x) ∷ k.held
+  pub tails_read : t.tails_read ≡ k.tails_read
   pub log : LogIs t.progress x
   pub follows : FollowsIn t.progress y
   pub stands : Stands t
@@ -175,6 +178,7 @@ took_log k t y x follows won =
       note = i.note;
       extends = i.extends;
       held = i.held;
+      tails_read = i.tails_read;
       log = log_is t.progress x taken.1.0 well taken.1.1 taken.1.2 i.sized;
       follows = follows_in_on k.progress t.progress y i.extends follows;
       stands = record { notes = i.notes; accounts = i.accounts; here = i.here };

@@ -123,6 +123,7 @@ desk_back deed sessions t p w l = record {
   progress = put_progress sessions (view_of w) l;
   note = put_note (desk_noting view_of deed) sessions (view_of w) t.note;
   held = without p t.held;
+  tails_read = t.tails_read;
 }
 
 module _ (caller : Caller) (k t : K) (p : ℕ) (v : Value) (b : TookDesk caller k t p v) (sessions : List K) (is : sessions ≡ t ∷ []) where
@@ -160,7 +161,7 @@ module _ (caller : Caller) (k t : K) (p : ℕ) (v : Value) (b : TookDesk caller 
     may_put_same_desk = same_picked session_laws view_of session_notes IsSized sessions t p 0 v w at_desk same kept is
 
     pub back_same_desk : (l : L) (ns : List SessionNote) → Possible store_rules t l ns
-        → BackDesk k (record { session = t.session; progress = put_progress sessions (view_of w) l; note = put_note session_noting sessions (view_of w) t.note; held = without p t.held }) k.note
+        → BackDesk k (record { session = t.session; progress = put_progress sessions (view_of w) l; note = put_note session_noting sessions (view_of w) t.note; held = without p t.held; tails_read = t.tails_read }) k.note
     back_same_desk l ns may =
         let a = puts_account session_laws view_of session_notes IsSized (put_progress sessions (view_of w)) (put_note session_noting sessions (view_of w)) t p w l ns may_put_same_desk may in
         record {

@@ -3,6 +3,7 @@ use Rattle.std.specs.Prelude.{◌≡◌, ℕ, suc, ◌+◌, ◌<◌, ◌≤◌, 
 use Rattle.machine.specs.declared.running.Outcome.{Outcome}
 use Rattle.ownlock.specs.Seats.{At}
 use Rattle.oplog.specs.declared.answers.Appended.{Appended}
+use Rattle.oplog.specs.declared.configuration.TheConstants.{MAX_LIMIT}
 use Rattle.oplog.specs.Sessions.{session}
 use Rattle.combiner.specs.Desks.{DeskView, BatchView, batch_of, claimed, collected, has_combiner, has_request}
 use Rattle.combiner.specs.declared.slots.Reply.{Reply}
@@ -49,16 +50,16 @@ pub record HasAnswers (a : Appended) (kept : RepliesView) (b : BatchView) : Type
   pub sizes : length b.answers ≡ length b.records
   pub answers : (k : ℕ) → k < length b.records → (reply : Reply) × (slice_get b.answers k ≡ Some (Some reply)) × IsAnswerOf a kept k reply
 
--- the session combines the requests of this batch, in whose order it notes them, has appended and replayed them, and has the answer to each
-pub record IsReady (k : SessionKnown) (b : BatchView) : Type 0 where
-  pub first : Claim
-  pub is_first : At 0 first k.note.batch
+-- the session combines the requests of this batch, in whose order it notes them; so many were appended from that place on, these outcomes were
+-- kept of them, and the answer that these make to a request is one that the session may give
+pub record IsReady (k : SessionKnown) (b : BatchView) (a : Appended) (kept : RepliesView) : Type 0 where
+  pub some : 0 < length k.note.batch
   pub records : b.records ≡ map record_of k.note.batch
   pub ascend : Ascend b.records
-  pub appended : Appended
-  pub kept : RepliesView
-  pub answered : HasAnswers appended kept b
-  pub gives : (j : ℕ) (t : Claim) → At j t k.note.batch → (reply : Reply) × (slice_get b.answers j ≡ Some (Some reply)) × Gives store_meaning k.progress t reply
+  pub within : a.first + a.count ≤ MAX_LIMIT
+  pub count : length kept.outcomes ≡ a.count
+  pub outcomes : (j : ℕ) → j < a.count → (o : Outcome) × (slice_get kept.outcomes j ≡ Some (Some o))
+  pub gives : (j : ℕ) (t : Claim) (reply : Reply) → At j t k.note.batch → IsAnswerOf a kept j reply → Gives store_meaning k.progress t reply
 
 -- the session may put the desk back as y, with the note n
 abbrev pub Steps : SessionKnown → DeskView → SessionNote → DeskView → Type 0

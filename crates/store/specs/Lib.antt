@@ -1,13 +1,13 @@
--- To be believed: what each answer tells its session, what a store is opened with and gives back.
+-- What each answer tells its session, what a store is opened with and gives back.
 pub mod Sessions
 pub mod Opening
 -- The steps on held values, which the public calls on lent values cite.
 pub mod Lent
 pub mod AtDesk
--- The values of its shelf, the rules of its sessions there, and what a session knows: of these the promises cite some.
+-- The values of its shelf, the rules of its sessions there, and what a session knows.
 pub mod Shelving
 pub mod Standing
--- Scaffolding: what the store's inner functions speak of; no promise stands on it.
+-- What the store's inner functions speak of.
 pub mod Held
 pub mod Places
 pub mod Combining

@@ -1,5 +1,5 @@
 -- A session and a store as their users see them, and what a call answers.
-use Rattle.std.specs.Prelude.{◌≡◌, ℕ, zero, suc, ◌≤◌, List, [], ◌∷◌, length, None, Result, MatchResult}
+use Rattle.std.specs.Prelude.{◌≡◌, ℕ, zero, suc, ◌≤◌, List, [], ◌∷◌, ◌++◌, length, None, Result, MatchResult}
 use Rattle.ownlock.specs.Seats.{IsSession, SeatView, ShelfId}
 use Rattle.loader.specs.CatalogueView.{CatalogueView}
 use Rattle.oplog.specs.declared.configuration.Config.{Config}
@@ -26,12 +26,13 @@ pub record StoreView : Type 0 where
   pub config : Config
   pub catalogue : CatalogueView
 
--- a session: the shelf of its store, its number, the progress that it saw last, and its note
+-- a session: the shelf of its store, its number, the progress that it saw last, its note, and each completed tail that it has read
 pub record SessionView : Type 0 where
   pub shelf : ShelfId
   pub session : ℕ
   pub progress : Progress CatalogueView
   pub note : SessionNote
+  pub tails_read : List ℕ
 
 -- the session is one of this store
 pub record IsOf (store : StoreView) (s : SessionView) : Type 0 where
@@ -41,21 +42,21 @@ pub record IsOf (store : StoreView) (s : SessionView) : Type 0 where
 
 -- the first session of a seat that has any
 abbrev pub nobody : SessionKnown
-nobody = record { session = 0; progress = first_progress (record { nodes = 0; slots = 0; window = 0; limit = 0 }) (record { shapes = []; programs = [] }); note = fresh_note; held = [] }
+nobody = record { session = 0; progress = first_progress (record { nodes = 0; slots = 0; window = 0; limit = 0 }) (record { shapes = []; programs = [] }); note = fresh_note; held = []; tails_read = [] }
 
 abbrev pub first_in : List SessionKnown → SessionKnown
 first_in [] = nobody
 first_in (k ∷ ks) = k
 
 abbrev pub session_view : SeatView (Progress CatalogueView) SessionNote Value → SessionView
-session_view s = let k = first_in s.sessions in record { shelf = s.shelf; session = k.session; progress = k.progress; note = k.note }
+session_view s = let k = first_in s.sessions in record { shelf = s.shelf; session = k.session; progress = k.progress; note = k.note; tails_read = k.tails_read }
 
 -- what the session a knows at first, and the session
 abbrev pub fresh_known : Config → CatalogueView → ℕ → SessionKnown
-fresh_known config c a = record { session = a; progress = first_progress config c; note = fresh_note; held = [] }
+fresh_known config c a = record { session = a; progress = first_progress config c; note = fresh_note; held = []; tails_read = [] }
 
 abbrev pub fresh_session : ShelfId → Config → CatalogueView → ℕ → SessionView
-fresh_session shelf config c a = record { shelf = shelf; session = a; progress = first_progress config c; note = fresh_note }
+fresh_session shelf config c a = record { shelf = shelf; session = a; progress = first_progress config c; note = fresh_note; tails_read = [] }
 
 -- so many of them, from the session a on
 abbrev pub fresh_sessions : ShelfId → Config → CatalogueView → ℕ → ℕ → List SessionView
@@ -64,7 +65,7 @@ fresh_sessions shelf config c a (suc n) = fresh_session shelf config c a ∷ fre
 
 -- what a session knows that holds nothing
 abbrev pub known_of : SessionView → SessionKnown
-known_of s = record { session = s.session; progress = s.progress; note = s.note; held = [] }
+known_of s = record { session = s.session; progress = s.progress; note = s.note; held = []; tails_read = s.tails_read }
 
 -- between its calls the session of that slot holds nothing, waits for nothing, and combines for nobody
 pub record IsIdle (s : SeatView (Progress CatalogueView) SessionNote Value) (caller : Caller) : Type 0 where
@@ -82,8 +83,12 @@ pub record IsIdle (s : SeatView (Progress CatalogueView) SessionNote Value) (cal
 abbrev pub request_of : Progress CatalogueView → Operation → Pending
 request_of known op = record { op = op; seen = length known.history }
 
--- a session's read
+-- a session's read: within it the completed tail was read, and the answer's point is not below what it was
 pub record IsReadBy (k after : SessionKnown) (op : Operation) (answer : ReadAnswer) : Type 0 where
+  pub begun : ℕ
+  pub more : List ℕ
+  pub read : after.tails_read ≡ k.tails_read ++ begun ∷ more
+  pub reached : begun ≤ answer.point
   pub session : after.session ≡ k.session
   pub held : after.held ≡ []
   pub note : after.note ≡ k.note
@@ -97,6 +102,10 @@ abbrev pub TellsUpdate : (old new : SessionView) → Operation → Result Answer
 TellsUpdate old new op result = MatchResult result
     (λ a. Tells store_meaning new.progress old.session (length old.note.answered) (request_of old.progress op) (Placed a.index a.reply) × (new.note ≡ note_with old.note a.index op))
     (λ e. (e ≡ TheEnd) × Tells store_meaning new.progress old.session (length old.note.answered) (request_of old.progress op) EndedAnswer × (new.note ≡ old.note))
+
+-- within the call the session has read the completed tail, and the answer's point is not below what it was then
+abbrev pub BeginsWithin : (old new : SessionView) → Result ReadAnswer StoreRefused → Type 0
+BeginsWithin old new result = MatchResult result (λ a. (begun : ℕ) × (more : List ℕ) × (new.tails_read ≡ old.tails_read ++ begun ∷ more) × (begun ≤ a.point)) (λ _. ⊥)
 
 -- the answer to a read that was not refused
 abbrev pub TellsRead : (old new : SessionView) → Operation → Result ReadAnswer StoreRefused → Type 0

@@ -1,6 +1,7 @@
 -- What the values on a store's shelf have to do with the progress and the notes of its sessions.
-use Rattle.std.specs.Prelude.{◌≡◌, ℕ, ◌*◌, List, [], length, replicate}
+use Rattle.std.specs.Prelude.{◌≡◌, ℕ, ◌+◌, ◌*◌, List, [], length, replicate}
 use Rattle.ownlock.specs.Rules.{Rules}
+use Rattle.ownlock.specs.Seats.{Opened, opened_with}
 use Rattle.maps.specs.Maps.{Maps, shapes_of}
 use Rattle.loader.specs.CatalogueView.{CatalogueView}
 use Rattle.oplog.specs.declared.configuration.Config.{Config}
@@ -63,11 +64,19 @@ store_rules = the_rules store_meaning session_rules view_of IsSized
 abbrev pub sessions_of : Config → ℕ
 sessions_of config = config.nodes * config.slots
 
+-- how many places its shelf has: one for the log, and for each node one for its replica and one for its desk
+abbrev pub places_of : Config → ℕ
+places_of config = 1 + config.nodes + config.nodes
+
 abbrev pub opening_progress : Setup → Progress CatalogueView
 opening_progress s = first_progress s.config s.catalogue
 
 abbrev pub opening_notes : Setup → List SessionNote
 opening_notes s = replicate (sessions_of s.config) fresh_note
+
+-- what its shelf is opened with
+abbrev pub store_opening : Setup → Opened (Progress CatalogueView)
+store_opening s = opened_with (opening_progress s) (places_of s.config) (opening_notes s)
 
 -- a new log, and a new replica with its empty hand
 abbrev pub IsOpenedLog : List Shape → ℕ → ℕ → Value → Type 0

@@ -116,10 +116,11 @@ IsThere s caller places nodes c = (k : SessionKnown) × IsSession s k × IsFree 
 
 -- ---- what its calls leave
 
--- the session has not let go of anything, and its note may have changed
+-- the session has not let go of anything, nor read the completed tail, and its note may have changed
 pub record GoesOn (k after : SessionKnown) : Type 0 where
   pub session : after.session ≡ k.session
   pub held : after.held ≡ k.held
+  pub tails_read : after.tails_read ≡ k.tails_read
   pub extends : Extends k.progress after.progress
 
 -- the session knows that so many operations are completed; while it holds the log, the history stands still

@@ -5,7 +5,7 @@ ghost use Rattle.verifier.specs.declared.refusal.Mode.TheVariants.{Read};
 ghost use Rattle.replica.specs.Refusals.{early_refusal};
 ghost use Rattle.store.specs.Lent.{CanAppend};
 ghost use Rattle.store.specs.Held.{IsAppended, IsReplica, IsLog, LacksRoom, IsWide, tail_in, CanKeepUp, IsKeptUp, CanFollowIn, HasFollowed, CanReclaimIn, IsReclaimed, CanAppendIn, HasAppendedIn, CanReplayIn, HasReplayed, IsReplicaOf, Replies as RepliesIn};
-ghost use Rattle.store.specs.AtDesk.{IsReady};
+ghost use Rattle.store.specs.AtDesk.{IsReady, HasAnswers};
 ghost use Rattle.store.specs.Combining.{IsAtIn, HasReplied};
 ghost use Rattle.store.specs.Standing.{SessionKnown};
 
@@ -143,13 +143,15 @@ pub(crate) fn answer_in(
     }
 }
 
-// Hands the answers of the batch to the slots of its requests.
-pub(crate) fn reply_in(desk: &mut Value, batch: &Batch)
-    requires own { (k : SessionKnown) × (slot : ℕ) × IsAtIn slot k desk.old × IsReady k batch.now }
-    ensures replied { HasReplied batch.now desk.old desk.new }
+// Sets the answers of the batch, by what was appended and kept of it, and hands them to the slots of its requests.
+pub(crate) fn reply_in(desk: &mut Value, batch: &mut Batch, appended: Appended, replies: &Replies)
+    requires own { (k : SessionKnown) × (slot : ℕ) × IsAtIn slot k desk.old × IsReady k batch.old appended replies.now }
+    ensures records { batch.new.records ≡ batch.old.records }
+    ensures answered { HasAnswers appended replies.now batch.new }
+    ensures replied { HasReplied batch.new desk.old desk.new }
 {
     match desk {
-        Value::Desk(desk) => desks::reply(desk, batch),
+        Value::Desk(desk) => desks::reply(desk, batch, appended, replies),
         Value::Log(_) | Value::Replica(_) => unreachable!(),
     }
 }

@@ -7,7 +7,7 @@ ghost use Rattle.replica.specs.StoreMeaning.{store_meaning};
 ghost use Rattle.replica.specs.declared.refusals.StoreRefused.{StoreRefused};
 ghost use Rattle.replica.specs.Refusals.{early_refusal};
 ghost use Rattle.store.specs.Requests.{said};
-ghost use Rattle.store.specs.Sessions.{IsOf, IsIdle, TellsUpdate, TellsRead, known_of, session_view};
+ghost use Rattle.store.specs.Sessions.{IsOf, IsIdle, TellsUpdate, TellsRead, BeginsWithin, known_of, session_view};
 
 use crate::answers::Answer;
 use crate::requests::{complete, post_only};
@@ -128,6 +128,7 @@ impl Session {
         ensures well_formed { IsWellFormed store_meaning self.new.progress }
         ensures early { (r : StoreRefused) → early_refusal store.now.catalogue Read program argument.now ≡ Some r → (result ≡ Err r)
             × (self.new ≡ self.old) }
+        ensures begun { early_refusal store.now.catalogue Read program argument.now ≡ None → BeginsWithin self.old self.new result }
         ensures answered { early_refusal store.now.catalogue Read program argument.now ≡ None
             → TellsRead self.old self.new (record { program = program; argument = argument.now }) result }
     {

@@ -7,7 +7,6 @@ ghost use Rattle.replica.specs.StoreMeaning.{store_meaning};
 ghost use Rattle.progress.specs.Accounts.{IsWellFormed};
 ghost use Rattle.progress.specs.Moves.{unplaced};
 ghost use Rattle.replica.specs.Refusals.{early_refusal};
-ghost use Rattle.store.specs.Held.{tail_in, IsReplica};
 ghost use Rattle.store.specs.Sessions.{IsReadBy};
 ghost use Rattle.store.specs.Standing.{SessionKnown, Stands, LogIs, FollowsIn, AgreesIn, HoldsLog, HoldsReplica, IsFree, IsOnShelf, HasRest, HasRaised, HasRoom, HasAppended, HasCaughtUp, IsBroughtUp};
 
@@ -45,14 +44,14 @@ pub(crate) struct Question<'a> {
     pub(crate) argument: &'a [u8],
 }
 
-// Raises the completed tail to the replica's. The session may hold the log meanwhile.
-fn raise_to(shelf: &Shelf<Value>, seat: &mut Seat<Value>, node: &Value)
+// Raises the completed tail to this one, which the history has reached. The session may hold the log meanwhile.
+fn raise_to(shelf: &Shelf<Value>, seat: &mut Seat<Value>, tail: u64)
     requires own { seat.old.shelf ≡ shelf.now.id }
-    requires known { (k : SessionKnown) × IsSession seat.old k × IsReplica node.now × (tail_in node.now ≤ length k.progress.history) }
+    requires known { (k : SessionKnown) × IsSession seat.old k × (tail ≤ length k.progress.history) }
     ensures same { seat.new.shelf ≡ seat.old.shelf }
-    ensures raised { (k : SessionKnown) → IsSession seat.old k → (after : SessionKnown) × IsSession seat.new after × HasRaised k after (tail_in node.now) }
+    ensures raised { (k : SessionKnown) → IsSession seat.old k → (after : SessionKnown) × IsSession seat.new after × HasRaised k after tail }
 {
-    shelf.raise(seat, replica_tail(node));
+    shelf.raise(seat, tail);
 }
 
 // While the log is held: a replica below its base becomes the base, and a log without room for so many records gets the replica
@@ -80,7 +79,7 @@ fn make_room(
     keep_up(log, node);
     if lacks_room(log, want) {
         follow(log, node, catalogue);
-        raise_to(shelf, seat, node);
+        raise_to(shelf, seat, replica_tail(node));
         reclaim(log, node);
     }
 }
@@ -125,7 +124,8 @@ pub(crate) fn catch_up(
         × HasCaughtUp k after node.old node.new replies.old replies.new }
 {
     replay(node, catalogue, replies);
-    raise_to(shelf, seat, node);
+    let replayed = replica_tail(node);
+    raise_to(shelf, seat, replayed);
 }
 
 // Takes the log, brings the replica up to its end while it is held, puts it back, and raises the completed tail to the replica's.
@@ -148,7 +148,8 @@ fn refresh<R: Wait>(
     keep_up(&log.value, node);
     follow(&log.value, node, catalogue);
     shelf.put::<Brand>(seat, log);
-    raise_to(shelf, seat, node);
+    let followed = replica_tail(node);
+    raise_to(shelf, seat, followed);
 }
 
 // Runs a read program on the replica of the caller's node, once it has reached the tail that is completed now.

@@ -48,11 +48,13 @@ impl Shelved for Value {
     ghost use Rattle.replica.specs.StoreMeaning.{store_meaning};
     ghost use Rattle.progress.proofs.StoreRules.{desk_store};
     ghost use Rattle.progress.proofs.StoreLaws.{laws_seen};
-    ghost use Rattle.store.specs.Shelving.{view_of, IsSized, store_rules, opening_progress, opening_notes};
+    ghost use Rattle.store.specs.Shelving.{view_of, IsSized, store_rules, opening_progress, opening_notes, places_of};
 
     ghost rules = { store_rules };
 
     ghost first_progress = { opening_progress };
+
+    ghost places = { λ s. places_of s.config };
 
     ghost first_notes = { opening_notes };
 

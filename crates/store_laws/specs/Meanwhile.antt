@@ -1,5 +1,5 @@
 -- What holds of a store between any two atomic steps of its sessions' threads.
-use Rattle.std.specs.Prelude.{◌≡◌, ◌≢◌, ℕ, ◌<◌, List, map, length, slice_index, Option, Some}
+use Rattle.std.specs.Prelude.{◌≡◌, ◌≢◌, ℕ, ◌+◌, ◌*◌, ◌<◌, List, map, length, slice_index, Option, Some}
 use mathlib.Core.Option as kernel
 use Rattle.atomic_table.specs.Table.{State}
 use Rattle.loader.specs.CatalogueView.{CatalogueView}
@@ -13,6 +13,7 @@ use Rattle.progress.specs.declared.sessions.SessionNote.{SessionNote}
 use Rattle.progress.specs.Accounts.{Accounts, Extends}
 use Rattle.progress.specs.Agreement.{AgreesWith, log_place}
 use Rattle.progress.specs.Moves.{MayHold}
+use Rattle.store.specs.declared.values.Setup.{Setup}
 use Rattle.store.specs.declared.values.Value.{Value}
 use Rattle.store.specs.Shelving.{view_of, IsSized}
 
@@ -29,12 +30,17 @@ StoreState = State (Option Value) (View (Progress CatalogueView) SessionNote Val
 abbrev pub IsValueAt : ℕ → Progress CatalogueView → List SessionNote → Value → Type 0
 IsValueAt p l ns v = AgreesWith store_meaning p l ns (view_of v) × IsSized l.config l.catalogue v
 
--- so many sessions share the store, which is in this state
-pub record Meanwhile (sessions : ℕ) (s : StoreState) : Type 0 where
-  -- the history and its completed tail; and of each session which updates were answered it, which it waits for, and which it combines
+-- a store that was opened with this configuration and this catalogue is in this state
+pub record Meanwhile (opening : Setup) (s : StoreState) : Type 0 where
+  -- the log has one place, and each node one for its replica and one for its desk
+  pub places : length s.homes ≡ 1 + opening.config.nodes + opening.config.nodes
+  -- the configuration and the catalogue of the opening, the history and its completed tail
   pub progress : Progress CatalogueView
+  pub config : progress.config ≡ opening.config
+  pub catalogue : progress.catalogue ≡ opening.catalogue
+  -- of each session, one for each slot of each node, which updates were answered it, which it waits for, and which it combines
   pub notes : List SessionNote
-  pub count : length notes ≡ sessions
+  pub count : length notes ≡ opening.config.nodes * opening.config.slots
   -- they account for one another
   pub accounts : Accounts store_meaning progress notes
   -- the history has grown from what each session knows, whose note is its own, and which holds no more than it may

@@ -69,9 +69,9 @@ IsSumOf l (TheList x) = ⊥
 IsSumOf l (Sum x) = (x.tail ≤ l.completed) × (x.tail ≤ length l.items) × (x.sum ≡ total (take x.tail l.items) % 2 ^ 64)
 
 -- who holds the sum may put it back
-pub puts_sum : (k : K) (a q : ℕ) (x y : Value) (known : List K) → q ≡ 1 → At a (1, x) k.held → IsSumOf k.progress y → MayPut sum_rules (moved_progress y) (counted known y) k q y
-puts_sum k a q x (TheList y) known one at h = absurd h
-puts_sum k a q x (Sum y) known one at h = subst (λ z. MayPut sum_rules (moved_progress (Sum y)) (counted known (Sum y)) k z (Sum y)) (sym one) (
+pub puts_sum : (k : K) (a q : ℕ) (x y : Value) (known : List K) → known ≡ k ∷ [] → q ≡ 1 → At a (1, x) k.held → IsSumOf k.progress y → MayPut sum_rules (moved_progress y) (counted known y) k q y
+puts_sum k a q x (TheList y) known is one at h = absurd h
+puts_sum k a q x (Sum y) known is one at h = subst (λ z. MayPut sum_rules (moved_progress (Sum y)) (counted known (Sum y)) k z (Sum y)) (sym one) (
   x,
   a,
   at,

@@ -1,4 +1,4 @@
--- To be believed: two small kinds of value.
+-- Two small kinds of value.
 pub mod Sums
 -- Laws: they meet the rules of the lock.
 pub mod Laws

@@ -44,6 +44,9 @@ impl Shelved for Value {
 
     ghost first_progress = { λ _. empty_progress };
 
+    // The list, and its sum.
+    ghost places = { λ _. 2 };
+
     ghost first_notes = { λ sessions. replicate sessions 0 };
 
     ghost laws = { sum_laws };

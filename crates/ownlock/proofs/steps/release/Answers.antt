@@ -1,4 +1,4 @@
-use Rattle.std.proofs.Common.{◌∷◌, rules, sym, ap, ◌∙◌, map, get_or, Some, None}
+use Rattle.std.proofs.Common.{◌∷◌, rules, ap, ◌∙◌, map, Some, None}
 use Rattle.atomic_table.specs.Table.{rest}
 use Rattle.ownlock.specs.Seats.{without}
 use Rattle.ownlock.specs.Invariant.{emptied}

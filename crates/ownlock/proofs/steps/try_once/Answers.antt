@@ -21,10 +21,10 @@ pub unreachable-requires : goal.unreachable-requires
 unreachable-requires g c =
     let m = c.requires.may in
     let t = (c.compare_exchange.ensures.2 m.0 c.args.place m.1 c.word_of.ensures).1 c.if-compare_exchange-ne0.false in
-    c.in_default.not-Some t.1 (was_there g.V.Shelved.rules g.V.Shelved.laws 0 c.args.pass.now.me _ t.0 c.args.place t.1 _ t.3 c.exchange-found.ensures.2)
+    c.in_default.not-Some t.1 (was_there g.V.Shelved.rules c.args.pass.now.me _ t.0 c.args.place t.1 _ t.3 c.exchange-found.ensures.2)
 
 pub returns-clause-taken : goal.returns-clause-taken
 returns-clause-taken g c value is k sits =
     let t = (c.compare_exchange.ensures.2 k c.args.place sits c.word_of.ensures).1 (search rules) in
     let e = c.exchange-found.ensures in
-    taken_out g.V.Shelved.rules g.V.Shelved.laws 0 c.args.pass.now.me c.compare_exchange.new.seat.me _ k t.0 c.args.place t.1 _ c.exchange-found.result sits t.2 t.3 e.2 e.3 (search rules)
+    taken_out g.V.Shelved.rules c.args.pass.now.me c.compare_exchange.new.seat.me _ k t.0 c.args.place t.1 _ c.exchange-found.result sits t.2 t.3 e.2 e.3 (search rules)

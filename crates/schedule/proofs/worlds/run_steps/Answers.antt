@@ -1,8 +1,12 @@
-use Rattle.std.proofs.Common.{◌∙◌, refl, rules, length}
+use Rattle.std.proofs.Common.{◌≡◌, ◌∙◌, refl, subst, rules, length}
 use Rattle.std.proofs.lemmas.Grind.{common_steps}
 use Rattle.std.proofs.Common.{arith}
+use Rattle.std.proofs.lemmas.List.{take_all}
 use Rattle.std.proofs.lemmas.Option.{slice_get_read}
+use Rattle.schedule.specs.Steps.{world_of}
+use Rattle.schedule.specs.Taking.{answers_to}
 use Rattle.schedule.proofs.Answers.{steps_next}
+use Rattle.schedule.proofs.OnCalls.{steps_explained}
 use Rattle.schedule.proofs.worlds.run_steps.Goals as goal
 
 pub loop-step-preserved : goal.loop-step-preserved
@@ -16,3 +20,10 @@ loop-step-preserved c =
       world = next.0;
       answers = c.push_reserved.ensures.items ∙ next.1;
     }
+
+pub returns-clause-explained : goal.returns-clause-explained
+returns-clause-explained c =
+    let all = take_all c.loop-step.step-index c.args.steps.now c.loop-step-test.false in
+    steps_explained c.args.world.now c.loop-step.world c.args.steps.now c.loop-step.answers.items c.stands.ensures.stands
+    (subst (λ steps. c.loop-step.world ≡ record c.args.world.now { world = world_of c.args.world.now.opening c.args.world.now.world steps }) all c.loop-step.invariant.world)
+    (subst (λ steps. c.loop-step.answers.items ≡ answers_to c.args.world.now.opening c.args.world.now.world steps) all c.loop-step.invariant.answers)

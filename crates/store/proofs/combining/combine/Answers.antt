@@ -1,10 +1,10 @@
-use Rattle.std.proofs.Common.{◌+◌, [], ◌∷◌, sym, ap, ◌∙◌, subst}
+use Rattle.std.proofs.Common.{◌+◌, [], ◌∷◌, sym, refl, ap, ◌∙◌, subst}
 use Rattle.ownlock.proofs.Seats.{one_known}
 use Rattle.progress.specs.declared.sessions.SessionNote.{SessionNote}
 use Rattle.progress.specs.Moves.{unplaced}
 use Rattle.store.specs.Combining.{HasClaimed}
 use Rattle.store.specs.Standing.{HasAppended, IsFree}
-use Rattle.store.proofs.Combined.{combined, counted, from_k, kept, ready, session_is}
+use Rattle.store.proofs.Combined.{combined, from_k, ready, session_is}
 use Rattle.store.proofs.Finished.{back, holds_on, may_put_replica}
 use Rattle.store.proofs.Taken.{free_on, may_take_replica, shelf_on, took_replica}
 use Rattle.store.proofs.combining.combine.Goals as goal
@@ -34,22 +34,6 @@ put-requires-clause-may g c =
     let held = r.2.goes.held ∙ (a.2.goes.held ∙ (b.held ∙ ap (λ z. (z, w) ∷ []) (sym c.take-node.ensures.same.1))) in
     (r.0, r.1, may_put_replica r.0 w (holds_on a.0 r.0 w r.2.goes h) c.catch_up.new.seat.sessions r.1 c.catch_up.new.node _ held r.2.agrees r.2.within)
 
-pub answer_batch-requires-clause-kept : goal.answer_batch-requires-clause-kept
-answer_batch-requires-clause-kept g c =
-    let i = c.requires.claimed in
-    let t = c.take-node.ensures.taken i.0 i.1 in
-    let a = c.append_and_copy-appended.ensures.appended t.0 t.2 in
-    let r = c.catch_up.ensures.caught a.0 a.1 in
-    kept t.0 a.0 r.0 c.records.result.now c.append_and_copy-appended.result c.append_and_copy-appended.new.node c.catch_up.new.node c.new-replies.result c.catch_up.new.replies a.2 r.2 c.new-replies.ensures.none
-
-pub answer_batch-requires-clause-count : goal.answer_batch-requires-clause-count
-answer_batch-requires-clause-count g c =
-    let i = c.requires.claimed in
-    let t = c.take-node.ensures.taken i.0 i.1 in
-    let a = c.append_and_copy-appended.ensures.appended t.0 t.2 in
-    let r = c.catch_up.ensures.caught a.0 a.1 in
-    counted t.0 a.0 r.0 c.records.result.now c.append_and_copy-appended.result c.append_and_copy-appended.new.node c.catch_up.new.node c.new-replies.result c.catch_up.new.replies a.2 r.2 c.new-replies.ensures.none
-
 pub hand_over-requires-clause-ready : goal.hand_over-requires-clause-ready
 hand_over-requires-clause-ready g c =
     let i = c.requires.claimed in
@@ -69,14 +53,13 @@ hand_over-requires-clause-ready g c =
     let old = c.new-replies.result in
     let new = c.catch_up.new.replies in
     let none = c.new-replies.ensures.none in
-    let y = c.answer_batch.new.batch in
-    let set = c.answer_batch.ensures.answered in
-    let grown = from_k t.0 a.0 r.0 rs app v c.catch_up.new.node old new done r.2 none _ f y c.answer_batch.ensures.records i.3.some i.3.ascend set i.0 (1 + c.args.caller.node) w b in
-    let session = session_is t.0 a.0 r.0 rs app v c.catch_up.new.node old new done r.2 none _ f y c.answer_batch.ensures.records i.3.some i.3.ascend set i.0 (1 + c.args.caller.node) w b in (
+    let y = c.args.batch.now in
+    let grown = from_k t.0 a.0 r.0 rs app v c.catch_up.new.node old new done r.2 none _ f y refl i.3.some i.3.ascend i.0 (1 + c.args.caller.node) w b in
+    let session = session_is t.0 a.0 r.0 rs app v c.catch_up.new.node old new done r.2 none _ f y refl i.3.some i.3.ascend i.0 (1 + c.args.caller.node) w b in (
       _,
       p.2,
       free_on c.args.caller i.0 _ session f.held grown i.2,
-      ready t.0 a.0 r.0 rs app v c.catch_up.new.node old new done r.2 none _ f y c.answer_batch.ensures.records i.3.some i.3.ascend set,
+      ready t.0 a.0 r.0 rs app v c.catch_up.new.node old new done r.2 none _ f y refl i.3.some i.3.ascend,
       shelf_on c.args.shared.shelf.now.places c.args.shared.nodes c.args.shared.catalogue.now i.0 _ grown i.4,
       f.stands,
     )
@@ -101,4 +84,4 @@ returns-clause-combined g c k is =
     let p = c.put.ensures.put r.0 r.1 in
     let f = back r.0 w (holds_on a.0 r.0 w r.2.goes h) c.catch_up.new.seat.sessions r.1 c.catch_up.new.node c.take-node.result.place held r.2.agrees r.2.within p.0 p.1.0 p.1.1 in
     let z = c.hand_over.ensures.combined _ p.2 in
-    (z.0, z.1, combined t.0 a.0 r.0 rs app v c.catch_up.new.node c.new-replies.result c.catch_up.new.replies done r.2 c.new-replies.ensures.none _ f c.answer_batch.new.batch c.answer_batch.ensures.records claimed.some claimed.ascend c.answer_batch.ensures.answered k (1 + c.args.caller.node) w b z.0 z.2)
+    (z.0, z.1, combined t.0 a.0 r.0 rs app v c.catch_up.new.node c.new-replies.result c.catch_up.new.replies done r.2 c.new-replies.ensures.none _ f c.args.batch.now refl claimed.some claimed.ascend k (1 + c.args.caller.node) w b z.0 z.2)

@@ -1,4 +1,4 @@
-use Rattle.std.proofs.Common.{◌≤◌, subst}
+use Rattle.std.proofs.Common.{◌≤◌, subst, arith}
 use Rattle.ownlock.proofs.Seats.{one_known}
 use Rattle.store.specs.Standing.{AgreesIn, Stands}
 use Rattle.store.proofs.Taken.{is_replica}
@@ -15,11 +15,12 @@ pub returns-then-is_ready-clause-up : goal.returns-then-is_ready-clause-up
 returns-then-is_ready-clause-up g c k is =
     let i = c.requires.holds in
     let e = one_known c.args.seat.now i.0 k i.1 is in
-    (k, is, is_up k c.args.node.now c.args.done (subst (λ z. AgreesIn z.progress c.args.node.now) e i.3) (subst (λ z. Stands z) e i.4) (c.is_ready.ensures.ready.0 c.if-is_ready.true))
+    let far = c.is_ready.ensures.ready.0 c.if-is_ready.true in
+    (k, is, is_up k c.args.node.now c.args.done (subst (λ z. AgreesIn z.progress c.args.node.now) e i.3) (subst (λ z. Stands z) e i.4) (omega (arith, far)))
 
 pub returns-clause-up : goal.returns-clause-up
 returns-clause-up g c k is =
     let i = c.requires.holds in
     let e = one_known c.args.seat.now i.0 k i.1 is in
     let r = c.refresh.ensures.up k is in
-    (r.0, r.1, up_enough k r.0 c.refresh.new.node c.args.done (subst (λ z. c.args.done ≤ z.progress.completed) e i.6) r.2)
+    (r.0, r.1, up_enough k r.0 c.refresh.new.node c.args.done k.progress.completed (subst (λ z. c.args.done ≤ z.progress.completed) e i.6) r.2)

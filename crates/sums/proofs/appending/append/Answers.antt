@@ -57,7 +57,7 @@ put-requires-2-clause-may g c =
     let r = c.raise.ensures.raised _ p.2 in (
       _,
       r.4,
-      puts_sum _ 0 _ w z c.raise.new.seat.sessions c.take-follower.ensures.same.1 (sum_left i.0 u.0 w x b _ c.take-leader.ensures.same.1)
+      puts_sum _ 0 _ w z c.raise.new.seat.sessions r.4 c.take-follower.ensures.same.1 (sum_left i.0 u.0 w x b _ c.take-leader.ensures.same.1)
           (sum_of_raised p.0 r.0 y z _ _ c.catch_up.ensures c.tail_and_sum-tail.ensures r.1.0.0),
     )
 

@@ -1,8 +1,6 @@
 use Rattle.std.proofs.Common.{sym, ap, ◌∙◌, subst, length, []}
-use Rattle.atomic_table.specs.Table.{Final}
 use Rattle.std.specs.Mem.Slots.{slots_items}
 use Rattle.ownlock.specs.Knowledge.{Closes}
-use Rattle.ownlock.specs.Invariant.{LockInvariant}
 use Rattle.ownlock.proofs.Ends.{closes_without}
 use Rattle.ownlock.proofs.shelf.Shelf.close_without.Goals as goal
 
@@ -12,4 +10,4 @@ returns-clause-values g c =
     let words = slots_items c.close.result.words in
     let slots = slots_items c.close.result.slots in
     let none = ap (λ z. length (g.V.Shelved.first_notes z.setup)) c.self.view_is ∙ c.requires.none in
-    subst (λ l. Closes R 0 [] l) (sym c.unload.ensures) (closes_without R words slots (subst (λ n. Final (LockInvariant R n) words slots) none c.close.ensures.values.2))
+    subst (λ l. Closes R 0 [] l) (sym c.unload.ensures) (closes_without R _ words slots none c.close.ensures.values.2)

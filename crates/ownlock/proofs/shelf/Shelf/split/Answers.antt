@@ -1,7 +1,7 @@
-use Rattle.std.proofs.Common.{rules, List, sym, ap, ◌∙◌, subst, length}
+use Rattle.std.proofs.Common.{rules, List, sym, ap, ◌∙◌, subst}
 use Rattle.atomic_table.specs.Table.{Splits}
 use Rattle.ownlock.specs.declared.known.Known.{Known}
-use Rattle.ownlock.specs.Seats.{HoldsNone}
+use Rattle.ownlock.specs.Seats.{HoldsNone, opened_with}
 use Rattle.ownlock.specs.Invariant.{LockInvariant, first_of, others_of}
 use Rattle.ownlock.proofs.Seats.{splits, others_idle, first_idle}
 use Rattle.ownlock.proofs.shelf.Shelf.split.Goals as goal
@@ -10,13 +10,14 @@ pub split_seat-pass-requires : goal.split_seat-pass-requires
 split_seat-pass-requires g c =
     let some = c.requires.some in
     let R = g.V.Shelved.rules in
-    let sessions = length (g.V.Shelved.first_notes c.self.inside.table.shared.key) in (
+    let setup = c.self.inside.table.shared.key in
+    let opened = opened_with (g.V.Shelved.first_progress setup) (g.V.Shelved.places setup) (g.V.Shelved.first_notes setup) in (
       search rules,
       search rules,
       subst
-          (λ (v : List (Known g.row.V-Progress.Denot g.row.V-SessionNote.Denot g.row.V.Denot)). Splits (LockInvariant R sessions) c.seat.inside.pass.id v (others_of v) (first_of v))
+          (λ (v : List (Known g.row.V-Progress.Denot g.row.V-SessionNote.Denot g.row.V.Denot)). Splits (LockInvariant R opened) c.seat.inside.pass.id v (others_of v) (first_of v))
           (sym (ap (λ z. z.sessions) c.seat.view_is ∙ some.2))
-          (splits R g.V.Shelved.laws sessions c.seat.inside.pass.id some.0 some.1),
+          (splits R g.V.Shelved.laws opened c.seat.inside.pass.id some.0 some.1),
     )
 
 pub invariant_of-seat : goal.invariant_of-seat

@@ -11,4 +11,5 @@ answered-requires c = record {
 
 pub reply-requires-clause-answered : goal.reply-requires-clause-answered
 reply-requires-clause-answered c = subst IsAnswered (sym c.answered.ensures.answered)
-    (all_answered (subst (λ v. IsOfStore c.requires.own.0 c.args.log.now v) (sym c.self.view_is) c.requires.own.1) c.in-InLog-replace.written (search rules) (search rules) (search rules))
+    (all_answered c.in-InLog-replace.written
+    (is_run (subst (λ v. IsOfStore c.requires.own.0 c.args.log.now v) (sym c.self.view_is) c.requires.own.1) c.in-InLog-replace.written (search rules) (search rules)))

@@ -2,7 +2,8 @@ use Rattle.std.proofs.Common.{◌<◌, length, refl, ◌∙◌, ap, sym, subst, 
 use Rattle.std.proofs.lemmas.Option.{slice_get_read}
 use Rattle.schedule.specs.Steps.{took}
 use Rattle.schedule.specs.Taking.{WorldState, store_of, Takes, IsStanding}
-use Rattle.schedule.proofs.Answers.{of_store, stepped, still_standing, keeps_standing}
+use Rattle.schedule.proofs.Answers.{of_store, stepped, still_standing}
+use Rattle.schedule.proofs.OnCalls.{step_explained}
 use Rattle.schedule.proofs.worlds.World.step_at.Goals as goal
 
 pub take-requires : goal.take-requires
@@ -27,4 +28,4 @@ returns c =
     subst (λ (s : WorldState). Takes (took s.opening s.world c.args.step.now) s new c.take.result) c.self.view_is
     (subst (λ n. Takes (took c.self.inside.opening (record { log = c.self.inside.log; nodes = c.self.inside.nodes.items }) c.args.step.now) (store_of c.self.inside.opening c.self.inside.log c.self.inside.nodes.items) (store_of c.self.inside.opening c.take.new.log (slice_set c.self.inside.nodes.items n c.take.new.self)) c.take.result) (sym c.requires.node)
     (stepped (store_of c.self.inside.opening c.self.inside.log c.self.inside.nodes.items) c.args.step.now c.index_mut.result.now c.take.new.log c.take.new.self c.take.result at c.take.ensures.taken)) in
-    record { taken = takes; stands = keeps_standing c.args.self.now new c.args.step.now c.take.result takes }
+    record { taken = takes; explained = step_explained c.args.self.now new c.args.step.now c.take.result (subst IsStanding c.self.view_is c.self.invariant) takes }

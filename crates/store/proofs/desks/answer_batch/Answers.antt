@@ -1,6 +1,6 @@
 use Rattle.std.proofs.Common.{ap, ◌∙◌, arith, length, length-set}
 use Rattle.store.proofs.Combined.{set_more}
-use Rattle.store.proofs.combining.answer_batch.Goals as goal
+use Rattle.store.proofs.desks.answer_batch.Goals as goal
 
 pub loop-k-preserved : goal.loop-k-preserved
 loop-k-preserved c =

@@ -1,7 +1,7 @@
 use Rattle.std.proofs.Common.{◌≡◌, ◌<◌, ℕ, length, Some, slice_get}
 use Rattle.combiner.specs.declared.slots.Reply.{Reply}
 use Rattle.store.specs.AtDesk.{IsAnswerOf}
-use Rattle.store.proofs.combining.answer_batch.Given as goal
+use Rattle.store.proofs.desks.answer_batch.Given as goal
 
 abbrev pub invariant-loop-k : goal.invariant-loop-k
 invariant-loop-k l = record {
