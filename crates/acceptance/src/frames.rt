@@ -1,8 +1,8 @@
-// Frames: what is known at the entry, what a mark changes, and what two frames have in common.
+// Frames: what is known at the entry, what a mark or a pointer changes, and what two frames have in common.
 
 ghost use Rattle.std.specs.Prelude.{◌≤◌};
 
-use regkind::{Frame, Kind, covers, join};
+use regkind::{Cell, Frame, Kind, covers, join};
 
 // A frame of the entry in which R2 has this kind and these eight bytes of the stack are marked.
 fn changed(kind: Kind, at: usize) -> Frame
@@ -90,4 +90,28 @@ fn common_covers_both(rt: HostRuntime) {
         ],
         [true, true, false, false]
     );
+}
+
+// A pointer stands in a cell where both have it there; beside marks nothing is known of the cell. A mark takes it away.
+#[test]
+fn pointers_in_cells(rt: HostRuntime) {
+    let pointer = Cell::Spilled(Kind::Arg(0));
+    let mut x = Frame::entry();
+    x.set_cell(62, pointer);
+    x.set_cell(63, pointer);
+    let mut y = Frame::entry();
+    y.mark(496, 8);
+    y.set_cell(63, pointer);
+    let both = join(&x, &y);
+    assert_eq!(rt;
+        [both.cell(61), both.cell(62), both.cell(63)],
+        [Cell::Marks(0), Cell::Marks(0), pointer]
+    );
+    assert_eq!(rt;
+        [covers(&both, &x), covers(&both, &y), covers(&x, &y)],
+        [true, true, false]
+    );
+    assert!(&rt; !x.are_marked(504, 1));
+    x.mark(504, 1);
+    assert_eq!(rt; [x.cell(63), x.cell(62)], [Cell::Marks(1), pointer]);
 }

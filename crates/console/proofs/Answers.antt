@@ -8,7 +8,8 @@ use Rattle.console.specs.declared.input.InputFault.{InputFault}
 use Rattle.console.specs.declared.input.InputFault.TheVariants as faults
 use Rattle.console.specs.Files.{Contents, present, are_texts, is_text}
 use Rattle.console.specs.Answer.{Answer, not_text, loaded_answer, files_answer, check_answer}
-use Rattle.console.specs.Input.{FailsAs, TextIs}
+use Rattle.console.specs.InputFaults.{FailsAs}
+use Rattle.console.specs.Input.{TextIs}
 
 -- a fact that holds of the answer, whatever is known
 pub carried : (r : Option (List ℕ)) (o : Option Contents) (a : Answer) (P : Answer → Type 0) → IfSome r (λ m. IfSome o (λ h. a ≡ check_answer m h)) → P a → IfSome r (λ m. IfSome o (λ h. P (check_answer m h)))

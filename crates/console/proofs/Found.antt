@@ -6,7 +6,8 @@ use Rattle.std.proofs.lemmas.Str.{IsUtf8-from_is_utf8}
 use Rattle.console.specs.declared.input.InputFault.{InputFault}
 use Rattle.console.specs.declared.input.InputFault.TheVariants as faults
 use Rattle.console.specs.Files.{Contents, is_text, IsFile}
-use Rattle.console.specs.Input.{FailsAs, TextIs, FoundAs, IsNoText}
+use Rattle.console.specs.InputFaults.{FailsAs}
+use Rattle.console.specs.Input.{TextIs, FoundAs, IsNoText}
 
 pub text_found : {Y : Type 0} (o : Option (List ℕ)) (s : String Y) (bs : List ℕ) → IfSome o (λ b. bs ≡ b) → string_bytes s ≡ bs → is_text bs ≡ true → IfSome o (TextIs (Ok s))
 text_found None s bs known same text = tt

@@ -6,7 +6,8 @@ use Rattle.loader.specs.ProgramFiles.{Files}
 use Rattle.console.specs.declared.input.InputFault.{InputFault}
 use Rattle.console.specs.declared.input.InputFault.TheVariants as faults
 use Rattle.console.specs.Files.{Contents, present, are_texts, is_text}
-use Rattle.console.specs.Input.{FailsAs, FoundAs, IsNoText, owned_files}
+use Rattle.console.specs.InputFaults.{FailsAs}
+use Rattle.console.specs.Input.{FoundAs, IsNoText, owned_files}
 
 -- the files so far, and what is left of all names
 pub record Kept (h : Contents) (files : Files) (rest all : List (List ℕ)) : Type 0 where

@@ -10,7 +10,8 @@ use Rattle.console.specs.declared.input.InputFault.TheVariants as faults
 use Rattle.console.specs.Files.{Contents, present, are_texts, is_text}
 use Rattle.console.specs.Answer.{Answer, not_text}
 use Rattle.console.specs.Inputs.{all_texts, texts_answer, IsTextsAnswer}
-use Rattle.console.specs.Input.{FailsAs, TextIs}
+use Rattle.console.specs.InputFaults.{FailsAs}
+use Rattle.console.specs.Input.{TextIs}
 use Rattle.console.specs.Loaded.{LoadedIs}
 use Rattle.console.specs.Gathering.{AreInputs, IsOfSome}
 

@@ -8,7 +8,8 @@ use Rattle.console.specs.Answer.{Answer, not_text}
 use Rattle.asm.specs.Assembled.{assembled}
 use Rattle.text.specs.Digits.{spaced_bytes}
 use Rattle.console.specs.AsmAnswer.{assembled_answer, asm_answer, bytes_answer, dis_answer}
-use Rattle.console.specs.Input.{FailsAs, TextIs}
+use Rattle.console.specs.InputFaults.{FailsAs}
+use Rattle.console.specs.Input.{TextIs}
 
 -- a command answers so to bytes that are a text, and otherwise that they are none
 abbrev pub IsOfText : (List ℕ → Answer) → (List ℕ → Answer) → Type 0

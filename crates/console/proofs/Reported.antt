@@ -1,5 +1,5 @@
 -- What a command did, from what it had prepared.
-use Rattle.std.proofs.Common.{◌≡◌, inl, inr, ℕ, List, Option, Some, None, Result, Ok, Err, refl, sym, subst}
+use Rattle.std.proofs.Common.{◌≡◌, ◌⊎◌, inl, inr, ℕ, List, Option, Some, None, Result, Ok, Err, refl, sym, subst}
 use Rattle.std.specs.Prelude.{IfOk, IfSome, MatchResult}
 use Rattle.std.specs.Io.KnownBytes.{Keeps}
 use Rattle.console.specs.declared.status.Status.{Status}
@@ -12,9 +12,9 @@ use Rattle.console.specs.declared.reporting.Reply.{Reply}
 use Rattle.console.specs.Status.{status_of}
 use Rattle.console.specs.Texts.{no_memory_line}
 use Rattle.console.specs.Files.{Contents}
-use Rattle.console.specs.Input.{FailsAs}
+use Rattle.console.specs.InputFaults.{FailsAs, IfCannotRead}
 use Rattle.console.specs.Answer.{Answer, not_text}
-use Rattle.console.specs.Report.{Reports, ReportsSome, Sends, Writes, answer_of}
+use Rattle.console.specs.Report.{Failed, Reports, ReportsSome, Sends, Writes, answer_of}
 
 -- an answer that was sent, or broke off
 pub sent : (old new : Option (List ℕ)) (got : Status) (a : Answer) → Sends old new got a.text (status_of a.verdict) → Reports old new got a
@@ -68,3 +68,26 @@ reports_known answers None o q old new got prepared wrote known = tt
 reports_known answers (Some m) None q old new got prepared wrote known = tt
 reports_known answers (Some m) (Some h) None old new got prepared wrote known = tt
 reports_known answers (Some m) (Some h) (Some s) old new got prepared wrote known = reports old new got (answers m h s) prepared wrote known
+
+-- ---- what failed
+
+module _ (P Q : Type 0) where
+  -- what was written told its status, or a write failed
+  pub status_told : (got : Status) (v : Verdict) → (got ≡ status_of v) ⊎ ((got ≡ statuses.CannotWrite) × Q) → Failed got P Q
+  status_told got verdicts.Good (inl is) = subst (λ s. Failed s P Q) (sym is) tt
+  status_told got verdicts.Refused (inl is) = subst (λ s. Failed s P Q) (sym is) tt
+  status_told got verdicts.Differs (inl is) = subst (λ s. Failed s P Q) (sym is) tt
+  status_told got v (inr broke) = subst (λ s. Failed s P Q) (sym broke.0) broke.1
+
+  pub no_memory_told : (got : Status) → (got ≡ statuses.NoMemory) ⊎ ((got ≡ statuses.CannotWrite) × Q) → Failed got P Q
+  no_memory_told got (inl is) = subst (λ s. Failed s P Q) (sym is) tt
+  no_memory_told got (inr broke) = subst (λ s. Failed s P Q) (sym broke.0) broke.1
+
+  -- a command failed only where its preparation or its writing did
+  pub failed_only : (got : Status) (prepared : Result Reply InputFault) → Failed got (prepared ≡ Err faults.CannotRead) Q → IfCannotRead prepared P → Failed got P Q
+  failed_only statuses.Good prepared told read = tt
+  failed_only statuses.Refused prepared told read = tt
+  failed_only statuses.Differs prepared told read = tt
+  failed_only statuses.NoMemory prepared told read = tt
+  failed_only statuses.CannotRead prepared told read = subst (λ r. IfCannotRead r P) told read
+  failed_only statuses.CannotWrite prepared told read = told

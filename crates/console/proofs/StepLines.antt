@@ -118,7 +118,7 @@ sizes_good c is =
     let l' = le-leb c.limit MAX_LIMIT is.limit.1 in
     rw (n, n', s, s', w, w', l, l') refl
 
-sizes_from : (c : Config) → are_sizes c ≡ true → IsConfig c
+pub sizes_from : (c : Config) → are_sizes c ≡ true → IsConfig c
 sizes_from c e =
     let a = and_parts _ _ e in
     let n = and_parts _ _ a.0 in

@@ -14,6 +14,10 @@ abbrev pub IsFile : Option (List ℕ) → Option (List ℕ) → Type 0
 IsFile None found = ⊥
 IsFile (Some bytes) found = found ≡ Some bytes
 
+-- some file is so
+abbrev pub SomeFile : {X : Type 0} → (X → Type 0) → Type 0
+SomeFile {X} P = (x : X) × P x
+
 -- the bytes are UTF-8
 abbrev pub is_text : List ℕ → Bool
 is_text bytes = is_utf8 bytes

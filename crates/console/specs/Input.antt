@@ -3,14 +3,8 @@ use Rattle.std.specs.Prelude.{◌≡◌, ℕ, true, false, List, map, Option, So
 use Rattle.std.specs.Borrow.{Bor}
 use Rattle.loader.specs.ProgramFiles.{Files}
 use Rattle.console.specs.declared.input.InputFault.{InputFault}
-use Rattle.console.specs.declared.input.InputFault.TheVariants as faults
+use Rattle.console.specs.InputFaults.{FailsAs}
 use Rattle.console.specs.Files.{Contents, is_text, are_texts, present}
-
--- what a fault means, if it comes of what was read
-abbrev pub FailsAs : InputFault → Type 0 → Type 0
-FailsAs faults.NoMemory P = Unit {0}
-FailsAs faults.CannotRead P = Unit {0}
-FailsAs faults.NotText P = P
 
 -- the files, by what their names and texts are
 abbrev pub owned_files : {Y : Type 0} → List (Bor (List ℕ) × String Y) → Files

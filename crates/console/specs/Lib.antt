@@ -1,5 +1,8 @@
--- To be believed: what each command answers and writes, how it ends, and what was written where a read or a write fails.
+-- What each command answers and writes, how it ends, and what was written where a read or a write fails.
 pub mod Files
+pub mod Memory
+pub mod ReadFaults
+pub mod InputFaults
 pub mod Script
 pub mod StepLine
 pub mod Transcript
@@ -15,7 +18,7 @@ pub mod Report
 pub mod Transfer
 -- Laws: each line that a run writes for a call is a run of its program.
 pub mod RunLines
--- Scaffolding: the steps between reading and writing; clauses of private functions alone cite these.
+-- The steps between reading and writing.
 pub mod ScriptShown
 pub mod Running
 pub mod Input

@@ -21,6 +21,15 @@ Reports old new statuses.NoMemory a = Appends old new no_memory_line
 Reports old new statuses.CannotRead a = Keeps old new
 Reports old new statuses.CannotWrite a = AppendsBeginning old new a.text ⊎ AppendsBeginning old new no_memory_line
 
+-- a command says that a read failed only where the first is so, and that a write failed only where the second is
+abbrev pub Failed : Status → Type 0 → Type 0 → Type 0
+Failed statuses.Good read write = Unit {0}
+Failed statuses.Refused read write = Unit {0}
+Failed statuses.Differs read write = Unit {0}
+Failed statuses.NoMemory read write = Unit {0}
+Failed statuses.CannotRead read write = read
+Failed statuses.CannotWrite read write = write
+
 -- the same for some answer of these, whatever was read: nothing new is written after a failed read, and after a failed
 -- write a beginning of that answer or of the line that no memory is left
 abbrev pub ReportsSome : (Answer → Type 0) → Option (List ℕ) → Option (List ℕ) → Status → Type 0

@@ -7,9 +7,9 @@ mod replaying;
 mod running;
 mod scheduling;
 
-pub use assembling::assemble;
-pub use checking::check;
-pub use disassembling::disassemble;
-pub use replaying::replay;
-pub use running::run;
-pub use scheduling::{Setup, schedule};
+pub use assembling::{asm_reply, assemble};
+pub use checking::{check, check_reply};
+pub use disassembling::{dis_reply, disassemble};
+pub use replaying::{replay, replay_reply};
+pub use running::{run, run_reply};
+pub use scheduling::{Setup, schedule, schedule_reply};

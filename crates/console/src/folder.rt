@@ -3,12 +3,12 @@
 ghost use Rattle.std.specs.Prelude.{◌≡◌, Option, None, Some, IfSome, MatchOption};
 ghost use Rattle.console.specs.Files.{Contents, IsFile};
 
-use std::io::Read;
+use crate::transfer::Source;
 
 /// Files by their names.
 pub trait Folder {
     /// An opened file.
-    type File: Read + Drop;
+    type File: Source + Drop;
 
     // The bytes of each file by its name, where they are known.
     ghost holds: { Self → Option Contents } = { λ _. None };

@@ -4,13 +4,14 @@ ghost use Rattle.std.specs.Prelude.{◌≡◌, IfOk, IfSome, MatchResult};
 ghost use Rattle.loader.specs.NamedFiles.{named_in};
 ghost use Rattle.loader.specs.ProgramFiles.{files_of};
 ghost use Rattle.console.specs.declared.input.InputFault.TheVariants as faults;
-ghost use Rattle.console.specs.Input.{FailsAs, TextIs, FoundAs, IsNoText, Gathered, owned_files};
+ghost use Rattle.console.specs.Files.{SomeFile};
+ghost use Rattle.console.specs.InputFaults.{FailsAs, IfCannotRead};
+ghost use Rattle.console.specs.Input.{TextIs, FoundAs, IsNoText, Gathered, owned_files};
 
 use crate::folder::Folder;
-use crate::transfer::{ReadFault, read_whole};
+use crate::transfer::{ReadFault, Source};
 use loader::named_files;
 use std::alloc::{AllocError, AllocFailed, Global};
-use std::io::Read;
 
 /// Why there is no answer to what was read.
 #[derive(Clone, Copy)]
@@ -40,10 +41,11 @@ impl<T: Drop> From<AllocFailed<T>> for InputFault {
 }
 
 // The text that a reader gives.
-pub(crate) fn read_text<R: Read>(alloc: Global, reader: &mut R) -> Result<String, InputFault>
-    ensures { IfSome (R.remaining reader.old) (TextIs result) }
+pub(crate) fn read_text<R: Source>(alloc: Global, reader: &mut R) -> Result<String, InputFault>
+    ensures text { IfSome (R.remaining reader.old) (TextIs result) }
+    ensures failed { IfCannotRead result (R.has_failed reader.new) }
 {
-    let bytes = match read_whole(alloc, reader) {
+    let bytes = match reader.read_whole(alloc) {
         Ok(bytes) => bytes,
         Err(ReadFault::NoMemory) => return Err(InputFault::NoMemory),
         Err(ReadFault::CannotRead) => return Err(InputFault::CannotRead),
@@ -56,7 +58,8 @@ pub(crate) fn read_text<R: Read>(alloc: Global, reader: &mut R) -> Result<String
 
 // The text of a file, where it is there.
 fn file_text<F: Folder>(alloc: Global, folder: &F, name: &str) -> Result<Option<String>, InputFault>
-    ensures { IfSome (F.holds folder.now) (λ h. MatchResult result (λ t. FoundAs t (h name.now)) (λ e. FailsAs e (IsNoText (h name.now)))) }
+    ensures found { IfSome (F.holds folder.now) (λ h. MatchResult result (λ t. FoundAs t (h name.now)) (λ e. FailsAs e (IsNoText (h name.now)))) }
+    ensures failed { IfCannotRead result (SomeFile F.File.has_failed) }
 {
     match folder.open(name) {
         None => Ok(None),
@@ -73,7 +76,8 @@ pub(crate) fn gather<'a, F: Folder>(
     folder: &F,
     manifest: &'a str,
 ) -> Result<Vec<(&'a str, String)>, InputFault>
-    ensures { IfSome (F.holds folder.now) (λ h. Gathered h (named_in manifest.now) result) }
+    ensures gathered { IfSome (F.holds folder.now) (λ h. Gathered h (named_in manifest.now) result) }
+    ensures failed { IfCannotRead result (SomeFile F.File.has_failed) }
 {
     let names = named_files(alloc, manifest)?;
     let mut files = Vec::new(alloc);

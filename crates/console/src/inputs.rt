@@ -1,15 +1,16 @@
 // What a command reads beside a manifest and its files.
 
-ghost use Rattle.std.specs.Prelude.{◌≡◌, false, IfOk, IfSome, MatchResult};
-ghost use Rattle.console.specs.Input.{FailsAs};
+ghost use Rattle.std.specs.Prelude.{◌≡◌, ◌⊎◌, false, IfOk, IfSome, MatchResult};
+ghost use Rattle.console.specs.Files.{SomeFile};
+ghost use Rattle.console.specs.InputFaults.{FailsAs, IfCannotRead};
 ghost use Rattle.console.specs.Inputs.{all_texts};
 ghost use Rattle.console.specs.Gathering.{AreInputs, IsOfSome};
 
 use crate::catalogues::{Loaded, load};
 use crate::folder::Folder;
 use crate::input::{InputFault, gather, read_text};
+use crate::transfer::Source;
 use std::alloc::Global;
-use std::io::Read;
 
 /// The catalogue of a manifest, and another text.
 #[derive(Drop)]
@@ -25,7 +26,7 @@ pub struct Inputs {
 /// # Errors
 ///
 /// Where a read fails, memory runs out, or something is not UTF-8.
-pub fn read_inputs<F: Folder, R: Read, S: Read>(
+pub fn read_inputs<F: Folder, R: Source, S: Source>(
     alloc: Global,
     folder: &F,
     manifest: &mut R,
@@ -33,6 +34,7 @@ pub fn read_inputs<F: Folder, R: Read, S: Read>(
 ) -> Result<Inputs, InputFault>
     ensures known { IfSome (R.remaining manifest.old) (λ m. IfSome (F.holds folder.now) (λ h. IfSome (S.remaining text.old) (λ s. MatchResult result
         (AreInputs m h s) (λ e. FailsAs e (all_texts m h s ≡ false))))) }
+    ensures failed { IfCannotRead result (R.has_failed manifest.new ⊎ SomeFile F.File.has_failed ⊎ S.has_failed text.new) }
     ensures some { IfOk result (λ i. IsOfSome i.loaded) }
 {
     let lines = read_text(alloc, manifest)?;

@@ -6,9 +6,11 @@ mod calls;
 mod catalogues;
 mod commands;
 mod folder;
+pub mod in_memory;
 mod input;
 mod inputs;
 mod laws;
+mod memory;
 mod node;
 mod replay_texts;
 mod replaying;
@@ -26,7 +28,12 @@ mod transfer;
 pub use commands::{Setup, assemble, check, disassemble, replay, run, schedule};
 pub use folder::Folder;
 pub use laws::run_lines_are_runs;
+pub use memory::{Held, HeldFiles, Page};
 pub use status::Status;
+pub use transfer::{CannotWrite, ReadFault, Sink, Source};
+
+// What each command has to write, without a writer.
+pub use commands::{asm_reply, check_reply, dis_reply, replay_reply, run_reply, schedule_reply};
 
 // What an engine in a crate of its own is put together from, as `stress` is.
 pub use catalogues::Loaded;

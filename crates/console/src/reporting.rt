@@ -1,12 +1,14 @@
 // What a command answers, written.
 
-ghost use Rattle.console.specs.Report.{Sends, Writes};
+ghost use Rattle.std.specs.Prelude.{◌≡◌, ◌⊎◌, Err};
+ghost use Rattle.console.specs.declared.status.Status.TheVariants as statuses;
+ghost use Rattle.console.specs.declared.input.InputFault.TheVariants as faults;
+ghost use Rattle.console.specs.Report.{Failed, Sends, Writes};
 
 use crate::input::InputFault;
 use crate::status::{Status, Verdict, status_of};
 use crate::texts::{no_memory, not_text};
-use crate::transfer::send;
-use std::io::Write;
+use crate::transfer::Sink;
 
 /// What a command has to write, and how it then ends.
 #[derive(Drop)]
@@ -18,18 +20,20 @@ pub struct Reply {
 }
 
 // Writes a text, and ends so.
-fn write_text<W: Write>(writer: &mut W, text: &[u8], status: Status) -> Status
-    ensures { Sends (W.contents writer.old) (W.contents writer.new) result text.now status }
+fn write_text<W: Sink>(writer: &mut W, text: &[u8], status: Status) -> Status
+    ensures sent { Sends (W.contents writer.old) (W.contents writer.new) result text.now status }
+    ensures failed { (result ≡ status) ⊎ ((result ≡ statuses.CannotWrite) × W.has_failed writer.new) }
 {
-    match send(writer, text) {
+    match writer.send(text) {
         Ok(()) => status,
         Err(_) => Status::CannotWrite,
     }
 }
 
 /// Writes what a command answers, whole, after all is read. Says how it ended.
-pub fn report<W: Write>(writer: &mut W, answer: Result<Reply, InputFault>) -> Status
-    ensures { Writes (W.contents writer.old) (W.contents writer.new) result answer }
+pub fn report<W: Sink>(writer: &mut W, answer: Result<Reply, InputFault>) -> Status
+    ensures written { Writes (W.contents writer.old) (W.contents writer.new) result answer }
+    ensures failed { Failed result (answer ≡ Err faults.CannotRead) (W.has_failed writer.new) }
 {
     match answer {
         Ok(reply) => write_text(writer, &reply.text, status_of(reply.verdict)),

@@ -1,6 +1,6 @@
 //! Makes each call that takes memory once, and writes how it ended: as ever, with the numbered want of memory, or otherwise. Then each
-//! read and each write of the commands fails in turn. Where standard input has a byte, the calls alone are made: so `.ci/growths` runs
-//! it, once for each growth, which is refused.
+//! read and each write of the commands fails in turn, and last a writer takes 30 bytes and then fails. Where standard input has a byte,
+//! the calls alone are made: so `.ci/growths` runs it, once for each growth, which is refused.
 #![tactic(auto)]
 
 mod commands;
@@ -12,12 +12,14 @@ mod stores;
 mod streams;
 mod transfers;
 
+use console::Status;
 use endings::Ending;
 use std::alloc::Global;
-use std::io;
 use std::io::Read;
 use std::sync::Wait;
 use std::thread::Threads;
+use std::{io, str};
+use streams::{Narrow, Turns};
 
 // Whether the calls alone are asked for.
 fn is_for_calls(rt: &HostRuntime) -> bool {
@@ -80,6 +82,19 @@ fn write_transfers<R: Threads + Wait + Sync + Print>(rt: &R, alloc: Global) -> i
     Ok(())
 }
 
+// What stands where `run` was to write five lines, and its writer takes 30 bytes and then fails.
+fn write_cut_off<R: Print>(rt: &R, alloc: Global) -> io::Result<()> {
+    let writes = Turns::new(31);
+    let mut out = Narrow::new(&writes, true);
+    let status = transfers::counted(alloc, &mut out);
+    match str::from_utf8(out.text()) {
+        Ok(text) if status == Status::CannotWrite => {
+            println!(rt; "run into a writer that takes 30 bytes: {text}")
+        }
+        _ => println!(rt; "run into a writer that takes 30 bytes: another answer"),
+    }
+}
+
 fn main(rt: HostRuntime) -> io::Result<()> {
     let alloc = rt.alloc();
     let is_for_calls = is_for_calls(&rt);
@@ -89,5 +104,6 @@ fn main(rt: HostRuntime) -> io::Result<()> {
     if is_for_calls {
         return Ok(());
     }
-    write_transfers(&rt, alloc)
+    write_transfers(&rt, alloc)?;
+    write_cut_off(&rt, alloc)
 }

@@ -19,6 +19,14 @@ pub const MANIFEST: &str =
 /// Counts twice, and reads.
 pub const SCRIPT: &str = "bump 00000000\nbump 00000000\npeek 00000000\nbump 00\n";
 
+/// The counter with its map alone.
+pub const COUNTER: &str =
+    "map array 8 16\nprogram bump update 4 bump.hex\nprogram peek read 4 peek.hex\n";
+
+/// Five calls of it, of which the last names no program.
+pub const FIVE_CALLS: &str =
+    "bump 00000000\nbump 00000000\npeek 00000000\nbump 10000000\nnope 00\n";
+
 /// Counts once in a store of one node, and reads.
 pub const STEPS: &str =
     "post 0 0 bump 00000000\nclaim 0\nappend 0\nreplay 0\nfinish 0\nreply 0\ncollect 0 0\nreadbegin 0 1 peek 00000000\nreadanswer 0 1\n";

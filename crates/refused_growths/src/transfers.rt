@@ -1,9 +1,9 @@
 // Each read and each write of a command fails in turn.
 
 use crate::commands::ended;
-use crate::served::{Command, written};
-use crate::streams::{Narrow, Turns};
-use console::Status;
+use crate::served::{COUNTER, Command, FIVE_CALLS, written};
+use crate::streams::{Narrow, Programs, Slow, Turns};
+use console::{Status, run};
 use std::alloc::Global;
 use std::sync::Wait;
 use std::thread::Threads;
@@ -80,4 +80,13 @@ pub fn failed_in_turn<R: Threads + Wait + Sync>(
         }
     }
     Some(tried)
+}
+
+/// `run` on five calls of the counter.
+pub fn counted(alloc: Global, out: &mut Narrow<'_>) -> Status {
+    let reads = Turns::new(0);
+    let folder = Programs { turns: &reads };
+    let mut manifest = Slow::new(COUNTER, &reads);
+    let mut script = Slow::new(FIVE_CALLS, &reads);
+    run(alloc, &folder, &mut manifest, &mut script, out)
 }

@@ -1,3 +1,10 @@
 mod Script
 mod Texts
+pub mod Playing
 mod Told
+pub mod Dealt
+pub mod Asked
+pub mod Sizes
+pub mod Numbered
+pub mod OneHistory
+pub mod Transcripts

@@ -1,30 +1,27 @@
 -- What is answered, from what was read.
-use Rattle.std.proofs.Common.{◌≡◌, inr, ℕ, Bool, true, false, List, [], Option, Some, None, Result, Ok, Err, string_bytes, refl, sym, subst}
-use native.Mathlib.Nat.{not-suc-le-zero}
-use Rattle.std.specs.Prelude.{IfSome, MatchResult}
+use Rattle.std.proofs.Common.{◌≡◌, ◌∙◌, inl, inr, ap, ℕ, false, List, Option, Some, None, Result, Ok, Err, string_bytes, refl, sym, subst}
+use Rattle.std.specs.Prelude.{IfOk, IfSome, MatchResult}
 use Rattle.loader.specs.NamedFiles.{named_in}
 use Rattle.loader.specs.Loading.{Outcome, loaded}
 use Rattle.oplog.specs.declared.configuration.Config.{Config}
 use Rattle.console.specs.declared.status.Status.{Status}
-use Rattle.console.specs.declared.status.Verdict.TheVariants as verdicts
 use Rattle.console.specs.declared.inputs.Inputs.{Inputs}
 use Rattle.console.specs.declared.input.InputFault.{InputFault}
 use Rattle.console.specs.declared.input.InputFault.TheVariants as faults
 use Rattle.console.specs.declared.reporting.Reply.{Reply}
 use Rattle.console.specs.Files.{Contents, present}
-use Rattle.console.specs.Answer.{Answer, not_text, refusal_answer}
-use Rattle.console.specs.RunAnswer.{bad_line}
-use Rattle.console.specs.ScheduleAnswer.{are_sizes, sizes_refused}
+use Rattle.console.specs.Answer.{Answer, not_text}
 use Rattle.console.specs.Inputs.{all_texts}
-use Rattle.console.specs.Input.{FailsAs}
+use Rattle.console.specs.InputFaults.{FailsAs}
 use Rattle.console.specs.Loaded.{LoadedIs}
 use Rattle.console.specs.Gathering.{AreInputs, IsOfSome}
-use Rattle.console.specs.Report.{ReportsSome, Writes, answer_of}
-use Rattle.console.proofs.Reported.{sent, no_memory_sent, none_read}
-use Rattle.text.specs.Lines.{lines_of}
-use Rattle.stress.specs.Calls.{Called, script_calls}
-use Rattle.stress.specs.Lines.{transcript_text}
-use Rattle.stress.specs.StressAnswer.{IsScriptAnswer, BySizes, IsStressed, ByTexts, IsStressAnswer, IsSomeStressAnswer}
+use Rattle.console.specs.Report.{Sends, Writes, answer_of}
+use Rattle.console.specs.declared.status.Status.TheVariants as statuses
+use Rattle.console.specs.declared.status.Verdict.{Verdict}
+use Rattle.console.specs.declared.status.Verdict.TheVariants as verdicts
+use Rattle.console.specs.Status.{status_of}
+use Rattle.console.specs.Texts.{no_memory_line}
+use Rattle.stress.specs.StressAnswer.{IsStressed, ByTexts, IsStressAnswer, IsSomeStressAnswer, ReportsOne}
 
 -- where it may be unknown what there was to read
 module _ (r : Option (List ℕ)) (o : Option Contents) (q : Option (List ℕ)) where
@@ -41,40 +38,38 @@ module _ (r : Option (List ℕ)) (o : Option Contents) (q : Option (List ℕ)) w
       by (Some m) (Some h) None k = tt
       by (Some m) (Some h) (Some s) k = f m h s k
 
+-- ---- an answer, or the line that no memory is left
+
+module _ (IsOne : Answer → Type 0) (old new : Option (List ℕ)) (got : Status) where
+  one_sent : (a : Answer) → IsOne a → Sends old new got a.text (status_of a.verdict) → ReportsOne IsOne old new got
+  one_sent a one (inr broke) = subst (ReportsOne IsOne old new) (sym broke.0) (inl (a, one, broke.1))
+  one_sent a one (inl whole) = by a.verdict refl
+    where
+      by : (v : Verdict) → a.verdict ≡ v → ReportsOne IsOne old new got
+      by verdicts.Good is = let e = whole.0 ∙ ap status_of is in subst (ReportsOne IsOne old new) (sym e) (a, one, ap status_of (sym is), whole.1)
+      by verdicts.Refused is = let e = whole.0 ∙ ap status_of is in subst (ReportsOne IsOne old new) (sym e) (a, one, ap status_of (sym is), whole.1)
+      by verdicts.Differs is = let e = whole.0 ∙ ap status_of is in subst (ReportsOne IsOne old new) (sym e) (a, one, ap status_of (sym is), whole.1)
+
+  no_memory_sent : Sends old new got no_memory_line statuses.NoMemory → ReportsOne IsOne old new got
+  no_memory_sent (inl whole) = subst (ReportsOne IsOne old new) (sym whole.0) whole.1
+  no_memory_sent (inr broke) = subst (ReportsOne IsOne old new) (sym broke.0) (inr broke.1)
+
+  pub reports_one : (P : Type 0) → (P → IsOne not_text) → (prepared : Result Reply InputFault) → Writes old new got prepared → MatchResult prepared (λ x. IsOne (answer_of x)) (λ e. FailsAs e P)
+      → ReportsOne IsOne old new got
+  reports_one P bad (Ok x) wrote known = one_sent (answer_of x) known wrote
+  reports_one P bad (Err faults.NotText) wrote known = one_sent not_text (bad known) wrote
+  reports_one P bad (Err faults.NoMemory) wrote known = no_memory_sent wrote
+  reports_one P bad (Err faults.CannotRead) wrote known = subst (ReportsOne IsOne old new) (sym wrote.0) wrote.1
+
+  pub reports_some : IsOne not_text → (prepared : Result Reply InputFault) → Writes old new got prepared → IfOk prepared (λ x. IsOne (answer_of x)) → ReportsOne IsOne old new got
+  reports_some bad (Ok x) wrote known = one_sent (answer_of x) known wrote
+  reports_some bad (Err faults.NotText) wrote known = one_sent not_text bad wrote
+  reports_some bad (Err faults.NoMemory) wrote known = no_memory_sent wrote
+  reports_some bad (Err faults.CannotRead) wrote known = subst (ReportsOne IsOne old new) (sym wrote.0) wrote.1
+
 module _ (config : Config) where
-  -- there is always some answer
-  to_calls : (calls : Result (List Called) ℕ) → (a : Answer) × IsScriptAnswer calls a
-  to_calls (Ok calls) = (record { text = transcript_text []; verdict = verdicts.Good }, ([], (λ i j d low below. absurd (not-suc-le-zero below)), refl))
-  to_calls (Err n) = (bad_line n, refl)
-
-  by_sizes : (sizes : Bool) (calls : Result (List Called) ℕ) → (a : Answer) × BySizes sizes (IsScriptAnswer calls) a
-  by_sizes true calls = to_calls calls
-  by_sizes false calls = (sizes_refused, refl)
-
-  to_loaded : (outcome : Outcome) (script : List ℕ) → (a : Answer) × IsStressed config outcome script a
-  to_loaded (Ok c) script = by_sizes (are_sizes config) (script_calls c 1 (lines_of script))
-  to_loaded (Err refusal) script = (refusal_answer refusal, refl)
-
-  by_texts : (texts : Bool) (outcome : Outcome) (script : List ℕ) → (a : Answer) × ByTexts texts (IsStressed config outcome script) a
-  by_texts true outcome script = to_loaded outcome script
-  by_texts false outcome script = (not_text, refl)
-
-  module _ (m : List ℕ) (h : Contents) (s : List ℕ) where
-    abbrev Is : Answer → Type 0
-    Is a = IsStressAnswer config m h s a
-
-    some_answer : (a : Answer) × Is a
-    some_answer = by_texts (all_texts m h s) (loaded m (present h (named_in m))) s
-
-    refused : all_texts m h s ≡ false → Is not_text
-    refused off = subst (λ b. ByTexts b (IsStressed config (loaded m (present h (named_in m))) s) not_text) (sym off) refl
-
-    pub reports : (old new : Option (List ℕ)) (got : Status) (prepared : Result Reply InputFault) → Writes old new got prepared
-        → MatchResult prepared (λ x. Is (answer_of x)) (λ e. FailsAs e (all_texts m h s ≡ false)) → ReportsSome Is old new got
-    reports old new got (Ok x) wrote known = (answer_of x, known, sent old new got (answer_of x) wrote)
-    reports old new got (Err faults.NotText) wrote known = (not_text, refused known, sent old new got not_text wrote)
-    reports old new got (Err faults.NoMemory) wrote known = (some_answer.0, some_answer.1, no_memory_sent old new got some_answer.0 wrote)
-    reports old new got (Err faults.CannotRead) wrote known = (some_answer.0, some_answer.1, none_read old new got some_answer.0 wrote)
+  pub refused : (m : List ℕ) (h : Contents) (s : List ℕ) → all_texts m h s ≡ false → IsStressAnswer config m h s not_text
+  refused m h s off = subst (λ b. ByTexts b (IsStressed config (loaded m (present h (named_in m))) s) not_text) (sym off) refl
 
   module _ (i : Inputs) (a : Answer) (made : (outcome : Outcome) → LoadedIs outcome i.loaded → IsStressed config outcome (string_bytes i.text) a) where
     pub answered : (m : List ℕ) (h : Contents) (s : List ℕ) → AreInputs m h s i → IsStressAnswer config m h s a

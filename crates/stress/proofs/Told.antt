@@ -8,7 +8,7 @@ use Rattle.stress.specs.Lines.{AreOrdered, rank}
 use Rattle.stress.specs.Shown.{said_of, told_of}
 
 -- an element of a mapped list, whatever the defaults
-get_map : {A B : Type 0} (f : A → B) (xs : List A) (i : ℕ) (d : B) (e : A) → i < length xs → get_or (map f xs) i d ≡ f (get_or xs i e)
+pub get_map : {A B : Type 0} (f : A → B) (xs : List A) (i : ℕ) (d : B) (e : A) → i < length xs → get_or (map f xs) i d ≡ f (get_or xs i e)
 get_map f [] i d e below = absurd (not-suc-le-zero below)
 get_map f (x ∷ xs) zero d e below = refl
 get_map f (x ∷ xs) (suc i) d e below = get_map f xs i d e (le_of_suc-le-suc below)

@@ -1,7 +1,9 @@
 -- The lines of a transcript.
-use Rattle.std.specs.Prelude.{ℕ, ◌+◌, ◌*◌, ◌^◌, List, ◌++◌, codes, decimal}
+use Rattle.std.specs.Prelude.{ℕ, ◌+◌, ◌*◌, ◌^◌, Bool, true, false, List, ◌++◌, codes, decimal}
 use Rattle.std.specs.List.{flat_map}
 use Rattle.std.specs.List.Sorted.{IsNonDecreasingBy}
+use Rattle.verifier.specs.declared.refusal.Mode.{Mode}
+use Rattle.verifier.specs.declared.refusal.Mode.TheVariants.{Update, Read}
 use Rattle.stress.specs.Calls.{Called}
 
 -- what a session was told: the place of its update and the reply there, how many updates its read has seen and the reply, or that the
@@ -22,6 +24,13 @@ abbrev pub rank : Said → ℕ
 rank (Updated index reply) = 2 * index + 1
 rank (Seen point reply) = 2 * point
 rank Ended = 2 ^ 65
+
+-- an update is told its place or that the history has ended, a read what it has seen
+abbrev pub suits : Mode → Said → Bool
+suits Update (Updated index reply) = true
+suits Update Ended = true
+suits Read (Seen point reply) = true
+suits mode said = false
 
 abbrev pub AreOrdered : List ToldCall → Type 0
 AreOrdered told = IsNonDecreasingBy (λ t. rank t.said) told

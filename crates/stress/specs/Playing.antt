@@ -1,5 +1,5 @@
 -- What is kept while sessions make their calls. Clauses of private functions alone cite this.
-use Rattle.std.specs.Prelude.{◌≡◌, ℕ, List, length, Some, None}
+use Rattle.std.specs.Prelude.{◌≡◌, ◌⊎◌, ℕ, ◌-◌, ◌<◌, List, [], ◌∷◌, ◌++◌, map, length, slice_index_or, Option, Some, None, IfOk}
 use Rattle.std.specs.List.{All}
 use Rattle.loader.specs.CatalogueView.{CatalogueView}
 use Rattle.console.specs.Script.{ProgramCall, Call, line_meaning}
@@ -11,6 +11,19 @@ use Rattle.stress.specs.declared.calls.LineCall.TheVariants as lines
 use Rattle.stress.specs.declared.calls.ScriptCalls.{ScriptCalls}
 use Rattle.stress.specs.declared.calls.ScriptCalls.TheVariants as reads
 use Rattle.stress.specs.declared.players.Player.{Player}
+use Rattle.stress.specs.Calls.{Called}
+use Rattle.stress.specs.Dealt.{dealt}
+use Rattle.progress.specs.declared.sessions.Progress.{Progress}
+use Rattle.progress.specs.declared.sessions.AnsweredUpdate.{AnsweredUpdate}
+use Rattle.progress.specs.Accounts.{Extends}
+use Rattle.ownlock.specs.Seats.{At}
+use Rattle.oplog.specs.Operations.{Operation}
+use Rattle.stress.specs.declared.lines.Told.{Told}
+use Rattle.stress.specs.declared.lines.Said.{Said}
+use Rattle.stress.specs.declared.lines.Said.TheVariants as told
+use Rattle.stress.specs.Lines.{ToldCall}
+use Rattle.stress.specs.OneHistory.{IsSo, lines_at}
+use Rattle.stress.specs.Shown.{calls_told, told_of}
 
 -- no session of a store of this catalogue is refused this call before it is made
 pub record IsReady (c : CatalogueView) (call : ScriptCall) : Type 0 where
@@ -34,3 +47,77 @@ AreIn store n sessions = (length sessions ≡ n) × All (IsOf store) sessions
 -- the player's session is one of the store
 abbrev pub IsPlaying : StoreView → Player → Type 0
 IsPlaying store p = IsOf store p.session
+
+-- each session has its place as its number
+abbrev pub AreNumbered : List SessionView → Type 0
+AreNumbered sessions = (k : ℕ) (d : SessionView) → k < length sessions → (slice_index_or sessions k d).session ≡ k
+
+-- these players have the last of n sessions, the last one first
+abbrev pub AreLast : ℕ → List Player → Type 0
+AreLast n players = (k : ℕ) (d : Player) → k < length players → (slice_index_or players k d).session.session ≡ n - 1 - k
+
+-- the players were told the calls that are dealt to n sessions, the last session's player the first
+abbrev pub TellTheirs : ℕ → List (Option Called) → List Player → Type 0
+TellTheirs n calls players =
+    (k : ℕ) (d : Player) → k < length players → IfOk (slice_index_or players k d).told (λ v. calls_told v.items ≡ dealt n (n - 1 - k) calls)
+
+-- ---- what the sessions were told, in the history that they know
+
+-- what was told is so in the history of this progress
+abbrev pub IsSoIn : Progress CatalogueView → ToldCall → Type 0
+IsSoIn l t = IsSo l.catalogue l.config.limit l.history t
+
+-- each answered update of the session has its record in this history, and one line
+abbrev pub AreShown : Progress CatalogueView → SessionView → List ToldCall → Type 0
+AreShown l s lines =
+    (q : ℕ) (u : AnsweredUpdate) → At q u s.note.answered
+    → At u.place (record { author = s.session; seq = q; op = u.op }) l.history × (lines_at u.place lines ≡ 1)
+
+-- the session was answered an update at place i
+abbrev pub HasAnswered : ℕ → SessionView → Type 0
+HasAnswered i s = (q : ℕ) × (u : AnsweredUpdate) × At q u s.note.answered × (u.place ≡ i)
+
+-- the session was told all this, and no more
+pub record IsTold (s : SessionView) (told : List Told) : Type 0 where
+  pub so : All (IsSoIn s.progress) (map told_of told)
+  pub shown : AreShown s.progress s (map told_of told)
+  pub only : (i : ℕ) → (lines_at i (map told_of told) ≡ 0) ⊎ HasAnswered i s
+
+-- a session of the store that was told nothing yet
+abbrev pub IsNew : StoreView → SessionView → Type 0
+IsNew store s = IsOf store s × (s.note.answered ≡ [])
+
+-- so many of them, numbered by their places
+abbrev pub AreNew : StoreView → ℕ → List SessionView → Type 0
+AreNew store n sessions = (length sessions ≡ n) × All (IsNew store) sessions × AreNumbered sessions
+
+-- the answer to an update is in the session's note, with its record in the history
+abbrev pub IsNoted : (old new : SessionView) → Said → Type 0
+IsNoted old new (told.Updated a) = (op : Operation) × (new.note.answered ≡ old.note.answered ++ record { place = a.index; op = op } ∷ [])
+    × At a.index (record { author = old.session; seq = length old.note.answered; op = op }) new.progress.history
+IsNoted old new (told.Seen a) = new.note.answered ≡ old.note.answered
+IsNoted old new told.Ended = new.note.answered ≡ old.note.answered
+
+-- the session was told this by one call
+pub record IsAsked (old new : SessionView) (t : Told) : Type 0 where
+  pub session : new.session ≡ old.session
+  pub grown : Extends old.progress new.progress
+  pub so : IsSoIn new.progress (told_of t)
+  pub noted : IsNoted old new t.said
+
+-- all this is so in this history, each answered update of these sessions has one line, and there are no others
+pub record AreToldIn (l : Progress CatalogueView) (sessions : List SessionView) (told : List Told) : Type 0 where
+  pub so : All (IsSoIn l) (map told_of told)
+  pub shown : (k : ℕ) (s : SessionView) → At k s sessions → AreShown l s (map told_of told)
+  pub only : (i : ℕ) → (lines_at i (map told_of told) ≡ 0) ⊎ ((k : ℕ) × (s : SessionView) × At k s sessions × HasAnswered i s)
+
+-- the same in whatever has grown from what these sessions know, if each is numbered by its place
+abbrev pub AreTold : List SessionView → List Told → Type 0
+AreTold sessions told =
+    (l : Progress CatalogueView) → ((k : ℕ) (s : SessionView) → At k s sessions → Extends s.progress l × (s.session ≡ k)) → AreToldIn l sessions told
+
+abbrev pub IsNewPlayer : StoreView → Player → Type 0
+IsNewPlayer store p = IsNew store p.session
+
+abbrev pub IsToldPlayer : Player → Type 0
+IsToldPlayer p = IfOk p.told (λ v. IsTold p.session v.items)

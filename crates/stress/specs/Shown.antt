@@ -1,5 +1,5 @@
 -- What the calls of a script and the answers to them are, without where their texts lie. Clauses of private functions alone cite this.
-use Rattle.std.specs.Prelude.{◌≡◌, ℕ, List, [], ◌∷◌, map, Option, Some, None, Result, Ok, Err}
+use Rattle.std.specs.Prelude.{◌≡◌, ℕ, List, [], ◌∷◌, map, Option, Some, None, Result, Ok, Err, if◌then◌else◌}
 use Rattle.stress.specs.declared.calls.ScriptCall.{ScriptCall}
 use Rattle.stress.specs.declared.calls.ScriptCalls.{ScriptCalls}
 use Rattle.stress.specs.declared.calls.LineCall.{LineCall}
@@ -10,7 +10,7 @@ use Rattle.stress.specs.declared.lines.Said.{Said}
 use Rattle.stress.specs.declared.lines.Said.TheVariants as told
 use Rattle.stress.specs.Calls.{Called}
 use Rattle.stress.specs.Lines as said
-use Rattle.stress.specs.Lines.{ToldCall}
+use Rattle.stress.specs.Lines.{ToldCall, suits}
 
 abbrev pub called : ScriptCall → Called
 called c = record { line = c.line.now; program = c.program; mode = c.mode }
@@ -35,3 +35,14 @@ said_of told.Ended = said.Ended
 
 abbrev pub told_of : Told → ToldCall
 told_of t = record { call = called t.call.now; said = said_of t.said }
+
+-- the call of a told one, if what was said suits it
+abbrev pub told_call : Told → Option Called
+told_call t = if suits t.call.now.mode (said_of t.said) then Some (called t.call.now) else None
+
+abbrev pub calls_told : List Told → List (Option Called)
+calls_told told = map told_call told
+
+-- the calls of a script, as they are to be told
+abbrev pub to_be_told : List ScriptCall → List (Option Called)
+to_be_told calls = map (λ c. Some (called c)) calls

@@ -1,13 +1,15 @@
 // The command `stress`.
 
-ghost use Rattle.std.specs.Prelude.{◌≡◌, All, IfOk, IfSome, MatchResult, false};
+ghost use Rattle.std.specs.Prelude.{◌≡◌, ◌⊎◌, All, map, IfOk, IfSome, MatchResult, false};
 ghost use Rattle.oplog.specs.Limits.{IsConfig};
 ghost use Rattle.loader.specs.Loading.{Outcome};
-ghost use Rattle.console.specs.Report.{answer_of, ReportsSome};
-ghost use Rattle.console.specs.Input.{FailsAs};
+ghost use Rattle.console.specs.Files.{SomeFile};
+ghost use Rattle.console.specs.Report.{answer_of, Failed};
+ghost use Rattle.console.specs.InputFaults.{FailsAs, IfCannotRead};
 ghost use Rattle.console.specs.Inputs.{all_texts};
 ghost use Rattle.console.specs.Loaded.{LoadedIs};
-ghost use Rattle.stress.specs.StressAnswer.{IsTranscript, IsCatalogueAnswer, IsStressed, IsStressAnswer, IsSomeStressAnswer};
+ghost use Rattle.stress.specs.StressAnswer.{IsTranscript, IsCatalogueAnswer, IsStressed, IsStressAnswer, IsSomeStressAnswer, ReportsOne};
+ghost use Rattle.stress.specs.Shown.{called};
 ghost use Rattle.stress.specs.Playing.{IsReady};
 
 use crate::calls::{ScriptCall, ScriptCalls, read_calls};
@@ -15,13 +17,12 @@ use crate::gate::Gate;
 use crate::lines::transcript;
 use crate::sharing::tell_all;
 use console::{
-    Folder, InputFault, Loaded, Reply, Status, Verdict, bad_line, read_inputs, report,
-    sizes_refused,
+    Folder, InputFault, Loaded, Reply, Sink, Source, Status, Verdict, bad_line, read_inputs,
+    report, sizes_refused,
 };
 use loader::Catalogue;
 use oplog::Config;
 use std::alloc::{AllocError, Global};
-use std::io::{Read, Write};
 use std::sync::Wait;
 use std::thread::Threads;
 
@@ -47,7 +48,7 @@ fn calls_reply<R: Threads + Wait + Sync, F: Folder, G: Gate + Sync>(
 ) -> Result<Reply, AllocError>
     requires config { IsConfig trial.now.config }
     requires ready { All (IsReady catalogue) calls.now }
-    ensures { IfOk result (λ r. IsTranscript (answer_of r)) }
+    ensures { IfOk result (λ r. IsTranscript trial.now.config catalogue (map called calls.now) (answer_of r)) }
 {
     let told = tell_all(rt, trial, catalogue, calls)?;
     Ok(Reply {
@@ -96,7 +97,7 @@ fn loaded_reply<R: Threads + Wait + Sync, F: Folder, G: Gate + Sync>(
 }
 
 // What `stress` has to write.
-fn prepare<R: Threads + Wait + Sync, F: Folder, G: Gate + Sync, M: Read, S: Read>(
+fn prepare<R: Threads + Wait + Sync, F: Folder, G: Gate + Sync, M: Source, S: Source>(
     rt: &R,
     trial: &Trial<'_, F, G>,
     manifest: &mut M,
@@ -104,6 +105,7 @@ fn prepare<R: Threads + Wait + Sync, F: Folder, G: Gate + Sync, M: Read, S: Read
 ) -> Result<Reply, InputFault>
     ensures known { IfSome (M.remaining manifest.old) (λ m. IfSome (F.holds trial.now.folder.now) (λ h. IfSome (S.remaining script.old) (λ s. MatchResult result
         (λ r. IsStressAnswer trial.now.config m h s (answer_of r)) (λ e. FailsAs e (all_texts m h s ≡ false))))) }
+    ensures failed { IfCannotRead result (M.has_failed manifest.new ⊎ SomeFile F.File.has_failed ⊎ S.has_failed script.new) }
     ensures some { IfOk result (λ r. IsSomeStressAnswer trial.now.config (answer_of r)) }
 {
     let inputs = read_inputs(trial.alloc, trial.folder, manifest, script)?;
@@ -118,7 +120,7 @@ fn prepare<R: Threads + Wait + Sync, F: Folder, G: Gate + Sync, M: Read, S: Read
 /// manifest with an argument of its length, no comment and not empty writes `line N bad`, and no thread starts. Sizes out of their
 /// limits write `refused O1`, a refused manifest only its refusal. Says how it ended. Each file is read whole before anything is
 /// written. Where a read fails, nothing is written.
-pub fn stress<R: Threads + Wait + Sync, F: Folder, G: Gate + Sync, M: Read, S: Read, W: Write>(
+pub fn stress<R: Threads + Wait + Sync, F: Folder, G: Gate + Sync, M: Source, S: Source, W: Sink>(
     rt: &R,
     trial: &Trial<'_, F, G>,
     manifest: &mut M,
@@ -127,9 +129,11 @@ pub fn stress<R: Threads + Wait + Sync, F: Folder, G: Gate + Sync, M: Read, S: R
 ) -> Status
     // Where the readers and the folder tell their bytes, those calls are made.
     ensures written { IfSome (M.remaining manifest.old) (λ m. IfSome (F.holds trial.now.folder.now) (λ h. IfSome (S.remaining script.old) (λ s.
-        ReportsSome (IsStressAnswer trial.now.config m h s) (W.contents writer.old) (W.contents writer.new) result))) }
+        ReportsOne (IsStressAnswer trial.now.config m h s) (W.contents writer.old) (W.contents writer.new) result))) }
+    // It says that a read or a write failed only after one did.
+    ensures failed { Failed result (M.has_failed manifest.new ⊎ SomeFile F.File.has_failed ⊎ S.has_failed script.new) (W.has_failed writer.new) }
     // Whatever they give, or where they fail.
-    ensures ended { ReportsSome (IsSomeStressAnswer trial.now.config) (W.contents writer.old) (W.contents writer.new) result }
+    ensures ended { ReportsOne (IsSomeStressAnswer trial.now.config) (W.contents writer.old) (W.contents writer.new) result }
 {
     let prepared = prepare(rt, trial, manifest, script);
     report(writer, prepared)

@@ -1,8 +1,10 @@
 // The sessions, each with its own lines of the script.
 
-ghost use Rattle.std.specs.Prelude.{◌≡◌, ◌<◌, All};
+ghost use Rattle.std.specs.Prelude.{◌≡◌, ◌<◌, [], All, IfOk, drop, Some};
 ghost use Rattle.store.specs.Sessions.{IsOf};
-ghost use Rattle.stress.specs.Playing.{IsReady};
+ghost use Rattle.stress.specs.Dealt.{dealt};
+ghost use Rattle.stress.specs.Shown.{called, told_call, calls_told, to_be_told};
+ghost use Rattle.stress.specs.Playing.{IsReady, IsAsked, IsTold, IsToldPlayer};
 
 use crate::calls::ScriptCall;
 use crate::gate::Gate;
@@ -24,10 +26,9 @@ pub(crate) struct Playground<'s, 'a, G> {
     pub sessions: usize,
 }
 
-// A session, its number, and what it was told.
+// A session, and what it was told.
 pub(crate) struct Player<'a> {
     pub session: Session,
-    pub number: usize,
     pub told: Result<Vec<Told<'a>>, AllocError>,
 }
 
@@ -41,6 +42,8 @@ fn ask<'a, R: Wait>(
     requires own { IsOf store.now session.old }
     requires ready { IsReady store.now.catalogue call.now }
     ensures own { IsOf store.now session.new }
+    ensures call { told_call result ≡ Some (called call.now) }
+    ensures told { IsAsked session.old session.new result }
 {
     let Some(ScriptLine::Call(line)) = read_line(call.line) else {
         unreachable!()
@@ -59,7 +62,15 @@ fn ask<'a, R: Wait>(
     Told { call, said }
 }
 
-// Makes the calls of the session of this number: one of each round of as many calls as there are sessions.
+// The calls behind the first n.
+fn behind<'a>(calls: &'a [ScriptCall<'a>], n: usize) -> &'a [ScriptCall<'a>]
+    ensures { result.now ≡ drop n calls.now }
+{
+    let (_, rest) = calls.split_at(n.min(calls.len()));
+    rest
+}
+
+// Makes the calls of the session of this number: those that are dealt to it.
 fn ask_all<'a, R: Wait, G: Gate>(
     rt: &R,
     ground: &Playground<'_, 'a, G>,
@@ -67,30 +78,39 @@ fn ask_all<'a, R: Wait, G: Gate>(
     number: usize,
 ) -> Result<Vec<Told<'a>>, AllocError>
     requires own { IsOf ground.now.store.now session.old }
+    requires new { session.old.note.answered ≡ [] }
     requires ready { All (IsReady ground.now.store.now.catalogue) ground.now.calls.now }
     requires some { 0 < ground.now.sessions }
     ensures own { IsOf ground.now.store.now session.new }
+    ensures calls { IfOk result (λ v. calls_told v.items ≡ dealt ground.now.sessions number (to_be_told ground.now.calls.now)) }
+    ensures told { IfOk result (λ v. IsTold session.new v.items) }
+    ensures number { session.new.session ≡ session.old.session }
 {
     let mut told = Vec::with_capacity(ground.alloc, ground.calls.len() / ground.sessions + 1)?;
-    for round in ground.calls.chunks(ground.sessions) {
-        if let Some(call) = round.get(number) {
-            ground.gate.before(number as u64);
-            told.push(ask(rt, ground.store, session, call))?;
-        }
+    let mut left = behind(ground.calls, number);
+    while let Some((call, rest)) = left.split_first() {
+        ground.gate.before(number as u64);
+        told.push(ask(rt, ground.store, session, call))?;
+        left = behind(rest, ground.sessions - 1);
     }
     Ok(told)
 }
 
-// Lets a session make its calls.
+// Lets the session of this number make its calls.
 pub(crate) fn play<'a, R: Wait, G: Gate>(
     rt: &R,
     ground: &Playground<'_, 'a, G>,
+    number: usize,
     player: &mut Player<'a>,
 )
     requires own { IsOf ground.now.store.now player.old.session }
+    requires new { player.old.session.note.answered ≡ [] }
     requires ready { All (IsReady ground.now.store.now.catalogue) ground.now.calls.now }
     requires some { 0 < ground.now.sessions }
     ensures own { IsOf ground.now.store.now player.new.session }
+    ensures calls { IfOk player.new.told (λ v. calls_told v.items ≡ dealt ground.now.sessions number (to_be_told ground.now.calls.now)) }
+    ensures told { IsToldPlayer player.new }
+    ensures number { player.new.session.session ≡ player.old.session.session }
 {
-    player.told = ask_all(rt, ground, &mut player.session, player.number);
+    player.told = ask_all(rt, ground, &mut player.session, number);
 }

@@ -1,9 +1,15 @@
 // One store for all threads: it is opened, each session makes its calls on a thread of its own, and it is closed.
 
-ghost use Rattle.std.specs.Prelude.{◌≡◌, ◌+◌, ◌*◌, ◌≤◌, ◌<◌, [], length, All, IfOk, vec_capacity};
+ghost use Rattle.std.specs.Prelude.{◌≡◌, ◌+◌, ◌-◌, ◌*◌, ◌≤◌, ◌<◌, ◌++◌, List, [], length, Option, All, map, IfOk, MatchResult, vec_capacity};
 ghost use Rattle.oplog.specs.Limits.{IsConfig};
+ghost use Rattle.store.specs.Opening.{ClosedView, IsClosed};
 ghost use Rattle.store.specs.Sessions.{IsOf, StoreView};
-ghost use Rattle.stress.specs.Playing.{IsReady, AreIn, IsPlaying};
+ghost use Rattle.stress.specs.Calls.{Called};
+ghost use Rattle.stress.specs.Dealt.{dealt, dealt_to};
+ghost use Rattle.stress.specs.OneHistory.{IsOfOneHistory};
+ghost use Rattle.stress.specs.Shown.{calls_told, to_be_told, told_of};
+ghost use Rattle.stress.specs.StressAnswer.{session_count};
+ghost use Rattle.stress.specs.Playing.{IsReady, AreIn, AreLast, AreNew, AreNumbered, AreTold, IsNew, IsNewPlayer, IsPlaying, IsToldPlayer, TellTheirs};
 
 use crate::calls::ScriptCall;
 use crate::engine::Trial;
@@ -27,7 +33,7 @@ fn open(
     requires config { IsConfig config }
     ensures catalogue { IfOk result (λ t. t.0.catalogue ≡ catalogue) }
     ensures sizes { IfOk result (λ t. t.0.config ≡ config) }
-    ensures sessions { IfOk result (λ t. AreIn t.0 (config.nodes * config.slots) t.1.items) }
+    ensures sessions { IfOk result (λ t. AreNew t.0 (config.nodes * config.slots) t.1.items) }
 {
     match Store::open(alloc, config, catalogue) {
         Ok(opened) => Ok(opened),
@@ -39,6 +45,7 @@ fn open(
 // Ends the store, once all its sessions are back.
 fn close(store: Store, sessions: Vec<Session>)
     requires whole { AreIn store (store.config.nodes * store.config.slots) sessions.items }
+    ensures closed { (closed : ClosedView) × IsClosed store sessions.items closed }
 {
     match store.close(sessions) {
         Ok(closed) => drop(closed),
@@ -46,18 +53,18 @@ fn close(store: Store, sessions: Vec<Session>)
     }
 }
 
-// Each session becomes a player with its number, the last one first.
+// Each session becomes a player, the last one first.
 fn enter<'a>(alloc: Global, sessions: &mut Vec<Session>, players: &mut Vec<Player<'a>>)
     requires empty { players.old.items ≡ [] }
     requires room { length sessions.old.items ≤ vec_capacity players.old }
     ensures gone { (sessions.new.items ≡ []) × (vec_capacity sessions.new ≡ vec_capacity sessions.old) }
     ensures count { length players.new.items ≡ length sessions.old.items }
-    ensures playing { (store : StoreView) → All (IsOf store) sessions.old.items → All (IsPlaying store) players.new.items }
+    ensures playing { (store : StoreView) → All (IsNew store) sessions.old.items → All (IsNewPlayer store) players.new.items }
+    ensures numbers { AreNumbered sessions.old.items → AreLast (length sessions.old.items) players.new.items }
 {
     while let Some(session) = sessions.pop() {
         players.push_reserved(Player {
             session,
-            number: sessions.len(),
             told: Ok(Vec::new(alloc)),
         });
     }
@@ -67,7 +74,11 @@ fn enter<'a>(alloc: Global, sessions: &mut Vec<Session>, players: &mut Vec<Playe
 fn joined<'a>(
     told: Result<Vec<Told<'a>>, AllocError>,
     more: Result<Vec<Told<'a>>, AllocError>,
-) -> Result<Vec<Told<'a>>, AllocError> {
+) -> Result<Vec<Told<'a>>, AllocError>
+    ensures told { (a b : List (Option Called)) → IfOk told.entry (λ v. calls_told v.items ≡ a) → IfOk more.entry (λ v. calls_told v.items ≡ b)
+        → IfOk result (λ v. calls_told v.items ≡ a ++ b) }
+    ensures all { IfOk result (λ v. MatchResult told.entry (λ a. MatchResult more.entry (λ b. v.items ≡ a.items ++ b.items) (λ _. ⊥)) (λ _. ⊥)) }
+{
     let mut told = told?;
     let mut more = more?;
     told.append(&mut more)?;
@@ -85,14 +96,14 @@ fn leave<'a>(
     ensures gone { players.new.items ≡ [] }
     ensures count { length sessions.new.items ≡ length players.old.items }
     ensures own { (store : StoreView) → All (IsPlaying store) players.old.items → All (IsOf store) sessions.new.items }
+    ensures told { (calls : List (Option Called)) → TellTheirs (length players.old.items) calls players.old.items
+        → IfOk result (λ v. calls_told v.items ≡ dealt_to (length players.old.items) calls) }
+    ensures known { All IsToldPlayer players.old.items → IfOk result (λ v. AreTold sessions.new.items v.items) }
+    ensures numbers { AreLast (length players.old.items) players.old.items → AreNumbered sessions.new.items }
 {
     let mut all = Ok(Vec::new(alloc));
     while let Some(player) = players.pop() {
-        let Player {
-            session,
-            number: _,
-            told,
-        } = player;
+        let Player { session, told } = player;
         sessions.push_reserved(session);
         all = joined(all, told);
     }
@@ -107,18 +118,26 @@ fn play_together<'a, R: Threads + Wait + Sync, G: Gate + Sync>(
 )
     requires some { 0 < ground.now.sessions }
     requires ready { All (IsReady ground.now.store.now.catalogue) ground.now.calls.now }
-    requires playing { All (IsPlaying ground.now.store.now) players.old }
+    requires playing { All (IsNewPlayer ground.now.store.now) players.old }
+    requires all { length players.old ≡ ground.now.sessions }
+    requires numbers { AreLast ground.now.sessions players.old }
     ensures playing { All (IsPlaying ground.now.store.now) players.new }
+    ensures told { TellTheirs ground.now.sessions (to_be_told ground.now.calls.now) players.new }
+    ensures known { All IsToldPlayer players.new }
+    ensures numbers { AreLast ground.now.sessions players.new }
 {
     thread::for_each_mut(
         rt,
         players,
         ground.sessions,
-        &|_number: usize, player: &mut Player|
-            requires { IsOf ground.now.store.now player.now.session × All (IsReady ground.now.store.now.catalogue) ground.now.calls.now
-                × (0 < ground.now.sessions) }
-            ensures { IsOf ground.entry.now.store.now player.exit.now.session }
-        { play(rt, ground, player) },
+        &|place: usize, player: &mut Player|
+            requires { IsNew ground.now.store.now player.now.session × All (IsReady ground.now.store.now.catalogue) ground.now.calls.now
+                × (place < ground.now.sessions) × (player.now.session.session ≡ ground.now.sessions - 1 - place) }
+            ensures { IsOf ground.entry.now.store.now player.exit.now.session
+                × IfOk player.exit.now.told (λ v. calls_told v.items
+                ≡ dealt ground.entry.now.sessions (ground.entry.now.sessions - 1 - place) (to_be_told ground.entry.now.calls.now))
+                × IsToldPlayer player.exit.now × (player.exit.now.session.session ≡ ground.entry.now.sessions - 1 - place) }
+        { play(rt, ground, ground.sessions - 1 - place, player) },
     );
 }
 
@@ -130,10 +149,13 @@ fn play_all<'a, R: Threads + Wait + Sync, G: Gate + Sync>(
     mut players: Vec<Player<'a>>,
 ) -> Result<Vec<Told<'a>>, AllocError>
     requires some { 0 < ground.now.sessions }
-    requires all { AreIn ground.now.store.now ground.now.sessions sessions.old.items }
+    requires all { AreNew ground.now.store.now ground.now.sessions sessions.old.items }
     requires ready { All (IsReady ground.now.store.now.catalogue) ground.now.calls.now }
     requires room { (players.items ≡ []) × (ground.now.sessions ≤ vec_capacity players) }
     ensures back { AreIn ground.now.store.now ground.now.sessions sessions.new.items }
+    ensures told { IfOk result (λ v. calls_told v.items ≡ dealt_to ground.now.sessions (to_be_told ground.now.calls.now)) }
+    ensures known { IfOk result (λ v. AreTold sessions.new.items v.items) }
+    ensures numbers { AreNumbered sessions.new.items }
 {
     enter(ground.alloc, sessions, &mut players);
     play_together(rt, ground, &mut players);
@@ -151,6 +173,8 @@ pub(crate) fn tell_all<'a, R: Threads + Wait + Sync, F, G: Gate + Sync>(
 ) -> Result<Vec<Told<'a>>, AllocError>
     requires config { IsConfig trial.now.config }
     requires ready { All (IsReady catalogue) calls.now }
+    ensures told { IfOk result (λ v. calls_told v.items ≡ dealt_to (session_count trial.now.config) (to_be_told calls.now)) }
+    ensures one { IfOk result (λ v. IsOfOneHistory catalogue trial.now.config.limit (map told_of v.items)) }
 {
     let (alloc, config) = (trial.alloc, trial.config);
     let count = (config.nodes * config.slots) as usize;

@@ -4,16 +4,16 @@ ghost use Rattle.std.specs.Prelude.{◌≡◌, IfOk, IfSome, MatchResult};
 ghost use Rattle.asm.specs.Assembled.{assembled};
 ghost use Rattle.console.specs.Answer.{not_text};
 ghost use Rattle.console.specs.AsmAnswer.{assembled_answer, asm_answer, IsAsmAnswer};
-ghost use Rattle.console.specs.Report.{answer_of, Reports, ReportsSome};
-ghost use Rattle.console.specs.Input.{FailsAs};
+ghost use Rattle.console.specs.Report.{answer_of, Failed, Reports, ReportsSome};
+ghost use Rattle.console.specs.InputFaults.{FailsAs, IfCannotRead};
 
 use crate::asm_texts::{asm_refusal_text, hex_line};
 use crate::input::{InputFault, read_text};
 use crate::reporting::{Reply, report};
 use crate::status::{Status, Verdict};
+use crate::transfer::{Sink, Source};
 use asm::AsmError;
 use std::alloc::{AllocError, Global};
-use std::io::{Read, Write};
 
 // What an assembler text gets.
 fn source_reply(alloc: Global, source: &str) -> Result<Reply, AllocError>
@@ -32,10 +32,11 @@ fn source_reply(alloc: Global, source: &str) -> Result<Reply, AllocError>
     }
 }
 
-// What `asm` has to write.
-fn prepare<R: Read>(alloc: Global, source: &mut R) -> Result<Reply, InputFault>
+/// What `asm` has to write.
+pub fn asm_reply<R: Source>(alloc: Global, source: &mut R) -> Result<Reply, InputFault>
     ensures known { IfSome (R.remaining source.old) (λ s. MatchResult result
         (λ r. answer_of r ≡ asm_answer s) (λ e. FailsAs e (asm_answer s ≡ not_text))) }
+    ensures failed { IfCannotRead result (R.has_failed source.new) }
     ensures some { IfOk result (λ r. IsAsmAnswer (answer_of r)) }
 {
     let text = read_text(alloc, source)?;
@@ -47,12 +48,14 @@ fn prepare<R: Read>(alloc: Global, source: &mut R) -> Result<Reply, InputFault>
 /// Writes the program's bytes in hexadecimal digits with lower-case letters, in one line, or the one line of the first
 /// refusal, `line N: A4`, and says how it ended. The text is read whole before anything is written. Where a read fails,
 /// nothing is written.
-pub fn assemble<R: Read, W: Write>(alloc: Global, source: &mut R, writer: &mut W) -> Status
+pub fn assemble<R: Source, W: Sink>(alloc: Global, source: &mut R, writer: &mut W) -> Status
     // Where the reader tells its bytes, those are assembled.
     ensures written { IfSome (R.remaining source.old) (λ s.
         Reports (W.contents writer.old) (W.contents writer.new) result (asm_answer s)) }
+    // It says that a read or a write failed only after one did.
+    ensures failed { Failed result (R.has_failed source.new) (W.has_failed writer.new) }
     // Whatever it gives, or where it fails.
     ensures ended { ReportsSome IsAsmAnswer (W.contents writer.old) (W.contents writer.new) result }
 {
-    report(writer, prepare(alloc, source))
+    report(writer, asm_reply(alloc, source))
 }

@@ -1,10 +1,12 @@
 // The command `check`.
 
-ghost use Rattle.std.specs.Prelude.{◌≡◌, IfOk, IfSome, MatchResult};
+ghost use Rattle.std.specs.Prelude.{◌≡◌, ◌⊎◌, IfOk, IfSome, MatchResult};
 ghost use Rattle.loader.specs.Loading.{loaded};
 ghost use Rattle.console.specs.Answer.{loaded_answer, check_answer, IsCheckAnswer, not_text};
-ghost use Rattle.console.specs.Report.{answer_of, Reports, ReportsSome};
-ghost use Rattle.console.specs.Input.{FailsAs, owned_files};
+ghost use Rattle.console.specs.Files.{SomeFile};
+ghost use Rattle.console.specs.Report.{answer_of, Failed, Reports, ReportsSome};
+ghost use Rattle.console.specs.InputFaults.{FailsAs, IfCannotRead};
+ghost use Rattle.console.specs.Input.{owned_files};
 
 use crate::catalogues::{Loaded, load};
 use crate::folder::Folder;
@@ -12,8 +14,8 @@ use crate::input::{InputFault, gather, read_text};
 use crate::reporting::{Reply, report};
 use crate::status::{Status, Verdict};
 use crate::texts::programs_text;
+use crate::transfer::{Sink, Source};
 use std::alloc::{AllocError, Global};
-use std::io::{Read, Write};
 
 // What a manifest and its files get.
 fn loaded_reply(
@@ -32,14 +34,15 @@ fn loaded_reply(
     }
 }
 
-// What `check` has to write: the manifest is read first, then the files that it names, then it is loaded.
-fn prepare<F: Folder, R: Read>(
+/// What `check` has to write: the manifest is read first, then the files that it names, then it is loaded.
+pub fn check_reply<F: Folder, R: Source>(
     alloc: Global,
     folder: &F,
     manifest: &mut R,
 ) -> Result<Reply, InputFault>
     ensures known { IfSome (R.remaining manifest.old) (λ m. IfSome (F.holds folder.now) (λ h. MatchResult result
         (λ r. answer_of r ≡ check_answer m h) (λ e. FailsAs e (check_answer m h ≡ not_text)))) }
+    ensures failed { IfCannotRead result (R.has_failed manifest.new ⊎ SomeFile F.File.has_failed) }
     ensures some { IfOk result (λ r. IsCheckAnswer (answer_of r)) }
 {
     let text = read_text(alloc, manifest)?;
@@ -51,7 +54,7 @@ fn prepare<F: Folder, R: Read>(
 ///
 /// Writes a line `NAME ok SLOTS INSTRUCTIONS` for each program, or the one line of the refusal, and says
 /// how it ended. Each file is read whole before anything is written. Where a read fails, nothing is written.
-pub fn check<F: Folder, R: Read, W: Write>(
+pub fn check<F: Folder, R: Source, W: Sink>(
     alloc: Global,
     folder: &F,
     manifest: &mut R,
@@ -60,8 +63,10 @@ pub fn check<F: Folder, R: Read, W: Write>(
     // Where the reader and the folder tell their bytes, those are checked.
     ensures written { IfSome (R.remaining manifest.old) (λ m. IfSome (F.holds folder.now) (λ h.
         Reports (W.contents writer.old) (W.contents writer.new) result (check_answer m h))) }
+    // It says that a read or a write failed only after one did.
+    ensures failed { Failed result (R.has_failed manifest.new ⊎ SomeFile F.File.has_failed) (W.has_failed writer.new) }
     // Whatever they give, or where they fail.
     ensures ended { ReportsSome IsCheckAnswer (W.contents writer.old) (W.contents writer.new) result }
 {
-    report(writer, prepare(alloc, folder, manifest))
+    report(writer, check_reply(alloc, folder, manifest))
 }

@@ -5,16 +5,16 @@ ghost use Rattle.insn.specs.Decoded.{decoded};
 ghost use Rattle.text.specs.Digits.{spaced_bytes};
 ghost use Rattle.console.specs.Answer.{not_text};
 ghost use Rattle.console.specs.AsmAnswer.{decoded_answer, bytes_answer, dis_answer, IsDisAnswer};
-ghost use Rattle.console.specs.Report.{answer_of, Reports, ReportsSome};
-ghost use Rattle.console.specs.Input.{FailsAs};
+ghost use Rattle.console.specs.Report.{answer_of, Failed, Reports, ReportsSome};
+ghost use Rattle.console.specs.InputFaults.{FailsAs, IfCannotRead};
 
 use crate::asm_texts::{bad_hex, decode_refusal_text};
 use crate::input::{InputFault, read_text};
 use crate::reporting::{Reply, report};
 use crate::status::{Status, Verdict};
+use crate::transfer::{Sink, Source};
 use insn::{DecodeError, decode};
 use std::alloc::{AllocError, Global};
-use std::io::{Read, Write};
 use text::spaced_hex;
 
 // What the bytes of a program file get.
@@ -47,10 +47,11 @@ fn file_reply(alloc: Global, digits: &str) -> Result<Reply, AllocError>
     }
 }
 
-// What `dis` has to write.
-fn prepare<R: Read>(alloc: Global, program: &mut R) -> Result<Reply, InputFault>
+/// What `dis` has to write.
+pub fn dis_reply<R: Source>(alloc: Global, program: &mut R) -> Result<Reply, InputFault>
     ensures known { IfSome (R.remaining program.old) (λ s. MatchResult result
         (λ r. answer_of r ≡ dis_answer s) (λ e. FailsAs e (dis_answer s ≡ not_text))) }
+    ensures failed { IfCannotRead result (R.has_failed program.new) }
     ensures some { IfOk result (λ r. IsDisAnswer (answer_of r)) }
 {
     let text = read_text(alloc, program)?;
@@ -62,12 +63,14 @@ fn prepare<R: Read>(alloc: Global, program: &mut R) -> Result<Reply, InputFault>
 /// Writes the program's canonical text, an instruction a line, or one line that says why there is no program, `bad hex` or
 /// `D8 slot 0`, and says how it ended. The file is read whole before anything is written. Where a read fails, nothing is
 /// written.
-pub fn disassemble<R: Read, W: Write>(alloc: Global, program: &mut R, writer: &mut W) -> Status
+pub fn disassemble<R: Source, W: Sink>(alloc: Global, program: &mut R, writer: &mut W) -> Status
     // Where the reader tells its bytes, those are disassembled.
     ensures written { IfSome (R.remaining program.old) (λ s.
         Reports (W.contents writer.old) (W.contents writer.new) result (dis_answer s)) }
+    // It says that a read or a write failed only after one did.
+    ensures failed { Failed result (R.has_failed program.new) (W.has_failed writer.new) }
     // Whatever it gives, or where it fails.
     ensures ended { ReportsSome IsDisAnswer (W.contents writer.old) (W.contents writer.new) result }
 {
-    report(writer, prepare(alloc, program))
+    report(writer, dis_reply(alloc, program))
 }

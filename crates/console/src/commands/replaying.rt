@@ -1,12 +1,13 @@
 // The command `replay`.
 
-ghost use Rattle.std.specs.Prelude.{◌≡◌, IfOk, IfSome, MatchResult};
+ghost use Rattle.std.specs.Prelude.{◌≡◌, ◌⊎◌, IfOk, IfSome, MatchResult};
 ghost use Rattle.loader.specs.Loading.{Outcome};
 ghost use Rattle.text.specs.Lines.{lines_of};
 ghost use Rattle.console.specs.Answer.{not_text};
 ghost use Rattle.console.specs.ReplayAnswer.{transcript_answer, nothing_replayed, replayed, replay_answer, IsReplayAnswer};
-ghost use Rattle.console.specs.Report.{answer_of, Reports, ReportsSome};
-ghost use Rattle.console.specs.Input.{FailsAs};
+ghost use Rattle.console.specs.Files.{SomeFile};
+ghost use Rattle.console.specs.Report.{answer_of, Failed, Reports, ReportsSome};
+ghost use Rattle.console.specs.InputFaults.{FailsAs, IfCannotRead};
 ghost use Rattle.console.specs.Loaded.{LoadedIs};
 ghost use Rattle.console.specs.Replaying.{ended_answer};
 
@@ -18,9 +19,9 @@ use crate::replay_texts::put_end;
 use crate::replaying::{ReplayEnd, Replaying};
 use crate::reporting::{Reply, report};
 use crate::status::Status;
+use crate::transfer::{Sink, Source};
 use loader::Catalogue;
 use std::alloc::{AllocError, Global};
-use std::io::{Read, Write};
 
 // What is answered where a replay ended so.
 fn end_reply(alloc: Global, end: ReplayEnd, replaying: &Replaying) -> Result<Reply, AllocError>
@@ -55,8 +56,8 @@ fn loaded_reply(alloc: Global, loaded: Loaded, transcript: &str) -> Result<Reply
     }
 }
 
-// What `replay` has to write.
-fn prepare<F: Folder, R: Read, S: Read>(
+/// What `replay` has to write.
+pub fn replay_reply<F: Folder, R: Source, S: Source>(
     alloc: Global,
     folder: &F,
     manifest: &mut R,
@@ -64,6 +65,7 @@ fn prepare<F: Folder, R: Read, S: Read>(
 ) -> Result<Reply, InputFault>
     ensures known { IfSome (R.remaining manifest.old) (λ m. IfSome (F.holds folder.now) (λ h. IfSome (S.remaining transcript.old) (λ s. MatchResult result
         (λ r. answer_of r ≡ replay_answer m h s) (λ e. FailsAs e (replay_answer m h s ≡ not_text))))) }
+    ensures failed { IfCannotRead result (R.has_failed manifest.new ⊎ SomeFile F.File.has_failed ⊎ S.has_failed transcript.new) }
     ensures some { IfOk result (λ r. IsReplayAnswer (answer_of r)) }
 {
     let inputs = read_inputs(alloc, folder, manifest, transcript)?;
@@ -78,7 +80,7 @@ fn prepare<F: Folder, R: Read, S: Read>(
 /// line for the first line that is not so: `line N bad` where it is no line of a transcript or names no program of its mode
 /// with an argument of its length, and otherwise `line N differs`. A refused manifest writes only its refusal. Says how it
 /// ended. Each file is read whole before anything is written. Where a read fails, nothing is written.
-pub fn replay<F: Folder, R: Read, S: Read, W: Write>(
+pub fn replay<F: Folder, R: Source, S: Source, W: Sink>(
     alloc: Global,
     folder: &F,
     manifest: &mut R,
@@ -88,8 +90,10 @@ pub fn replay<F: Folder, R: Read, S: Read, W: Write>(
     // Where the readers and the folder tell their bytes, those are replayed.
     ensures written { IfSome (R.remaining manifest.old) (λ m. IfSome (F.holds folder.now) (λ h. IfSome (S.remaining transcript.old) (λ s.
         Reports (W.contents writer.old) (W.contents writer.new) result (replay_answer m h s)))) }
+    // It says that a read or a write failed only after one did.
+    ensures failed { Failed result (R.has_failed manifest.new ⊎ SomeFile F.File.has_failed ⊎ S.has_failed transcript.new) (W.has_failed writer.new) }
     // Whatever they give, or where they fail.
     ensures ended { ReportsSome IsReplayAnswer (W.contents writer.old) (W.contents writer.new) result }
 {
-    report(writer, prepare(alloc, folder, manifest, transcript))
+    report(writer, replay_reply(alloc, folder, manifest, transcript))
 }

@@ -1,11 +1,12 @@
 // The command `run`.
 
-ghost use Rattle.std.specs.Prelude.{◌≡◌, [], IfOk, IfSome, MatchResult};
+ghost use Rattle.std.specs.Prelude.{◌≡◌, ◌⊎◌, [], IfOk, IfSome, MatchResult};
 ghost use Rattle.loader.specs.Loading.{Outcome};
 ghost use Rattle.console.specs.Answer.{not_text};
 ghost use Rattle.console.specs.RunAnswer.{behind, script_answer, ran, run_answer, IsRunAnswer};
-ghost use Rattle.console.specs.Report.{answer_of, Reports, ReportsSome};
-ghost use Rattle.console.specs.Input.{FailsAs};
+ghost use Rattle.console.specs.Files.{SomeFile};
+ghost use Rattle.console.specs.Report.{answer_of, Failed, Reports, ReportsSome};
+ghost use Rattle.console.specs.InputFaults.{FailsAs, IfCannotRead};
 ghost use Rattle.console.specs.Loaded.{LoadedIs};
 ghost use Rattle.console.specs.Running.{IsSteady, Follows};
 
@@ -18,9 +19,9 @@ use crate::node::SingleNode;
 use crate::reporting::{Reply, report};
 use crate::run_texts::put_bad_line;
 use crate::status::{Status, Verdict};
+use crate::transfer::{Sink, Source};
 use loader::Catalogue;
 use std::alloc::{AllocError, Global};
-use std::io::{Read, Write};
 use text::NumberedLines;
 
 // Runs the lines of a script up to the first bad one, and tells whether the script is good.
@@ -79,8 +80,8 @@ fn loaded_reply(alloc: Global, loaded: Loaded, script: &str) -> Result<Reply, Al
     }
 }
 
-// What `run` has to write.
-fn prepare<F: Folder, R: Read, S: Read>(
+/// What `run` has to write.
+pub fn run_reply<F: Folder, R: Source, S: Source>(
     alloc: Global,
     folder: &F,
     manifest: &mut R,
@@ -88,6 +89,7 @@ fn prepare<F: Folder, R: Read, S: Read>(
 ) -> Result<Reply, InputFault>
     ensures known { IfSome (R.remaining manifest.old) (λ m. IfSome (F.holds folder.now) (λ h. IfSome (S.remaining script.old) (λ s. MatchResult result
         (λ r. answer_of r ≡ run_answer m h s) (λ e. FailsAs e (run_answer m h s ≡ not_text))))) }
+    ensures failed { IfCannotRead result (R.has_failed manifest.new ⊎ SomeFile F.File.has_failed ⊎ S.has_failed script.new) }
     ensures some { IfOk result (λ r. IsRunAnswer (answer_of r)) }
 {
     let inputs = read_inputs(alloc, folder, manifest, script)?;
@@ -102,7 +104,7 @@ fn prepare<F: Folder, R: Read, S: Read>(
 /// call, comment or empty line writes `line N bad` and ends the run. A refused manifest writes only its
 /// refusal. Says how it ended. Each file is read whole before anything is written. Where a read fails, nothing is
 /// written.
-pub fn run<F: Folder, R: Read, S: Read, W: Write>(
+pub fn run<F: Folder, R: Source, S: Source, W: Sink>(
     alloc: Global,
     folder: &F,
     manifest: &mut R,
@@ -112,8 +114,10 @@ pub fn run<F: Folder, R: Read, S: Read, W: Write>(
     // Where the readers and the folder tell their bytes, those are run.
     ensures written { IfSome (R.remaining manifest.old) (λ m. IfSome (F.holds folder.now) (λ h. IfSome (S.remaining script.old) (λ s.
         Reports (W.contents writer.old) (W.contents writer.new) result (run_answer m h s)))) }
+    // It says that a read or a write failed only after one did.
+    ensures failed { Failed result (R.has_failed manifest.new ⊎ SomeFile F.File.has_failed ⊎ S.has_failed script.new) (W.has_failed writer.new) }
     // Whatever they give, or where they fail.
     ensures ended { ReportsSome IsRunAnswer (W.contents writer.old) (W.contents writer.new) result }
 {
-    report(writer, prepare(alloc, folder, manifest, script))
+    report(writer, run_reply(alloc, folder, manifest, script))
 }

@@ -1,12 +1,13 @@
 // The command `schedule`.
 
-ghost use Rattle.std.specs.Prelude.{◌≡◌, length, IfOk, IfSome, MatchResult};
+ghost use Rattle.std.specs.Prelude.{◌≡◌, ◌⊎◌, length, IfOk, IfSome, MatchResult};
 ghost use Rattle.loader.specs.Loading.{Outcome};
 ghost use Rattle.text.specs.Lines.{lines_of};
 ghost use Rattle.console.specs.Answer.{not_text};
 ghost use Rattle.console.specs.ScheduleAnswer.{sizes_refused as refused_sizes, steps_answer, catalogue_answer, scheduled, schedule_answer, IsScheduleAnswer};
-ghost use Rattle.console.specs.Report.{answer_of, Reports, ReportsSome};
-ghost use Rattle.console.specs.Input.{FailsAs};
+ghost use Rattle.console.specs.Files.{SomeFile};
+ghost use Rattle.console.specs.Report.{answer_of, Failed, Reports, ReportsSome};
+ghost use Rattle.console.specs.InputFaults.{FailsAs, IfCannotRead};
 ghost use Rattle.console.specs.Loaded.{LoadedIs};
 ghost use Rattle.console.specs.RunAnswer.{behind};
 
@@ -19,11 +20,11 @@ use crate::run_texts::put_bad_line;
 use crate::schedule_texts::{put_end, sizes_refused};
 use crate::status::{Status, Verdict};
 use crate::stepping::take_step_line;
+use crate::transfer::{Sink, Source};
 use loader::Catalogue;
 use oplog::{Config, OpenError};
 use schedule::World;
 use std::alloc::{AllocError, Global};
-use std::io::{Read, Write};
 use text::NumberedLines;
 
 /// What a store is opened with beside its manifest.
@@ -116,20 +117,21 @@ fn loaded_reply(
     }
 }
 
-// What `schedule` has to write.
-fn prepare<F: Folder, R: Read, S: Read>(
+/// What `schedule` has to write.
+pub fn schedule_reply<F: Folder, R: Source, S: Source>(
     alloc: Global,
-    folder: &F,
-    config: Config,
+    setup: Setup<'_, F>,
     manifest: &mut R,
     steps: &mut S,
 ) -> Result<Reply, InputFault>
-    ensures known { IfSome (R.remaining manifest.old) (λ m. IfSome (F.holds folder.now) (λ h. IfSome (S.remaining steps.old) (λ s. MatchResult result
-        (λ r. answer_of r ≡ schedule_answer config m h s) (λ e. FailsAs e (schedule_answer config m h s ≡ not_text))))) }
-    ensures some { IfOk result (λ r. IsScheduleAnswer config (answer_of r)) }
+    ensures known { IfSome (R.remaining manifest.old) (λ m. IfSome (F.holds setup.entry.folder.now) (λ h. IfSome (S.remaining steps.old) (λ s.
+        MatchResult result (λ r. answer_of r ≡ schedule_answer setup.entry.config m h s)
+        (λ e. FailsAs e (schedule_answer setup.entry.config m h s ≡ not_text))))) }
+    ensures failed { IfCannotRead result (R.has_failed manifest.new ⊎ SomeFile F.File.has_failed ⊎ S.has_failed steps.new) }
+    ensures some { IfOk result (λ r. IsScheduleAnswer setup.entry.config (answer_of r)) }
 {
-    let inputs = read_inputs(alloc, folder, manifest, steps)?;
-    Ok(loaded_reply(alloc, config, inputs.loaded, inputs.text.as_str())?)
+    let inputs = read_inputs(alloc, setup.folder, manifest, steps)?;
+    Ok(loaded_reply(alloc, setup.config, inputs.loaded, inputs.text.as_str())?)
 }
 
 /// Takes a list of steps, one after another, on a new store of these sizes with the maps and the programs of a manifest.
@@ -138,7 +140,7 @@ fn prepare<F: Folder, R: Read, S: Read>(
 /// changes nothing; behind the last step where the log and each node's replica are. A line that is no step, comment or empty
 /// line writes `line N bad` and ends it. Sizes out of their limits write `refused O1`, a refused manifest only its refusal.
 /// Says how it ended. Each file is read whole before anything is written. Where a read fails, nothing is written.
-pub fn schedule<F: Folder, R: Read, S: Read, W: Write>(
+pub fn schedule<F: Folder, R: Source, S: Source, W: Sink>(
     alloc: Global,
     setup: Setup<'_, F>,
     manifest: &mut R,
@@ -148,11 +150,10 @@ pub fn schedule<F: Folder, R: Read, S: Read, W: Write>(
     // Where the readers and the folder tell their bytes, those steps are taken.
     ensures written { IfSome (R.remaining manifest.old) (λ m. IfSome (F.holds setup.entry.folder.now) (λ h. IfSome (S.remaining steps.old) (λ s.
         Reports (W.contents writer.old) (W.contents writer.new) result (schedule_answer setup.entry.config m h s)))) }
+    // It says that a read or a write failed only after one did.
+    ensures failed { Failed result (R.has_failed manifest.new ⊎ SomeFile F.File.has_failed ⊎ S.has_failed steps.new) (W.has_failed writer.new) }
     // Whatever they give, or where they fail.
     ensures ended { ReportsSome (IsScheduleAnswer setup.entry.config) (W.contents writer.old) (W.contents writer.new) result }
 {
-    report(
-        writer,
-        prepare(alloc, setup.folder, setup.config, manifest, steps),
-    )
+    report(writer, schedule_reply(alloc, setup, manifest, steps))
 }

@@ -9,7 +9,7 @@ pub returns-in-Ok-from_utf8 : goal.returns-in-Ok-from_utf8
 returns-in-Ok-from_utf8 g c =
     let same = c.in-Ok-from_utf8.ensures.ok in
     let text : is_text c.in-Ok-from_utf8.text.bytes.items ≡ true = is_utf8-from_IsUtf8 _ (IsUtf8-had _ c.in-Ok-from_utf8.text.ok) in
-    text_found _ c.in-Ok-from_utf8.text c.in-Ok.bytes.items c.in-Ok.ensures (ap (λ v. v.items) same) (sym (ap (λ v. is_text v.items) same) ∙ text)
+    record { text = text_found (g.R.Source.remaining c.args.reader.now) c.in-Ok-from_utf8.text c.in-Ok.bytes.items c.in-Ok.ensures.whole (ap (λ v. v.items) same) (sym (ap (λ v. is_text v.items) same) ∙ text); failed = tt }
 
 pub returns : goal.returns
-returns g c = no_text _ c.in-Ok.bytes.items c.in-Ok.ensures (not_text_from_err _ (λ t. false≢true (c.in-Err.ensures.succeeds t)))
+returns g c = record { text = no_text (g.R.Source.remaining c.args.reader.now) c.in-Ok.bytes.items c.in-Ok.ensures.whole (not_text_from_err _ (λ t. false≢true (c.in-Err.ensures.succeeds t))); failed = tt }

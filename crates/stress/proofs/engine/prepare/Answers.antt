@@ -14,7 +14,7 @@ pub returns-clause-known : goal.returns-clause-known
 returns-clause-known g c =
     let i = c.in_ok-inputs.inputs in
     let a = answer_of c.in_ok-loaded_reply.field-0 in
-    as_known (g.M.Read.remaining c.args.manifest.now) (g.F.Folder.holds c.args.trial.now.folder.now) (g.S.Read.remaining c.args.script.now)
+    as_known (g.M.Source.remaining c.args.manifest.now) (g.F.Folder.holds c.args.trial.now.folder.now) (g.S.Source.remaining c.args.script.now)
     (λ m h s. AreInputs m h s i) (λ m h s. IsStressAnswer c.args.trial.now.config m h s a)
     (answered c.args.trial.now.config i a (rw c.as_str.ensures.value at c.in_ok-loaded_reply.ensures)) c.in_ok-inputs.ensures.known
 

@@ -1,11 +1,14 @@
 use Rattle.std.proofs.Common.{inl, refl}
 use Rattle.console.specs.AsmAnswer.{asm_answer, IsAsmAnswer}
-use Rattle.console.proofs.Reported.{reports_some, reports_text}
+use Rattle.console.proofs.Reported.{failed_only, reports_some, reports_text}
 use Rattle.console.proofs.commands.assembling.assemble.Goals as goal
 
 pub returns-clause-ended : goal.returns-clause-ended
-returns-clause-ended g c = reports_some IsAsmAnswer (inl refl) (g.W.Write.contents c.args.writer.now) (g.W.Write.contents c.report.new.writer) c.report.result c.prepare.result c.report.ensures c.prepare.ensures.some
+returns-clause-ended g c = reports_some IsAsmAnswer (inl refl) (g.W.Sink.contents c.args.writer.now) (g.W.Sink.contents c.report.new.writer) c.report.result c.asm_reply.result c.report.ensures.written c.asm_reply.ensures.some
 
 pub returns-clause-written : goal.returns-clause-written
 returns-clause-written g c =
-    reports_text asm_answer (g.R.Read.remaining c.args.source.now) (g.W.Write.contents c.args.writer.now) (g.W.Write.contents c.report.new.writer) c.report.result c.prepare.result c.report.ensures c.prepare.ensures.known
+    reports_text asm_answer (g.R.Source.remaining c.args.source.now) (g.W.Sink.contents c.args.writer.now) (g.W.Sink.contents c.report.new.writer) c.report.result c.asm_reply.result c.report.ensures.written c.asm_reply.ensures.known
+
+pub returns-clause-failed : goal.returns-clause-failed
+returns-clause-failed g c = failed_only _ _ c.report.result c.asm_reply.result c.report.ensures.failed c.asm_reply.ensures.failed

@@ -1,12 +1,15 @@
 use Rattle.std.proofs.Common.{inl, refl}
 use Rattle.console.specs.ScheduleAnswer.{schedule_answer, IsScheduleAnswer}
-use Rattle.console.proofs.Reported.{reports_some, reports_known}
+use Rattle.console.proofs.Reported.{failed_only, reports_some, reports_known}
 use Rattle.console.proofs.commands.scheduling.schedule.Goals as goal
 
 pub returns-clause-ended : goal.returns-clause-ended
-returns-clause-ended g c = reports_some (IsScheduleAnswer c.args.setup.config) (inl refl) (g.W.Write.contents c.args.writer.now) (g.W.Write.contents c.report.new.writer) c.report.result c.prepare.result c.report.ensures c.prepare.ensures.some
+returns-clause-ended g c = reports_some (IsScheduleAnswer c.args.setup.config) (inl refl) (g.W.Sink.contents c.args.writer.now) (g.W.Sink.contents c.report.new.writer) c.report.result c.schedule_reply.result c.report.ensures.written c.schedule_reply.ensures.some
 
 pub returns-clause-written : goal.returns-clause-written
 returns-clause-written g c =
-    reports_known (schedule_answer c.args.setup.config) (g.R.Read.remaining c.args.manifest.now) (g.F.Folder.holds c.args.setup.folder.now) (g.S.Read.remaining c.args.steps.now) (g.W.Write.contents c.args.writer.now) (g.W.Write.contents c.report.new.writer)
-    c.report.result c.prepare.result c.report.ensures c.prepare.ensures.known
+    reports_known (schedule_answer c.args.setup.config) (g.R.Source.remaining c.args.manifest.now) (g.F.Folder.holds c.args.setup.folder.now) (g.S.Source.remaining c.args.steps.now) (g.W.Sink.contents c.args.writer.now) (g.W.Sink.contents c.report.new.writer)
+    c.report.result c.schedule_reply.result c.report.ensures.written c.schedule_reply.ensures.known
+
+pub returns-clause-failed : goal.returns-clause-failed
+returns-clause-failed g c = failed_only _ _ c.report.result c.schedule_reply.result c.report.ensures.failed c.schedule_reply.ensures.failed

@@ -1,0 +1,42 @@
+use Rattle.std.proofs.Common.{◌≡◌, ◌∙◌, ◌-◌, [], All, refl, sym, ap, subst, rules}
+use Rattle.std.proofs.lemmas.List.Elements.{All-head, All-tail, All-drop}
+use Rattle.stress.specs.Dealt.{dealt}
+use Rattle.stress.specs.Shown.{to_be_told}
+use Rattle.stress.specs.Playing.{IsReady}
+use Rattle.stress.proofs.Dealt.{skipped, drop_map}
+use Rattle.stress.proofs.Asked.{one_call, one_more}
+use Rattle.stress.proofs.OneHistory.{none_told, asked_more}
+use Rattle.stress.proofs.players.ask_all.Goals as goal
+
+pub loop-call-init : goal.loop-call-init
+loop-call-init g c =
+    let ground = c.args.ground.now in
+    let calls = to_be_told ground.calls.now in
+    let empty : c.in_ok-told.told.items ≡ [] = search rules in (
+      c.requires.own,
+      rw c.behind-left.ensures (All-drop (IsReady ground.store.now.catalogue) c.args.number ground.calls.now c.requires.ready),
+      rw (empty, c.behind-left.ensures) (ap (dealt ground.sessions 0) (sym (drop_map one_call c.args.number ground.calls.now)) ∙ sym (skipped ground.sessions c.args.number calls)),
+      rw empty (none_told c.args.session.now c.requires.new),
+      refl,
+    )
+
+pub ask-requires-clause-ready : goal.ask-requires-clause-ready
+ask-requires-clause-ready g c =
+    let Ready = IsReady c.args.ground.now.store.now.catalogue in
+    All-head Ready c.in-Some.call.now c.in-Some.rest.now (subst (All Ready) c.in-Some.ensures.cases.0 c.loop-call.invariant.1)
+
+pub loop-call-preserved : goal.loop-call-preserved
+loop-call-preserved g c =
+    let ground = c.args.ground.now in
+    let Ready = IsReady ground.store.now.catalogue in
+    let call = c.in-Some.call.now in
+    let rest = c.in-Some.rest.now in
+    let first = c.in-Some.ensures.cases.0 in
+    let ready = All-tail Ready call rest (subst (All Ready) first c.loop-call.invariant.1) in (
+      c.ask.ensures.own,
+      rw c.behind-left-in-Some.ensures (All-drop Ready (ground.sessions - 1) rest ready),
+      rw c.in_ok-push.ensures.items (one_more ground.sessions c.loop-call.told.items c.ask.result call c.loop-call.left.now rest c.behind-left-in-Some.result.now
+          c.ask.ensures.call first c.behind-left-in-Some.ensures ∙ c.loop-call.invariant.2),
+      rw c.in_ok-push.ensures.items (asked_more c.loop-call.session c.ask.new.session c.loop-call.told.items c.ask.result c.loop-call.invariant.3 c.ask.ensures.told),
+      c.ask.ensures.told.session ∙ c.loop-call.invariant.4,
+    )

@@ -1,0 +1,16 @@
+-- The first page's example: one program, which replies 5.
+use Rattle.std.specs.Prelude.{ℕ, List, codes, Some, None, bytes_eq, if◌then◌else◌}
+use Rattle.console.specs.declared.status.Verdict.TheVariants as verdicts
+use Rattle.console.specs.Files.{Contents}
+use Rattle.console.specs.Answer.{Answer}
+
+abbrev pub five_manifest : List ℕ
+five_manifest = codes "map array 8 16\nprogram five update 0 five.hex\n"
+
+-- a folder with one file
+abbrev pub five_folder : Contents
+five_folder name = if bytes_eq (codes "five.hex") name then Some (codes "b7000000050000009500000000000000") else None
+
+-- what `check` answers
+abbrev pub five_checked : Answer
+five_checked = record { text = codes "five ok 2 2\n"; verdict = verdicts.Good }
