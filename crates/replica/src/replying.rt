@@ -38,6 +38,20 @@ impl Replies {
         }
     }
 
+    /// The first of the places.
+    pub fn first(&self) -> u64
+        ensures first { result ≡ self.now.first }
+    {
+        self.first
+    }
+
+    /// How many places there are.
+    pub fn len(&self) -> usize
+        ensures count { result ≡ length self.now.outcomes }
+    {
+        self.outcomes[..self.count].len()
+    }
+
     /// The outcome of the record at place `first + k`; `None` while it has not been replayed.
     pub fn get(&self, k: usize) -> Option<Outcome>
         requires within { k < length self.now.outcomes }

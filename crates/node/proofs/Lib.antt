@@ -1,0 +1,3 @@
+-- What a replay keeps, as one function of the records; and the loop that sets the answers.
+pub mod Keeping
+pub mod Answers

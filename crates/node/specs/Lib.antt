@@ -1,0 +1,3 @@
+-- To be believed: when a node may take a step, what the step makes of its replica and of the log, and how a batch is answered.
+pub mod Following
+pub mod Answering

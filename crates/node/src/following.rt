@@ -1,0 +1,162 @@
+// A node's replica with the records that were copied for it, and its steps on a log.
+
+ghost use Rattle.std.specs.Prelude.{◌≡◌, ◌≤◌, ◌<◌, true, length};
+ghost use Rattle.maps.specs.Maps.{shapes_of};
+ghost use Rattle.oplog.specs.declared.configuration.TheConstants.{MAX_LIMIT};
+ghost use Rattle.oplog.specs.Logs.{tail_of};
+ghost use Rattle.replica.specs.Replaying.{KeepsOutcomes};
+ghost use Rattle.node.specs.Following.{IsNext, Fits, may_append, grown, copied, replies_for, is_above, has_next, replayed, replies_after, may_finish, told, may_reclaim, reclaimed, may_rebase, rebased, may_answer, may_reply};
+
+use loader::Catalogue;
+use oplog::{CopyAnswer, Hand, LogState, Record};
+use readpath::ready;
+use replica::{Replica, Replies};
+
+/// A node's replica, and the hand that takes the records which it has still to apply.
+#[derive(Drop)]
+pub struct NodeReplica {
+    /// The maps, and how many operations were applied to them.
+    pub replica: Replica,
+    /// The records that were copied and not applied yet.
+    pub hand: Hand,
+}
+
+/// Whether the log has what the replica lacks, and room for as many of these records as the history may still have.
+pub fn may_append(log: &LogState, node: &NodeReplica, records: &[Record]) -> bool
+    ensures may { result ≡ may_append records.now log.now node.now }
+{
+    log.base() <= node.replica.tail() && records.len().min(log.left()) <= log.room()
+}
+
+/// Appends as many of the records, from the first on, as the history may still have, and copies what the replica lacks into the hand.
+/// The replies that it answers keep the places of those that were appended, and no outcome yet.
+pub fn append(log: &mut LogState, node: &mut NodeReplica, records: &[Record]) -> Replies
+    requires may { may_append records.now log.old node.old ≡ true }
+    requires fits { Fits log.old node.old }
+    requires few { length records.now ≤ 16 }
+    ensures log { log.new ≡ grown records.now log.old }
+    ensures node { node.new ≡ copied log.new node.old }
+    ensures replies { result ≡ replies_for records.now log.old }
+    ensures within { tail_of log.new ≤ MAX_LIMIT }
+{
+    let first = log.tail();
+    let count = match log.append(records) {
+        Ok(appended) => appended.count,
+        Err(_) => 0,
+    };
+    copy(log, node);
+    Replies::new(first, count)
+}
+
+/// Copies what the replica lacks into the hand. The log has all of it.
+pub fn copy(log: &LogState, node: &mut NodeReplica)
+    requires above { is_above log.now node.old ≡ true }
+    requires fits { Fits log.now node.old }
+    ensures node { node.new ≡ copied log.now node.old }
+    ensures within { tail_of log.now ≤ MAX_LIMIT }
+{
+    match log.copy_from(node.replica.tail(), &mut node.hand) {
+        CopyAnswer::Copied => {}
+        CopyAnswer::Below(_) => unreachable!(),
+    }
+}
+
+/// Whether there is a record for the replica to apply: in the hand, or in the log.
+pub fn has_next(log: &LogState, node: &NodeReplica) -> bool
+    ensures next { result ≡ has_next log.now node.now }
+{
+    let tail = node.replica.tail();
+    !node.hand.is_empty() || (log.base() <= tail && tail < log.tail())
+}
+
+/// Applies the records of the hand to the replica, and keeps the outcomes of those that have a place in the replies.
+pub fn replay(node: &mut NodeReplica, catalogue: &Catalogue, replies: &mut Replies)
+    requires next { IsNext catalogue.now node.old }
+    ensures node { node.new ≡ replayed catalogue.now node.old }
+    ensures shapes { shapes_of node.new.replica.maps ≡ shapes_of node.old.replica.maps }
+    ensures replies { replies.new ≡ replies_after catalogue.now node.old replies.old }
+    ensures kept { KeepsOutcomes catalogue.now node.old.replica.maps node.old.replica.tail node.old.hand.records replies.old replies.new }
+{
+    node.replica.replay(&mut node.hand, catalogue, replies);
+}
+
+/// Copies what the replica lacks, and applies it, while the log is lent. The log has all of it.
+pub fn follow(log: &LogState, node: &mut NodeReplica, catalogue: &Catalogue)
+    requires above { is_above log.now node.old ≡ true }
+    requires fits { Fits log.now node.old }
+    requires next { IsNext catalogue.now (copied log.now node.old) }
+    ensures node { node.new ≡ replayed catalogue.now (copied log.now node.old) }
+    ensures shapes { shapes_of node.new.replica.maps ≡ shapes_of node.old.replica.maps }
+    ensures within { tail_of log.now ≤ MAX_LIMIT }
+{
+    copy(log, node);
+    let mut replies = Replies::new(0, 0);
+    replay(node, catalogue, &mut replies);
+}
+
+/// Whether the replica is past so many completed operations.
+pub fn may_finish(done: u64, node: &NodeReplica) -> bool
+    ensures may { result ≡ may_finish done node.now }
+{
+    done < node.replica.tail()
+}
+
+/// Tells the log that all is completed that the replica has applied, which the log has.
+pub fn finish(log: &mut LogState, node: &NodeReplica)
+    requires within { node.now.replica.tail ≤ tail_of log.old }
+    ensures log { log.new ≡ told node.now log.old }
+{
+    log.raise_done(node.replica.tail());
+}
+
+/// Whether the replica is past the log's base, and no further than the operations that are completed: so many.
+pub fn may_reclaim(done: u64, log: &LogState, node: &NodeReplica) -> bool
+    ensures may { result ≡ may_reclaim done log.now node.now }
+{
+    let tail = node.replica.tail();
+    log.base() < tail && tail <= done
+}
+
+/// Makes the replica the log's base, and drops the records before it. All that the replica has applied is completed, and the log is
+/// told so.
+pub fn reclaim(log: &mut LogState, node: &NodeReplica)
+    requires above { log.old.base < node.now.replica.tail }
+    requires within { node.now.replica.tail ≤ tail_of log.old }
+    requires shapes { shapes_of node.now.replica.maps ≡ shapes_of log.old.base_maps }
+    ensures log { log.new ≡ reclaimed node.now (told node.now log.old) }
+{
+    finish(log, node);
+    log.reclaim(node.replica.tail(), node.replica.maps());
+}
+
+/// Whether the replica is behind the log's base, and its hand is empty.
+pub fn may_rebase(log: &LogState, node: &NodeReplica) -> bool
+    ensures may { result ≡ may_rebase log.now node.now }
+{
+    node.replica.tail() < log.base() && node.hand.is_empty()
+}
+
+/// Makes the log's base the replica, which lies below it.
+pub fn rebase(log: &LogState, node: &mut NodeReplica)
+    requires may { may_rebase log.now node.old ≡ true }
+    requires shapes { shapes_of log.now.base_maps ≡ shapes_of node.old.replica.maps }
+    ensures node { node.new ≡ rebased log.now node.old }
+{
+    let base = log.base();
+    node.replica.rebase(base, log.base_maps());
+    node.hand.clear(base);
+}
+
+/// Whether the replica may answer a read that saw so many operations completed, when so many are.
+pub fn may_answer(seen: u64, done: u64, node: &NodeReplica) -> bool
+    ensures may { result ≡ may_answer seen done node.now }
+{
+    ready(&node.replica, seen) && node.replica.tail() <= done
+}
+
+/// Whether a batch in the log may be answered, when so many operations are completed.
+pub fn may_reply(done: u64, node: &NodeReplica) -> bool
+    ensures may { result ≡ may_reply done node.now }
+{
+    node.hand.is_empty() && node.replica.tail() <= done
+}
