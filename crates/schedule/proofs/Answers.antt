@@ -1,16 +1,16 @@
 -- The answers of a batch, and the steps that hand answers out.
-use Rattle.std.proofs.Common.{◌≡◌, ℕ, zero, suc, ◌+◌, ◌<◌, ◌≤◌, List, [], ◌∷◌, ◌++◌, length, take, Option, Some, None, refl, sym, ap, ◌∙◌, ⊎_elim, arith, subst}
+use Rattle.std.proofs.Common.{◌≡◌, ℕ, zero, suc, ◌+◌, ◌<◌, ◌≤◌, ◌^◌, List, [], ◌∷◌, ◌++◌, length, take, Option, Some, None, refl, sym, ap, ◌∙◌, ⊎_elim, arith, subst}
 use Rattle.std.specs.Prelude.{slice_get, slice_set, ◌&&◌, nat_le, cond, option_map}
 use Rattle.std.specs.Option.{option_and_then}
-use Rattle.std.proofs.lemmas.Bool.{cases_lt, cases_eq, le-leb}
-use Rattle.machine.specs.declared.running.Outcome.{Outcome}
+use Rattle.std.proofs.lemmas.Bool.{cases_lt, le-leb}
 use Rattle.oplog.specs.History.{ReadEffect, History}
 use Rattle.oplog.specs.Logs.{Log}
-use Rattle.combiner.specs.declared.slots.Reply.{Reply}
 use Rattle.combiner.specs.declared.slots.Reply.TheVariants.{Placed, Ended}
-use Rattle.combiner.specs.Desks.{BatchView, IsAnswered}
+use Rattle.combiner.specs.Desks.{IsAnswered}
 use Rattle.readpath.specs.declared.reading.ReadAnswer.{ReadAnswer}
 use Rattle.replica.specs.StoreMeaning.{store_meaning, outcome_of}
+use Rattle.node.specs.Answering.{answered_batch, HaveRun}
+use Rattle.node.proofs.Answers.{answers_placed, answers_ended}
 use Rattle.schedule.specs.declared.parts.BegunRead.{BegunRead}
 use Rattle.schedule.specs.declared.parts.Written.{Written}
 use Rattle.schedule.specs.declared.parts.NodeBatch.TheVariants.{InLog}
@@ -19,56 +19,15 @@ use Rattle.schedule.specs.declared.steps.Step.{Step}
 use Rattle.schedule.specs.declared.steps.StepAnswer.{StepAnswer}
 use Rattle.schedule.specs.declared.steps.StepAnswer.TheVariants as answers
 use Rattle.schedule.specs.Trace.{ReadBack, Back}
-use Rattle.schedule.specs.Worlds.{NodeView, WorldView, answers_from, answered_batch}
+use Rattle.schedule.specs.Worlds.{NodeView, WorldView}
 use Rattle.schedule.specs.Steps.{Part, Took, with_call_or_back, put_part, part_of, node_of, took, world_of, world_after, trace_after, with_event, session_at, read_at, with_read, read_answer}
 use Rattle.schedule.specs.Stands.{BatchStands, WrittenStands, Stands}
-use Rattle.schedule.specs.Taking.{WorldState, store_of, step_answer, answers_to, TakesPart, Takes, IsOfStore, IsStanding, IsRun}
-use Rattle.schedule.proofs.Lists.{get_some, set_same, set_off, set_back}
+use Rattle.schedule.specs.Taking.{WorldState, store_of, step_answer, answers_to, TakesPart, Takes, IsOfStore, IsStanding}
+use Rattle.schedule.proofs.Lists.{get_some, set_back}
 use Rattle.schedule.proofs.Options.{map_gives}
-use Rattle.schedule.proofs.Desks.{answers_placed, answers_ended}
-use Rattle.schedule.proofs.Keeping.{same_lists}
 use Rattle.schedule.proofs.Owned.{history_short}
 use Rattle.schedule.proofs.Appends.{take_snoc}
 use Rattle.schedule.proofs.Runs.{step_keeps}
-
--- ---- the loop that sets the answers
-
-pub answers_length : (place : ℕ) (outcomes : List (Option Outcome)) (rs : History) → length (answers_from place outcomes rs) ≡ length rs
-answers_length place outcomes [] = refl
-answers_length place [] (r ∷ rs) = ap suc (answers_length place [] rs)
-answers_length place (outcome ∷ outcomes) (r ∷ rs) = ap suc (answers_length (place + 1) outcomes rs)
-
--- the k-th answer
-answer_set : (b : Written) (k : ℕ) (reply : Reply) → k < length b.batch.records → IsRun b
-    → ((o : Outcome) → k < b.count → slice_get b.replies.outcomes k ≡ Some (Some o) → reply ≡ Placed (b.first + k) o.reply) → (b.count ≤ k → reply ≡ Ended)
-    → slice_get (answers_from b.first b.replies.outcomes b.batch.records) k ≡ Some (Some reply)
-answer_set b k reply lt run placed ended =
-    let r = get_some b.batch.records k lt in
-    let count = run.count in
-    ⊎_elim
-    (λ has. let o = run.outcomes k has lt in answers_placed b.batch.records b.replies.outcomes b.first k r.0 (Some o.0) r.1 o.1 ∙ ap (λ y. Some (Some y)) (sym (placed o.0 has o.1)))
-    (λ late. answers_ended b.batch.records b.replies.outcomes b.first k r.0 r.1 (omega arith) ∙ ap (λ y. Some (Some y)) (sym (ended late)))
-    (cases_lt k b.count)
-
--- one turn
-pub answers_turn : (b : Written) (k : ℕ) (old : List (Option Reply)) (reply : Reply) → k < length b.batch.records → length old ≡ length b.batch.records → IsRun b
-    → ((o : Outcome) → k < b.count → slice_get b.replies.outcomes k ≡ Some (Some o) → reply ≡ Placed (b.first + k) o.reply) → (b.count ≤ k → reply ≡ Ended)
-    → ((j : ℕ) → j < k → slice_get old j ≡ slice_get (answers_from b.first b.replies.outcomes b.batch.records) j)
-    → (j : ℕ) → j < k + 1 → slice_get (slice_set old k (Some reply)) j ≡ slice_get (answers_from b.first b.replies.outcomes b.batch.records) j
-answers_turn b k old reply lt long run placed ended before j le =
-    ⊎_elim
-    (λ same. let u = get_some old k (omega arith) in
-    ap (λ i. slice_get (slice_set old k (Some reply)) i) same ∙ set_same old k u.0 (Some reply) u.1 ∙ sym (answer_set b k reply lt run placed ended) ∙ ap (λ i. slice_get (answers_from b.first b.replies.outcomes b.batch.records) i) (sym same))
-    (λ ne. set_off old k j (Some reply) ne ∙ before j (omega arith))
-    (cases_eq j k)
-
--- all turns
-pub answers_whole : (b : Written) (batch : BatchView) (k : ℕ) → batch.records ≡ b.batch.records → length batch.answers ≡ length b.batch.records → length b.batch.records ≤ k
-    → ((j : ℕ) → j < k → slice_get batch.answers j ≡ slice_get (answers_from b.first b.replies.outcomes b.batch.records) j) → batch ≡ answered_batch b
-answers_whole b batch k records long all set =
-    let same : batch.answers ≡ answers_from b.first b.replies.outcomes b.batch.records =
-    same_lists batch.answers (answers_from b.first b.replies.outcomes b.batch.records) (long ∙ sym (answers_length b.first b.replies.outcomes b.batch.records)) (λ j lt. set j (omega arith)) in
-    ap (λ rs. (let v : BatchView = record { records = rs; answers = batch.answers } in v)) records ∙ ap (λ xs. (let v : BatchView = record { records = b.batch.records; answers = xs } in v)) same
 
 -- ---- a batch that is run
 
@@ -80,22 +39,20 @@ module _ {m : Opening} {g : Log} {node : NodeView} (x : IsOfStore m g node) (b :
   wr : WrittenStands m x.history node.replica node.hand b
   wr = subst (λ y. BatchStands m x.history node.replica node.hand y) is x.stands.batch
 
-  pub is_run : IsRun b
-  is_run = record {
-    count = wr.count;
-    outcomes = λ k lt inside. let r = get_some b.batch.records k inside in let a = wr.ahead in let known = wr.known k r.0 lt r.1 (omega arith) in (outcome_of known.0, known.2);
-    short = (let a = wr.ahead in let t = x.stands.replica.tail in let l = history_short x in omega arith);
-  }
+  pub have_run : HaveRun b.replies b.batch
+  have_run k lt inside = let r = get_some b.batch.records k inside in let a = wr.ahead in let known = wr.known k r.0 lt r.1 (omega arith) in (outcome_of known.0, known.2)
+
+  pub places_short : b.replies.first + length b.replies.outcomes < 2 ^ 64
+  places_short = let a = wr.ahead in let t = x.stands.replica.tail in let l = history_short x in omega arith
 
 -- each request of it is answered
-pub all_answered : (b : Written) → IsRun b → IsAnswered (answered_batch b)
+pub all_answered : (b : Written) → HaveRun b.replies b.batch → IsAnswered (answered_batch b.replies b.batch)
 all_answered b run k lt =
     let r = get_some b.batch.records k lt in
-    let count = run.count in
     ⊎_elim
-    (λ has. let o = run.outcomes k has lt in (Placed (b.first + k) (o.0).reply, answers_placed b.batch.records b.replies.outcomes b.first k r.0 (Some o.0) r.1 o.1))
-    (λ late. (Ended, answers_ended b.batch.records b.replies.outcomes b.first k r.0 r.1 (omega arith)))
-    (cases_lt k b.count)
+    (λ has. let o = run k has lt in (Placed (b.replies.first + k) (o.0).reply, answers_placed b.batch.records b.replies.outcomes b.replies.first k r.0 (Some o.0) r.1 o.1))
+    (λ late. (Ended, answers_ended b.batch.records b.replies.outcomes b.replies.first k r.0 r.1 late))
+    (cases_lt k (length b.replies.outcomes))
 
 -- ---- reads
 

@@ -1,6 +1,6 @@
 -- The step that appends a batch.
-use Rattle.std.proofs.Common.{◌≡◌, ◌≢◌, ℕ, zero, suc, ◌+◌, ◌-◌, ◌<◌, ◌≤◌, List, [], ◌∷◌, ◌++◌, length, take, Some, None, refl, sym, ap, ◌∙◌, inl, inr, ⊎_elim, arith, subst, length-append, length-drop}
-use Rattle.std.specs.Prelude.{slice_get, slice_set, ◌⊎◌, ◌&&◌, replicate, nat_le, min, if◌then◌else◌}
+use Rattle.std.proofs.Common.{◌≡◌, ◌≢◌, ℕ, zero, suc, ◌+◌, ◌-◌, ◌<◌, ◌≤◌, List, [], ◌∷◌, ◌++◌, length, take, Some, refl, sym, ◌∙◌, inl, inr, ⊎_elim, arith, subst, length-append, length-drop}
+use Rattle.std.specs.Prelude.{slice_get, slice_set, ◌⊎◌, ◌&&◌, nat_le, min, if◌then◌else◌}
 use Rattle.std.proofs.lemmas.Option.{same_Some}
 use Rattle.std.proofs.lemmas.Bool.{ne_eqb, eq-eqb, and_parts, leb-true}
 use Rattle.oplog.specs.History.{History}
@@ -19,7 +19,7 @@ use Rattle.schedule.proofs.Lists.{get_more, get_drop, get_taken, set_length}
 use Rattle.schedule.proofs.Options.{cond_gives, then_gives, claimed_is}
 use Rattle.schedule.proofs.Explained.{after_more, effect_more}
 use Rattle.schedule.proofs.Calls.{nodes_put, Kept}
-use Rattle.schedule.proofs.Appends.{Grown, grown_to, grown_length, placed}
+use Rattle.schedule.proofs.Appends.{Grown, grown_to, grown_length, placed, none_kept}
 
 get_right : {A : Type 0} (xs ys : List A) (j : ℕ) (v : A) → slice_get ys j ≡ Some v → slice_get (xs ++ ys) (length xs + j) ≡ Some v
 get_right [] ys j v g = let i : j ≡ 0 + j = omega arith in subst (λ k. slice_get ys k ≡ Some v) i g
@@ -29,10 +29,6 @@ get_append : {A : Type 0} (xs ys : List A) (i : ℕ) (v : A) → slice_get (xs +
 get_append [] ys i v g = inr (i, omega arith, g)
 get_append (x ∷ xs) ys zero v g = inl g
 get_append (x ∷ xs) ys (suc i) v g = ⊎_elim inl (λ (j, at, is). inr (j, omega arith, is)) (get_append xs ys i v g)
-
-replicate_length : {A : Type 0} (n : ℕ) (v : A) → length (replicate n v) ≡ n
-replicate_length zero v = refl
-replicate_length (suc n) v = ap suc (replicate_length n v)
 
 min_left : (a b : ℕ) → min a b ≤ a
 min_left a b = omega arith
@@ -58,11 +54,9 @@ batch_grow : (m : Opening) (h rs : History) (replica : ReplicaView) (hand : Hand
 batch_grow m h rs replica hand Absent l x = x
 batch_grow m h rs replica hand (Held b) l x = x
 batch_grow m h rs replica hand (InLog b) l x = record {
-  first = x.first;
-  count = x.count;
-  placed = λ k r lt g. get_more h rs (b.first + k) r (x.placed k r lt g);
+  placed = λ k r lt g. get_more h rs (b.replies.first + k) r (x.placed k r lt g);
   ahead = x.ahead;
-  known = λ k r lt g below. let e = x.known k r lt g below in (e.0, effect_more m h rs (b.first + k) r.op (omega arith) ∙ e.1, e.2);
+  known = λ k r lt g below. let e = x.known k r lt g below in (e.0, effect_more m h rs (b.replies.first + k) r.op (omega arith) ∙ e.1, e.2);
   ended = x.ended;
 }
 
@@ -106,6 +100,7 @@ module _ (m : Opening) (w : WorldView) (h : History) (places : Places) (t : Trac
       (let e = log_then.ends in let l = len in let d = length-drop (node.replica.tail - w.log.base) (grown w.log b.records).records in let i = o.replica.tail in let f = few in omega arith) in
       let yes = eq-eqb n n refl in
       let first : length h ≡ tail_of w.log = sym x.log.ends in
+      let count = none_kept (room_for w.log b.records) in
       record {
         replica = record {
           tail = r.tail;
@@ -123,13 +118,11 @@ module _ (m : Opening) (w : WorldView) (h : History) (places : Places) (t : Trac
           answers = subst (λ y. length (batch_in y).answers ≡ length (batch_in y).records) is_b o.desk.answers;
         };
         batch = record {
-          first = refl;
-          count = replicate_length (room_for w.log b.records) None;
           placed = λ k q lt g. subst (λ f. slice_get all_of (f + k) ≡ Some q) first
-              (get_right h (take (room_for w.log b.records) b.records) k q (get_taken (room_for w.log b.records) b.records k q g lt));
-          ahead = (let e = hand_end in let f = first in omega arith);
+              (get_right h (take (room_for w.log b.records) b.records) k q (get_taken (room_for w.log b.records) b.records k q g (let c = count in omega arith)));
+          ahead = (let e = hand_end in let f = first in let c = count in omega arith);
           known = λ k q lt g below. absurd (let i = o.replica.tail in let f = first in omega arith);
-          ended = λ short. let s = min_short (length b.records) (left_of w.log) short in let e = hand_end in let a = x.log.ends in let l = x.log.within in let v = x.log.limit in omega arith;
+          ended = λ short. let s = min_short (length b.records) (left_of w.log) (let c = count in omega arith) in let e = hand_end in let a = x.log.ends in let l = x.log.within in let v = x.log.limit in omega arith;
         };
         seats = λ s z read there begun.
             subst (λ f. StageStands m w.log.done all_of (end.places_then) t (session m.config n s) (placed f b (room_for w.log b.records)) z.count z.stage read) first

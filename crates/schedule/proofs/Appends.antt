@@ -1,9 +1,10 @@
 -- A batch is appended to the history, request by request.
 use Rattle.std.proofs.Common.{◌≡◌, ◌≢◌, ℕ, zero, suc, ◌+◌, ◌<◌, ◌≤◌, List, [], ◌∷◌, ◌++◌, length, map, take, Option, Some, None, refl, sym, ap, ◌∙◌, ⊎_elim, arith, subst, length-append, append_assoc}
-use Rattle.std.specs.Prelude.{slice_get, nat_eq, if◌then◌else◌, option_map}
+use Rattle.std.specs.Prelude.{slice_get, nat_eq, nat_lt, replicate, if◌then◌else◌, option_map}
 use Rattle.std.proofs.lemmas.Option.{none-some, same_Some, slice_get-map}
 use Rattle.std.proofs.lemmas.Bool.{cases_lt, cases_eq, lt-ltb, le-ltb, ne_eqb, eq-eqb}
 use Rattle.verifier.specs.declared.refusal.Mode.TheVariants.{Update}
+use Rattle.machine.specs.declared.running.Outcome.{Outcome}
 use Rattle.oplog.specs.declared.records.Record.{Record}
 use Rattle.oplog.specs.History.{History}
 use Rattle.oplog.specs.Sessions.{session}
@@ -51,7 +52,31 @@ take_zero (x ∷ xs) = refl
 
 -- the batch, with its first j requests at the places from first on
 abbrev pub placed : ℕ → BatchView → ℕ → NodeBatch
-placed first b j = InLog (record { batch = b; first = first; count = j; replies = no_replies first j })
+placed first b j = InLog (record { batch = b; replies = no_replies first j })
+
+-- so many outcomes are kept, none of them yet
+pub none_kept : (n : ℕ) → length (replicate n (let v : Option Outcome = None in v)) ≡ n
+none_kept zero = refl
+none_kept (suc n) = ap suc (none_kept n)
+
+-- the place of its k-th request
+placed_at : (first : ℕ) (b : BatchView) (j k : ℕ) → place_in (placed first b j) k ≡ (if nat_lt k j then Some (first + k) else None)
+placed_at first b j k = ap (λ n. if nat_lt k n then Some (first + k) else None) (none_kept j)
+
+no_place : (first : ℕ) (b : BatchView) (j : ℕ) → place_in (placed first b j) j ≡ None
+no_place first b j = placed_at first b j j ∙ ap (λ v. if v then Some (first + j) else None) (le-ltb j j (omega arith))
+
+has_place : (first : ℕ) (b : BatchView) (j : ℕ) → place_in (placed first b (suc j)) j ≡ Some (first + j)
+has_place first b j = placed_at first b (suc j) j ∙ ap (λ v. if v then Some (first + j) else None) (lt-ltb j (suc j) (omega arith))
+
+other_place : (first : ℕ) (b : BatchView) (j k : ℕ) → k ≢ j → place_in (placed first b j) k ≡ place_in (placed first b (suc j)) k
+other_place first b j k ne = placed_at first b j k ∙ ap (λ v. if v then Some (first + k) else None) same ∙ sym (placed_at first b (suc j) k)
+  where
+    same : nat_lt k j ≡ nat_lt k (suc j)
+    same = ⊎_elim
+        (λ lt. lt-ltb k j lt ∙ sym (lt-ltb k (suc j) (omega arith)))
+        (λ ge. le-ltb k j ge ∙ sym (le-ltb k (suc j) (omega arith)))
+        (cases_lt k j)
 
 abbrev pub AllSeats : Opening → ℕ → History → Places → Trace → (ℕ → NodeView → NodeBatch) → List NodeView → Type 0
 AllSeats m done h places t batch nodes =
@@ -127,12 +152,6 @@ module _ (m : Opening) (w : WorldView) (h : History) (places : Places) (t : Trac
   pub grown_length : (j : ℕ) → j ≤ length b.records → length (h ++ take j b.records) ≡ length h + j
   grown_length j l = length-append h (take j b.records) ∙ ap (λ i. length h + i) (take_length j b.records l)
 
-  same_place : (j k : ℕ) → k ≢ j → place_in (placed (length h) b j) k ≡ place_in (placed (length h) b (suc j)) k
-  same_place j k ne = ⊎_elim
-      (λ lt. let a = lt-ltb k j lt in let c = lt-ltb k (suc j) (omega arith) in rw (a, c) refl)
-      (λ ge. let a = le-ltb k j ge in let c = le-ltb k (suc j) (omega arith) in rw (a, c) refl)
-      (cases_lt k j)
-
   -- the slot of the j-th request, and its open call, which has no place yet
   record Waits (j : ℕ) (r : Record) (y : Grown m w h places t n b j) : Type 0 where
     s : ℕ
@@ -164,7 +183,6 @@ module _ (m : Opening) (w : WorldView) (h : History) (places : Places) (t : Trac
       let q = st.1 in
       let is_j : q.1 ≡ j = once q.1 j q.2 r q.3 at_j (met q.4 by) in
       let is_r : q.2 ≡ r = same_at b.records q.3 is_j at_j in
-      let no = le-ltb j j (omega arith) in
       record {
         s = c.0;
         slot = c.1;
@@ -174,7 +192,7 @@ module _ (m : Opening) (w : WorldView) (h : History) (places : Places) (t : Trac
         count = subst (λ z. z.seq ≡ (c.1).count) is_r q.5;
         c = q.0;
         open_at = subst (λ v. OpenAt m (h ++ take j b.records) y.places_then t v (c.1).count Update r.op None q.0) (sym by)
-            (subst (λ v. OpenAt m (h ++ take j b.records) y.places_then t (session m.config n c.0) (c.1).count Update r.op (if v then Some (length h + j) else None) q.0) no
+            (subst (λ v. OpenAt m (h ++ take j b.records) y.places_then t (session m.config n c.0) (c.1).count Update r.op v q.0) (no_place (length h) b j)
             (subst (λ i. OpenAt m (h ++ take j b.records) y.places_then t (session m.config n c.0) (c.1).count Update r.op (place_in (placed (length h) b j) i) q.0) is_j
             (subst (λ z. OpenAt m (h ++ take j b.records) y.places_then t (session m.config n c.0) (c.1).count Update z.op (place_in (placed (length h) b j) q.1) q.0) is_r q.6)));
         no_read = λ read again. also_none (slice_get node.reads c.0) begun.0 read begun.1 again st.0;
@@ -200,8 +218,7 @@ module _ (m : Opening) (w : WorldView) (h : History) (places : Places) (t : Trac
         has = subst (λ i. slice_get (y.places_then ++ c ∷ []) i ≡ Some c) place (get_new y.places_then c);
         counts = count_self (h ++ take j b.records) r ∙ (let f = free.counts in omega arith);
       } in
-      let lt = lt-ltb j (suc j) (omega arith) in
-      let opened2 : OpenAt m ((h ++ take j b.records) ++ r ∷ []) (y.places_then ++ c ∷ []) t r.author (mine.slot).count Update r.op (place_in (placed (length h) b (suc j)) j) c = rw lt opened in
+      let opened2 = subst (λ v. OpenAt m ((h ++ take j b.records) ++ r ∷ []) (y.places_then ++ c ∷ []) t r.author (mine.slot).count Update r.op v c) (sym (has_place (length h) b j)) opened in
       let opened3 : OpenAt m ((h ++ take j b.records) ++ r ∷ []) (y.places_then ++ c ∷ []) t (session m.config n mine.s) (mine.slot).count Update r.op (place_in (placed (length h) b (suc j)) j) c =
       subst (λ v. OpenAt m ((h ++ take j b.records) ++ r ∷ []) (y.places_then ++ c ∷ []) t v (mine.slot).count Update r.op (place_in (placed (length h) b (suc j)) j) c) mine.by opened2 in
       let own_stage : StageStands m w.log.done ((h ++ take j b.records) ++ r ∷ []) (y.places_then ++ c ∷ []) t (session m.config n mine.s) (placed (length h) b (suc j)) (mine.slot).count Claimed None =
@@ -247,7 +264,7 @@ module _ (m : Opening) (w : WorldView) (h : History) (places : Places) (t : Trac
           stage_batch m w.log.done ((h ++ take j b.records) ++ r ∷ []) (y.places_then ++ mine.c ∷ []) t (session m.config n s) (placed (length h) b j) (placed (length h) b (suc j)) z.count z.stage read
           (λ i p f by. (
             f,
-            same_place j i (λ e.
+            other_place (length h) b j i (λ e.
                 let is_p : p ≡ r = same_Some p r (sym f ∙ ap (λ i. slice_get b.records i) e ∙ at_j) in
                 other_slot m.config n n mine.s s (slot_in n node mine.s mine.slot at_n mine.there) (slot_in n node s z at_n there) ne (sym mine.by ∙ ap (λ v. v.author) (sym is_p) ∙ by)),
           ))

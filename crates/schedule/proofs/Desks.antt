@@ -4,7 +4,6 @@ use Rattle.std.specs.Prelude.{slice_get, slice_set, ◌&&◌, nat_le, if◌then�
 use Rattle.std.proofs.lemmas.Option.{none-some, same_Some, slice_get-map}
 use Rattle.std.proofs.lemmas.List.{length-map}
 use Rattle.std.proofs.lemmas.Bool.{cases_lt, lt-ltb, le-ltb, and_parts, leb-true}
-use Rattle.machine.specs.declared.running.Outcome.{Outcome}
 use Rattle.verifier.specs.declared.refusal.Mode.TheVariants.{Update}
 use Rattle.oplog.specs.declared.records.Record.{Record}
 use Rattle.oplog.specs.History.{Effect, History}
@@ -17,12 +16,14 @@ use Rattle.combiner.specs.declared.slots.Slot.{Slot}
 use Rattle.combiner.specs.Slots.{claimed_stage, claimed_slot, requests_from, answered_stage, with_answer}
 use Rattle.combiner.specs.Desks.{first_author, has_request, batch_of, claimed, claimed_from, IsBatchOf, answer_for, replied}
 use Rattle.replica.specs.StoreMeaning.{outcome_of}
+use Rattle.node.specs.Answering.{answered_batch}
+use Rattle.node.proofs.Answers.{answers_placed, answers_ended}
 use Rattle.schedule.specs.declared.parts.BegunRead.{BegunRead}
 use Rattle.schedule.specs.declared.parts.Written.{Written}
 use Rattle.schedule.specs.declared.parts.NodeBatch.TheVariants.{Absent, Held, InLog}
 use Rattle.schedule.specs.Trace.{Trace, Places}
 use Rattle.schedule.specs.declared.parts.Opening.{Opening}
-use Rattle.schedule.specs.Worlds.{NodeView, WorldView, answers_from, answered_batch}
+use Rattle.schedule.specs.Worlds.{NodeView, WorldView}
 use Rattle.schedule.specs.Steps.{Part, claim, reply, no_records, no_batch, appended_batch}
 use Rattle.schedule.specs.Stands.{OpenAt, ReplyStands, StageStands, DeskStands, NodeStands, BatchStands, WrittenStands, Stands, batch_in, place_in}
 use Rattle.schedule.proofs.Lists.{get_in, set_length}
@@ -100,25 +101,6 @@ keeps_claim m w h places t n node p at_n taken x =
 
 -- ---- reply
 
--- the k-th answer of a batch
-pub answers_placed : (rs : History) (outcomes : List (Option Outcome)) (place k : ℕ) (r : Record) (o : Option Outcome) → slice_get rs k ≡ Some r → slice_get outcomes k ≡ Some o
-    → slice_get (answers_from place outcomes rs) k ≡ Some (option_map (λ y. Placed (place + k) y.reply) o)
-answers_placed [] outcomes place k r o g f = absurd (none-some r g)
-answers_placed (q ∷ rs) [] place k r o g f = absurd (none-some o f)
-answers_placed (q ∷ rs) (outcome ∷ outcomes) place zero r o g f =
-    let e : place ≡ place + 0 = omega arith in
-    ap (λ y. Some (option_map (λ z. Placed place z.reply) y)) (same_Some outcome o f) ∙ ap (λ k. Some (option_map (λ z. Placed k z.reply) o)) e
-answers_placed (q ∷ rs) (outcome ∷ outcomes) place (suc k) r o g f =
-    let e : (place + 1) + k ≡ place + suc k = omega arith in
-    answers_placed rs outcomes (place + 1) k r o g f ∙ ap (λ i. Some (option_map (λ z. Placed i z.reply) o)) e
-
-pub answers_ended : (rs : History) (outcomes : List (Option Outcome)) (place k : ℕ) (r : Record) → slice_get rs k ≡ Some r → length outcomes ≤ k → slice_get (answers_from place outcomes rs) k ≡ Some (Some Ended)
-answers_ended [] outcomes place k r g l = absurd (none-some r g)
-answers_ended (q ∷ rs) [] place zero r g l = refl
-answers_ended (q ∷ rs) [] place (suc k) r g l = answers_ended rs [] place k r g (omega arith)
-answers_ended (q ∷ rs) (outcome ∷ outcomes) place zero r g l = absurd (omega arith)
-answers_ended (q ∷ rs) (outcome ∷ outcomes) place (suc k) r g l = answers_ended rs outcomes (place + 1) k r g (omega arith)
-
 module _ (m : Opening) (w : WorldView) (h : History) (places : Places) (t : Trace) (n : ℕ) (node : NodeView) (b : Written) (o : NodeStands m w.log.done h places t n node) (is_b : node.batch ≡ InLog b)
     (empty : node.hand.records ≡ []) (below : node.replica.tail ≤ w.log.done) where
   wr : WrittenStands m h node.replica node.hand b
@@ -140,40 +122,38 @@ module _ (m : Opening) (w : WorldView) (h : History) (places : Places) (t : Trac
   abbrev pub AnswersWell : ℕ → Record → Reply → Type 0
   AnswersWell k r y = (c : ℕ) (x count : ℕ) → OpenAt m h places t x count Update r.op (place_in (InLog b) k) c → ReplyStands m w.log.done h places t x count y
 
-  answer_at : (k : ℕ) (r : Record) → slice_get b.batch.records k ≡ Some r → (y : Reply) × (slice_get (answered_batch b).answers k ≡ Some (Some y)) × AnswersWell k r y
+  answer_at : (k : ℕ) (r : Record) → slice_get b.batch.records k ≡ Some r → (y : Reply) × (slice_get (answered_batch b.replies b.batch).answers k ≡ Some (Some y)) × AnswersWell k r y
   answer_at k r g =
       let ahead = wr.ahead in
-      let count = wr.count in
-      let first = wr.first in
       let nil = nothing in
       ⊎_elim
       (λ lt.
-      let yes = lt-ltb k b.count lt in
+      let yes = lt-ltb k (length b.replies.outcomes) lt in
       let known = wr.known k r lt g (omega arith) in
-      let before : b.first + k < w.log.done = omega arith in (
-        Placed (b.first + k) (known.0).reply,
-        answers_placed b.batch.records b.replies.outcomes b.first k r (Some (outcome_of known.0)) g known.2,
+      let before : b.replies.first + k < w.log.done = omega arith in (
+        Placed (b.replies.first + k) (known.0).reply,
+        answers_placed b.batch.records b.replies.outcomes b.replies.first k r (Some (outcome_of known.0)) g known.2,
         λ c x count opened. (
           r.op,
           c,
-          subst (λ v. OpenAt m h places t x count Update r.op (if v then Some (b.first + k) else None) c) yes opened,
+          subst (λ v. OpenAt m h places t x count Update r.op (if v then Some (b.replies.first + k) else None) c) yes opened,
           before,
           ap (option_map (λ (e : Effect _). e.reply)) known.1,
         ),
       ))
       (λ ge.
-      let no = le-ltb k b.count ge in
+      let no = le-ltb k (length b.replies.outcomes) ge in
       let inside = get_in b.batch.records k r g in
       let full = wr.ended (omega arith) in
       let all : m.config.limit ≤ w.log.done = omega arith in (
         Ended,
-        answers_ended b.batch.records b.replies.outcomes b.first k r g (omega arith),
-        (λ c x count opened. (r.op, c, subst (λ v. OpenAt m h places t x count Update r.op (if v then Some (b.first + k) else None) c) no opened, all)),
+        answers_ended b.batch.records b.replies.outcomes b.replies.first k r g (omega arith),
+        (λ c x count opened. (r.op, c, subst (λ v. OpenAt m h places t x count Update r.op (if v then Some (b.replies.first + k) else None) c) no opened, all)),
       ))
-      (cases_lt k b.count)
+      (cases_lt k (length b.replies.outcomes))
 
-  answer_is : (k : ℕ) (r : Record) (g : slice_get b.batch.records k ≡ Some r) → answer_for r.author b.batch.records (answered_batch b).answers ≡ Some ((answer_at k r g).0)
-  answer_is k r g = answer_found b.batch.records (answered_batch b).answers k r (Some ((answer_at k r g).0)) g ((answer_at k r g).1) (λ j q f same. once j k q r f g same)
+  answer_is : (k : ℕ) (r : Record) (g : slice_get b.batch.records k ≡ Some r) → answer_for r.author b.batch.records (answered_batch b.replies b.batch).answers ≡ Some ((answer_at k r g).0)
+  answer_is k r g = answer_found b.batch.records (answered_batch b.replies b.batch).answers k r (Some ((answer_at k r g).0)) g ((answer_at k r g).1) (λ j q f same. once j k q r f g same)
 
   request_at : (s : ℕ) (x : Slot) → slice_get node.desk.slots s ≡ Some x → x.stage ≡ Claimed → (k : ℕ) × (r : Record) × (slice_get b.batch.records k ≡ Some r) × (r.author ≡ first_author node.desk + s)
   request_at s x at is =
@@ -182,23 +162,23 @@ module _ (m : Opening) (w : WorldView) (h : History) (places : Places) (t : Trac
       let r = mapped_get (λ (r : Record). r.author) b.batch.records c.0 (first_author node.desk + s) there in
       (c.0, r.0, r.1, r.2)
 
-  all_answered : AllAnswered (first_author node.desk) (answered_batch b) node.desk.slots
+  all_answered : AllAnswered (first_author node.desk) (answered_batch b.replies b.batch) node.desk.slots
   all_answered s x at is =
       let r = request_at s x at is in
-      ((answer_at r.0 r.1 r.2).0, ap (λ a. answer_for a b.batch.records (answered_batch b).answers) (sym r.3) ∙ answer_is r.0 r.1 r.2)
+      ((answer_at r.0 r.1 r.2).0, ap (λ a. answer_for a b.batch.records (answered_batch b.replies b.batch).answers) (sym r.3) ∙ answer_is r.0 r.1 r.2)
 
-  desk_replied : DeskStands m n (record node { desk = replied (answered_batch b) node.desk; batch = Absent })
+  desk_replied : DeskStands m n (record node { desk = replied (answered_batch b.replies b.batch) node.desk; batch = Absent })
   desk_replied = record {
     number = o.desk.number;
-    slots = answered_length (first_author node.desk) (answered_batch b) node.desk.slots ∙ o.desk.slots;
+    slots = answered_length (first_author node.desk) (answered_batch b.replies b.batch) node.desk.slots ∙ o.desk.slots;
     reads = o.desk.reads;
-    own = sym (none_claimed (first_author node.desk) (first_author (replied (answered_batch b) node.desk)) (answered_batch b) node.desk.slots all_answered);
+    own = sym (none_claimed (first_author node.desk) (first_author (replied (answered_batch b.replies b.batch) node.desk)) (answered_batch b.replies b.batch) node.desk.slots all_answered);
     answers = refl;
   }
 
   stage_replied : (s : ℕ) (x : Slot) → slice_get node.desk.slots s ≡ Some x → (st : Stage) (read : Option BegunRead) → x.stage ≡ st
       → StageStands m w.log.done h places t (session m.config n s) (InLog b) x.count st read
-      → StageStands m w.log.done h places t (session m.config n s) Absent x.count (answered_stage (answer_for (first_author node.desk + s) b.batch.records (answered_batch b).answers) st) read
+      → StageStands m w.log.done h places t (session m.config n s) Absent x.count (answered_stage (answer_for (first_author node.desk + s) b.batch.records (answered_batch b.replies b.batch).answers) st) read
   stage_replied s x at Empty None is p = p
   stage_replied s x at Empty (Some read) is p = p
   stage_replied s x at (Posted op) None is p = p
@@ -207,17 +187,17 @@ module _ (m : Opening) (w : WorldView) (h : History) (places : Places) (t : Trac
   stage_replied s x at Claimed (Some read) is p = absurd p
   stage_replied s x at (Answered reply) (Some read) is p = absurd p
   stage_replied s x at Claimed None is (c, k, r, g, by, seq, opened) =
-      let known : answer_for (first_author node.desk + s) b.batch.records (answered_batch b).answers ≡ Some ((answer_at k r g).0) =
-      ap (λ a. answer_for a b.batch.records (answered_batch b).answers) (session_is m n node s o.desk ∙ sym by) ∙ answer_is k r g in
+      let known : answer_for (first_author node.desk + s) b.batch.records (answered_batch b.replies b.batch).answers ≡ Some ((answer_at k r g).0) =
+      ap (λ a. answer_for a b.batch.records (answered_batch b.replies b.batch).answers) (session_is m n node s o.desk ∙ sym by) ∙ answer_is k r g in
       subst (λ v. StageStands m w.log.done h places t (session m.config n s) Absent x.count (with_answer v) None) (sym known) ((answer_at k r g).2 c (session m.config n s) x.count opened)
 
-  pub node_replied : NodeStands m w.log.done h places t n (record node { desk = replied (answered_batch b) node.desk; batch = Absent })
+  pub node_replied : NodeStands m w.log.done h places t n (record node { desk = replied (answered_batch b.replies b.batch) node.desk; batch = Absent })
   node_replied = record {
     replica = o.replica;
     desk = desk_replied;
     batch = tt;
     seats = λ s y read there begun.
-        let c = answered_get (first_author node.desk) (answered_batch b) node.desk.slots s y there in
+        let c = answered_get (first_author node.desk) (answered_batch b.replies b.batch) node.desk.slots s y there in
         subst (λ z. StageStands m w.log.done h places t (session m.config n s) Absent z.count z.stage read) c.2
         (stage_replied s c.0 c.1 (c.0).stage read refl (subst (λ v. StageStands m w.log.done h places t (session m.config n s) v (c.0).count (c.0).stage read) is_b (o.seats s c.0 read c.1 begun)));
   }
@@ -234,13 +214,13 @@ keeps_reply m w h places t n node p at_n taken x =
     let below = leb-true node.replica.tail w.log.done tests.1 in
     let o = x.nodes n node at_n in
     subst (λ z. Kept m w h places t n z) (same_Some _ p c.1)
-    (same_history m (record { log = w.log; nodes = slice_set w.nodes n (record node { desk = replied (answered_batch b) node.desk; batch = Absent }) }) h places t (record {
+    (same_history m (record { log = w.log; nodes = slice_set w.nodes n (record node { desk = replied (answered_batch b.replies b.batch) node.desk; batch = Absent }) }) h places t (record {
       catalogue = x.catalogue;
       explains = x.explains;
       log = x.log;
-      count = set_length w.nodes n (record node { desk = replied (answered_batch b) node.desk; batch = Absent }) ∙ x.count;
+      count = set_length w.nodes n (record node { desk = replied (answered_batch b.replies b.batch) node.desk; batch = Absent }) ∙ x.count;
       callers = x.callers;
       stamps = x.stamps;
-      nodes = nodes_put (λ k y. NodeStands m w.log.done h places t k y) w.nodes n (record node { desk = replied (answered_batch b) node.desk; batch = Absent }) (λ k old ne g. x.nodes k old g)
+      nodes = nodes_put (λ k y. NodeStands m w.log.done h places t k y) w.nodes n (record node { desk = replied (answered_batch b.replies b.batch) node.desk; batch = Absent }) (λ k old ne g. x.nodes k old g)
           (node_replied m w h places t n node b o is_b empty below);
     }))

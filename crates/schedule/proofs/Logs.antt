@@ -94,8 +94,6 @@ moved m h replica hand new (InLog b) l empty inside p =
     let nothing : length hand.records ≡ 0 = ap length empty in
     let a = p.ahead in
     record {
-      first = p.first;
-      count = p.count;
       placed = p.placed;
       ahead = omega arith;
       known = λ k r lt g in_tail. p.known k r lt g (omega arith);

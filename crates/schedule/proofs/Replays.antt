@@ -1,8 +1,8 @@
 -- A replica applies what was copied for it.
-use Rattle.std.proofs.Common.{◌≡◌, ◌≢◌, ℕ, zero, suc, ◌+◌, ◌-◌, ◌<◌, ◌≤◌, true, false, Bool, List, [], ◌∷◌, length, take, Some, refl, sym, ap, ◌∙◌, inl, inr, ⊎_elim, arith, subst}
+use Rattle.std.proofs.Common.{◌≡◌, ◌≢◌, ℕ, zero, suc, ◌+◌, ◌-◌, ◌<◌, ◌≤◌, [], ◌∷◌, length, take, Some, None, refl, sym, ap, ◌∙◌, inl, inr, ⊎_elim, arith, subst}
 use Rattle.std.specs.Prelude.{slice_get, slice_set, ◌⊎◌, ◌&&◌, ◌||◌, not, nat_lt, nat_le, if◌then◌else◌}
 use Rattle.std.proofs.lemmas.Option.{none-some, same_Some}
-use Rattle.std.proofs.lemmas.Bool.{cases_eq, le-leb, and_parts, or_cases, leb-true, ltb-true}
+use Rattle.std.proofs.lemmas.Bool.{cases_eq, and_parts, or_cases, leb-true, ltb-true}
 use Rattle.maps.specs.Maps.{Maps}
 use Rattle.loader.specs.CatalogueView.{CatalogueView, IsCatalogue}
 use Rattle.oplog.specs.declared.records.Record.{Record}
@@ -12,16 +12,19 @@ use Rattle.oplog.specs.Sessions.{session}
 use Rattle.replica.specs.StoreMeaning.{store_meaning, outcome_of, AreUpdates}
 use Rattle.replica.specs.Views.{ReplicaView, with_outcome}
 use Rattle.replica.proofs.Histories.{have_effects}
+use Rattle.replica.proofs.Kept.{count_with, at_with, off_with}
 use Rattle.combiner.specs.Desks.{BatchView, IsBatchOf}
 use Rattle.schedule.specs.declared.parts.Written.{Written}
 use Rattle.schedule.specs.declared.parts.NodeBatch.{NodeBatch}
 use Rattle.schedule.specs.declared.parts.NodeBatch.TheVariants.{Absent, Held, InLog}
 use Rattle.schedule.specs.Trace.{Trace, Places}
 use Rattle.schedule.specs.declared.parts.Opening.{Opening}
-use Rattle.schedule.specs.Worlds.{NodeView, WorldView, with_effect, outcomes_after, batch_after, replayed, to_run}
+use Rattle.node.specs.Following.{with_effect, outcomes_after}
+use Rattle.node.proofs.Keeping.{after_count, after_first}
+use Rattle.schedule.specs.Worlds.{NodeView, WorldView, batch_after, replayed, to_run}
 use Rattle.schedule.specs.Steps.{Part, replay, no_records}
 use Rattle.schedule.specs.Stands.{DeskStands, NodeStands, LogStands, BatchStands, WrittenStands, Stands, batch_in, place_in}
-use Rattle.schedule.proofs.Lists.{get_drop, get_in, get_some, set_same, set_other, set_length}
+use Rattle.schedule.proofs.Lists.{get_drop, get_in, set_length}
 use Rattle.schedule.proofs.Options.{cond_gives, some_is}
 use Rattle.schedule.proofs.Seats.{stage_batch}
 use Rattle.schedule.proofs.Calls.{nodes_put, Kept, same_history}
@@ -61,13 +64,6 @@ after_all c h (r ∷ rs) tail maps next is inside =
 
 -- ---- the batch
 
-set_at : {A : Type 0} (xs : List A) (i : ℕ) (v : A) → i < length xs → slice_get (slice_set xs i v) i ≡ Some v
-set_at xs i v l = let u = get_some xs i l in set_same xs i u.0 v u.1
-
-lengths : {A : Type 0} (b : Bool) (xs : List A) (i : ℕ) (v : A) → length (if b then slice_set xs i v else xs) ≡ length xs
-lengths true xs i v = set_length xs i v
-lengths false xs i v = refl
-
 abbrev replica_at : ℕ → Maps → ReplicaView
 replica_at tail maps = record { tail = tail; maps = maps }
 
@@ -81,31 +77,22 @@ written_next : (m : Opening) (h : History) (tail : ℕ) (maps : Maps) (hand : Ha
     → WrittenStands m h (replica_at (tail + 1) new) (hand_of hand rs) (record b { replies = with_outcome b.replies tail (outcome_of e) })
 written_next m h tail maps hand r rs b e new there takes x =
     let a = x.ahead in
-    let first = x.first in
-    let count = x.count in
+    let same_count = count_with b.replies tail (outcome_of e) in
     record {
-      first = x.first;
-      count = lengths (nat_le b.replies.first tail) b.replies.outcomes (tail - b.replies.first) (Some (outcome_of e)) ∙ x.count;
-      placed = x.placed;
+      placed = λ k q l g. x.placed k q (omega arith) g;
       ahead = omega arith;
-      known = λ k q l g below. ⊎_elim
+      known = λ k q l g below.
+          let within : k < length b.replies.outcomes = omega arith in
+          ⊎_elim
           (λ now.
-          let yes : nat_le b.replies.first tail ≡ true = le-leb b.replies.first tail (omega arith) in
-          let at : tail - b.replies.first ≡ k = omega arith in
-          let same : r ≡ q = same_Some r q (sym there ∙ subst (λ i. slice_get h i ≡ Some q) now (x.placed k q l g)) in
-          let fits : k < length b.replies.outcomes = omega arith in (
+          let same : r ≡ q = same_Some r q (sym there ∙ subst (λ i. slice_get h i ≡ Some q) now (x.placed k q within g)) in (
             e,
             ap (λ i. effect_at store_meaning m.catalogue h i q.op) now ∙ ap (λ y. effect_at store_meaning m.catalogue h tail y.op) (sym same) ∙ takes,
-            (rw (yes, at) (set_at b.replies.outcomes k (Some (outcome_of e)) fits)),
+            at_with b.replies tail k (outcome_of e) now within,
           ))
-          (λ other.
-          let before : b.first + k < tail = omega arith in
-          let yes : nat_le b.replies.first tail ≡ true = le-leb b.replies.first tail (omega arith) in
-          let ne : k ≢ tail - b.replies.first = λ same. absurd (omega arith) in
-          let old = x.known k q l g before in
-          (old.0, old.1, (rw yes (set_other b.replies.outcomes (tail - b.replies.first) (Some (outcome_of e)) k (Some (outcome_of old.0)) ne old.2))))
-          (cases_eq (b.first + k) tail);
-      ended = λ short. let f = x.ended short in omega arith;
+          (λ other. let old = x.known k q within g (omega arith) in (old.0, old.1, off_with b.replies tail k (outcome_of e) other ∙ old.2))
+          (cases_eq (b.replies.first + k) tail);
+      ended = λ short. let f = x.ended (omega arith) in omega arith;
     }
 
 -- the records are applied, one by one
@@ -118,8 +105,6 @@ written_all m h [] tail maps hand b new left whole updates next is at empty x =
     let a = x.ahead in
     let nothing : length left.records ≡ 0 = ap length empty in
     record {
-      first = x.first;
-      count = x.count;
       placed = x.placed;
       ahead = omega arith;
       known = λ k r l g below. x.known k r l g (omega arith);
@@ -145,7 +130,9 @@ kept_records c maps tail rs (InLog b) = refl
 kept_places : (c : CatalogueView) (maps : Maps) (tail : ℕ) (rs : History) (b : NodeBatch) (k : ℕ) → place_in b k ≡ place_in (batch_after c maps tail rs b) k
 kept_places c maps tail rs Absent k = refl
 kept_places c maps tail rs (Held b) k = refl
-kept_places c maps tail rs (InLog b) k = refl
+kept_places c maps tail rs (InLog b) k =
+    ap (λ n. if nat_lt k n then Some (b.replies.first + k) else None) (sym (after_count c maps tail rs b.replies))
+    ∙ ap (λ i. if nat_lt k (length (outcomes_after c maps tail rs b.replies).outcomes) then Some (i + k) else None) (sym (after_first c maps tail rs b.replies))
 
 batch_all : (m : Opening) (h rs : History) (tail : ℕ) (maps : Maps) (hand : HandView) (b : NodeBatch) (new : ReplicaView) (left : HandView)
     → IsCatalogue m.catalogue → AreUpdates m.catalogue h → ((j : ℕ) (f : Record) → slice_get rs j ≡ Some f → slice_get h (tail + j) ≡ Some f) → maps ≡ maps_after store_meaning m.catalogue h tail
@@ -162,7 +149,7 @@ more_hand m h rs replica hand (Held b) empty x = x
 more_hand m h rs replica hand (InLog b) empty x =
     let nothing : length hand.records ≡ 0 = ap length empty in
     let a = x.ahead in
-    record { first = x.first; count = x.count; placed = x.placed; ahead = omega arith; known = x.known; ended = λ short. let f = x.ended short in omega arith }
+    record { placed = x.placed; ahead = omega arith; known = x.known; ended = λ short. let f = x.ended short in omega arith }
 
 -- what is run comes next, and the batch stands over it
 abbrev pub RunsNext : Opening → History → NodeView → History → Type 0

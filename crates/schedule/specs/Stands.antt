@@ -61,13 +61,11 @@ pub record DeskStands (m : Opening) (n : ℕ) (node : NodeView) : Type 0 where
 
 -- the k-th request of a batch in the log, where it has a place, has its record there, and once the replica has come past it its outcome
 pub record WrittenStands (m : Opening) (h : History) (replica : ReplicaView) (hand : HandView) (b : Written) : Type 0 where
-  pub first : b.replies.first ≡ b.first
-  pub count : length b.replies.outcomes ≡ b.count
-  pub placed : (k : ℕ) (r : Record) → k < b.count → slice_get b.batch.records k ≡ Some r → slice_get h (b.first + k) ≡ Some r
-  pub ahead : b.first + b.count ≤ replica.tail + length hand.records
-  pub known : (k : ℕ) (r : Record) → k < b.count → slice_get b.batch.records k ≡ Some r → b.first + k < replica.tail
-      → (e : Effect Maps) × (effect_at store_meaning m.catalogue h (b.first + k) r.op ≡ Some e) × (slice_get b.replies.outcomes k ≡ Some (Some (outcome_of e)))
-  pub ended : b.count < length b.batch.records → m.config.limit ≤ replica.tail + length hand.records
+  pub placed : (k : ℕ) (r : Record) → k < length b.replies.outcomes → slice_get b.batch.records k ≡ Some r → slice_get h (b.replies.first + k) ≡ Some r
+  pub ahead : b.replies.first + length b.replies.outcomes ≤ replica.tail + length hand.records
+  pub known : (k : ℕ) (r : Record) → k < length b.replies.outcomes → slice_get b.batch.records k ≡ Some r → b.replies.first + k < replica.tail
+      → (e : Effect Maps) × (effect_at store_meaning m.catalogue h (b.replies.first + k) r.op ≡ Some e) × (slice_get b.replies.outcomes k ≡ Some (Some (outcome_of e)))
+  pub ended : length b.replies.outcomes < length b.batch.records → m.config.limit ≤ replica.tail + length hand.records
 
 -- of a batch that is not in the log nothing is asked here
 abbrev pub BatchStands : Opening → History → ReplicaView → HandView → NodeBatch → Type 0
@@ -79,7 +77,7 @@ BatchStands m h replica hand (InLog b) = WrittenStands m h replica hand b
 abbrev pub place_in : NodeBatch → ℕ → Option ℕ
 place_in Absent k = None
 place_in (Held b) k = None
-place_in (InLog b) k = if nat_lt k b.count then Some (b.first + k) else None
+place_in (InLog b) k = if nat_lt k (length b.replies.outcomes) then Some (b.replies.first + k) else None
 
 -- the call has this place, or no place
 abbrev pub HasPlace : Places → ℕ → Option ℕ → Type 0

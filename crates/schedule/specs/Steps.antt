@@ -9,6 +9,7 @@ use Rattle.combiner.specs.declared.slots.Slot.{Slot}
 use Rattle.combiner.specs.Slots.{is_empty}
 use Rattle.combiner.specs.Desks.{BatchView, first_author, posted, has_request, batch_of, claimed, replied, collected}
 use Rattle.replica.specs.StoreMeaning.{store_meaning, is_operation}
+use Rattle.node.specs.Answering.{answered_batch}
 use Rattle.schedule.specs.declared.parts.BegunRead.{BegunRead}
 use Rattle.schedule.specs.declared.parts.Written.{Written}
 use Rattle.schedule.specs.declared.parts.NodeBatch.{NodeBatch}
@@ -17,7 +18,7 @@ use Rattle.schedule.specs.declared.steps.Step.{Step}
 use Rattle.schedule.specs.declared.steps.Step.TheVariants.{Post, Claim, Append, Replay, Finish, Reply, Collect, ReadBegin, ReadAnswer, Reclaim, Rebase}
 use Rattle.schedule.specs.Trace.{Updated, ReadBack, Event, Call, Back, Trace}
 use Rattle.schedule.specs.declared.parts.Opening.{Opening}
-use Rattle.schedule.specs.Worlds.{NodeView, WorldView, room_for, grown, written, replayed, to_run, answered_batch, reclaimed, rebased}
+use Rattle.schedule.specs.Worlds.{NodeView, WorldView, room_for, grown, written, replayed, to_run, reclaimed, rebased}
 
 -- what a step makes of the log and of its node, and the event that it is
 pub record Part : Type 0 where
@@ -136,7 +137,7 @@ abbrev pub reply : Log → NodeView → Option Part
 reply g node =
     option_and_then (λ b.
     cond (no_records node.hand.records && nat_le node.replica.tail g.done)
-    (Some (silent g (record node { desk = replied (answered_batch b) node.desk; batch = Absent })))
+    (Some (silent g (record node { desk = replied (answered_batch b.replies b.batch) node.desk; batch = Absent })))
     None)
     (appended_batch node.batch)
 

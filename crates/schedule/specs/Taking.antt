@@ -1,6 +1,5 @@
 -- What a call that takes a step does.
-use Rattle.std.specs.Prelude.{◌≡◌, ℕ, ◌+◌, ◌^◌, ◌<◌, ◌≤◌, Bool, false, ◌&&◌, nat_le, List, [], ◌∷◌, length, Option, Some, None, slice_get}
-use Rattle.machine.specs.declared.running.Outcome.{Outcome}
+use Rattle.std.specs.Prelude.{◌≡◌, ℕ, ◌+◌, ◌≤◌, Bool, false, ◌&&◌, nat_le, List, [], ◌∷◌, length, Option, Some, None, slice_get}
 use Rattle.loader.specs.CatalogueView.{CatalogueView, IsCatalogue}
 use Rattle.oplog.specs.declared.configuration.TheConstants.{MAX_LIMIT}
 use Rattle.oplog.specs.declared.records.Record.{Record}
@@ -9,7 +8,6 @@ use Rattle.oplog.specs.Limits.{IsConfig}
 use Rattle.oplog.specs.Logs.{Log, tail_of, room_in}
 use Rattle.replica.specs.StoreMeaning.{store_meaning, AreUpdates}
 use Rattle.schedule.specs.declared.parts.Opening.{Opening}
-use Rattle.schedule.specs.declared.parts.Written.{Written}
 use Rattle.schedule.specs.declared.parts.NodeBatch.{NodeBatch}
 use Rattle.schedule.specs.declared.parts.NodeBatch.TheVariants.{Held}
 use Rattle.schedule.specs.declared.steps.Step.{Step}
@@ -108,9 +106,3 @@ pub record CanRun (c : CatalogueView) (node : NodeView) : Type 0 where
   pub tail : node.replica.tail ≤ length history
   pub maps : node.replica.maps ≡ maps_after store_meaning c history node.replica.tail
   pub next : (j : ℕ) (r : Record) → slice_get node.hand.records j ≡ Some r → slice_get history (node.replica.tail + j) ≡ Some r
-
--- each request of a batch that has a place has its outcome
-pub record IsRun (b : Written) : Type 0 where
-  pub count : length b.replies.outcomes ≡ b.count
-  pub outcomes : (k : ℕ) → k < b.count → k < length b.batch.records → (o : Outcome) × (slice_get b.replies.outcomes k ≡ Some (Some o))
-  pub short : b.first + b.count < 2 ^ 64

@@ -1,15 +1,13 @@
 -- A store as one value: its log and its nodes.
-use Rattle.std.specs.Prelude.{ℕ, zero, suc, ◌+◌, List, [], ◌∷◌, ◌++◌, length, take, min, replicate, Option, Some, None, option_map}
+use Rattle.std.specs.Prelude.{ℕ, zero, suc, ◌+◌, List, [], ◌∷◌, ◌++◌, length, take, min, replicate, Option, None}
 use Rattle.maps.specs.Maps.{Maps}
-use Rattle.machine.specs.declared.running.Outcome.{Outcome}
 use Rattle.loader.specs.CatalogueView.{CatalogueView}
-use Rattle.oplog.specs.History.{Effect, History, after, left_by}
+use Rattle.oplog.specs.History.{History, after}
 use Rattle.oplog.specs.Logs.{Log, HandView, tail_of, left_of, records_from, opened_log, opened_hand}
-use Rattle.combiner.specs.declared.slots.Reply.{Reply}
-use Rattle.combiner.specs.declared.slots.Reply.TheVariants.{Placed, Ended}
 use Rattle.combiner.specs.Desks.{DeskView, BatchView, opened_desk}
-use Rattle.replica.specs.StoreMeaning.{store_meaning, outcome_of}
-use Rattle.replica.specs.Views.{ReplicaView, RepliesView, no_replies, with_outcome}
+use Rattle.replica.specs.StoreMeaning.{store_meaning}
+use Rattle.replica.specs.Views.{ReplicaView, no_replies}
+use Rattle.node.specs.Following.{outcomes_after}
 use Rattle.schedule.specs.declared.parts.BegunRead.{BegunRead}
 use Rattle.schedule.specs.declared.parts.Written.{Written}
 use Rattle.schedule.specs.declared.parts.NodeBatch.{NodeBatch}
@@ -62,25 +60,9 @@ grown g rs = record g { records = g.records ++ take (room_for g rs) rs }
 
 -- the batch, once it is in the log
 abbrev pub written : Log → BatchView → Written
-written g b = record {
-  batch = b;
-  first = tail_of g;
-  count = room_for g b.records;
-  replies = no_replies (tail_of g) (room_for g b.records);
-}
+written g b = record { batch = b; replies = no_replies (tail_of g) (room_for g b.records) }
 
 -- ---- replaying
-
--- an outcome at a place is kept, if there is one
-abbrev pub with_effect : RepliesView → ℕ → Option (Effect Maps) → RepliesView
-with_effect kept place (Some e) = with_outcome kept place (outcome_of e)
-with_effect kept place None = kept
-
--- the outcomes of these records, the first of which is run on those maps and has that place
-abbrev pub outcomes_after : CatalogueView → Maps → ℕ → History → RepliesView → RepliesView
-outcomes_after c maps place [] kept = kept
-outcomes_after c maps place (r ∷ rs) kept =
-    outcomes_after c (left_by (store_meaning.update c r.op maps) maps) (place + 1) rs (with_effect kept place (store_meaning.update c r.op maps))
 
 -- the batch keeps its own outcomes
 abbrev pub batch_after : CatalogueView → Maps → ℕ → History → NodeBatch → NodeBatch
@@ -100,18 +82,6 @@ replayed m rs node = record node {
 abbrev pub to_run : Log → ℕ → History → History
 to_run g tail [] = records_from g tail
 to_run g tail (r ∷ rs) = r ∷ rs
-
--- ---- answering
-
--- the answers to these requests, the first of which has that place: each that has a place has its outcome, the others came too late
-abbrev pub answers_from : ℕ → List (Option Outcome) → History → List (Option Reply)
-answers_from place outcomes [] = []
-answers_from place [] (r ∷ rs) = Some Ended ∷ answers_from place [] rs
-answers_from place (outcome ∷ outcomes) (r ∷ rs) = option_map (λ o. Placed place o.reply) outcome ∷ answers_from (place + 1) outcomes rs
-
--- the batch with its answers
-abbrev pub answered_batch : Written → BatchView
-answered_batch b = record { records = b.batch.records; answers = answers_from b.first b.replies.outcomes b.batch.records }
 
 -- ---- the base
 

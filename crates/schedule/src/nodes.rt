@@ -2,22 +2,21 @@
 
 ghost use Rattle.std.specs.Prelude.{◌≡◌, ◌↔◌, IsTrue, ◌+◌, ◌≤◌, ◌<◌, ◌^◌, true, false, length, Some, None, MatchOption, IfOk, replicate, slice_get, option_map, ◌≢◌};
 ghost use Rattle.maps.specs.Maps.{shapes_of};
-ghost use Rattle.machine.specs.declared.running.Outcome.{Outcome as TheOutcome};
-ghost use Rattle.combiner.specs.declared.slots.Reply.TheVariants.{Placed, Ended};
 ghost use Rattle.oplog.specs.declared.configuration.TheConstants.{MAX_NODES};
 ghost use Rattle.oplog.specs.Limits.{IsConfig};
 ghost use Rattle.oplog.specs.Logs.{Log, room_in};
 ghost use Rattle.replica.specs.StoreMeaning.{IsOperation, is_operation, store_meaning};
 ghost use Rattle.verifier.specs.declared.refusal.Mode.TheVariants.{Update, Read};
 ghost use Rattle.schedule.specs.declared.parts.Opening.{Opening as TheOpening};
-ghost use Rattle.schedule.specs.Worlds.{opened_node, room_for, grown, written, replayed, answered_batch};
+ghost use Rattle.schedule.specs.Worlds.{opened_node, room_for, grown, written, replayed};
 ghost use Rattle.schedule.specs.Steps.{is_idle, part_of, post, claim, append, has_next, replay, finish, reply, collect, read_at, read_begin, read_answer, reclaim, rebase};
-ghost use Rattle.schedule.specs.Taking.{IsOfStore, TakesPart, CanCopy, CanRun, IsRun, may_append, with_next};
+ghost use Rattle.schedule.specs.Taking.{IsOfStore, TakesPart, CanCopy, CanRun, may_append, with_next};
 
 use crate::parts::{BegunRead, NodeBatch, Opening, Written};
 use crate::steps::{Step, StepAnswer};
-use combiner::{Batch, Desk, Reply, Stage};
+use combiner::{Batch, Desk, Stage};
 use loader::Catalogue;
+use node::answer_batch;
 use oplog::{CopyAnswer, Hand, LogState, Op};
 use readpath::{ReadAnswer, answer, ready};
 use replica::{Replica, Replies, find_program_of};
@@ -357,8 +356,9 @@ impl Node {
             return StepAnswer::NotNow;
         }
         match mem::replace(&mut self.batch, NodeBatch::Absent) {
-            NodeBatch::InLog(written) => {
-                self.desk.reply(&answered(written));
+            NodeBatch::InLog(mut written) => {
+                answer_batch(&mut written.batch, &written.replies);
+                self.desk.reply(&written.batch);
                 StepAnswer::Done
             }
             _ => unreachable!(),
@@ -419,46 +419,6 @@ fn append_batch(log: &mut LogState, batch: Batch) -> Written
     };
     Written {
         batch,
-        first,
-        count,
         replies: Replies::new(first, count),
-    }
-}
-
-// The batch with its answers.
-fn answered(written: Written) -> Batch
-    requires run { IsRun written }
-    ensures answered { result ≡ answered_batch written }
-{
-    let Written {
-        mut batch,
-        first,
-        count,
-        replies,
-    } = written;
-    for k in 0..batch.records().len() {
-        let reply = answer_no(first, count, &replies, k);
-        batch.answer(k, reply);
-    }
-    batch
-}
-
-// The answer to the request number k of a batch whose first has this place.
-fn answer_no(first: u64, count: usize, replies: &Replies, k: usize) -> Reply
-    requires run { k < count → (o : TheOutcome) × (slice_get replies.now.outcomes k ≡ Some (Some o)) }
-    requires count { count ≡ length replies.now.outcomes }
-    requires short { first + count < 2 ^ 64 }
-    ensures placed { (o : TheOutcome) → k < count → slice_get replies.now.outcomes k ≡ Some (Some o) → result ≡ Placed (first + k) o.reply }
-    ensures ended { count ≤ k → result ≡ Ended }
-{
-    if k >= count {
-        return Reply::Ended;
-    }
-    match replies.get(k) {
-        Some(outcome) => Reply::Placed {
-            index: first + k as u64,
-            reply: outcome.reply,
-        },
-        None => unreachable!(),
     }
 }

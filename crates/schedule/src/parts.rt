@@ -28,11 +28,8 @@ pub struct BegunRead {
 pub struct Written {
     /// Its requests.
     pub batch: Batch,
-    /// The place of the first of them in the history.
-    pub first: u64,
-    /// How many of them, from the first on, have a place: for the others the history had no room.
-    pub count: usize,
-    /// Their outcomes, as far as the replica has applied them.
+    /// The places of those of them, from the first on, for which the history had room, and their outcomes, as far as the replica has
+    /// applied them.
     pub replies: Replies,
 }
 
