@@ -1,14 +1,15 @@
 -- The answers of a batch, and the steps that hand answers out.
-use Rattle.std.proofs.Common.{◌≡◌, ℕ, zero, suc, ◌+◌, ◌<◌, ◌≤◌, ◌^◌, List, [], ◌∷◌, ◌++◌, length, take, Option, Some, None, refl, sym, ap, ◌∙◌, ⊎_elim, arith, subst}
-use Rattle.std.specs.Prelude.{slice_get, slice_set, ◌&&◌, nat_le, cond, option_map}
+use Rattle.std.proofs.Common.{◌≡◌, ℕ, zero, suc, ◌+◌, ◌<◌, ◌≤◌, ◌^◌, List, [], ◌∷◌, ◌++◌, length, take, true, Option, Some, None, refl, sym, ap, ◌∙◌, ⊎_elim, arith, subst}
+use Rattle.std.specs.Prelude.{slice_get, slice_set, cond, option_map}
 use Rattle.std.specs.Option.{option_and_then}
-use Rattle.std.proofs.lemmas.Bool.{cases_lt, le-leb}
+use Rattle.std.proofs.lemmas.Bool.{cases_lt}
 use Rattle.oplog.specs.History.{ReadEffect, History}
 use Rattle.oplog.specs.Logs.{Log}
 use Rattle.combiner.specs.declared.slots.Reply.TheVariants.{Placed, Ended}
 use Rattle.combiner.specs.Desks.{IsAnswered}
 use Rattle.readpath.specs.declared.reading.ReadAnswer.{ReadAnswer}
 use Rattle.replica.specs.StoreMeaning.{store_meaning, outcome_of}
+use Rattle.node.specs.Following.{may_answer}
 use Rattle.node.specs.Answering.{answered_batch, HaveRun}
 use Rattle.node.proofs.Answers.{answers_placed, answers_ended}
 use Rattle.schedule.specs.declared.parts.BegunRead.{BegunRead}
@@ -19,7 +20,7 @@ use Rattle.schedule.specs.declared.steps.Step.{Step}
 use Rattle.schedule.specs.declared.steps.StepAnswer.{StepAnswer}
 use Rattle.schedule.specs.declared.steps.StepAnswer.TheVariants as answers
 use Rattle.schedule.specs.Trace.{ReadBack, Back}
-use Rattle.schedule.specs.Worlds.{NodeView, WorldView}
+use Rattle.schedule.specs.Worlds.{NodeView, WorldView, own_of}
 use Rattle.schedule.specs.Steps.{Part, Took, with_call_or_back, put_part, part_of, node_of, took, world_of, world_after, trace_after, with_event, session_at, read_at, with_read, read_answer}
 use Rattle.schedule.specs.Stands.{BatchStands, WrittenStands, Stands}
 use Rattle.schedule.specs.Taking.{WorldState, store_of, step_answer, answers_to, TakesPart, Takes, IsOfStore, IsStanding}
@@ -56,26 +57,18 @@ all_answered b run k lt =
 
 -- ---- reads
 
-pub read_taken : (m : Opening) (g : Log) (node new : NodeView) (s : ℕ) (read : BegunRead) (given : ReadAnswer) → read_at node s ≡ Some read → read.seen ≤ node.replica.tail → node.replica.tail ≤ g.done
+pub read_taken : (m : Opening) (g : Log) (node new : NodeView) (s : ℕ) (read : BegunRead) (given : ReadAnswer) → read_at node s ≡ Some read → may_answer read.seen g.done (own_of node) ≡ true
     → given.point ≡ node.replica.tail → option_map (λ (e : ReadEffect). e.reply) (store_meaning.read m.catalogue read.op node.replica.maps) ≡ Some given.reply → new ≡ with_read node s None
     → TakesPart (read_answer m s g node) g node g new (answers.ReadBack given)
-read_taken m g node new s read given at seen done point reply is =
+read_taken m g node new s read given at may point reply is =
     let d = map_gives (λ (e : ReadEffect). e.reply) (store_meaning.read m.catalogue read.op node.replica.maps) given.reply reply in
-    let p : Part = with_call_or_back (Back (session_at node s) (ReadBack (record { point = node.replica.tail; reply = (d.0).reply }))) g (with_read node s None) in
+    let part : ReadEffect → Part = λ e. with_call_or_back (Back (session_at node s) (ReadBack (record { point = node.replica.tail; reply = e.reply }))) g (with_read node s None) in
     let same : given ≡ (let v : ReadAnswer = record { point = node.replica.tail; reply = (d.0).reply } in v) =
     ap (λ k. (let v : ReadAnswer = record { point = k; reply = given.reply } in v)) point ∙ ap (λ k. (let v : ReadAnswer = record { point = node.replica.tail; reply = k } in v)) (sym d.2) in
-    let finds : read_answer m s g node ≡ Some p =
-    ap (λ o. option_and_then (λ (r : BegunRead).
-    cond (nat_le r.seen node.replica.tail && nat_le node.replica.tail g.done)
-    (option_map (λ (e : ReadEffect). with_call_or_back (Back (session_at node s) (ReadBack (record { point = node.replica.tail; reply = e.reply }))) g (with_read node s None)) (store_meaning.read m.catalogue r.op node.replica.maps))
-    None) o) at
-    ∙ ap (λ c. cond (c && nat_le node.replica.tail g.done)
-    (option_map (λ (e : ReadEffect). with_call_or_back (Back (session_at node s) (ReadBack (record { point = node.replica.tail; reply = e.reply }))) g (with_read node s None)) (store_meaning.read m.catalogue read.op node.replica.maps))
-    None) (le-leb read.seen node.replica.tail seen)
-    ∙ ap (λ c. cond c
-    (option_map (λ (e : ReadEffect). with_call_or_back (Back (session_at node s) (ReadBack (record { point = node.replica.tail; reply = e.reply }))) g (with_read node s None)) (store_meaning.read m.catalogue read.op node.replica.maps))
-    None) (le-leb node.replica.tail g.done done)
-    ∙ ap (λ o. option_map (λ (e : ReadEffect). with_call_or_back (Back (session_at node s) (ReadBack (record { point = node.replica.tail; reply = e.reply }))) g (with_read node s None)) o) d.1 in
+    let finds : read_answer m s g node ≡ Some (part d.0) =
+    ap (λ o. option_and_then (λ (r : BegunRead). cond (may_answer r.seen g.done (own_of node)) (option_map part (store_meaning.read m.catalogue r.op node.replica.maps)) None) o) at
+    ∙ ap (λ c. cond c (option_map part (store_meaning.read m.catalogue read.op node.replica.maps)) None) may
+    ∙ ap (λ o. option_map part o) d.1 in
     subst (λ o. TakesPart o g node g new (answers.ReadBack given)) (sym finds) (ap answers.ReadBack same, refl, is)
 
 -- ---- the whole store

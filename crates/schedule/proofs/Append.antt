@@ -1,6 +1,6 @@
 -- The step that appends a batch.
 use Rattle.std.proofs.Common.{◌≡◌, ◌≢◌, ℕ, zero, suc, ◌+◌, ◌-◌, ◌<◌, ◌≤◌, List, [], ◌∷◌, ◌++◌, length, take, Some, refl, sym, ◌∙◌, inl, inr, ⊎_elim, arith, subst, length-append, length-drop}
-use Rattle.std.specs.Prelude.{slice_get, slice_set, ◌⊎◌, ◌&&◌, nat_le, min, if◌then◌else◌}
+use Rattle.std.specs.Prelude.{slice_get, slice_set, ◌⊎◌, nat_le, min, if◌then◌else◌}
 use Rattle.std.proofs.lemmas.Option.{same_Some}
 use Rattle.std.proofs.lemmas.Bool.{ne_eqb, eq-eqb, and_parts, leb-true}
 use Rattle.oplog.specs.History.{History}
@@ -8,11 +8,12 @@ use Rattle.oplog.specs.Logs.{room_in, HandView, tail_of, left_of, records_from}
 use Rattle.oplog.specs.Sessions.{session}
 use Rattle.combiner.specs.Desks.{BatchView, IsBatchOf}
 use Rattle.replica.specs.Views.{ReplicaView}
+use Rattle.node.specs.Following.{room_for, grown, is_above, may_append}
 use Rattle.schedule.specs.declared.parts.NodeBatch.{NodeBatch}
 use Rattle.schedule.specs.declared.parts.NodeBatch.TheVariants.{Absent, Held, InLog}
 use Rattle.schedule.specs.Trace.{Trace, Places}
 use Rattle.schedule.specs.declared.parts.Opening.{Opening}
-use Rattle.schedule.specs.Worlds.{NodeView, WorldView, room_for, grown}
+use Rattle.schedule.specs.Worlds.{NodeView, WorldView, own_of}
 use Rattle.schedule.specs.Steps.{Part, silent, append, with_appended, claimed_batch}
 use Rattle.schedule.specs.Stands.{StageStands, NodeStands, LogStands, ReplicaStands, BatchStands, Stands, batch_in}
 use Rattle.schedule.proofs.Lists.{get_more, get_drop, get_taken, set_length}
@@ -62,30 +63,30 @@ batch_grow m h rs replica hand (InLog b) l x = record {
 
 module _ (m : Opening) (w : WorldView) (h : History) (places : Places) (t : Trace) (n : ℕ) (node : NodeView) (b : BatchView) (at_n : slice_get w.nodes n ≡ Some node) (is_b : node.batch ≡ Held b)
     (above : w.log.base ≤ node.replica.tail) (x : Stands m w h places t) where
-  few : room_for w.log b.records ≤ length b.records
+  few : room_for b.records w.log ≤ length b.records
   few = min_left (length b.records) (left_of w.log)
 
-  fits : length h + room_for w.log b.records ≤ m.config.limit
+  fits : length h + room_for b.records w.log ≤ m.config.limit
   fits = let a = min_right (length b.records) (left_of w.log) in let e = x.log.ends in let l = x.log.limit in let v = x.log.within in omega arith
 
-  end : Grown m w h places t n b (room_for w.log b.records)
-  end = grown_to m w h places t n node b at_n is_b x (room_for w.log b.records) few fits
+  end : Grown m w h places t n b (room_for b.records w.log)
+  end = grown_to m w h places t n node b at_n is_b x (room_for b.records w.log) few fits
 
   abbrev pub all_of : History
-  all_of = h ++ take (room_for w.log b.records) b.records
+  all_of = h ++ take (room_for b.records w.log) b.records
 
-  len : length all_of ≡ length h + room_for w.log b.records
-  len = grown_length m w h places t n node b at_n is_b x (room_for w.log b.records) few
+  len : length all_of ≡ length h + room_for b.records w.log
+  len = grown_length m w h places t n node b at_n is_b x (room_for b.records w.log) few
 
-  log_then : LogStands m (grown w.log b.records) all_of
+  log_then : LogStands m (grown b.records w.log) all_of
   log_then = record {
-    ends = (let e = x.log.ends in let a = length-append w.log.records (take (room_for w.log b.records) b.records) in let c = length-append h (take (room_for w.log b.records) b.records) in omega arith);
-    kept = λ j f g. ⊎_elim (λ old. get_more h (take (room_for w.log b.records) b.records) (w.log.base + j) f (x.log.kept j f old))
+    ends = (let e = x.log.ends in let a = length-append w.log.records (take (room_for b.records w.log) b.records) in let c = length-append h (take (room_for b.records w.log) b.records) in omega arith);
+    kept = λ j f g. ⊎_elim (λ old. get_more h (take (room_for b.records w.log) b.records) (w.log.base + j) f (x.log.kept j f old))
         (λ (i, at, new). let e = x.log.ends in let same : length h + i ≡ w.log.base + j = omega arith in
-        subst (λ k. slice_get all_of k ≡ Some f) same (get_right h (take (room_for w.log b.records) b.records) i f new))
-        (get_append w.log.records (take (room_for w.log b.records) b.records) j f g);
+        subst (λ k. slice_get all_of k ≡ Some f) same (get_right h (take (room_for b.records w.log) b.records) i f new))
+        (get_append w.log.records (take (room_for b.records w.log) b.records) j f g);
     reclaimed = x.log.reclaimed;
-    maps = x.log.maps ∙ sym (after_more m h (take (room_for w.log b.records) b.records) w.log.base (let a = x.log.reclaimed in let b = x.log.done in omega arith));
+    maps = x.log.maps ∙ sym (after_more m h (take (room_for b.records w.log) b.records) w.log.base (let a = x.log.reclaimed in let b = x.log.done in omega arith));
     done = (let d = x.log.done in let l = len in omega arith);
     limit = x.log.limit;
     within = (let l = len in let f = fits in omega arith);
@@ -95,19 +96,19 @@ module _ (m : Opening) (w : WorldView) (h : History) (places : Places) (t : Trac
   node_then : NodeStands m w.log.done all_of (end.places_then) t n (with_appended w.log b node)
   node_then =
       let o = x.nodes n node at_n in
-      let r = replica_grow m h (take (room_for w.log b.records) b.records) node.replica node.hand o.replica in
-      let hand_end : node.replica.tail + length (records_from (grown w.log b.records) node.replica.tail) ≡ length h + room_for w.log b.records =
-      (let e = log_then.ends in let l = len in let d = length-drop (node.replica.tail - w.log.base) (grown w.log b.records).records in let i = o.replica.tail in let f = few in omega arith) in
+      let r = replica_grow m h (take (room_for b.records w.log) b.records) node.replica node.hand o.replica in
+      let hand_end : node.replica.tail + length (records_from (grown b.records w.log) node.replica.tail) ≡ length h + room_for b.records w.log =
+      (let e = log_then.ends in let l = len in let d = length-drop (node.replica.tail - w.log.base) (grown b.records w.log).records in let i = o.replica.tail in let f = few in omega arith) in
       let yes = eq-eqb n n refl in
       let first : length h ≡ tail_of w.log = sym x.log.ends in
-      let count = none_kept (room_for w.log b.records) in
+      let count = none_kept (room_for b.records w.log) in
       record {
         replica = record {
           tail = r.tail;
           maps = r.maps;
           begins = refl;
           next = λ j f g. let i : w.log.base + ((node.replica.tail - w.log.base) + j) ≡ node.replica.tail + j = omega arith in
-              subst (λ k. slice_get all_of k ≡ Some f) i (log_then.kept ((node.replica.tail - w.log.base) + j) f (sym (get_drop (grown w.log b.records).records (node.replica.tail - w.log.base) j) ∙ g));
+              subst (λ k. slice_get all_of k ≡ Some f) i (log_then.kept ((node.replica.tail - w.log.base) + j) f (sym (get_drop (grown b.records w.log).records (node.replica.tail - w.log.base) j) ∙ g));
           window = o.replica.window;
         };
         desk = record {
@@ -119,14 +120,14 @@ module _ (m : Opening) (w : WorldView) (h : History) (places : Places) (t : Trac
         };
         batch = record {
           placed = λ k q lt g. subst (λ f. slice_get all_of (f + k) ≡ Some q) first
-              (get_right h (take (room_for w.log b.records) b.records) k q (get_taken (room_for w.log b.records) b.records k q g (let c = count in omega arith)));
+              (get_right h (take (room_for b.records w.log) b.records) k q (get_taken (room_for b.records w.log) b.records k q g (let c = count in omega arith)));
           ahead = (let e = hand_end in let f = first in let c = count in omega arith);
           known = λ k q lt g below. absurd (let i = o.replica.tail in let f = first in omega arith);
           ended = λ short. let s = min_short (length b.records) (left_of w.log) (let c = count in omega arith) in let e = hand_end in let a = x.log.ends in let l = x.log.within in let v = x.log.limit in omega arith;
         };
         seats = λ s z read there begun.
-            subst (λ f. StageStands m w.log.done all_of (end.places_then) t (session m.config n s) (placed f b (room_for w.log b.records)) z.count z.stage read) first
-            (subst (λ v. StageStands m w.log.done all_of (end.places_then) t (session m.config n s) (if v then placed (length h) b (room_for w.log b.records) else node.batch) z.count z.stage read) yes
+            subst (λ f. StageStands m w.log.done all_of (end.places_then) t (session m.config n s) (placed f b (room_for b.records w.log)) z.count z.stage read) first
+            (subst (λ v. StageStands m w.log.done all_of (end.places_then) t (session m.config n s) (if v then placed (length h) b (room_for b.records w.log) else node.batch) z.count z.stage read) yes
             (end.seats n node at_n s z read there begun));
       }
 
@@ -135,19 +136,19 @@ module _ (m : Opening) (w : WorldView) (h : History) (places : Places) (t : Trac
       let o = x.nodes k old g in
       let no = ne_eqb k n ne in
       record {
-        replica = replica_grow m h (take (room_for w.log b.records) b.records) old.replica old.hand o.replica;
+        replica = replica_grow m h (take (room_for b.records w.log) b.records) old.replica old.hand o.replica;
         desk = o.desk;
-        batch = batch_grow m h (take (room_for w.log b.records) b.records) old.replica old.hand old.batch o.replica.tail o.batch;
+        batch = batch_grow m h (take (room_for b.records w.log) b.records) old.replica old.hand old.batch o.replica.tail o.batch;
         seats = λ s z read there begun.
-            subst (λ v. StageStands m w.log.done all_of (end.places_then) t (session m.config k s) (if v then placed (length h) b (room_for w.log b.records) else old.batch) z.count z.stage read) no
+            subst (λ v. StageStands m w.log.done all_of (end.places_then) t (session m.config k s) (if v then placed (length h) b (room_for b.records w.log) else old.batch) z.count z.stage read) no
             (end.seats k old g s z read there begun);
       }
 
-  pub appended_stands : Kept m w h places t n (silent (grown w.log b.records) (with_appended w.log b node))
+  pub appended_stands : Kept m w h places t n (silent (grown b.records w.log) (with_appended w.log b node))
   appended_stands = (
-    take (room_for w.log b.records) b.records,
+    take (room_for b.records w.log) b.records,
     end.more,
-    subst (λ ps. Stands m (record { log = grown w.log b.records; nodes = slice_set w.nodes n (with_appended w.log b node) }) all_of ps t) end.begins (record {
+    subst (λ ps. Stands m (record { log = grown b.records w.log; nodes = slice_set w.nodes n (with_appended w.log b node) }) all_of ps t) end.begins (record {
       catalogue = x.catalogue;
       explains = end.explains;
       log = log_then;
@@ -163,7 +164,7 @@ pub keeps_append : (m : Opening) (w : WorldView) (h : History) (places : Places)
 keeps_append m w h places t n node p at_n taken x =
     let r = then_gives _ (claimed_batch node.batch) p taken in
     let b : BatchView = r.0 in
-    let c = cond_gives (nat_le w.log.base node.replica.tail && nat_le (room_for w.log b.records) (room_in w.log)) _ p r.2 in
-    let tests = and_parts (nat_le w.log.base node.replica.tail) (nat_le (room_for w.log b.records) (room_in w.log)) c.0 in
+    let c = cond_gives (may_append b.records w.log (own_of node)) _ p r.2 in
+    let tests = and_parts (is_above w.log (own_of node)) (nat_le (room_for b.records w.log) (room_in w.log)) c.0 in
     subst (λ z. Kept m w h places t n z) (same_Some _ p c.1)
     (appended_stands m w h places t n node b at_n (claimed_is node.batch b r.1) (leb-true w.log.base node.replica.tail tests.0) x)

@@ -16,6 +16,7 @@ use Rattle.combiner.specs.declared.slots.Slot.{Slot}
 use Rattle.combiner.specs.Slots.{claimed_stage, claimed_slot, requests_from, answered_stage, with_answer}
 use Rattle.combiner.specs.Desks.{first_author, has_request, batch_of, claimed, claimed_from, IsBatchOf, answer_for, replied}
 use Rattle.replica.specs.StoreMeaning.{outcome_of}
+use Rattle.node.specs.Following.{no_records, may_reply}
 use Rattle.node.specs.Answering.{answered_batch}
 use Rattle.node.proofs.Answers.{answers_placed, answers_ended}
 use Rattle.schedule.specs.declared.parts.BegunRead.{BegunRead}
@@ -23,8 +24,8 @@ use Rattle.schedule.specs.declared.parts.Written.{Written}
 use Rattle.schedule.specs.declared.parts.NodeBatch.TheVariants.{Absent, Held, InLog}
 use Rattle.schedule.specs.Trace.{Trace, Places}
 use Rattle.schedule.specs.declared.parts.Opening.{Opening}
-use Rattle.schedule.specs.Worlds.{NodeView, WorldView}
-use Rattle.schedule.specs.Steps.{Part, claim, reply, no_records, no_batch, appended_batch}
+use Rattle.schedule.specs.Worlds.{NodeView, WorldView, own_of}
+use Rattle.schedule.specs.Steps.{Part, claim, reply, no_batch, appended_batch}
 use Rattle.schedule.specs.Stands.{OpenAt, ReplyStands, StageStands, DeskStands, NodeStands, BatchStands, WrittenStands, Stands, batch_in, place_in}
 use Rattle.schedule.proofs.Lists.{get_in, set_length}
 use Rattle.schedule.proofs.Options.{cond_gives, then_gives, none_is, no_batch_is, appended_is}
@@ -208,7 +209,7 @@ keeps_reply m w h places t n node p at_n taken x =
     let r = then_gives _ (appended_batch node.batch) p taken in
     let b : Written = r.0 in
     let is_b = appended_is node.batch b r.1 in
-    let c = cond_gives (no_records node.hand.records && nat_le node.replica.tail w.log.done) _ p r.2 in
+    let c = cond_gives (may_reply w.log.done (own_of node)) _ p r.2 in
     let tests = and_parts (no_records node.hand.records) (nat_le node.replica.tail w.log.done) c.0 in
     let empty = none_is node.hand.records tests.0 in
     let below = leb-true node.replica.tail w.log.done tests.1 in

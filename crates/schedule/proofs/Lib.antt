@@ -11,7 +11,6 @@ pub mod Desks
 pub mod Appends
 pub mod Append
 pub mod Runs
-pub mod Keeping
 pub mod Owned
 pub mod Answers
 pub mod ReadOff

@@ -1,18 +1,19 @@
 -- The steps of the log: done is raised, the base moves, a replica takes the base.
 use Rattle.std.proofs.Common.{◌≡◌, ℕ, ◌+◌, ◌-◌, ◌≤◌, [], length, Some, refl, sym, ap, ◌∙◌, arith, subst, length-drop}
-use Rattle.std.specs.Prelude.{slice_get, slice_set, ◌&&◌, nat_lt, nat_le}
+use Rattle.std.specs.Prelude.{slice_get, slice_set, max, nat_lt, nat_le}
 use Rattle.std.proofs.lemmas.Option.{none-some, same_Some}
 use Rattle.std.proofs.lemmas.Bool.{and_parts, leb-true, ltb-true}
 use Rattle.oplog.specs.History.{History}
 use Rattle.oplog.specs.Logs.{HandView}
 use Rattle.oplog.specs.Sessions.{session}
 use Rattle.replica.specs.Views.{ReplicaView}
+use Rattle.node.specs.Following.{no_records, may_finish, told, may_reclaim, reclaimed, may_rebase, rebased}
 use Rattle.schedule.specs.declared.parts.NodeBatch.{NodeBatch}
 use Rattle.schedule.specs.declared.parts.NodeBatch.TheVariants.{Absent, Held, InLog}
 use Rattle.schedule.specs.Trace.{Trace, Places}
 use Rattle.schedule.specs.declared.parts.Opening.{Opening}
-use Rattle.schedule.specs.Worlds.{NodeView, WorldView, reclaimed, rebased}
-use Rattle.schedule.specs.Steps.{Part, finish, reclaim, rebase, no_records}
+use Rattle.schedule.specs.Worlds.{NodeView, WorldView, own_of, with_own}
+use Rattle.schedule.specs.Steps.{Part, finish, reclaim, rebase}
 use Rattle.schedule.specs.Stands.{NodeStands, BatchStands, Stands}
 use Rattle.schedule.proofs.Lists.{get_drop, set_length}
 use Rattle.schedule.proofs.Options.{cond_gives, none_is}
@@ -31,11 +32,12 @@ node_done m done more h places t n node l o = record {
 pub keeps_finish : (m : Opening) (w : WorldView) (h : History) (places : Places) (t : Trace) (n : ℕ) (node : NodeView) (p : Part)
     → slice_get w.nodes n ≡ Some node → finish w.log node ≡ Some p → Stands m w h places t → Kept m w h places t n p
 keeps_finish m w h places t n node p at_n taken x =
-    let c = cond_gives (nat_lt w.log.done node.replica.tail) _ p taken in
+    let c = cond_gives (may_finish w.log.done (own_of node)) _ p taken in
     let above = ltb-true w.log.done node.replica.tail c.0 in
+    let raised : max w.log.done node.replica.tail ≡ node.replica.tail = omega arith in
     let o = x.nodes n node at_n in
     subst (λ z. Kept m w h places t n z) (same_Some _ p c.1)
-    (same_history m (record { log = record w.log { done = node.replica.tail }; nodes = slice_set w.nodes n node }) h places t (record {
+    (same_history m (record { log = told (own_of node) w.log; nodes = slice_set w.nodes n node }) h places t (record {
       catalogue = x.catalogue;
       explains = x.explains;
       log = record {
@@ -43,7 +45,7 @@ keeps_finish m w h places t n node p at_n taken x =
         kept = x.log.kept;
         reclaimed = (let b = x.log.reclaimed in omega arith);
         maps = x.log.maps;
-        done = o.replica.tail;
+        done = (let l = o.replica.tail in omega arith);
         limit = x.log.limit;
         within = x.log.within;
         window = x.log.window;
@@ -51,21 +53,21 @@ keeps_finish m w h places t n node p at_n taken x =
       count = set_length w.nodes n node ∙ x.count;
       callers = x.callers;
       stamps = λ b y a g. let l = x.stamps b y a g in omega arith;
-      nodes = nodes_put (λ k y. NodeStands m node.replica.tail h places t k y) w.nodes n node
-          (λ k old ne g. node_done m w.log.done node.replica.tail h places t k old (omega arith) (x.nodes k old g))
-          (node_done m w.log.done node.replica.tail h places t n node (omega arith) o);
+      nodes = nodes_put (λ k y. NodeStands m (max w.log.done node.replica.tail) h places t k y) w.nodes n node
+          (λ k old ne g. node_done m w.log.done (max w.log.done node.replica.tail) h places t k old (omega arith) (x.nodes k old g))
+          (node_done m w.log.done (max w.log.done node.replica.tail) h places t n node (omega arith) o);
     }))
 
 pub keeps_reclaim : (m : Opening) (w : WorldView) (h : History) (places : Places) (t : Trace) (n : ℕ) (node : NodeView) (p : Part)
     → slice_get w.nodes n ≡ Some node → reclaim w.log node ≡ Some p → Stands m w h places t → Kept m w h places t n p
 keeps_reclaim m w h places t n node p at_n taken x =
-    let c = cond_gives (nat_lt w.log.base node.replica.tail && nat_le node.replica.tail w.log.done) _ p taken in
+    let c = cond_gives (may_reclaim w.log.done w.log (own_of node)) _ p taken in
     let tests = and_parts (nat_lt w.log.base node.replica.tail) (nat_le node.replica.tail w.log.done) c.0 in
     let above = ltb-true w.log.base node.replica.tail tests.0 in
     let below = leb-true node.replica.tail w.log.done tests.1 in
     let o = x.nodes n node at_n in
     subst (λ z. Kept m w h places t n z) (same_Some _ p c.1)
-    (same_history m (record { log = reclaimed w.log node.replica; nodes = slice_set w.nodes n node }) h places t (record {
+    (same_history m (record { log = reclaimed (own_of node) w.log; nodes = slice_set w.nodes n node }) h places t (record {
       catalogue = x.catalogue;
       explains = x.explains;
       log = record {
@@ -103,7 +105,7 @@ moved m h replica hand new (InLog b) l empty inside p =
 pub keeps_rebase : (m : Opening) (w : WorldView) (h : History) (places : Places) (t : Trace) (n : ℕ) (node : NodeView) (p : Part)
     → slice_get w.nodes n ≡ Some node → rebase w.log node ≡ Some p → Stands m w h places t → Kept m w h places t n p
 keeps_rebase m w h places t n node p at_n taken x =
-    let c = cond_gives (nat_lt node.replica.tail w.log.base && no_records node.hand.records) _ p taken in
+    let c = cond_gives (may_rebase w.log (own_of node)) _ p taken in
     let tests = and_parts (nat_lt node.replica.tail w.log.base) (no_records node.hand.records) c.0 in
     let below = ltb-true node.replica.tail w.log.base tests.0 in
     let empty = none_is node.hand.records tests.1 in
@@ -112,14 +114,14 @@ keeps_rebase m w h places t n node p at_n taken x =
     let d = x.log.done in
     let inside : w.log.base ≤ length h = omega arith in
     subst (λ z. Kept m w h places t n z) (same_Some _ p c.1)
-    (same_history m (record { log = w.log; nodes = slice_set w.nodes n (rebased w.log node) }) h places t (record {
+    (same_history m (record { log = w.log; nodes = slice_set w.nodes n (with_own (rebased w.log (own_of node)) node) }) h places t (record {
       catalogue = x.catalogue;
       explains = x.explains;
       log = x.log;
-      count = set_length w.nodes n (rebased w.log node) ∙ x.count;
+      count = set_length w.nodes n (with_own (rebased w.log (own_of node)) node) ∙ x.count;
       callers = x.callers;
       stamps = x.stamps;
-      nodes = nodes_put (λ k y. NodeStands m w.log.done h places t k y) w.nodes n (rebased w.log node) (λ k old ne g. x.nodes k old g)
+      nodes = nodes_put (λ k y. NodeStands m w.log.done h places t k y) w.nodes n (with_own (rebased w.log (own_of node)) node) (λ k old ne g. x.nodes k old g)
           (record {
             replica = record { tail = inside; maps = x.log.maps; begins = refl; next = λ j f g. absurd (none-some f g); window = o.replica.window };
             desk = record { number = o.desk.number; slots = o.desk.slots; reads = o.desk.reads; own = o.desk.own; answers = o.desk.answers };

@@ -12,11 +12,12 @@ use Rattle.combiner.specs.declared.slots.Stage.TheVariants.{Empty, Posted, Claim
 use Rattle.combiner.specs.declared.slots.Slot.{Slot}
 use Rattle.combiner.specs.Slots.{slot, is_empty, counted}
 use Rattle.combiner.specs.Desks.{DeskView, BatchView, Collection, with_slot, posted, answer_in, collected}
+use Rattle.node.specs.Following.{no_records}
 use Rattle.schedule.specs.declared.parts.BegunRead.{BegunRead}
 use Rattle.schedule.specs.declared.parts.Written.{Written}
 use Rattle.schedule.specs.declared.parts.NodeBatch.{NodeBatch}
 use Rattle.schedule.specs.declared.parts.NodeBatch.TheVariants.{Absent, Held, InLog}
-use Rattle.schedule.specs.Steps.{is_free, no_read, no_batch, no_records, claimed_batch, appended_batch}
+use Rattle.schedule.specs.Steps.{is_free, no_read, no_batch, claimed_batch, appended_batch}
 
 -- ---- options
 

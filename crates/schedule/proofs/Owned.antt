@@ -1,15 +1,15 @@
 -- What is known of the log and a node of a store that stands for a history.
-use Rattle.std.proofs.Common.{◌≡◌, ◌≢◌, ℕ, suc, ◌<◌, ◌≤◌, ◌^◌, true, false, Bool, List, [], ◌∷◌, length, Option, Some, None, refl, sym, ap, ◌∙◌, inl, inr, ⊎_elim, arith, subst}
-use Rattle.std.specs.Prelude.{slice_get, ◌⊎◌, ◌&&◌, ◌||◌, ◌==◌, not, nat_le, nat_lt, cond, if◌then◌else◌}
+use Rattle.std.proofs.Common.{◌≡◌, ℕ, suc, ◌+◌, ◌<◌, ◌≤◌, ◌^◌, true, false, Bool, List, [], ◌∷◌, length, Option, Some, None, refl, sym, ap, ◌∙◌, arith, subst}
+use Rattle.std.specs.Prelude.{slice_get, ◌&&◌, ◌||◌, ◌==◌, cond, if◌then◌else◌}
 use Rattle.std.specs.List.{list_any}
 use Rattle.std.proofs.lemmas.Option.{none-some}
-use Rattle.std.proofs.lemmas.Bool.{and_parts, or_cases, leb-true, ltb-true, false≢true}
+use Rattle.std.proofs.lemmas.Bool.{false≢true}
 use Rattle.maps.specs.Maps.{HasShapes, shapes_of}
 use Rattle.verifier.specs.declared.refusal.Mode.TheVariants.{Read}
 use Rattle.loader.specs.CatalogueView.{CatalogueView}
 use Rattle.oplog.specs.declared.configuration.TheConstants.{MAX_LIMIT}
 use Rattle.oplog.specs.History.{History}
-use Rattle.oplog.specs.Logs.{Log, tail_of}
+use Rattle.oplog.specs.Logs.{Log}
 use Rattle.oplog.specs.Sessions.{session}
 use Rattle.combiner.specs.declared.slots.DeskRefused.{DeskRefused}
 use Rattle.combiner.specs.declared.slots.Reply.TheVariants.{Placed, Ended}
@@ -21,6 +21,8 @@ use Rattle.combiner.specs.Desks.{DeskView, first_author, claimed_from, has_combi
 use Rattle.replica.specs.StoreMeaning.{IsOperation, is_operation}
 use Rattle.replica.proofs.Tested.{is_tested}
 use Rattle.replica.proofs.Histories.{have_effects}
+use Rattle.node.specs.declared.following.NodeReplica.{NodeReplica}
+use Rattle.node.specs.Following.{Fits, IsNext, has_next, with_next}
 use Rattle.schedule.specs.declared.parts.BegunRead.{BegunRead}
 use Rattle.schedule.specs.declared.parts.NodeBatch.{NodeBatch}
 use Rattle.schedule.specs.declared.parts.NodeBatch.TheVariants.{Absent, Held}
@@ -28,13 +30,13 @@ use Rattle.schedule.specs.declared.parts.Opening.{Opening}
 use Rattle.schedule.specs.declared.steps.StepAnswer.TheVariants as answers
 use Rattle.schedule.specs.Trace.{Trace, Places}
 use Rattle.schedule.specs.Explains.{count_of}
-use Rattle.schedule.specs.Worlds.{NodeView, to_run, replayed}
-use Rattle.schedule.specs.Steps.{silent, read_at, claim, no_batch, has_next, no_records, replay}
+use Rattle.schedule.specs.Worlds.{NodeView, own_of}
+use Rattle.schedule.specs.Steps.{silent, read_at, claim, no_batch}
 use Rattle.schedule.specs.Stands.{StageStands, batch_in}
-use Rattle.schedule.specs.Taking.{IsOfStore, TakesPart, CanRun, CanCopy, with_next}
+use Rattle.schedule.specs.Taking.{IsOfStore, TakesPart}
 use Rattle.schedule.proofs.Lists.{get_in, get_some}
-use Rattle.schedule.proofs.Options.{some_is, read_is}
-use Rattle.schedule.proofs.Replays.{runs_next}
+use Rattle.schedule.proofs.Options.{read_is}
+use Rattle.schedule.proofs.Replays.{after_all, runs_next}
 
 -- ---- maps
 
@@ -44,11 +46,9 @@ node_shapes {m} {g} {node} x = subst (λ maps. HasShapes m.catalogue.shapes maps
 pub base_shapes : {m : Opening} {g : Log} {node : NodeView} → IsOfStore m g node → HasShapes m.catalogue.shapes g.base_maps
 base_shapes {m} {g} {node} x = subst (λ maps. HasShapes m.catalogue.shapes maps) (sym x.log.maps) ((have_effects m.catalogue x.catalogue x.history x.updates).shapes g.base)
 
-pub may_rebase : {m : Opening} {g : Log} {node : NodeView} → IsOfStore m g node → HasShapes (shapes_of node.replica.maps) g.base_maps
-may_rebase {m} {g} {node} x = subst (λ s. HasShapes s g.base_maps) (sym (node_shapes x).same) (base_shapes x)
-
-pub may_reclaim : {m : Opening} {g : Log} {node : NodeView} → IsOfStore m g node → HasShapes (shapes_of g.base_maps) node.replica.maps
-may_reclaim {m} {g} {node} x = subst (λ s. HasShapes s node.replica.maps) (sym (base_shapes x).same) (node_shapes x)
+-- the base has the replica's shapes
+pub same_shapes : {m : Opening} {g : Log} {node : NodeView} → IsOfStore m g node → shapes_of g.base_maps ≡ shapes_of node.replica.maps
+same_shapes x = (base_shapes x).same ∙ sym (node_shapes x).same
 
 -- ---- counts
 
@@ -121,36 +121,23 @@ claim_refused {m} {h} {node} x idle e refusal g desk same =
 
 -- ---- replaying
 
-pub can_copy : {m : Opening} {g : Log} {node : NodeView} → IsOfStore m g node → has_next g node ≡ true → CanCopy g node
-can_copy {m} {g} {node} x next = record {
-  tail = (let a = x.stands.replica.tail in let b = x.log.ends in omega arith);
-  above = λ empty. ⊎_elim (λ y. absurd (some_is node.hand.records y empty)) (λ y. (let q = and_parts (nat_le g.base node.replica.tail) (nat_lt node.replica.tail (tail_of g)) y in leb-true g.base node.replica.tail q.0))
-      (or_cases (not (no_records node.hand.records)) (nat_le g.base node.replica.tail && nat_lt node.replica.tail (tail_of g)) next);
-  begins = x.stands.replica.begins;
-  window = x.stands.replica.window ∙ sym x.log.window;
-}
+-- the log and the replica are those of one store
+pub fits : {m : Opening} {g : Log} {node : NodeView} → IsOfStore m g node → Fits g (own_of node)
+fits x = record { tail = (let a = x.stands.replica.tail in let b = x.log.ends in omega arith); window = x.stands.replica.window ∙ sym x.log.window }
 
-pub can_run : {m : Opening} {g : Log} {node : NodeView} (c : CatalogueView) → m.catalogue ≡ c → IsOfStore m g node → has_next g node ≡ true → CanRun c (with_next g node)
-can_run {m} {g} {node} c same x next =
-    let can : (node.hand.records ≢ []) ⊎ ((g.base ≤ node.replica.tail) × (node.replica.tail < tail_of g)) =
-    ⊎_elim (λ y. inl (some_is node.hand.records y))
-    (λ y. let q = and_parts (nat_le g.base node.replica.tail) (nat_lt node.replica.tail (tail_of g)) y in inr (leb-true g.base node.replica.tail q.0, ltb-true node.replica.tail (tail_of g) q.1))
-    (or_cases (not (no_records node.hand.records)) (nat_le g.base node.replica.tail && nat_lt node.replica.tail (tail_of g)) next) in
-    let runs = runs_next m (record { log = g; nodes = [] }) x.history x.places x.trace x.number node node.hand.records refl can x.log x.stands in
-    subst (λ k. CanRun k (with_next g node)) same (record {
-      history = x.history;
-      catalogue = x.catalogue;
-      updates = x.updates;
-      short = history_short x;
+-- what a replay runs comes next
+pub is_next : {m : Opening} {g : Log} {node : NodeView} (c : CatalogueView) → m.catalogue ≡ c → IsOfStore m g node → has_next g (own_of node) ≡ true → IsNext c (with_next g (own_of node))
+is_next {m} {g} {node} c same x next =
+    let own : NodeReplica = with_next g (own_of node) in
+    let runs = runs_next m g x.history x.places x.trace x.number node next x.log x.stands in
+    let end = (after_all m.catalogue x.history own.hand.records node.replica.tail node.replica.maps runs.0 x.stands.replica.maps x.stands.replica.tail).1 in
+    let short = history_short x in
+    subst (λ k. IsNext k own) same (record {
       begins = refl;
-      tail = x.stands.replica.tail;
-      maps = x.stands.replica.maps;
-      next = runs.0;
+      shapes = (node_shapes x).same;
+      updates = λ k r at. x.updates (node.replica.tail + k) r (runs.0 k r at);
+      short = omega arith;
     })
-
-pub replay_taken : (m : Opening) (g : Log) (node new : NodeView) → has_next g node ≡ true → new ≡ replayed m (to_run g node.replica.tail node.hand.records) node → TakesPart (replay m g node) g node g new answers.Done
-replay_taken m g node new next is =
-    subst (λ b. TakesPart (cond b (Some (record { log = g; node = replayed m (to_run g node.replica.tail node.hand.records) node; event = None })) None) g node g new answers.Done) (sym next) (refl, refl, is)
 
 -- ---- reads
 

@@ -1,23 +1,24 @@
 -- A store's trace is what its steps and their answers tell.
 use Rattle.std.proofs.Common.{◌≡◌, List, [], ◌∷◌, ◌++◌, Option, Some, None, refl, sym, ap, ◌∙◌, subst, append_assoc}
-use Rattle.std.specs.Prelude.{slice_get, ◌&&◌, nat_le, nat_lt, option_map}
+use Rattle.std.specs.Prelude.{slice_get, ◌&&◌, option_map}
 use Rattle.std.proofs.lemmas.Option.{same_Some}
 use Rattle.verifier.specs.declared.refusal.Mode.TheVariants.{Update, Read}
 use Rattle.oplog.specs.declared.configuration.Config.{Config}
 use Rattle.oplog.specs.Operations.{Operation}
 use Rattle.oplog.specs.History.{ReadEffect, History}
-use Rattle.oplog.specs.Logs.{Log, room_in}
+use Rattle.oplog.specs.Logs.{Log}
 use Rattle.oplog.specs.Sessions.{session}
-use Rattle.combiner.specs.Desks.{BatchView, posted, collected, has_request}
+use Rattle.combiner.specs.Desks.{posted, collected, has_request}
 use Rattle.replica.specs.StoreMeaning.{store_meaning, is_operation}
+use Rattle.node.specs.Following.{may_append, has_next, may_finish, may_reclaim, may_rebase, may_answer, may_reply}
 use Rattle.schedule.specs.declared.parts.BegunRead.{BegunRead}
 use Rattle.schedule.specs.declared.parts.Opening.{Opening}
 use Rattle.schedule.specs.declared.steps.Step.{Step}
 use Rattle.schedule.specs.declared.steps.Step.TheVariants.{Post, Claim, Append, Replay, Finish, Reply, Collect, ReadBegin, ReadAnswer, Reclaim, Rebase}
 use Rattle.schedule.specs.declared.steps.StepAnswer.TheVariants as answers
 use Rattle.schedule.specs.Trace.{Answer, Updated, ReadBack, Event, Call, Back, Trace, Places}
-use Rattle.schedule.specs.Worlds.{NodeView, WorldView, room_for}
-use Rattle.schedule.specs.Steps.{Part, Took, with_call_or_back, put_part, part_of, node_of, took, session_at, is_idle, with_read, read_at, no_batch, no_records, claimed_batch, appended_batch, has_next, with_event, world_after, trace_after, trace_of}
+use Rattle.schedule.specs.Worlds.{NodeView, WorldView, own_of}
+use Rattle.schedule.specs.Steps.{Part, Took, with_call_or_back, put_part, part_of, node_of, took, session_at, is_idle, with_read, read_at, no_batch, claimed_batch, appended_batch, with_event, world_after, trace_after, trace_of}
 use Rattle.schedule.specs.Stands.{DeskStands, Stands}
 use Rattle.schedule.specs.Taking.{answer_of, step_answer, answers_to}
 use Rattle.schedule.specs.ReadOff.{event_of, before_events, read_off}
@@ -50,18 +51,17 @@ part_told m (Claim n) g node p desk taken =
     told m.config (Claim n) None p.event (event_is _ p c.1) refl
 part_told m (Append n) g node p desk taken =
     let r = then_gives _ (claimed_batch node.batch) p taken in
-    let b : BatchView = r.0 in
-    let c = cond_gives (nat_le g.base node.replica.tail && nat_le (room_for g b.records) (room_in g)) _ p r.2 in
+    let c = cond_gives (may_append (r.0).records g (own_of node)) _ p r.2 in
     told m.config (Append n) None p.event (event_is _ p c.1) refl
 part_told m (Replay n) g node p desk taken =
-    let c = cond_gives (has_next g node) _ p taken in
+    let c = cond_gives (has_next g (own_of node)) _ p taken in
     told m.config (Replay n) None p.event (event_is _ p c.1) refl
 part_told m (Finish n) g node p desk taken =
-    let c = cond_gives (nat_lt g.done node.replica.tail) _ p taken in
+    let c = cond_gives (may_finish g.done (own_of node)) _ p taken in
     told m.config (Finish n) None p.event (event_is _ p c.1) refl
 part_told m (Reply n) g node p desk taken =
     let r = then_gives _ (appended_batch node.batch) p taken in
-    let c = cond_gives (no_records node.hand.records && nat_le node.replica.tail g.done) _ p r.2 in
+    let c = cond_gives (may_reply g.done (own_of node)) _ p r.2 in
     told m.config (Reply n) None p.event (event_is _ p c.1) refl
 part_told m (Collect n s) g node p desk taken =
     let d = map_gives (λ c. with_call_or_back (Back (session_at node s) (Updated c.reply)) g (record node { desk = c.desk })) (collected s node.desk) p taken in
@@ -73,15 +73,15 @@ part_told m (ReadBegin n s program argument) g node p desk taken =
 part_told m (ReadAnswer n s) g node p desk taken =
     let r = then_gives _ (read_at node s) p taken in
     let read : BegunRead = r.0 in
-    let c = cond_gives (nat_le read.seen node.replica.tail && nat_le node.replica.tail g.done) _ p r.2 in
+    let c = cond_gives (may_answer read.seen g.done (own_of node)) _ p r.2 in
     let d = map_gives (λ (f : ReadEffect). with_call_or_back (Back (session_at node s) (ReadBack (record { point = node.replica.tail; reply = f.reply }))) g (with_read node s None)) (store_meaning.read m.catalogue read.op node.replica.maps) p c.1 in
     let a : Answer = ReadBack (record { point = node.replica.tail; reply = d.0.reply }) in
     told m.config (ReadAnswer n s) (Some (Back (session m.config n s) a)) p.event (ap (λ x. Some (Back x a)) (sym (session_is m n node s desk)) ∙ ap (λ (q : Part). q.event) d.2) refl
 part_told m (Reclaim n) g node p desk taken =
-    let c = cond_gives (nat_lt g.base node.replica.tail && nat_le node.replica.tail g.done) _ p taken in
+    let c = cond_gives (may_reclaim g.done g (own_of node)) _ p taken in
     told m.config (Reclaim n) None p.event (event_is _ p c.1) refl
 part_told m (Rebase n) g node p desk taken =
-    let c = cond_gives (nat_lt node.replica.tail g.base && no_records node.hand.records) _ p taken in
+    let c = cond_gives (may_rebase g (own_of node)) _ p taken in
     told m.config (Rebase n) None p.event (event_is _ p c.1) refl
 
 -- a step that may not be taken is no event

@@ -1,13 +1,13 @@
 -- A replica applies what was copied for it.
-use Rattle.std.proofs.Common.{◌≡◌, ◌≢◌, ℕ, zero, suc, ◌+◌, ◌-◌, ◌<◌, ◌≤◌, [], ◌∷◌, length, take, Some, None, refl, sym, ap, ◌∙◌, inl, inr, ⊎_elim, arith, subst}
-use Rattle.std.specs.Prelude.{slice_get, slice_set, ◌⊎◌, ◌&&◌, ◌||◌, not, nat_lt, nat_le, if◌then◌else◌}
+use Rattle.std.proofs.Common.{◌≡◌, ◌≢◌, ℕ, zero, suc, ◌+◌, ◌-◌, ◌<◌, ◌≤◌, true, [], ◌∷◌, length, take, Some, None, refl, sym, ap, ◌∙◌, inl, inr, ⊎_elim, arith, subst}
+use Rattle.std.specs.Prelude.{slice_get, slice_set, ◌⊎◌, ◌&&◌, not, nat_lt, if◌then◌else◌}
 use Rattle.std.proofs.lemmas.Option.{none-some, same_Some}
 use Rattle.std.proofs.lemmas.Bool.{cases_eq, and_parts, or_cases, leb-true, ltb-true}
 use Rattle.maps.specs.Maps.{Maps}
 use Rattle.loader.specs.CatalogueView.{CatalogueView, IsCatalogue}
 use Rattle.oplog.specs.declared.records.Record.{Record}
 use Rattle.oplog.specs.History.{Effect, Meaning, History, after, maps_after, left_by, effect_at}
-use Rattle.oplog.specs.Logs.{HandView, tail_of, records_from}
+use Rattle.oplog.specs.Logs.{Log, HandView, tail_of}
 use Rattle.oplog.specs.Sessions.{session}
 use Rattle.replica.specs.StoreMeaning.{store_meaning, outcome_of, AreUpdates}
 use Rattle.replica.specs.Views.{ReplicaView, with_outcome}
@@ -19,10 +19,11 @@ use Rattle.schedule.specs.declared.parts.NodeBatch.{NodeBatch}
 use Rattle.schedule.specs.declared.parts.NodeBatch.TheVariants.{Absent, Held, InLog}
 use Rattle.schedule.specs.Trace.{Trace, Places}
 use Rattle.schedule.specs.declared.parts.Opening.{Opening}
-use Rattle.node.specs.Following.{with_effect, outcomes_after}
+use Rattle.node.specs.declared.following.NodeReplica.{NodeReplica}
+use Rattle.node.specs.Following.{no_records, is_above, has_next, to_run, with_next, with_effect, outcomes_after, replies_after}
 use Rattle.node.proofs.Keeping.{after_count, after_first}
-use Rattle.schedule.specs.Worlds.{NodeView, WorldView, batch_after, replayed, to_run}
-use Rattle.schedule.specs.Steps.{Part, replay, no_records}
+use Rattle.schedule.specs.Worlds.{NodeView, WorldView, own_of}
+use Rattle.schedule.specs.Steps.{Part, replay, batch_after, with_replayed}
 use Rattle.schedule.specs.Stands.{DeskStands, NodeStands, LogStands, BatchStands, WrittenStands, Stands, batch_in, place_in}
 use Rattle.schedule.proofs.Lists.{get_drop, get_in, set_length}
 use Rattle.schedule.proofs.Options.{cond_gives, some_is}
@@ -122,91 +123,100 @@ written_all m h (r ∷ rs) tail maps hand b new left whole updates next is at em
     (subst (λ o. WrittenStands m h (replica_at (tail + 1) (left_by (store_meaning.update m.catalogue r.op maps) maps)) (hand_of hand rs) (record b { replies = with_effect b.replies tail o })) (sym known)
     (written_next m h tail maps hand r rs b _ (left_by (store_meaning.update m.catalogue r.op maps) maps) there takes x))
 
-kept_records : (c : CatalogueView) (maps : Maps) (tail : ℕ) (rs : History) (b : NodeBatch) → batch_in (batch_after c maps tail rs b) ≡ batch_in b
-kept_records c maps tail rs Absent = refl
-kept_records c maps tail rs (Held b) = refl
-kept_records c maps tail rs (InLog b) = refl
+kept_records : (c : CatalogueView) (own : NodeReplica) (b : NodeBatch) → batch_in (batch_after c own b) ≡ batch_in b
+kept_records c own Absent = refl
+kept_records c own (Held b) = refl
+kept_records c own (InLog b) = refl
 
-kept_places : (c : CatalogueView) (maps : Maps) (tail : ℕ) (rs : History) (b : NodeBatch) (k : ℕ) → place_in b k ≡ place_in (batch_after c maps tail rs b) k
-kept_places c maps tail rs Absent k = refl
-kept_places c maps tail rs (Held b) k = refl
-kept_places c maps tail rs (InLog b) k =
-    ap (λ n. if nat_lt k n then Some (b.replies.first + k) else None) (sym (after_count c maps tail rs b.replies))
-    ∙ ap (λ i. if nat_lt k (length (outcomes_after c maps tail rs b.replies).outcomes) then Some (i + k) else None) (sym (after_first c maps tail rs b.replies))
+kept_places : (c : CatalogueView) (own : NodeReplica) (b : NodeBatch) (k : ℕ) → place_in b k ≡ place_in (batch_after c own b) k
+kept_places c own Absent k = refl
+kept_places c own (Held b) k = refl
+kept_places c own (InLog b) k =
+    ap (λ n. if nat_lt k n then Some (b.replies.first + k) else None) (sym (after_count c own.replica.maps own.replica.tail own.hand.records b.replies))
+    ∙ ap (λ i. if nat_lt k (length (replies_after c own b.replies).outcomes) then Some (i + k) else None) (sym (after_first c own.replica.maps own.replica.tail own.hand.records b.replies))
 
-batch_all : (m : Opening) (h rs : History) (tail : ℕ) (maps : Maps) (hand : HandView) (b : NodeBatch) (new : ReplicaView) (left : HandView)
-    → IsCatalogue m.catalogue → AreUpdates m.catalogue h → ((j : ℕ) (f : Record) → slice_get rs j ≡ Some f → slice_get h (tail + j) ≡ Some f) → maps ≡ maps_after store_meaning m.catalogue h tail
-    → new.tail ≡ tail + length rs → left.records ≡ []
-    → BatchStands m h (replica_at tail maps) (hand_of hand rs) b → BatchStands m h new left (batch_after m.catalogue maps tail rs b)
-batch_all m h rs tail maps hand Absent new left whole updates next is at empty x = tt
-batch_all m h rs tail maps hand (Held b) new left whole updates next is at empty x = tt
-batch_all m h rs tail maps hand (InLog b) new left whole updates next is at empty x = written_all m h rs tail maps hand b new left whole updates next is at empty x
+-- what is in the hand comes next
+abbrev pub ComesNext : History → NodeReplica → Type 0
+ComesNext h own = (j : ℕ) (f : Record) → slice_get own.hand.records j ≡ Some f → slice_get h (own.replica.tail + j) ≡ Some f
 
--- a hand that was empty has more records
-more_hand : (m : Opening) (h rs : History) (replica : ReplicaView) (hand : HandView) (b : NodeBatch) → hand.records ≡ [] → BatchStands m h replica hand b → BatchStands m h replica (hand_of hand rs) b
-more_hand m h rs replica hand Absent empty x = x
-more_hand m h rs replica hand (Held b) empty x = x
-more_hand m h rs replica hand (InLog b) empty x =
-    let nothing : length hand.records ≡ 0 = ap length empty in
+batch_all : (m : Opening) (h : History) (own : NodeReplica) (b : NodeBatch) (new : ReplicaView) (left : HandView)
+    → IsCatalogue m.catalogue → AreUpdates m.catalogue h → ComesNext h own → own.replica.maps ≡ maps_after store_meaning m.catalogue h own.replica.tail
+    → new.tail ≡ own.replica.tail + length own.hand.records → left.records ≡ []
+    → BatchStands m h own.replica own.hand b → BatchStands m h new left (batch_after m.catalogue own b)
+batch_all m h own Absent new left whole updates next is at empty x = tt
+batch_all m h own (Held b) new left whole updates next is at empty x = tt
+batch_all m h own (InLog b) new left whole updates next is at empty x =
+    written_all m h own.hand.records own.replica.tail own.replica.maps own.hand b new left whole updates next is at empty x
+
+-- a hand has no fewer records
+longer_hand : (m : Opening) (h : History) (replica : ReplicaView) (hand more : HandView) (b : NodeBatch) → length hand.records ≤ length more.records → BatchStands m h replica hand b → BatchStands m h replica more b
+longer_hand m h replica hand more Absent le x = x
+longer_hand m h replica hand more (Held b) le x = x
+longer_hand m h replica hand more (InLog b) le x =
     let a = x.ahead in
     record { placed = x.placed; ahead = omega arith; known = x.known; ended = λ short. let f = x.ended short in omega arith }
 
--- what is run comes next, and the batch stands over it
-abbrev pub RunsNext : Opening → History → NodeView → History → Type 0
-RunsNext m h node rs = ((j : ℕ) (f : Record) → slice_get rs j ≡ Some f → slice_get h (node.replica.tail + j) ≡ Some f) × BatchStands m h node.replica (hand_of node.hand rs) node.batch
+-- there is a record to apply
+next_is : (g : Log) (own : NodeReplica) → has_next g own ≡ true → (own.hand.records ≢ []) ⊎ ((g.base ≤ own.replica.tail) × (own.replica.tail < tail_of g))
+next_is g own next =
+    ⊎_elim (λ y. inl (some_is own.hand.records y))
+    (λ y. let q = and_parts (is_above g own) (nat_lt own.replica.tail (tail_of g)) y in inr (leb-true g.base own.replica.tail q.0, ltb-true own.replica.tail (tail_of g) q.1))
+    (or_cases (not (no_records own.hand.records)) (is_above g own && nat_lt own.replica.tail (tail_of g)) next)
 
-pub runs_next : (m : Opening) (w : WorldView) (h : History) (places : Places) (t : Trace) (n : ℕ) (node : NodeView) (hand : History) → node.hand.records ≡ hand
-    → ((hand ≢ []) ⊎ ((w.log.base ≤ node.replica.tail) × (node.replica.tail < tail_of w.log))) → LogStands m w.log h → NodeStands m w.log.done h places t n node
-    → RunsNext m h node (to_run w.log node.replica.tail hand)
-runs_next m w h places t n node [] is can log x =
-    let b : w.log.base ≤ node.replica.tail = ⊎_elim (λ ne. absurd (ne refl)) (λ y. y.0) can in (
-      λ j f g. let i : w.log.base + ((node.replica.tail - w.log.base) + j) ≡ node.replica.tail + j = omega arith in
-          subst (λ k. slice_get h k ≡ Some f) i (log.kept ((node.replica.tail - w.log.base) + j) f (sym (get_drop w.log.records (node.replica.tail - w.log.base) j) ∙ g)),
-      more_hand m h (records_from w.log node.replica.tail) node.replica node.hand node.batch is x.batch,
-    )
-runs_next m w h places t n node (r ∷ rs) is can log x = (
-  subst (λ hand. (j : ℕ) (f : Record) → slice_get hand j ≡ Some f → slice_get h (node.replica.tail + j) ≡ Some f) is x.replica.next,
-  subst (λ hand. BatchStands m h node.replica (hand_of node.hand hand) node.batch) is x.batch,
-)
+-- what is run comes next, and the batch stands over it
+pub runs_next : (m : Opening) (g : Log) (h : History) (places : Places) (t : Trace) (n : ℕ) (node : NodeView) → has_next g (own_of node) ≡ true → LogStands m g h → NodeStands m g.done h places t n node
+    → ComesNext h (with_next g (own_of node)) × BatchStands m h node.replica (with_next g (own_of node)).hand node.batch
+runs_next m g h places t n node next log x =
+    let runs = go node.hand.records refl (next_is g (own_of node) next) in
+    (runs.0, longer_hand m h node.replica node.hand (with_next g (own_of node)).hand node.batch runs.1 x.batch)
+  where
+    go : (hand : History) → node.hand.records ≡ hand → (node.hand.records ≢ []) ⊎ ((g.base ≤ node.replica.tail) × (node.replica.tail < tail_of g))
+        → ((j : ℕ) (f : Record) → slice_get (to_run g node.replica.tail hand) j ≡ Some f → slice_get h (node.replica.tail + j) ≡ Some f) × (length node.hand.records ≤ length (to_run g node.replica.tail hand))
+    go [] is can =
+        let b : g.base ≤ node.replica.tail = ⊎_elim (λ ne. absurd (ne is)) (λ y. y.0) can in
+        let none : length node.hand.records ≡ 0 = ap length is in (
+          λ j f at. let i : g.base + ((node.replica.tail - g.base) + j) ≡ node.replica.tail + j = omega arith in
+              subst (λ k. slice_get h k ≡ Some f) i (log.kept ((node.replica.tail - g.base) + j) f (sym (get_drop g.records (node.replica.tail - g.base) j) ∙ at)),
+          omega arith,
+        )
+    go (r ∷ rs) is can =
+        let all : length node.hand.records ≡ length (r ∷ rs) = ap length is in
+        (subst (λ hand. (j : ℕ) (f : Record) → slice_get hand j ≡ Some f → slice_get h (node.replica.tail + j) ≡ Some f) is x.replica.next, omega arith)
 
 pub keeps_replay : (m : Opening) (w : WorldView) (h : History) (places : Places) (t : Trace) (n : ℕ) (node : NodeView) (p : Part)
     → slice_get w.nodes n ≡ Some node → replay m w.log node ≡ Some p → Stands m w h places t → Kept m w h places t n p
 keeps_replay m w h places t n node p at_n taken x =
-    let c = cond_gives (not (no_records node.hand.records) || (nat_le w.log.base node.replica.tail && nat_lt node.replica.tail (tail_of w.log))) _ p taken in
-    let can : (node.hand.records ≢ []) ⊎ ((w.log.base ≤ node.replica.tail) × (node.replica.tail < tail_of w.log)) =
-    ⊎_elim (λ y. inl (some_is node.hand.records y))
-    (λ y. let q = and_parts (nat_le w.log.base node.replica.tail) (nat_lt node.replica.tail (tail_of w.log)) y in inr (leb-true w.log.base node.replica.tail q.0, ltb-true node.replica.tail (tail_of w.log) q.1))
-    (or_cases (not (no_records node.hand.records)) (nat_le w.log.base node.replica.tail && nat_lt node.replica.tail (tail_of w.log)) c.0) in
+    let c = cond_gives (has_next w.log (own_of node)) _ p taken in
     let o = x.nodes n node at_n in
-    let rs : History = to_run w.log node.replica.tail node.hand.records in
-    let runs = runs_next m w h places t n node node.hand.records refl can x.log o in
-    let end = after_all m.catalogue h rs node.replica.tail node.replica.maps runs.0 o.replica.maps o.replica.tail in
-    let new : NodeView = replayed m rs node in
+    let own : NodeReplica = with_next w.log (own_of node) in
+    let runs = runs_next m w.log h places t n node c.0 x.log o in
+    let end = after_all m.catalogue h own.hand.records node.replica.tail node.replica.maps runs.0 o.replica.maps o.replica.tail in
+    let new : NodeView = with_replayed m.catalogue own node in
     subst (λ z. Kept m w h places t n z) (same_Some _ p c.1)
-    (same_history m (record { log = w.log; nodes = slice_set w.nodes n (replayed m rs node) }) h places t (record {
+    (same_history m (record { log = w.log; nodes = slice_set w.nodes n new }) h places t (record {
       catalogue = x.catalogue;
       explains = x.explains;
       log = x.log;
-      count = set_length w.nodes n (replayed m rs node) ∙ x.count;
+      count = set_length w.nodes n new ∙ x.count;
       callers = x.callers;
       stamps = x.stamps;
-      nodes = nodes_put (λ k y. NodeStands m w.log.done h places t k y) w.nodes n (replayed m rs node) (λ k old ne g. x.nodes k old g)
+      nodes = nodes_put (λ k y. NodeStands m w.log.done h places t k y) w.nodes n new (λ k old ne g. x.nodes k old g)
           (record {
             replica = record { tail = end.1; maps = end.0; begins = refl; next = λ j f g. absurd (none-some f g); window = o.replica.window };
-            desk = same_desk m n node rs o.desk;
-            batch = batch_all m h rs node.replica.tail node.replica.maps node.hand node.batch new.replica new.hand x.catalogue x.explains.updates runs.0 o.replica.maps refl refl runs.1;
+            desk = same_desk m n node own o.desk;
+            batch = batch_all m h own node.batch new.replica new.hand x.catalogue x.explains.updates runs.0 o.replica.maps refl refl runs.1;
             seats = λ s y read there begun. stage_batch m w.log.done h places t (session m.config n s) node.batch new.batch y.count y.stage read
                 (λ k q at is. (
-                  subst (λ b. slice_get b.records k ≡ Some q) (sym (kept_records m.catalogue node.replica.maps node.replica.tail rs node.batch)) at,
-                  kept_places m.catalogue node.replica.maps node.replica.tail rs node.batch k,
+                  subst (λ b. slice_get b.records k ≡ Some q) (sym (kept_records m.catalogue own node.batch)) at,
+                  kept_places m.catalogue own node.batch k,
                 ))
                 (o.seats s y read there begun);
           });
     }))
   where
-    same_desk : (m : Opening) (n : ℕ) (node : NodeView) (rs : History) → DeskStands m n node → DeskStands m n (replayed m rs node)
-    same_desk m n node rs d =
-        let same = kept_records m.catalogue node.replica.maps node.replica.tail rs node.batch in
+    same_desk : (m : Opening) (n : ℕ) (node : NodeView) (own : NodeReplica) → DeskStands m n node → DeskStands m n (with_replayed m.catalogue own node)
+    same_desk m n node own d =
+        let same = kept_records m.catalogue own node.batch in
         record {
           number = d.number;
           slots = d.slots;

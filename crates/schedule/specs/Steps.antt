@@ -1,14 +1,16 @@
 -- The steps of a store: when each may be taken, what it makes of the log and of its node, and which event it is.
-use Rattle.std.specs.Prelude.{ℕ, ◌+◌, Bool, true, false, ◌&&◌, ◌||◌, not, List, [], ◌∷◌, ◌++◌, Option, Some, None, option_map, slice_get, slice_set, nat_lt, nat_le, cond}
+use Rattle.std.specs.Prelude.{ℕ, ◌+◌, Bool, true, false, ◌&&◌, List, [], ◌∷◌, ◌++◌, Option, Some, None, option_map, slice_get, slice_set, cond}
 use Rattle.std.specs.Option.{option_and_then}
 use Rattle.verifier.specs.declared.refusal.Mode.TheVariants.{Update, Read}
-use Rattle.oplog.specs.declared.records.Record.{Record}
+use Rattle.loader.specs.CatalogueView.{CatalogueView}
 use Rattle.oplog.specs.Operations.{Operation}
-use Rattle.oplog.specs.Logs.{Log, tail_of, room_in, records_from}
+use Rattle.oplog.specs.Logs.{Log}
 use Rattle.combiner.specs.declared.slots.Slot.{Slot}
 use Rattle.combiner.specs.Slots.{is_empty}
 use Rattle.combiner.specs.Desks.{BatchView, first_author, posted, has_request, batch_of, claimed, replied, collected}
 use Rattle.replica.specs.StoreMeaning.{store_meaning, is_operation}
+use Rattle.node.specs.declared.following.NodeReplica.{NodeReplica}
+use Rattle.node.specs.Following.{may_append, grown, copied, replies_for, has_next, with_next, replayed, replies_after, may_finish, told, may_reclaim, reclaimed, may_rebase, rebased, may_answer, may_reply}
 use Rattle.node.specs.Answering.{answered_batch}
 use Rattle.schedule.specs.declared.parts.BegunRead.{BegunRead}
 use Rattle.schedule.specs.declared.parts.Written.{Written}
@@ -18,7 +20,7 @@ use Rattle.schedule.specs.declared.steps.Step.{Step}
 use Rattle.schedule.specs.declared.steps.Step.TheVariants.{Post, Claim, Append, Replay, Finish, Reply, Collect, ReadBegin, ReadAnswer, Reclaim, Rebase}
 use Rattle.schedule.specs.Trace.{Updated, ReadBack, Event, Call, Back, Trace}
 use Rattle.schedule.specs.declared.parts.Opening.{Opening}
-use Rattle.schedule.specs.Worlds.{NodeView, WorldView, room_for, grown, written, replayed, to_run, reclaimed, rebased}
+use Rattle.schedule.specs.Worlds.{NodeView, WorldView, own_of, with_own}
 
 -- what a step makes of the log and of its node, and the event that it is
 pub record Part : Type 0 where
@@ -60,11 +62,6 @@ abbrev pub no_batch : NodeBatch → Bool
 no_batch Absent = true
 no_batch batch = false
 
--- there are no records
-abbrev pub no_records : List Record → Bool
-no_records [] = true
-no_records (r ∷ rs) = false
-
 -- the requests of the batch, while they are claimed and not appended
 abbrev pub claimed_batch : NodeBatch → Option BatchView
 claimed_batch (Held b) = Some b
@@ -101,42 +98,44 @@ claim g node =
 
 -- the node with its batch in the log, and with the records of the log that its replica lacks
 abbrev pub with_appended : Log → BatchView → NodeView → NodeView
-with_appended g b node = record node {
-  batch = InLog (written g b);
-  hand = record node.hand { begin = node.replica.tail; records = records_from (grown g b.records) node.replica.tail };
-}
+with_appended g b node =
+    with_own (copied (grown b.records g) (own_of node)) (record node { batch = InLog (record { batch = b; replies = replies_for b.records g }) })
 
 -- append: a batch is claimed, what the replica lacks is still in the log, and the log has room for as many of the batch's records as
 -- the history may still have; the log gets them, and the records that the replica lacks are copied
 abbrev pub append : Log → NodeView → Option Part
 append g node =
     option_and_then (λ b.
-    cond (nat_le g.base node.replica.tail && nat_le (room_for g b.records) (room_in g))
-    (Some (silent (grown g b.records) (with_appended g b node)))
+    cond (may_append b.records g (own_of node))
+    (Some (silent (grown b.records g) (with_appended g b node)))
     None)
     (claimed_batch node.batch)
 
--- there is a record to apply: copied, or in the log
-abbrev pub has_next : Log → NodeView → Bool
-has_next g node = not (no_records node.hand.records) || (nat_le g.base node.replica.tail && nat_lt node.replica.tail (tail_of g))
+-- the batch keeps its own outcomes of the records that the replica applies
+abbrev pub batch_after : CatalogueView → NodeReplica → NodeBatch → NodeBatch
+batch_after c own Absent = Absent
+batch_after c own (Held b) = Held b
+batch_after c own (InLog b) = InLog (record b { replies = replies_after c own b.replies })
+
+-- the node once this replica of it has applied the records in its hand
+abbrev pub with_replayed : CatalogueView → NodeReplica → NodeView → NodeView
+with_replayed c own node = with_own (replayed c own) (record node { batch = batch_after c own node.batch })
 
 -- replay: there is a record to apply; the replica applies the copied records, or where there are none those of the log that it lacks
 abbrev pub replay : Opening → Log → NodeView → Option Part
 replay m g node =
-    cond (has_next g node)
-    (Some (silent g (replayed m (to_run g node.replica.tail node.hand.records) node)))
-    None
+    cond (has_next g (own_of node)) (Some (silent g (with_replayed m.catalogue (with_next g (own_of node)) node))) None
 
 -- finish: the replica is past the completed tail, which becomes the replica's tail
 abbrev pub finish : Log → NodeView → Option Part
-finish g node = cond (nat_lt g.done node.replica.tail) (Some (silent (record g { done = node.replica.tail }) node)) None
+finish g node = cond (may_finish g.done (own_of node)) (Some (silent (told (own_of node) g) node)) None
 
 -- reply: a batch is appended, no copied record is left to apply, and all that the replica has applied is completed; the batch's
 -- requests are answered at the desk, and the node has no batch then
 abbrev pub reply : Log → NodeView → Option Part
 reply g node =
     option_and_then (λ b.
-    cond (no_records node.hand.records && nat_le node.replica.tail g.done)
+    cond (may_reply g.done (own_of node))
     (Some (silent g (record node { desk = replied (answered_batch b.replies b.batch) node.desk; batch = Absent })))
     None)
     (appended_batch node.batch)
@@ -157,7 +156,7 @@ read_begin m s op g node =
 abbrev pub read_answer : Opening → ℕ → Log → NodeView → Option Part
 read_answer m s g node =
     option_and_then (λ read.
-    cond (nat_le read.seen node.replica.tail && nat_le node.replica.tail g.done)
+    cond (may_answer read.seen g.done (own_of node))
     (option_map (λ e. with_call_or_back (Back (session_at node s) (ReadBack (record { point = node.replica.tail; reply = e.reply }))) g (with_read node s None))
     (store_meaning.read m.catalogue read.op node.replica.maps))
     None)
@@ -165,12 +164,11 @@ read_answer m s g node =
 
 -- reclaim: the replica is past the log's base, and all that it has applied is completed; it becomes the base
 abbrev pub reclaim : Log → NodeView → Option Part
-reclaim g node =
-    cond (nat_lt g.base node.replica.tail && nat_le node.replica.tail g.done) (Some (silent (reclaimed g node.replica) node)) None
+reclaim g node = cond (may_reclaim g.done g (own_of node)) (Some (silent (reclaimed (own_of node) g) node)) None
 
 -- rebase: the replica is behind the log's base, and has no copied record left to apply; it becomes a copy of the base
 abbrev pub rebase : Log → NodeView → Option Part
-rebase g node = cond (nat_lt node.replica.tail g.base && no_records node.hand.records) (Some (silent g (rebased g node))) None
+rebase g node = cond (may_rebase g (own_of node)) (Some (silent g (with_own (rebased g (own_of node)) node))) None
 
 -- ---- the steps of a store
 

@@ -1,12 +1,12 @@
 -- What a call that takes a step does.
-use Rattle.std.specs.Prelude.{◌≡◌, ℕ, ◌+◌, ◌≤◌, Bool, false, ◌&&◌, nat_le, List, [], ◌∷◌, length, Option, Some, None, slice_get}
-use Rattle.loader.specs.CatalogueView.{CatalogueView, IsCatalogue}
-use Rattle.oplog.specs.declared.configuration.TheConstants.{MAX_LIMIT}
-use Rattle.oplog.specs.declared.records.Record.{Record}
-use Rattle.oplog.specs.History.{History, maps_after}
+use Rattle.std.specs.Prelude.{◌≡◌, ℕ, Bool, false, List, [], ◌∷◌, Option, Some, None}
+use Rattle.loader.specs.CatalogueView.{IsCatalogue}
+use Rattle.oplog.specs.History.{History}
 use Rattle.oplog.specs.Limits.{IsConfig}
-use Rattle.oplog.specs.Logs.{Log, tail_of, room_in}
-use Rattle.replica.specs.StoreMeaning.{store_meaning, AreUpdates}
+use Rattle.oplog.specs.Logs.{Log}
+use Rattle.replica.specs.StoreMeaning.{AreUpdates}
+use Rattle.node.specs.declared.following.NodeReplica.{NodeReplica}
+use Rattle.node.specs.Following.{may_append}
 use Rattle.schedule.specs.declared.parts.Opening.{Opening}
 use Rattle.schedule.specs.declared.parts.NodeBatch.{NodeBatch}
 use Rattle.schedule.specs.declared.parts.NodeBatch.TheVariants.{Held}
@@ -14,7 +14,7 @@ use Rattle.schedule.specs.declared.steps.Step.{Step}
 use Rattle.schedule.specs.declared.steps.StepAnswer.{StepAnswer}
 use Rattle.schedule.specs.declared.steps.StepAnswer.TheVariants as answers
 use Rattle.schedule.specs.Trace.{Updated, ReadBack, Event, Call, Back, Trace, Places}
-use Rattle.schedule.specs.Worlds.{NodeView, WorldView, opened, room_for, to_run}
+use Rattle.schedule.specs.Worlds.{NodeView, WorldView, opened}
 use Rattle.schedule.specs.Steps.{Part, Took, took, world_after}
 use Rattle.schedule.specs.Stands.{LogStands, NodeStands, Stands}
 
@@ -81,28 +81,6 @@ pub record IsStanding (s : WorldState) : Type 0 where
 -- ---- between the calls of a node
 
 -- a batch is claimed, and may be appended
-abbrev pub may_append : Log → ℕ → NodeBatch → Bool
-may_append g tail (Held b) = nat_le g.base tail && nat_le (room_for g b.records) (room_in g)
-may_append g tail batch = false
-
--- the node with what a replay runs in its hand
-abbrev pub with_next : Log → NodeView → NodeView
-with_next g node = record node { hand = record node.hand { begin = node.replica.tail; records = to_run g node.replica.tail node.hand.records } }
-
--- what the replica lacks may be copied from the log
-pub record CanCopy (g : Log) (node : NodeView) : Type 0 where
-  pub tail : node.replica.tail ≤ tail_of g
-  pub above : node.hand.records ≡ [] → g.base ≤ node.replica.tail
-  pub begins : node.hand.begin ≡ node.replica.tail
-  pub window : node.hand.window ≡ g.window
-
--- the records in the hand are the next ones of a history of the catalogue's updates
-pub record CanRun (c : CatalogueView) (node : NodeView) : Type 0 where
-  pub history : History
-  pub catalogue : IsCatalogue c
-  pub updates : AreUpdates c history
-  pub short : length history ≤ MAX_LIMIT
-  pub begins : node.hand.begin ≡ node.replica.tail
-  pub tail : node.replica.tail ≤ length history
-  pub maps : node.replica.maps ≡ maps_after store_meaning c history node.replica.tail
-  pub next : (j : ℕ) (r : Record) → slice_get node.hand.records j ≡ Some r → slice_get history (node.replica.tail + j) ≡ Some r
+abbrev pub may_append_batch : NodeBatch → Log → NodeReplica → Bool
+may_append_batch (Held b) g own = may_append b.records g own
+may_append_batch batch g own = false

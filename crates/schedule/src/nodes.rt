@@ -4,21 +4,22 @@ ghost use Rattle.std.specs.Prelude.{◌≡◌, ◌↔◌, IsTrue, ◌+◌, ◌�
 ghost use Rattle.maps.specs.Maps.{shapes_of};
 ghost use Rattle.oplog.specs.declared.configuration.TheConstants.{MAX_NODES};
 ghost use Rattle.oplog.specs.Limits.{IsConfig};
-ghost use Rattle.oplog.specs.Logs.{Log, room_in};
+ghost use Rattle.oplog.specs.Logs.{Log};
 ghost use Rattle.replica.specs.StoreMeaning.{IsOperation, is_operation, store_meaning};
 ghost use Rattle.verifier.specs.declared.refusal.Mode.TheVariants.{Update, Read};
 ghost use Rattle.schedule.specs.declared.parts.Opening.{Opening as TheOpening};
-ghost use Rattle.schedule.specs.Worlds.{opened_node, room_for, grown, written, replayed};
-ghost use Rattle.schedule.specs.Steps.{is_idle, part_of, post, claim, append, has_next, replay, finish, reply, collect, read_at, read_begin, read_answer, reclaim, rebase};
-ghost use Rattle.schedule.specs.Taking.{IsOfStore, TakesPart, CanCopy, CanRun, may_append, with_next};
+ghost use Rattle.node.specs.Following.{Fits, has_next, with_next};
+ghost use Rattle.schedule.specs.Worlds.{opened_node, own_of};
+ghost use Rattle.schedule.specs.Steps.{is_idle, part_of, post, claim, append, replay, finish, reply, collect, read_at, read_begin, read_answer, reclaim, rebase};
+ghost use Rattle.schedule.specs.Taking.{IsOfStore, TakesPart, may_append_batch};
 
 use crate::parts::{BegunRead, NodeBatch, Opening, Written};
 use crate::steps::{Step, StepAnswer};
 use combiner::{Batch, Desk, Stage};
 use loader::Catalogue;
-use node::answer_batch;
-use oplog::{CopyAnswer, Hand, LogState, Op};
-use readpath::{ReadAnswer, answer, ready};
+use node::NodeReplica;
+use oplog::{Hand, LogState, Op};
+use readpath::{ReadAnswer, answer};
 use replica::{Replica, Replies, find_program_of};
 use std::alloc::{AllocError, Global};
 use std::marker::Model;
@@ -28,8 +29,7 @@ use verifier::Mode;
 /// A node: its replica, the records copied for it, its desk, its batch, and the reads that were begun at its slots.
 #[derive(Drop)]
 pub(crate) struct Node {
-    replica: Replica,
-    hand: Hand,
+    own: NodeReplica,
     desk: Desk,
     batch: NodeBatch,
     reads: Vec<Option<BegunRead>>,
@@ -43,7 +43,7 @@ impl Model for Node {
 
     ghost coded = { node_code };
 
-    ghost view = { λ n. record { replica = n.replica; hand = n.hand; desk = n.desk; batch = n.batch; reads = n.reads.items } };
+    ghost view = { λ n. record { replica = n.own.replica; hand = n.own.hand; desk = n.desk; batch = n.batch; reads = n.reads.items } };
 }
 
 // The operation of a program of the catalogue, of this mode, on an argument of its length.
@@ -87,8 +87,7 @@ impl Node {
         let hand = Hand::open(alloc, opening.config.window as usize)?;
         let reads = no_reads(alloc, slots)?;
         Ok(Node {
-            replica,
-            hand,
+            own: NodeReplica { replica, hand },
             desk: Desk::new(number, slots),
             batch: NodeBatch::Absent,
             reads,
@@ -99,7 +98,7 @@ impl Node {
     pub(crate) fn replica(&self) -> &Replica
         ensures replica { result.now ≡ self.now.replica }
     {
-        &self.replica
+        &self.own.replica
     }
 
     // Whether a slot is there, has no request, and no read was begun there.
@@ -155,24 +154,20 @@ impl Node {
         }
         match mem::replace(&mut self.batch, NodeBatch::Absent) {
             NodeBatch::Held(batch) => {
-                self.batch = NodeBatch::InLog(append_batch(log, batch));
-                match log.copy_from(self.replica.tail(), &mut self.hand) {
-                    CopyAnswer::Copied => StepAnswer::Done,
-                    CopyAnswer::Below(_) => unreachable!(),
-                }
+                let replies = node::append(log, &mut self.own, batch.records());
+                self.batch = NodeBatch::InLog(Written { batch, replies });
+                StepAnswer::Done
             }
             _ => unreachable!(),
         }
     }
 
-    // Whether a batch is claimed, the log has room for as many of its records as the history may still have, and what the replica
-    // lacks is in the log.
+    // Whether a batch is claimed, and may be appended.
     fn may_append(&self, log: &LogState) -> bool
-        ensures may { result ≡ may_append log.now self.now.replica.tail self.now.batch }
+        ensures may { result ≡ may_append_batch self.now.batch log.now (own_of self.now) }
     {
         match &self.batch {
-            NodeBatch::Held(batch) => log.base() <= self.replica.tail()
-                && batch.records().len().min(log.left()) <= log.room(),
+            NodeBatch::Held(batch) => node::may_append(log, &self.own, batch.records()),
             _ => false,
         }
     }
@@ -183,33 +178,20 @@ impl Node {
         ensures replayed { (m : TheOpening) → m.catalogue ≡ catalogue.now
             → TakesPart (replay m log.now self.old) log.now self.old log.now self.new result }
     {
-        if !self.has_next(log) {
+        if !node::has_next(log, &self.own) {
             return StepAnswer::NotNow;
         }
-        self.copy_next(log);
-        self.run_hand(catalogue);
-        StepAnswer::Done
-    }
-
-    // Whether there is a record to apply: copied, or in the log.
-    fn has_next(&self, log: &LogState) -> bool
-        ensures next { result ≡ has_next log.now self.now }
-    {
-        let tail = self.replica.tail();
-        !self.hand.is_empty() || (log.base() <= tail && tail < log.tail())
-    }
-
-    // Where no record is copied, those of the log that the replica lacks are.
-    fn copy_next(&mut self, log: &LogState)
-        requires can { CanCopy log.now self.old }
-        ensures copied { self.new ≡ with_next log.now self.old }
-    {
-        if self.hand.is_empty() {
-            match log.copy_from(self.replica.tail(), &mut self.hand) {
-                CopyAnswer::Copied => {}
-                CopyAnswer::Below(_) => unreachable!(),
+        copy_next(log, &mut self.own);
+        match &mut self.batch {
+            NodeBatch::InLog(written) => {
+                node::replay(&mut self.own, catalogue, &mut written.replies)
+            }
+            _ => {
+                let mut replies = Replies::new(0, 0);
+                node::replay(&mut self.own, catalogue, &mut replies);
             }
         }
+        StepAnswer::Done
     }
 
     // What the replica has applied is completed.
@@ -217,10 +199,10 @@ impl Node {
         requires own { (m : TheOpening) × IsOfStore m log.old self.now }
         ensures finished { TakesPart (finish log.old self.now) log.old self.now log.new self.now result }
     {
-        if self.replica.tail() <= log.done() {
+        if !node::may_finish(log.done(), &self.own) {
             return StepAnswer::NotNow;
         }
-        log.raise_done(self.replica.tail());
+        node::finish(log, &self.own);
         StepAnswer::Done
     }
 
@@ -273,16 +255,9 @@ impl Node {
         ensures same { self.new ≡ self.old }
     {
         match catalogue.program(op.program()) {
-            Some(program) => answer(program, &mut self.replica, op.argument()),
+            Some(program) => answer(program, &mut self.own.replica, op.argument()),
             None => unreachable!(),
         }
-    }
-
-    // Whether the replica may answer a read that saw so many operations completed, when so many are.
-    fn may_answer(&self, seen: u64, done: u64) -> bool
-        ensures may { IsTrue result ↔ ((seen ≤ self.now.replica.tail) × (self.now.replica.tail ≤ done)) }
-    {
-        ready(&self.replica, seen) && self.replica.tail() <= done
     }
 
     // The read that was begun at a slot is answered, when so many operations are completed.
@@ -294,7 +269,7 @@ impl Node {
         let Some(read) = self.begun(slot) else {
             return StepAnswer::NotNow;
         };
-        if !self.may_answer(read.seen, done) {
+        if !node::may_answer(read.seen, done, &self.own) {
             return StepAnswer::NotNow;
         }
         let given = self.answer_to(catalogue, &read.op);
@@ -307,11 +282,10 @@ impl Node {
         requires own { (m : TheOpening) × IsOfStore m log.old self.now }
         ensures reclaimed { TakesPart (reclaim log.old self.now) log.old self.now log.new self.now result }
     {
-        let tail = self.replica.tail();
-        if tail <= log.base() || log.done() < tail {
+        if !node::may_reclaim(log.done(), log, &self.own) {
             return StepAnswer::NotNow;
         }
-        log.reclaim(tail, self.replica.maps());
+        node::reclaim(log, &self.own);
         StepAnswer::Done
     }
 
@@ -320,28 +294,11 @@ impl Node {
         requires own { (m : TheOpening) × IsOfStore m log.now self.old }
         ensures rebased { TakesPart (rebase log.now self.old) log.now self.old log.now self.new result }
     {
-        if log.base() <= self.replica.tail() || !self.hand.is_empty() {
+        if !node::may_rebase(log, &self.own) {
             return StepAnswer::NotNow;
         }
-        self.replica.rebase(log.base(), log.base_maps());
-        self.hand.clear(log.base());
+        node::rebase(log, &mut self.own);
         StepAnswer::Done
-    }
-
-    // The replica applies the records in the hand, and the batch keeps its own outcomes.
-    fn run_hand(&mut self, catalogue: &Catalogue)
-        requires runs { CanRun catalogue.now self.old }
-        ensures ran { (m : TheOpening) → m.catalogue ≡ catalogue.now → self.new ≡ replayed m self.old.hand.records self.old }
-    {
-        match &mut self.batch {
-            NodeBatch::InLog(written) => self
-                .replica
-                .replay(&mut self.hand, catalogue, &mut written.replies),
-            _ => {
-                let mut replies = Replies::new(0, 0);
-                self.replica.replay(&mut self.hand, catalogue, &mut replies);
-            }
-        }
     }
 
     // The requests of the batch are answered at the desk.
@@ -349,15 +306,12 @@ impl Node {
         requires own { (m : TheOpening) × IsOfStore m log.now self.old }
         ensures replied { TakesPart (reply log.now self.old) log.now self.old log.now self.new result }
     {
-        if !self.hand.is_empty()
-            || log.done() < self.replica.tail()
-            || !matches!(self.batch, NodeBatch::InLog(_))
-        {
+        if !node::may_reply(log.done(), &self.own) || !matches!(self.batch, NodeBatch::InLog(_)) {
             return StepAnswer::NotNow;
         }
         match mem::replace(&mut self.batch, NodeBatch::Absent) {
             NodeBatch::InLog(mut written) => {
-                answer_batch(&mut written.batch, &written.replies);
+                node::answer_batch(&mut written.batch, &written.replies);
                 self.desk.reply(&written.batch);
                 StepAnswer::Done
             }
@@ -406,19 +360,14 @@ impl Node {
     }
 }
 
-// A batch is appended to the log, as far as the history may grow.
-fn append_batch(log: &mut LogState, batch: Batch) -> Written
-    requires room { room_for log.old batch.records ≤ room_in log.old }
-    ensures log { log.new ≡ grown log.old batch.records }
-    ensures written { result ≡ written log.old batch }
+// Where no record is copied, those of the log that the replica lacks are.
+fn copy_next(log: &LogState, own: &mut NodeReplica)
+    requires next { has_next log.now own.old ≡ true }
+    requires fits { Fits log.now own.old }
+    requires begins { own.old.hand.begin ≡ own.old.replica.tail }
+    ensures copied { own.new ≡ with_next log.now own.old }
 {
-    let first = log.tail();
-    let count = match log.append(batch.records()) {
-        Ok(appended) => appended.count,
-        Err(_) => 0,
-    };
-    Written {
-        batch,
-        replies: Replies::new(first, count),
+    if own.hand.is_empty() {
+        node::copy(log, own);
     }
 }

@@ -9,7 +9,7 @@ use Rattle.schedule.proofs.nodes.Node.claim.Goals.{in-Absent, in_default}
 pub returns-in-Err : goal.returns-in-Err
 returns-in-Err c = record {
   claimed = λ g. elim c.match-matches.branch [
-    | in-Absent w ↦ subst (λ v. TakesPart (claim g v) g v g (record { replica = c.self.inside.replica; hand = c.self.inside.hand; desk = c.claim.new.self; batch = c.self.inside.batch; reads = c.self.inside.reads.items }) answers.NotNow) c.self.view_is
+    | in-Absent w ↦ subst (λ v. TakesPart (claim g v) g v g (record { replica = c.self.inside.own.replica; hand = c.self.inside.own.hand; desk = c.claim.new.self; batch = c.self.inside.batch; reads = c.self.inside.reads.items }) answers.NotNow) c.self.view_is
         (claim_refused (subst (λ v. IsOfStore c.requires.own.0 c.requires.own.1 v) (sym c.self.view_is) c.requires.own.2) w.in-Absent.is c.in-Err.field-0 c.in-Err.ensures.refused g c.claim.new.self c.in-Err.ensures.same.0)
     | in_default w ↦ absurd cc
   ];

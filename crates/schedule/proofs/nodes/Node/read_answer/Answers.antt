@@ -1,7 +1,9 @@
-use Rattle.std.proofs.Common.{sym, subst, ◌≡◌, ◌≤◌, ◌∙◌, ap, rules, Some, None}
+use Rattle.std.proofs.Common.{◌≡◌, ◌∙◌, ap, true, rules, Some, None}
 use Rattle.std.specs.Prelude.{option_map}
 use Rattle.oplog.specs.History.{ReadEffect}
 use Rattle.replica.specs.StoreMeaning.{store_meaning}
+use Rattle.node.specs.Following.{may_answer}
+use Rattle.schedule.specs.Worlds.{own_of}
 use Rattle.schedule.specs.Steps.{read_at, with_read}
 use Rattle.schedule.proofs.Owned.{own_shapes, read_asked}
 use Rattle.schedule.proofs.Answers.{read_taken}
@@ -17,9 +19,8 @@ pub returns : goal.returns
 returns c = record {
   answered = λ m g same done.
       let at : read_at c.args.self.now c.args.slot ≡ Some c.in-Some.read = search rules in
-      let may = c.may_answer.ensures.may.0 (search rules) in
-      let late : c.args.self.now.replica.tail ≤ g.done = subst (λ d. c.args.self.now.replica.tail ≤ d) (sym done) may.1 in
-      read_taken m g c.args.self.now _ c.args.slot c.in-Some.read c.answer_to-given.result at may.0 late c.answer_to-given.ensures.point
+      let may : may_answer c.in-Some.read.seen g.done (own_of c.args.self.now) ≡ true = search rules in
+      read_taken m g c.args.self.now _ c.args.slot c.in-Some.read c.answer_to-given.result at may c.answer_to-given.ensures.point
       (ap (λ k. option_map (λ (e : ReadEffect). e.reply) (store_meaning.read k c.in-Some.read.op c.args.self.now.replica.maps)) same ∙ c.answer_to-given.ensures.reply)
-      (ap (λ v. with_read v c.args.slot None) (c.self.view_is ∙ c.answer_to-given.ensures.same));
+      (ap (λ v. with_read v c.args.slot None) (c.self-2.view_is ∙ c.answer_to-given.ensures.same));
 }
