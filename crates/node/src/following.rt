@@ -3,8 +3,9 @@
 ghost use Rattle.std.specs.Prelude.{◌≡◌, ◌≤◌, ◌<◌, true, length};
 ghost use Rattle.maps.specs.Maps.{shapes_of};
 ghost use Rattle.oplog.specs.declared.configuration.TheConstants.{MAX_LIMIT};
-ghost use Rattle.oplog.specs.Logs.{tail_of};
+ghost use Rattle.oplog.specs.Logs.{tail_of, records_from};
 ghost use Rattle.replica.specs.Replaying.{KeepsOutcomes};
+ghost use Rattle.replica.specs.StoreMeaning.{AreUpdates};
 ghost use Rattle.node.specs.Following.{IsNext, Fits, may_append, grown, copied, replies_for, is_above, has_next, replayed, replies_after, may_finish, told, may_reclaim, reclaimed, may_rebase, rebased, may_answer, may_reply};
 
 use loader::Catalogue;
@@ -84,7 +85,8 @@ pub fn replay(node: &mut NodeReplica, catalogue: &Catalogue, replies: &mut Repli
 pub fn follow(log: &LogState, node: &mut NodeReplica, catalogue: &Catalogue)
     requires above { is_above log.now node.old ≡ true }
     requires fits { Fits log.now node.old }
-    requires next { IsNext catalogue.now (copied log.now node.old) }
+    requires shapes { shapes_of node.old.replica.maps ≡ catalogue.now.shapes }
+    requires updates { AreUpdates catalogue.now (records_from log.now node.old.replica.tail) }
     ensures node { node.new ≡ replayed catalogue.now (copied log.now node.old) }
     ensures shapes { shapes_of node.new.replica.maps ≡ shapes_of node.old.replica.maps }
     ensures within { tail_of log.now ≤ MAX_LIMIT }

@@ -1,8 +1,9 @@
 -- Records of the session's batch are appended to a log that has room for them, and the log is put back.
-use Rattle.std.proofs.Common.{set, ◌≡◌, ℕ, ◌+◌, ◌<◌, ◌≤◌, min, List, [], ◌∷◌, ◌++◌, map, length, length-append, take, drop, sym, refl, ap, ◌∙◌, subst, arith, ⊎_elim}
+use Rattle.std.proofs.Common.{set, ◌&&◌, ◌≡◌, ℕ, ◌+◌, ◌<◌, ◌≤◌, min, List, [], ◌∷◌, ◌++◌, map, length, length-append, take, drop, sym, refl, ap, ◌∙◌, subst, arith, ⊎_elim}
 use Rattle.std.specs.Global.{Box}
-use Rattle.std.proofs.lemmas.Bool.{cases_lt}
-use Rattle.std.proofs.lemmas.List.{length-take-le}
+use Rattle.std.proofs.lemmas.Bool.{cases_lt, le-leb}
+use Rattle.std.proofs.lemmas.List.{length-replicate, length-take-le}
+use Rattle.std.specs.Prelude.{nat_le}
 use Rattle.std.proofs.Math.Nat.{min-le_left, min-le_right, min-eq_left, min-eq_right}
 use lib.ListN.{get_elem?}
 use Rattle.maps.specs.Maps.{shapes_of}
@@ -10,10 +11,10 @@ use Rattle.ownlock.specs.Rules.{leader}
 use Rattle.ownlock.specs.Seats.{At, without}
 use Rattle.ownlock.specs.Knowledge.{Possible}
 use Rattle.loader.specs.CatalogueView.{CatalogueView}
-use Rattle.oplog.specs.declared.answers.Appended.{Appended}
 use Rattle.oplog.specs.declared.configuration.Config.{Config}
 use Rattle.oplog.specs.History.{History, maps_after}
-use Rattle.oplog.specs.Logs.{Log as LogView, left_of}
+use Rattle.oplog.specs.declared.configuration.TheConstants.{MAX_LIMIT}
+use Rattle.oplog.specs.Logs.{Log as LogView, left_of, room_in, tail_of}
 use Rattle.replica.specs.StoreMeaning.{store_meaning}
 use Rattle.progress.specs.declared.sessions.Progress.{Progress}
 use Rattle.progress.specs.declared.sessions.SessionNote.{SessionNote}
@@ -27,16 +28,18 @@ use Rattle.progress.proofs.DeskNotes.{batch_noted}
 use Rattle.progress.proofs.Tellings.{tail_is}
 use Rattle.progress.proofs.Picked.{log_picks, log_picked, puts_account}
 use Rattle.progress.proofs.Lists.{at_behind}
-use Rattle.store.specs.declared.values.NodeReplica.{NodeReplica}
+use Rattle.node.specs.declared.following.NodeReplica.{NodeReplica}
 use Rattle.store.specs.declared.values.Value.{Value}
 use Rattle.store.specs.declared.values.Value.TheVariants.{Log, Replica, Desk}
 use Rattle.store.specs.Shelving.{view_of, IsSized, session_rules, session_noting, store_rules, log_value}
-use Rattle.store.specs.Held.{CanAppendIn, IsAppended, HasAppendedIn}
+use Rattle.node.specs.Following.{grown, copied, replies_for, room_for}
+use Rattle.replica.specs.Views.{RepliesView}
+use Rattle.store.specs.Held.{CanAppendIn, HasAppendedIn}
 use Rattle.store.specs.Standing.{SessionKnown, GoesOn, IsLogOf, HasOthers, HasPlace, HasRoom, HasAppended}
 use Rattle.store.proofs.StoreLaws.{session_laws, session_notes, store_laws}
 use Rattle.store.proofs.Batched.{at_taken, at_unplaced, long_unplaced, taken_unplaced}
 use Rattle.store.proofs.Taken.{TookLog}
-use Rattle.store.proofs.Followed.{can_copy, has_others, follows_on}
+use Rattle.store.proofs.Followed.{above, fits, has_others, follows_on}
 use Rattle.store.proofs.Finished.{Picked, put_back}
 
 abbrev K : Type 0
@@ -46,14 +49,18 @@ abbrev L : Type 0
 L = Progress CatalogueView
 
 -- there is room for what the history may have of the records
-pub can_append : (t after : K) (x y v : Value) (rs : History) → HasRoom t after (length rs) x y v → CanAppendIn rs y v
-can_append t after (Log g) (Log h) (Replica n) rs p = record { room = p.room; copy = can_copy after.progress h.value n.value p.log p.follows p.above }
-can_append t after (Log g) (Log h) (Log n) rs p = absurd p
-can_append t after (Log g) (Log h) (Desk n) rs p = absurd p
-can_append t after (Log g) (Replica h) v rs p = absurd p
-can_append t after (Log g) (Desk h) v rs p = absurd p
-can_append t after (Replica g) y v rs p = absurd p
-can_append t after (Desk g) y v rs p = absurd p
+pub can_append : (t after : K) (x y v : Value) (rs : History) → length rs ≤ 16 → HasRoom t after (length rs) x y v → CanAppendIn rs y v
+can_append t after (Log g) (Log h) (Replica n) rs few p = (
+  ap (λ b. b && nat_le (room_for rs h.value) (room_in h.value)) (above after.progress h.value n.value p.log p.follows p.above) ∙ le-leb (room_for rs h.value) (room_in h.value) p.room,
+  fits after.progress h.value n.value p.log p.follows,
+  few,
+)
+can_append t after (Log g) (Log h) (Log n) rs few p = absurd p
+can_append t after (Log g) (Log h) (Desk n) rs few p = absurd p
+can_append t after (Log g) (Replica h) v rs few p = absurd p
+can_append t after (Log g) (Desk h) v rs few p = absurd p
+can_append t after (Replica g) y v rs few p = absurd p
+can_append t after (Desk g) y v rs few p = absurd p
 
 -- the smaller of two numbers is the second, if it isn't the first
 is_second : (a b : ℕ) → min a b < a → min a b ≡ b
@@ -63,8 +70,8 @@ is_second a b lt = ⊎_elim
     (cases_lt b a)
 
 -- the session k has taken the log g and is t then, and m once there is room; the records rs were appended to h, which gave h2
-module _ (k t m : K) (w : Value) (g : Box LogView) (h : LogView) (h2 : Box LogView) (n : NodeReplica) (n2 : Box NodeReplica) (rs : History) (a : Appended) (b : TookLog k t w (Log g)) (p : HasPlace t m (length rs) g.value h n)
-    (x : IsAppended rs h h2.value n n2.value a) (noted : k.note.batch ≡ unplaced rs) (sessions : List K) (is : sessions ≡ m ∷ []) where
+module _ (k t m : K) (w : Value) (g : Box LogView) (h : LogView) (h2 : Box LogView) (n : NodeReplica) (n2 : Box NodeReplica) (rs : History) (kept : RepliesView) (b : TookLog k t w (Log g)) (p : HasPlace t m (length rs) g.value h n)
+    (x : (h2.value ≡ grown rs h) × (n2.value ≡ copied h2.value n) × (kept ≡ replies_for rs h) × (tail_of h2.value ≤ MAX_LIMIT)) (noted : k.note.batch ≡ unplaced rs) (sessions : List K) (is : sessions ≡ m ∷ []) where
   at_log : At 0 (0, Log g) m.held
   at_log = ap (λ z. get_elem? z 0) (p.goes.held ∙ b.held)
 
@@ -79,48 +86,54 @@ module _ (k t m : K) (w : Value) (g : Box LogView) (h : LogView) (h2 : Box LogVi
 
   keeps : KeepsSizes IsSized (Log g) (Log h2)
   keeps config c s =
-      (ap (λ (z : LogView). z.window) x.log ∙ (p.keeps.0 ∙ s.0), ap (λ (z : LogView). z.limit) x.log ∙ (p.keeps.1 ∙ s.1), ap (λ (z : LogView). shapes_of z.base_maps) x.log ∙ (p.keeps.2 ∙ s.2))
+      (ap (λ (z : LogView). z.window) x.0 ∙ (p.keeps.0 ∙ s.0), ap (λ (z : LogView). z.limit) x.0 ∙ (p.keeps.1 ∙ s.1), ap (λ (z : LogView). shapes_of z.base_maps) x.0 ∙ (p.keeps.2 ∙ s.2))
 
   -- ---- what is appended
 
+  abbrev count : ℕ
+  count = length kept.outcomes
+
+  count_is : count ≡ room_for rs h
+  count_is = ap (λ z. length z.outcomes) x.2 ∙ length-replicate (room_for rs h) _
+
   abbrev more : History
-  more = map record_of (take a.count m.note.batch)
+  more = map record_of (take count m.note.batch)
 
-  more_is : more ≡ take a.count rs
-  more_is = ap (λ z. map record_of (take a.count z)) batch ∙ taken_unplaced a.count rs
+  more_is : more ≡ take count rs
+  more_is = ap (λ z. map record_of (take count z)) batch ∙ taken_unplaced count rs
 
-  count_low : a.count ≤ length rs
-  count_low = let is = x.count in let low = min-le_left (length rs) (left_of h) in omega (arith, is, low)
+  count_low : count ≤ length rs
+  count_low = let is = count_is in let low = min-le_left (length rs) (left_of h) in omega (arith, is, low)
 
-  long_more : length more ≡ a.count
-  long_more = ap length more_is ∙ length-take-le a.count rs count_low
+  long_more : length more ≡ count
+  long_more = ap length more_is ∙ length-take-le count rs count_low
 
-  first_is : a.first ≡ length m.progress.history
-  first_is = x.first ∙ p.log.tail
+  first_is : kept.first ≡ length m.progress.history
+  first_is = ap (λ z. z.first) x.2 ∙ p.log.tail
 
-  fits : length m.progress.history + a.count ≤ m.progress.config.limit
-  fits =
-      let is = x.count in let low = min-le_right (length rs) (left_of h) in let tail = p.log.tail in let limit = p.log.sizes.1 in let within = p.well.limit in
+  in_limit : length m.progress.history + count ≤ m.progress.config.limit
+  in_limit =
+      let is = count_is in let low = min-le_right (length rs) (left_of h) in let tail = p.log.tail in let limit = p.log.sizes.1 in let within = p.well.limit in
       omega (arith, is, low, tail, limit, within)
 
-  step : LogStep store_meaning m.progress m.note (log_value h) a.count (log_value h2.value)
+  step : LogStep store_meaning m.progress m.note (log_value h) count (log_value h2.value)
   step = record {
     unplaced = λ j c at. (at_unplaced rs j c (subst (λ z. At j c z) batch at)).1;
     count = let long = ap length batch ∙ long_unplaced rs in let low = count_low in omega (arith, long, low);
-    limit = let long = length-append m.progress.history more in let add = long_more in let top = fits in omega (arith, long, add, top);
+    limit = let long = length-append m.progress.history more in let add = long_more in let top = in_limit in omega (arith, long, add, top);
     log = record {
-      done = let same = ap (λ (z : LogView). z.done) x.log in let low = p.log.agrees.done in omega (arith, same, low);
-      base = let same = ap (λ (z : LogView). z.done) x.log in let here = ap (λ (z : LogView). z.base) x.log in let low = p.log.agrees.base in omega (arith, same, here, low);
-      below = let here = ap (λ (z : LogView). z.base) x.log in let tail = p.log.tail in omega (arith, here, tail);
-      base_maps = ap (λ (z : LogView). z.base_maps) x.log ∙ (p.log.agrees.base_maps ∙ ap (λ z. maps_after store_meaning m.progress.catalogue m.progress.history z) (sym (ap (λ (z : LogView). z.base) x.log)));
-      records = ap (λ (z : LogView). z.records) x.log
-          ∙ (ap (λ z. z ++ take (min (length rs) (left_of h)) rs) (p.log.agrees.records ∙ ap (λ z. drop z m.progress.history) (sym (ap (λ (z : LogView). z.base) x.log)))
-          ∙ ap (λ z. drop h2.value.base m.progress.history ++ z) (ap (λ z. take z rs) (sym x.count) ∙ sym more_is));
+      done = let same = ap (λ (z : LogView). z.done) x.0 in let low = p.log.agrees.done in omega (arith, same, low);
+      base = let same = ap (λ (z : LogView). z.done) x.0 in let here = ap (λ (z : LogView). z.base) x.0 in let low = p.log.agrees.base in omega (arith, same, here, low);
+      below = let here = ap (λ (z : LogView). z.base) x.0 in let tail = p.log.tail in omega (arith, here, tail);
+      base_maps = ap (λ (z : LogView). z.base_maps) x.0 ∙ (p.log.agrees.base_maps ∙ ap (λ z. maps_after store_meaning m.progress.catalogue m.progress.history z) (sym (ap (λ (z : LogView). z.base) x.0)));
+      records = ap (λ (z : LogView). z.records) x.0
+          ∙ (ap (λ z. z ++ take (min (length rs) (left_of h)) rs) (p.log.agrees.records ∙ ap (λ z. drop z m.progress.history) (sym (ap (λ (z : LogView). z.base) x.0)))
+          ∙ ap (λ z. drop h2.value.base m.progress.history ++ z) (ap (λ z. take z rs) (sym count_is) ∙ sym more_is));
     };
   }
 
   picked : Picked sessions (Log h2) m 0
-  picked = log_picked session_laws view_of session_notes IsSized sessions m 0 (Log g) (Log h2) (log_value g.value) (log_value h2.value) more at_log refl refl keeps (batch_noted store_meaning view_of IsSized Looked m.progress m.session m.note (log_value h) (log_value h2.value) a.count step) step.log is
+  picked = log_picked session_laws view_of session_notes IsSized sessions m 0 (Log g) (Log h2) (log_value g.value) (log_value h2.value) more at_log refl refl keeps (batch_noted store_meaning view_of IsSized Looked m.progress m.session m.note (log_value h) (log_value h2.value) count step) step.log is
 
   -- ---- what is put back
 
@@ -140,10 +153,10 @@ module _ (k t m : K) (w : Value) (g : Box LogView) (h : LogView) (h2 : Box LogVi
     rest : HasOthers f.progress n2.value
     rest =
         let above = p.above in
-        let base = ap (λ (z : LogView). z.base) x.log in
-        let within = x.within in
+        let base = ap (λ (z : LogView). z.base) x.0 in
+        let top = x.3 in
         let tail = log_f.tail in
-        subst (HasOthers f.progress) (sym x.node) (has_others f.progress h2.value n log_f (follows_on m.progress f.progress n put.extends p.follows) (omega (arith, above, base)) (omega (arith, within, tail)))
+        subst (HasOthers f.progress) (sym x.1) (has_others f.progress h2.value n log_f (follows_on m.progress f.progress n put.extends p.follows) (omega (arith, above, base)) (omega (arith, top, tail)))
 
     goes : GoesOn k f
     goes = record {
@@ -156,36 +169,36 @@ module _ (k t m : K) (w : Value) (g : Box LogView) (h : LogView) (h2 : Box LogVi
     picks : (put_progress sessions (view_of (Log h2)) ≡ (λ l. record l { history = l.history ++ more })) × (put_note session_noting sessions (view_of (Log h2)) ≡ (λ n. session_noting.appended (length m.progress.history) more n))
     picks = log_picks session_laws view_of session_notes IsSized sessions m (Log h2) (log_value h2.value) more is refl step.log
 
-    history : f.progress.history ≡ m.progress.history ++ take a.count rs
+    history : f.progress.history ≡ m.progress.history ++ take count rs
     history = ap (λ q. (q l).history) picks.0 ∙ (ap (λ z. z ++ more) (sym (may.0.1 0 (0, Log g) at_log refl)) ∙ ap (λ z. m.progress.history ++ z) more_is)
 
-    long_history : length f.progress.history ≡ length m.progress.history + a.count
-    long_history = ap length history ∙ (length-append m.progress.history (take a.count rs) ∙ ap (λ z. length m.progress.history + z) (length-take-le a.count rs count_low))
+    long_history : length f.progress.history ≡ length m.progress.history + count
+    long_history = ap length history ∙ (length-append m.progress.history (take count rs) ∙ ap (λ z. length m.progress.history + z) (length-take-le count rs count_low))
 
-    note : f.note ≡ record k.note { batch = placed_from a.first a.count (unplaced rs) }
+    note : f.note ≡ record k.note { batch = placed_from kept.first count (unplaced rs) }
     note = ap (λ q. q m.note) picks.1 ∙ (λ i. record (note_is i) { batch = placed_from (sym first_is i) (long_more i) (batch i) })
 
-    has_appended : HasAppended k f rs a (Replica n2)
+    has_appended : HasAppended k f rs kept (Replica n2)
     has_appended = record {
       goes = goes;
       stands = record { notes = put.notes; accounts = put.accounts; here = put.here };
       rest = rest;
       count = count_low;
-      within = let top = x.within in let tail = log_f.tail in let long = long_history in let first = first_is in omega (arith, top, tail, long, first);
-      above = let stays = ap (λ (z : NodeReplica). z.replica.tail) x.node in let low = p.follows.within in let first = first_is in omega (arith, stays, low, first);
+      within = let top = x.3 in let tail = log_f.tail in let long = long_history in let first = first_is in omega (arith, top, tail, long, first);
+      above = let stays = ap (λ (z : NodeReplica). z.replica.tail) x.1 in let low = p.follows.within in let first = first_is in omega (arith, stays, low, first);
       note = note;
-      placed = λ j r lt at. subst (λ z. At (a.first + j) r z) (sym history) (subst (λ z. At (z + j) r (m.progress.history ++ take a.count rs)) (sym first_is) (at_behind m.progress.history (take a.count rs) j r (at_taken a.count rs j r lt at)));
+      placed = λ j r lt at. subst (λ z. At (kept.first + j) r z) (sym history) (subst (λ z. At (z + j) r (m.progress.history ++ take count rs)) (sym first_is) (at_behind m.progress.history (take count rs) j r (at_taken count rs j r lt at)));
       ended = λ lt.
-          let all : a.count ≡ left_of h = x.count ∙ is_second (length rs) (left_of h) (let is = x.count in omega (arith, is, lt)) in
+          let all : count ≡ left_of h = count_is ∙ is_second (length rs) (left_of h) (let is = count_is in omega (arith, is, lt)) in
           let tail = p.log.tail in let limit = p.log.sizes.1 in let within = p.well.limit in let long = long_history in let same = ap (λ (z : Config). z.limit) put.extends.config in
           omega (arith, all, tail, limit, within, long, same);
     }
 
 -- ---- the same of values
 
-module _ (k t m : K) (w : Value) (rs : History) (a : Appended) (noted : k.note.batch ≡ unplaced rs) (sessions : List K) (is : sessions ≡ m ∷ []) where
-  pub put_appended : (x y v y2 v2 : Value) → TookLog k t w x → HasRoom t m (length rs) x y v → HasAppendedIn rs y y2 v v2 a → (q : ℕ) → q ≡ leader → Picked sessions y2 m q
-  put_appended (Log g) (Log h) (Replica n) (Log h2) (Replica n2) b p o q e = subst (λ z. Picked sessions (Log h2) m z) (sym e) (picked k t m w g h.value h2 n.value n2 rs a b p o noted sessions is)
+module _ (k t m : K) (w : Value) (rs : History) (kept : RepliesView) (noted : k.note.batch ≡ unplaced rs) (sessions : List K) (is : sessions ≡ m ∷ []) where
+  pub put_appended : (x y v y2 v2 : Value) → TookLog k t w x → HasRoom t m (length rs) x y v → HasAppendedIn rs y y2 v v2 kept → (q : ℕ) → q ≡ leader → Picked sessions y2 m q
+  put_appended (Log g) (Log h) (Replica n) (Log h2) (Replica n2) b p o q e = subst (λ z. Picked sessions (Log h2) m z) (sym e) (picked k t m w g h.value h2 n.value n2 rs kept b p o noted sessions is)
   put_appended (Log g) (Log h) (Replica n) (Log h2) (Log n2) b p o q e = absurd o
   put_appended (Log g) (Log h) (Replica n) (Log h2) (Desk n2) b p o q e = absurd o
   put_appended (Log g) (Log h) (Replica n) (Replica h2) v2 b p o q e = absurd o
@@ -197,10 +210,10 @@ module _ (k t m : K) (w : Value) (rs : History) (a : Appended) (noted : k.note.b
   put_appended (Replica g) y v y2 v2 b p o q e = absurd p
   put_appended (Desk g) y v y2 v2 b p o q e = absurd p
 
-  pub back_appended : (x y v y2 v2 : Value) → TookLog k t w x → HasRoom t m (length rs) x y v → HasAppendedIn rs y y2 v v2 a → (q : ℕ) → q ≡ leader → (l : L) (ns : List SessionNote) → Possible store_rules m l ns
-      → HasAppended k (put_back sessions y2 m q l) rs a v2
+  pub back_appended : (x y v y2 v2 : Value) → TookLog k t w x → HasRoom t m (length rs) x y v → HasAppendedIn rs y y2 v v2 kept → (q : ℕ) → q ≡ leader → (l : L) (ns : List SessionNote) → Possible store_rules m l ns
+      → HasAppended k (put_back sessions y2 m q l) rs kept v2
   back_appended (Log g) (Log h) (Replica n) (Log h2) (Replica n2) b p o q e l ns may =
-      subst (λ z. HasAppended k (put_back sessions (Log h2) m z l) rs a (Replica n2)) (sym e) (has_appended k t m w g h.value h2 n.value n2 rs a b p o noted sessions is l ns may)
+      subst (λ z. HasAppended k (put_back sessions (Log h2) m z l) rs kept (Replica n2)) (sym e) (has_appended k t m w g h.value h2 n.value n2 rs kept b p o noted sessions is l ns may)
   back_appended (Log g) (Log h) (Replica n) (Log h2) (Log n2) b p o q e l ns may = absurd o
   back_appended (Log g) (Log h) (Replica n) (Log h2) (Desk n2) b p o q e l ns may = absurd o
   back_appended (Log g) (Log h) (Replica n) (Replica h2) v2 b p o q e l ns may = absurd o

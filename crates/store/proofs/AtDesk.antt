@@ -1,11 +1,11 @@
 -- What a session finds at its desk, and that its calls are steps.
-use Rattle.std.proofs.Common.{◌≡◌, ℕ, suc, ◌<◌, ◌^◌, [], length, sym, refl, ap, ◌∙◌, subst, arith, Some, None, slice_get, if◌then◌else◌}
+use Rattle.std.proofs.Common.{◌≡◌, ℕ, suc, ◌+◌, ◌<◌, ◌^◌, [], length, sym, refl, ap, ◌∙◌, subst, arith, ⊎_elim, Some, None, slice_get, if◌then◌else◌}
 use mathlib.Core.Bool.{Bool, true, false}
+use Rattle.std.proofs.lemmas.Bool.{cases_lt}
 use Rattle.std.proofs.lemmas.List.{length-map}
 use Rattle.std.specs.Option.{option_and_then}
 use Rattle.ownlock.specs.Seats.{At}
 use Rattle.oplog.specs.Operations.{Operation}
-use Rattle.oplog.specs.declared.answers.Appended.{Appended}
 use Rattle.combiner.specs.Slots.{is_empty, slot as slot_with}
 use Rattle.combiner.specs.Desks.{DeskView, BatchView, IsBatchOf, IsAnswered, replied, batch_of, claim_refusal, claimed, collected, has_combiner, has_request, posted, with_slot}
 use Rattle.combiner.specs.declared.slots.Slot.{Slot}
@@ -15,6 +15,10 @@ use Rattle.combiner.specs.declared.slots.DeskRefused.TheVariants.{NothingPosted,
 use Rattle.replica.specs.StoreMeaning.{store_meaning}
 use Rattle.replica.specs.Views.{RepliesView}
 use Rattle.combiner.specs.declared.slots.Reply.{Reply}
+use Rattle.combiner.specs.declared.slots.Reply.TheVariants.{Placed, Ended}
+use Rattle.node.specs.Answering.{answered_batch}
+use Rattle.node.proofs.Answers.{answers_placed, answers_ended}
+use Rattle.node.proofs.Keeping.{get_some}
 use Rattle.progress.specs.declared.sessions.Claim.{Claim}
 use Rattle.progress.specs.declared.sessions.Pending.{Pending}
 use Rattle.progress.specs.declared.sessions.SessionNote.{SessionNote}
@@ -31,7 +35,7 @@ use Rattle.progress.proofs.Moved.{some_none}
 use Rattle.progress.proofs.Puts.{at_there}
 use Rattle.store.specs.declared.desks.Turn.{Turn}
 use Rattle.store.specs.declared.desks.Turn.TheVariants.{Collects, Combines, Waits}
-use Rattle.store.specs.AtDesk.{IsAt, HasAnswers, HasAsked, IsReady, IsTurn, IsClaim, Steps, TurnSteps}
+use Rattle.store.specs.AtDesk.{IsAt, HasAsked, IsReady, IsTurn, IsClaim, Steps, TurnSteps}
 use Rattle.store.specs.Sessions.{request_of}
 use Rattle.store.specs.Standing.{SessionKnown}
 
@@ -112,34 +116,27 @@ turn_steps slot k o x y batch Waits t i asked = t.1
 
 -- ---- reply
 
--- the answers may be set before they are handed over
-pub ready_as : (k : SessionKnown) (b c : BatchView) (a : Appended) (kept : RepliesView) → c.records ≡ b.records → IsReady k b a kept → IsReady k c a kept
-ready_as k b c a kept same r = record {
-  some = r.some;
-  records = same ∙ r.records;
-  ascend = subst Ascend (sym same) r.ascend;
-  within = r.within;
-  count = r.count;
-  outcomes = r.outcomes;
-  gives = r.gives;
-}
-
-module _ (k : SessionKnown) (b : BatchView) (a : Appended) (kept : RepliesView) (r : IsReady k b a kept) where
+module _ (k : SessionKnown) (b : BatchView) (kept : RepliesView) (r : IsReady k b kept) where
   first : (t : Claim) × At 0 t k.note.batch
   first = at_there k.note.batch 0 r.some
 
-  pub is_batch : (slot : ℕ) (x : DeskView) (i : IsAt slot k x) → IsBatchOf x b
-  is_batch slot x i = batch_is store_meaning k.progress i.notes k.session k.note x b 0 first.0 i.accounts i.here (slot, i.within, i.own, i.near) i.agrees first.1 r.records r.ascend
+  pub is_batch : (slot : ℕ) (x : DeskView) (i : IsAt slot k x) → IsBatchOf x (answered_batch kept b)
+  is_batch slot x i = batch_is store_meaning k.progress i.notes k.session k.note x (answered_batch kept b) 0 first.0 i.accounts i.here (slot, i.within, i.own, i.near) i.agrees first.1 r.records r.ascend
 
-  pub reply_steps : (x y : DeskView) → y ≡ replied b x → HasAnswers a kept b → Steps k x (record k.note { batch = [] }) y
-  reply_steps x y e set = ReplyStep b 0 first.0 first.1 r.records each refl e
+  pub is_answered : IsAnswered (answered_batch kept b)
+  is_answered j lt =
+      let q = get_some b.records j lt in
+      ⊎_elim
+      (λ has. let o = r.run j has lt in (Placed (kept.first + j) o.0.reply, answers_placed b.records kept.outcomes kept.first j q.0 (Some o.0) q.1 o.1))
+      (λ late. (Ended, answers_ended b.records kept.outcomes kept.first j q.0 q.1 late))
+      (cases_lt j (length kept.outcomes))
+
+  pub reply_steps : (x y : DeskView) → y ≡ replied (answered_batch kept b) x → Steps k x (record k.note { batch = [] }) y
+  reply_steps x y e = ReplyStep (answered_batch kept b) 0 first.0 first.1 r.records each refl e
     where
-      each : (j : ℕ) (t : Claim) → At j t k.note.batch → (reply : Reply) × (slice_get b.answers j ≡ Some (Some reply)) × Gives store_meaning k.progress t reply
+      each : (j : ℕ) (t : Claim) → At j t k.note.batch → (reply : Reply) × (slice_get (answered_batch kept b).answers j ≡ Some (Some reply)) × Gives store_meaning k.progress t reply
       each j t at =
           let long = ap length r.records ∙ length-map k.note.batch record_of in
           let lt = at_below k.note.batch j t at in
-          let s = set.answers j (omega (arith, long, lt)) in
-          (s.0, s.1, r.gives j t s.0 at s.2)
-
-pub is_answered : (b : BatchView) (a : Appended) (kept : RepliesView) → HasAnswers a kept b → IsAnswered b
-is_answered b a kept set j lt = let s = set.answers j lt in (s.0, s.1)
+          let s = is_answered j (omega (arith, long, lt)) in
+          (s.0, s.1, r.gives j t s.0 at s.1)

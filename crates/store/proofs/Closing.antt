@@ -22,7 +22,7 @@ use Rattle.progress.proofs.Ended.{ends}
 use Rattle.progress.proofs.Lists.{at_none}
 use Rattle.progress.proofs.Puts.{at_there}
 use Rattle.progress.proofs.Tellings.{tail_is}
-use Rattle.store.specs.declared.values.NodeReplica.{NodeReplica}
+use Rattle.node.specs.declared.following.NodeReplica.{NodeReplica}
 use Rattle.store.specs.declared.values.Setup.{Setup}
 use Rattle.store.specs.declared.values.Value.{Value}
 use Rattle.store.specs.declared.values.Value.TheVariants.{Log, Replica, Desk}

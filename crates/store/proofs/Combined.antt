@@ -1,21 +1,20 @@
 -- What was appended and replayed are the answers of the batch, and these are handed over.
-use Rattle.std.proofs.Common.{◌≡◌, ℕ, ◌+◌, ◌<◌, ◌≤◌, List, [], map, length, sym, ap, ◌∙◌, subst, arith, ⊎_elim, Option, Some, slice_get, slice_set}
-use native.Mathlib.Decide.{ℕ_discrete}
+use Rattle.std.proofs.Common.{◌≡◌, ℕ, ◌+◌, ◌<◌, ◌≤◌, List, [], map, length, sym, refl, ap, ◌∙◌, subst, arith, ⊎_elim, Some, slice_get}
 use Rattle.std.proofs.lemmas.Bool.{cases_lt}
-use Rattle.std.proofs.lemmas.List.{length-replicate}
 use Rattle.std.proofs.lemmas.Option.{same_Some}
 use Rattle.ownlock.specs.Seats.{At}
 use Rattle.machine.specs.declared.running.Outcome.{Outcome}
-use Rattle.oplog.specs.declared.answers.Appended.{Appended}
 use Rattle.oplog.specs.declared.configuration.Config.{Config}
 use Rattle.oplog.specs.declared.records.Record.{Record}
 use Rattle.oplog.specs.History.{History, reply_at}
 use Rattle.combiner.specs.Desks.{BatchView, DeskView, replied}
 use Rattle.combiner.specs.declared.slots.Reply.{Reply}
 use Rattle.combiner.specs.declared.slots.Reply.TheVariants.{Placed, Ended}
-use Rattle.replica.proofs.Kept.{get-set_same, get-set_other}
 use Rattle.replica.specs.StoreMeaning.{store_meaning}
-use Rattle.replica.specs.Views.{RepliesView, no_replies}
+use Rattle.replica.specs.Views.{RepliesView}
+use Rattle.node.specs.Answering.{answered_batch, HaveRun}
+use Rattle.node.proofs.Answers.{answers_placed, answers_ended}
+use Rattle.node.proofs.Keeping.{get_some}
 use Rattle.progress.specs.declared.sessions.Claim.{Claim}
 use Rattle.progress.specs.declared.sessions.SessionNote.{SessionNote}
 use Rattle.progress.specs.Accounts.{Accounts, Extends}
@@ -29,7 +28,7 @@ use Rattle.progress.proofs.Tellings.{reply_on}
 use Rattle.progress.specs.Values.{TheDesk}
 use Rattle.store.specs.declared.values.Value.{Value}
 use Rattle.store.specs.declared.values.Value.TheVariants.{Log, Replica, Desk}
-use Rattle.store.specs.AtDesk.{IsReady, IsAnswerOf, HasAnswers}
+use Rattle.store.specs.AtDesk.{IsReady}
 use Rattle.store.specs.Combining.{HasCombined, HasReplied}
 use Rattle.store.specs.Held.{tail_in}
 use Rattle.store.specs.Shelving.{view_of}
@@ -43,28 +42,15 @@ use Rattle.store.proofs.TakenDesk.{BackDesk, desk_or}
 abbrev K : Type 0
 K = SessionKnown
 
--- ---- the answers are set one after another
-
-abbrev pub AreSet : Appended → RepliesView → ℕ → List (Option Reply) → Type 0
-AreSet a replies n answers = (k : ℕ) → k < n → (reply : Reply) × (slice_get answers k ≡ Some (Some reply)) × IsAnswerOf a replies k reply
-
-pub set_more : (a : Appended) (replies : RepliesView) (n : ℕ) (old new : List (Option Reply)) (reply : Reply) → n < length old → new ≡ slice_set old n (Some reply) → AreSet a replies n old → IsAnswerOf a replies n reply → AreSet a replies (n + 1) new
-set_more a replies n old new reply lt is before now k below = subst (λ z. (x : Reply) × (slice_get z k ≡ Some (Some x)) × IsAnswerOf a replies k x) (sym is) (by (ℕ_discrete k n))
-  where
-    by : Dec (k ≡ n) → (x : Reply) × (slice_get (slice_set old n (Some reply)) k ≡ Some (Some x)) × IsAnswerOf a replies k x
-    by (yes e) = subst (λ i. (x : Reply) × (slice_get (slice_set old n (Some reply)) i ≡ Some (Some x)) × IsAnswerOf a replies i x) (sym e) (reply, get-set_same old n (Some reply) lt, now)
-    by (no ne) = let b = before k (⊎_elim (λ l. l) (λ g. absurd (ne (omega (arith, g, below)))) (cases_lt k n)) in (b.0, get-set_other old n k (Some reply) ne ∙ b.1, b.2)
-
 -- ---- a batch that is ready stays so
 
-pub ready_on : (k t : K) (b : BatchView) (a : Appended) (kept : RepliesView) (ns : List SessionNote) → t.note ≡ k.note → Extends k.progress t.progress → Stands k → Accounts store_meaning t.progress ns → IsReady k b a kept → IsReady t b a kept
-ready_on k t b a kept ns note grown stands w r = record {
+pub ready_on : (k t : K) (b : BatchView) (kept : RepliesView) (ns : List SessionNote) → t.note ≡ k.note → Extends k.progress t.progress → Stands k → Accounts store_meaning t.progress ns → IsReady k b kept → IsReady t b kept
+ready_on k t b kept ns note grown stands w r = record {
   some = subst (λ (n : SessionNote). 0 < length n.batch) (sym note) r.some;
   records = r.records ∙ ap (λ (n : SessionNote). map record_of n.batch) (sym note);
   ascend = r.ascend;
   within = r.within;
-  count = r.count;
-  outcomes = r.outcomes;
+  run = r.run;
   gives = λ j c reply at o. gives_on c reply (r.gives j c reply (subst (λ (n : SessionNote). At j c n.batch) note at) o);
 }
   where
@@ -79,26 +65,13 @@ ready_on k t b a kept ns note grown stands w r = record {
 -- ---- from what was appended and replayed to the answers
 
 -- the session t has its replica, a once the records were appended, r once they are replayed
-module _ (t a r : K) (rs : History) (app : Appended) (v w : Value) (old new : RepliesView) (h : HasAppended t a rs app v) (c : HasCaughtUp a r v w old new) (is : old ≡ no_replies app.first app.count) where
-  reply_of : (j : ℕ) (q : Record) → j < app.count → At j q rs → (o : Outcome) × (slice_get new.outcomes j ≡ Some (Some o)) × (reply_at store_meaning a.progress.catalogue a.progress.history (app.first + j) q.op ≡ Some o.reply)
-  reply_of j q lt at =
-      let low = h.above in
-      let long : length old.outcomes ≡ app.count = ap (λ z. length z.outcomes) is ∙ length-replicate app.count _ in
-      reply_kept a q j (app.first + j) (tail_in v) old new (h.placed j q lt at) (omega (arith, low)) (ap (λ z. z.first + j) is) (omega (arith, long, lt)) c.replies
-
-  counted : length new.outcomes ≡ app.count
-  counted = c.count ∙ (ap (λ z. length z.outcomes) is ∙ length-replicate app.count _)
-
-  kept : (j : ℕ) → j < app.count → (o : Outcome) × (slice_get new.outcomes j ≡ Some (Some o))
-  kept j lt =
-      let low = h.count in
-      let q = at_there rs j (omega (arith, lt, low)) in
-      let o = reply_of j q.0 lt q.1 in
-      (o.0, o.1)
+module _ (t a r : K) (rs : History) (old : RepliesView) (v w : Value) (new : RepliesView) (h : HasAppended t a rs old v) (c : HasCaughtUp a r v w old new) where
+  reply_of : (j : ℕ) (q : Record) → j < length old.outcomes → At j q rs → (o : Outcome) × (slice_get new.outcomes j ≡ Some (Some o)) × (reply_at store_meaning a.progress.catalogue a.progress.history (old.first + j) q.op ≡ Some o.reply)
+  reply_of j q lt at = let low = h.above in reply_kept a q j (old.first + j) (tail_in v) old new (h.placed j q lt at) (omega (arith, low)) refl lt c.replies
 
   module _ (f : K) (end : Back r f) (b : BatchView) (records : b.records ≡ rs) (some : 0 < length rs) (ascend : Ascend rs) where
     abbrev placed : List Claim
-    placed = placed_from app.first app.count (unplaced rs)
+    placed = placed_from old.first (length old.outcomes) (unplaced rs)
 
     batch : f.note.batch ≡ placed
     batch = ap (λ (n : SessionNote). n.batch) (end.note ∙ (c.note ∙ h.note))
@@ -106,46 +79,61 @@ module _ (t a r : K) (rs : History) (app : Appended) (v w : Value) (old new : Re
     to_f : Extends a.progress f.progress
     to_f = store_laws.extends_on a.progress r.progress f.progress c.goes.extends end.extends
 
-    gives : (j : ℕ) (u : Claim) (reply : Reply) → At j u placed → IsAnswerOf app new j reply → Gives store_meaning f.progress u reply
-    gives j u reply at = by reply
+    run : HaveRun new b
+    run j lt below =
+        let count = c.count in let long = ap length records in
+        let q = at_there rs j (omega (arith, below, long)) in
+        let o = reply_of j q.0 (omega (arith, lt, count)) q.1 in
+        (o.0, o.1)
+
+    gives : (j : ℕ) (u : Claim) (reply : Reply) → At j u placed → slice_get (answered_batch new b).answers j ≡ Some (Some reply) → Gives store_meaning f.progress u reply
+    gives j u reply at set = ⊎_elim
+        (λ has. let o = reply_of j u.request has there in subst (Gives store_meaning f.progress u) (sym (same (Placed (new.first + j) o.0.reply) (answers_placed b.records new.outcomes new.first j q.0 (Some o.0) q.1 o.1))) (given has))
+        (λ late. let count = c.count in subst (Gives store_meaning f.progress u) (sym (same Ended (answers_ended b.records new.outcomes new.first j q.0 q.1 (omega (arith, late, count))))) (ended late))
+        (cases_lt j (length old.outcomes))
       where
-        p : (x : Claim) × At j x (unplaced rs) × (u.request ≡ x.request) × ((j < app.count) → u.place ≡ Some (app.first + j)) × ((app.count ≤ j) → u.place ≡ x.place)
-        p = placed_back app.first app.count (unplaced rs) j u at
+        p : (x : Claim) × At j x (unplaced rs) × (u.request ≡ x.request) × ((j < length old.outcomes) → u.place ≡ Some (old.first + j)) × ((length old.outcomes ≤ j) → u.place ≡ x.place)
+        p = placed_back old.first (length old.outcomes) (unplaced rs) j u at
 
         there : At j u.request rs
         there = subst (λ z. At j z rs) (sym p.2) (at_unplaced rs j p.0 p.1).0
 
-        by : (reply : Reply) → IsAnswerOf app new j reply → Gives store_meaning f.progress u reply
-        by (Placed i x) o =
-            let lt = o.0 in
-            let k = reply_of j u.request lt there in
-            let one : k.0 ≡ o.2.0 = same_Some k.0 o.2.0 (same_Some (Some k.0) (Some o.2.0) (sym k.1 ∙ o.2.1)) in
-            let below = at_below a.progress.history (app.first + j) u.request (h.placed j u.request lt there) in
+        q : (x : Record) × (slice_get b.records j ≡ Some x)
+        q = let short = at_below rs j u.request there in let long = ap length records in get_some b.records j (omega (arith, short, long))
+
+        same : (x : Reply) → slice_get (answered_batch new b).answers j ≡ Some (Some x) → reply ≡ x
+        same x e = same_Some reply x (same_Some (Some reply) (Some x) (sym set ∙ e))
+
+        given : (has : j < length old.outcomes) → Gives store_meaning f.progress u (Placed (new.first + j) (reply_of j u.request has there).0.reply)
+        given has =
+            let o = reply_of j u.request has there in
+            let here : old.first + j ≡ new.first + j = ap (λ z. z + j) (sym c.first) in
+            let below = at_below a.progress.history (old.first + j) u.request (h.placed j u.request has there) in
             let done = c.completed in
-            let up = end.extends.completed in
-            let here = o.1 in (
-              p.3 lt ∙ ap Some (sym o.1),
+            let up = end.extends.completed in (
+              p.3 has ∙ ap Some here,
               omega (arith, below, done, up, here),
-              ap (λ z. reply_at store_meaning f.progress.catalogue f.progress.history z u.request.op) o.1 ∙ (sym (reply_on store_meaning a.progress f.progress (app.first + j) u.request.op to_f (omega (arith, below))) ∙ (k.2 ∙ ap (λ (z : Outcome). Some z.reply) one ∙ ap Some (sym o.2.2))),
+              ap (λ z. reply_at store_meaning f.progress.catalogue f.progress.history z u.request.op) (sym here) ∙ (sym (reply_on store_meaning a.progress f.progress (old.first + j) u.request.op to_f (omega (arith, below))) ∙ o.2),
             )
-        by Ended o =
+
+        ended : length old.outcomes ≤ j → Gives store_meaning f.progress u Ended
+        ended late =
             let short = at_below rs j u.request there in
-            let full = h.ended (omega (arith, o, short)) in
+            let full = h.ended (omega (arith, late, short)) in
             let done = c.completed in
             let up = end.extends.completed in
             let same = ap (λ (z : Config). z.limit) to_f.config in
             let top = end.stands.accounts.limit in
             let low = end.stands.accounts.completed in
-            (p.4 o ∙ (at_unplaced rs j p.0 p.1).1, omega (arith, full, done, up, same, top, low))
+            (p.4 late ∙ (at_unplaced rs j p.0 p.1).1, omega (arith, full, done, up, same, top, low))
 
-    pub ready : IsReady f b app new
+    pub ready : IsReady f b new
     ready = record {
-      some = subst (λ z. 0 < length z) (sym batch) (let long = long_placed app.first app.count (unplaced rs) ∙ long_unplaced rs in omega (arith, long, some));
-      records = records ∙ (sym (records_of_unplaced rs) ∙ (sym (records_of_placed app.first app.count (unplaced rs)) ∙ ap (λ z. map record_of z) (sym batch)));
+      some = subst (λ z. 0 < length z) (sym batch) (let long = long_placed old.first (length old.outcomes) (unplaced rs) ∙ long_unplaced rs in omega (arith, long, some));
+      records = records ∙ (sym (records_of_unplaced rs) ∙ (sym (records_of_placed old.first (length old.outcomes) (unplaced rs)) ∙ ap (λ z. map record_of z) (sym batch)));
       ascend = subst Ascend (sym records) ascend;
-      within = h.within;
-      count = counted;
-      outcomes = kept;
+      within = let first = c.first in let count = c.count in let top = h.within in omega (arith, first, count, top);
+      run = run;
       gives = λ j u reply at. gives j u reply (subst (λ z. At j u z) batch at);
     }
 

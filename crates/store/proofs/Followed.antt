@@ -1,17 +1,17 @@
 -- A replica that follows the history, the log of a progress, and what the steps on both leave.
-use Rattle.std.proofs.Common.{◌≡◌, ◌+◌, ◌-◌, ◌<◌, ◌≤◌, [], length, drop, sym, ap, ◌∙◌, subst, arith, Some, slice_get, ⊎_elim}
-use Rattle.std.proofs.lemmas.Bool.{cases_lt}
+use Rattle.std.proofs.Common.{◌≡◌, suc, ◌+◌, ◌-◌, ◌<◌, ◌≤◌, ◌&&◌, true, false, [], length, drop, refl, sym, ap, ◌∙◌, subst, arith, Some, slice_get, ⊎_elim}
+use Rattle.std.proofs.lemmas.Bool.{cases_lt, le-leb, le-ltb}
 use Rattle.maps.specs.Maps.{shapes_of}
 use Rattle.loader.specs.CatalogueView.{CatalogueView}
 use Rattle.oplog.specs.Logs.{Log as LogView, HandView, records_from}
 use Rattle.oplog.specs.History.{maps_after}
-use Rattle.replica.specs.StoreMeaning.{store_meaning}
+use Rattle.replica.specs.StoreMeaning.{store_meaning, AreUpdates}
 use Rattle.progress.specs.declared.sessions.Progress.{Progress}
 use Rattle.progress.specs.Accounts.{Extends, IsWellFormed}
 use Rattle.progress.proofs.Tellings.{maps_on}
 use Rattle.progress.proofs.Finish.{grown_long}
-use Rattle.store.specs.declared.values.NodeReplica.{NodeReplica}
-use Rattle.store.specs.Lent.{copied, rebased, CanCopy, CanFollow}
+use Rattle.node.specs.declared.following.NodeReplica.{NodeReplica}
+use Rattle.node.specs.Following.{Fits, copied, is_above, may_rebase, no_records, rebased}
 use Rattle.store.specs.Standing.{Follows, HasOthers, IsLogOf}
 use Rattle.store.proofs.Places.{at_drop, drop_drop}
 use Rattle.progress.proofs.Lists.{at_of}
@@ -39,18 +39,25 @@ module _ (l : L) (g : LogView) (n : NodeReplica) (is : IsLogOf l g) (f : Follows
     maps = is.agrees.base_maps;
     shapes = is.sizes.2;
     window = f.window;
-    empty = f.empty;
+    empty = refl;
   }
 
-  pub kept_up : (m : NodeReplica) → (g.base ≤ n.replica.tail → m ≡ n) → (n.replica.tail < g.base → m ≡ rebased g n) → Follows l m × (g.base ≤ m.replica.tail)
-  kept_up m above below = ⊎_elim
-      (λ lt. let e = below lt in (subst (Follows l) (sym e) follows_rebased, (let t : m.replica.tail ≡ g.base = ap (λ (z : NodeReplica). z.replica.tail) e in omega (arith, t))))
-      (λ le. let e = above le in (subst (Follows l) (sym e) f, (let t : m.replica.tail ≡ n.replica.tail = ap (λ (z : NodeReplica). z.replica.tail) e in omega (arith, t, le))))
+  -- the guard asks for an empty hand too, which a replica that follows has
+  lags : n.replica.tail < g.base → may_rebase g n ≡ true
+  lags lt = ap (λ b. b && no_records n.hand.records) (le-leb (suc n.replica.tail) g.base (omega (arith, lt))) ∙ ap no_records f.empty
+
+  pub kept_up : (m : NodeReplica) → (may_rebase g n ≡ true → m ≡ rebased g n) → (may_rebase g n ≡ false → m ≡ n) → Follows l m × (g.base ≤ m.replica.tail)
+  kept_up m below above = ⊎_elim
+      (λ lt. let e = below (lags lt) in (subst (Follows l) (sym e) follows_rebased, (let t : m.replica.tail ≡ g.base = ap (λ (z : NodeReplica). z.replica.tail) e in omega (arith, t))))
+      (λ le. let e = above (ap (λ b. b && no_records n.hand.records) (le-ltb n.replica.tail g.base le)) in (subst (Follows l) (sym e) f, (let t : m.replica.tail ≡ n.replica.tail = ap (λ (z : NodeReplica). z.replica.tail) e in omega (arith, t, le))))
       (cases_lt n.replica.tail g.base)
 
+  pub fits : Fits g n
+  fits = let t = is.tail in let w = f.within in record { tail = omega (arith, t, w); window = f.window ∙ sym is.sizes.0 }
+
   module _ (low : g.base ≤ n.replica.tail) where
-    pub can_copy : CanCopy g n
-    can_copy = let t = is.tail in let w = f.within in record { above = low; below = omega (arith, t, w); window = f.window ∙ sym is.sizes.0 }
+    pub above : is_above g n ≡ true
+    above = le-leb g.base n.replica.tail low
 
     pub others : records_from g n.replica.tail ≡ drop n.replica.tail l.history
     others = ap (drop (n.replica.tail - g.base)) is.agrees.records ∙ drop_drop g.base n.replica.tail l.history low
@@ -64,13 +71,8 @@ module _ (l : L) (g : LogView) (n : NodeReplica) (is : IsLogOf l g) (f : Follows
       hand = λ i. record { begin = n.replica.tail; records = others i; window = f.window i };
     }
 
-    pub can_follow : IsWellFormed store_meaning l → CanFollow l.catalogue g n
-    can_follow w = record {
-      copy = can_copy;
-      empty = f.empty;
-      shapes = f.shapes;
-      updates = λ k r e. w.allowed (n.replica.tail + k) r (at_drop n.replica.tail l.history k r (at_of (drop n.replica.tail l.history) k r (subst (λ z. slice_get z k ≡ Some r) others e)));
-    }
+    pub updates : IsWellFormed store_meaning l → AreUpdates l.catalogue (records_from g n.replica.tail)
+    updates w k r e = w.allowed (n.replica.tail + k) r (at_drop n.replica.tail l.history k r (at_of (drop n.replica.tail l.history) k r (subst (λ z. slice_get z k ≡ Some r) others e)))
 
 -- the replica has applied the whole history, and its hand rests
 pub record HasAll (l : L) (n : NodeReplica) : Type 0 where

@@ -8,7 +8,7 @@ use Rattle.oplog.specs.declared.configuration.Config.{Config}
 use Rattle.replica.specs.StoreMeaning.{store_meaning}
 use Rattle.progress.specs.Values.{TheLog, TheReplica}
 use Rattle.progress.specs.LogSteps.{first_log, first_replica}
-use Rattle.store.specs.declared.values.NodeReplica.{NodeReplica}
+use Rattle.node.specs.declared.following.NodeReplica.{NodeReplica}
 use Rattle.store.specs.declared.values.Value.{Value}
 use Rattle.store.specs.declared.values.Value.TheVariants.{Log, Replica, Desk}
 use Rattle.store.specs.Shelving.{view_of, IsSized, HasLogSizes, log_value, replica_value, resting_hand, IsOpenedLog, IsOpenedReplica}

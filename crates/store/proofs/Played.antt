@@ -17,15 +17,15 @@ use Rattle.progress.specs.Accounts.{Extends, IsWellFormed}
 use Rattle.progress.specs.Moves.{raised}
 use Rattle.progress.proofs.Tellings.{replays, replayed_agrees}
 use Rattle.progress.proofs.Finish.{grown_long}
-use Rattle.store.specs.declared.values.NodeReplica.{NodeReplica}
+use Rattle.node.specs.declared.following.NodeReplica.{NodeReplica}
 use Rattle.store.specs.declared.values.Value.{Value}
 use Rattle.store.specs.declared.values.Value.TheVariants.{Log, Replica, Desk}
 use Rattle.store.specs.Shelving.{replica_value, store_rules}
-use Rattle.store.specs.Lent.{copied, replayed, CanReplay}
+use Rattle.node.specs.Following.{IsNext, copied, replayed}
 use Rattle.store.specs.Held.{IsReplica, CanKeepUp, IsKeptUp, CanFollowIn, HasFollowed, CanReplayIn, HasReplayed, tail_in}
 use Rattle.store.specs.Standing.{SessionKnown, AgreesIn, LogIs, FollowsIn, HasOthers, HasRest, HasRaised, KeepsOutcomesOf, HasCaughtUp}
 use Rattle.store.proofs.Places.{at_drop, drop_at, long_drop, take_whole}
-use Rattle.store.proofs.Followed.{HasAll, kept_up, others, can_follow}
+use Rattle.store.proofs.Followed.{HasAll, above, fits, kept_up, others, updates}
 use Rattle.progress.proofs.Lists.{at_of, get_of}
 
 abbrev L : Type 0
@@ -73,7 +73,7 @@ module _ (l : L) (n : NodeReplica) (h : Rest l n) where
       let one = r.replayed k (i - t) s within (subst (λ z. slice_get z (i - t) ≡ Some s) (sym records) (get_of (drop t l.history) (i - t) s (drop_at t l.history (i - t) s (subst (λ z. At z s l.history) split at)))) (is ∙ split) in
       (one.0, one.1, subst (λ m. IsAnswered l.catalogue s.op m one.0) (maps_in (i - t) ∙ ap (maps_after store_meaning l.catalogue l.history) (sym split)) one.2)
 
-can_replay : (l : L) (n : NodeReplica) → HasOthers l n → IsWellFormed store_meaning l → CanReplay l.catalogue n
+can_replay : (l : L) (n : NodeReplica) → HasOthers l n → IsWellFormed store_meaning l → IsNext l.catalogue n
 can_replay l n h w =
     let rest = rest_of l n h in
     let full = all l n rest in record {
@@ -81,7 +81,7 @@ can_replay l n h w =
       shapes = h.shapes;
       updates = λ k r e.
           w.allowed (n.replica.tail + k) r (at_drop n.replica.tail l.history k r (at_of (drop n.replica.tail l.history) k r (subst (λ z. slice_get z k ≡ Some r) (records l n rest) e)));
-      fits = let top = h.few in omega (arith, top, full);
+      short = let top = h.few in omega (arith, top, full);
     }
 
 -- ---- the same of values
@@ -134,7 +134,7 @@ all_agrees l m (Desk g) grown done h = absurd h
 -- ---- a replica with the log beside it
 
 pub can_keep_up : (l : L) (x y : Value) → LogIs l x → FollowsIn l y → CanKeepUp x y
-can_keep_up l (Log g) (Replica n) is f = (f.empty, is.sizes.2 ∙ sym f.shapes)
+can_keep_up l (Log g) (Replica n) is f = is.sizes.2 ∙ sym f.shapes
 can_keep_up l (Log g) (Log n) is f = absurd f
 can_keep_up l (Log g) (Desk n) is f = absurd f
 can_keep_up l (Replica g) y is f = absurd is
@@ -154,7 +154,7 @@ kept_up_in l (Replica g) y z is f k = absurd is
 kept_up_in l (Desk g) y z is f k = absurd is
 
 pub can_follow_in : (l : L) (x y : Value) → LogIs l x → FollowsIn l y → IsAbove x y → IsWellFormed store_meaning l → CanFollowIn l.catalogue x y
-can_follow_in l (Log g) (Replica n) is f low w = can_follow l g.value n.value is f low w
+can_follow_in l (Log g) (Replica n) is f low w = (above l g.value n.value is f low, fits l g.value n.value is f, f.shapes, updates l g.value n.value is f low w)
 can_follow_in l (Log g) (Log n) is f low w = absurd f
 can_follow_in l (Log g) (Desk n) is f low w = absurd f
 can_follow_in l (Replica g) y is f low w = absurd is
@@ -191,9 +191,9 @@ has_raised k before n m is (notes, may) = record {
 pub raised_as : (k after : K) (n m : ℕ) → HasRaised k after n → n ≡ m → HasRaised k after m
 raised_as k after n m up is = subst (HasRaised k after) is up
 
--- as many outcomes are kept as before
-counted_in : (c : CatalogueView) (v w : Value) (old new : RepliesView) → HasReplayed c v w old new → length new.outcomes ≡ length old.outcomes
-counted_in c (Replica n) (Replica m) old new h = h.1.count
+-- as many outcomes are kept as before, from the same place on
+counted_in : (c : CatalogueView) (v w : Value) (old new : RepliesView) → HasReplayed c v w old new → (new.first ≡ old.first) × (length new.outcomes ≡ length old.outcomes)
+counted_in c (Replica n) (Replica m) old new h = (h.1.first, h.1.count)
 counted_in c (Replica n) (Log m) old new h = absurd h
 counted_in c (Replica n) (Desk m) old new h = absurd h
 counted_in c (Log n) w old new h = absurd h
@@ -213,6 +213,7 @@ caught k after v w c old new n same rest played up is =
       completed = omega (arith, is, tail, done);
       agrees = all_agrees k.progress after.progress w up.goes.extends (omega (arith, is, tail, done)) all;
       within = omega (arith, tail, long);
-      count = counted_in k.progress.catalogue v w old new r;
+      first = (counted_in k.progress.catalogue v w old new r).0;
+      count = (counted_in k.progress.catalogue v w old new r).1;
       replies = keeps_in k.progress v w old new rest r;
     }

@@ -10,11 +10,11 @@ use Rattle.progress.specs.declared.sessions.Progress.{Progress}
 use Rattle.progress.specs.Accounts.{IsWellFormed}
 use Rattle.progress.specs.Agreement.{LogAgrees}
 use Rattle.progress.proofs.Tellings.{maps_on}
-use Rattle.store.specs.declared.values.NodeReplica.{NodeReplica}
+use Rattle.node.specs.declared.following.NodeReplica.{NodeReplica}
 use Rattle.store.specs.declared.values.Value.{Value}
 use Rattle.store.specs.declared.values.Value.TheVariants.{Log, Replica, Desk}
 use Rattle.store.specs.Shelving.{log_value}
-use Rattle.store.specs.Lent.{told, reclaimed}
+use Rattle.node.specs.Following.{told, reclaimed}
 use Rattle.store.specs.Held.{LacksRoom, IsWide, tail_in, CanReclaimIn, IsReclaimed}
 use Rattle.store.specs.Standing.{SessionKnown, FollowsIn, IsLogOf, LogIs, HoldsLog, HasPlace, HasRoom, HasRaised}
 use Rattle.store.proofs.StoreLaws.{store_laws}

@@ -1,15 +1,13 @@
 -- A session at its node's desk while that is lent to it: what it may find there, and what its calls are.
 use Rattle.std.specs.Prelude.{◌≡◌, ℕ, suc, ◌+◌, ◌<◌, ◌≤◌, ◌^◌, List, [], map, length, Some, None, slice_get, true, false}
-use Rattle.machine.specs.declared.running.Outcome.{Outcome}
 use Rattle.ownlock.specs.Seats.{At}
-use Rattle.oplog.specs.declared.answers.Appended.{Appended}
 use Rattle.oplog.specs.declared.configuration.TheConstants.{MAX_LIMIT}
 use Rattle.oplog.specs.Sessions.{session}
 use Rattle.combiner.specs.Desks.{DeskView, BatchView, batch_of, claimed, collected, has_combiner, has_request}
 use Rattle.combiner.specs.declared.slots.Reply.{Reply}
-use Rattle.combiner.specs.declared.slots.Reply.TheVariants.{Placed, Ended}
 use Rattle.replica.specs.StoreMeaning.{store_meaning}
 use Rattle.replica.specs.Views.{RepliesView}
+use Rattle.node.specs.Answering.{answered_batch, HaveRun}
 use Rattle.progress.specs.declared.sessions.Pending.{Pending}
 use Rattle.progress.specs.declared.sessions.Claim.{Claim}
 use Rattle.progress.specs.declared.sessions.SessionNote.{SessionNote}
@@ -39,27 +37,16 @@ pub record HasAsked (k : SessionKnown) (o : Pending) : Type 0 where
   pub alone : k.note.batch ≡ []
   pub few : suc (length k.note.answered) < 2 ^ 64
 
--- the answer to the k-th request: one that was appended has its place and the reply that was kept, and to the others the history has ended
-abbrev pub IsAnswerOf : Appended → RepliesView → ℕ → Reply → Type 0
-IsAnswerOf a kept k (Placed i reply) = (k < a.count) × (i ≡ a.first + k) × ((o : Outcome) × (slice_get kept.outcomes k ≡ Some (Some o)) × (reply ≡ o.reply))
-IsAnswerOf a kept k Ended = a.count ≤ k
-
--- each request of the batch has its answer, where so many were appended from that place on, and these outcomes were kept of them
-pub record HasAnswers (a : Appended) (kept : RepliesView) (b : BatchView) : Type 0 where
-  pub count : length kept.outcomes ≡ a.count
-  pub sizes : length b.answers ≡ length b.records
-  pub answers : (k : ℕ) → k < length b.records → (reply : Reply) × (slice_get b.answers k ≡ Some (Some reply)) × IsAnswerOf a kept k reply
-
--- the session combines the requests of this batch, in whose order it notes them; so many were appended from that place on, these outcomes were
--- kept of them, and the answer that these make to a request is one that the session may give
-pub record IsReady (k : SessionKnown) (b : BatchView) (a : Appended) (kept : RepliesView) : Type 0 where
+-- the session combines the requests of this batch, in whose order it notes them; of each that has a place the outcome was kept, and the answers
+-- that these outcomes make are ones that the session may give
+pub record IsReady (k : SessionKnown) (b : BatchView) (kept : RepliesView) : Type 0 where
   pub some : 0 < length k.note.batch
   pub records : b.records ≡ map record_of k.note.batch
   pub ascend : Ascend b.records
-  pub within : a.first + a.count ≤ MAX_LIMIT
-  pub count : length kept.outcomes ≡ a.count
-  pub outcomes : (j : ℕ) → j < a.count → (o : Outcome) × (slice_get kept.outcomes j ≡ Some (Some o))
-  pub gives : (j : ℕ) (t : Claim) (reply : Reply) → At j t k.note.batch → IsAnswerOf a kept j reply → Gives store_meaning k.progress t reply
+  pub within : kept.first + length kept.outcomes ≤ MAX_LIMIT
+  pub run : HaveRun kept b
+  pub gives : (j : ℕ) (t : Claim) (reply : Reply) → At j t k.note.batch → slice_get (answered_batch kept b).answers j ≡ Some (Some reply)
+      → Gives store_meaning k.progress t reply
 
 -- the session may put the desk back as y, with the note n
 abbrev pub Steps : SessionKnown → DeskView → SessionNote → DeskView → Type 0

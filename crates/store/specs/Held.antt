@@ -1,19 +1,19 @@
 -- The steps on the log and a node's replica as values that were taken from the shelf.
-use Rattle.std.specs.Prelude.{◌≡◌, ℕ, min, ◌<◌, ◌≤◌, [], length}
+use Rattle.std.specs.Prelude.{◌≡◌, ℕ, true, false, min, ◌<◌, ◌≤◌, length, Some, option_map}
 use Rattle.maps.specs.Maps.{shapes_of}
 use Rattle.loader.specs.CatalogueView.{CatalogueView}
 use Rattle.oplog.specs.Operations.{Operation}
-use Rattle.oplog.specs.declared.answers.Appended.{Appended}
 use Rattle.oplog.specs.History.{History}
 use Rattle.oplog.specs.declared.configuration.TheConstants.{MAX_LIMIT}
 use Rattle.oplog.specs.Limits.{IsWindow}
-use Rattle.oplog.specs.Logs.{Log as LogView, tail_of, left_of, room_in}
+use Rattle.oplog.specs.Logs.{tail_of, left_of, room_in, records_from}
 use Rattle.replica.specs.Views.{RepliesView}
 use Rattle.replica.specs.Replaying.{KeepsOutcomes}
-use Rattle.store.specs.declared.values.NodeReplica.{NodeReplica}
+use Rattle.replica.specs.StoreMeaning.{store_meaning, AreUpdates}
+use Rattle.node.specs.declared.following.NodeReplica.{NodeReplica}
 use Rattle.store.specs.declared.values.Value.{Value}
 use Rattle.store.specs.declared.values.Value.TheVariants.{Log, Replica, Desk}
-use Rattle.store.specs.Lent.{appended, copied, replayed, told, reclaimed, rebased, RepliesThere, CanAppend, CanFollow, CanReplay}
+use Rattle.node.specs.Following.{Fits, IsNext, may_append, grown, copied, replies_for, is_above, replayed, told, reclaimed, may_rebase, rebased}
 
 -- a replica, and how many records it has applied
 abbrev pub IsReplica : Value → Type 0
@@ -46,18 +46,19 @@ IsWide (Desk n) = ⊥
 -- ---- the replica is no more below the log's base
 
 abbrev pub CanKeepUp : Value → Value → Type 0
-CanKeepUp (Log g) (Replica n) = (n.value.hand.records ≡ []) × (shapes_of g.value.base_maps ≡ shapes_of n.value.replica.maps)
+CanKeepUp (Log g) (Replica n) = (shapes_of g.value.base_maps ≡ shapes_of n.value.replica.maps)
 CanKeepUp _ _ = ⊥
 
 abbrev pub IsKeptUp : Value → Value → Value → Type 0
 IsKeptUp (Log g) (Replica n) (Replica m) =
-    (g.value.base ≤ n.value.replica.tail → m.value ≡ n.value) × (n.value.replica.tail < g.value.base → m.value ≡ rebased g.value n.value)
+    (may_rebase g.value n.value ≡ true → m.value ≡ rebased g.value n.value) × (may_rebase g.value n.value ≡ false → m.value ≡ n.value)
 IsKeptUp _ _ _ = ⊥
 
 -- ---- the replica applies all that the log has
 
 abbrev pub CanFollowIn : CatalogueView → Value → Value → Type 0
-CanFollowIn c (Log g) (Replica n) = CanFollow c g.value n.value
+CanFollowIn c (Log g) (Replica n) =
+    (is_above g.value n.value ≡ true) × Fits g.value n.value × (shapes_of n.value.replica.maps ≡ c.shapes) × AreUpdates c (records_from g.value n.value.replica.tail)
 CanFollowIn c _ _ = ⊥
 
 abbrev pub HasFollowed : CatalogueView → Value → Value → Value → Type 0
@@ -79,26 +80,20 @@ IsReclaimed _ _ _ = ⊥
 -- ---- records are appended, and the hand has what the replica has still to apply
 
 abbrev pub CanAppendIn : History → Value → Value → Type 0
-CanAppendIn batch (Log g) (Replica n) = CanAppend batch g.value n.value
+CanAppendIn batch (Log g) (Replica n) = (may_append batch g.value n.value ≡ true) × Fits g.value n.value × (length batch ≤ 16)
 CanAppendIn batch _ _ = ⊥
 
-pub record IsAppended (batch : History) (g h : LogView) (n m : NodeReplica) (a : Appended) : Type 0 where
-  pub log : h ≡ appended batch g
-  pub node : m ≡ copied h n
-  pub within : tail_of h ≤ MAX_LIMIT
-  pub first : a.first ≡ tail_of g
-  pub count : a.count ≡ min (length batch) (left_of g)
-
-abbrev pub HasAppendedIn : History → Value → Value → Value → Value → Appended → Type 0
-HasAppendedIn batch (Log g) (Log h) (Replica n) (Replica m) a = IsAppended batch g.value h.value n.value m.value a
-HasAppendedIn batch _ _ _ _ a = ⊥
+abbrev pub HasAppendedIn : History → Value → Value → Value → Value → RepliesView → Type 0
+HasAppendedIn batch (Log g) (Log h) (Replica n) (Replica m) kept =
+    (h.value ≡ grown batch g.value) × (m.value ≡ copied h.value n.value) × (kept ≡ replies_for batch g.value) × (tail_of h.value ≤ MAX_LIMIT)
+HasAppendedIn batch _ _ _ _ kept = ⊥
 
 -- ---- the hand's records are run
 
 abbrev pub CanReplayIn : CatalogueView → Value → Type 0
 CanReplayIn c (Log g) = ⊥
 CanReplayIn c (Desk g) = ⊥
-CanReplayIn c (Replica n) = CanReplay c n.value
+CanReplayIn c (Replica n) = IsNext c n.value
 
 abbrev pub HasReplayed : CatalogueView → Value → Value → RepliesView → RepliesView → Type 0
 HasReplayed c (Replica n) (Replica m) old new =
@@ -106,6 +101,10 @@ HasReplayed c (Replica n) (Replica m) old new =
 HasReplayed c _ _ old new = ⊥
 
 -- ---- a read is answered
+
+-- it replies this on the node's maps
+abbrev pub RepliesThere : CatalogueView → Operation → NodeReplica → ℕ → Type 0
+RepliesThere c op n reply = option_map (λ e. e.reply) (store_meaning.read c op n.replica.maps) ≡ Some reply
 
 -- a replica of these shapes, and what the operation replies on its maps
 abbrev pub IsReplicaOf : CatalogueView → Value → Type 0

@@ -1,8 +1,7 @@
 -- What each answer tells its session, what a store is opened with and gives back.
 pub mod Sessions
 pub mod Opening
--- The steps on held values, which the public calls on lent values cite.
-pub mod Lent
+-- The steps at a desk, which the public calls on a lent desk cite.
 pub mod AtDesk
 -- The values of its shelf, the rules of its sessions there, and what a session knows.
 pub mod Shelving

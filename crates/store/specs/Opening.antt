@@ -14,7 +14,7 @@ use Rattle.progress.specs.declared.sessions.Progress.{Progress}
 use Rattle.progress.specs.Accounts.{Extends, IsWellFormed}
 use Rattle.progress.specs.Agreement.{LogAgrees, ReplicaAgrees}
 use Rattle.progress.specs.Told.{records_of, numbered}
-use Rattle.store.specs.declared.values.NodeReplica.{NodeReplica}
+use Rattle.node.specs.declared.following.NodeReplica.{NodeReplica}
 use Rattle.store.specs.declared.values.Value.{Value}
 use Rattle.store.specs.declared.values.Value.TheVariants.{Log as LogPlace, Replica}
 use Rattle.store.specs.Sessions.{StoreView, SessionView, IsOf, known_of}

@@ -19,7 +19,7 @@ use Rattle.progress.specs.DeskNotes.{Looked, desk_noting}
 use Rattle.progress.specs.Moves.{desk_rules}
 use Rattle.progress.specs.Putting.{the_rules}
 use Rattle.store.specs.declared.values.Setup.{Setup}
-use Rattle.store.specs.declared.values.NodeReplica.{NodeReplica}
+use Rattle.node.specs.declared.following.NodeReplica.{NodeReplica}
 use Rattle.store.specs.declared.values.Value.{Value}
 use Rattle.store.specs.declared.values.Value.TheVariants.{Log, Replica, Desk}
 

@@ -6,7 +6,6 @@ use Rattle.ownlock.specs.Rules.{leader}
 use Rattle.ownlock.specs.Seats.{At, IsSession, SeatView}
 use Rattle.loader.specs.CatalogueView.{CatalogueView}
 use Rattle.oplog.specs.declared.records.Record.{Record}
-use Rattle.oplog.specs.declared.answers.Appended.{Appended}
 use Rattle.oplog.specs.declared.configuration.TheConstants.{MAX_LIMIT, MAX_NODES}
 use Rattle.oplog.specs.Logs.{Log as LogView, tail_of, left_of, room_in}
 use Rattle.oplog.specs.History.{History, maps_after}
@@ -21,7 +20,7 @@ use Rattle.progress.specs.Accounts.{Accounts, Extends, IsWellFormed}
 use Rattle.progress.specs.Agreement.{LogAgrees, ReplicaAgrees, replica_place}
 use Rattle.progress.specs.Moves.{placed_from, unplaced}
 use Rattle.store.specs.declared.steps.Caller.{Caller}
-use Rattle.store.specs.declared.values.NodeReplica.{NodeReplica}
+use Rattle.node.specs.declared.following.NodeReplica.{NodeReplica}
 use Rattle.store.specs.declared.values.Value.{Value}
 use Rattle.store.specs.declared.values.Value.TheVariants.{Log, Replica, Desk}
 use Rattle.store.specs.Shelving.{IsSized, HasLogSizes, log_value, replica_value}
@@ -152,17 +151,17 @@ HasRoom k after want (Log g) (Log h) (Replica n) = HasPlace k after want g.value
 HasRoom k after want _ _ _ = ⊥
 
 -- the log was taken and put back with the first of these records, all of them where the history may have so many, whose places the
--- session notes; the hand of v has what its replica has still to apply
-pub record HasAppended (k after : SessionKnown) (records : History) (a : Appended) (v : Value) : Type 0 where
+-- session notes and for which outcomes are to be kept; the hand of v has what its replica has still to apply
+pub record HasAppended (k after : SessionKnown) (records : History) (kept : RepliesView) (v : Value) : Type 0 where
   pub goes : GoesOn k after
   pub stands : Stands after
   pub rest : HasRest after.progress v
-  pub count : a.count ≤ length records
-  pub within : a.first + a.count ≤ MAX_LIMIT
-  pub above : tail_in v ≤ a.first
-  pub note : after.note ≡ record k.note { batch = placed_from a.first a.count (unplaced records) }
-  pub placed : (j : ℕ) (r : Record) → j < a.count → At j r records → At (a.first + j) r after.progress.history
-  pub ended : a.count < length records → after.progress.config.limit ≤ length after.progress.history
+  pub count : length kept.outcomes ≤ length records
+  pub within : kept.first + length kept.outcomes ≤ MAX_LIMIT
+  pub above : tail_in v ≤ kept.first
+  pub note : after.note ≡ record k.note { batch = placed_from kept.first (length kept.outcomes) (unplaced records) }
+  pub placed : (j : ℕ) (r : Record) → j < length kept.outcomes → At j r records → At (kept.first + j) r after.progress.history
+  pub ended : length kept.outcomes < length records → after.progress.config.limit ≤ length after.progress.history
 
 -- of each record from the place t on, the outcome is kept, if its place is one of those that are kept
 abbrev pub KeepsOutcomesOf : Progress CatalogueView → ℕ → RepliesView → RepliesView → Type 0
@@ -177,6 +176,7 @@ pub record HasCaughtUp (k after : SessionKnown) (v w : Value) (old new : Replies
   pub completed : length k.progress.history ≤ after.progress.completed
   pub agrees : AgreesIn after.progress w
   pub within : tail_in w ≤ length after.progress.history
+  pub first : new.first ≡ old.first
   pub count : length new.outcomes ≡ length old.outcomes
   pub replies : KeepsOutcomesOf k.progress (tail_in v) old new
 

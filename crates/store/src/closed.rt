@@ -2,7 +2,7 @@
 
 ghost use Rattle.std.specs.Prelude.{◌≡◌, Some, option_map, slice_get};
 ghost use Rattle.std.specs.Global.{Box};
-ghost use Rattle.store.specs.declared.values.NodeReplica.{NodeReplica as TheNode};
+ghost use Rattle.node.specs.declared.following.NodeReplica.{NodeReplica as TheNode};
 ghost use Rattle.store.specs.declared.values.Value.TheVariants.{Replica as ReplicaPlace};
 ghost use Rattle.store.specs.Opening.{AreLeft, closed_view};
 

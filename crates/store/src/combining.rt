@@ -10,7 +10,6 @@ use crate::held::reply_in;
 use crate::steps::{Caller, Shared, append_and_copy, catch_up};
 use crate::values::Value;
 use combiner::Batch;
-use oplog::Appended;
 use ownlock::Seat;
 use replica::Replies;
 use std::marker::Brand;
@@ -37,14 +36,13 @@ pub(crate) fn combine<R: Wait>(
         nodes: _,
     } = shared;
     let mut node = shelf.take(rt, seat, 1 + caller.node);
-    let appended = append_and_copy(rt, shared, seat, &mut node.value, batch.records());
-    let mut replies = Replies::new(appended.first, appended.count);
+    let mut replies = append_and_copy(rt, shared, seat, &mut node.value, batch.records());
     catch_up(shelf, seat, &mut node.value, catalogue, &mut replies);
     shelf.put::<Brand>(seat, node);
-    hand_over(rt, shared, seat, caller, batch, appended, &replies);
+    hand_over(rt, shared, seat, caller, batch, &replies);
 }
 
-// Takes the desk of the caller's node, answers the requests of the batch there, by what was appended and kept of it, and puts the
+// Takes the desk of the caller's node, answers the requests of the batch there, by the outcomes that were kept of it, and puts the
 // desk back.
 fn hand_over<R: Wait>(
     rt: &R,
@@ -52,16 +50,15 @@ fn hand_over<R: Wait>(
     seat: &mut Seat<Value>,
     caller: Caller,
     batch: &mut Batch,
-    appended: Appended,
     replies: &Replies,
 )
     requires own { seat.old.shelf ≡ shared.shelf.now.id }
-    requires ready { (k : SessionKnown) × IsSession seat.old k × IsFree caller k × IsReady k batch.old appended replies.now
+    requires ready { (k : SessionKnown) × IsSession seat.old k × IsFree caller k × IsReady k batch.old replies.now
         × IsOnShelf shared.shelf.now.places shared.nodes shared.catalogue.now k × Stands k }
     ensures same { seat.new.shelf ≡ seat.old.shelf }
     ensures combined { (k : SessionKnown) → IsSession seat.old k → (after : SessionKnown) × IsSession seat.new after × HasCombined k after }
 {
     let mut desk = shared.shelf.take(rt, seat, 1 + shared.nodes + caller.node);
-    reply_in(&mut desk.value, batch, appended, replies);
+    reply_in(&mut desk.value, batch, replies);
     shared.shelf.put::<Brand>(seat, desk);
 }

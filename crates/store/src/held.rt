@@ -3,17 +3,19 @@
 ghost use Rattle.std.specs.Prelude.{◌≡◌, ◌↔◌, ◌≤◌, ℕ, IsTrue, None};
 ghost use Rattle.verifier.specs.declared.refusal.Mode.TheVariants.{Read};
 ghost use Rattle.replica.specs.Refusals.{early_refusal};
-ghost use Rattle.store.specs.Lent.{CanAppend};
-ghost use Rattle.store.specs.Held.{IsAppended, IsReplica, IsLog, LacksRoom, IsWide, tail_in, CanKeepUp, IsKeptUp, CanFollowIn, HasFollowed, CanReclaimIn, IsReclaimed, CanAppendIn, HasAppendedIn, CanReplayIn, HasReplayed, IsReplicaOf, Replies as RepliesIn};
-ghost use Rattle.store.specs.AtDesk.{IsReady, HasAnswers};
+ghost use Rattle.maps.specs.Maps.{shapes_of};
+ghost use Rattle.store.specs.Held.{RepliesThere, IsReplica, IsLog, LacksRoom, IsWide, tail_in, CanKeepUp, IsKeptUp, CanFollowIn, HasFollowed, CanReclaimIn, IsReclaimed, CanAppendIn, HasAppendedIn, CanReplayIn, HasReplayed, IsReplicaOf, Replies as RepliesIn};
+ghost use Rattle.store.specs.AtDesk.{IsReady};
+ghost use Rattle.node.specs.Answering.{answered_batch};
 ghost use Rattle.store.specs.Combining.{IsAtIn, HasReplied};
 ghost use Rattle.store.specs.Standing.{SessionKnown};
 
-use crate::values::{NodeReplica, Value};
-use crate::{desks, lent};
+use crate::desks;
+use crate::values::Value;
 use combiner::Batch;
 use loader::Catalogue;
-use oplog::{Appended, LogState, Record};
+use node::{NodeReplica, may_rebase, rebase};
+use oplog::Record;
 use readpath::{ReadAnswer, ready};
 use replica::Replies;
 
@@ -24,8 +26,8 @@ pub(crate) fn keep_up(log: &Value, node: &mut Value)
 {
     match (log, node) {
         (Value::Log(log), Value::Replica(node)) => {
-            if node.replica.tail() < log.base() {
-                lent::rebase(log, node);
+            if may_rebase(log, node) {
+                rebase(log, node);
             }
         }
         _ => unreachable!(),
@@ -38,7 +40,7 @@ pub(crate) fn follow(log: &Value, node: &mut Value, catalogue: &Catalogue)
     ensures followed { HasFollowed catalogue.now log.now node.old node.new }
 {
     match (log, node) {
-        (Value::Log(log), Value::Replica(node)) => lent::follow(log, node, catalogue),
+        (Value::Log(log), Value::Replica(node)) => node::follow(log, node, catalogue),
         _ => unreachable!(),
     }
 }
@@ -61,33 +63,19 @@ pub(crate) fn reclaim(log: &mut Value, node: &Value)
     ensures reclaimed { IsReclaimed log.old node.now log.new }
 {
     match (log, node) {
-        (Value::Log(log), Value::Replica(node)) => {
-            lent::finish(log, node);
-            lent::reclaim(log, node);
-        }
+        (Value::Log(log), Value::Replica(node)) => node::reclaim(log, node),
         _ => unreachable!(),
     }
 }
 
 // Appends as many of the records as the history may still have, and copies what the replica has still to apply.
-pub(crate) fn append(log: &mut Value, node: &mut Value, records: &[Record]) -> Appended
+pub(crate) fn append(log: &mut Value, node: &mut Value, records: &[Record]) -> Replies
     requires can { CanAppendIn records.now log.old node.old }
     ensures appended { HasAppendedIn records.now log.old log.new node.old node.new result }
 {
     match (log, node) {
-        (Value::Log(log), Value::Replica(node)) => append_some(log, node, records),
+        (Value::Log(log), Value::Replica(node)) => node::append(log, node, records),
         _ => unreachable!(),
-    }
-}
-
-fn append_some(log: &mut LogState, node: &mut NodeReplica, records: &[Record]) -> Appended
-    requires can { CanAppend records.now log.old node.old }
-    ensures appended { IsAppended records.now log.old log.new node.old node.new result }
-{
-    let first = log.tail();
-    match lent::append(log, node, records) {
-        Ok(appended) => appended,
-        Err(_) => Appended { first, count: 0 },
     }
 }
 
@@ -97,7 +85,7 @@ pub(crate) fn replay(node: &mut Value, catalogue: &Catalogue, replies: &mut Repl
     ensures replayed { HasReplayed catalogue.now node.old node.new replies.old replies.new }
 {
     match node {
-        Value::Replica(node) => lent::replay(node, catalogue, replies),
+        Value::Replica(node) => node::replay(node, catalogue, replies),
         Value::Log(_) | Value::Desk(_) => unreachable!(),
     }
 }
@@ -124,7 +112,26 @@ pub(crate) fn is_ready(node: &Value, done: u64) -> bool
     }
 }
 
-// What a read program answers on the replica's maps.
+// What a read program answers on the node's maps.
+fn answer(
+    node: &mut NodeReplica,
+    catalogue: &Catalogue,
+    program: u16,
+    argument: &[u8],
+) -> ReadAnswer
+    requires shapes { shapes_of node.old.replica.maps ≡ catalogue.now.shapes }
+    requires asked { early_refusal catalogue.now Read program argument.now ≡ None }
+    ensures point { result.point ≡ node.old.replica.tail }
+    ensures reply { RepliesThere catalogue.now (record { program = program; argument = argument.now }) node.old result.reply }
+    ensures same { node.new ≡ node.old }
+{
+    let Some(accepted) = catalogue.program(program) else {
+        unreachable!()
+    };
+    readpath::answer(accepted, &mut node.replica, argument)
+}
+
+// The same of a replica's value.
 pub(crate) fn answer_in(
     node: &mut Value,
     catalogue: &Catalogue,
@@ -138,20 +145,19 @@ pub(crate) fn answer_in(
     ensures same { node.new ≡ node.old }
 {
     match node {
-        Value::Replica(node) => lent::answer(node, catalogue, program, argument),
+        Value::Replica(node) => answer(node, catalogue, program, argument),
         Value::Log(_) | Value::Desk(_) => unreachable!(),
     }
 }
 
-// Sets the answers of the batch, by what was appended and kept of it, and hands them to the slots of its requests.
-pub(crate) fn reply_in(desk: &mut Value, batch: &mut Batch, appended: Appended, replies: &Replies)
-    requires own { (k : SessionKnown) × (slot : ℕ) × IsAtIn slot k desk.old × IsReady k batch.old appended replies.now }
-    ensures records { batch.new.records ≡ batch.old.records }
-    ensures answered { HasAnswers appended replies.now batch.new }
+// Sets the answers of the batch, by the outcomes that were kept of it, and hands them to the slots of its requests.
+pub(crate) fn reply_in(desk: &mut Value, batch: &mut Batch, replies: &Replies)
+    requires own { (k : SessionKnown) × (slot : ℕ) × IsAtIn slot k desk.old × IsReady k batch.old replies.now }
+    ensures answered { batch.new ≡ answered_batch replies.now batch.old }
     ensures replied { HasReplied batch.new desk.old desk.new }
 {
     match desk {
-        Value::Desk(desk) => desks::reply(desk, batch, appended, replies),
+        Value::Desk(desk) => desks::reply(desk, batch, replies),
         Value::Log(_) | Value::Replica(_) => unreachable!(),
     }
 }

@@ -7,7 +7,6 @@ mod closed;
 mod combining;
 pub mod desks;
 mod held;
-pub mod lent;
 mod opening;
 mod requests;
 mod session;
@@ -19,7 +18,8 @@ mod values;
 
 pub use answers::Answer;
 pub use closed::Closed;
+pub use node::NodeReplica;
 pub use replica::StoreRefused;
 pub use session::Session;
 pub use store::Store;
-pub use values::{NodeReplica, Setup, Value};
+pub use values::{Setup, Value};

@@ -15,7 +15,7 @@ use crate::held::{
 };
 use crate::values::Value;
 use loader::Catalogue;
-use oplog::{Appended, Record};
+use oplog::Record;
 use ownlock::{LEADER, Seat, Shelf};
 use readpath::ReadAnswer;
 use replica::Replies;
@@ -85,14 +85,14 @@ fn make_room(
 }
 
 // Takes the log, makes room and appends as many of the records as the history may still have, copies what the replica has still
-// to apply into its hand, and puts the log back.
+// to apply into its hand, and puts the log back. The replies that it answers keep the places of those that were appended.
 pub(crate) fn append_and_copy<R: Wait>(
     rt: &R,
     shared: Shared<'_>,
     seat: &mut Seat<Value>,
     node: &mut Value,
     records: &[Record],
-) -> Appended
+) -> Replies
     requires own { seat.old.shelf ≡ shared.shelf.now.id }
     requires there { 0 < shared.shelf.now.places }
     requires few { length records.now ≤ 16 }
@@ -104,9 +104,9 @@ pub(crate) fn append_and_copy<R: Wait>(
 {
     let mut log = shared.shelf.take(rt, seat, LEADER);
     make_room(shared, seat, &mut log.value, node, records.len());
-    let appended = append(&mut log.value, node, records);
+    let replies = append(&mut log.value, node, records);
     shared.shelf.put::<Brand>(seat, log);
-    appended
+    replies
 }
 
 // Replays the records in the hand, and raises the completed tail to the replica's.

@@ -8,6 +8,7 @@ ghost use Rattle.store.specs.Shelving.{IsOpenedLog, IsOpenedReplica};
 use combiner::Desk;
 use loader::Catalogue;
 use maps::Shape;
+use node::NodeReplica;
 use oplog::{Config, Hand, LogState};
 use ownlock::Shelved;
 use replica::Replica;
@@ -22,15 +23,8 @@ pub struct Setup {
     pub catalogue: Catalogue,
 }
 
-/// A node's replica, and the hand that takes the records which it has still to apply. The hand is empty while the replica is
-/// on the shelf.
-#[derive(Drop)]
-pub struct NodeReplica {
-    pub replica: Replica,
-    pub hand: Hand,
-}
-
-/// What a place of the shelf has. Each is boxed, so that taking a place moves a pointer.
+/// What a place of the shelf has. Each is boxed, so that taking a place moves a pointer. A replica's hand is empty while it is
+/// there.
 #[derive(Drop)]
 pub enum Value {
     Log(Box<LogState>),

@@ -1,3 +1,2 @@
-pub mod Nodes
-pub mod AtDesks
+-- The proof of what holds between two atomic steps.
 pub mod Meanwhile

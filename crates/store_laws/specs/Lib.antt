@@ -1,4 +1,2 @@
--- What holds between two atomic steps, what steps make of a log and of a node, and what the calls on lent values are in these words.
+-- What holds between two atomic steps.
 pub mod Meanwhile
-pub mod Nodes
-pub mod AtDesks

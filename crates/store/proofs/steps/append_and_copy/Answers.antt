@@ -20,13 +20,13 @@ make_room-requires-clause-holds g c =
     let b = took_log i.0 t.0 w x (follows_in i.0.progress w (well_formed i.0.progress i.4.notes i.4.accounts) i.3) t.1 in
     (t.0, t.2, holds_log i.0 t.0 w x b, b.log, b.follows, b.well, sym b.extends.catalogue ∙ i.6)
 
-pub append-appended-requires : goal.append-appended-requires
-append-appended-requires g c =
+pub append-replies-requires : goal.append-replies-requires
+append-replies-requires g c =
     let i = c.requires.holds in
     let x = c.take-log.result.value in
     let t = c.take-log.ensures.taken i.0 i.1 in
     let m = c.make_room.ensures.room t.0 t.2 in
-    record { can = can_append t.0 m.0 x c.make_room.new.log c.make_room.new.node c.args.records.now m.2 }
+    record { can = can_append t.0 m.0 x c.make_room.new.log c.make_room.new.node c.args.records.now c.requires.few m.2 }
 
 pub put-requires-clause-may : goal.put-requires-clause-may
 put-requires-clause-may g c =
@@ -38,7 +38,7 @@ put-requires-clause-may g c =
     let m = c.make_room.ensures.room t.0 t.2 in (
       m.0,
       m.1,
-      put_appended i.0 t.0 m.0 w c.args.records.now c.append-appended.result i.5 c.make_room.new.seat.sessions m.1 x c.make_room.new.log c.make_room.new.node c.append-appended.new.log c.append-appended.new.node b m.2 c.append-appended.ensures.appended _
+      put_appended i.0 t.0 m.0 w c.args.records.now c.append-replies.result i.5 c.make_room.new.seat.sessions m.1 x c.make_room.new.log c.make_room.new.node c.append-replies.new.log c.append-replies.new.node b m.2 c.append-replies.ensures.appended _
           c.take-log.ensures.same.1,
     )
 
@@ -57,6 +57,6 @@ returns-clause-appended g c k is =
     let p = c.put.ensures.put m.0 m.1 in (
       _,
       p.2,
-      back_appended k t.0 m.0 w c.args.records.now c.append-appended.result noted c.make_room.new.seat.sessions m.1 x c.make_room.new.log c.make_room.new.node c.append-appended.new.log c.append-appended.new.node b m.2 c.append-appended.ensures.appended _
+      back_appended k t.0 m.0 w c.args.records.now c.append-replies.result noted c.make_room.new.seat.sessions m.1 x c.make_room.new.log c.make_room.new.node c.append-replies.new.log c.append-replies.new.node b m.2 c.append-replies.ensures.appended _
           c.take-log.ensures.same.1 p.0 p.1.0 p.1.1,
     )

@@ -1,4 +1,4 @@
-use Rattle.std.proofs.Common.{◌≡◌, subst, sym, arith}
+use Rattle.std.proofs.Common.{subst, sym, arith}
 use Rattle.ownlock.proofs.Seats.{one_known}
 use Rattle.store.specs.Held.{CanFollowIn, HasFollowed, tail_in}
 use Rattle.store.specs.Standing.{HasRoom}
