@@ -69,7 +69,7 @@ module _ (c : CatalogueView) (at : Replayed) (op : Operation) (place reply : ℕ
         rw (there, none) (record { told = refl; goes_on = λ on. absurd (false≢true on) })
 
     -- a read
-    pub queried : (p : Checked) (o : Outcome) → program_at c op.program ≡ Some p → effect p.program old.node.replica.maps op.argument ≡ Some (effect_of o.steps o.reply old.node.replica.maps)
+    pub queried : (p : Checked) (o : Outcome) → program_at c op.program ≡ Some p → effect p.program old.node.own.replica.maps op.argument ≡ Some (effect_of o.steps o.reply old.node.own.replica.maps)
         → new.node ≡ old.node → new.reads ≡ next_count old.reads → new.ended ≡ old.ended
         → IsCompared c (read_agrees c at.history op place reply) (record at { reads = next_count at.reads }) (eqb o.reply reply) new
     queried p o named ran node reads ended =

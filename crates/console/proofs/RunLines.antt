@@ -7,7 +7,7 @@ use Rattle.loader.specs.CatalogueView.{CatalogueView}
 use Rattle.oplog.specs.History.{History}
 use Rattle.console.specs.declared.status.Verdict.{Verdict}
 use Rattle.console.specs.declared.status.Verdict.TheVariants as verdicts
-use Rattle.console.specs.declared.node.SingleNode.{SingleNode}
+use Rattle.console.specs.declared.single_node.SingleNode.{SingleNode}
 use Rattle.console.specs.Answer.{Answer}
 use Rattle.console.specs.RunAnswer.{Turn, behind, bad_line, bad_line_text, by_turn, line_turn, lines_answer}
 use Rattle.console.specs.Running.{Follows, LineTaken}

@@ -14,7 +14,7 @@ use Rattle.oplog.specs.Operations.{Operation}
 use Rattle.oplog.specs.Logs.{tail_of}
 use Rattle.oplog.specs.History.{Meaning, Effect, History, left_by, after, maps_after, effect_at}
 use Rattle.replica.specs.StoreMeaning.{store_meaning}
-use Rattle.console.specs.declared.node.SingleNode.{SingleNode}
+use Rattle.console.specs.declared.single_node.SingleNode.{SingleNode}
 use Rattle.console.specs.RunAnswer.{with_operation, update_line, update_text, performed}
 use Rattle.console.specs.Running.{Follows, IsUpdated, IsTaken}
 
@@ -32,7 +32,7 @@ on_ok (Ok x) P Q f p = f p
 on_ok (Err e) P Q f p = tt
 
 module _ (c : CatalogueView) (h : History) (n : SingleNode) (follows : Follows c h n) where
-  pub here : maps_after store_meaning c h (length h) ≡ n.replica.maps
+  pub here : maps_after store_meaning c h (length h) ≡ n.own.replica.maps
   here = whole c h ∙ sym follows.maps
 
   -- the effect of an update that the node applied, and the history that it then has behind it
@@ -51,8 +51,8 @@ module _ (c : CatalogueView) (h : History) (n : SingleNode) (follows : Follows c
         let count = follows.count in
         let grown = u.tail in
         let size : length (with_operation h op) ≡ length h + 1 = length-append h (record { author = 0; seq = length h; op = op } ∷ []) in
-        let left : m.replica.maps ≡ after store_meaning c (opening_maps c.shapes) (with_operation h op) =
-        u.maps ∙ sym (ap (λ (e : Option (Effect Maps)). left_by e n.replica.maps) u.takes) ∙ ap (λ (x : Maps). after store_meaning c x (record { author = 0; seq = length h; op = op } ∷ [])) follows.maps
+        let left : m.own.replica.maps ≡ after store_meaning c (opening_maps c.shapes) (with_operation h op) =
+        u.maps ∙ sym (ap (λ (e : Option (Effect Maps)). left_by e n.own.replica.maps) u.takes) ∙ ap (λ (x : Maps). after store_meaning c x (record { author = 0; seq = length h; op = op } ∷ [])) follows.maps
         ∙ sym (after_append store_meaning c (opening_maps c.shapes) h (record { author = 0; seq = length h; op = op } ∷ [])) in
         record { count = omega (arith, grown, count, size); maps = left }
 

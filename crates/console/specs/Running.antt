@@ -11,7 +11,7 @@ use Rattle.oplog.specs.Operations.{Operation}
 use Rattle.oplog.specs.Logs.{tail_of}
 use Rattle.oplog.specs.History.{Effect, History, after}
 use Rattle.replica.specs.StoreMeaning.{program_at, outcome_of, store_meaning}
-use Rattle.console.specs.declared.node.SingleNode.{SingleNode}
+use Rattle.console.specs.declared.single_node.SingleNode.{SingleNode}
 use Rattle.console.specs.RunAnswer.{Turn}
 
 -- the whole history is completed, and the replica has applied it
@@ -19,14 +19,14 @@ pub record IsSteady (c : CatalogueView) (n : SingleNode) : Type 0 where
   pub limit : n.log.limit ≡ MAX_LIMIT
   pub completed : n.log.done ≡ tail_of n.log
   pub base_shapes : shapes_of n.log.base_maps ≡ c.shapes
-  pub window : n.hand.window ≡ n.log.window
-  pub tail : n.replica.tail ≡ tail_of n.log
-  pub shapes : shapes_of n.replica.maps ≡ c.shapes
+  pub window : n.own.hand.window ≡ n.log.window
+  pub tail : n.own.replica.tail ≡ tail_of n.log
+  pub shapes : shapes_of n.own.replica.maps ≡ c.shapes
 
 -- the node has this history behind it: so many updates, and the maps that they leave
 pub record Follows (c : CatalogueView) (h : History) (n : SingleNode) : Type 0 where
   pub count : tail_of n.log ≡ length h
-  pub maps : n.replica.maps ≡ after store_meaning c (opening_maps c.shapes) h
+  pub maps : n.own.replica.maps ≡ after store_meaning c (opening_maps c.shapes) h
 
 -- an operation of a program of this mode, with as many bytes as its argument has
 pub record IsCallOf (c : CatalogueView) (op : Operation) (mode : Mode) : Type 0 where
@@ -40,15 +40,15 @@ pub record IsUpdated (c : CatalogueView) (op : Operation) (old new : SingleNode)
   pub room : tail_of old.log < MAX_LIMIT
   pub tail : tail_of new.log ≡ tail_of old.log + 1
   pub done : Effect Maps
-  pub takes : store_meaning.update c op old.replica.maps ≡ Some done
+  pub takes : store_meaning.update c op old.own.replica.maps ≡ Some done
   pub outcome : o ≡ outcome_of done
-  pub maps : new.replica.maps ≡ done.maps
+  pub maps : new.own.replica.maps ≡ done.maps
 
 -- the history has all its operations, and nothing was applied
 pub record HasEnded (old new : SingleNode) : Type 0 where
   pub full : tail_of old.log ≡ MAX_LIMIT
   pub tail : tail_of new.log ≡ tail_of old.log
-  pub replica : new.replica ≡ old.replica
+  pub replica : new.own.replica ≡ old.own.replica
 
 -- a turn was taken: its text stands behind what was written, and its history is the node's
 pub record IsTaken (c : CatalogueView) (turn : Turn) (n : SingleNode) (old new : List ℕ) : Type 0 where

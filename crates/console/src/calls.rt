@@ -8,9 +8,9 @@ ghost use Rattle.console.specs.RunAnswer.{performed, numbered, called, line_turn
 ghost use Rattle.console.specs.Running.{IsSteady, Follows, IsTaken, LineTaken};
 ghost use Rattle.console.specs.ScriptShown.{call_of};
 
-use crate::node::SingleNode;
 use crate::run_texts::{put_read, put_refused, put_update};
 use crate::script::{ProgramCall, ScriptLine, read_line};
+use crate::single_node::SingleNode;
 use loader::Catalogue;
 use replica::{StoreRefused, find_program};
 use std::alloc::AllocError;

@@ -13,8 +13,8 @@ ghost use Rattle.console.specs.Running.{IsSteady, IsCallOf};
 ghost use Rattle.console.specs.ScriptShown.{call_of, answered_of};
 
 use crate::calls::Numbered;
-use crate::node::SingleNode;
 use crate::script::ProgramCall;
+use crate::single_node::SingleNode;
 use crate::status::Verdict;
 use crate::transcripts::{AnsweredCall, TranscriptLine, read_transcript_line};
 use loader::Catalogue;

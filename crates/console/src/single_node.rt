@@ -10,17 +10,17 @@ ghost use Rattle.console.specs.Running.{IsSteady, Follows, IsCallOf, IsUpdated, 
 
 use loader::Catalogue;
 use machine::Outcome;
-use oplog::{CopyAnswer, Hand, LogState, MAX_LIMIT, MAX_WINDOW, Op, Record};
-use replica::{Replica, Replies};
+use node::{NodeReplica, append, finish, reclaim, replay};
+use oplog::{Hand, LogState, MAX_LIMIT, MAX_WINDOW, Op, Record};
+use replica::Replica;
 use std::alloc::{AllocError, Global};
 use verifier::Accepted;
 
-// The log, the replica that is fed from it, and the buffer between them.
+// The log, and the replica that is fed from it.
 #[derive(Drop)]
 pub(crate) struct SingleNode {
     log: LogState,
-    hand: Hand,
-    replica: Replica,
+    own: NodeReplica,
 }
 
 impl SingleNode {
@@ -29,11 +29,11 @@ impl SingleNode {
         ensures steady { IfOk result (λ n. IsSteady catalogue.now n) }
         ensures empty { IfOk result (λ n. Follows catalogue.now [] n) }
     {
-        Ok(SingleNode {
-            log: LogState::open(alloc, catalogue.shapes(), MAX_WINDOW, MAX_LIMIT)?,
-            hand: Hand::open(alloc, MAX_WINDOW)?,
-            replica: Replica::open(alloc, catalogue.shapes())?,
-        })
+        let log = LogState::open(alloc, catalogue.shapes(), MAX_WINDOW, MAX_LIMIT)?;
+        let hand = Hand::open(alloc, MAX_WINDOW)?;
+        let replica = Replica::open(alloc, catalogue.shapes())?;
+        let own = NodeReplica { replica, hand };
+        Ok(SingleNode { log, own })
     }
 
     // How many updates there were.
@@ -49,11 +49,11 @@ impl SingleNode {
         ensures steady { IsSteady catalogue.now self.new }
         ensures room { 0 < room_in self.new.log }
         ensures tail { tail_of self.new.log ≡ tail_of self.old.log }
-        ensures replica { self.new.replica ≡ self.old.replica }
+        ensures own { self.new.own ≡ self.old.own }
     {
         let _tail = self.log.tail();
         if self.log.room() == 0 {
-            self.log.reclaim(self.replica.tail(), self.replica.maps());
+            reclaim(&mut self.log, &self.own);
         }
     }
 
@@ -72,31 +72,30 @@ impl SingleNode {
         ensures ended { IfNone result (HasEnded self.old self.new) }
     {
         self.make_room(catalogue);
+        let seq = self.log.tail();
+        if self.log.left() == 0 {
+            return None;
+        }
         let record = Record {
             author: 0,
-            seq: self.log.tail(),
+            seq,
             op: Op::new(program, argument),
         };
-        let Ok(appended) = self.log.append(&[record]) else {
-            return None;
-        };
-        let CopyAnswer::Copied = self.log.copy_from(appended.first, &mut self.hand) else {
-            unreachable!()
-        };
-        let mut replies = Replies::new(appended.first, 1);
-        self.replica.replay(&mut self.hand, catalogue, &mut replies);
-        self.log.raise_done(self.replica.tail());
+        let mut replies = append(&mut self.log, &mut self.own, &[record]);
+        replay(&mut self.own, catalogue, &mut replies);
+        finish(&mut self.log, &self.own);
         replies.get(0)
     }
 
     // What a read program answers after all updates so far.
     pub(crate) fn query(&mut self, program: &Accepted, argument: &[u8]) -> Outcome
-        requires shapes { program.now.shapes ≡ shapes_of self.old.replica.maps }
+        requires shapes { program.now.shapes ≡ shapes_of self.old.own.replica.maps }
         requires mode { program.now.mode ≡ Read }
         requires length { length argument.now ≡ program.now.arg_len }
-        ensures run { effect program.now.program self.old.replica.maps argument.now ≡ Some (effect_of result.steps result.reply self.old.replica.maps) }
+        ensures run { effect program.now.program self.old.own.replica.maps argument.now
+            ≡ Some (effect_of result.steps result.reply self.old.own.replica.maps) }
         ensures same { self.new ≡ self.old }
     {
-        self.replica.query(program, argument)
+        self.own.replica.query(program, argument)
     }
 }
