@@ -107,19 +107,3 @@ module _ {P N V : Type 0} (R : Rules P N V) (opened : Opened P) where
       agree p below = dite (ℕ_discrete (get_or s.words (word_of p) 0) 0)
           (λ free. let t = r.free p (subst (λ z. p < z) (sym same_count) below) free in (t.0, homes p (Some t.0) t.1, t.2))
           (λ busy. absurd (no_one p (r.busy p (subst (λ z. p < z) (sym same_count) below) busy)))
-
--- a shelf with no session: nobody holds a place
-pub closes_without : {P N V : Type 0} (R : Rules P N V) (opened : Opened P) (words : List ℕ) (slots : List (Option V)) → opened.sessions ≡ 0 → Final (LockInvariant R opened) words slots → Closes R 0 [] slots
-closes_without {P} {N} {V} R opened words slots zero_sessions (s, r, same_words, same_count, homes) = (r.progress, r.notes, r.accounts, r.counted ∙ zero_sessions, (λ i k e. absurd (some-ne-none k (sym e))), agree, (λ q small. absurd (omega (arith, small))))
-  where
-    no_one : (p : ℕ) → HeldBySome R p s.views → ⊥
-    no_one p (j, w, i, m, a, u, at_j, at_i, at_a, is) =
-        let known = r.each j i w m at_j at_i in
-        let low = at_below r.notes m.session m.note known.0.possible.1 in
-        let none = r.counted ∙ zero_sessions in
-        omega (arith, low, none)
-
-    agree : AllAgree R r.progress r.notes slots
-    agree p below = dite (ℕ_discrete (get_or s.words (word_of p) 0) 0)
-        (λ free. let t = r.free p (subst (λ z. p < z) (sym same_count) below) free in (t.0, homes p (Some t.0) t.1, t.2))
-        (λ busy. absurd (no_one p (r.busy p (subst (λ z. p < z) (sym same_count) below) busy)))

@@ -5,7 +5,6 @@ pub mod Tries
 pub mod Frees
 pub mod Seats
 pub mod Ends
-pub mod Gather
 pub mod Unload
 pub mod Tail
 pub mod Laws

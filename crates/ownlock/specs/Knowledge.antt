@@ -1,8 +1,8 @@
 -- What a session may rely on, what take tells it, and what it owes to put.
-use Rattle.std.specs.Prelude.{◌≡◌, ℕ, ◌<◌, List, [], ◌∷◌, map, length, slice_set, Option, Some}
+use Rattle.std.specs.Prelude.{◌≡◌, ℕ, ◌<◌, List, ◌∷◌, map, length, slice_set, Option, Some}
 use Rattle.ownlock.specs.declared.known.Known.{Known}
 use Rattle.ownlock.specs.Rules.{Rules, leader}
-use Rattle.ownlock.specs.Seats.{At, View, ShelfId, SeatView, IsSession, IsNotHeld, place_of, holding}
+use Rattle.ownlock.specs.Seats.{At, View, IsNotHeld, place_of, holding}
 
 module _ {P N V : Type 0} (R : Rules P N V) where
   -- the values that these places had when they were taken agree
@@ -47,19 +47,3 @@ module _ {P N V : Type 0} (R : Rules P N V) where
       × ((i : ℕ) (k : Known P N V) → At i k v → R.Extends k.progress progress × At k.session k.note notes)
       × AllAgree progress notes slots
       × HasAllSessions sessions v
-
-  -- each session with a number below this count has one of the seats
-  abbrev pub AllHaveSeats : ℕ → List (SeatView P N V) → Type 0
-  AllHaveSeats count seats = (q : ℕ) → q < count → (a : ℕ) × (s : SeatView P N V) × (k : Known P N V) × At a s seats × IsSession s k × (k.session ≡ q)
-
-  -- at the end: each value agrees with one progress, which has grown from the one of each seat, and with the notes that the seats bring, which are all notes
-  abbrev pub Agreed : List (SeatView P N V) → List (Option V) → Type 0
-  Agreed seats slots =
-      (progress : P) × (notes : List N) × R.Accounts progress notes × (length notes ≡ length seats)
-      × ((a : ℕ) (s : SeatView P N V) (k : Known P N V) → At a s seats → IsSession s k → R.Extends k.progress progress × At k.session k.note notes)
-      × AllAgree progress notes slots
-      × AllHaveSeats (length notes) seats
-
--- each of these seats is of that shelf, is one session, and holds no place
-abbrev pub AllIdle : {P N V : Type 0} → ShelfId → List (SeatView P N V) → Type 0
-AllIdle {P} {N} {V} id seats = (a : ℕ) (s : SeatView P N V) → At a s seats → (s.shelf ≡ id) × ((k : Known P N V) × IsSession s k × (k.held ≡ []))

@@ -3,7 +3,7 @@ ghost use Rattle.std.specs.Prelude.{◌≡◌, ◌<◌, ◌≤◌, max, List, []
 ghost use Rattle.std.specs.Mem.Slots.{slots_items, slots_len, IsFull};
 ghost use Rattle.ownlock.specs.declared.known.Known.{Known};
 ghost use Rattle.ownlock.specs.Seats.{IsSession, left_with, with_progress, having_read, all_sessions, HoldsNone};
-ghost use Rattle.ownlock.specs.Knowledge.{Later, Acquired, Possible, MayTake, MayPut, AllAgree, Closes, Agreed, AllIdle};
+ghost use Rattle.ownlock.specs.Knowledge.{Later, Acquired, Possible, MayTake, MayPut, AllAgree, Closes};
 ghost use Rattle.ownlock.specs.Held.{held_place};
 
 use crate::change::Change;
@@ -200,19 +200,9 @@ impl<V: Shelved> Shelf<V> {
             .join_seat::<JoinViews>(&mut seat.pass, other.into_pass());
     }
 
-    // A shelf with no session is closed without a seat.
-    fn close_without(self) -> Vec<Option<V>>
-        requires none { length (V.first_notes self.setup) ≡ 0 }
-        ensures places { length result.items ≡ self.places }
-        ensures values { Closes V.rules 0 [] result.items }
-    {
-        let Shelf { table, room } = self;
-        unload(table.close(), room)
-    }
-
     /// Takes the shelf and one seat that has every session, none of which holds a place, and gives the value of each place back.
     /// All agree with one progress, which has grown from the one of each session, and with the notes of all.
-    pub fn close_joined(self, seat: Seat<V>) -> Vec<Option<V>>
+    pub fn close(self, seat: Seat<V>) -> Vec<Option<V>>
         requires own { seat.shelf ≡ self.id }
         requires all { length seat.sessions ≡ length (V.first_notes self.setup) }
         requires idle { HoldsNone seat.sessions }
@@ -221,24 +211,5 @@ impl<V: Shelved> Shelf<V> {
     {
         let Shelf { table, room } = self;
         unload(table.close_with(seat.into_pass()), room)
-    }
-
-    /// Takes the shelf and all its seats, none of which holds a place, and gives the value of each place back. All agree with
-    /// one progress, which has grown from the one of each seat, and with the notes that the seats bring.
-    pub fn close(self, mut seats: Vec<Seat<V>>) -> Vec<Option<V>>
-        requires own { AllIdle self.id seats.items }
-        requires all { length seats.items ≡ length (V.first_notes self.setup) }
-        ensures places { length result.items ≡ self.places }
-        ensures values { Agreed V.rules seats.items result.items }
-    {
-        let Some(mut all) = seats.pop() else {
-            seats.destroy_empty();
-            return self.close_without();
-        };
-        while let Some(next) = seats.pop() {
-            self.join(&mut all, next);
-        }
-        seats.destroy_empty();
-        self.close_joined(all)
     }
 }

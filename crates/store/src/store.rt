@@ -92,7 +92,7 @@ impl Store {
         }
         let seat = self.join_seats(sessions);
         let Store { shelf, setup } = self;
-        let mut values = shelf.close_joined(seat);
+        let mut values = shelf.close(seat);
         values.truncate(1 + setup.config.nodes as usize);
         Ok(Closed::new(values))
     }

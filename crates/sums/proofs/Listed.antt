@@ -3,8 +3,9 @@ use Rattle.std.proofs.Common.{◌≡◌, ℕ, zero, suc, ◌+◌, ◌*◌, ◌<�
 use Rattle.std.specs.Option.{unwrap_or}
 use mathlib.Core.Option.{some-injective}
 use lib.ListN.{get_elem?}
+use Rattle.ownlock.specs.declared.known.Known.{Known}
 use Rattle.ownlock.specs.Seats.{At, SeatView}
-use Rattle.ownlock.specs.Knowledge.{AllAgree, Agreed}
+use Rattle.ownlock.specs.Knowledge.{AllAgree, Closes}
 use Rattle.sums.specs.declared.kinds.Progress.{Progress}
 use Rattle.sums.specs.declared.kinds.Numbers as numbers
 use Rattle.sums.specs.declared.kinds.RunningSum as sums
@@ -36,27 +37,26 @@ pair_total (x ∷ y ∷ z ∷ zs) a b long e f = absurd (omega (arith, long))
 from_some : (x y : Value) → Some x ≡ Some y → x ≡ y
 from_some x y e = ap (λ o. unwrap_or o x) e
 
-module _ (seats : List (SeatView Progress ℕ Value)) (slots : List (Option Value)) (agreed : Agreed sum_rules seats slots) where
-  there : (p : ℕ) (x : Value) → p < length slots → At p (Some x) slots → AgreesWith p agreed.0 agreed.1 x
-  there p x below at = let t = agreed.5 p below in subst (λ z. AgreesWith p agreed.0 agreed.1 z) (from_some t.0 x (some-injective _ _ (sym t.1 ∙ at))) t.2
+module _ (sessions : ℕ) (view : List (Known Progress ℕ Value)) (slots : List (Option Value)) (closes : Closes sum_rules sessions view slots) where
+  there : (p : ℕ) (x : Value) → p < length slots → At p (Some x) slots → AgreesWith p closes.0 closes.1 x
+  there p x below at = let t = closes.5 p below in subst (λ z. AgreesWith p closes.0 closes.1 z) (from_some t.0 x (some-injective _ _ (sym t.1 ∙ at))) t.2
 
-  pub listed : (one other : SeatView Progress ℕ Value) (count : ℕ) (list : numbers.Numbers) → seats ≡ one ∷ other ∷ [] → Counted one (fresh 0) count → Counted other (fresh 1) count → length slots ≡ 2 → At 0 (Some (TheList list)) slots
+  pub listed : (one other : SeatView Progress ℕ Value) (count : ℕ) (list : numbers.Numbers) → sessions ≡ 2 → view ≡ one.sessions ++ other.sessions → Counted one (fresh 0) count → Counted other (fresh 1) count → length slots ≡ 2 → At 0 (Some (TheList list)) slots
       → length list.items.items ≡ 2 * count
-  listed one other count list is c d long at =
-      let a = (agreed.4 0 one c.0 (ap (λ l. get_elem? l 0) is) c.1).1 in
-      let b = (agreed.4 1 other d.0 (ap (λ l. get_elem? l 1) is) d.1).1 in
-      let a' : At 0 c.0.note agreed.1 = subst (λ z. At z c.0.note agreed.1) c.2 a in
-      let b' : At 1 d.0.note agreed.1 = subst (λ z. At z d.0.note agreed.1) d.2 b in
-      let n = pair_total agreed.1 c.0.note d.0.note (agreed.3 ∙ ap length is) a' b' in
+  listed one other count list few is c d long at =
+      let two : view ≡ c.0 ∷ d.0 ∷ [] = is ∙ (λ i. c.1 i ++ d.1 i) in
+      let a = subst (λ z. At z c.0.note closes.1) c.2 (closes.4 0 c.0 (ap (λ l. get_elem? l 0) two)).1 in
+      let b = subst (λ z. At z d.0.note closes.1) d.2 (closes.4 1 d.0 (ap (λ l. get_elem? l 1) two)).1 in
+      let n = pair_total closes.1 c.0.note d.0.note (closes.3 ∙ few) a b in
       let items = (there 0 (TheList list) (omega (arith, long)) at).1 in
-      let w = agreed.2.0 in let x = c.4 in let y = d.4 in
+      let w = closes.2.0 in let x = c.4 in let y = d.4 in
       omega (arith, ap length items, w, n, x, y)
 
   pub followed : (list : numbers.Numbers) (sum : sums.RunningSum) → length slots ≡ 2 → At 0 (Some (TheList list)) slots → At 1 (Some (Sum sum)) slots → (sum.tail ≤ length list.items.items) × (sum.sum ≡ total (take sum.tail list.items.items) % 2 ^ 64)
   followed list sum long at_list at_sum =
       let l = there 0 (TheList list) (omega (arith, long)) at_list in
       let s = there 1 (Sum sum) (omega (arith, long)) at_sum in
-      let low = s.1 in let all = agreed.2.1 in let same = ap length l.1 in
+      let low = s.1 in let all = closes.2.1 in let same = ap length l.1 in
       (omega (arith, low, same, all), s.2 ∙ ap (λ z. total (take sum.tail z) % 2 ^ 64) (sym l.1))
 
 pub first_agree : (slots : List (Option Value)) (list : numbers.Numbers) (sum : sums.RunningSum) → slots ≡ Some (TheList list) ∷ Some (Sum sum) ∷ [] → list.items.items ≡ [] → sum.tail ≡ 0 → sum.sum ≡ 0 → AllAgree sum_rules empty_progress (0 ∷ 0 ∷ []) slots

@@ -38,30 +38,27 @@ pub fn open_two(alloc: Global) -> Result<(Shelf<Value>, Seat<Value>, Seat<Value>
 
 /// The list and its sum, once both seats are back.
 pub fn close_two(
-    alloc: Global,
     shelf: Shelf<Value>,
-    one: Seat<Value>,
+    mut one: Seat<Value>,
     other: Seat<Value>,
     count: u64,
-) -> Result<Appended, AllocError>
+) -> Appended
     requires shelf { (shelf.places ≡ 2) × (shelf.setup ≡ 2) }
     requires own { (one.shelf ≡ shelf.id) × (other.shelf ≡ shelf.id) }
     requires one { Counted one (fresh 0) count }
     requires other { Counted other (fresh 1) count }
-    ensures list { IfOk result (λ r. length r.list.items.items ≡ 2 * count) }
-    ensures sum { IfOk result (λ r. (r.sum.tail ≤ length r.list.items.items) × (r.sum.sum ≡ total (take r.sum.tail r.list.items.items) % 2 ^ 64)) }
+    ensures list { length result.list.items.items ≡ 2 * count }
+    ensures sum { (result.sum.tail ≤ length result.list.items.items) × (result.sum.sum ≡ total (take result.sum.tail result.list.items.items) % 2 ^ 64) }
 {
-    let mut seats = Vec::with_capacity(alloc, 2)?;
-    seats.push_reserved(one);
-    seats.push_reserved(other);
-    let mut values = shelf.close(seats);
+    shelf.join(&mut one, other);
+    let mut values = shelf.close(one);
     let Some(Some(Value::Sum(sum))) = values.pop() else {
         unreachable!()
     };
     let Some(Some(Value::List(list))) = values.pop() else {
         unreachable!()
     };
-    Ok(Appended { list, sum })
+    Appended { list, sum }
 }
 
 /// Two threads append the numbers below `count` each.
@@ -90,5 +87,5 @@ pub fn append_both<R: Threads + Wait + Sync>(
             ensures { IfOk result (λ s. (s.shelf ≡ other.shelf) × Counted s (fresh 1) count) }
         { append_many(rt, lent, other, count) },
     );
-    close_two(alloc, shelf, one?, other?, count)
+    Ok(close_two(shelf, one?, other?, count))
 }

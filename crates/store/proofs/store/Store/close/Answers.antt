@@ -7,13 +7,13 @@ use Rattle.store.proofs.Closing.{all_notes, are_left, is_closed, left_of, some_s
 use Rattle.store.proofs.Joined.{back_holds_none, back_long}
 use Rattle.store.proofs.store.Store.close.Goals as goal
 
-pub close_joined-values-requires-clause-all : goal.close_joined-values-requires-clause-all
-close_joined-values-requires-clause-all c =
+pub close-values-requires-clause-all : goal.close-values-requires-clause-all
+close-values-requires-clause-all c =
     let long : length c.args.sessions.items ≡ sessions_of c.self.inside.setup.config = search rules in
     ap length c.join_seats-seat.ensures.joined ∙ (back_long c.args.sessions.items ∙ (long ∙ sym (all_notes c.self.inside.shelf.setup c.self.inside.setup c.self.invariant.0)))
 
-pub close_joined-values-requires-clause-idle : goal.close_joined-values-requires-clause-idle
-close_joined-values-requires-clause-idle c = subst (λ z. HoldsNone z) (sym c.join_seats-seat.ensures.joined) (back_holds_none c.args.sessions.items)
+pub close-values-requires-clause-idle : goal.close-values-requires-clause-idle
+close-values-requires-clause-idle c = subst (λ z. HoldsNone z) (sym c.join_seats-seat.ensures.joined) (back_holds_none c.args.sessions.items)
 
 pub new-requires : goal.new-requires
 new-requires c =
@@ -22,9 +22,9 @@ new-requires c =
     let long : length ss ≡ sessions_of c.self.inside.setup.config = search rules in
     let some : 0 < length ss = subst (λ n. 0 < n) (sym long) (some_sessions c.self.inside.setup.config c.self.invariant.2) in
     let own : AreOf store ss = subst (λ z. AreOf z ss) (sym c.self.view_is) c.requires.own in
-    let a = c.close_joined-values.ensures.values in
-    let slots = c.close_joined-values.result.items in
-    let p = left_of store ss c.join_seats-seat.result.sessions _ slots own some c.join_seats-seat.ensures.joined c.join_seats-seat.ensures.idle a (c.close_joined-values.ensures.places ∙ c.self.invariant.1) in
+    let a = c.close-values.ensures.values in
+    let slots = c.close-values.result.items in
+    let p = left_of store ss c.join_seats-seat.result.sessions _ slots own some c.join_seats-seat.ensures.joined c.join_seats-seat.ensures.idle a (c.close-values.ensures.places ∙ c.self.invariant.1) in
     record { left = subst AreLeft (sym c.truncate.ensures.items) (are_left a.0 store.config.nodes (take (1 + store.config.nodes) slots) p) }
 
 pub returns-clause-closed : goal.returns-clause-closed
@@ -34,11 +34,11 @@ returns-clause-closed c =
     let long : length ss ≡ sessions_of c.self.inside.setup.config = search rules in
     let some : 0 < length ss = subst (λ n. 0 < n) (sym long) (some_sessions c.self.inside.setup.config c.self.invariant.2) in
     let own : AreOf store ss = subst (λ z. AreOf z ss) (sym c.self.view_is) c.requires.own in
-    let a = c.close_joined-values.ensures.values in
-    let slots = c.close_joined-values.result.items in
+    let a = c.close-values.ensures.values in
+    let slots = c.close-values.result.items in
     let view = c.join_seats-seat.result.sessions in
     let known = c.join_seats-seat.ensures.joined in
     let idle = c.join_seats-seat.ensures.idle in
-    let p = left_of store ss view _ slots own some known idle a (c.close_joined-values.ensures.places ∙ c.self.invariant.1) in
+    let p = left_of store ss view _ slots own some known idle a (c.close-values.ensures.places ∙ c.self.invariant.1) in
     let closed = is_closed store ss view _ slots own some known idle a (take (1 + store.config.nodes) slots) p in
     subst (λ z. IsClosed z ss c.new.result) c.self.view_is (subst (λ z. IsClosed store ss z) (ap closed_view (sym c.truncate.ensures.items) ∙ sym c.new.ensures.closed) closed)
