@@ -6,7 +6,7 @@ use lib.Seq.{set-get_or}
 use Rattle.atomic_table.specs.Table.{State, Me, gives, step, stepped, Allows, Valid, carried_after, homes_after, rest}
 use Rattle.atomic_table.proofs.Lists.{set_here, set_else, set_again}
 use Rattle.ownlock.specs.declared.known.Known.{Known}
-use Rattle.ownlock.specs.Rules.{Rules, Laws}
+use Rattle.ownlock.specs.Rules.{Rules, Laws, Move, IsAmong}
 use Rattle.ownlock.specs.Words.{word_of}
 use Rattle.ownlock.specs.Seats.{At, Opened, place_of, without, left_with}
 use Rattle.ownlock.specs.Knowledge.{Possible, MayPut}
@@ -49,23 +49,23 @@ module _ {P N V : Type 0} (R : Rules P N V) (laws : Laws R) (opened : Opened P) 
     was : SessionInvariant R r.progress r.notes s.homes r.holder k
     was = mine_of R laws opened s r id k at
 
-    moves : R.Moves p k.session x r.progress k.note progress_after note_after
-    moves = (may r.progress r.notes was.possible).0
+    abbrev move : Move R
+    move = record { place = p; session = k.session; value = x; progress = r.progress; new_progress = progress_after; note = k.note; new_note = note_after; allowed = (may r.progress r.notes was.possible).0 }
 
-    old_agrees : R.AgreesWith p r.progress r.notes x
-    old_agrees = was.possible.3 a (p, x) top
+    among : IsAmong move r.notes
+    among = record { accounts = r.accounts; own = was.possible.1; agrees = was.possible.3 a (p, x) top }
 
     other : (b : ℕ) (u : ℕ × V) → At b u giver.held → u.0 ≢ p
     other = not_held p k.held was.apart
 
     give_others : (q : ℕ) (z : V) → q ≢ p → R.AgreesWith q r.progress r.notes z → R.AgreesWith q progress_after notes_after z
-    give_others = laws.moves_others p k.session x r.progress progress_after k.note note_after r.notes r.accounts was.possible.1 old_agrees moves
+    give_others = laws.moves_others move r.notes among
 
     give_accounts : R.Accounts progress_after notes_after
-    give_accounts = laws.moves_account p k.session x r.progress progress_after k.note note_after r.notes r.accounts was.possible.1 old_agrees moves
+    give_accounts = laws.moves_account move r.notes among
 
     give_extends : R.Extends k.progress progress_after
-    give_extends = laws.extends_on k.progress r.progress progress_after was.possible.0.0 (laws.moves_extend p k.session x r.progress progress_after k.note note_after moves)
+    give_extends = laws.extends_on k.progress r.progress progress_after was.possible.0.0 (laws.moves_extend move)
 
     give_allowed : R.Allows progress_after k.session (map place_of giver.held)
     give_allowed = laws.allows_on k.progress progress_after k.session (map place_of giver.held) give_extends
@@ -92,15 +92,15 @@ module _ {P N V : Type 0} (R : Rules P N V) (laws : Laws R) (opened : Opened P) 
       here = at;
       session = refl;
       accounts = give_accounts;
-      extends = laws.moves_extend p k.session x r.progress progress_after k.note note_after moves;
-      same = λ ne. laws.moves_same p k.session x r.progress progress_after k.note note_after ne moves;
+      extends = laws.moves_extend move;
+      same = laws.moves_same move;
       others = give_others;
       noted = λ i n ne h. set_else r.notes k.session i note_after ne ∙ h;
       counted = length-set r.notes k.session note_after ∙ r.counted;
       homes_else = λ q ne. set_else s.homes p q (kernel.some (Some y)) ne;
       homes_long = length-set s.homes p (kernel.some (Some y));
       words_else = λ q ne. word_else R laws opened s.words p q 0 ne;
-      tail_here = tail_else R laws opened s r p 0 (kernel.some (Some y)) below ∙ sym (laws.moves_completed p k.session x r.progress progress_after k.note note_after moves);
+      tail_here = tail_else R laws opened s r p 0 (kernel.some (Some y)) below ∙ sym (laws.moves_completed move);
       words_long = length-set s.words (word_of p) 0;
       holder_else = λ q _. refl;
       not_theirs = not_of_others R laws opened s r id p k at (was.out a (p, x) top).0;

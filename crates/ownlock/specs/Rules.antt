@@ -1,7 +1,6 @@
 -- What the values of a shelf have to do with the progress that all sessions see, and with the sessions' notes.
 use Rattle.std.specs.Prelude.{◌≡◌, ◌≢◌, ℕ, max, ◌⊎◌, List, [], ◌∷◌, slice_set}
-use mathlib.Core.Option.{some}
-use lib.ListN.{get_elem?}
+use Rattle.ownlock.specs.Seats.{At}
 
 -- the place of the value that leads: nothing but its put adds to the history
 abbrev pub leader : ℕ
@@ -32,6 +31,28 @@ pub record Rules (P N V : Type 0) : Type 1 where
   pub raised : P → ℕ → P
   pub Reaches : P → ℕ → Type 0
 
+-- A session that took the value at the place moves, as the rules allow: from the progress and its own note to new ones.
+pub record Move {P N V : Type 0} (R : Rules P N V) : Type 0 where
+  pub place : ℕ
+  pub session : ℕ
+  pub value : V
+  pub progress : P
+  pub new_progress : P
+  pub note : N
+  pub new_note : N
+  pub allowed : R.Moves place session value progress note new_progress new_note
+
+module _ {P N V : Type 0} {R : Rules P N V} (m : Move R) (notes : List N) where
+  -- the move is made among these notes: its progress accounts for them, the session's own is there, and the value agrees
+  pub record IsAmong : Type 0 where
+    pub accounts : R.Accounts m.progress notes
+    pub own : At m.session m.note notes
+    pub agrees : R.AgreesWith m.place m.progress notes m.value
+
+  -- the notes after it
+  abbrev pub new_notes : List N
+  new_notes = slice_set notes m.session m.new_note
+
 -- What has to hold of the rules.
 pub record Laws {P N V : Type 0} (R : Rules P N V) : Type 0 where
   pub extends_self : (l : P) → R.Extends l l
@@ -41,15 +62,14 @@ pub record Laws {P N V : Type 0} (R : Rules P N V) : Type 0 where
   pub allows_none : (l : P) (i : ℕ) → R.Allows l i []
   pub allows_part : (l : P) (i : ℕ) (qs ps : List ℕ) → IsPart qs ps → R.Allows l i ps → R.Allows l i qs
   pub allows_on : (a b : P) (i : ℕ) (ps : List ℕ) → R.Extends a b → R.Allows a i ps → R.Allows b i ps
-  pub moves_extend : (p i : ℕ) (x : V) (l l' : P) (n n' : N) → R.Moves p i x l n l' n' → R.Extends l l'
+  pub moves_extend : (m : Move R) → R.Extends m.progress m.new_progress
   -- nothing but the leader's put adds to the history
-  pub moves_same : (p i : ℕ) (x : V) (l l' : P) (n n' : N) → p ≢ leader → R.Moves p i x l n l' n' → R.SameHistory l l'
-  -- a move keeps the account, and the agreement of each value of another place, on its shelf or as a session took it
-  pub moves_account : (p i : ℕ) (x : V) (l l' : P) (n n' : N) (ns : List N) → R.Accounts l ns → get_elem? ns i ≡ some n → R.AgreesWith p l ns x → R.Moves p i x l n l' n' → R.Accounts l' (slice_set ns i n')
-  pub moves_others : (p i : ℕ) (x : V) (l l' : P) (n n' : N) (ns : List N) → R.Accounts l ns → get_elem? ns i ≡ some n → R.AgreesWith p l ns x → R.Moves p i x l n l' n'
-      → (q : ℕ) (y : V) → q ≢ p → R.AgreesWith q l ns y → R.AgreesWith q l' (slice_set ns i n') y
+  pub moves_same : (m : Move R) → m.place ≢ leader → R.SameHistory m.progress m.new_progress
   -- no put changes the completed tail
-  pub moves_completed : (p i : ℕ) (x : V) (l l' : P) (n n' : N) → R.Moves p i x l n l' n' → R.completed l' ≡ R.completed l
+  pub moves_completed : (m : Move R) → R.completed m.new_progress ≡ R.completed m.progress
+  -- a move keeps the account, and the agreement of each value of another place, on its shelf or as a session took it
+  pub moves_account : (m : Move R) (notes : List N) → IsAmong m notes → R.Accounts m.new_progress (new_notes m notes)
+  pub moves_others : (m : Move R) (notes : List N) → IsAmong m notes → (q : ℕ) (y : V) → q ≢ m.place → R.AgreesWith q m.progress notes y → R.AgreesWith q m.new_progress (new_notes m notes) y
   -- a raise makes the completed tail the greater of the two, and adds nothing to the history
   pub raised_completed : (l : P) (n : ℕ) → R.completed (R.raised l n) ≡ max (R.completed l) n
   pub raised_extends : (l : P) (n : ℕ) → R.Extends l (R.raised l n)

@@ -276,11 +276,11 @@ module _ {C M : Type 0} (E : Meaning C M) where
     allows_none = λ l i. HoldsNothing refl;
     allows_part = allows_part;
     allows_on = allows_on;
-    moves_extend = moves_grow;
-    moves_same = moves_same;
-    moves_account = moves_accounts E;
-    moves_others = moves_others;
-    moves_completed = moves_completed;
+    moves_extend = λ m. moves_grow m.place m.session m.value m.progress m.new_progress m.note m.new_note m.allowed;
+    moves_same = λ m ne. moves_same m.place m.session m.value m.progress m.new_progress m.note m.new_note ne m.allowed;
+    moves_completed = λ m. moves_completed m.place m.session m.value m.progress m.new_progress m.note m.new_note m.allowed;
+    moves_account = λ m ns a. moves_accounts E m.place m.session m.value m.progress m.new_progress m.note m.new_note ns a.accounts a.own a.agrees m.allowed;
+    moves_others = λ m ns a. moves_others m.place m.session m.value m.progress m.new_progress m.note m.new_note ns a.accounts a.own a.agrees m.allowed;
     raised_completed = λ l n. refl;
     raised_extends = raised_grows;
     raised_same = λ l n. refl;

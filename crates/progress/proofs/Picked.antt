@@ -4,7 +4,7 @@ use Rattle.std.proofs.lemmas.List.{length-drop}
 use Rattle.std.proofs.Math.ListN.{drop_of_length-le}
 use Rattle.atomic_table.proofs.Lists.{set_here}
 use Rattle.ownlock.specs.declared.known.Known.{Known}
-use Rattle.ownlock.specs.Rules.{Rules, leader}
+use Rattle.ownlock.specs.Rules.{Rules, Move, leader}
 use Rattle.ownlock.specs.Seats.{At}
 use Rattle.ownlock.specs.Knowledge.{MayPut}
 use Rattle.oplog.specs.declared.configuration.Config.{Config}
@@ -103,13 +103,12 @@ module _ {C M V : Type 0} {E : Meaning C M} {R : Rules (Progress C) SessionNote 
   pub puts_account : PutsAccount E R noting view IsSized
   puts_account f g k p w l ns m may =
       let laws = seen_laws view IsSized R ok.extends ok.laws in
-      let t = m.3 l ns may in
-      let h = may.3 m.1 (p, m.0) m.2 in record {
+      let move : Move (the_rules E R view IsSized) = record { place = p; session = k.session; value = m.0; progress = l; new_progress = f l; note = k.note; new_note = g k.note; allowed = (m.3 l ns may).0 } in record {
         session = refl;
         held = refl;
         tails_read = refl;
-        extends = ok.extends k.progress (f l) (laws.extends_on k.progress l (f l) may.0.0 (laws.moves_extend p k.session m.0 l (f l) k.note (g k.note) t.0));
+        extends = ok.extends k.progress (f l) (laws.extends_on k.progress l (f l) may.0.0 (laws.moves_extend move));
         notes = set ns k.session (g k.note);
-        accounts = ok.accounts (f l) (set ns k.session (g k.note)) (laws.moves_account p k.session m.0 l (f l) k.note (g k.note) ns may.2 may.1 h t.0);
+        accounts = ok.accounts (f l) (set ns k.session (g k.note)) (laws.moves_account move ns record { accounts = may.2; own = may.1; agrees = may.3 m.1 (p, m.0) m.2 });
         here = set_here ns k.session (g k.note) (at_below ns k.session k.note may.1);
       }

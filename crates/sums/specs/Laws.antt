@@ -49,14 +49,14 @@ sum_laws = record {
   allows_none = λ _ _. tt;
   allows_part = λ _ _ _ _ _ _. tt;
   allows_on = λ _ _ _ _ _ _. tt;
-  moves_extend = λ p i x l l' n n' m. ((m.0, m.1), (let as_before = m.2 in omega arith));
-  moves_same = λ p i x l l' n n' ne m. ap (λ (z : Progress). z.items) (sym (m.4 ne).0);
-  moves_account = λ p i x l l' n n' ns w e a m.
-      let count = ap (λ z. total (set ns i z)) m.3 ∙ sum_set ns i n (length m.0) e in
-      let long = ap length m.1 ∙ length-append l.items m.0 in let was = w.0 in let low = w.1 in let as_before = m.2 in
+  moves_extend = λ m. ((m.allowed.0, m.allowed.1), (let as_before = m.allowed.2 in omega arith));
+  moves_same = λ m ne. ap (λ (z : Progress). z.items) (sym (m.allowed.4 ne).0);
+  moves_completed = λ m. m.allowed.2;
+  moves_account = λ m ns a.
+      let count = ap (λ z. total (set ns m.session z)) m.allowed.3 ∙ sum_set ns m.session m.note (length m.allowed.0) a.own in
+      let long = ap length m.allowed.1 ∙ length-append m.progress.items m.allowed.0 in let was = a.accounts.0 in let low = a.accounts.1 in let as_before = m.allowed.2 in
       (omega (arith, count, long, was), omega (arith, long, low, as_before));
-  moves_others = λ p i x l l' n n' ns w e a m q y ne b. others_agree p q l l' n n' ns (set ns i n') y ne w.1 m b;
-  moves_completed = λ p i x l l' n n' m. m.2;
+  moves_others = λ m ns a q y ne b. others_agree m.place q m.progress m.new_progress m.note m.new_note ns (set ns m.session m.new_note) y ne a.accounts.1 m.allowed b;
   raised_completed = λ l n. refl;
   raised_extends = λ l n. (([], sym (append-nil l.items)), le-max_left l.completed n);
   raised_same = λ l n. refl;
