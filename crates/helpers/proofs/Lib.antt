@@ -1,3 +1,4 @@
+pub mod Numbered
 pub mod Places
 pub mod Answers
 pub mod Kept

@@ -1,6 +1,12 @@
-// Laws of the helpers' answers, each proved by the function of its name.
+// Laws of the helpers and their answers, each proved by the function of its name.
 
+ghost use Rattle.helpers.specs.Numbers.{EachHasItsNumber};
 ghost use Rattle.helpers.specs.Laws.{ErrorsAreNegative, LookupsSee, UpdatesStand, DeletesRemove, RefusalsChangeNothing, OthersStay, AnswersKeepShapes};
+
+/// Each helper is the one of its number.
+pub fn each_has_its_number()
+    ensures { EachHasItsNumber }
+{}
 
 /// An error is answered by 2^64 less its number, which as a signed number is its negative.
 pub fn errors_are_negative()

@@ -5,18 +5,20 @@ ghost use Rattle.std.specs.Prelude.{◌≡◌, ◌<◌, ◌≤◌, ℕ, pos, Lis
 ghost use Rattle.insn.specs.declared.instruction.Form.TheVariants as form;
 ghost use Rattle.maps.specs.Shapes.{AreShapesOk};
 ghost use Rattle.maps.specs.MapSets.{stored_shapes};
+ghost use Rattle.helpers.specs.declared.numbers.Helper.TheVariants.{Update, Delete};
+ghost use Rattle.helpers.specs.Numbers.{helper_number};
 ghost use Rattle.machine.specs.Accesses.{IsRead};
 ghost use Rattle.machine.specs.Executing.{Stands, Executes};
 
 use crate::executing::call_lookup;
 use crate::memory::{Base, locate, part};
 use crate::registers::Machine;
-use helpers::{delete, update};
+use helpers::{Helper, delete, update};
 use insn::Edge;
 use maps::MapSet;
 use regkind::Kind;
 
-/// A call of a helper by its number. A program that calls another than these three isn't accepted.
+/// A call of a helper by its number. A program that calls another number isn't accepted.
 #[inline(always)]
 pub(crate) fn call_helper(
     machine: &mut Machine,
@@ -28,10 +30,11 @@ pub(crate) fn call_helper(
     requires told { Stands (form.Call id) kinds.now machine.old maps.old argument.now }
     ensures executes { Executes (form.Call id) kinds.now machine.old maps.old argument.now machine.new maps.new result }
 {
-    match id {
-        1 => call_lookup(machine, maps, argument, kinds),
-        2 => call_update(machine, maps, argument, kinds),
-        _ => call_delete(machine, maps, argument, kinds),
+    match Helper::numbered(id) {
+        Some(Helper::Lookup) => call_lookup(machine, maps, argument, kinds),
+        Some(Helper::Update) => call_update(machine, maps, argument, kinds),
+        Some(Helper::Delete) => call_delete(machine, maps, argument, kinds),
+        None => unreachable!(),
     }
 }
 
@@ -57,8 +60,8 @@ fn call_update(
     argument: &[u8],
     kinds: &[Kind; 11],
 ) -> Option<Edge>
-    requires told { Stands (form.Call (pos 2)) kinds.now machine.old maps.old argument.now }
-    ensures executes { Executes (form.Call (pos 2)) kinds.now machine.old maps.old argument.now machine.new maps.new result }
+    requires told { Stands (form.Call (pos (helper_number Update))) kinds.now machine.old maps.old argument.now }
+    ensures executes { Executes (form.Call (pos (helper_number Update))) kinds.now machine.old maps.old argument.now machine.new maps.new result }
 {
     let Kind::Map(m) = kinds[1] else {
         unreachable!()
@@ -91,8 +94,8 @@ fn call_delete(
     argument: &[u8],
     kinds: &[Kind; 11],
 ) -> Option<Edge>
-    requires told { Stands (form.Call (pos 3)) kinds.now machine.old maps.old argument.now }
-    ensures executes { Executes (form.Call (pos 3)) kinds.now machine.old maps.old argument.now machine.new maps.new result }
+    requires told { Stands (form.Call (pos (helper_number Delete))) kinds.now machine.old maps.old argument.now }
+    ensures executes { Executes (form.Call (pos (helper_number Delete))) kinds.now machine.old maps.old argument.now machine.new maps.new result }
 {
     let Kind::Map(m) = kinds[1] else {
         unreachable!()

@@ -22,14 +22,16 @@ use Rattle.regkind.specs.declared.frames.Cell.{Cell}
 use Rattle.regkind.specs.declared.frames.Cell.TheVariants.{Spilled}
 use Rattle.regkind.specs.Frames.{Frame, Covers, CoversKind, CoversCell, IsCell, IsFrame, kind, cell, all_marked, with_kind, with_cell, with_marks}
 use Rattle.regkind.proofs.Laws as frames
-use Rattle.maps.specs.Values.{Helper, Lookup, Update, Delete, helper_of}
+use Rattle.helpers.specs.declared.numbers.Helper.{Helper}
+use Rattle.helpers.specs.declared.numbers.Helper.TheVariants.{Lookup, Update, Delete}
+use Rattle.helpers.specs.Numbers.{helper_of}
 use Rattle.verifier.specs.declared.refusal.VerifyFault.{VerifyFault}
 use Rattle.verifier.specs.declared.refusal.VerifyFault.TheVariants.{UnreadableRegister, UndefinedOperation, OutOfRegion, UninitialisedStack, UncheckedNull, HelperArgument}
 use Rattle.verifier.specs.Signature.{Signature}
 use Rattle.verifier.specs.Kinds.{is_unreadable, is_pointer, cannot_be_tested}
 use Rattle.verifier.specs.Operands.{call_registers, source_registers, reads, copied, jumps_at_null, source_kind}
 use Rattle.insn.specs.Moves.{distance}
-use Rattle.verifier.specs.Regions.{is_within, is_outside, has_unmarked, is_unmarked, Access, stack_index, helper_reads, pointer_in}
+use Rattle.verifier.specs.Regions.{is_within, is_outside, has_unmarked, is_unmarked, Access, stack_index, call_reads, pointer_in}
 use Rattle.verifier.specs.Rules.{breaks, first_broken, rules_in_order, misuses, has_bad_argument}
 use Rattle.verifier.specs.FrameAfter.{frame_after, shifted, result_kind, after_store, loaded_kind, after_test, after_call, without_arguments, forgotten, forgetting, forgetting_cells}
 use Rattle.verifier.proofs.Broken.{or_parts, or_from, find_none_too, unbroken_rules}
@@ -105,17 +107,17 @@ load_rule l size signed dst src off a b h s v e = e
 
 -- ---- calls
 
-same_reads_at : (l : Signature) (h : Option Helper) (k : Kind) (a b : Frame) → SameKinds a b (call_registers h) → helper_reads l h a k ≡ helper_reads l h b k
+same_reads_at : (l : Signature) (h : Option Helper) (k : Kind) (a b : Frame) → SameKinds a b (call_registers h) → call_reads l h a k ≡ call_reads l h b k
 same_reads_at l (Some Lookup) (Map m) a b s = rw s.1.0 refl
 same_reads_at l (Some Update) (Map m) a b s = rw (s.1.0, s.1.1.0) refl
 same_reads_at l (Some Delete) (Map m) a b s = rw s.1.0 refl
 same_reads_at l h k a b s = refl
 
-same_helper_reads : (l : Signature) (h : Option Helper) (a b : Frame) → SameKinds a b (call_registers h) → helper_reads l h a (kind a 1) ≡ helper_reads l h b (kind b 1)
-same_helper_reads l None a b s = refl
-same_helper_reads l (Some Lookup) a b s = same_reads_at l (Some Lookup) (kind a 1) a b s ∙ ap (helper_reads l (Some Lookup) b) s.0
-same_helper_reads l (Some Update) a b s = same_reads_at l (Some Update) (kind a 1) a b s ∙ ap (helper_reads l (Some Update) b) s.0
-same_helper_reads l (Some Delete) a b s = same_reads_at l (Some Delete) (kind a 1) a b s ∙ ap (helper_reads l (Some Delete) b) s.0
+same_reads : (l : Signature) (h : Option Helper) (a b : Frame) → SameKinds a b (call_registers h) → call_reads l h a (kind a 1) ≡ call_reads l h b (kind b 1)
+same_reads l None a b s = refl
+same_reads l (Some Lookup) a b s = same_reads_at l (Some Lookup) (kind a 1) a b s ∙ ap (call_reads l (Some Lookup) b) s.0
+same_reads l (Some Update) a b s = same_reads_at l (Some Update) (kind a 1) a b s ∙ ap (call_reads l (Some Update) b) s.0
+same_reads l (Some Delete) a b s = same_reads_at l (Some Delete) (kind a 1) a b s ∙ ap (call_reads l (Some Delete) b) s.0
 
 same_arguments : (h : Option Helper) (a b : Frame) → SameKinds a b (call_registers h) → has_bad_argument h a ≡ has_bad_argument h b
 same_arguments None a b s = refl
@@ -126,9 +128,9 @@ same_arguments (Some Delete) a b s = rw (s.0, s.1.0) refl
 call_rule : (l : Signature) (id : ℤ) (a b : Frame) → Covers a b → SameKinds a b (call_registers (helper_of id)) → (v : VerifyFault) → breaks v l (Call id) a ≡ false → breaks v l (Call id) b ≡ false
 call_rule l id a b h s UnreadableRegister e = sym (same_unreadable a b (call_registers (helper_of id)) s) ∙ e
 call_rule l id a b h s OutOfRegion e =
-    subst (λ xs. list_any (is_outside l) xs || false ≡ false) (same_helper_reads l (helper_of id) a b s) e
+    subst (λ xs. list_any (is_outside l) xs || false ≡ false) (same_reads l (helper_of id) a b s) e
 call_rule l id a b h s UninitialisedStack e =
-    subst (λ xs. list_any (is_unmarked l b) xs ≡ false) (same_helper_reads l (helper_of id) a b s) (all_marked_too l a b (helper_reads l (helper_of id) a (kind a 1)) h e)
+    subst (λ xs. list_any (is_unmarked l b) xs ≡ false) (same_reads l (helper_of id) a b s) (all_marked_too l a b (call_reads l (helper_of id) a (kind a 1)) h e)
 call_rule l id a b h s HelperArgument e = sym (same_arguments (helper_of id) a b s) ∙ e
 call_rule l id a b h s v e = e
 

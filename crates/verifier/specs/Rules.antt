@@ -9,7 +9,9 @@ use Rattle.insn.specs.declared.instruction.Form.{Form}
 use Rattle.insn.specs.declared.instruction.Form.TheVariants.{Alu, Load, Store, MapRef, Branch, Call, Exit}
 use Rattle.regkind.specs.declared.frames.Kind.{Kind}
 use Rattle.regkind.specs.Frames.{Frame, kind}
-use Rattle.maps.specs.Values.{Helper, Update, Delete, helper_of}
+use Rattle.helpers.specs.declared.numbers.Helper.{Helper}
+use Rattle.helpers.specs.declared.numbers.Helper.TheVariants.{Lookup, Update, Delete}
+use Rattle.helpers.specs.Numbers.{helper_of}
 use Rattle.verifier.specs.declared.refusal.Mode.{Mode}
 use Rattle.verifier.specs.declared.refusal.Mode.TheVariants.{Read}
 use Rattle.verifier.specs.declared.refusal.VerifyFault.{VerifyFault}
@@ -64,14 +66,16 @@ is_readable_but_not test f r = not (is_unreadable (kind f r)) && not (test (kind
 -- a helper wants a map in R1 and a pointer to a key in R2; update a pointer to a value in R3 and a number in R4 (bpf-helpers(7))
 abbrev pub has_bad_argument : Option Helper → Frame → Bool
 has_bad_argument None f = false
+has_bad_argument (Some Lookup) f = is_readable_but_not is_map f 1 || is_readable_but_not is_region_pointer f 2
 has_bad_argument (Some Update) f = is_readable_but_not is_map f 1 || is_readable_but_not is_region_pointer f 2 || is_readable_but_not is_region_pointer f 3 || is_readable_but_not is_scalar f 4
-has_bad_argument (Some h) f = is_readable_but_not is_map f 1 || is_readable_but_not is_region_pointer f 2
+has_bad_argument (Some Delete) f = is_readable_but_not is_map f 1 || is_readable_but_not is_region_pointer f 2
 
 -- the helper changes a map (bpf-helpers(7))
 abbrev pub changes_map : Option Helper → Bool
+changes_map None = false
+changes_map (Some Lookup) = false
 changes_map (Some Update) = true
 changes_map (Some Delete) = true
-changes_map h = false
 
 -- there is a map of this index (RFC 9669, section 5.4.1)
 abbrev pub is_map_index : Signature → ℤ → Bool

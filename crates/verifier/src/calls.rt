@@ -2,28 +2,31 @@
 
 ghost use Rattle.std.specs.Prelude.{◌≡◌, pos};
 ghost use Rattle.insn.specs.declared.instruction.Form.TheVariants as form;
+ghost use Rattle.helpers.specs.declared.numbers.Helper.TheVariants.{Lookup, Update, Delete};
+ghost use Rattle.helpers.specs.Numbers.{helper_number};
 ghost use Rattle.verifier.specs.Rules.{first_broken};
 
 use crate::context::Context;
 use crate::refusal::{Mode, VerifyFault};
 use crate::regions::{has_unmarked, is_region_pointer, is_scalar, is_unreadable};
+use helpers::Helper;
 use regkind::Kind;
 
 // A call of a helper by its number.
 pub(crate) fn broken_by_call(on: &Context, id: i32) -> Option<VerifyFault>
     ensures { result ≡ first_broken on.now.signature.now (form.Call id) on.now.frame.now }
 {
-    match id {
-        1 => broken_by_lookup(on),
-        2 => broken_by_update(on),
-        3 => broken_by_delete(on),
-        _ => Some(VerifyFault::UnknownHelperOrMap),
+    match Helper::numbered(id) {
+        Some(Helper::Lookup) => broken_by_lookup(on),
+        Some(Helper::Update) => broken_by_update(on),
+        Some(Helper::Delete) => broken_by_delete(on),
+        None => Some(VerifyFault::UnknownHelperOrMap),
     }
 }
 
 // A lookup of the key at R2 in the map in R1.
 fn broken_by_lookup(on: &Context) -> Option<VerifyFault>
-    ensures { result ≡ first_broken on.now.signature.now (form.Call (pos 1)) on.now.frame.now }
+    ensures { result ≡ first_broken on.now.signature.now (form.Call (pos (helper_number Lookup))) on.now.frame.now }
 {
     let (first, key) = (on.frame.kind(1), on.frame.kind(2));
     if is_unreadable(first) || is_unreadable(key) {
@@ -48,7 +51,7 @@ fn broken_by_lookup(on: &Context) -> Option<VerifyFault>
 
 // An update under the key at R2 in the map in R1, with the value at R3 and the flags in R4.
 fn broken_by_update(on: &Context) -> Option<VerifyFault>
-    ensures { result ≡ first_broken on.now.signature.now (form.Call (pos 2)) on.now.frame.now }
+    ensures { result ≡ first_broken on.now.signature.now (form.Call (pos (helper_number Update))) on.now.frame.now }
 {
     let (first, key) = (on.frame.kind(1), on.frame.kind(2));
     let (value, flags) = (on.frame.kind(3), on.frame.kind(4));
@@ -81,7 +84,7 @@ fn broken_by_update(on: &Context) -> Option<VerifyFault>
 
 // A delete of the key at R2 in the map in R1: it asks what a lookup does, and that the mode changes maps.
 fn broken_by_delete(on: &Context) -> Option<VerifyFault>
-    ensures { result ≡ first_broken on.now.signature.now (form.Call (pos 3)) on.now.frame.now }
+    ensures { result ≡ first_broken on.now.signature.now (form.Call (pos (helper_number Delete))) on.now.frame.now }
 {
     match broken_by_lookup(on) {
         None if on.signature.mode() == Mode::Read => Some(VerifyFault::WriteInReadMode),

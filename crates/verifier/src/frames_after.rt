@@ -2,7 +2,8 @@
 
 ghost use Rattle.std.specs.Prelude.{◌≡◌, ◌<◌, ◌≤◌, ◌≤ℤ◌, ◌<ℤ◌, Some, None, IfSome, pos, unsigned_abs};
 ghost use Rattle.insn.specs.Encoding.{HasEncoding, IsSource};
-ghost use Rattle.maps.specs.Values.{Lookup, Update, Delete};
+ghost use Rattle.helpers.specs.declared.numbers.Helper.TheVariants.{Lookup, Update, Delete};
+ghost use Rattle.helpers.specs.Numbers.{helper_of};
 ghost use Rattle.regkind.specs.declared.frames.Kind.TheVariants as kinds;
 ghost use Rattle.regkind.specs.Frames.{IsCell, kind, with_kind};
 ghost use Rattle.verifier.specs.Signature.{IsSignatureOk};
@@ -16,6 +17,7 @@ use crate::accesses::source_kind;
 use crate::operands::{copied, jumps_at_null};
 use crate::regions::{is_pointer, moved, pointer_in, stack_bytes};
 use crate::signature::Signature;
+use helpers::Helper;
 use insn::{Edge, Form, Operation, Source, distance};
 use regkind::{Cell, Frame, Kind};
 
@@ -62,9 +64,8 @@ pub(crate) fn advance(f: &mut Frame, l: &Signature, i: Form, edge: Edge)
             src,
             ..
         } => after_test(f, dst, jumps_at_null(w64, cond, src), edge),
-        Form::Call { id: 1 } => after_lookup(f),
-        Form::Call { id: 2 | 3 } => after_change(f),
-        Form::Call { .. } | Form::Ja { .. } | Form::Exit => {}
+        Form::Call { id } => after_call(f, id),
+        Form::Ja { .. } | Form::Exit => {}
     }
 }
 
@@ -153,6 +154,17 @@ fn is_null_on(jumps: bool, edge: Edge) -> bool
     ensures { result ≡ is_null_on jumps edge }
 {
     jumps == (edge == Edge::Jump)
+}
+
+// After a call of the helper of this number.
+fn after_call(f: &mut Frame, id: i32)
+    ensures { f.new ≡ after_call (helper_of id) (kind f.old 1) f.old }
+{
+    match Helper::numbered(id) {
+        Some(Helper::Lookup) => after_lookup(f),
+        Some(Helper::Update | Helper::Delete) => after_change(f),
+        None => {}
+    }
 }
 
 // After a lookup R0 is a pointer to a value or null, and R1 to R5 are unreadable.
