@@ -59,13 +59,6 @@ set_same [] i u v h = absurd (none-some u h)
 set_same (x ∷ xs) zero u v h = refl
 set_same (x ∷ xs) (suc i) u v h = set_same xs i u v h
 
-pub set_other : {A : Type 0} (xs : List A) (i : ℕ) (v : A) (j : ℕ) (u : A) → j ≢ i → slice_get xs j ≡ Some u → slice_get (slice_set xs i v) j ≡ Some u
-set_other [] i v j u ne h = absurd (none-some u h)
-set_other (x ∷ xs) zero v zero u ne h = absurd (ne refl)
-set_other (x ∷ xs) zero v (suc j) u ne h = h
-set_other (x ∷ xs) (suc i) v zero u ne h = h
-set_other (x ∷ xs) (suc i) v (suc j) u ne h = set_other xs i v j u (λ e. ne (ap suc e)) h
-
 pub set_length : {A : Type 0} (xs : List A) (i : ℕ) (v : A) → length (slice_set xs i v) ≡ length xs
 set_length [] i v = refl
 set_length (x ∷ xs) zero v = refl
@@ -74,13 +67,6 @@ set_length (x ∷ xs) (suc i) v = ap suc (set_length xs i v)
 pub replicate_next : {A : Type 0} (n : ℕ) (v : A) → replicate (n + 1) v ≡ replicate n v ++ v ∷ []
 replicate_next zero v = refl
 replicate_next (suc n) v = let i : suc n + 1 ≡ suc (n + 1) = omega arith in ap (λ k. replicate k v) i ∙ ap (λ xs. v ∷ xs) (replicate_next n v)
-
-pub set_off : {A : Type 0} (xs : List A) (i j : ℕ) (v : A) → j ≢ i → slice_get (slice_set xs i v) j ≡ slice_get xs j
-set_off [] i j v ne = refl
-set_off (x ∷ xs) zero zero v ne = absurd (ne refl)
-set_off (x ∷ xs) zero (suc j) v ne = refl
-set_off (x ∷ xs) (suc i) zero v ne = refl
-set_off (x ∷ xs) (suc i) (suc j) v ne = set_off xs i j v (λ e. ne (ap suc e))
 
 pub set_back : {A : Type 0} (xs : List A) (i : ℕ) (v : A) → slice_get xs i ≡ Some v → slice_set xs i v ≡ xs
 set_back [] i v g = refl

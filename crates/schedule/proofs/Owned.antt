@@ -22,7 +22,7 @@ use Rattle.replica.specs.StoreMeaning.{IsOperation, is_operation}
 use Rattle.replica.proofs.Tested.{is_tested}
 use Rattle.replica.proofs.Histories.{have_effects}
 use Rattle.node.specs.declared.following.NodeReplica.{NodeReplica}
-use Rattle.node.specs.Following.{Fits, IsNext, has_next, with_next}
+use Rattle.node.specs.Following.{IsNext, has_next, with_next}
 use Rattle.schedule.specs.declared.parts.BegunRead.{BegunRead}
 use Rattle.schedule.specs.declared.parts.NodeBatch.{NodeBatch}
 use Rattle.schedule.specs.declared.parts.NodeBatch.TheVariants.{Absent, Held}
@@ -120,10 +120,6 @@ claim_refused {m} {h} {node} x idle e refusal g desk same =
     (refl, refl, ap (λ d. (let v : NodeView = record node { desk = d } in v)) same)
 
 -- ---- replaying
-
--- the log and the replica are those of one store
-pub fits : {m : Opening} {g : Log} {node : NodeView} → IsOfStore m g node → Fits g (own_of node)
-fits x = record { tail = (let a = x.stands.replica.tail in let b = x.log.ends in omega arith); window = x.stands.replica.window ∙ sym x.log.window }
 
 -- what a replay runs comes next
 pub is_next : {m : Opening} {g : Log} {node : NodeView} (c : CatalogueView) → m.catalogue ≡ c → IsOfStore m g node → has_next g (own_of node) ≡ true → IsNext c (with_next g (own_of node))
