@@ -1,7 +1,8 @@
 -- Records of the session's batch are appended to a log that has room for them, and the log is put back.
-use Rattle.std.proofs.Common.{set, ◌&&◌, ◌≡◌, ℕ, ◌+◌, ◌<◌, ◌≤◌, min, List, [], ◌∷◌, ◌++◌, map, length, length-append, take, drop, sym, refl, ap, ◌∙◌, subst, arith, ⊎_elim}
+use Rattle.std.proofs.Common.{set, true, Some, ◌&&◌, ◌≡◌, ℕ, ◌+◌, ◌<◌, ◌≤◌, min, List, [], ◌∷◌, ◌++◌, map, length, length-append, take, drop, sym, refl, ap, ◌∙◌, subst, arith, ⊎_elim}
 use Rattle.std.specs.Global.{Box}
 use Rattle.std.proofs.lemmas.Bool.{cases_lt, le-leb}
+use Rattle.std.proofs.lemmas.Option.{none-some, same_Some}
 use Rattle.std.proofs.lemmas.List.{length-replicate, length-take-le}
 use Rattle.std.specs.Prelude.{nat_le}
 use Rattle.std.proofs.Math.Nat.{min-le_left, min-le_right, min-eq_left, min-eq_right}
@@ -32,14 +33,14 @@ use Rattle.node.specs.declared.following.NodeReplica.{NodeReplica}
 use Rattle.store.specs.declared.values.Value.{Value}
 use Rattle.store.specs.declared.values.Value.TheVariants.{Log, Replica, Desk}
 use Rattle.store.specs.Shelving.{view_of, IsSized, session_rules, session_noting, store_rules, log_value}
-use Rattle.node.specs.Following.{grown, copied, replies_for, room_for}
+use Rattle.node.specs.Following.{grown, copied, may_append, replies_for, room_for}
 use Rattle.replica.specs.Views.{RepliesView}
-use Rattle.store.specs.Held.{CanAppendIn, HasAppendedIn}
-use Rattle.store.specs.Standing.{SessionKnown, GoesOn, IsLogOf, HasOthers, HasPlace, HasRoom, HasAppended}
+use Rattle.store.specs.Lending.{log_of, with_log}
+use Rattle.store.specs.Standing.{SessionKnown, GoesOn, IsLogOf, HasOthers, HasPlace, HasAppended}
 use Rattle.store.proofs.StoreLaws.{session_laws, session_notes, store_laws}
 use Rattle.store.proofs.Batched.{at_taken, at_unplaced, long_unplaced, taken_unplaced}
 use Rattle.store.proofs.Taken.{TookLog}
-use Rattle.store.proofs.Followed.{above, fits, has_others, follows_on}
+use Rattle.store.proofs.Followed.{above, has_others, follows_on}
 use Rattle.store.proofs.Finished.{Picked, put_back}
 
 abbrev K : Type 0
@@ -49,18 +50,8 @@ abbrev L : Type 0
 L = Progress CatalogueView
 
 -- there is room for what the history may have of the records
-pub can_append : (t after : K) (x y v : Value) (rs : History) → length rs ≤ 16 → HasRoom t after (length rs) x y v → CanAppendIn rs y v
-can_append t after (Log g) (Log h) (Replica n) rs few p = (
-  ap (λ b. b && nat_le (room_for rs h.value) (room_in h.value)) (above after.progress h.value n.value p.log p.follows p.above) ∙ le-leb (room_for rs h.value) (room_in h.value) p.room,
-  fits after.progress h.value n.value p.log p.follows,
-  few,
-)
-can_append t after (Log g) (Log h) (Log n) rs few p = absurd p
-can_append t after (Log g) (Log h) (Desk n) rs few p = absurd p
-can_append t after (Log g) (Replica h) v rs few p = absurd p
-can_append t after (Log g) (Desk h) v rs few p = absurd p
-can_append t after (Replica g) y v rs few p = absurd p
-can_append t after (Desk g) y v rs few p = absurd p
+pub may : (t after : K) (g h : LogView) (n : NodeReplica) (rs : History) → HasPlace t after (length rs) g h n → may_append rs h n ≡ true
+may t after g h n rs p = ap (λ b. b && nat_le (room_for rs h) (room_in h)) (above after.progress h n p.log p.follows p.above) ∙ le-leb (room_for rs h) (room_in h) p.room
 
 -- the smaller of two numbers is the second, if it isn't the first
 is_second : (a b : ℕ) → min a b < a → min a b ≡ b
@@ -70,8 +61,8 @@ is_second a b lt = ⊎_elim
     (cases_lt b a)
 
 -- the session k has taken the log g and is t then, and m once there is room; the records rs were appended to h, which gave h2
-module _ (k t m : K) (w : Value) (g : Box LogView) (h : LogView) (h2 : Box LogView) (n : NodeReplica) (n2 : Box NodeReplica) (rs : History) (kept : RepliesView) (b : TookLog k t w (Log g)) (p : HasPlace t m (length rs) g.value h n)
-    (x : (h2.value ≡ grown rs h) × (n2.value ≡ copied h2.value n) × (kept ≡ replies_for rs h) × (tail_of h2.value ≤ MAX_LIMIT)) (noted : k.note.batch ≡ unplaced rs) (sessions : List K) (is : sessions ≡ m ∷ []) where
+module _ (k t m : K) (n0 : NodeReplica) (g : Box LogView) (h : LogView) (h2 : Box LogView) (n n2 : NodeReplica) (rs : History) (kept : RepliesView) (b : TookLog k t n0 (Log g)) (p : HasPlace t m (length rs) g.value h n)
+    (x : (h2.value ≡ grown rs h) × (n2 ≡ copied h2.value n) × (kept ≡ replies_for rs h) × (tail_of h2.value ≤ MAX_LIMIT)) (noted : k.note.batch ≡ unplaced rs) (sessions : List K) (is : sessions ≡ m ∷ []) where
   at_log : At 0 (0, Log g) m.held
   at_log = ap (λ z. get_elem? z 0) (p.goes.held ∙ b.held)
 
@@ -150,7 +141,7 @@ module _ (k t m : K) (w : Value) (g : Box LogView) (h : LogView) (h2 : Box LogVi
         let it = (session_laws.agrees 0 f.progress (set ns m.session (put_note session_noting sessions (view_of (Log h2)) m.note)) (view_of (Log h2)) agree.0).1 in
         record { agrees = it; tail = tail_is store_meaning f.progress (log_value h2.value) put.accounts.completed it; sizes = agree.1 }
 
-    rest : HasOthers f.progress n2.value
+    rest : HasOthers f.progress n2
     rest =
         let above = p.above in
         let base = ap (λ (z : LogView). z.base) x.0 in
@@ -178,7 +169,7 @@ module _ (k t m : K) (w : Value) (g : Box LogView) (h : LogView) (h2 : Box LogVi
     note : f.note ≡ record k.note { batch = placed_from kept.first count (unplaced rs) }
     note = ap (λ q. q m.note) picks.1 ∙ (λ i. record (note_is i) { batch = placed_from (sym first_is i) (long_more i) (batch i) })
 
-    has_appended : HasAppended k f rs kept (Replica n2)
+    has_appended : HasAppended k f rs kept n2
     has_appended = record {
       goes = goes;
       stands = record { notes = put.notes; accounts = put.accounts; here = put.here };
@@ -194,33 +185,18 @@ module _ (k t m : K) (w : Value) (g : Box LogView) (h : LogView) (h2 : Box LogVi
           omega (arith, all, tail, limit, within, long, same);
     }
 
--- ---- the same of values
+-- ---- the same of the value that the session took
 
-module _ (k t m : K) (w : Value) (rs : History) (kept : RepliesView) (noted : k.note.batch ≡ unplaced rs) (sessions : List K) (is : sessions ≡ m ∷ []) where
-  pub put_appended : (x y v y2 v2 : Value) → TookLog k t w x → HasRoom t m (length rs) x y v → HasAppendedIn rs y y2 v v2 kept → (q : ℕ) → q ≡ leader → Picked sessions y2 m q
-  put_appended (Log g) (Log h) (Replica n) (Log h2) (Replica n2) b p o q e = subst (λ z. Picked sessions (Log h2) m z) (sym e) (picked k t m w g h.value h2 n.value n2 rs kept b p o noted sessions is)
-  put_appended (Log g) (Log h) (Replica n) (Log h2) (Log n2) b p o q e = absurd o
-  put_appended (Log g) (Log h) (Replica n) (Log h2) (Desk n2) b p o q e = absurd o
-  put_appended (Log g) (Log h) (Replica n) (Replica h2) v2 b p o q e = absurd o
-  put_appended (Log g) (Log h) (Replica n) (Desk h2) v2 b p o q e = absurd o
-  put_appended (Log g) (Log h) (Log n) y2 v2 b p o q e = absurd p
-  put_appended (Log g) (Log h) (Desk n) y2 v2 b p o q e = absurd p
-  put_appended (Log g) (Replica h) v y2 v2 b p o q e = absurd p
-  put_appended (Log g) (Desk h) v y2 v2 b p o q e = absurd p
-  put_appended (Replica g) y v y2 v2 b p o q e = absurd p
-  put_appended (Desk g) y v y2 v2 b p o q e = absurd p
+module _ (k t m : K) (n0 : NodeReplica) (g h : LogView) (n n2 : NodeReplica) (rs : History) (kept : RepliesView) (noted : k.note.batch ≡ unplaced rs) (sessions : List K) (is : sessions ≡ m ∷ []) where
+  pub put_appended : (x : Value) → log_of x ≡ Some g → TookLog k t n0 x → HasPlace t m (length rs) g h n → (h2 : LogView) → (h2 ≡ grown rs h) × (n2 ≡ copied h2 n) × (kept ≡ replies_for rs h) × (tail_of h2 ≤ MAX_LIMIT) → (q : ℕ) → q ≡ leader → Picked sessions (with_log x h2) m q
+  put_appended (Log g1) e b p h2 a q at =
+      subst (λ z. Picked sessions (with_log (Log g1) h2) m z) (sym at) (picked k t m n0 g1 h (record g1 { value = h2 }) n n2 rs kept b (subst (λ z. HasPlace t m (length rs) z h n) (sym (same_Some g1.value g e)) p) a noted sessions is)
+  put_appended (Replica x) e b p h2 a q at = absurd (none-some g e)
+  put_appended (Desk x) e b p h2 a q at = absurd (none-some g e)
 
-  pub back_appended : (x y v y2 v2 : Value) → TookLog k t w x → HasRoom t m (length rs) x y v → HasAppendedIn rs y y2 v v2 kept → (q : ℕ) → q ≡ leader → (l : L) (ns : List SessionNote) → Possible store_rules m l ns
-      → HasAppended k (put_back sessions y2 m q l) rs kept v2
-  back_appended (Log g) (Log h) (Replica n) (Log h2) (Replica n2) b p o q e l ns may =
-      subst (λ z. HasAppended k (put_back sessions (Log h2) m z l) rs kept (Replica n2)) (sym e) (has_appended k t m w g h.value h2 n.value n2 rs kept b p o noted sessions is l ns may)
-  back_appended (Log g) (Log h) (Replica n) (Log h2) (Log n2) b p o q e l ns may = absurd o
-  back_appended (Log g) (Log h) (Replica n) (Log h2) (Desk n2) b p o q e l ns may = absurd o
-  back_appended (Log g) (Log h) (Replica n) (Replica h2) v2 b p o q e l ns may = absurd o
-  back_appended (Log g) (Log h) (Replica n) (Desk h2) v2 b p o q e l ns may = absurd o
-  back_appended (Log g) (Log h) (Log n) y2 v2 b p o q e l ns may = absurd p
-  back_appended (Log g) (Log h) (Desk n) y2 v2 b p o q e l ns may = absurd p
-  back_appended (Log g) (Replica h) v y2 v2 b p o q e l ns may = absurd p
-  back_appended (Log g) (Desk h) v y2 v2 b p o q e l ns may = absurd p
-  back_appended (Replica g) y v y2 v2 b p o q e l ns may = absurd p
-  back_appended (Desk g) y v y2 v2 b p o q e l ns may = absurd p
+  pub back_appended : (x : Value) → log_of x ≡ Some g → TookLog k t n0 x → HasPlace t m (length rs) g h n → (h2 : LogView) → (h2 ≡ grown rs h) × (n2 ≡ copied h2 n) × (kept ≡ replies_for rs h) × (tail_of h2 ≤ MAX_LIMIT) → (q : ℕ) → q ≡ leader
+      → (l : L) (ns : List SessionNote) → Possible store_rules m l ns → HasAppended k (put_back sessions (with_log x h2) m q l) rs kept n2
+  back_appended (Log g1) e b p h2 a q at l ns may =
+      subst (λ z. HasAppended k (put_back sessions (with_log (Log g1) h2) m z l) rs kept n2) (sym at) (has_appended k t m n0 g1 h (record g1 { value = h2 }) n n2 rs kept b (subst (λ z. HasPlace t m (length rs) z h n) (sym (same_Some g1.value g e)) p) a noted sessions is l ns may)
+  back_appended (Replica x) e b p h2 a q at l ns may = absurd (none-some g e)
+  back_appended (Desk x) e b p h2 a q at l ns may = absurd (none-some g e)

@@ -1,5 +1,5 @@
 -- What was appended and replayed are the answers of the batch, and these are handed over.
-use Rattle.std.proofs.Common.{◌≡◌, ℕ, ◌+◌, ◌<◌, ◌≤◌, List, [], map, length, sym, refl, ap, ◌∙◌, subst, arith, ⊎_elim, Some, slice_get}
+use Rattle.std.proofs.Common.{◌≡◌, ℕ, ◌+◌, ◌<◌, ◌≤◌, List, [], ◌∷◌, map, length, sym, refl, ap, ◌∙◌, subst, arith, ⊎_elim, Some, slice_get}
 use Rattle.std.proofs.lemmas.Bool.{cases_lt}
 use Rattle.std.proofs.lemmas.Option.{same_Some}
 use Rattle.ownlock.specs.Seats.{At}
@@ -25,19 +25,21 @@ use Rattle.progress.proofs.Lists.{at_below}
 use Rattle.progress.proofs.Parts.{placed_back}
 use Rattle.progress.proofs.Puts.{at_there}
 use Rattle.progress.proofs.Tellings.{reply_on}
-use Rattle.progress.specs.Values.{TheDesk}
 use Rattle.store.specs.declared.values.Value.{Value}
-use Rattle.store.specs.declared.values.Value.TheVariants.{Log, Replica, Desk}
 use Rattle.store.specs.AtDesk.{IsReady}
-use Rattle.store.specs.Combining.{HasCombined, HasReplied}
-use Rattle.store.specs.Held.{tail_in}
-use Rattle.store.specs.Shelving.{view_of}
-use Rattle.store.specs.Standing.{SessionKnown, HasAppended, HasCaughtUp, Stands}
+use Rattle.store.specs.Combining.{HasCombined}
+use Rattle.node.specs.declared.following.NodeReplica.{NodeReplica}
+use Rattle.store.specs.Standing.{SessionKnown, HasAppended, HasReplayed, Stands}
 use Rattle.store.proofs.Batched.{at_unplaced, long_placed, long_unplaced, records_of_placed, records_of_unplaced}
 use Rattle.store.proofs.Finished.{Back, reply_kept}
 use Rattle.store.proofs.StoreLaws.{store_laws}
+use Rattle.store.specs.declared.steps.Caller.{Caller}
+use Rattle.store.specs.Shelving.{view_of}
+use Rattle.progress.specs.Values.{TheDesk}
+use Rattle.progress.specs.DeskNotes.{RepliedThere}
+use Rattle.store.proofs.AtDesk.{reply_steps}
 use Rattle.store.proofs.Taken.{TookReplica}
-use Rattle.store.proofs.TakenDesk.{BackDesk, desk_or}
+use Rattle.store.proofs.TakenDesk.{BackDesk, PutsDesk, TookDesk, puts_desk}
 
 abbrev K : Type 0
 K = SessionKnown
@@ -65,9 +67,9 @@ ready_on k t b kept ns note grown stands w r = record {
 -- ---- from what was appended and replayed to the answers
 
 -- the session t has its replica, a once the records were appended, r once they are replayed
-module _ (t a r : K) (rs : History) (old : RepliesView) (v w : Value) (new : RepliesView) (h : HasAppended t a rs old v) (c : HasCaughtUp a r v w old new) where
+module _ (t a r : K) (rs : History) (old : RepliesView) (n m : NodeReplica) (new : RepliesView) (h : HasAppended t a rs old n) (c : HasReplayed a r n m old new) where
   reply_of : (j : ℕ) (q : Record) → j < length old.outcomes → At j q rs → (o : Outcome) × (slice_get new.outcomes j ≡ Some (Some o)) × (reply_at store_meaning a.progress.catalogue a.progress.history (old.first + j) q.op ≡ Some o.reply)
-  reply_of j q lt at = let low = h.above in reply_kept a q j (old.first + j) (tail_in v) old new (h.placed j q lt at) (omega (arith, low)) refl lt c.replies
+  reply_of j q lt at = let low = h.above in reply_kept a q j (old.first + j) n.replica.tail old new (h.placed j q lt at) (omega (arith, low)) refl lt c.replies
 
   module _ (f : K) (end : Back r f) (b : BatchView) (records : b.records ≡ rs) (some : 0 < length rs) (ascend : Ascend rs) where
     abbrev placed : List Claim
@@ -158,10 +160,9 @@ module _ (t a r : K) (rs : History) (old : RepliesView) (v w : Value) (new : Rep
 pub handed : (k t z : K) → t.note ≡ k.note → BackDesk k z (record t.note { batch = [] }) → HasCombined k z
 handed k t z note b = record { session = b.session; held = b.held; note = b.note ∙ ap (λ (n : SessionNote). record n { batch = [] }) note; extends = b.extends; stands = b.stands }
 
--- the desk as it is seen once the answers are there
-pub seen_replied : (b : BatchView) (v w : Value) (x : DeskView) → HasReplied b v w → view_of v ≡ TheDesk x → view_of w ≡ TheDesk (replied b x)
-seen_replied b (Desk d) (Desk e) x r is = ap TheDesk r ∙ ap (λ z. TheDesk (replied b (desk_or x z))) is
-seen_replied b (Desk d) (Log g) x r is = absurd r
-seen_replied b (Desk d) (Replica n) x r is = absurd r
-seen_replied b (Log g) w x r is = absurd r
-seen_replied b (Replica n) w x r is = absurd r
+-- the desk is put back as w, whose desk y has the answers
+pub puts_replied : (caller : Caller) (k t : K) (p : ℕ) (v : Value) (batch : BatchView) (kept : RepliesView) (b : TookDesk caller k t p v) → IsReady t batch kept → (answered : BatchView) (x y : DeskView) → b.desk ≡ x → answered ≡ answered_batch kept batch → y ≡ replied answered x
+    → (w : Value) → view_of w ≡ TheDesk y → (sessions : List K) → sessions ≡ t ∷ [] → (q : ℕ) → q ≡ p → PutsDesk k t sessions RepliedThere w (record t.note { batch = [] }) q
+puts_replied caller k t p v batch kept b ready answered x y same set out w isw sessions is q at =
+    let replies : y ≡ replied (answered_batch kept batch) b.desk = out ∙ ap (λ z. replied z x) set ∙ ap (replied (answered_batch kept batch)) (sym same) in
+    puts_desk caller k t p v b sessions is RepliedThere w y (record t.note { batch = [] }) isw (reply_steps t batch kept ready b.desk y replies) refl q at

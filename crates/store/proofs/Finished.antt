@@ -7,7 +7,6 @@ use Rattle.ownlock.specs.Knowledge.{Possible, MayPut}
 use Rattle.machine.specs.declared.running.Outcome.{Outcome}
 use Rattle.loader.specs.CatalogueView.{CatalogueView}
 use Rattle.oplog.specs.Operations.{Operation}
-use Rattle.oplog.specs.declared.configuration.Config.{Config}
 use Rattle.oplog.specs.declared.records.Record.{Record}
 use Rattle.oplog.specs.History.{reply_at}
 use Rattle.readpath.specs.declared.reading.ReadAnswer.{ReadAnswer}
@@ -15,26 +14,25 @@ use Rattle.replica.specs.StoreMeaning.{store_meaning}
 use Rattle.replica.specs.Views.{RepliesView}
 use Rattle.progress.specs.declared.sessions.Progress.{Progress}
 use Rattle.progress.specs.declared.sessions.SessionNote.{SessionNote}
-use Rattle.progress.specs.Values.{ReplicaValue, TheReplica}
 use Rattle.progress.specs.Accounts.{Extends}
 use Rattle.progress.specs.Agreement.{replica_place}
-use Rattle.progress.specs.Putting.{KeepsSizes}
 use Rattle.progress.specs.Picks.{put_progress, put_note}
 use Rattle.progress.specs.Told.{ReadTells}
-use Rattle.maps.specs.Maps.{Maps}
 use Rattle.progress.proofs.Tellings.{reads_tell}
 use Rattle.progress.proofs.Picked.{replica_picked, replica_picks, puts_account, same_picked, same_picks}
 use Rattle.progress.proofs.Finish.{grown_long}
 use Rattle.progress.proofs.Seen.{sized_on}
+use Rattle.node.specs.declared.following.NodeReplica.{NodeReplica}
 use Rattle.store.specs.declared.values.Value.{Value}
-use Rattle.store.specs.declared.values.Value.TheVariants.{Log, Replica, Desk}
+use Rattle.store.specs.Lending.{with_replica}
 use Rattle.store.specs.Shelving.{view_of, IsSized, session_rules, session_noting, store_rules, replica_value}
-use Rattle.store.specs.Held.{IsReplica, IsReplicaOf, Replies, tail_in}
-use Rattle.store.specs.Standing.{SessionKnown, Stands, AgreesIn, HoldsReplica, GoesOn, HasRaised, KeepsOutcomesOf, IsBroughtUp}
-use Rattle.store.specs.Sessions.{IsReadBy}
+use Rattle.store.specs.Standing.{SessionKnown, Stands, Agrees, HoldsReplica, GoesOn, HasRaised, KeepsOutcomesOf, HasReached}
+use Rattle.store.specs.Sessions.{IsReadBy, RepliesThere}
 use Rattle.store.proofs.StoreLaws.{session_laws, session_notes, store_laws}
-use Rattle.store.proofs.Taken.{TookReplica, TookLog, own_on, tail_low, well_formed}
-use Rattle.store.proofs.Played.{HasAllIn, all_agrees, all_tail}
+use Rattle.store.proofs.Parts.{replica_put, replica_seen, replica_sizes}
+use Rattle.store.proofs.Taken.{TookReplica, TookLog, own_on, well_formed}
+use Rattle.store.proofs.Followed.{HasAll}
+use Rattle.store.proofs.Played.{all_agrees}
 
 abbrev K : Type 0
 K = SessionKnown
@@ -64,14 +62,6 @@ holds_on k t w g h = record {
   sized = sized_on view_of IsSized session_rules k.progress t.progress w g.extends.config g.extends.catalogue h.sized;
 }
 
-keeps_sizes : (config : Config) (c : CatalogueView) (w v : Value) → IsReplica w → IsReplica v → IsSized config c w → IsSized config c v → KeepsSizes IsSized w v
-keeps_sizes config c (Replica n) (Replica m) a b s t d e u =
-    (t.0 ∙ (sym s.0 ∙ u.0), t.1 ∙ (λ i. record { begin = m.value.replica.tail; records = []; window = (sym (ap (λ z. z.window) s.1) ∙ ap (λ z. z.window) u.1) i }))
-keeps_sizes config c (Log n) v a b s t d e u = absurd a
-keeps_sizes config c (Desk n) v a b s t d e u = absurd a
-keeps_sizes config c (Replica n) (Log m) a b s t d e u = absurd b
-keeps_sizes config c (Replica n) (Desk m) a b s t d e u = absurd b
-
 -- what a session is, once its replica is back
 pub record Back (k f : K) : Type 0 where
   pub session : f.session ≡ k.session
@@ -92,43 +82,39 @@ module _ (k : K) (w : Value) (h : HoldsReplica k w) (sessions : List K) (is : se
   same_place : (q : ℕ) → k.held ≡ (q, w) ∷ [] → replica_place k.progress.config h.node ≡ q
   same_place q e = ap held_first (sym h.held ∙ e)
 
-  seen : (w : Value) → IsReplica w → (x : ReplicaValue Maps) × (view_of w ≡ TheReplica x)
-  seen (Replica n) r = (_, refl)
-  seen (Log g) r = absurd r
-  seen (Desk g) r = absurd r
+  -- the value with the replica as it is now
+  module _ (n : NodeReplica) (a : Agrees k.progress n) (low : n.replica.tail ≤ length k.progress.history) where
+    abbrev v : Value
+    v = with_replica w n
 
-  picked : (v : Value) → AgreesIn k.progress v → tail_in v ≤ length k.progress.history → Picked sessions v k (replica_place k.progress.config h.node)
-  picked (Replica m) a low =
-      let s = seen w h.replica in
-      replica_picked session_laws view_of session_notes IsSized sessions k (replica_place k.progress.config h.node) 0 w (Replica m) s.0 _ here s.1 refl (keeps_sizes k.progress.config k.progress.catalogue w (Replica m) h.replica tt h.sized a.1) low a.0 is
-  picked (Log g) a low = absurd a
-  picked (Desk g) a low = absurd a
+    picked : Picked sessions v k (replica_place k.progress.config h.node)
+    picked =
+        let s = replica_seen w h.replica in
+        replica_picked session_laws view_of session_notes IsSized sessions k (replica_place k.progress.config h.node) 0 w v s.0 (replica_value n.replica) here s.1 (replica_put w n h.replica) (replica_sizes k.progress.config k.progress.catalogue w n h.replica h.sized a.1) low a.0 is
 
-  pub may_put_replica : (v : Value) (q : ℕ) → k.held ≡ (q, w) ∷ [] → AgreesIn k.progress v → tail_in v ≤ length k.progress.history → Picked sessions v k q
-  may_put_replica v q e a low = subst (λ z. Picked sessions v k z) (same_place q e) (picked v a low)
+    pub may_put_replica : (q : ℕ) → k.held ≡ (q, w) ∷ [] → Picked sessions v k q
+    may_put_replica q e = subst (λ z. Picked sessions v k z) (same_place q e) picked
 
-  same_note : (v : Value) → AgreesIn k.progress v → put_note session_noting sessions (view_of v) k.note ≡ k.note
-  same_note (Replica m) a = ap (λ f. f k.note) (replica_picks session_laws view_of session_notes IsSized sessions k (Replica m) _ is refl).1
-  same_note (Log g) a = absurd a
-  same_note (Desk g) a = absurd a
+    same_note : put_note session_noting sessions (view_of v) k.note ≡ k.note
+    same_note = ap (λ f. f k.note) (replica_picks session_laws view_of session_notes IsSized sessions k v (replica_value n.replica) is (replica_put w n h.replica)).1
 
-  back_zero : (v : Value) → AgreesIn k.progress v → tail_in v ≤ length k.progress.history → (l : L) (ns : List SessionNote) → Possible store_rules k l ns → Back k (put_back sessions v k (replica_place k.progress.config h.node) l)
-  back_zero v a low l ns may =
-      let p = puts_account session_laws view_of session_notes IsSized (put_progress sessions (view_of v)) (put_note session_noting sessions (view_of v)) k (replica_place k.progress.config h.node) v l ns (picked v a low) may in
-      record {
-        session = p.session;
-        note = same_note v a;
-        held = p.held ∙ (ap (λ z. without (replica_place k.progress.config h.node) z) h.held ∙ none h.node w);
-        tails_read = p.tails_read;
-        extends = p.extends;
-        stands = record { notes = p.notes; accounts = p.accounts; here = p.here };
-      }
-    where
-      none : (n : ℕ) (w : Value) → without (1 + n) ((1 + n, w) ∷ []) ≡ []
-      none n w = ap (λ b. if b then [] else ((1 + n, w) ∷ [])) (eq-eqb (1 + n) (1 + n) refl)
+    back_zero : (l : L) (ns : List SessionNote) → Possible store_rules k l ns → Back k (put_back sessions v k (replica_place k.progress.config h.node) l)
+    back_zero l ns may =
+        let p = puts_account session_laws view_of session_notes IsSized (put_progress sessions (view_of v)) (put_note session_noting sessions (view_of v)) k (replica_place k.progress.config h.node) v l ns picked may in
+        record {
+          session = p.session;
+          note = same_note;
+          held = p.held ∙ (ap (λ z. without (replica_place k.progress.config h.node) z) h.held ∙ none h.node w);
+          tails_read = p.tails_read;
+          extends = p.extends;
+          stands = record { notes = p.notes; accounts = p.accounts; here = p.here };
+        }
+      where
+        none : (n : ℕ) (w : Value) → without (1 + n) ((1 + n, w) ∷ []) ≡ []
+        none n w = ap (λ b. if b then [] else ((1 + n, w) ∷ [])) (eq-eqb (1 + n) (1 + n) refl)
 
-  pub back : (v : Value) (q : ℕ) → k.held ≡ (q, w) ∷ [] → AgreesIn k.progress v → tail_in v ≤ length k.progress.history → (l : L) (ns : List SessionNote) → Possible store_rules k l ns → Back k (put_back sessions v k q l)
-  back v q e a low l ns may = subst (λ z. Back k (put_back sessions v k z l)) (same_place q e) (back_zero v a low l ns may)
+    pub back : (q : ℕ) → k.held ≡ (q, w) ∷ [] → (l : L) (ns : List SessionNote) → Possible store_rules k l ns → Back k (put_back sessions v k q l)
+    back q e l ns may = subst (λ z. Back k (put_back sessions v k z l)) (same_place q e) (back_zero l ns may)
 
 -- the reply of a record that was replayed is kept
 pub reply_kept : (a : K) (r : Record) (j i t : ℕ) (old new : RepliesView) → At i r a.progress.history → t ≤ i → old.first + j ≡ i → j < length old.outcomes → KeepsOutcomesOf a.progress t old new
@@ -140,7 +126,7 @@ reply_kept a r j i t old new at low is some kept =
 pub is_catalogue : (p : ℕ) (k t a : K) (w : Value) (c : CatalogueView) → TookReplica p k t w → GoesOn t a → k.progress.catalogue ≡ c → a.progress.catalogue ≡ c
 is_catalogue p k t a w c b g is = sym g.extends.catalogue ∙ (sym b.extends.catalogue ∙ is)
 
-module _ (k t : K) (y x : Value) (b : TookLog k t y x) where
+module _ (k t : K) (m : NodeReplica) (x : Value) (b : TookLog k t m x) where
   pub log_catalogue : (c : CatalogueView) → k.progress.catalogue ≡ c → t.progress.catalogue ≡ c
   log_catalogue c is = sym b.extends.catalogue ∙ is
 
@@ -168,13 +154,13 @@ module _ (k t : K) (y x : Value) (b : TookLog k t y x) where
     pub same_back : (q : ℕ) → q ≡ leader → (l : L) (ns : List SessionNote) → Possible store_rules t l ns → Same k t (put_back sessions x t q l)
     same_back q e l ns may = subst (λ z. Same k t (put_back sessions x t z l)) (sym e) (back_at_zero l ns may)
 
-  module _ (v : Value) (f after : K) (s : Same k t f) (all : HasAllIn t.progress v) where
-    pub long_enough : tail_in v ≤ length f.progress.history
-    long_enough = let tail = all_tail t.progress v all in let long = grown_long store_meaning t.progress f.progress s.on in omega (arith, tail, long)
+  module _ (n : NodeReplica) (f after : K) (s : Same k t f) (all : HasAll t.progress n) where
+    pub long_enough : n.replica.tail ≤ length f.progress.history
+    long_enough = let tail = all.tail in let long = grown_long store_meaning t.progress f.progress s.on in omega (arith, tail, long)
 
-    pub refreshed : HasRaised f after (tail_in v) → IsBroughtUp k after k.progress.completed v
-    refreshed up =
-        let tail = all_tail t.progress v all in
+    pub followed : HasRaised f after n.replica.tail → HasReached k after k.progress.completed n
+    followed up =
+        let tail = all.tail in
         let on = store_laws.extends_on t.progress f.progress after.progress s.on up.goes.extends in
         let long = grown_long store_meaning t.progress after.progress on in
         let done = up.completed in
@@ -183,35 +169,28 @@ module _ (k t : K) (y x : Value) (b : TookLog k t y x) where
         record {
           goes = record { session = up.goes.session ∙ s.goes.session; held = up.goes.held ∙ s.goes.held; tails_read = up.goes.tails_read ∙ s.goes.tails_read; extends = store_laws.extends_on k.progress f.progress after.progress s.goes.extends up.goes.extends };
           note = up.note ∙ s.note;
-          agrees = all_agrees t.progress after.progress v on (omega (arith, tail, done)) all;
+          agrees = all_agrees t.progress after.progress n on (omega (arith, tail, done)) all;
           within = omega (arith, tail, long);
           reached = omega (arith, tail, rise, low);
         }
 
-pub is_up : (k : K) (v : Value) (done : ℕ) → AgreesIn k.progress v → Stands k → done ≤ tail_in v → IsBroughtUp k k done v
-is_up k v done a s far =
-    let low = tail_low k.progress v a in
+pub is_there : (k : K) (n : NodeReplica) (done : ℕ) → Agrees k.progress n → Stands k → done ≤ n.replica.tail → HasReached k k done n
+is_there k n done a s far =
+    let low = a.0.tail in
     let all = s.accounts.completed in
     record { goes = record { session = refl; held = refl; tails_read = refl; extends = store_laws.extends_self k.progress }; note = refl; agrees = a; within = omega (arith, low, all); reached = far }
 
-pub up_enough : (k f : K) (v : Value) (done far : ℕ) → done ≤ far → IsBroughtUp k f far v → IsBroughtUp k f done v
-up_enough k f v done most low u = let far = u.reached in record { goes = u.goes; note = u.note; agrees = u.agrees; within = u.within; reached = omega (arith, low, far) }
+pub far_enough : (k f : K) (n : NodeReplica) (done far : ℕ) → done ≤ far → HasReached k f far n → HasReached k f done n
+far_enough k f n done most low u = let far = u.reached in record { goes = u.goes; note = u.note; agrees = u.agrees; within = u.within; reached = omega (arith, low, far) }
 
-pub of_shapes : (l : L) (v : Value) (c : CatalogueView) → l.catalogue ≡ c → AgreesIn l v → IsReplicaOf c v
-of_shapes l (Replica n) c e a = a.1.0 ∙ ap (λ (z : CatalogueView). z.shapes) e
-of_shapes l (Log g) c e a = absurd a
-of_shapes l (Desk g) c e a = absurd a
-
-told_read : (l m : L) (v : Value) (op : Operation) (c : CatalogueView) (begun reply : ℕ) → Extends l m → AgreesIn l v → tail_in v ≤ length l.history → begun ≤ tail_in v → Replies c op v reply → l.catalogue ≡ c → ReadTells store_meaning m begun op (tail_in v) reply
-told_read l m (Replica n) op c begun reply grown a low first is same =
+told_read : (l m : L) (n : NodeReplica) (op : Operation) (c : CatalogueView) (begun reply : ℕ) → Extends l m → Agrees l n → n.replica.tail ≤ length l.history → begun ≤ n.replica.tail → RepliesThere c op n reply → l.catalogue ≡ c → ReadTells store_meaning m begun op n.replica.tail reply
+told_read l m n op c begun reply grown a low first is same =
     let t = a.0.tail in let up = grown.completed in
-    reads_tell store_meaning l m begun reply op (replica_value n.value.replica) grown low a.0.maps (ap (λ z. option_map (λ e. e.reply) (store_meaning.read z op n.value.replica.maps)) same ∙ is) first (omega (arith, t, up))
-told_read l m (Log g) op c begun reply grown a low first is same = absurd a
-told_read l m (Desk g) op c begun reply grown a low first is same = absurd a
+    reads_tell store_meaning l m begun reply op (replica_value n.replica) grown low a.0.maps (ap (λ z. option_map (λ e. e.reply) (store_meaning.read z op n.replica.maps)) same ∙ is) first (omega (arith, t, up))
 
-pub is_read : (p : ℕ) (k t b f : K) (from : L) (w v : Value) (done : ℕ) (op : Operation) (c : CatalogueView) (answer : ReadAnswer) → Extends k.progress from → done ≡ from.completed → TookReplica p (having_read k from done) t w → IsBroughtUp t b done v → Back b f
-    → b.progress.catalogue ≡ c → answer.point ≡ tail_in v → Replies c op v answer.reply → IsReadBy k f op answer
-is_read p k t b f from w v done op c answer grown is took up end same point reply =
+pub is_read : (p : ℕ) (k t b f : K) (from : L) (w : Value) (n : NodeReplica) (done : ℕ) (op : Operation) (c : CatalogueView) (answer : ReadAnswer) → Extends k.progress from → done ≡ from.completed → TookReplica p (having_read k from done) t w → HasReached t b done n → Back b f
+    → b.progress.catalogue ≡ c → answer.point ≡ n.replica.tail → RepliesThere c op n answer.reply → IsReadBy k f op answer
+is_read p k t b f from w n done op c answer grown is took up end same point reply =
     let far = up.reached in let rise = grown.completed in
     record {
       session = end.session ∙ (up.goes.session ∙ took.session);
@@ -223,8 +202,8 @@ is_read p k t b f from w v done op c answer grown is took up end same point repl
       note = end.note ∙ (up.note ∙ took.note);
       well_formed = well_formed f.progress end.stands.notes end.stands.accounts;
       extends = store_laws.extends_on k.progress from f.progress grown (store_laws.extends_on from t.progress f.progress took.extends (store_laws.extends_on t.progress b.progress f.progress up.goes.extends end.extends));
-      tells = subst (λ z. ReadTells store_meaning f.progress k.progress.completed op z answer.reply) (sym point) (told_read b.progress f.progress v op c k.progress.completed answer.reply end.extends up.agrees up.within (omega (arith, far, rise, is)) reply same);
+      tells = subst (λ z. ReadTells store_meaning f.progress k.progress.completed op z answer.reply) (sym point) (told_read b.progress f.progress n op c k.progress.completed answer.reply end.extends up.agrees up.within (omega (arith, far, rise, is)) reply same);
     }
 
-pub later_catalogue : (p : ℕ) (k t b : K) (from : L) (w v : Value) (done : ℕ) (c : CatalogueView) → Extends k.progress from → TookReplica p (having_read k from done) t w → IsBroughtUp t b done v → k.progress.catalogue ≡ c → b.progress.catalogue ≡ c
-later_catalogue p k t b from w v done c g took up is = sym up.goes.extends.catalogue ∙ (sym took.extends.catalogue ∙ (sym g.catalogue ∙ is))
+pub later_catalogue : (p : ℕ) (k t b : K) (from : L) (w : Value) (n : NodeReplica) (done : ℕ) (c : CatalogueView) → Extends k.progress from → TookReplica p (having_read k from done) t w → HasReached t b done n → k.progress.catalogue ≡ c → b.progress.catalogue ≡ c
+later_catalogue p k t b from w n done c g took up is = sym up.goes.extends.catalogue ∙ (sym took.extends.catalogue ∙ (sym g.catalogue ∙ is))

@@ -1,5 +1,6 @@
 pub mod StoreLaws
 pub mod Places
+pub mod Parts
 pub mod Followed
 pub mod Taken
 pub mod Played

@@ -1,5 +1,5 @@
 -- While the log is held: a replica that keeps up with its base and follows it, and a log that gets room.
-use Rattle.std.proofs.Common.{◌≡◌, Bool, true, false, ℕ, ◌-◌, ◌<◌, ◌≤◌, min, [], length, refl, sym, ap, ◌∙◌, subst, arith, ⊎_elim}
+use Rattle.std.proofs.Common.{◌≡◌, Bool, true, false, ℕ, ◌-◌, ◌<◌, ◌≤◌, min, [], length, refl, sym, ap, ◌∙◌, arith, ⊎_elim}
 use Rattle.std.proofs.Math.Nat.{le-max_right, max-le, min-le_left}
 use Rattle.std.proofs.lemmas.Bool.{cases_lt}
 use Rattle.maps.specs.Maps.{shapes_of}
@@ -11,17 +11,13 @@ use Rattle.progress.specs.Accounts.{IsWellFormed}
 use Rattle.progress.specs.Agreement.{LogAgrees}
 use Rattle.progress.proofs.Tellings.{maps_on}
 use Rattle.node.specs.declared.following.NodeReplica.{NodeReplica}
-use Rattle.store.specs.declared.values.Value.{Value}
-use Rattle.store.specs.declared.values.Value.TheVariants.{Log, Replica, Desk}
 use Rattle.store.specs.Shelving.{log_value}
 use Rattle.node.specs.Following.{told, reclaimed}
-use Rattle.store.specs.Held.{LacksRoom, IsWide, tail_in, CanReclaimIn, IsReclaimed}
-use Rattle.store.specs.Standing.{SessionKnown, FollowsIn, IsLogOf, LogIs, HoldsLog, HasPlace, HasRoom, HasRaised}
+use Rattle.store.specs.Standing.{SessionKnown, Follows, IsLogOf, HoldsLog, HasPlace, HasRaised}
 use Rattle.store.proofs.StoreLaws.{store_laws}
 use Rattle.store.proofs.Taken.{well_formed}
 use Rattle.store.proofs.Places.{drop_all}
 use Rattle.store.proofs.Followed.{HasAll, all_follows, follows_on}
-use Rattle.store.proofs.Played.{HasAllIn, IsAbove}
 
 abbrev L : Type 0
 L = Progress CatalogueView
@@ -63,13 +59,13 @@ module _ (k after : K) (g : LogView) (u : NodeReplica) (is : IsLogOf k.progress 
     );
   }
 
-  can_reclaim : (g.base < u.replica.tail) × (u.replica.tail ≤ tail_of g) × (shapes_of u.replica.maps ≡ shapes_of g.base_maps)
+  pub can_reclaim : (g.base < u.replica.tail) × (u.replica.tail ≤ tail_of g) × (shapes_of u.replica.maps ≡ shapes_of g.base_maps)
   can_reclaim = let t = is.tail in let a = all.tail in (omega (arith, t, a, lacks, wide, few, min-le_left want (left_of g)), omega (arith, t, a), all.shapes ∙ sym is.sizes.2)
 
   all_fit : (w n : ℕ) → n ≡ 0 → want ≤ w → (left : ℕ) → min want left ≤ w - n
   all_fit w n e wide left = let low = min-le_left want left in omega (arith, e, wide, low)
 
-  freed : HasPlace k after want g h u
+  pub freed : HasPlace k after want g h u
   freed = record {
     goes = up.goes;
     note = up.note;
@@ -82,57 +78,20 @@ module _ (k after : K) (g : LogView) (u : NodeReplica) (is : IsLogOf k.progress 
     room = all_fit h.window (length h.records) (ap length none_left) (omega (arith, wide, few)) (left_of h);
   }
 
--- ---- the same of values
+-- ---- nothing to do, since there is room for as many as the history may have
 
--- nothing to do, since there is room for as many as the history may have
-module _ (k : K) (want : ℕ) (x z : Value) where
-  pub roomy : IsWellFormed store_meaning k.progress → LogIs k.progress x → FollowsIn k.progress z → IsAbove x z → (LacksRoom want x → ⊥) → HasRoom k k want x x z
-  roomy w = by x z
-    where
-      by : (x z : Value) → LogIs k.progress x → FollowsIn k.progress z → IsAbove x z → (LacksRoom want x → ⊥) → HasRoom k k want x x z
-      by (Log g) (Replica n) is f low not = record {
-        goes = record { session = refl; held = refl; tails_read = refl; extends = store_laws.extends_self k.progress };
-        note = refl;
-        well = w;
-        same = refl;
-        log = is;
-        keeps = (refl, refl, refl);
-        follows = f;
-        above = low;
-        room = ⊎_elim (λ lt. absurd (not lt)) (λ le. le) (cases_lt (room_in g.value) (min want (left_of g.value)));
-      }
-      by (Log g) (Log n) is f low not = absurd f
-      by (Log g) (Desk n) is f low not = absurd f
-      by (Replica n) z is f low not = absurd is
-      by (Desk n) z is f low not = absurd is
-
-module _ (k after : K) (want : ℕ) (few : want ≤ 16) (x u : Value) (holds : HoldsLog k) (up : HasRaised k after (tail_in u)) where
-  pub reclaims : LogIs k.progress x → HasAllIn k.progress u → IsWide x → LacksRoom want x → CanReclaimIn x u
-  reclaims = by x u up
-    where
-      by : (x u : Value) → HasRaised k after (tail_in u) → LogIs k.progress x → HasAllIn k.progress u → IsWide x → LacksRoom want x → CanReclaimIn x u
-      by (Log g) (Replica n) up is all wide lacks = can_reclaim k after g.value n.value is all up holds want few wide.0 lacks
-      by (Log g) (Log n) up is all wide lacks = absurd all
-      by (Log g) (Desk n) up is all wide lacks = absurd all
-      by (Replica n) u up is all wide lacks = absurd is
-      by (Desk n) u up is all wide lacks = absurd is
-
-  pub freed_in : (y : Value) → LogIs k.progress x → HasAllIn k.progress u → IsWide x → LacksRoom want x → IsReclaimed x u y → HasRoom k after want x y u
-  freed_in = by x u up
-    where
-      by : (x u : Value) → HasRaised k after (tail_in u) → (y : Value) → LogIs k.progress x → HasAllIn k.progress u → IsWide x → LacksRoom want x → IsReclaimed x u y → HasRoom k after want x y u
-      by (Log g) (Replica n) up (Log h) is all wide lacks e = subst (λ z. HasPlace k after want g.value z n.value) (sym e) (freed k after g.value n.value is all up holds want few wide.0 lacks)
-      by (Log g) (Replica n) up (Replica h) is all wide lacks e = absurd e
-      by (Log g) (Replica n) up (Desk h) is all wide lacks e = absurd e
-      by (Log g) (Log n) up y is all wide lacks e = absurd all
-      by (Log g) (Desk n) up y is all wide lacks e = absurd all
-      by (Replica n) u up y is all wide lacks e = absurd is
-      by (Desk n) u up y is all wide lacks e = absurd is
-
-pub all_low : (l : L) (u : Value) → HasAllIn l u → tail_in u ≤ length l.history
-all_low l (Replica n) a = let t = a.tail in omega (arith, t)
-all_low l (Log g) a = absurd a
-all_low l (Desk g) a = absurd a
+pub roomy : (k : K) (want : ℕ) (g : LogView) (n : NodeReplica) → IsWellFormed store_meaning k.progress → IsLogOf k.progress g → Follows k.progress n → g.base ≤ n.replica.tail → (room_in g < min want (left_of g) → ⊥) → HasPlace k k want g g n
+roomy k want g n well is f low not = record {
+  goes = record { session = refl; held = refl; tails_read = refl; extends = store_laws.extends_self k.progress };
+  note = refl;
+  well = well;
+  same = refl;
+  log = is;
+  keeps = (refl, refl, refl);
+  follows = f;
+  above = low;
+  room = ⊎_elim (λ lt. absurd (not lt)) (λ le. le) (cases_lt (room_in g) (min want (left_of g)));
+}
 
 pub not_true : (b : Bool) → b ≡ false → b ≡ true → ⊥
 not_true true e f = cc

@@ -1,11 +1,14 @@
 -- The replica's place and the log's are taken.
-use Rattle.std.proofs.Common.{◌≡◌, ℕ, zero, suc, ◌+◌, ◌<◌, ◌≤◌, [], ◌∷◌, map, sym, refl, ap, ◌∙◌, subst, arith}
+use Rattle.std.proofs.Common.{◌≡◌, ℕ, zero, suc, ◌+◌, ◌<◌, [], ◌∷◌, map, sym, refl, ap, ◌∙◌, subst, arith, Some}
+use Rattle.std.specs.Prelude.{IsSome}
+use Rattle.std.proofs.lemmas.Option.{none-some, same_Some}
 use Rattle.maps.specs.Maps.{Maps}
 use Rattle.ownlock.specs.Rules.{leader}
 use Rattle.ownlock.specs.Seats.{At, place_of}
 use Rattle.ownlock.specs.Knowledge.{Acquired, MayTake}
 use Rattle.loader.specs.CatalogueView.{CatalogueView}
 use Rattle.oplog.specs.declared.configuration.Config.{Config}
+use Rattle.oplog.specs.Logs.{Log as LogView}
 use Rattle.oplog.specs.Sessions.{IsSessionOf, session as place}
 use Rattle.replica.specs.StoreMeaning.{store_meaning}
 use Rattle.progress.specs.declared.sessions.Progress.{Progress}
@@ -16,15 +19,15 @@ use Rattle.progress.specs.Moves.{HoldsBoth}
 use Rattle.progress.proofs.Putting.{may_take_first, takes_log, takes_its_replica}
 use Rattle.progress.proofs.Tellings.{tail_is}
 use Rattle.progress.proofs.Lists.{at_none}
-use Rattle.progress.proofs.Finish.{replica_puts}
-use Rattle.progress.proofs.Seen.{sized_on}
 use Rattle.store.specs.declared.steps.Caller.{Caller}
 use Rattle.store.specs.declared.values.Value.{Value}
 use Rattle.store.specs.declared.values.Value.TheVariants.{Log, Replica, Desk}
-use Rattle.store.specs.Shelving.{view_of, IsSized, session_rules, store_rules, log_value, replica_value}
-use Rattle.store.specs.Held.{IsReplica, tail_in}
-use Rattle.store.specs.Standing.{SessionKnown, Stands, AgreesIn, FollowsIn, LogIs, HoldsReplica, HoldsLog, IsFree, IsOnShelf}
+use Rattle.store.specs.Shelving.{view_of, IsSized, store_rules, log_value}
+use Rattle.node.specs.declared.following.NodeReplica.{NodeReplica}
+use Rattle.store.specs.Lending.{log_of, replica_of}
+use Rattle.store.specs.Standing.{SessionKnown, Stands, Agrees, Follows, IsLogOf, HoldsReplica, HoldsLog, IsFree, IsOnShelf}
 use Rattle.store.proofs.Followed.{follows_on}
+use Rattle.store.proofs.Parts.{has_log, has_replica}
 use Rattle.store.proofs.StoreLaws.{session_laws}
 use mathlib.Core.Option.{some-injective}
 use lib.ListN.{get_elem?}
@@ -35,64 +38,34 @@ K = SessionKnown
 abbrev L : Type 0
 L = Progress CatalogueView
 
--- ---- values that are seen as a log or a replica
+-- ---- the parts of values that agree
 
-abbrev IsLogSeen : StoreValue Maps → Type 0
-IsLogSeen (TheLog x) = Unit {0}
-IsLogSeen (TheReplica x) = ⊥
-IsLogSeen (TheDesk x) = ⊥
+pub agrees_in : (l : L) (w : Value) (x : ReplicaValue Maps) → view_of w ≡ TheReplica x → ReplicaAgrees store_meaning l x → IsSized l.config l.catalogue w → (n : NodeReplica) → replica_of w ≡ Some n → Agrees l n
+agrees_in l (Replica m) x e a s n is = subst (Agrees l) (same_Some m.value n is) (subst (λ z. ReplicaAgrees store_meaning l z) (sym (ap (replica_or x) e)) a, s)
+  where
+    replica_or : ReplicaValue Maps → StoreValue Maps → ReplicaValue Maps
+    replica_or d (TheReplica x) = x
+    replica_or d (TheLog x) = d
+    replica_or d (TheDesk x) = d
+agrees_in l (Log g) x e a s n is = absurd (none-some n is)
+agrees_in l (Desk g) x e a s n is = absurd (none-some n is)
 
-abbrev IsReplicaSeen : StoreValue Maps → Type 0
-IsReplicaSeen (TheReplica x) = Unit {0}
-IsReplicaSeen (TheLog x) = ⊥
-IsReplicaSeen (TheDesk x) = ⊥
-
-abbrev replica_or : ReplicaValue Maps → StoreValue Maps → ReplicaValue Maps
-replica_or d (TheReplica x) = x
-replica_or d (TheLog x) = d
-replica_or d (TheDesk x) = d
-
-abbrev pub log_or : LogValue Maps → StoreValue Maps → LogValue Maps
-log_or d (TheLog x) = x
-log_or d (TheReplica x) = d
-log_or d (TheDesk x) = d
-
-pub agrees_in : (l : L) (w : Value) (x : ReplicaValue Maps) → view_of w ≡ TheReplica x → ReplicaAgrees store_meaning l x → IsSized l.config l.catalogue w → AgreesIn l w
-agrees_in l (Replica n) x e a s = (subst (λ z. ReplicaAgrees store_meaning l z) (sym (ap (replica_or x) e)) a, s)
-agrees_in l (Log g) x e a s = absurd (subst IsLogSeen e tt)
-agrees_in l (Desk g) x e a s = absurd (subst IsReplicaSeen (sym e) tt)
-
-pub is_replica : (l : L) (w : Value) → AgreesIn l w → IsReplica w
-is_replica l (Replica n) a = tt
-is_replica l (Log g) a = absurd a
-is_replica l (Desk g) a = absurd a
-
-pub tail_low : (l : L) (w : Value) → AgreesIn l w → tail_in w ≤ l.completed
-tail_low l (Replica n) a = a.0.tail
-tail_low l (Log g) a = absurd a
-tail_low l (Desk g) a = absurd a
-
--- a replica agrees with each later progress, and follows its own
-pub agrees_on : (l m : L) (w : Value) → IsWellFormed store_meaning l → Extends l m → AgreesIn l w → AgreesIn m w
-agrees_on l m (Replica n) well g a =
-    let t = a.0.tail in let low = well.completed in
-    (replica_puts store_meaning l m (replica_value n.value.replica) (omega (arith, t, low)) g a.0, sized_on view_of IsSized session_rules l m (Replica n) g.config g.catalogue a.1)
-agrees_on l m (Log g) well e a = absurd a
-agrees_on l m (Desk g) well e a = absurd a
-
-pub follows_in : (l : L) (w : Value) → IsWellFormed store_meaning l → AgreesIn l w → FollowsIn l w
-follows_in l (Replica n) well a =
+pub follows_agreed : (l : L) (n : NodeReplica) → IsWellFormed store_meaning l → Agrees l n → Follows l n
+follows_agreed l n well a =
     let t = a.0.tail in let low = well.completed in
     record { within = omega (arith, t, low); maps = a.0.maps; shapes = a.1.0; window = ap (λ h. h.window) a.1.1; empty = ap (λ h. h.records) a.1.1 }
-follows_in l (Log g) well a = absurd a
-follows_in l (Desk g) well a = absurd a
 
-pub log_is : (l : L) (x : Value) (v : LogValue Maps) → IsWellFormed store_meaning l → view_of x ≡ TheLog v → LogAgrees store_meaning l v → IsSized l.config l.catalogue x → LogIs l x
-log_is l (Log g) v well e a s =
-    let agrees : LogAgrees store_meaning l (log_value g.value) = subst (λ z. LogAgrees store_meaning l z) (sym (ap (log_or v) e)) a in
-    record { agrees = agrees; tail = tail_is store_meaning l (log_value g.value) well.completed agrees; sizes = s }
-log_is l (Replica n) v well e a s = absurd (subst IsLogSeen (sym e) tt)
-log_is l (Desk n) v well e a s = absurd (subst IsLogSeen (sym e) tt)
+pub log_is : (l : L) (x : Value) (v : LogValue Maps) → IsWellFormed store_meaning l → view_of x ≡ TheLog v → LogAgrees store_meaning l v → IsSized l.config l.catalogue x → (g : LogView) → log_of x ≡ Some g → IsLogOf l g
+log_is l (Log h) v well e a s g is =
+    let agrees : LogAgrees store_meaning l (log_value h.value) = subst (λ z. LogAgrees store_meaning l z) (sym (ap (log_or v) e)) a in
+    subst (IsLogOf l) (same_Some h.value g is) (record { agrees = agrees; tail = tail_is store_meaning l (log_value h.value) well.completed agrees; sizes = s })
+  where
+    log_or : LogValue Maps → StoreValue Maps → LogValue Maps
+    log_or d (TheLog x) = x
+    log_or d (TheReplica x) = d
+    log_or d (TheDesk x) = d
+log_is l (Replica n) v well e a s g is = absurd (none-some g is)
+log_is l (Desk n) v well e a s g is = absurd (none-some g is)
 
 pub well_formed : (l : L) (ns : _) → Accounts store_meaning l ns → IsWellFormed store_meaning l
 well_formed l ns a = record { allowed = a.allowed; completed = a.completed; limit = a.limit }
@@ -113,14 +86,13 @@ pub record TookReplica (p : ℕ) (k t : K) (w : Value) : Type 0 where
   pub note : t.note ≡ k.note
   pub extends : Extends k.progress t.progress
   pub holds : HoldsReplica t w
-  pub agrees : AgreesIn t.progress w
+  pub agrees : (n : NodeReplica) → replica_of w ≡ Some n → Agrees t.progress n
   pub stands : Stands t
 
 pub took_replica : (k t : K) (caller : Caller) (w : Value) → IsFree caller k → Acquired store_rules (1 + caller.node) k t w → TookReplica (1 + caller.node) k t w
 took_replica k t caller w free won =
     let taken = takes_its_replica session_laws view_of IsSized (1 + caller.node) caller.node k t w refl free.near won in
     let i = taken.0 in
-    let agrees = agrees_in t.progress w taken.1.0 taken.1.1 taken.1.2 i.sized in
     let held = i.held ∙ ap (λ z. (1 + caller.node, w) ∷ z) free.held in
     record {
       held = held;
@@ -128,8 +100,8 @@ took_replica k t caller w free won =
       session = i.session;
       note = i.note;
       extends = i.extends;
-      holds = record { node = caller.node; own = own_on k t caller.node i.session i.extends (caller.slot, free.within, free.own, free.near); held = held; replica = is_replica t.progress w agrees; sized = i.sized };
-      agrees = agrees;
+      holds = record { node = caller.node; own = own_on k t caller.node i.session i.extends (caller.slot, free.within, free.own, free.near); held = held; replica = has_replica w taken.1.0 taken.1.1; sized = i.sized };
+      agrees = agrees_in t.progress w taken.1.0 taken.1.1 taken.1.2 i.sized;
       stands = record { notes = i.notes; accounts = i.accounts; here = i.here };
     }
 
@@ -151,25 +123,21 @@ may_take_log k w h = (
     no_zero : (n : ℕ) → 1 + n ≡ 0 → ⊥
     no_zero n e = omega (arith, e)
 
--- what it is, once it has taken the log x; the replica y follows what the session knew
-pub record TookLog (k t : K) (y x : Value) : Type 0 where
+-- what it is, once it has taken the log x; the replica of n follows what the session knew
+pub record TookLog (k t : K) (n : NodeReplica) (x : Value) : Type 0 where
   pub session : t.session ≡ k.session
   pub note : t.note ≡ k.note
   pub extends : Extends k.progress t.progress
   pub held : t.held ≡ (0, x) ∷ k.held
   pub tails_read : t.tails_read ≡ k.tails_read
-  pub log : LogIs t.progress x
-  pub follows : FollowsIn t.progress y
+  pub some : IsSome (log_of x)
+  pub log : (g : LogView) → log_of x ≡ Some g → IsLogOf t.progress g
+  pub follows : Follows t.progress n
   pub stands : Stands t
   pub well : IsWellFormed store_meaning t.progress
 
-pub follows_in_on : (l m : L) (w : Value) → Extends l m → FollowsIn l w → FollowsIn m w
-follows_in_on l m (Replica n) g f = follows_on l m n.value g f
-follows_in_on l m (Log x) g f = absurd f
-follows_in_on l m (Desk x) g f = absurd f
-
-pub took_log : (k t : K) (y x : Value) → FollowsIn k.progress y → Acquired store_rules leader k t x → TookLog k t y x
-took_log k t y x follows won =
+pub took_log : (k t : K) (n : NodeReplica) (x : Value) → Follows k.progress n → Acquired store_rules leader k t x → TookLog k t n x
+took_log k t n x follows won =
     let taken = takes_log session_laws view_of IsSized k t x won in
     let i = taken.0 in
     let well = well_formed t.progress i.notes i.accounts in
@@ -179,14 +147,15 @@ took_log k t y x follows won =
       extends = i.extends;
       held = i.held;
       tails_read = i.tails_read;
+      some = has_log x taken.1.0 taken.1.1;
       log = log_is t.progress x taken.1.0 well taken.1.1 taken.1.2 i.sized;
-      follows = follows_in_on k.progress t.progress y i.extends follows;
+      follows = follows_on k.progress t.progress n i.extends follows;
       stands = record { notes = i.notes; accounts = i.accounts; here = i.here };
       well = well;
     }
 
-pub holds_log : (k t : K) (y x : Value) → TookLog k t y x → HoldsLog t
-holds_log k t y x b = (x, 0, ap (λ z. get_elem? z 0) b.held)
+pub holds_log : (k t : K) (n : NodeReplica) (x : Value) → TookLog k t n x → HoldsLog t
+holds_log k t n x b = (x, 0, ap (λ z. get_elem? z 0) b.held)
 
 -- ---- what the session was free to do it is still
 

@@ -1,7 +1,6 @@
 -- The place of its node's desk is taken, and put back after what the session did there.
-use Rattle.std.proofs.Common.{◌≡◌, ℕ, ◌<◌, List, [], ◌∷◌, length, sym, refl, ap, ◌∙◌, subst, eq-eqb, if◌then◌else◌}
+use Rattle.std.proofs.Common.{◌≡◌, ℕ, ◌<◌, List, [], ◌∷◌, length, sym, refl, ap, ◌∙◌, subst, Some, eq-eqb, if◌then◌else◌}
 use lib.ListN.{get_elem?}
-use Rattle.maps.specs.Maps.{Maps}
 use Rattle.ownlock.specs.Seats.{At, without}
 use Rattle.ownlock.specs.Knowledge.{Acquired, MayPut, MayTake, Possible}
 use Rattle.loader.specs.CatalogueView.{CatalogueView}
@@ -11,7 +10,10 @@ use Rattle.combiner.specs.Desks.{DeskView}
 use Rattle.replica.specs.StoreMeaning.{store_meaning}
 use Rattle.progress.specs.declared.sessions.Progress.{Progress}
 use Rattle.progress.specs.declared.sessions.SessionNote.{SessionNote}
-use Rattle.progress.specs.Values.{StoreValue, TheLog, TheReplica, TheDesk}
+use Rattle.progress.specs.Values.{TheDesk}
+use Rattle.store.proofs.Parts.{IsDeskSeen, desk_or, has_desk}
+use Rattle.std.specs.Prelude.{IsSome, is_some}
+use Rattle.std.proofs.lemmas.Option.{same_Some}
 use Rattle.progress.specs.Accounts.{Extends}
 use Rattle.progress.specs.Agreement.{desk_place}
 use Rattle.progress.specs.DeskNotes.{DeskDeed, desk_note, desk_noting}
@@ -25,7 +27,7 @@ use Rattle.store.specs.declared.steps.Caller.{Caller}
 use Rattle.store.specs.declared.values.Value.{Value}
 use Rattle.store.specs.declared.values.Value.TheVariants.{Log, Replica, Desk}
 use Rattle.store.specs.AtDesk.{IsAt, Steps}
-use Rattle.store.specs.Combining.{IsAtIn}
+use Rattle.store.specs.Lending.{desk_of}
 use Rattle.store.specs.Shelving.{IsSized, session_noting, store_rules, view_of}
 use Rattle.store.specs.Standing.{IsFree, SessionKnown, Stands}
 use Rattle.store.proofs.StoreLaws.{session_laws, session_notes, store_laws}
@@ -35,16 +37,6 @@ K = SessionKnown
 
 abbrev L : Type 0
 L = Progress CatalogueView
-
-abbrev IsDeskSeen : StoreValue Maps → Type 0
-IsDeskSeen (TheDesk x) = Unit {0}
-IsDeskSeen (TheLog x) = ⊥
-IsDeskSeen (TheReplica x) = ⊥
-
-abbrev pub desk_or : DeskView → StoreValue Maps → DeskView
-desk_or d (TheDesk x) = x
-desk_or d (TheLog x) = d
-desk_or d (TheReplica x) = d
 
 -- ---- taken
 
@@ -84,13 +76,15 @@ took_desk k t caller p v free is won =
       };
     }
 
-at_in : (slot : ℕ) (t : K) (v : Value) (x : DeskView) → view_of v ≡ TheDesk x → IsAt slot t x → IsAtIn slot t v
-at_in slot t (Desk d) x e h = subst (λ z. IsAt slot t z) (sym (ap (desk_or x) e)) h
-at_in slot t (Log g) x e h = absurd (subst IsDeskSeen (sym e) tt)
-at_in slot t (Replica n) x e h = absurd (subst IsDeskSeen (sym e) tt)
+-- the desk that was taken is the one that is lent
+pub same_desk : (caller : Caller) (k t : K) (p : ℕ) (v : Value) (b : TookDesk caller k t p v) (x : DeskView) → desk_of v ≡ Some x → b.desk ≡ x
+same_desk caller k t p v b x e = same_Some b.desk x (sym (has_desk v b.desk b.seen) ∙ e)
 
-pub is_at_in : (caller : Caller) (k t : K) (p : ℕ) (v : Value) → TookDesk caller k t p v → IsAtIn caller.slot t v
-is_at_in caller k t p v b = at_in caller.slot t v b.desk b.seen b.here
+pub is_at : (caller : Caller) (k t : K) (p : ℕ) (v : Value) → TookDesk caller k t p v → (x : DeskView) → desk_of v ≡ Some x → IsAt caller.slot t x
+is_at caller k t p v b x e = subst (IsAt caller.slot t) (same_desk caller k t p v b x e) b.here
+
+pub is_desk : (caller : Caller) (k t : K) (p : ℕ) (v : Value) → TookDesk caller k t p v → IsSome (desk_of v)
+is_desk caller k t p v b = ap is_some (has_desk v b.desk b.seen)
 
 -- ---- put back
 
@@ -126,6 +120,11 @@ desk_back deed sessions t p w l = record {
   tails_read = t.tails_read;
 }
 
+-- the desk may be put back at the place q, and what the session is then
+pub record PutsDesk (k t : K) (sessions : List K) (deed : DeskDeed) (w : Value) (n : SessionNote) (q : ℕ) : Type 0 where
+  pub may : DeskMayBePut deed sessions t q w
+  pub back : (l : L) (ns : List SessionNote) → Possible store_rules t l ns → BackDesk k (desk_back deed sessions t q w l) n
+
 module _ (caller : Caller) (k t : K) (p : ℕ) (v : Value) (b : TookDesk caller k t p v) (sessions : List K) (is : sessions ≡ t ∷ []) where
   at_desk : At 0 (p, v) t.held
   at_desk = ap (λ z. get_elem? z 0) b.held
@@ -151,6 +150,9 @@ module _ (caller : Caller) (k t : K) (p : ℕ) (v : Value) (b : TookDesk caller 
           extends = store_laws.extends_on k.progress t.progress _ b.extends a.extends;
           stands = record { notes = a.notes; accounts = a.accounts; here = a.here };
         }
+
+    pub puts_desk : (q : ℕ) → q ≡ p → PutsDesk k t sessions deed w n q
+    puts_desk q at = subst (PutsDesk k t sessions deed w n) (sym at) (record { may = may_put_desk; back = back_desk })
 
   -- as it was
   module _ (w : Value) (same : view_of w ≡ view_of v) where

@@ -34,16 +34,15 @@ use Rattle.store.specs.declared.desks.Turn.{Turn}
 use Rattle.store.specs.declared.desks.Turn.TheVariants.{Collects, Combines, Waits}
 use Rattle.store.specs.declared.steps.Caller.{Caller}
 use Rattle.store.specs.declared.values.Value.{Value}
-use Rattle.store.specs.declared.values.Value.TheVariants.{Log, Replica, Desk}
 use Rattle.store.specs.AtDesk.{HasAsked, IsTurn, Steps}
-use Rattle.store.specs.Requests.{HasLooked, HasPosted, HasPostedIn, HasTurned, IsBack, Turns}
+use Rattle.store.specs.Requests.{HasPosted, HasTurned, IsBack, Turns}
 use Rattle.store.specs.Sessions.{request_of}
 use Rattle.store.specs.Shelving.{IsSized, store_rules, view_of}
 use Rattle.store.specs.Standing.{SessionKnown}
 use Rattle.store.proofs.AtDesk.{Own, own, post_steps, turn_steps}
 use Rattle.store.proofs.Resumed.{asked_by}
 use Rattle.store.proofs.Requested.{some_claimed, tells_on}
-use Rattle.store.proofs.TakenDesk.{BackDesk, DeskMayBePut, TookDesk, back_desk, back_same_desk, desk_back, desk_or, may_put_desk, may_put_same_desk}
+use Rattle.store.proofs.TakenDesk.{BackDesk, DeskMayBePut, PutsDesk, TookDesk, back_desk, back_same_desk, desk_back, may_put_desk, may_put_same_desk, puts_desk}
 
 abbrev K : Type 0
 K = SessionKnown
@@ -51,50 +50,27 @@ K = SessionKnown
 abbrev L : Type 0
 L = Progress CatalogueView
 
--- ---- the desk as it is seen then
-
-pub seen_posted : (slot : ℕ) (op : Operation) (v w : Value) (x : DeskView) → HasPostedIn slot op v w → view_of v ≡ TheDesk x → (y : DeskView) × (view_of w ≡ TheDesk y) × (posted slot op x ≡ Some y)
-seen_posted slot op (Desk d) (Desk e) x h is = (e.value, refl, ap (λ z. posted slot op (desk_or x z)) (sym is) ∙ h)
-seen_posted slot op (Desk d) (Log e) x h is = absurd h
-seen_posted slot op (Desk d) (Replica e) x h is = absurd h
-seen_posted slot op (Log d) w x h is = absurd h
-seen_posted slot op (Replica d) w x h is = absurd h
-
-pub seen_turn : (slot : ℕ) (v w : Value) (x : DeskView) (batch : BatchView) (turn : Turn) → HasLooked slot v w batch turn → view_of v ≡ TheDesk x → (y : DeskView) × (view_of w ≡ TheDesk y) × IsTurn slot x y batch turn
-seen_turn slot (Desk d) (Desk e) x batch turn h is = (e.value, refl, subst (λ z. IsTurn slot z e.value batch turn) (ap (desk_or x) is) h)
-seen_turn slot (Desk d) (Log e) x batch turn h is = absurd h
-seen_turn slot (Desk d) (Replica e) x batch turn h is = absurd h
-seen_turn slot (Log d) w x batch turn h is = absurd h
-seen_turn slot (Replica d) w x batch turn h is = absurd h
-
 pub is_back : (k f : K) (n : SessionNote) → BackDesk k f n → IsBack k f
 is_back k f n b = record { session = b.session; held = b.held; extends = b.extends; stands = b.stands }
 
 -- ---- a post
 
-module _ (caller : Caller) (k t : K) (p : ℕ) (v w : Value) (op : Operation) (b : TookDesk caller k t p v) (h : HasPostedIn caller.slot op v w) (sessions : List K) (is : sessions ≡ t ∷ []) (may : IsAllowed store_meaning k.progress.catalogue op) where
+-- the desk is put back as w, whose desk is y
+module _ (caller : Caller) (k t : K) (p : ℕ) (v : Value) (op : Operation) (b : TookDesk caller k t p v) (w : Value) (y : DeskView) (isw : view_of w ≡ TheDesk y) (h : posted caller.slot op b.desk ≡ Some y) (sessions : List K) (is : sessions ≡ t ∷ []) (may : IsAllowed store_meaning k.progress.catalogue op) where
   abbrev request : Pending
   request = request_of t.progress op
 
   abbrev waiting : SessionNote
   waiting = record t.note { pending = Some request }
 
-  s : (y : DeskView) × (view_of w ≡ TheDesk y) × (posted caller.slot op b.desk ≡ Some y)
-  s = seen_posted caller.slot op v w b.desk h b.seen
+  step : Steps t b.desk waiting y
+  step = post_steps caller.slot t b.desk y op h b.here (subst (λ c. IsAllowed store_meaning c op) b.extends.catalogue may)
 
-  step : Steps t b.desk waiting s.0
-  step = post_steps caller.slot t b.desk s.0 op s.2 b.here (subst (λ c. IsAllowed store_meaning c op) b.extends.catalogue may)
+  pub puts_posted : (q : ℕ) → q ≡ p → PutsDesk k t sessions PostedThere w waiting q
+  puts_posted = puts_desk caller k t p v b sessions is PostedThere w y waiting isw step (post_noted view_of t caller.slot op b.desk y t.note b.here.own h)
 
-  noted : desk_note view_of PostedThere t s.0 t.note ≡ waiting
-  noted = post_noted view_of t caller.slot op b.desk s.0 t.note b.here.own s.2
-
-  pub may_put_posted : DeskMayBePut PostedThere sessions t p w
-  may_put_posted = may_put_desk caller k t p v b sessions is PostedThere w s.0 waiting s.1 step noted
-
-  pub has_posted : (l : L) (ns : List SessionNote) → Possible store_rules t l ns → HasPosted k (desk_back PostedThere sessions t p w l) op
-  has_posted l ns can =
-      let f = back_desk caller k t p v b sessions is PostedThere w s.0 waiting s.1 step noted l ns can in
-      record { back = is_back k _ waiting f; request = request; op_is = refl; seen = grown_long store_meaning k.progress t.progress b.extends; note = f.note ∙ ap (λ (n : SessionNote). record n { pending = Some request }) b.note }
+  pub has_posted : (f : K) → BackDesk k f waiting → HasPosted k f op
+  has_posted f back = record { back = is_back k f waiting back; request = request; op_is = refl; seen = grown_long store_meaning k.progress t.progress b.extends; note = back.note ∙ ap (λ (n : SessionNote). record n { pending = Some request }) b.note }
 
 -- ---- a turn
 
@@ -185,33 +161,30 @@ module _ (caller : Caller) (k t : K) (p : ℕ) (v w : Value) (o : Pending) (b : 
         (record { back = is_back k _ n f; turns = tells _ f.note (subst (λ z. Extends t.progress z) (sym same) can.0.0) (is_back k _ n f) });
   }
 
-  pub put_turn : (batch : BatchView) (turn : Turn) → HasLooked caller.slot v w batch turn → Put batch turn
-  put_turn batch turn looked = by turn s.2
+  pub put_turn : (y : DeskView) → view_of w ≡ TheDesk y → (batch : BatchView) (turn : Turn) → IsTurn caller.slot b.desk y batch turn → Put batch turn
+  put_turn y isw batch = by
     where
-      s : (y : DeskView) × (view_of w ≡ TheDesk y) × IsTurn caller.slot b.desk y batch turn
-      s = seen_turn caller.slot v w b.desk batch turn looked b.seen
-
-      by : (turn : Turn) → IsTurn caller.slot b.desk s.0 batch turn → Put batch turn
+      by : (turn : Turn) → IsTurn caller.slot b.desk y batch turn → Put batch turn
       by (Collects reply) i =
-          let steps = turn_steps caller.slot t o b.desk s.0 batch (Collects reply) i b.here asked_then in
-          noted_put batch (Collects reply) CollectedThere s.0 (answered_with t.note o.op reply) s.1 steps.0 (collect_noted view_of t p caller.slot v o reply b.desk s.0 t.note b.held b.seen b.here.own asked_then.pending i) (collect_deed s.0 s.1 reply i)
+          let steps = turn_steps caller.slot t o b.desk y batch (Collects reply) i b.here asked_then in
+          noted_put batch (Collects reply) CollectedThere y (answered_with t.note o.op reply) isw steps.0 (collect_noted view_of t p caller.slot v o reply b.desk y t.note b.held b.seen b.here.own asked_then.pending i) (collect_deed y isw reply i)
           (λ f note on back. (
             note ∙ ap (λ (n : SessionNote). answered_with n o.op reply) b.note,
             subst (λ (z : ℕ × SessionNote). Tells store_meaning f.progress z.0 (length z.1.answered) o reply) (λ j. (b.session j, b.note j))
                 (tells_on t.progress f.progress back.stands.notes t.session (length t.note.answered) o reply b.here.accounts.completed on back.stands.accounts steps.1),
           ))
       by Combines i =
-          let steps = turn_steps caller.slot t o b.desk s.0 batch Combines i b.here asked_then in
+          let steps = turn_steps caller.slot t o b.desk y batch Combines i b.here asked_then in
           let same : unplaced (batch_of b.desk).records ≡ unplaced batch.records = ap (λ (z : BatchView). unplaced z.records) (sym i.4) in
-          noted_put batch Combines ClaimedThere s.0 (record t.note { batch = unplaced batch.records }) s.1 steps.0 (claim_noted view_of t p v b.desk s.0 t.note b.held b.seen ∙ ap (λ z. record t.note { batch = z }) same) (claim_deed s.0 s.1 i.0 i.1 i.3)
+          noted_put batch Combines ClaimedThere y (record t.note { batch = unplaced batch.records }) isw steps.0 (claim_noted view_of t p v b.desk y t.note b.held b.seen ∙ ap (λ z. record t.note { batch = z }) same) (claim_deed y isw i.0 i.1 i.3)
           (λ f note on back. (
             note ∙ ap (λ (n : SessionNote). record n { batch = unplaced batch.records }) b.note,
             subst (λ (z : BatchView). 0 < length z.records) (sym i.4) (some_claimed b.desk i.2),
             steps.1,
           ))
       by Waits i =
-          let same : view_of w ≡ view_of v = s.1 ∙ (ap TheDesk i.1 ∙ sym b.seen) in
-          let deed = look_deed s.0 s.1 i.0 i.1 in record {
+          let same : view_of w ≡ view_of v = isw ∙ (ap TheDesk i.1 ∙ sym b.seen) in
+          let deed = look_deed y isw i.0 i.1 in record {
             may = subst (λ d. DeskMayBePut d sessions t p w) (sym deed) (may_put_same_desk caller k t p v b sessions is w same);
             back = λ l ns can.
                 let f = back_same_desk caller k t p v b sessions is w same l ns can in

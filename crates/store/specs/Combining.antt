@@ -1,12 +1,9 @@
 -- What a session has that combines the requests of its node, and what it leaves.
-use Rattle.std.specs.Prelude.{◌≡◌, ℕ, ◌<◌, [], length}
-use Rattle.combiner.specs.Desks.{BatchView, replied}
+use Rattle.std.specs.Prelude.{◌≡◌, ◌<◌, [], length}
+use Rattle.combiner.specs.Desks.{BatchView}
 use Rattle.progress.specs.Accounts.{Extends}
 use Rattle.progress.specs.Batches.{Ascend}
 use Rattle.progress.specs.Moves.{unplaced}
-use Rattle.store.specs.declared.values.Value.{Value}
-use Rattle.store.specs.declared.values.Value.TheVariants.{Log, Replica, Desk}
-use Rattle.store.specs.AtDesk.{IsAt}
 use Rattle.store.specs.Standing.{SessionKnown, Stands}
 
 -- the session combines the requests of this batch, by ascending authors, none of which has a place
@@ -22,16 +19,3 @@ pub record HasCombined (k after : SessionKnown) : Type 0 where
   pub note : after.note ≡ record k.note { batch = [] }
   pub extends : Extends k.progress after.progress
   pub stands : Stands after
-
--- ---- a desk that is held
-
--- the value is a desk that has the session's slot
-abbrev pub IsAtIn : ℕ → SessionKnown → Value → Type 0
-IsAtIn slot k (Log g) = ⊥
-IsAtIn slot k (Replica n) = ⊥
-IsAtIn slot k (Desk d) = IsAt slot k d.value
-
--- the desk with the answers of the batch
-abbrev pub HasReplied : BatchView → Value → Value → Type 0
-HasReplied b (Desk d) (Desk e) = e.value ≡ replied b d.value
-HasReplied b _ _ = ⊥

@@ -7,7 +7,7 @@ pub mod AtDesk
 pub mod Shelving
 pub mod Standing
 -- What the store's inner functions speak of.
-pub mod Held
+pub mod Lending
 pub mod Places
 pub mod Combining
 pub mod Requests

@@ -1,7 +1,7 @@
 -- What a session does at its desk with a request of its own, from its post to its answer.
-use Rattle.std.specs.Prelude.{◌≡◌, ℕ, ◌<◌, ◌≤◌, [], length, Some, Result, Ok, Err}
+use Rattle.std.specs.Prelude.{◌≡◌, ◌<◌, ◌≤◌, [], length, Some, Result, Ok, Err}
 use Rattle.oplog.specs.Operations.{Operation}
-use Rattle.combiner.specs.Desks.{BatchView, posted}
+use Rattle.combiner.specs.Desks.{BatchView}
 use Rattle.combiner.specs.declared.slots.Reply.{Reply}
 use Rattle.combiner.specs.declared.slots.Reply.TheVariants.{Placed, Ended}
 use Rattle.replica.specs.StoreMeaning.{store_meaning}
@@ -15,22 +15,7 @@ use Rattle.replica.specs.declared.refusals.StoreRefused.{StoreRefused}
 use Rattle.replica.specs.declared.refusals.StoreRefused.TheVariants.{Ended as TheEnd}
 use Rattle.store.specs.declared.desks.Turn.{Turn}
 use Rattle.store.specs.declared.desks.Turn.TheVariants.{Collects, Combines, Waits}
-use Rattle.store.specs.declared.values.Value.{Value}
-use Rattle.store.specs.declared.values.Value.TheVariants.{Desk}
-use Rattle.store.specs.AtDesk.{IsTurn}
 use Rattle.store.specs.Standing.{SessionKnown, Stands}
-
--- ---- a desk that is held
-
--- the desk with the operation in that slot
-abbrev pub HasPostedIn : ℕ → Operation → Value → Value → Type 0
-HasPostedIn slot op (Desk d) (Desk e) = posted slot op d.value ≡ Some e.value
-HasPostedIn slot op _ _ = ⊥
-
--- the desk and the batch after the session's turn there
-abbrev pub HasLooked : ℕ → Value → Value → BatchView → Turn → Type 0
-HasLooked slot (Desk d) (Desk e) batch turn = IsTurn slot d.value e.value batch turn
-HasLooked slot _ _ batch turn = ⊥
 
 -- ---- what its calls leave
 

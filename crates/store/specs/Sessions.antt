@@ -1,5 +1,5 @@
 -- A session and a store as their users see them, and what a call answers.
-use Rattle.std.specs.Prelude.{◌≡◌, ℕ, zero, suc, ◌≤◌, List, [], ◌∷◌, ◌++◌, length, None, Result, MatchResult}
+use Rattle.std.specs.Prelude.{◌≡◌, ℕ, zero, suc, ◌≤◌, List, [], ◌∷◌, ◌++◌, length, Some, None, option_map, Result, MatchResult}
 use Rattle.ownlock.specs.Seats.{IsSession, SeatView, ShelfId}
 use Rattle.loader.specs.CatalogueView.{CatalogueView}
 use Rattle.oplog.specs.declared.configuration.Config.{Config}
@@ -17,6 +17,7 @@ use Rattle.store.specs.declared.answers.Answer.{Answer}
 use Rattle.replica.specs.declared.refusals.StoreRefused.{StoreRefused}
 use Rattle.replica.specs.declared.refusals.StoreRefused.TheVariants.{Ended as TheEnd}
 use Rattle.store.specs.declared.steps.Caller.{Caller}
+use Rattle.node.specs.declared.following.NodeReplica.{NodeReplica}
 use Rattle.store.specs.declared.values.Value.{Value}
 use Rattle.store.specs.Standing.{SessionKnown, IsFree}
 
@@ -82,6 +83,10 @@ pub record IsIdle (s : SeatView (Progress CatalogueView) SessionNote Value) (cal
 -- the operation as a request of this session
 abbrev pub request_of : Progress CatalogueView → Operation → Pending
 request_of known op = record { op = op; seen = length known.history }
+
+-- the operation replies this on the node's maps
+abbrev pub RepliesThere : CatalogueView → Operation → NodeReplica → ℕ → Type 0
+RepliesThere c op n reply = option_map (λ e. e.reply) (store_meaning.read c op n.replica.maps) ≡ Some reply
 
 -- a session's read: within it the completed tail was read, and the answer's point is not below what it was
 pub record IsReadBy (k after : SessionKnown) (op : Operation) (answer : ReadAnswer) : Type 0 where

@@ -43,10 +43,14 @@ HasLogSizes config c g = (g.window ≡ config.window) × (g.limit ≡ config.lim
 abbrev pub resting_hand : Config → ℕ → HandView
 resting_hand config tail = record { begin = tail; records = []; window = config.window }
 
+-- the replica has the shapes of the catalogue, and its hand, of the configuration's window, is empty
+abbrev pub HasReplicaSizes : Config → CatalogueView → NodeReplica → Type 0
+HasReplicaSizes config c n = (shapes_of n.replica.maps ≡ c.shapes) × (n.hand ≡ resting_hand config n.replica.tail)
+
 -- the sizes of a value are those of the configuration and the catalogue, and a hand on the shelf is empty
 abbrev pub IsSized : Config → CatalogueView → Value → Type 0
 IsSized config c (Log g) = HasLogSizes config c g.value
-IsSized config c (Replica n) = (shapes_of n.value.replica.maps ≡ c.shapes) × (n.value.hand ≡ resting_hand config n.value.replica.tail)
+IsSized config c (Replica n) = HasReplicaSizes config c n.value
 IsSized config c (Desk d) = length d.value.slots ≡ config.slots
 
 -- what sessions may do that share the desks of their nodes, and what they note but at their desk: of what they append from their batch

@@ -1,5 +1,5 @@
 -- What a session knows, and what its calls on the shelf make of that.
-use Rattle.std.specs.Prelude.{◌≡◌, ℕ, ◌+◌, ◌<◌, ◌≤◌, min, List, [], ◌∷◌, length, drop, Some, slice_get}
+use Rattle.std.specs.Prelude.{◌≡◌, ℕ, ◌+◌, ◌<◌, ◌≤◌, min, List, [], ◌∷◌, length, drop, Some, IsSome, slice_get}
 use Rattle.maps.specs.Maps.{shapes_of}
 use Rattle.ownlock.specs.declared.known.Known.{Known}
 use Rattle.ownlock.specs.Rules.{leader}
@@ -22,9 +22,8 @@ use Rattle.progress.specs.Moves.{placed_from, unplaced}
 use Rattle.store.specs.declared.steps.Caller.{Caller}
 use Rattle.node.specs.declared.following.NodeReplica.{NodeReplica}
 use Rattle.store.specs.declared.values.Value.{Value}
-use Rattle.store.specs.declared.values.Value.TheVariants.{Log, Replica, Desk}
-use Rattle.store.specs.Shelving.{IsSized, HasLogSizes, log_value, replica_value}
-use Rattle.store.specs.Held.{IsReplica, tail_in}
+use Rattle.store.specs.Lending.{replica_of}
+use Rattle.store.specs.Shelving.{IsSized, HasLogSizes, HasReplicaSizes, log_value, replica_value}
 
 -- what a session of a store knows
 abbrev pub SessionKnown : Type 0
@@ -36,13 +35,11 @@ pub record Stands (k : SessionKnown) : Type 0 where
   pub accounts : Accounts store_meaning k.progress notes
   pub here : At k.session k.note notes
 
--- ---- the values that it holds
+-- ---- the parts that are lent to it
 
--- the value is a replica that agrees with the progress
-abbrev pub AgreesIn : Progress CatalogueView → Value → Type 0
-AgreesIn l (Log g) = ⊥
-AgreesIn l (Desk g) = ⊥
-AgreesIn l (Replica n) = ReplicaAgrees store_meaning l (replica_value n.value.replica) × IsSized l.config l.catalogue (Replica n)
+-- the replica agrees with the progress, and its hand is empty
+abbrev pub Agrees : Progress CatalogueView → NodeReplica → Type 0
+Agrees l n = ReplicaAgrees store_meaning l (replica_value n.replica) × HasReplicaSizes l.config l.catalogue n
 
 -- the replica has the maps after a beginning of the history, completed or not, and its hand is empty
 pub record Follows (l : Progress CatalogueView) (n : NodeReplica) : Type 0 where
@@ -52,11 +49,6 @@ pub record Follows (l : Progress CatalogueView) (n : NodeReplica) : Type 0 where
   pub window : n.hand.window ≡ l.config.window
   pub empty : n.hand.records ≡ []
 
-abbrev pub FollowsIn : Progress CatalogueView → Value → Type 0
-FollowsIn l (Log g) = ⊥
-FollowsIn l (Desk g) = ⊥
-FollowsIn l (Replica n) = Follows l n.value
-
 -- the replica has the maps after a beginning of the history, and its hand has all other records
 pub record HasOthers (l : Progress CatalogueView) (n : NodeReplica) : Type 0 where
   pub within : n.replica.tail ≤ length l.history
@@ -65,21 +57,11 @@ pub record HasOthers (l : Progress CatalogueView) (n : NodeReplica) : Type 0 whe
   pub few : length l.history ≤ MAX_LIMIT
   pub hand : n.hand ≡ record { begin = n.replica.tail; records = drop n.replica.tail l.history; window = l.config.window }
 
-abbrev pub HasRest : Progress CatalogueView → Value → Type 0
-HasRest l (Log g) = ⊥
-HasRest l (Desk g) = ⊥
-HasRest l (Replica n) = HasOthers l n.value
-
 -- the log is that of the progress, and ends where the history ends
 pub record IsLogOf (l : Progress CatalogueView) (g : LogView) : Type 0 where
   pub agrees : LogAgrees store_meaning l (log_value g)
   pub tail : tail_of g ≡ length l.history
   pub sizes : HasLogSizes l.config l.catalogue g
-
-abbrev pub LogIs : Progress CatalogueView → Value → Type 0
-LogIs l (Log g) = IsLogOf l g.value
-LogIs l (Replica n) = ⊥
-LogIs l (Desk n) = ⊥
 
 -- ---- which values it holds
 
@@ -88,7 +70,7 @@ pub record HoldsReplica (k : SessionKnown) (w : Value) : Type 0 where
   pub node : ℕ
   pub own : IsSessionOf k.progress.config node k.session
   pub held : k.held ≡ (replica_place k.progress.config node, w) ∷ []
-  pub replica : IsReplica w
+  pub replica : IsSome (replica_of w)
   pub sized : IsSized k.progress.config k.progress.catalogue w
 
 -- the session holds the log
@@ -146,19 +128,15 @@ pub record HasPlace (k after : SessionKnown) (want : ℕ) (g h : LogView) (n : N
   pub above : h.base ≤ n.replica.tail
   pub room : min want (left_of h) ≤ room_in h
 
-abbrev pub HasRoom : SessionKnown → SessionKnown → ℕ → Value → Value → Value → Type 0
-HasRoom k after want (Log g) (Log h) (Replica n) = HasPlace k after want g.value h.value n.value
-HasRoom k after want _ _ _ = ⊥
-
 -- the log was taken and put back with the first of these records, all of them where the history may have so many, whose places the
--- session notes and for which outcomes are to be kept; the hand of v has what its replica has still to apply
-pub record HasAppended (k after : SessionKnown) (records : History) (kept : RepliesView) (v : Value) : Type 0 where
+-- session notes and for which outcomes are to be kept; the hand of n has what its replica has still to apply
+pub record HasAppended (k after : SessionKnown) (records : History) (kept : RepliesView) (n : NodeReplica) : Type 0 where
   pub goes : GoesOn k after
   pub stands : Stands after
-  pub rest : HasRest after.progress v
+  pub rest : HasOthers after.progress n
   pub count : length kept.outcomes ≤ length records
   pub within : kept.first + length kept.outcomes ≤ MAX_LIMIT
-  pub above : tail_in v ≤ kept.first
+  pub above : n.replica.tail ≤ kept.first
   pub note : after.note ≡ record k.note { batch = placed_from kept.first (length kept.outcomes) (unplaced records) }
   pub placed : (j : ℕ) (r : Record) → j < length kept.outcomes → At j r records → At (kept.first + j) r after.progress.history
   pub ended : length kept.outcomes < length records → after.progress.config.limit ≤ length after.progress.history
@@ -169,21 +147,21 @@ KeepsOutcomesOf l t old new =
     (k i : ℕ) (r : Record) → k < length old.outcomes → t ≤ i → At i r l.history → old.first + k ≡ i
     → (o : Outcome) × (slice_get new.outcomes k ≡ Some (Some o)) × IsAnswered l.catalogue r.op (maps_after store_meaning l.catalogue l.history i) o
 
--- the replica was brought up to the whole history that the session k knew, and all that is completed
-pub record HasCaughtUp (k after : SessionKnown) (v w : Value) (old new : RepliesView) : Type 0 where
+-- the replica has applied the whole history that the session k knew, and all of that is completed
+pub record HasReplayed (k after : SessionKnown) (n m : NodeReplica) (old new : RepliesView) : Type 0 where
   pub goes : GoesOn k after
   pub note : after.note ≡ k.note
   pub completed : length k.progress.history ≤ after.progress.completed
-  pub agrees : AgreesIn after.progress w
-  pub within : tail_in w ≤ length after.progress.history
+  pub agrees : Agrees after.progress m
+  pub within : m.replica.tail ≤ length after.progress.history
   pub first : new.first ≡ old.first
   pub count : length new.outcomes ≡ length old.outcomes
-  pub replies : KeepsOutcomesOf k.progress (tail_in v) old new
+  pub replies : KeepsOutcomesOf k.progress n.replica.tail old new
 
--- the replica was brought up to at least that tail
-pub record IsBroughtUp (k after : SessionKnown) (done : ℕ) (w : Value) : Type 0 where
+-- the replica has reached at least that tail
+pub record HasReached (k after : SessionKnown) (done : ℕ) (n : NodeReplica) : Type 0 where
   pub goes : GoesOn k after
   pub note : after.note ≡ k.note
-  pub agrees : AgreesIn after.progress w
-  pub within : tail_in w ≤ length after.progress.history
-  pub reached : done ≤ tail_in w
+  pub agrees : Agrees after.progress n
+  pub within : n.replica.tail ≤ length after.progress.history
+  pub reached : done ≤ n.replica.tail

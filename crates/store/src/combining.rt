@@ -6,8 +6,8 @@ ghost use Rattle.store.specs.AtDesk.{IsReady};
 ghost use Rattle.store.specs.Combining.{HasClaimed, HasCombined};
 ghost use Rattle.store.specs.Standing.{SessionKnown, Stands, IsFree, IsOnShelf};
 
-use crate::held::reply_in;
-use crate::steps::{Caller, Shared, append_and_copy, catch_up};
+use crate::desks;
+use crate::steps::{Caller, Shared, append_and_copy, replay_and_raise};
 use crate::values::Value;
 use combiner::Batch;
 use ownlock::Seat;
@@ -35,10 +35,11 @@ pub(crate) fn combine<R: Wait>(
         catalogue,
         nodes: _,
     } = shared;
-    let mut node = shelf.take(rt, seat, 1 + caller.node);
-    let mut replies = append_and_copy(rt, shared, seat, &mut node.value, batch.records());
-    catch_up(shelf, seat, &mut node.value, catalogue, &mut replies);
-    shelf.put::<Brand>(seat, node);
+    let mut held = shelf.take(rt, seat, 1 + caller.node);
+    let node = held.value.replica_mut();
+    let mut replies = append_and_copy(rt, shared, seat, node, batch.records());
+    replay_and_raise(shelf, seat, node, catalogue, &mut replies);
+    shelf.put::<Brand>(seat, held);
     hand_over(rt, shared, seat, caller, batch, &replies);
 }
 
@@ -58,7 +59,7 @@ fn hand_over<R: Wait>(
     ensures same { seat.new.shelf ≡ seat.old.shelf }
     ensures combined { (k : SessionKnown) → IsSession seat.old k → (after : SessionKnown) × IsSession seat.new after × HasCombined k after }
 {
-    let mut desk = shared.shelf.take(rt, seat, 1 + shared.nodes + caller.node);
-    reply_in(&mut desk.value, batch, replies);
-    shared.shelf.put::<Brand>(seat, desk);
+    let mut held = shared.shelf.take(rt, seat, 1 + shared.nodes + caller.node);
+    desks::reply(held.value.desk_mut(), batch, replies);
+    shared.shelf.put::<Brand>(seat, held);
 }

@@ -6,7 +6,6 @@ mod answers;
 mod closed;
 mod combining;
 pub mod desks;
-mod held;
 mod opening;
 mod requests;
 mod session;

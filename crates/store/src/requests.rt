@@ -4,13 +4,11 @@ ghost use Rattle.std.specs.Prelude.{◌≡◌, None, Some, true, Err, IsOk};
 ghost use Rattle.verifier.specs.declared.refusal.Mode.TheVariants.{Update};
 ghost use Rattle.ownlock.specs.Seats.{IsSession};
 ghost use Rattle.progress.specs.declared.sessions.Pending.{Pending};
-ghost use Rattle.replica.specs.StoreMeaning.{is_operation, store_meaning};
-ghost use Rattle.progress.specs.Accounts.{IsAllowed};
+ghost use Rattle.replica.specs.StoreMeaning.{is_operation};
 ghost use Rattle.replica.specs.declared.refusals.StoreRefused.{StoreRefused as TheRefusal};
 ghost use Rattle.store.specs.AtDesk.{HasAsked};
-ghost use Rattle.store.specs.Combining.{IsAtIn};
 ghost use Rattle.replica.specs.Refusals.{early_refusal};
-ghost use Rattle.store.specs.Requests.{HasPostedIn, HasLooked, HasPosted, HasTurned, HasCompleted};
+ghost use Rattle.store.specs.Requests.{HasPosted, HasTurned, HasCompleted};
 ghost use Rattle.store.specs.Standing.{SessionKnown, IsFree, IsOnShelf};
 
 use crate::combining::combine;
@@ -27,28 +25,6 @@ use std::marker::Brand;
 use std::sync::Wait;
 use verifier::Mode;
 
-// Posts the operation in a slot of the desk.
-fn post_in(desk: &mut Value, slot: usize, op: Op)
-    requires own { (k : SessionKnown) × IsAtIn slot k desk.old × (k.note.pending ≡ None) × IsAllowed store_meaning k.progress.catalogue op }
-    ensures posted { HasPostedIn slot op desk.old desk.new }
-{
-    match desk {
-        Value::Desk(desk) => desks::post(desk, slot, op),
-        Value::Log(_) | Value::Replica(_) => unreachable!(),
-    }
-}
-
-// The turn of the session of that slot at the desk, with a batch for what it claims.
-fn look_in(desk: &mut Value, slot: usize, batch: &mut Batch) -> Turn
-    requires own { (k : SessionKnown) × (o : Pending) × IsAtIn slot k desk.old × HasAsked k o }
-    ensures looked { HasLooked slot desk.old desk.new batch.new result }
-{
-    match desk {
-        Value::Desk(desk) => desks::look(desk, slot, batch),
-        Value::Log(_) | Value::Replica(_) => unreachable!(),
-    }
-}
-
 // Posts an operation at the desk of the caller's node.
 fn post<R: Wait>(rt: &R, shared: Shared<'_>, seat: &mut Seat<Value>, caller: Caller, op: Op)
     requires own { seat.old.shelf ≡ shared.shelf.now.id }
@@ -58,9 +34,9 @@ fn post<R: Wait>(rt: &R, shared: Shared<'_>, seat: &mut Seat<Value>, caller: Cal
     ensures same { seat.new.shelf ≡ seat.old.shelf }
     ensures posted { (k : SessionKnown) → IsSession seat.old k → (after : SessionKnown) × IsSession seat.new after × HasPosted k after op }
 {
-    let mut desk = shared.shelf.take(rt, seat, 1 + shared.nodes + caller.node);
-    post_in(&mut desk.value, caller.slot, op);
-    shared.shelf.put::<Brand>(seat, desk);
+    let mut held = shared.shelf.take(rt, seat, 1 + shared.nodes + caller.node);
+    desks::post(held.value.desk_mut(), caller.slot, op);
+    shared.shelf.put::<Brand>(seat, held);
 }
 
 // Posts an update at the desk of the caller's node, unless it is refused: S1 to S3. It goes on with `complete`.
@@ -103,9 +79,9 @@ fn turn<R: Wait>(
     ensures turned { (k : SessionKnown) (o : Pending) → IsSession seat.old k → HasAsked k o → (after : SessionKnown) × IsSession seat.new after
         × HasTurned k after o batch.new result }
 {
-    let mut desk = shared.shelf.take(rt, seat, 1 + shared.nodes + caller.node);
-    let turn = look_in(&mut desk.value, caller.slot, batch);
-    shared.shelf.put::<Brand>(seat, desk);
+    let mut held = shared.shelf.take(rt, seat, 1 + shared.nodes + caller.node);
+    let turn = desks::look(held.value.desk_mut(), caller.slot, batch);
+    shared.shelf.put::<Brand>(seat, held);
     turn
 }
 

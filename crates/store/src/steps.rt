@@ -1,23 +1,25 @@
 // What a session does on the shelf.
 
-ghost use Rattle.std.specs.Prelude.{◌≡◌, ◌<◌, ◌≤◌, length, None};
+ghost use Rattle.std.specs.Prelude.{◌≡◌, ◌↔◌, ◌<◌, ◌≤◌, true, false, min, length, None, IsTrue};
+ghost use Rattle.maps.specs.Maps.{shapes_of};
 ghost use Rattle.verifier.specs.declared.refusal.Mode.TheVariants.{Read};
 ghost use Rattle.ownlock.specs.Seats.{IsSession};
+ghost use Rattle.oplog.specs.Limits.{IsWindow};
+ghost use Rattle.oplog.specs.Logs.{left_of, room_in};
+ghost use Rattle.node.specs.Following.{may_rebase, rebased};
 ghost use Rattle.replica.specs.StoreMeaning.{store_meaning};
 ghost use Rattle.progress.specs.Accounts.{IsWellFormed};
 ghost use Rattle.progress.specs.Moves.{unplaced};
 ghost use Rattle.replica.specs.Refusals.{early_refusal};
-ghost use Rattle.store.specs.Sessions.{IsReadBy};
-ghost use Rattle.store.specs.Standing.{SessionKnown, Stands, LogIs, FollowsIn, AgreesIn, HoldsLog, HoldsReplica, IsFree, IsOnShelf, HasRest, HasRaised, HasRoom, HasAppended, HasCaughtUp, IsBroughtUp};
+ghost use Rattle.store.specs.Sessions.{IsReadBy, RepliesThere};
+ghost use Rattle.store.specs.Standing.{SessionKnown, Stands, IsLogOf, Follows, Agrees, HoldsLog, HoldsReplica, IsFree, IsOnShelf, HasOthers, HasRaised, HasPlace, HasAppended, HasReplayed, HasReached};
 
-use crate::held::{
-    answer_in, append, follow, is_ready, keep_up, lacks_room, reclaim, replay, replica_tail,
-};
 use crate::values::Value;
 use loader::Catalogue;
-use oplog::Record;
+use node::{NodeReplica, append, follow, may_rebase, rebase, reclaim, replay};
+use oplog::{LogState, Record};
 use ownlock::{LEADER, Seat, Shelf};
-use readpath::ReadAnswer;
+use readpath::{ReadAnswer, answer, ready};
 use replica::Replies;
 use std::marker::Brand;
 use std::sync::Wait;
@@ -54,32 +56,51 @@ fn raise_to(shelf: &Shelf<Value>, seat: &mut Seat<Value>, tail: u64)
     shelf.raise(seat, tail);
 }
 
-// While the log is held: a replica below its base becomes the base, and a log without room for so many records gets the replica
+// Makes the log's base the replica, where that lies behind it. The hand is empty.
+fn rebase_if_behind(log: &LogState, node: &mut NodeReplica)
+    requires shapes { shapes_of log.now.base_maps ≡ shapes_of node.old.replica.maps }
+    ensures behind { may_rebase log.now node.old ≡ true → node.new ≡ rebased log.now node.old }
+    ensures above { may_rebase log.now node.old ≡ false → node.new ≡ node.old }
+{
+    if may_rebase(log, node) {
+        rebase(log, node);
+    }
+}
+
+// Whether the log has no room for so many records, of those that the history may still have.
+fn lacks_room(log: &LogState, want: usize) -> bool
+    ensures lacks { IsTrue result ↔ (room_in log.now < min want (left_of log.now)) }
+    ensures window { IsWindow log.now.window }
+{
+    log.room() < want.min(log.left())
+}
+
+// While the log is held: a replica behind its base becomes the base, and a log without room for so many records gets the replica
 // as its base, once that has applied everything and all is completed.
 fn make_room(
     shared: Shared<'_>,
     seat: &mut Seat<Value>,
-    log: &mut Value,
-    node: &mut Value,
+    log: &mut LogState,
+    node: &mut NodeReplica,
     want: usize,
 )
     requires own { seat.old.shelf ≡ shared.shelf.now.id }
     requires few { want ≤ 16 }
-    requires holds { (k : SessionKnown) × IsSession seat.old k × HoldsLog k × LogIs k.progress log.old × FollowsIn k.progress node.old
+    requires holds { (k : SessionKnown) × IsSession seat.old k × HoldsLog k × IsLogOf k.progress log.old × Follows k.progress node.old
         × IsWellFormed store_meaning k.progress × (k.progress.catalogue ≡ shared.catalogue.now) }
     ensures same { seat.new.shelf ≡ seat.old.shelf }
     ensures room { (k : SessionKnown) → IsSession seat.old k → (after : SessionKnown) × IsSession seat.new after
-        × HasRoom k after want log.old log.new node.new }
+        × HasPlace k after want log.old log.new node.new }
 {
     let Shared {
         shelf,
         catalogue,
         nodes: _,
     } = shared;
-    keep_up(log, node);
+    rebase_if_behind(log, node);
     if lacks_room(log, want) {
         follow(log, node, catalogue);
-        raise_to(shelf, seat, replica_tail(node));
+        raise_to(shelf, seat, node.replica.tail());
         reclaim(log, node);
     }
 }
@@ -90,66 +111,103 @@ pub(crate) fn append_and_copy<R: Wait>(
     rt: &R,
     shared: Shared<'_>,
     seat: &mut Seat<Value>,
-    node: &mut Value,
+    node: &mut NodeReplica,
     records: &[Record],
 ) -> Replies
     requires own { seat.old.shelf ≡ shared.shelf.now.id }
     requires there { 0 < shared.shelf.now.places }
     requires few { length records.now ≤ 16 }
-    requires holds { (k : SessionKnown) × IsSession seat.old k × HoldsReplica k node.old × AgreesIn k.progress node.old × Stands k
+    requires holds { (k : SessionKnown) × (w : Value) × IsSession seat.old k × HoldsReplica k w × Agrees k.progress node.old × Stands k
         × (k.note.batch ≡ unplaced records.now) × (k.progress.catalogue ≡ shared.catalogue.now) }
     ensures same { seat.new.shelf ≡ seat.old.shelf }
     ensures appended { (k : SessionKnown) → IsSession seat.old k → (after : SessionKnown) × IsSession seat.new after
         × HasAppended k after records.now result node.new }
 {
-    let mut log = shared.shelf.take(rt, seat, LEADER);
-    make_room(shared, seat, &mut log.value, node, records.len());
-    let replies = append(&mut log.value, node, records);
-    shared.shelf.put::<Brand>(seat, log);
+    let mut held = shared.shelf.take(rt, seat, LEADER);
+    let log = held.value.log_mut();
+    make_room(shared, seat, log, node, records.len());
+    let replies = append(log, node, records);
+    shared.shelf.put::<Brand>(seat, held);
     replies
 }
 
 // Replays the records in the hand, and raises the completed tail to the replica's.
-pub(crate) fn catch_up(
+pub(crate) fn replay_and_raise(
     shelf: &Shelf<Value>,
     seat: &mut Seat<Value>,
-    node: &mut Value,
+    node: &mut NodeReplica,
     catalogue: &Catalogue,
     replies: &mut Replies,
 )
     requires own { seat.old.shelf ≡ shelf.now.id }
-    requires known { (k : SessionKnown) × IsSession seat.old k × HasRest k.progress node.old × Stands k × (k.progress.catalogue ≡ catalogue.now) }
+    requires known { (k : SessionKnown) × IsSession seat.old k × HasOthers k.progress node.old × Stands k × (k.progress.catalogue ≡ catalogue.now) }
     ensures same { seat.new.shelf ≡ seat.old.shelf }
-    ensures caught { (k : SessionKnown) → IsSession seat.old k → (after : SessionKnown) × IsSession seat.new after
-        × HasCaughtUp k after node.old node.new replies.old replies.new }
+    ensures replayed { (k : SessionKnown) → IsSession seat.old k → (after : SessionKnown) × IsSession seat.new after
+        × HasReplayed k after node.old node.new replies.old replies.new }
 {
     replay(node, catalogue, replies);
-    let replayed = replica_tail(node);
+    let replayed = node.replica.tail();
     raise_to(shelf, seat, replayed);
 }
 
 // Takes the log, brings the replica up to its end while it is held, puts it back, and raises the completed tail to the replica's.
-fn refresh<R: Wait>(
+fn follow_and_raise<R: Wait>(
     rt: &R,
     shelf: &Shelf<Value>,
     seat: &mut Seat<Value>,
-    node: &mut Value,
+    node: &mut NodeReplica,
     catalogue: &Catalogue,
 )
     requires own { seat.old.shelf ≡ shelf.now.id }
     requires there { 0 < shelf.now.places }
-    requires holds { (k : SessionKnown) × (w : Value) × IsSession seat.old k × HoldsReplica k w × AgreesIn k.progress node.old × Stands k
+    requires holds { (k : SessionKnown) × (w : Value) × IsSession seat.old k × HoldsReplica k w × Agrees k.progress node.old × Stands k
         × (k.progress.catalogue ≡ catalogue.now) }
     ensures same { seat.new.shelf ≡ seat.old.shelf }
-    ensures up { (k : SessionKnown) → IsSession seat.old k → (after : SessionKnown) × IsSession seat.new after
-        × IsBroughtUp k after k.progress.completed node.new }
+    ensures reached { (k : SessionKnown) → IsSession seat.old k → (after : SessionKnown) × IsSession seat.new after
+        × HasReached k after k.progress.completed node.new }
 {
-    let log = shelf.take(rt, seat, LEADER);
-    keep_up(&log.value, node);
-    follow(&log.value, node, catalogue);
-    shelf.put::<Brand>(seat, log);
-    let followed = replica_tail(node);
+    let held = shelf.take(rt, seat, LEADER);
+    let log = held.value.log();
+    rebase_if_behind(log, node);
+    follow(log, node, catalogue);
+    shelf.put::<Brand>(seat, held);
+    let followed = node.replica.tail();
     raise_to(shelf, seat, followed);
+}
+
+// Brings the replica up to that completed tail, where it has not reached it.
+fn reach<R: Wait>(
+    rt: &R,
+    shared: Shared<'_>,
+    seat: &mut Seat<Value>,
+    node: &mut NodeReplica,
+    done: u64,
+)
+    requires own { seat.old.shelf ≡ shared.shelf.now.id }
+    requires there { 0 < shared.shelf.now.places }
+    requires holds { (k : SessionKnown) × (w : Value) × IsSession seat.old k × HoldsReplica k w × Agrees k.progress node.old × Stands k
+        × (k.progress.catalogue ≡ shared.catalogue.now) × (done ≤ k.progress.completed) }
+    ensures same { seat.new.shelf ≡ seat.old.shelf }
+    ensures reached { (k : SessionKnown) → IsSession seat.old k → (after : SessionKnown) × IsSession seat.new after × HasReached k after done node.new }
+{
+    if ready(&node.replica, done) {
+        return;
+    }
+    follow_and_raise(rt, shared.shelf, seat, node, shared.catalogue);
+}
+
+// What a read program answers on the node's maps, which it leaves as they were.
+fn answer_there(node: &mut NodeReplica, catalogue: &Catalogue, question: Question<'_>) -> ReadAnswer
+    requires shapes { shapes_of node.old.replica.maps ≡ catalogue.now.shapes }
+    requires asked { early_refusal catalogue.now Read question.program question.argument.now ≡ None }
+    ensures point { result.point ≡ node.old.replica.tail }
+    ensures reply { RepliesThere catalogue.now (record { program = question.entry.program; argument = question.entry.argument.now }) node.old result.reply }
+    ensures same { node.new ≡ node.old }
+{
+    let Some(accepted) = catalogue.program(question.program) else {
+        unreachable!()
+    };
+    answer(accepted, &mut node.replica, question.argument)
 }
 
 // Runs a read program on the replica of the caller's node, once it has reached the tail that is completed now.
@@ -174,35 +232,10 @@ pub(crate) fn query<R: Wait>(
         nodes: _,
     } = shared;
     let done = shelf.done(seat);
-    let mut node = shelf.take(rt, seat, 1 + caller.node);
-    bring_up(rt, shared, seat, &mut node.value, done);
-    let answer = answer_in(
-        &mut node.value,
-        catalogue,
-        question.program,
-        question.argument,
-    );
-    shelf.put::<Brand>(seat, node);
+    let mut held = shelf.take(rt, seat, 1 + caller.node);
+    let node = held.value.replica_mut();
+    reach(rt, shared, seat, node, done);
+    let answer = answer_there(node, catalogue, question);
+    shelf.put::<Brand>(seat, held);
     answer
-}
-
-// Brings the replica up to that completed tail, where it has not reached it.
-fn bring_up<R: Wait>(
-    rt: &R,
-    shared: Shared<'_>,
-    seat: &mut Seat<Value>,
-    node: &mut Value,
-    done: u64,
-)
-    requires own { seat.old.shelf ≡ shared.shelf.now.id }
-    requires there { 0 < shared.shelf.now.places }
-    requires holds { (k : SessionKnown) × IsSession seat.old k × HoldsReplica k node.old × AgreesIn k.progress node.old × Stands k
-        × (k.progress.catalogue ≡ shared.catalogue.now) × (done ≤ k.progress.completed) }
-    ensures same { seat.new.shelf ≡ seat.old.shelf }
-    ensures up { (k : SessionKnown) → IsSession seat.old k → (after : SessionKnown) × IsSession seat.new after × IsBroughtUp k after done node.new }
-{
-    if is_ready(node, done) {
-        return;
-    }
-    refresh(rt, shared.shelf, seat, node, shared.catalogue);
 }

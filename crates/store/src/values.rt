@@ -1,8 +1,9 @@
 // The values on a store's shelf: the log, and the replica and the desk of each node.
 
-ghost use Rattle.std.specs.Prelude.{◌≡◌, IfOk};
+ghost use Rattle.std.specs.Prelude.{◌≡◌, Some, IsSome, IfOk};
 ghost use Rattle.maps.specs.Shapes.{AreShapesOk};
 ghost use Rattle.oplog.specs.Limits.{IsWindow, IsLimit};
+ghost use Rattle.store.specs.Lending.{log_of, replica_of, desk_of};
 ghost use Rattle.store.specs.Shelving.{IsOpenedLog, IsOpenedReplica};
 
 use combiner::Desk;
@@ -30,6 +31,58 @@ pub enum Value {
     Log(Box<LogState>),
     Replica(Box<NodeReplica>),
     Desk(Box<Desk>),
+}
+
+impl Value {
+    ghost use Rattle.std.specs.Borrow.{sem};
+    ghost use Rattle.store.specs.Lending.{LendsLog, LendsReplica, LendsDesk};
+
+    // The log that the value is.
+    pub(crate) fn log(&self) -> &LogState
+        requires log { IsSome (log_of self.now) }
+        ensures log { log_of self.now ≡ Some result.now }
+    {
+        match self {
+            Value::Log(log) => log,
+            Value::Replica(_) | Value::Desk(_) => unreachable!(),
+        }
+    }
+
+    // The same, to change it.
+    pub(crate) fn log_mut(&mut self) -> &mut LogState
+        requires log { IsSome (log_of self.old) }
+        ensures* writes_back { sem 𝓛 (LendsLog self.entry result) }
+        ensures log { log_of self.old ≡ Some result.now }
+    {
+        match self {
+            Value::Log(log) => log,
+            Value::Replica(_) | Value::Desk(_) => unreachable!(),
+        }
+    }
+
+    // The node's replica that the value is, with its hand, to change it.
+    pub(crate) fn replica_mut(&mut self) -> &mut NodeReplica
+        requires replica { IsSome (replica_of self.old) }
+        ensures* writes_back { sem 𝓛 (LendsReplica self.entry result) }
+        ensures replica { replica_of self.old ≡ Some result.now }
+    {
+        match self {
+            Value::Replica(node) => node,
+            Value::Log(_) | Value::Desk(_) => unreachable!(),
+        }
+    }
+
+    // The desk that the value is, to change it.
+    pub(crate) fn desk_mut(&mut self) -> &mut Desk
+        requires desk { IsSome (desk_of self.old) }
+        ensures* writes_back { sem 𝓛 (LendsDesk self.entry result) }
+        ensures desk { desk_of self.old ≡ Some result.now }
+    {
+        match self {
+            Value::Desk(desk) => desk,
+            Value::Log(_) | Value::Replica(_) => unreachable!(),
+        }
+    }
 }
 
 impl Shelved for Value {

@@ -9,55 +9,61 @@ use Rattle.store.proofs.Finished.{back, holds_on, may_put_replica}
 use Rattle.store.proofs.Taken.{free_on, may_take_replica, shelf_on, took_replica}
 use Rattle.store.proofs.combining.combine.Goals as goal
 
-pub take-node-requires-clause-may : goal.take-node-requires-clause-may
-take-node-requires-clause-may g c =
+pub take-held-requires-clause-may : goal.take-held-requires-clause-may
+take-held-requires-clause-may g c =
     let i = c.requires.claimed in
     (i.0, i.1, may_take_replica i.0 c.args.caller i.2)
+
+pub replica_mut-node-requires : goal.replica_mut-node-requires
+replica_mut-node-requires g c =
+    let i = c.requires.claimed in
+    let t = c.take-held.ensures.taken i.0 i.1 in
+    record { replica = (took_replica i.0 t.0 c.args.caller c.take-held.result.value i.2 t.1).holds.replica }
 
 pub append_and_copy-replies-requires-clause-holds : goal.append_and_copy-replies-requires-clause-holds
 append_and_copy-replies-requires-clause-holds g c =
     let i = c.requires.claimed in
-    let w = c.take-node.result.value in
-    let t = c.take-node.ensures.taken i.0 i.1 in
+    let w = c.take-held.result.value in
+    let t = c.take-held.ensures.taken i.0 i.1 in
     let b = took_replica i.0 t.0 c.args.caller w i.2 t.1 in
-    (t.0, t.2, b.holds, b.agrees, b.stands, ap (λ (n : SessionNote). n.batch) b.note ∙ (i.3.noted ∙ ap unplaced (sym c.records.ensures.records)), sym b.extends.catalogue ∙ i.4.catalogue_is)
+    (t.0, w, t.2, b.holds, b.agrees c.replica_mut-node.result.now c.replica_mut-node.ensures.replica, b.stands, ap (λ (n : SessionNote). n.batch) b.note ∙ (i.3.noted ∙ ap unplaced (sym c.records.ensures.records)), sym b.extends.catalogue ∙ i.4.catalogue_is)
 
 pub put-requires-clause-may : goal.put-requires-clause-may
 put-requires-clause-may g c =
     let i = c.requires.claimed in
-    let w = c.take-node.result.value in
-    let t = c.take-node.ensures.taken i.0 i.1 in
+    let w = c.take-held.result.value in
+    let t = c.take-held.ensures.taken i.0 i.1 in
     let b = took_replica i.0 t.0 c.args.caller w i.2 t.1 in
     let a = c.append_and_copy-replies.ensures.appended t.0 t.2 in
     let h = holds_on t.0 a.0 w a.2.goes b.holds in
-    let r = c.catch_up.ensures.caught a.0 a.1 in
-    let held = r.2.goes.held ∙ (a.2.goes.held ∙ (b.held ∙ ap (λ z. (z, w) ∷ []) (sym c.take-node.ensures.same.1))) in
-    (r.0, r.1, may_put_replica r.0 w (holds_on a.0 r.0 w r.2.goes h) c.catch_up.new.seat.sessions r.1 c.catch_up.new.node _ held r.2.agrees r.2.within)
+    let r = c.replay_and_raise.ensures.replayed a.0 a.1 in
+    let held = r.2.goes.held ∙ (a.2.goes.held ∙ (b.held ∙ ap (λ z. (z, w) ∷ []) (sym c.take-held.ensures.same.1))) in
+    (r.0, r.1, may_put_replica r.0 w (holds_on a.0 r.0 w r.2.goes h) c.replay_and_raise.new.seat.sessions r.1 c.replay_and_raise.new.node r.2.agrees r.2.within _ held)
 
 pub hand_over-requires-clause-ready : goal.hand_over-requires-clause-ready
 hand_over-requires-clause-ready g c =
     let i = c.requires.claimed in
-    let w = c.take-node.result.value in
+    let w = c.take-held.result.value in
     let rs = c.args.batch.now.records in
-    let t = c.take-node.ensures.taken i.0 i.1 in
+    let t = c.take-held.ensures.taken i.0 i.1 in
     let b = took_replica i.0 t.0 c.args.caller w i.2 t.1 in
     let a = c.append_and_copy-replies.ensures.appended t.0 t.2 in
     let v = c.append_and_copy-replies.new.node in
     let old = c.append_and_copy-replies.result in
     let done = subst (λ z. HasAppended t.0 a.0 z old v) c.records.ensures.records a.2 in
     let h = holds_on t.0 a.0 w a.2.goes b.holds in
-    let r = c.catch_up.ensures.caught a.0 a.1 in
-    let held = r.2.goes.held ∙ (a.2.goes.held ∙ (b.held ∙ ap (λ z. (z, w) ∷ []) (sym c.take-node.ensures.same.1))) in
+    let r = c.replay_and_raise.ensures.replayed a.0 a.1 in
+    let held = r.2.goes.held ∙ (a.2.goes.held ∙ (b.held ∙ ap (λ z. (z, w) ∷ []) (sym c.take-held.ensures.same.1))) in
     let p = c.put.ensures.put r.0 r.1 in
-    let f = back r.0 w (holds_on a.0 r.0 w r.2.goes h) c.catch_up.new.seat.sessions r.1 c.catch_up.new.node c.take-node.result.place held r.2.agrees r.2.within p.0 p.1.0 p.1.1 in
-    let new = c.catch_up.new.replies in
+    let f = back r.0 w (holds_on a.0 r.0 w r.2.goes h) c.replay_and_raise.new.seat.sessions r.1 c.replay_and_raise.new.node r.2.agrees r.2.within c.take-held.result.place held p.0 p.1.0 p.1.1 in
+    let new = c.replay_and_raise.new.replies in
     let y = c.args.batch.now in
-    let grown = from_k t.0 a.0 r.0 rs old v c.catch_up.new.node new done r.2 _ f y refl i.3.some i.3.ascend i.0 (1 + c.args.caller.node) w b in
-    let session = session_is t.0 a.0 r.0 rs old v c.catch_up.new.node new done r.2 _ f y refl i.3.some i.3.ascend i.0 (1 + c.args.caller.node) w b in (
+    let grown = from_k t.0 a.0 r.0 rs old v c.replay_and_raise.new.node new done r.2 _ f y refl i.3.some i.3.ascend i.0 (1 + c.args.caller.node) w b in
+    let session = session_is t.0 a.0 r.0 rs old v c.replay_and_raise.new.node new done r.2 _ f y refl i.3.some i.3.ascend i.0 (1 + c.args.caller.node) w b in (
       _,
       p.2,
       free_on c.args.caller i.0 _ session f.held grown i.2,
-      ready t.0 a.0 r.0 rs old v c.catch_up.new.node new done r.2 _ f y refl i.3.some i.3.ascend,
+      ready t.0 a.0 r.0 rs old v c.replay_and_raise.new.node new done r.2 _ f y refl i.3.some i.3.ascend,
       shelf_on c.args.shared.shelf.now.places c.args.shared.nodes c.args.shared.catalogue.now i.0 _ grown i.4,
       f.stands,
     )
@@ -65,21 +71,21 @@ hand_over-requires-clause-ready g c =
 pub returns-clause-combined : goal.returns-clause-combined
 returns-clause-combined g c k is =
     let i = c.requires.claimed in
-    let w = c.take-node.result.value in
+    let w = c.take-held.result.value in
     let rs = c.args.batch.now.records in
     let e = one_known c.args.seat.now i.0 k i.1 is in
     let free = subst (λ z. IsFree c.args.caller z) e i.2 in
     let claimed = subst (λ z. HasClaimed z c.args.batch.now) e i.3 in
-    let t = c.take-node.ensures.taken k is in
+    let t = c.take-held.ensures.taken k is in
     let b = took_replica k t.0 c.args.caller w free t.1 in
     let a = c.append_and_copy-replies.ensures.appended t.0 t.2 in
     let v = c.append_and_copy-replies.new.node in
     let old = c.append_and_copy-replies.result in
     let done = subst (λ z. HasAppended t.0 a.0 z old v) c.records.ensures.records a.2 in
     let h = holds_on t.0 a.0 w a.2.goes b.holds in
-    let r = c.catch_up.ensures.caught a.0 a.1 in
-    let held = r.2.goes.held ∙ (a.2.goes.held ∙ (b.held ∙ ap (λ z. (z, w) ∷ []) (sym c.take-node.ensures.same.1))) in
+    let r = c.replay_and_raise.ensures.replayed a.0 a.1 in
+    let held = r.2.goes.held ∙ (a.2.goes.held ∙ (b.held ∙ ap (λ z. (z, w) ∷ []) (sym c.take-held.ensures.same.1))) in
     let p = c.put.ensures.put r.0 r.1 in
-    let f = back r.0 w (holds_on a.0 r.0 w r.2.goes h) c.catch_up.new.seat.sessions r.1 c.catch_up.new.node c.take-node.result.place held r.2.agrees r.2.within p.0 p.1.0 p.1.1 in
+    let f = back r.0 w (holds_on a.0 r.0 w r.2.goes h) c.replay_and_raise.new.seat.sessions r.1 c.replay_and_raise.new.node r.2.agrees r.2.within c.take-held.result.place held p.0 p.1.0 p.1.1 in
     let z = c.hand_over.ensures.combined _ p.2 in
-    (z.0, z.1, combined t.0 a.0 r.0 rs old v c.catch_up.new.node c.catch_up.new.replies done r.2 _ f c.args.batch.now refl claimed.some claimed.ascend k (1 + c.args.caller.node) w b z.0 z.2)
+    (z.0, z.1, combined t.0 a.0 r.0 rs old v c.replay_and_raise.new.node c.replay_and_raise.new.replies done r.2 _ f c.args.batch.now refl claimed.some claimed.ascend k (1 + c.args.caller.node) w b z.0 z.2)

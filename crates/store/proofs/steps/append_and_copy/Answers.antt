@@ -1,62 +1,80 @@
 use Rattle.std.proofs.Common.{◌≡◌, sym, subst, ◌∙◌}
 use Rattle.ownlock.proofs.Seats.{one_known}
 use Rattle.progress.specs.Moves.{unplaced}
-use Rattle.store.specs.Standing.{AgreesIn, Stands}
-use Rattle.store.proofs.Taken.{may_take_log, took_log, holds_log, follows_in, well_formed}
-use Rattle.store.proofs.Appended.{can_append, put_appended, back_appended}
+use Rattle.store.specs.Standing.{Agrees, Stands}
+use Rattle.store.proofs.Taken.{may_take_log, took_log, holds_log, follows_agreed, well_formed}
+use Rattle.store.proofs.Followed.{fits}
+use Rattle.store.proofs.Appended.{may, put_appended, back_appended}
 use Rattle.store.proofs.steps.append_and_copy.Goals as goal
 
-pub take-log-requires-clause-may : goal.take-log-requires-clause-may
-take-log-requires-clause-may g c =
+pub take-held-requires-clause-may : goal.take-held-requires-clause-may
+take-held-requires-clause-may g c =
     let i = c.requires.holds in
-    (i.0, i.1, may_take_log i.0 c.args.node.now i.2)
+    (i.0, i.2, may_take_log i.0 i.1 i.3)
+
+pub log_mut-log-requires : goal.log_mut-log-requires
+log_mut-log-requires g c =
+    let i = c.requires.holds in
+    let n = c.args.node.now in
+    let x = c.take-held.result.value in
+    let t = c.take-held.ensures.taken i.0 i.2 in
+    let b = took_log i.0 t.0 n x (follows_agreed i.0.progress n (well_formed i.0.progress i.5.notes i.5.accounts) i.4) t.1 in
+    record { log = b.some }
 
 pub make_room-requires-clause-holds : goal.make_room-requires-clause-holds
 make_room-requires-clause-holds g c =
     let i = c.requires.holds in
-    let w = c.args.node.now in
-    let x = c.take-log.result.value in
-    let t = c.take-log.ensures.taken i.0 i.1 in
-    let b = took_log i.0 t.0 w x (follows_in i.0.progress w (well_formed i.0.progress i.4.notes i.4.accounts) i.3) t.1 in
-    (t.0, t.2, holds_log i.0 t.0 w x b, b.log, b.follows, b.well, sym b.extends.catalogue ∙ i.6)
+    let n = c.args.node.now in
+    let x = c.take-held.result.value in
+    let t = c.take-held.ensures.taken i.0 i.2 in
+    let b = took_log i.0 t.0 n x (follows_agreed i.0.progress n (well_formed i.0.progress i.5.notes i.5.accounts) i.4) t.1 in
+    (t.0, t.2, holds_log i.0 t.0 n x b, b.log c.log_mut-log.result.now c.log_mut-log.ensures.log, b.follows, b.well, sym b.extends.catalogue ∙ i.7)
 
-pub append-replies-requires : goal.append-replies-requires
-append-replies-requires g c =
+pub append-replies-requires-clause-may : goal.append-replies-requires-clause-may
+append-replies-requires-clause-may g c =
     let i = c.requires.holds in
-    let x = c.take-log.result.value in
-    let t = c.take-log.ensures.taken i.0 i.1 in
+    let t = c.take-held.ensures.taken i.0 i.2 in
     let m = c.make_room.ensures.room t.0 t.2 in
-    record { can = can_append t.0 m.0 x c.make_room.new.log c.make_room.new.node c.args.records.now c.requires.few m.2 }
+    may t.0 m.0 c.log_mut-log.result.now c.make_room.new.log c.make_room.new.node c.args.records.now m.2
+
+pub append-replies-requires-clause-fits : goal.append-replies-requires-clause-fits
+append-replies-requires-clause-fits g c =
+    let i = c.requires.holds in
+    let t = c.take-held.ensures.taken i.0 i.2 in
+    let m = c.make_room.ensures.room t.0 t.2 in
+    fits m.0.progress c.make_room.new.log c.make_room.new.node m.2.log m.2.follows
 
 pub put-requires-clause-may : goal.put-requires-clause-may
 put-requires-clause-may g c =
     let i = c.requires.holds in
-    let w = c.args.node.now in
-    let x = c.take-log.result.value in
-    let t = c.take-log.ensures.taken i.0 i.1 in
-    let b = took_log i.0 t.0 w x (follows_in i.0.progress w (well_formed i.0.progress i.4.notes i.4.accounts) i.3) t.1 in
-    let m = c.make_room.ensures.room t.0 t.2 in (
+    let n = c.args.node.now in
+    let x = c.take-held.result.value in
+    let t = c.take-held.ensures.taken i.0 i.2 in
+    let b = took_log i.0 t.0 n x (follows_agreed i.0.progress n (well_formed i.0.progress i.5.notes i.5.accounts) i.4) t.1 in
+    let m = c.make_room.ensures.room t.0 t.2 in
+    let a = c.append-replies.ensures in (
       m.0,
       m.1,
-      put_appended i.0 t.0 m.0 w c.args.records.now c.append-replies.result i.5 c.make_room.new.seat.sessions m.1 x c.make_room.new.log c.make_room.new.node c.append-replies.new.log c.append-replies.new.node b m.2 c.append-replies.ensures.appended _
-          c.take-log.ensures.same.1,
+      put_appended i.0 t.0 m.0 n c.log_mut-log.result.now c.make_room.new.log c.make_room.new.node c.append-replies.new.node c.args.records.now c.append-replies.result i.6 c.make_room.new.seat.sessions m.1 x c.log_mut-log.ensures.log b m.2 c.append-replies.new.log
+          (a.log, a.node, a.replies, a.within) _ c.take-held.ensures.same.1,
     )
 
 pub returns-clause-appended : goal.returns-clause-appended
 returns-clause-appended g c k is =
     let i = c.requires.holds in
-    let w = c.args.node.now in
-    let x = c.take-log.result.value in
-    let e = one_known c.args.seat.now i.0 k i.1 is in
-    let agrees = subst (λ z. AgreesIn z.progress w) e i.3 in
-    let stands = subst (λ z. Stands z) e i.4 in
-    let noted = subst (λ z. z.note.batch ≡ unplaced c.args.records.now) e i.5 in
-    let t = c.take-log.ensures.taken k is in
-    let b = took_log k t.0 w x (follows_in k.progress w (well_formed k.progress stands.notes stands.accounts) agrees) t.1 in
+    let n = c.args.node.now in
+    let x = c.take-held.result.value in
+    let e = one_known c.args.seat.now i.0 k i.2 is in
+    let agrees = subst (λ z. Agrees z.progress n) e i.4 in
+    let stands = subst (λ z. Stands z) e i.5 in
+    let noted = subst (λ z. z.note.batch ≡ unplaced c.args.records.now) e i.6 in
+    let t = c.take-held.ensures.taken k is in
+    let b = took_log k t.0 n x (follows_agreed k.progress n (well_formed k.progress stands.notes stands.accounts) agrees) t.1 in
     let m = c.make_room.ensures.room t.0 t.2 in
-    let p = c.put.ensures.put m.0 m.1 in (
+    let p = c.put.ensures.put m.0 m.1 in
+    let a = c.append-replies.ensures in (
       _,
       p.2,
-      back_appended k t.0 m.0 w c.args.records.now c.append-replies.result noted c.make_room.new.seat.sessions m.1 x c.make_room.new.log c.make_room.new.node c.append-replies.new.log c.append-replies.new.node b m.2 c.append-replies.ensures.appended _
-          c.take-log.ensures.same.1 p.0 p.1.0 p.1.1,
+      back_appended k t.0 m.0 n c.log_mut-log.result.now c.make_room.new.log c.make_room.new.node c.append-replies.new.node c.args.records.now c.append-replies.result noted c.make_room.new.seat.sessions m.1 x c.log_mut-log.ensures.log b m.2 c.append-replies.new.log
+          (a.log, a.node, a.replies, a.within) _ c.take-held.ensures.same.1 p.0 p.1.0 p.1.1,
     )
