@@ -1,5 +1,5 @@
 use Rattle.store.specs.Sessions.{IsOf}
-use Rattle.threads.proofs.Sessions.{at_of_all}
+use Rattle.store.proofs.EachSession.{at_of_all}
 use Rattle.threads.proofs.close.Goals as goal
 
 pub close-requires : goal.close-requires
