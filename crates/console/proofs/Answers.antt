@@ -9,23 +9,8 @@ use Rattle.console.specs.declared.input.InputFault.TheVariants as faults
 use Rattle.console.specs.Files.{Contents, present, are_texts, is_text}
 use Rattle.console.specs.Answer.{Answer, not_text, loaded_answer, files_answer, check_answer}
 use Rattle.console.specs.InputFaults.{FailsAs}
+use Rattle.console.specs.Inputs.{IfFilesKnown}
 use Rattle.console.specs.Input.{TextIs}
-
--- a fact that holds of the answer, whatever is known
-pub carried : (r : Option (List ℕ)) (o : Option Contents) (a : Answer) (P : Answer → Type 0) → IfSome r (λ m. IfSome o (λ h. a ≡ check_answer m h)) → P a → IfSome r (λ m. IfSome o (λ h. P (check_answer m h)))
-carried None o a P known p = tt
-carried (Some m) None a P known p = tt
-carried (Some m) (Some h) a P known p = subst P known p
-
-pub always : (r : Option (List ℕ)) (o : Option Contents) (P : Answer → Type 0) → ((a : Answer) → P a) → IfSome r (λ m. IfSome o (λ h. P (check_answer m h)))
-always None o P p = tt
-always (Some m) None P p = tt
-always (Some m) (Some h) P p = p (check_answer m h)
-
-pub turned : (r : Option (List ℕ)) (o : Option Contents) (a : Answer) → IfSome r (λ m. IfSome o (λ h. check_answer m h ≡ a)) → IfSome r (λ m. IfSome o (λ h. a ≡ check_answer m h))
-turned None o a known = tt
-turned (Some m) None a known = tt
-turned (Some m) (Some h) a known = sym known
 
 manifest_fault : (e : InputFault) (m : List ℕ) (h : Contents) → FailsAs e (is_text m ≡ false) → FailsAs e (check_answer m h ≡ not_text)
 unfolding check_answer
@@ -33,7 +18,7 @@ manifest_fault faults.NoMemory m h read = tt
 manifest_fault faults.CannotRead m h read = tt
 manifest_fault faults.NotText m h read = rw read refl
 
-pub manifest_failed : (r : Option (List ℕ)) (o : Option Contents) (e : InputFault) → IfSome r (λ m. FailsAs e (is_text m ≡ false)) → IfSome r (λ m. IfSome o (λ h. FailsAs e (check_answer m h ≡ not_text)))
+pub manifest_failed : (r : Option (List ℕ)) (o : Option Contents) (e : InputFault) → IfSome r (λ m. FailsAs e (is_text m ≡ false)) → IfFilesKnown r o (λ m h. FailsAs e (check_answer m h ≡ not_text))
 manifest_failed None o e read = tt
 manifest_failed (Some m) None e read = tt
 manifest_failed (Some m) (Some h) e read = manifest_fault e m h read
@@ -45,7 +30,7 @@ files_fault faults.CannotRead m h text stop = tt
 files_fault faults.NotText m h text stop = rw (text, stop) refl
 
 pub files_failed : {Y : Type 0} (r : Option (List ℕ)) (o : Option Contents) (e : InputFault) (s : String Y) → IfSome r (TextIs (Ok s))
-    → IfSome o (λ h. FailsAs e (are_texts (present h (named_in (string_bytes s))) ≡ false)) → IfSome r (λ m. IfSome o (λ h. FailsAs e (check_answer m h ≡ not_text)))
+    → IfSome o (λ h. FailsAs e (are_texts (present h (named_in (string_bytes s))) ≡ false)) → IfFilesKnown r o (λ m h. FailsAs e (check_answer m h ≡ not_text))
 files_failed None o e s read stop = tt
 files_failed (Some m) None e s read stop = tt
 files_failed (Some m) (Some h) e s read stop = files_fault e m h read.1 (subst (λ t. FailsAs e (are_texts (present h (named_in t)) ≡ false)) read.0 stop)
@@ -56,7 +41,7 @@ answered_at m h files a text same texts made = made ∙ ap (λ f. loaded_answer 
 
 pub answered : {Y : Type 0} (r : Option (List ℕ)) (o : Option Contents) (s : String Y) (files : Files) (a : Answer) → IfSome r (TextIs (Ok s))
     → IfSome o (λ h. (files ≡ present h (named_in (string_bytes s))) × (are_texts (present h (named_in (string_bytes s))) ≡ true)) → a ≡ loaded_answer (loaded (string_bytes s) files)
-    → IfSome r (λ m. IfSome o (λ h. a ≡ check_answer m h))
+    → IfFilesKnown r o (λ m h. a ≡ check_answer m h)
 answered None o s files a read gathered made = tt
 answered (Some m) None s files a read gathered made = tt
 answered (Some m) (Some h) s files a read gathered made =

@@ -9,7 +9,7 @@ use Rattle.console.specs.declared.input.InputFault.{InputFault}
 use Rattle.console.specs.declared.input.InputFault.TheVariants as faults
 use Rattle.console.specs.Files.{Contents, present, are_texts, is_text}
 use Rattle.console.specs.Answer.{Answer, not_text}
-use Rattle.console.specs.Inputs.{all_texts, texts_answer, IsTextsAnswer}
+use Rattle.console.specs.Inputs.{IfTextsKnown, all_texts, texts_answer, IsTextsAnswer}
 use Rattle.console.specs.InputFaults.{FailsAs}
 use Rattle.console.specs.Input.{TextIs}
 use Rattle.console.specs.Loaded.{LoadedIs}
@@ -37,12 +37,15 @@ fails_as faults.CannotRead P Q f p = tt
 fails_as faults.NotText P Q f p = f p
 
 -- where it may be unknown what there was to read
-module _ (r : Option (List ℕ)) (o : Option Contents) (q : Option (List ℕ)) where
-  abbrev Known : (List ℕ → Contents → List ℕ → Type 0) → Type 0
-  Known P = IfSome r (λ m. IfSome o (λ h. IfSome q (λ s. P m h s)))
+pub as_known : (P Q : List ℕ → Contents → List ℕ → Type 0) → ((m : List ℕ) (h : Contents) (s : List ℕ) → P m h s → Q m h s) → (r : Option (List ℕ)) (o : Option Contents) (q : Option (List ℕ))
+    → IfTextsKnown r o q P → IfTextsKnown r o q Q
+as_known P Q f None o q known = tt
+as_known P Q f (Some m) None q known = tt
+as_known P Q f (Some m) (Some h) None known = tt
+as_known P Q f (Some m) (Some h) (Some s) known = f m h s known
 
 pub manifest_failed : (r : Option (List ℕ)) (o : Option Contents) (q : Option (List ℕ)) (e : InputFault) → IfSome r (λ m. FailsAs e (is_text m ≡ false))
-    → Known r o q (λ m h s. FailsAs e (all_texts m h s ≡ false))
+    → IfTextsKnown r o q (λ m h s. FailsAs e (all_texts m h s ≡ false))
 manifest_failed None o q e read = tt
 manifest_failed (Some m) None q e read = tt
 manifest_failed (Some m) (Some h) None e read = tt
@@ -57,7 +60,7 @@ module _ {Y : Type 0} (text : String Y) where
   AreGathered h files ns = (files ≡ present h ns) × (are_texts (present h ns) ≡ true)
 
   pub files_failed : (r : Option (List ℕ)) (o : Option Contents) (q : Option (List ℕ)) (e : InputFault) → IfSome r (TextIs (Ok text))
-      → IfSome o (λ h. FailsAs e (are_texts (present h names) ≡ false)) → Known r o q (λ m h s. FailsAs e (all_texts m h s ≡ false))
+      → IfSome o (λ h. FailsAs e (are_texts (present h names) ≡ false)) → IfTextsKnown r o q (λ m h s. FailsAs e (all_texts m h s ≡ false))
   files_failed None o q e read stop = tt
   files_failed (Some m) None q e read stop = tt
   files_failed (Some m) (Some h) None e read stop = tt
@@ -65,7 +68,7 @@ module _ {Y : Type 0} (text : String Y) where
       fails_as e _ _ (second_off (is_text m) (are_texts (present h (named_in m))) (is_text s)) (subst (λ t. FailsAs e (are_texts (present h (named_in t)) ≡ false)) read.0 stop)
 
   pub text_failed : (r : Option (List ℕ)) (o : Option Contents) (q : Option (List ℕ)) (e : InputFault) → IfSome q (λ s. FailsAs e (is_text s ≡ false))
-      → Known r o q (λ m h s. FailsAs e (all_texts m h s ≡ false))
+      → IfTextsKnown r o q (λ m h s. FailsAs e (all_texts m h s ≡ false))
   text_failed None o q e stop = tt
   text_failed (Some m) None q e stop = tt
   text_failed (Some m) (Some h) None e stop = tt
@@ -73,7 +76,7 @@ module _ {Y : Type 0} (text : String Y) where
 
   pub all_read : (r : Option (List ℕ)) (o : Option Contents) (q : Option (List ℕ)) (files : Files) (i : Inputs) → IfSome r (TextIs (Ok text))
       → IfSome o (λ h. AreGathered h files names) → IfSome q (TextIs (Ok i.text))
-      → LoadedIs (loaded (string_bytes text) files) i.loaded → Known r o q (λ m h s. AreInputs m h s i)
+      → LoadedIs (loaded (string_bytes text) files) i.loaded → IfTextsKnown r o q (λ m h s. AreInputs m h s i)
   all_read None o q files i read gathered lines load = tt
   all_read (Some m) None q files i read gathered lines load = tt
   all_read (Some m) (Some h) None files i read gathered lines load = tt
@@ -92,12 +95,9 @@ module _ (answers : Outcome → List ℕ → Answer) where
   unfolding texts_answer
   not_text_at e m h s stop = fails_as e (all_texts m h s ≡ false) (texts_answer answers m h s ≡ not_text) (λ off. rw off refl) stop
 
-  pub stopped : (r : Option (List ℕ)) (o : Option Contents) (q : Option (List ℕ)) (e : InputFault) → Known r o q (λ m h s. FailsAs e (all_texts m h s ≡ false))
-      → Known r o q (λ m h s. FailsAs e (texts_answer answers m h s ≡ not_text))
-  stopped None o q e stop = tt
-  stopped (Some m) None q e stop = tt
-  stopped (Some m) (Some h) None e stop = tt
-  stopped (Some m) (Some h) (Some s) e stop = not_text_at e m h s stop
+  pub stopped : (r : Option (List ℕ)) (o : Option Contents) (q : Option (List ℕ)) (e : InputFault) → IfTextsKnown r o q (λ m h s. FailsAs e (all_texts m h s ≡ false))
+      → IfTextsKnown r o q (λ m h s. FailsAs e (texts_answer answers m h s ≡ not_text))
+  stopped r o q e = as_known (λ m h s. FailsAs e (all_texts m h s ≡ false)) (λ m h s. FailsAs e (texts_answer answers m h s ≡ not_text)) (not_text_at e) r o q
 
   module _ (i : Inputs) (a : Answer) (made : (outcome : Outcome) → LoadedIs outcome i.loaded → a ≡ answers outcome (string_bytes i.text)) where
     answered_at : (m : List ℕ) (h : Contents) (s : List ℕ) → AreInputs m h s i → a ≡ texts_answer answers m h s
@@ -105,11 +105,8 @@ module _ (answers : Outcome → List ℕ → Answer) where
     answered_at m h s read =
         made (loaded m (present h (named_in m))) read.catalogue ∙ ap (λ t. answers (loaded m (present h (named_in m))) t) read.same ∙ sym (rw read.texts refl)
 
-    pub answered : (r : Option (List ℕ)) (o : Option Contents) (q : Option (List ℕ)) → Known r o q (λ m h s. AreInputs m h s i) → Known r o q (λ m h s. a ≡ texts_answer answers m h s)
-    answered None o q read = tt
-    answered (Some m) None q read = tt
-    answered (Some m) (Some h) None read = tt
-    answered (Some m) (Some h) (Some s) read = answered_at m h s read
+    pub answered : (r : Option (List ℕ)) (o : Option Contents) (q : Option (List ℕ)) → IfTextsKnown r o q (λ m h s. AreInputs m h s i) → IfTextsKnown r o q (λ m h s. a ≡ texts_answer answers m h s)
+    answered = as_known (λ m h s. AreInputs m h s i) (λ m h s. a ≡ texts_answer answers m h s) answered_at
 
     pub is_some_answer : IsOfSome i.loaded → IsTextsAnswer answers a
     is_some_answer some = inr (some.0, some.1, string_bytes i.text, made (loaded some.0 some.1) some.2)

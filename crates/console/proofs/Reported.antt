@@ -1,6 +1,6 @@
 -- What a command did, from what it had prepared.
 use Rattle.std.proofs.Common.{◌≡◌, ◌⊎◌, inl, inr, ℕ, List, Option, Some, None, Result, Ok, Err, refl, sym, subst}
-use Rattle.std.specs.Prelude.{IfOk, IfSome, MatchResult}
+use Rattle.std.specs.Prelude.{IfOk, IfSome}
 use Rattle.std.specs.Io.KnownBytes.{Keeps}
 use Rattle.console.specs.declared.status.Status.{Status}
 use Rattle.console.specs.declared.status.Status.TheVariants as statuses
@@ -12,9 +12,11 @@ use Rattle.console.specs.declared.reporting.Reply.{Reply}
 use Rattle.console.specs.Status.{status_of}
 use Rattle.console.specs.Texts.{no_memory_line}
 use Rattle.console.specs.Files.{Contents}
-use Rattle.console.specs.InputFaults.{FailsAs, IfCannotRead}
+use Rattle.console.specs.InputFaults.{IfCannotRead}
 use Rattle.console.specs.Answer.{Answer, not_text}
-use Rattle.console.specs.Report.{Failed, Reports, ReportsSome, Sends, Writes, answer_of}
+use Rattle.console.specs.Report.{Failed, Prepares, Reports, ReportsSome, Sends, Writes, answer_of}
+use Rattle.console.specs.Inputs.{IfFilesKnown, IfTextsKnown}
+use Rattle.console.proofs.InputTexts.{as_known}
 
 -- an answer that was sent, or broke off
 pub sent : (old new : Option (List ℕ)) (got : Status) (a : Answer) → Sends old new got a.text (status_of a.verdict) → Reports old new got a
@@ -42,7 +44,7 @@ reports_some IsOne bad old new got (Err faults.NoMemory) wrote one = (not_text, 
 reports_some IsOne bad old new got (Err faults.CannotRead) wrote one = (not_text, bad, none_read old new got not_text wrote)
 
 reports : (old new : Option (List ℕ)) (got : Status) (a : Answer) (prepared : Result Reply InputFault) → Writes old new got prepared
-    → MatchResult prepared (λ r. answer_of r ≡ a) (λ e. FailsAs e (a ≡ not_text)) → Reports old new got a
+    → Prepares prepared a → Reports old new got a
 reports old new got a (Ok r) wrote known = subst (λ x. Reports old new got x) known (sent old new got (answer_of r) wrote)
 reports old new got a (Err faults.NotText) wrote known = subst (λ x. Reports old new got x) (sym known) (sent old new got not_text wrote)
 reports old new got a (Err faults.NoMemory) wrote known = no_memory_sent old new got a wrote
@@ -50,24 +52,20 @@ reports old new got a (Err faults.CannotRead) wrote known = none_read old new go
 
 -- the same for an answer to what may be unknown: one text, a manifest with its folder, and these with another text
 pub reports_text : (answers : List ℕ → Answer) (r : Option (List ℕ)) (old new : Option (List ℕ)) (got : Status) (prepared : Result Reply InputFault) → Writes old new got prepared
-    → IfSome r (λ s. MatchResult prepared (λ x. answer_of x ≡ answers s) (λ e. FailsAs e (answers s ≡ not_text))) → IfSome r (λ s. Reports old new got (answers s))
+    → IfSome r (λ s. Prepares prepared (answers s)) → IfSome r (λ s. Reports old new got (answers s))
 reports_text answers None old new got prepared wrote known = tt
 reports_text answers (Some s) old new got prepared wrote known = reports old new got (answers s) prepared wrote known
 
 pub reports_files : (answers : List ℕ → Contents → Answer) (r : Option (List ℕ)) (o : Option Contents) (old new : Option (List ℕ)) (got : Status) (prepared : Result Reply InputFault)
-    → Writes old new got prepared → IfSome r (λ m. IfSome o (λ h. MatchResult prepared (λ x. answer_of x ≡ answers m h) (λ e. FailsAs e (answers m h ≡ not_text))))
-    → IfSome r (λ m. IfSome o (λ h. Reports old new got (answers m h)))
+    → Writes old new got prepared → IfFilesKnown r o (λ m h. Prepares prepared (answers m h)) → IfFilesKnown r o (λ m h. Reports old new got (answers m h))
 reports_files answers None o old new got prepared wrote known = tt
 reports_files answers (Some m) None old new got prepared wrote known = tt
 reports_files answers (Some m) (Some h) old new got prepared wrote known = reports old new got (answers m h) prepared wrote known
 
 pub reports_known : (answers : List ℕ → Contents → List ℕ → Answer) (r : Option (List ℕ)) (o : Option Contents) (q : Option (List ℕ)) (old new : Option (List ℕ)) (got : Status) (prepared : Result Reply InputFault)
-    → Writes old new got prepared → IfSome r (λ m. IfSome o (λ h. IfSome q (λ s. MatchResult prepared (λ x. answer_of x ≡ answers m h s) (λ e. FailsAs e (answers m h s ≡ not_text)))))
-    → IfSome r (λ m. IfSome o (λ h. IfSome q (λ s. Reports old new got (answers m h s))))
-reports_known answers None o q old new got prepared wrote known = tt
-reports_known answers (Some m) None q old new got prepared wrote known = tt
-reports_known answers (Some m) (Some h) None old new got prepared wrote known = tt
-reports_known answers (Some m) (Some h) (Some s) old new got prepared wrote known = reports old new got (answers m h s) prepared wrote known
+    → Writes old new got prepared → IfTextsKnown r o q (λ m h s. Prepares prepared (answers m h s)) → IfTextsKnown r o q (λ m h s. Reports old new got (answers m h s))
+reports_known answers r o q old new got prepared wrote =
+    as_known (λ m h s. Prepares prepared (answers m h s)) (λ m h s. Reports old new got (answers m h s)) (λ m h s. reports old new got (answers m h s) prepared wrote) r o q
 
 -- ---- what failed
 

@@ -1,5 +1,5 @@
 -- What a command did, from its status: what it wrote, over what the writer held.
-use Rattle.std.specs.Prelude.{◌≡◌, ℕ, List, Option, Result, Ok, Err, ◌⊎◌}
+use Rattle.std.specs.Prelude.{◌≡◌, ℕ, List, Option, Result, Ok, Err, MatchResult, ◌⊎◌}
 use Rattle.std.specs.Io.KnownBytes.{Appends, Keeps}
 use Rattle.console.specs.declared.status.Status.{Status}
 use Rattle.console.specs.declared.status.Status.TheVariants as statuses
@@ -7,6 +7,7 @@ use Rattle.console.specs.declared.status.Verdict.TheVariants as verdicts
 use Rattle.console.specs.declared.input.InputFault.{InputFault}
 use Rattle.console.specs.declared.input.InputFault.TheVariants as faults
 use Rattle.console.specs.declared.reporting.Reply.{Reply}
+use Rattle.console.specs.InputFaults.{FailsAs}
 use Rattle.console.specs.Transfer.{AppendsBeginning}
 use Rattle.console.specs.Texts.{no_memory_line}
 use Rattle.console.specs.Status.{status_of}
@@ -42,6 +43,10 @@ Sends old new got text wanted = ((got ≡ wanted) × Appends old new text) ⊎ (
 -- what is to be written, and its verdict
 abbrev pub answer_of : Reply → Answer
 answer_of r = record { text = r.text.items; verdict = r.verdict }
+
+-- that answer is prepared; or memory ran out, or a read failed, or what was read is no text, which is the answer
+abbrev pub Prepares : Result Reply InputFault → Answer → Type 0
+Prepares prepared a = MatchResult prepared (λ r. answer_of r ≡ a) (λ e. FailsAs e (a ≡ not_text))
 
 -- what is written where this was prepared
 abbrev pub Writes : Option (List ℕ) → Option (List ℕ) → Status → Result Reply InputFault → Type 0

@@ -1,6 +1,6 @@
 -- What is answered, from what was read.
-use Rattle.std.proofs.Common.{◌≡◌, ◌∙◌, inl, inr, ap, ℕ, false, List, Option, Some, None, Result, Ok, Err, string_bytes, refl, sym, subst}
-use Rattle.std.specs.Prelude.{IfOk, IfSome, MatchResult}
+use Rattle.std.proofs.Common.{◌≡◌, ◌∙◌, inl, inr, ap, ℕ, false, List, Option, Result, Ok, Err, string_bytes, refl, sym, subst}
+use Rattle.std.specs.Prelude.{IfOk, MatchResult}
 use Rattle.loader.specs.NamedFiles.{named_in}
 use Rattle.loader.specs.Loading.{Outcome, loaded}
 use Rattle.oplog.specs.declared.configuration.Config.{Config}
@@ -22,21 +22,6 @@ use Rattle.console.specs.declared.status.Verdict.TheVariants as verdicts
 use Rattle.console.specs.Status.{status_of}
 use Rattle.console.specs.Texts.{no_memory_line}
 use Rattle.stress.specs.StressAnswer.{IsStressed, ByTexts, IsStressAnswer, IsSomeStressAnswer, ReportsOne}
-
--- where it may be unknown what there was to read
-module _ (r : Option (List ℕ)) (o : Option Contents) (q : Option (List ℕ)) where
-  abbrev Known : (List ℕ → Contents → List ℕ → Type 0) → Type 0
-  Known P = IfSome r (λ m. IfSome o (λ h. IfSome q (λ s. P m h s)))
-
-  pub as_known : (P Q : List ℕ → Contents → List ℕ → Type 0) → ((m : List ℕ) (h : Contents) (s : List ℕ) → P m h s → Q m h s) → Known P → Known Q
-  as_known P Q f known = by r o q known
-    where
-      by : (r : Option (List ℕ)) (o : Option Contents) (q : Option (List ℕ)) → IfSome r (λ m. IfSome o (λ h. IfSome q (λ s. P m h s)))
-          → IfSome r (λ m. IfSome o (λ h. IfSome q (λ s. Q m h s)))
-      by None o q k = tt
-      by (Some m) None q k = tt
-      by (Some m) (Some h) None k = tt
-      by (Some m) (Some h) (Some s) k = f m h s k
 
 -- ---- an answer, or the line that no memory is left
 

@@ -1,11 +1,10 @@
 // The command `asm`.
 
-ghost use Rattle.std.specs.Prelude.{◌≡◌, IfOk, IfSome, MatchResult};
+ghost use Rattle.std.specs.Prelude.{◌≡◌, IfOk, IfSome};
 ghost use Rattle.asm.specs.Assembled.{assembled};
-ghost use Rattle.console.specs.Answer.{not_text};
 ghost use Rattle.console.specs.AsmAnswer.{assembled_answer, asm_answer, IsAsmAnswer};
-ghost use Rattle.console.specs.Report.{answer_of, Failed, Reports, ReportsSome};
-ghost use Rattle.console.specs.InputFaults.{FailsAs, IfCannotRead};
+ghost use Rattle.console.specs.Report.{answer_of, Failed, Prepares, Reports, ReportsSome};
+ghost use Rattle.console.specs.InputFaults.{IfCannotRead};
 
 use crate::asm_texts::{asm_refusal_text, hex_line};
 use crate::input::{InputFault, read_text};
@@ -34,8 +33,7 @@ fn source_reply(alloc: Global, source: &str) -> Result<Reply, AllocError>
 
 /// What `asm` has to write.
 pub fn asm_reply<R: Source>(alloc: Global, source: &mut R) -> Result<Reply, InputFault>
-    ensures known { IfSome (R.remaining source.old) (λ s. MatchResult result
-        (λ r. answer_of r ≡ asm_answer s) (λ e. FailsAs e (asm_answer s ≡ not_text))) }
+    ensures known { IfSome (R.remaining source.old) (λ s. Prepares result (asm_answer s)) }
     ensures failed { IfCannotRead result (R.has_failed source.new) }
     ensures some { IfOk result (λ r. IsAsmAnswer (answer_of r)) }
 {

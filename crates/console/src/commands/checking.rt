@@ -1,11 +1,12 @@
 // The command `check`.
 
-ghost use Rattle.std.specs.Prelude.{◌≡◌, ◌⊎◌, IfOk, IfSome, MatchResult};
+ghost use Rattle.std.specs.Prelude.{◌≡◌, ◌⊎◌, IfOk};
 ghost use Rattle.loader.specs.Loading.{loaded};
-ghost use Rattle.console.specs.Answer.{loaded_answer, check_answer, IsCheckAnswer, not_text};
+ghost use Rattle.console.specs.Answer.{loaded_answer, check_answer, IsCheckAnswer};
 ghost use Rattle.console.specs.Files.{SomeFile};
-ghost use Rattle.console.specs.Report.{answer_of, Failed, Reports, ReportsSome};
-ghost use Rattle.console.specs.InputFaults.{FailsAs, IfCannotRead};
+ghost use Rattle.console.specs.Inputs.{IfFilesKnown};
+ghost use Rattle.console.specs.Report.{answer_of, Failed, Prepares, Reports, ReportsSome};
+ghost use Rattle.console.specs.InputFaults.{IfCannotRead};
 ghost use Rattle.console.specs.Input.{owned_files};
 
 use crate::catalogues::{Loaded, load};
@@ -40,8 +41,7 @@ pub fn check_reply<F: Folder, R: Source>(
     folder: &F,
     manifest: &mut R,
 ) -> Result<Reply, InputFault>
-    ensures known { IfSome (R.remaining manifest.old) (λ m. IfSome (F.holds folder.now) (λ h. MatchResult result
-        (λ r. answer_of r ≡ check_answer m h) (λ e. FailsAs e (check_answer m h ≡ not_text)))) }
+    ensures known { IfFilesKnown (R.remaining manifest.old) (F.holds folder.now) (λ m h. Prepares result (check_answer m h)) }
     ensures failed { IfCannotRead result (R.has_failed manifest.new ⊎ SomeFile F.File.has_failed) }
     ensures some { IfOk result (λ r. IsCheckAnswer (answer_of r)) }
 {
@@ -61,8 +61,8 @@ pub fn check<F: Folder, R: Source, W: Sink>(
     writer: &mut W,
 ) -> Status
     // Where the reader and the folder tell their bytes, those are checked.
-    ensures written { IfSome (R.remaining manifest.old) (λ m. IfSome (F.holds folder.now) (λ h.
-        Reports (W.contents writer.old) (W.contents writer.new) result (check_answer m h))) }
+    ensures written { IfFilesKnown (R.remaining manifest.old) (F.holds folder.now) (λ m h.
+        Reports (W.contents writer.old) (W.contents writer.new) result (check_answer m h)) }
     // It says that a read or a write failed only after one did.
     ensures failed { Failed result (R.has_failed manifest.new ⊎ SomeFile F.File.has_failed) (W.has_failed writer.new) }
     // Whatever they give, or where they fail.

@@ -1,12 +1,11 @@
 // The command `dis`.
 
-ghost use Rattle.std.specs.Prelude.{◌≡◌, IfOk, IfSome, MatchResult};
+ghost use Rattle.std.specs.Prelude.{◌≡◌, IfOk, IfSome};
 ghost use Rattle.insn.specs.Decoded.{decoded};
 ghost use Rattle.text.specs.Digits.{spaced_bytes};
-ghost use Rattle.console.specs.Answer.{not_text};
 ghost use Rattle.console.specs.AsmAnswer.{decoded_answer, bytes_answer, dis_answer, IsDisAnswer};
-ghost use Rattle.console.specs.Report.{answer_of, Failed, Reports, ReportsSome};
-ghost use Rattle.console.specs.InputFaults.{FailsAs, IfCannotRead};
+ghost use Rattle.console.specs.Report.{answer_of, Failed, Prepares, Reports, ReportsSome};
+ghost use Rattle.console.specs.InputFaults.{IfCannotRead};
 
 use crate::asm_texts::{bad_hex, decode_refusal_text};
 use crate::input::{InputFault, read_text};
@@ -49,8 +48,7 @@ fn file_reply(alloc: Global, digits: &str) -> Result<Reply, AllocError>
 
 /// What `dis` has to write.
 pub fn dis_reply<R: Source>(alloc: Global, program: &mut R) -> Result<Reply, InputFault>
-    ensures known { IfSome (R.remaining program.old) (λ s. MatchResult result
-        (λ r. answer_of r ≡ dis_answer s) (λ e. FailsAs e (dis_answer s ≡ not_text))) }
+    ensures known { IfSome (R.remaining program.old) (λ s. Prepares result (dis_answer s)) }
     ensures failed { IfCannotRead result (R.has_failed program.new) }
     ensures some { IfOk result (λ r. IsDisAnswer (answer_of r)) }
 {

@@ -1,13 +1,13 @@
 // The command `replay`.
 
-ghost use Rattle.std.specs.Prelude.{◌≡◌, ◌⊎◌, IfOk, IfSome, MatchResult};
+ghost use Rattle.std.specs.Prelude.{◌≡◌, ◌⊎◌, IfOk};
 ghost use Rattle.loader.specs.Loading.{Outcome};
 ghost use Rattle.text.specs.Lines.{lines_of};
-ghost use Rattle.console.specs.Answer.{not_text};
 ghost use Rattle.console.specs.ReplayAnswer.{transcript_answer, nothing_replayed, replayed, replay_answer, IsReplayAnswer};
 ghost use Rattle.console.specs.Files.{SomeFile};
-ghost use Rattle.console.specs.Report.{answer_of, Failed, Reports, ReportsSome};
-ghost use Rattle.console.specs.InputFaults.{FailsAs, IfCannotRead};
+ghost use Rattle.console.specs.Inputs.{IfTextsKnown};
+ghost use Rattle.console.specs.Report.{answer_of, Failed, Prepares, Reports, ReportsSome};
+ghost use Rattle.console.specs.InputFaults.{IfCannotRead};
 ghost use Rattle.console.specs.Loaded.{LoadedIs};
 ghost use Rattle.console.specs.Replaying.{ended_answer};
 
@@ -63,8 +63,8 @@ pub fn replay_reply<F: Folder, R: Source, S: Source>(
     manifest: &mut R,
     transcript: &mut S,
 ) -> Result<Reply, InputFault>
-    ensures known { IfSome (R.remaining manifest.old) (λ m. IfSome (F.holds folder.now) (λ h. IfSome (S.remaining transcript.old) (λ s. MatchResult result
-        (λ r. answer_of r ≡ replay_answer m h s) (λ e. FailsAs e (replay_answer m h s ≡ not_text))))) }
+    ensures known { IfTextsKnown (R.remaining manifest.old) (F.holds folder.now) (S.remaining transcript.old) (λ m h s.
+        Prepares result (replay_answer m h s)) }
     ensures failed { IfCannotRead result (R.has_failed manifest.new ⊎ SomeFile F.File.has_failed ⊎ S.has_failed transcript.new) }
     ensures some { IfOk result (λ r. IsReplayAnswer (answer_of r)) }
 {
@@ -88,8 +88,8 @@ pub fn replay<F: Folder, R: Source, S: Source, W: Sink>(
     writer: &mut W,
 ) -> Status
     // Where the readers and the folder tell their bytes, those are replayed.
-    ensures written { IfSome (R.remaining manifest.old) (λ m. IfSome (F.holds folder.now) (λ h. IfSome (S.remaining transcript.old) (λ s.
-        Reports (W.contents writer.old) (W.contents writer.new) result (replay_answer m h s)))) }
+    ensures written { IfTextsKnown (R.remaining manifest.old) (F.holds folder.now) (S.remaining transcript.old) (λ m h s.
+        Reports (W.contents writer.old) (W.contents writer.new) result (replay_answer m h s)) }
     // It says that a read or a write failed only after one did.
     ensures failed { Failed result (R.has_failed manifest.new ⊎ SomeFile F.File.has_failed ⊎ S.has_failed transcript.new) (W.has_failed writer.new) }
     // Whatever they give, or where they fail.

@@ -1,12 +1,12 @@
 // The command `run`.
 
-ghost use Rattle.std.specs.Prelude.{◌≡◌, ◌⊎◌, [], IfOk, IfSome, MatchResult};
+ghost use Rattle.std.specs.Prelude.{◌≡◌, ◌⊎◌, [], IfOk};
 ghost use Rattle.loader.specs.Loading.{Outcome};
-ghost use Rattle.console.specs.Answer.{not_text};
 ghost use Rattle.console.specs.RunAnswer.{behind, script_answer, ran, run_answer, IsRunAnswer};
 ghost use Rattle.console.specs.Files.{SomeFile};
-ghost use Rattle.console.specs.Report.{answer_of, Failed, Reports, ReportsSome};
-ghost use Rattle.console.specs.InputFaults.{FailsAs, IfCannotRead};
+ghost use Rattle.console.specs.Inputs.{IfTextsKnown};
+ghost use Rattle.console.specs.Report.{answer_of, Failed, Prepares, Reports, ReportsSome};
+ghost use Rattle.console.specs.InputFaults.{IfCannotRead};
 ghost use Rattle.console.specs.Loaded.{LoadedIs};
 ghost use Rattle.console.specs.Running.{IsSteady, Follows};
 
@@ -87,8 +87,8 @@ pub fn run_reply<F: Folder, R: Source, S: Source>(
     manifest: &mut R,
     script: &mut S,
 ) -> Result<Reply, InputFault>
-    ensures known { IfSome (R.remaining manifest.old) (λ m. IfSome (F.holds folder.now) (λ h. IfSome (S.remaining script.old) (λ s. MatchResult result
-        (λ r. answer_of r ≡ run_answer m h s) (λ e. FailsAs e (run_answer m h s ≡ not_text))))) }
+    ensures known { IfTextsKnown (R.remaining manifest.old) (F.holds folder.now) (S.remaining script.old) (λ m h s.
+        Prepares result (run_answer m h s)) }
     ensures failed { IfCannotRead result (R.has_failed manifest.new ⊎ SomeFile F.File.has_failed ⊎ S.has_failed script.new) }
     ensures some { IfOk result (λ r. IsRunAnswer (answer_of r)) }
 {
@@ -112,8 +112,8 @@ pub fn run<F: Folder, R: Source, S: Source, W: Sink>(
     writer: &mut W,
 ) -> Status
     // Where the readers and the folder tell their bytes, those are run.
-    ensures written { IfSome (R.remaining manifest.old) (λ m. IfSome (F.holds folder.now) (λ h. IfSome (S.remaining script.old) (λ s.
-        Reports (W.contents writer.old) (W.contents writer.new) result (run_answer m h s)))) }
+    ensures written { IfTextsKnown (R.remaining manifest.old) (F.holds folder.now) (S.remaining script.old) (λ m h s.
+        Reports (W.contents writer.old) (W.contents writer.new) result (run_answer m h s)) }
     // It says that a read or a write failed only after one did.
     ensures failed { Failed result (R.has_failed manifest.new ⊎ SomeFile F.File.has_failed ⊎ S.has_failed script.new) (W.has_failed writer.new) }
     // Whatever they give, or where they fail.

@@ -1,13 +1,13 @@
 // The command `schedule`.
 
-ghost use Rattle.std.specs.Prelude.{◌≡◌, ◌⊎◌, length, IfOk, IfSome, MatchResult};
+ghost use Rattle.std.specs.Prelude.{◌≡◌, ◌⊎◌, length, IfOk};
 ghost use Rattle.loader.specs.Loading.{Outcome};
 ghost use Rattle.text.specs.Lines.{lines_of};
-ghost use Rattle.console.specs.Answer.{not_text};
 ghost use Rattle.console.specs.ScheduleAnswer.{sizes_refused as refused_sizes, steps_answer, catalogue_answer, scheduled, schedule_answer, IsScheduleAnswer};
 ghost use Rattle.console.specs.Files.{SomeFile};
-ghost use Rattle.console.specs.Report.{answer_of, Failed, Reports, ReportsSome};
-ghost use Rattle.console.specs.InputFaults.{FailsAs, IfCannotRead};
+ghost use Rattle.console.specs.Inputs.{IfTextsKnown};
+ghost use Rattle.console.specs.Report.{answer_of, Failed, Prepares, Reports, ReportsSome};
+ghost use Rattle.console.specs.InputFaults.{IfCannotRead};
 ghost use Rattle.console.specs.Loaded.{LoadedIs};
 ghost use Rattle.console.specs.RunAnswer.{behind};
 
@@ -124,9 +124,8 @@ pub fn schedule_reply<F: Folder, R: Source, S: Source>(
     manifest: &mut R,
     steps: &mut S,
 ) -> Result<Reply, InputFault>
-    ensures known { IfSome (R.remaining manifest.old) (λ m. IfSome (F.holds setup.entry.folder.now) (λ h. IfSome (S.remaining steps.old) (λ s.
-        MatchResult result (λ r. answer_of r ≡ schedule_answer setup.entry.config m h s)
-        (λ e. FailsAs e (schedule_answer setup.entry.config m h s ≡ not_text))))) }
+    ensures known { IfTextsKnown (R.remaining manifest.old) (F.holds setup.entry.folder.now) (S.remaining steps.old) (λ m h s.
+        Prepares result (schedule_answer setup.entry.config m h s)) }
     ensures failed { IfCannotRead result (R.has_failed manifest.new ⊎ SomeFile F.File.has_failed ⊎ S.has_failed steps.new) }
     ensures some { IfOk result (λ r. IsScheduleAnswer setup.entry.config (answer_of r)) }
 {
@@ -148,8 +147,8 @@ pub fn schedule<F: Folder, R: Source, S: Source, W: Sink>(
     writer: &mut W,
 ) -> Status
     // Where the readers and the folder tell their bytes, those steps are taken.
-    ensures written { IfSome (R.remaining manifest.old) (λ m. IfSome (F.holds setup.entry.folder.now) (λ h. IfSome (S.remaining steps.old) (λ s.
-        Reports (W.contents writer.old) (W.contents writer.new) result (schedule_answer setup.entry.config m h s)))) }
+    ensures written { IfTextsKnown (R.remaining manifest.old) (F.holds setup.entry.folder.now) (S.remaining steps.old) (λ m h s.
+        Reports (W.contents writer.old) (W.contents writer.new) result (schedule_answer setup.entry.config m h s)) }
     // It says that a read or a write failed only after one did.
     ensures failed { Failed result (R.has_failed manifest.new ⊎ SomeFile F.File.has_failed ⊎ S.has_failed steps.new) (W.has_failed writer.new) }
     // Whatever they give, or where they fail.

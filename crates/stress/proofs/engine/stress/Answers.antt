@@ -5,7 +5,8 @@ use Rattle.console.specs.Inputs.{all_texts}
 use Rattle.console.specs.Report.{answer_of}
 use Rattle.console.proofs.Reported.{failed_only}
 use Rattle.stress.specs.StressAnswer.{IsStressAnswer, IsSomeStressAnswer, ReportsOne}
-use Rattle.stress.proofs.Texts.{as_known, refused, reports_one, reports_some}
+use Rattle.console.proofs.InputTexts.{as_known}
+use Rattle.stress.proofs.Texts.{refused, reports_one, reports_some}
 use Rattle.stress.proofs.engine.stress.Goals as goal
 
 pub returns-clause-written : goal.returns-clause-written
@@ -13,10 +14,10 @@ returns-clause-written g c =
     let config = c.args.trial.now.config in
     let old = g.W.Sink.contents c.args.writer.now in
     let new = g.W.Sink.contents c.report.new.writer in
-    as_known (g.M.Source.remaining c.args.manifest.now) (g.F.Folder.holds c.args.trial.now.folder.now) (g.S.Source.remaining c.args.script.now)
-    (λ m h s. MatchResult c.prepare-prepared.result (λ x. IsStressAnswer config m h s (answer_of x)) (λ e. FailsAs e (all_texts m h s ≡ false)))
+    as_known (λ m h s. MatchResult c.prepare-prepared.result (λ x. IsStressAnswer config m h s (answer_of x)) (λ e. FailsAs e (all_texts m h s ≡ false)))
     (λ m h s. ReportsOne (IsStressAnswer config m h s) old new c.report.result)
-    (λ m h s. reports_one (IsStressAnswer config m h s) old new c.report.result (all_texts m h s ≡ false) (refused config m h s) c.prepare-prepared.result c.report.ensures.written) c.prepare-prepared.ensures.known
+    (λ m h s. reports_one (IsStressAnswer config m h s) old new c.report.result (all_texts m h s ≡ false) (refused config m h s) c.prepare-prepared.result c.report.ensures.written)
+    (g.M.Source.remaining c.args.manifest.now) (g.F.Folder.holds c.args.trial.now.folder.now) (g.S.Source.remaining c.args.script.now) c.prepare-prepared.ensures.known
 
 pub returns-clause-ended : goal.returns-clause-ended
 returns-clause-ended g c =
