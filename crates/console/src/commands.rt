@@ -12,4 +12,4 @@ pub use checking::{check, check_reply};
 pub use disassembling::{dis_reply, disassemble};
 pub use replaying::{replay, replay_reply};
 pub use running::{run, run_reply};
-pub use scheduling::{Setup, schedule, schedule_reply};
+pub use scheduling::{Setup, schedule, schedule_reply, sizes_refused};

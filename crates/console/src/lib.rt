@@ -37,11 +37,11 @@ pub use commands::{asm_reply, check_reply, dis_reply, replay_reply, run_reply, s
 
 // What an engine in a crate of its own is put together from, as `stress` is.
 pub use catalogues::Loaded;
+pub use commands::sizes_refused;
 pub use input::InputFault;
 pub use inputs::{Inputs, read_inputs};
 pub use replay_texts::bad_line;
 pub use reporting::{Reply, report};
-pub use schedule_texts::sizes_refused;
 pub use script::{ProgramCall, ScriptLine, read_line};
 pub use status::Verdict;
 pub use texts::{put_number, put_numbered};

@@ -1,12 +1,15 @@
 // What `replay` writes.
 
 ghost use Rattle.std.specs.Prelude.{◌≡◌, ◌++◌, IfOk, OnOk};
-ghost use Rattle.console.specs.RunAnswer.{bad_line_text};
+ghost use Rattle.console.specs.RunAnswer.{bad_line};
+ghost use Rattle.console.specs.Report.{answer_of};
 ghost use Rattle.console.specs.ReplayAnswer.{good_text, differs_text};
 ghost use Rattle.console.specs.Replaying.{ended_text};
 
 use crate::replaying::{ReplayEnd, Replaying};
+use crate::reporting::Reply;
 use crate::run_texts::put_bad_line;
+use crate::status::Verdict;
 use crate::texts::put_numbered;
 use std::alloc::{AllocError, Global};
 
@@ -43,11 +46,12 @@ pub(crate) fn put_end(
     }
 }
 
-/// What is written where the line of this number is bad.
-pub fn bad_line(alloc: Global, number: u32) -> Result<Vec<u8>, AllocError>
-    ensures { IfOk result (λ v. v.items ≡ bad_line_text number) }
+/// What is answered where the line of this number is bad.
+pub fn bad_line(alloc: Global, number: u32) -> Result<Reply, AllocError>
+    ensures { IfOk result (λ r. answer_of r ≡ bad_line number) }
 {
-    let mut out = Vec::new(alloc);
-    put_bad_line(&mut out, number)?;
-    Ok(out)
+    let mut text = Vec::new(alloc);
+    put_bad_line(&mut text, number)?;
+    let verdict = Verdict::Refused;
+    Ok(Reply { text, verdict })
 }

@@ -1,14 +1,14 @@
 // What `schedule` writes.
 
-ghost use Rattle.std.specs.Prelude.{◌≡◌, ◌++◌, length, slice_get, OnOk, IfOk};
-ghost use Rattle.console.specs.ScheduleAnswer.{step_text, log_text, end_text, sizes_refused};
+ghost use Rattle.std.specs.Prelude.{◌≡◌, ◌++◌, length, slice_get, OnOk};
+ghost use Rattle.console.specs.ScheduleAnswer.{step_text, log_text, end_text};
 ghost use Rattle.console.specs.Scheduling.{node_line};
 
 use crate::texts::{put_numbered, put_pair};
 use combiner::Reply;
 use oplog::LogState;
 use schedule::{StepAnswer, World};
-use std::alloc::{AllocError, Global};
+use std::alloc::AllocError;
 
 // The line of a step.
 pub(crate) fn put_step(out: &mut Vec<u8>, answer: StepAnswer) -> Result<(), AllocError>
@@ -55,13 +55,4 @@ pub(crate) fn put_end(out: &mut Vec<u8>, world: &World, nodes: u32) -> Result<()
         put_node(out, world, number)?;
     }
     Ok(())
-}
-
-/// What is written where the sizes of a store are out of their limits.
-pub fn sizes_refused(alloc: Global) -> Result<Vec<u8>, AllocError>
-    ensures { IfOk result (λ v. v.items ≡ sizes_refused.text) }
-{
-    let mut out = Vec::new(alloc);
-    out.extend_from_slice(b"refused O1\n")?;
-    Ok(out)
 }

@@ -67,17 +67,11 @@ fn catalogue_reply<R: Threads + Wait + Sync, F: Folder, G: Gate + Sync>(
     ensures { IfOk result (λ r. IsCatalogueAnswer trial.now.config catalogue script.now (answer_of r)) }
 {
     if !trial.config.is_within_limits() {
-        return Ok(Reply {
-            text: sizes_refused(trial.alloc)?,
-            verdict: Verdict::Refused,
-        });
+        return sizes_refused(trial.alloc);
     }
     match read_calls(trial.alloc, &catalogue, script)? {
         ScriptCalls::Good(calls) => calls_reply(rt, trial, catalogue, &calls),
-        ScriptCalls::Bad(number) => Ok(Reply {
-            text: bad_line(trial.alloc, number)?,
-            verdict: Verdict::Refused,
-        }),
+        ScriptCalls::Bad(number) => bad_line(trial.alloc, number),
     }
 }
 

@@ -3,7 +3,7 @@
 ghost use Rattle.std.specs.Prelude.{◌≡◌, ◌⊎◌, length, IfOk};
 ghost use Rattle.loader.specs.Loading.{Outcome};
 ghost use Rattle.text.specs.Lines.{lines_of};
-ghost use Rattle.console.specs.ScheduleAnswer.{sizes_refused as refused_sizes, steps_answer, catalogue_answer, scheduled, schedule_answer, IsScheduleAnswer};
+ghost use Rattle.console.specs.ScheduleAnswer.{sizes_refused, steps_answer, catalogue_answer, scheduled, schedule_answer, IsScheduleAnswer};
 ghost use Rattle.console.specs.Files.{SomeFile};
 ghost use Rattle.console.specs.Inputs.{IfTextsKnown};
 ghost use Rattle.console.specs.Report.{answer_of, Failed, Prepares, Reports, ReportsSome};
@@ -17,7 +17,7 @@ use crate::input::InputFault;
 use crate::inputs::read_inputs;
 use crate::reporting::{Reply, report};
 use crate::run_texts::put_bad_line;
-use crate::schedule_texts::{put_end, sizes_refused};
+use crate::schedule_texts::put_end;
 use crate::status::{Status, Verdict};
 use crate::stepping::take_step_line;
 use crate::transfer::{Sink, Source};
@@ -76,14 +76,14 @@ fn steps_reply(
     Ok(Reply { text, verdict })
 }
 
-// The answer where the sizes of a store are out of their limits.
-fn sizes_reply(alloc: Global) -> Result<Reply, AllocError>
-    ensures { IfOk result (λ r. answer_of r ≡ refused_sizes) }
+/// What is answered where the sizes of a store are out of their limits.
+pub fn sizes_refused(alloc: Global) -> Result<Reply, AllocError>
+    ensures { IfOk result (λ r. answer_of r ≡ sizes_refused) }
 {
-    Ok(Reply {
-        text: sizes_refused(alloc)?,
-        verdict: Verdict::Refused,
-    })
+    let mut text = Vec::new(alloc);
+    text.extend_from_slice(b"refused O1\n")?;
+    let verdict = Verdict::Refused;
+    Ok(Reply { text, verdict })
 }
 
 // What a catalogue answers to a list of steps, in a store of these sizes.
@@ -97,7 +97,7 @@ fn catalogue_reply(
 {
     match World::open(alloc, config, catalogue) {
         Ok(mut world) => steps_reply(alloc, &mut world, config.nodes, steps),
-        Err(OpenError::OutOfLimits) => sizes_reply(alloc),
+        Err(OpenError::OutOfLimits) => sizes_refused(alloc),
         Err(OpenError::NoMemory) => Err(AllocError),
     }
 }
