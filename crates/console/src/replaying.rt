@@ -130,7 +130,8 @@ impl Replaying {
         ensures steady { IsSteady catalogue.now self.new.node }
         ensures compared { (at : Replayed) (op : TheOperation) → op ≡ record { program = found.entry.number; argument = call.now.call.argument.items }
             → HasReplayed catalogue.now at self.old
-            → IsCompared catalogue.now (read_agrees catalogue.now at.history op call.now.place call.now.reply) (record at { reads = next_count at.reads }) result self.new }
+            → IsCompared catalogue.now (read_agrees catalogue.now at.history op call.now.place call.now.reply)
+            (record at { reads = next_count at.reads }) result self.new }
     {
         if call.place != self.node.tail() {
             return false;
