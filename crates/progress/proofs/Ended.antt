@@ -120,7 +120,7 @@ module _ {C M : Type 0} (E : Meaning C M) where
           (λ h. subst (λ (z : Pending). z.seen ≤ i) (some_one h.0 o (sym h.1 ∙ (ap (λ (z : SessionNote). z.pending) same ∙ asked))) h.4) t.2
 
       tell : (r : Reply) → Answers E l c (length n.answered) o.op r → Tells E l c (length n.answered) o r
-      tell (Placed i reply) h = (seen i h.1, h.0, h.1, h.2)
+      tell (Placed i reply) h = (seen i h.1, h)
       tell Ended h = h
 
   pub ends : Ends E

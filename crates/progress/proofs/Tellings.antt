@@ -64,9 +64,11 @@ module _ {C M : Type 0} (E : Meaning C M) where
   pub placed_tells : PlacedTells E
   placed_tells known l c seq i reply o grown at is seen done = (
     seen,
-    done,
-    subst (λ h. At i (record { author = c; seq = seq; op = o.op }) h) (sym grown.history.1) (at_front known.history grown.history.0 i _ at),
-    sym (reply_on known l i o.op grown (let b = at_below known.history i _ at in omega (arith, b))) ∙ is,
+    (
+      done,
+      subst (λ h. At i (record { author = c; seq = seq; op = o.op }) h) (sym grown.history.1) (at_front known.history grown.history.0 i _ at),
+      sym (reply_on known l i o.op grown (let b = at_below known.history i _ at in omega (arith, b))) ∙ is,
+    ),
   )
 
   pub reads_tell : ReadsTell E

@@ -3,7 +3,7 @@ use Rattle.std.specs.Prelude.{◌≡◌, ℕ, suc, ◌<◌, ◌≤◌, ◌==◌,
 use Rattle.ownlock.specs.Seats.{At}
 use Rattle.oplog.specs.Operations.{Operation}
 use Rattle.oplog.specs.declared.records.Record.{Record}
-use Rattle.oplog.specs.History.{Meaning, History, reply_at, read_reply_at}
+use Rattle.oplog.specs.History.{Meaning, History, read_reply_at}
 use Rattle.progress.specs.declared.sessions.Progress.{Progress}
 use Rattle.progress.specs.declared.sessions.Pending.{Pending}
 use Rattle.progress.specs.declared.sessions.AnsweredUpdate.{AnsweredUpdate}
@@ -14,8 +14,8 @@ use Rattle.combiner.specs.declared.slots.Stage.TheVariants.{Answered}
 use Rattle.combiner.specs.declared.slots.Reply.{Reply}
 use Rattle.combiner.specs.declared.slots.Reply.TheVariants.{Placed, Ended}
 use Rattle.oplog.specs.Sessions.{session}
-use Rattle.progress.specs.Accounts.{HasNoRecord, Accounts}
-use Rattle.progress.specs.Agreement.{DeskAgrees}
+use Rattle.progress.specs.Accounts.{Accounts}
+use Rattle.progress.specs.Agreement.{Answers, DeskAgrees}
 
 -- the records of a session, in order
 abbrev pub records_of : ℕ → History → History
@@ -31,12 +31,10 @@ abbrev pub note_with : SessionNote → ℕ → Operation → SessionNote
 note_with n i op = record { answered = n.answered ++ record { place = i; op = op } ∷ []; pending = None; batch = [] }
 
 module _ {C M : Type 0} (E : Meaning C M) where
-  -- the answer to the request o of session c, its next by this number: the place is not before the history's length at the call, is
-  -- completed, and has the session's record of it, and the reply is the one of there; or the history has its last record and none is of that number
+  -- the answer to the request o of session c, its next by this number, is right, and its place is not before the history's length at the call
   abbrev pub Tells : Progress C → ℕ → ℕ → Pending → Reply → Type 0
-  Tells l c seq o (Placed i reply) =
-      (o.seen ≤ i) × (i < l.completed) × At i (record { author = c; seq = seq; op = o.op }) l.history × (reply_at E l.catalogue l.history i o.op ≡ Some reply)
-  Tells l c seq o Ended = (l.completed ≡ l.config.limit) × HasNoRecord l.history c seq
+  Tells l c seq o (Placed i reply) = (o.seen ≤ i) × Answers E l c seq o.op (Placed i reply)
+  Tells l c seq o Ended = Answers E l c seq o.op Ended
 
   -- the answer to a read that began when so many operations were completed: its point lies from there to the completed tail at its
   -- end, and the reply is the one after the operations before that point

@@ -73,7 +73,7 @@ invoked k a f op reply p c = record {
     told : (reply : Reply) → Tells store_meaning f.progress k.session (length k.note.answered) p.request reply → Tells store_meaning f.progress k.session (length k.note.answered) (request_of k.progress op) reply
     told (Placed i x) t =
         let far = p.seen in let low = t.0 in
-        subst (λ (z : Operation). Tells store_meaning f.progress k.session (length k.note.answered) (request_of k.progress z) (Placed i x)) p.op_is (omega (arith, far, low), t.1, t.2, t.3)
+        subst (λ (z : Operation). Tells store_meaning f.progress k.session (length k.note.answered) (request_of k.progress z) (Placed i x)) p.op_is (omega (arith, far, low), t.1)
     told Ended t = t
 
 -- ---- the session, once it has its answer
@@ -102,7 +102,7 @@ module _ (k f : K) (op : Operation) (reply : Reply) (v : Invoked k f op reply) w
       low = subst (λ (z : K). length z.note.answered ≤ length z.progress.history) same i.within
 
       fits : (reply : Reply) → Tells store_meaning f.progress k.session (length k.note.answered) (request_of k.progress op) reply → length (answered_with k.note op reply).answered ≤ length f.progress.history
-      fits (Placed i x) t = let more = length-append k.note.answered (record { place = i; op = op } ∷ []) in let far = t.0 in let lt = t.1 in let top = v.stands.accounts.completed in let small = low in omega (arith, more, far, lt, top, small)
+      fits (Placed i x) t = let more = length-append k.note.answered (record { place = i; op = op } ∷ []) in let far = t.0 in let lt = t.1.0 in let top = v.stands.accounts.completed in let small = low in omega (arith, more, far, lt, top, small)
       fits Ended t = let long = grown_long store_meaning k.progress f.progress v.extends in let small = low in omega (arith, long, small)
 
       ap_length : length (answered_with k.note op reply).answered ≤ length f.progress.history → length f.note.answered ≤ length f.progress.history

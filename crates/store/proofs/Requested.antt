@@ -48,7 +48,7 @@ stands_still known l grown full top =
 
 pub tells_on : (known l : Progress CatalogueView) (ns : List SessionNote) (c seq : ℕ) (o : Pending) (reply : Reply) → known.completed ≤ length known.history → Extends known l → Accounts store_meaning l ns
     → Tells store_meaning known c seq o reply → Tells store_meaning l c seq o reply
-tells_on known l ns c seq o (Placed i x) low grown w t = let up = grown.completed in let lt = t.1 in placed_tells store_meaning known l c seq i x o grown t.2 t.3 t.0 (omega (arith, lt, up))
+tells_on known l ns c seq o (Placed i x) low grown w t = let up = grown.completed in let lt = t.1.0 in placed_tells store_meaning known l c seq i x o grown t.1.1 t.1.2 t.0 (omega (arith, lt, up))
 tells_on known l ns c seq o Ended low grown w t =
     let up = grown.completed in let at = t.0 in let same = ap (λ (z : Config). z.limit) grown.config in let top = w.limit in let end = w.completed in (
       omega (arith, up, at, same, top, end),

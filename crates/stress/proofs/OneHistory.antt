@@ -183,8 +183,8 @@ module _ (old new : SessionView) (t : Told) (op : Operation) (asks : Asks (calle
   updated a h = record {
     session = same;
     grown = grown;
-    so = (op, asks, ((record { author = old.session; seq = length old.note.answered; op = op }, h.0.2, refl), h.0.3));
-    noted = (op, ap (λ (n : SessionNote). n.answered) h.1, h.0.2);
+    so = (op, asks, ((record { author = old.session; seq = length old.note.answered; op = op }, h.0.1.1, refl), h.0.1.2));
+    noted = (op, ap (λ (n : SessionNote). n.answered) h.1, h.0.1.1);
   }
 
   pub seen : (a : ReadAnswer) → ReadTells store_meaning new.progress old.progress.completed op a.point a.reply → new.note ≡ old.note → IsAsked old new (record { call = t.call; said = told.Seen a })
