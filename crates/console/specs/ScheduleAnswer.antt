@@ -9,6 +9,7 @@ use Rattle.oplog.specs.Logs.{Log, tail_of}
 use Rattle.oplog.specs.declared.configuration.Config.{Config}
 use Rattle.oplog.specs.declared.configuration.TheConstants.{MAX_NODES, MAX_NODE_SLOTS, MIN_WINDOW, MAX_WINDOW, MAX_LIMIT}
 use Rattle.combiner.specs.declared.slots.Reply.TheVariants.{Placed, Ended}
+use Rattle.node.specs.Steps.{Appends, Replays, Finishes, Reclaims, Rebases, Replies}
 use Rattle.schedule.specs.declared.parts.Opening.{Opening}
 use Rattle.schedule.specs.declared.steps.StepAnswer.{StepAnswer}
 use Rattle.schedule.specs.declared.steps.StepAnswer.TheVariants.{Done, NotNow, Back, ReadBack}
@@ -77,12 +78,12 @@ part_of m (ReadBegin at) g node = steps.read_begin m at.slot (operation_at m.cat
 part_of m (Collect at) g node = steps.collect at.slot g node
 part_of m (ReadAnswer at) g node = steps.read_answer m at.slot g node
 part_of m (Claim n) g node = steps.claim g node
-part_of m (Append n) g node = steps.append g node
-part_of m (Replay n) g node = steps.replay m g node
-part_of m (Finish n) g node = steps.finish g node
-part_of m (Reply n) g node = steps.reply g node
-part_of m (Reclaim n) g node = steps.reclaim g node
-part_of m (Rebase n) g node = steps.rebase g node
+part_of m (Append n) g node = steps.inner m Appends g node
+part_of m (Replay n) g node = steps.inner m Replays g node
+part_of m (Finish n) g node = steps.inner m Finishes g node
+part_of m (Reply n) g node = steps.inner m Replies g node
+part_of m (Reclaim n) g node = steps.inner m Reclaims g node
+part_of m (Rebase n) g node = steps.inner m Rebases g node
 
 -- the line's step of the store
 abbrev pub line_took : Opening → WorldView → StepMeaning → Option Took

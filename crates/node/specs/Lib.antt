@@ -1,3 +1,5 @@
 -- To be believed: when a node may take a step, what the step makes of its replica and of the log, and how a batch is answered.
 pub mod Following
 pub mod Answering
+-- These steps as one list.
+pub mod Steps

@@ -5,9 +5,11 @@
 
 mod answering;
 mod following;
+mod parts;
 
 pub use answering::answer_batch;
 pub use following::{
     NodeReplica, append, copy, finish, follow, has_next, may_answer, may_append, may_finish,
     may_rebase, may_reclaim, may_reply, rebase, reclaim, replay,
 };
+pub use parts::{NodeBatch, Written};

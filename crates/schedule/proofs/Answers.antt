@@ -13,8 +13,8 @@ use Rattle.node.specs.Following.{may_answer}
 use Rattle.node.specs.Answering.{answered_batch, HaveRun}
 use Rattle.node.proofs.Answers.{answers_placed, answers_ended}
 use Rattle.schedule.specs.declared.parts.BegunRead.{BegunRead}
-use Rattle.schedule.specs.declared.parts.Written.{Written}
-use Rattle.schedule.specs.declared.parts.NodeBatch.TheVariants.{InLog}
+use Rattle.node.specs.declared.parts.Written.{Written}
+use Rattle.node.specs.declared.parts.NodeBatch.TheVariants.{InLog}
 use Rattle.schedule.specs.declared.parts.Opening.{Opening}
 use Rattle.schedule.specs.declared.steps.Step.{Step}
 use Rattle.schedule.specs.declared.steps.StepAnswer.{StepAnswer}

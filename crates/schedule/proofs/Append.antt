@@ -1,5 +1,5 @@
 -- The step that appends a batch.
-use Rattle.std.proofs.Common.{◌≡◌, ◌≢◌, ℕ, zero, suc, ◌+◌, ◌-◌, ◌<◌, ◌≤◌, List, [], ◌∷◌, ◌++◌, length, take, Some, refl, sym, ◌∙◌, inl, inr, ⊎_elim, arith, subst, length-append, length-drop}
+use Rattle.std.proofs.Common.{◌≡◌, ◌≢◌, ℕ, zero, suc, ◌+◌, ◌-◌, ◌<◌, ◌≤◌, List, [], ◌∷◌, ◌++◌, length, take, Some, refl, sym, ◌∙◌, inl, inr, ⊎_elim, arith, subst, ap, length-append, length-drop}
 use Rattle.std.specs.Prelude.{slice_get, slice_set, ◌⊎◌, nat_le, min, if◌then◌else◌}
 use Rattle.std.proofs.lemmas.Option.{same_Some}
 use Rattle.std.proofs.lemmas.Bool.{ne_eqb, eq-eqb, and_parts, leb-true}
@@ -8,16 +8,17 @@ use Rattle.oplog.specs.Logs.{room_in, HandView, tail_of, left_of, records_from}
 use Rattle.oplog.specs.Sessions.{session}
 use Rattle.combiner.specs.Desks.{BatchView, IsBatchOf}
 use Rattle.replica.specs.Views.{ReplicaView}
-use Rattle.node.specs.Following.{room_for, grown, is_above, may_append}
-use Rattle.schedule.specs.declared.parts.NodeBatch.{NodeBatch}
-use Rattle.schedule.specs.declared.parts.NodeBatch.TheVariants.{Absent, Held, InLog}
+use Rattle.node.specs.Following.{room_for, grown, is_above}
+use Rattle.node.specs.Steps.{Appends, may_append_batch, append_batch}
+use Rattle.node.specs.declared.parts.NodeBatch.{NodeBatch}
+use Rattle.node.specs.declared.parts.NodeBatch.TheVariants.{Absent, Held, InLog}
 use Rattle.schedule.specs.Trace.{Trace, Places}
 use Rattle.schedule.specs.declared.parts.Opening.{Opening}
 use Rattle.schedule.specs.Worlds.{NodeView, WorldView, own_of}
-use Rattle.schedule.specs.Steps.{Part, silent, append, with_appended, claimed_batch}
+use Rattle.schedule.specs.Steps.{Part, inner, seen_of, put_seen}
 use Rattle.schedule.specs.Stands.{StageStands, NodeStands, LogStands, ReplicaStands, BatchStands, Stands, batch_in}
 use Rattle.schedule.proofs.Lists.{get_more, get_drop, get_taken, set_length}
-use Rattle.schedule.proofs.Options.{cond_gives, then_gives, claimed_is}
+use Rattle.schedule.proofs.Options.{cond_gives, claimed_is}
 use Rattle.schedule.proofs.Explained.{after_more, effect_more}
 use Rattle.schedule.proofs.Calls.{nodes_put, Kept}
 use Rattle.schedule.proofs.Appends.{Grown, grown_to, grown_length, placed, none_kept}
@@ -78,6 +79,9 @@ module _ (m : Opening) (w : WorldView) (h : History) (places : Places) (t : Trac
   len : length all_of ≡ length h + room_for b.records w.log
   len = grown_length m w h places t n node b at_n is_b x (room_for b.records w.log) few
 
+  abbrev pub appended : NodeView
+  appended = (put_seen node (append_batch (Held b) (seen_of w.log node))).node
+
   log_then : LogStands m (grown b.records w.log) all_of
   log_then = record {
     ends = (let e = x.log.ends in let a = length-append w.log.records (take (room_for b.records w.log) b.records) in let c = length-append h (take (room_for b.records w.log) b.records) in omega arith);
@@ -93,7 +97,7 @@ module _ (m : Opening) (w : WorldView) (h : History) (places : Places) (t : Trac
     window = x.log.window;
   }
 
-  node_then : NodeStands m w.log.done all_of (end.places_then) t n (with_appended w.log b node)
+  node_then : NodeStands m w.log.done all_of (end.places_then) t n appended
   node_then =
       let o = x.nodes n node at_n in
       let r = replica_grow m h (take (room_for b.records w.log) b.records) node.replica node.hand o.replica in
@@ -144,27 +148,27 @@ module _ (m : Opening) (w : WorldView) (h : History) (places : Places) (t : Trac
             (end.seats k old g s z read there begun);
       }
 
-  pub appended_stands : Kept m w h places t n (silent (grown b.records w.log) (with_appended w.log b node))
+  pub appended_stands : Kept m w h places t n (put_seen node (append_batch (Held b) (seen_of w.log node)))
   appended_stands = (
     take (room_for b.records w.log) b.records,
     end.more,
-    subst (λ ps. Stands m (record { log = grown b.records w.log; nodes = slice_set w.nodes n (with_appended w.log b node) }) all_of ps t) end.begins (record {
+    subst (λ ps. Stands m (record { log = grown b.records w.log; nodes = slice_set w.nodes n appended }) all_of ps t) end.begins (record {
       catalogue = x.catalogue;
       explains = end.explains;
       log = log_then;
-      count = set_length w.nodes n (with_appended w.log b node) ∙ x.count;
+      count = set_length w.nodes n appended ∙ x.count;
       callers = x.callers;
       stamps = x.stamps;
-      nodes = nodes_put (λ k y. NodeStands m w.log.done all_of (end.places_then) t k y) w.nodes n (with_appended w.log b node) other_then node_then;
+      nodes = nodes_put (λ k y. NodeStands m w.log.done all_of (end.places_then) t k y) w.nodes n appended other_then node_then;
     }),
   )
 
 pub keeps_append : (m : Opening) (w : WorldView) (h : History) (places : Places) (t : Trace) (n : ℕ) (node : NodeView) (p : Part)
-    → slice_get w.nodes n ≡ Some node → append w.log node ≡ Some p → Stands m w h places t → Kept m w h places t n p
+    → slice_get w.nodes n ≡ Some node → inner m Appends w.log node ≡ Some p → Stands m w h places t → Kept m w h places t n p
 keeps_append m w h places t n node p at_n taken x =
-    let r = then_gives _ (claimed_batch node.batch) p taken in
-    let b : BatchView = r.0 in
-    let c = cond_gives (may_append b.records w.log (own_of node)) _ p r.2 in
-    let tests = and_parts (is_above w.log (own_of node)) (nat_le (room_for b.records w.log) (room_in w.log)) c.0 in
-    subst (λ z. Kept m w h places t n z) (same_Some _ p c.1)
-    (appended_stands m w h places t n node b at_n (claimed_is node.batch b r.1) (leb-true w.log.base node.replica.tail tests.0) x)
+    let c = cond_gives (may_append_batch node.batch w.log (own_of node)) _ p taken in
+    let held = claimed_is node.batch w.log (own_of node) c.0 in
+    let tests = and_parts (is_above w.log (own_of node)) (nat_le (room_for (held.0).records w.log) (room_in w.log)) held.2 in
+    let becomes = ap (λ o. Some (put_seen node (append_batch o (seen_of w.log node)))) held.1 in
+    subst (λ z. Kept m w h places t n z) (same_Some _ p (sym becomes ∙ c.1))
+    (appended_stands m w h places t n node held.0 at_n held.1 (leb-true w.log.base node.replica.tail tests.0) x)

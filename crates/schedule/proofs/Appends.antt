@@ -13,8 +13,8 @@ use Rattle.combiner.specs.declared.slots.Slot.{Slot}
 use Rattle.combiner.specs.Desks.{BatchView, first_author, claimed_from, IsBatchOf}
 use Rattle.replica.specs.Views.{no_replies}
 use Rattle.schedule.specs.declared.parts.BegunRead.{BegunRead}
-use Rattle.schedule.specs.declared.parts.NodeBatch.{NodeBatch}
-use Rattle.schedule.specs.declared.parts.NodeBatch.TheVariants.{Held, InLog}
+use Rattle.node.specs.declared.parts.NodeBatch.{NodeBatch}
+use Rattle.node.specs.declared.parts.NodeBatch.TheVariants.{Held, InLog}
 use Rattle.schedule.specs.Trace.{Call, Trace, Places}
 use Rattle.schedule.specs.declared.parts.Opening.{Opening}
 use Rattle.schedule.specs.Explains.{Explains, count_of}

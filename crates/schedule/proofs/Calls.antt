@@ -17,7 +17,7 @@ use Rattle.combiner.specs.Slots.{slot, is_claimed, counted}
 use Rattle.combiner.specs.Desks.{DeskView, first_author, with_slot, claimed_from, posted, collected}
 use Rattle.replica.specs.StoreMeaning.{store_meaning, is_operation}
 use Rattle.schedule.specs.declared.parts.BegunRead.{BegunRead}
-use Rattle.schedule.specs.declared.parts.NodeBatch.{NodeBatch}
+use Rattle.node.specs.declared.parts.NodeBatch.{NodeBatch}
 use Rattle.schedule.specs.Trace.{Answer, Updated, ReadBack, Event, Call, Back, Trace, Places, caller, IsOpen, StampBefore, stamp}
 use Rattle.schedule.specs.declared.parts.Opening.{Opening}
 use Rattle.schedule.specs.Explains.{count_of}

@@ -17,18 +17,19 @@ use Rattle.combiner.specs.Slots.{claimed_stage, claimed_slot, requests_from, ans
 use Rattle.combiner.specs.Desks.{first_author, has_request, batch_of, claimed, claimed_from, IsBatchOf, answer_for, replied}
 use Rattle.replica.specs.StoreMeaning.{outcome_of}
 use Rattle.node.specs.Following.{no_records, may_reply}
+use Rattle.node.specs.Steps.{Replies, is_in_log, reply_batch}
 use Rattle.node.specs.Answering.{answered_batch}
 use Rattle.node.proofs.Answers.{answers_placed, answers_ended}
 use Rattle.schedule.specs.declared.parts.BegunRead.{BegunRead}
-use Rattle.schedule.specs.declared.parts.Written.{Written}
-use Rattle.schedule.specs.declared.parts.NodeBatch.TheVariants.{Absent, Held, InLog}
+use Rattle.node.specs.declared.parts.Written.{Written}
+use Rattle.node.specs.declared.parts.NodeBatch.TheVariants.{Absent, Held, InLog}
 use Rattle.schedule.specs.Trace.{Trace, Places}
 use Rattle.schedule.specs.declared.parts.Opening.{Opening}
 use Rattle.schedule.specs.Worlds.{NodeView, WorldView, own_of}
-use Rattle.schedule.specs.Steps.{Part, claim, reply, no_batch, appended_batch}
+use Rattle.schedule.specs.Steps.{Part, claim, no_batch, inner, seen_of, put_seen}
 use Rattle.schedule.specs.Stands.{OpenAt, ReplyStands, StageStands, DeskStands, NodeStands, BatchStands, WrittenStands, Stands, batch_in, place_in}
 use Rattle.schedule.proofs.Lists.{get_in, set_length}
-use Rattle.schedule.proofs.Options.{cond_gives, then_gives, none_is, no_batch_is, appended_is}
+use Rattle.schedule.proofs.Options.{cond_gives, none_is, no_batch_is, appended_is}
 use Rattle.schedule.proofs.Slots.{claims_own, requests_have, request_of, claimed_has, claimed_once, answered_get, answered_length, AllAnswered, none_claimed, answer_found}
 use Rattle.schedule.proofs.Calls.{nodes_put, Kept, same_history, session_is}
 
@@ -204,17 +205,18 @@ module _ (m : Opening) (w : WorldView) (h : History) (places : Places) (t : Trac
   }
 
 pub keeps_reply : (m : Opening) (w : WorldView) (h : History) (places : Places) (t : Trace) (n : ℕ) (node : NodeView) (p : Part)
-    → slice_get w.nodes n ≡ Some node → reply w.log node ≡ Some p → Stands m w h places t → Kept m w h places t n p
+    → slice_get w.nodes n ≡ Some node → inner m Replies w.log node ≡ Some p → Stands m w h places t → Kept m w h places t n p
 keeps_reply m w h places t n node p at_n taken x =
-    let r = then_gives _ (appended_batch node.batch) p taken in
-    let b : Written = r.0 in
-    let is_b = appended_is node.batch b r.1 in
-    let c = cond_gives (may_reply w.log.done (own_of node)) _ p r.2 in
-    let tests = and_parts (no_records node.hand.records) (nat_le node.replica.tail w.log.done) c.0 in
+    let c = cond_gives (is_in_log node.batch && may_reply w.log.done (own_of node)) _ p taken in
+    let both = and_parts (is_in_log node.batch) (may_reply w.log.done (own_of node)) c.0 in
+    let written = appended_is node.batch both.0 in
+    let b : Written = written.0 in
+    let becomes = ap (λ o. Some (put_seen node (reply_batch o (seen_of w.log node)))) written.1 in
+    let tests = and_parts (no_records node.hand.records) (nat_le node.replica.tail w.log.done) both.1 in
     let empty = none_is node.hand.records tests.0 in
     let below = leb-true node.replica.tail w.log.done tests.1 in
     let o = x.nodes n node at_n in
-    subst (λ z. Kept m w h places t n z) (same_Some _ p c.1)
+    subst (λ z. Kept m w h places t n z) (same_Some _ p (sym becomes ∙ c.1))
     (same_history m (record { log = w.log; nodes = slice_set w.nodes n (record node { desk = replied (answered_batch b.replies b.batch) node.desk; batch = Absent }) }) h places t (record {
       catalogue = x.catalogue;
       explains = x.explains;
@@ -223,5 +225,5 @@ keeps_reply m w h places t n node p at_n taken x =
       callers = x.callers;
       stamps = x.stamps;
       nodes = nodes_put (λ k y. NodeStands m w.log.done h places t k y) w.nodes n (record node { desk = replied (answered_batch b.replies b.batch) node.desk; batch = Absent }) (λ k old ne g. x.nodes k old g)
-          (node_replied m w h places t n node b o is_b empty below);
+          (node_replied m w h places t n node b o written.1 empty below);
     }))

@@ -7,13 +7,14 @@ use Rattle.oplog.specs.History.{History}
 use Rattle.oplog.specs.Logs.{HandView}
 use Rattle.oplog.specs.Sessions.{session}
 use Rattle.replica.specs.Views.{ReplicaView}
-use Rattle.node.specs.Following.{no_records, may_finish, told, may_reclaim, reclaimed, may_rebase, rebased}
-use Rattle.schedule.specs.declared.parts.NodeBatch.{NodeBatch}
-use Rattle.schedule.specs.declared.parts.NodeBatch.TheVariants.{Absent, Held, InLog}
+use Rattle.node.specs.Following.{no_records, may_finish, told, may_reclaim, reclaimed, may_rebase}
+use Rattle.node.specs.Steps.{Finishes, Reclaims, Rebases, next}
+use Rattle.node.specs.declared.parts.NodeBatch.{NodeBatch}
+use Rattle.node.specs.declared.parts.NodeBatch.TheVariants.{Absent, Held, InLog}
 use Rattle.schedule.specs.Trace.{Trace, Places}
 use Rattle.schedule.specs.declared.parts.Opening.{Opening}
-use Rattle.schedule.specs.Worlds.{NodeView, WorldView, own_of, with_own}
-use Rattle.schedule.specs.Steps.{Part, finish, reclaim, rebase}
+use Rattle.schedule.specs.Worlds.{NodeView, WorldView, own_of}
+use Rattle.schedule.specs.Steps.{Part, inner, seen_of, put_seen}
 use Rattle.schedule.specs.Stands.{NodeStands, BatchStands, Stands}
 use Rattle.schedule.proofs.Lists.{get_drop, set_length}
 use Rattle.schedule.proofs.Options.{cond_gives, none_is}
@@ -30,7 +31,7 @@ node_done m done more h places t n node l o = record {
 }
 
 pub keeps_finish : (m : Opening) (w : WorldView) (h : History) (places : Places) (t : Trace) (n : ℕ) (node : NodeView) (p : Part)
-    → slice_get w.nodes n ≡ Some node → finish w.log node ≡ Some p → Stands m w h places t → Kept m w h places t n p
+    → slice_get w.nodes n ≡ Some node → inner m Finishes w.log node ≡ Some p → Stands m w h places t → Kept m w h places t n p
 keeps_finish m w h places t n node p at_n taken x =
     let c = cond_gives (may_finish w.log.done (own_of node)) _ p taken in
     let above = ltb-true w.log.done node.replica.tail c.0 in
@@ -59,7 +60,7 @@ keeps_finish m w h places t n node p at_n taken x =
     }))
 
 pub keeps_reclaim : (m : Opening) (w : WorldView) (h : History) (places : Places) (t : Trace) (n : ℕ) (node : NodeView) (p : Part)
-    → slice_get w.nodes n ≡ Some node → reclaim w.log node ≡ Some p → Stands m w h places t → Kept m w h places t n p
+    → slice_get w.nodes n ≡ Some node → inner m Reclaims w.log node ≡ Some p → Stands m w h places t → Kept m w h places t n p
 keeps_reclaim m w h places t n node p at_n taken x =
     let c = cond_gives (may_reclaim w.log.done w.log (own_of node)) _ p taken in
     let tests = and_parts (nat_lt w.log.base node.replica.tail) (nat_le node.replica.tail w.log.done) c.0 in
@@ -103,7 +104,7 @@ moved m h replica hand new (InLog b) l empty inside p =
     }
 
 pub keeps_rebase : (m : Opening) (w : WorldView) (h : History) (places : Places) (t : Trace) (n : ℕ) (node : NodeView) (p : Part)
-    → slice_get w.nodes n ≡ Some node → rebase w.log node ≡ Some p → Stands m w h places t → Kept m w h places t n p
+    → slice_get w.nodes n ≡ Some node → inner m Rebases w.log node ≡ Some p → Stands m w h places t → Kept m w h places t n p
 keeps_rebase m w h places t n node p at_n taken x =
     let c = cond_gives (may_rebase w.log (own_of node)) _ p taken in
     let tests = and_parts (nat_lt node.replica.tail w.log.base) (no_records node.hand.records) c.0 in
@@ -114,14 +115,14 @@ keeps_rebase m w h places t n node p at_n taken x =
     let d = x.log.done in
     let inside : w.log.base ≤ length h = omega arith in
     subst (λ z. Kept m w h places t n z) (same_Some _ p c.1)
-    (same_history m (record { log = w.log; nodes = slice_set w.nodes n (with_own (rebased w.log (own_of node)) node) }) h places t (record {
+    (same_history m (record { log = w.log; nodes = slice_set w.nodes n ((put_seen node (next m.catalogue Rebases (seen_of w.log node))).node) }) h places t (record {
       catalogue = x.catalogue;
       explains = x.explains;
       log = x.log;
-      count = set_length w.nodes n (with_own (rebased w.log (own_of node)) node) ∙ x.count;
+      count = set_length w.nodes n ((put_seen node (next m.catalogue Rebases (seen_of w.log node))).node) ∙ x.count;
       callers = x.callers;
       stamps = x.stamps;
-      nodes = nodes_put (λ k y. NodeStands m w.log.done h places t k y) w.nodes n (with_own (rebased w.log (own_of node)) node) (λ k old ne g. x.nodes k old g)
+      nodes = nodes_put (λ k y. NodeStands m w.log.done h places t k y) w.nodes n ((put_seen node (next m.catalogue Rebases (seen_of w.log node))).node) (λ k old ne g. x.nodes k old g)
           (record {
             replica = record { tail = inside; maps = x.log.maps; begins = refl; next = λ j f g. absurd (none-some f g); window = o.replica.window };
             desk = record { number = o.desk.number; slots = o.desk.slots; reads = o.desk.reads; own = o.desk.own; answers = o.desk.answers };

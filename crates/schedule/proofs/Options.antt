@@ -5,6 +5,7 @@ use Rattle.std.specs.Option.{option_and_then}
 use Rattle.std.proofs.lemmas.Option.{none-some, same_Some}
 use Rattle.std.proofs.lemmas.Bool.{false≢true}
 use Rattle.oplog.specs.declared.records.Record.{Record}
+use Rattle.oplog.specs.Logs.{Log}
 use Rattle.oplog.specs.Operations.{Operation}
 use Rattle.combiner.specs.declared.slots.Reply.{Reply}
 use Rattle.combiner.specs.declared.slots.Stage.{Stage}
@@ -12,12 +13,14 @@ use Rattle.combiner.specs.declared.slots.Stage.TheVariants.{Empty, Posted, Claim
 use Rattle.combiner.specs.declared.slots.Slot.{Slot}
 use Rattle.combiner.specs.Slots.{slot, is_empty, counted}
 use Rattle.combiner.specs.Desks.{DeskView, BatchView, Collection, with_slot, posted, answer_in, collected}
-use Rattle.node.specs.Following.{no_records}
+use Rattle.node.specs.declared.following.NodeReplica.{NodeReplica}
+use Rattle.node.specs.Following.{no_records, may_append}
+use Rattle.node.specs.Steps.{may_append_batch, is_in_log}
 use Rattle.schedule.specs.declared.parts.BegunRead.{BegunRead}
-use Rattle.schedule.specs.declared.parts.Written.{Written}
-use Rattle.schedule.specs.declared.parts.NodeBatch.{NodeBatch}
-use Rattle.schedule.specs.declared.parts.NodeBatch.TheVariants.{Absent, Held, InLog}
-use Rattle.schedule.specs.Steps.{is_free, no_read, no_batch, claimed_batch, appended_batch}
+use Rattle.node.specs.declared.parts.Written.{Written}
+use Rattle.node.specs.declared.parts.NodeBatch.{NodeBatch}
+use Rattle.node.specs.declared.parts.NodeBatch.TheVariants.{Absent, Held, InLog}
+use Rattle.schedule.specs.Steps.{is_free, no_read, no_batch}
 
 -- ---- options
 
@@ -85,15 +88,15 @@ no_batch_is Absent e = refl
 no_batch_is (Held b) e = absurd (false≢true e)
 no_batch_is (InLog b) e = absurd (false≢true e)
 
-pub claimed_is : (o : NodeBatch) (b : BatchView) → claimed_batch o ≡ Some b → o ≡ Held b
-claimed_is Absent b e = absurd (none-some b e)
-claimed_is (Held c) b e = ap Held (same_Some c b e)
-claimed_is (InLog c) b e = absurd (none-some b e)
+pub claimed_is : (o : NodeBatch) (g : Log) (own : NodeReplica) → may_append_batch o g own ≡ true → (b : BatchView) × (o ≡ Held b) × (may_append b.records g own ≡ true)
+claimed_is Absent g own e = absurd (false≢true e)
+claimed_is (Held b) g own e = (b, refl, e)
+claimed_is (InLog b) g own e = absurd (false≢true e)
 
-pub appended_is : (o : NodeBatch) (b : Written) → appended_batch o ≡ Some b → o ≡ InLog b
-appended_is Absent b e = absurd (none-some b e)
-appended_is (Held c) b e = absurd (none-some b e)
-appended_is (InLog c) b e = ap InLog (same_Some c b e)
+pub appended_is : (o : NodeBatch) → is_in_log o ≡ true → (b : Written) × (o ≡ InLog b)
+appended_is Absent e = absurd (false≢true e)
+appended_is (Held b) e = absurd (false≢true e)
+appended_is (InLog b) e = (b, refl)
 
 pub none_is : (rs : List Record) → no_records rs ≡ true → rs ≡ []
 none_is [] e = refl

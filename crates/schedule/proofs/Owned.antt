@@ -24,8 +24,8 @@ use Rattle.replica.proofs.Histories.{have_effects}
 use Rattle.node.specs.declared.following.NodeReplica.{NodeReplica}
 use Rattle.node.specs.Following.{IsNext, has_next, with_next}
 use Rattle.schedule.specs.declared.parts.BegunRead.{BegunRead}
-use Rattle.schedule.specs.declared.parts.NodeBatch.{NodeBatch}
-use Rattle.schedule.specs.declared.parts.NodeBatch.TheVariants.{Absent, Held}
+use Rattle.node.specs.declared.parts.NodeBatch.{NodeBatch}
+use Rattle.node.specs.declared.parts.NodeBatch.TheVariants.{Absent, Held}
 use Rattle.schedule.specs.declared.parts.Opening.{Opening}
 use Rattle.schedule.specs.declared.steps.StepAnswer.TheVariants as answers
 use Rattle.schedule.specs.Trace.{Trace, Places}

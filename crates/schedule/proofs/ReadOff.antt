@@ -10,7 +10,8 @@ use Rattle.oplog.specs.Logs.{Log}
 use Rattle.oplog.specs.Sessions.{session}
 use Rattle.combiner.specs.Desks.{posted, collected, has_request}
 use Rattle.replica.specs.StoreMeaning.{store_meaning, is_operation}
-use Rattle.node.specs.Following.{may_append, has_next, may_finish, may_reclaim, may_rebase, may_answer, may_reply}
+use Rattle.node.specs.Following.{may_answer}
+use Rattle.node.specs.Steps.{NodeStep, Appends, Replays, Finishes, Reclaims, Rebases, Replies, may}
 use Rattle.schedule.specs.declared.parts.BegunRead.{BegunRead}
 use Rattle.schedule.specs.declared.parts.Opening.{Opening}
 use Rattle.schedule.specs.declared.steps.Step.{Step}
@@ -18,7 +19,7 @@ use Rattle.schedule.specs.declared.steps.Step.TheVariants.{Post, Claim, Append, 
 use Rattle.schedule.specs.declared.steps.StepAnswer.TheVariants as answers
 use Rattle.schedule.specs.Trace.{Answer, Updated, ReadBack, Event, Call, Back, Trace, Places}
 use Rattle.schedule.specs.Worlds.{NodeView, WorldView, own_of}
-use Rattle.schedule.specs.Steps.{Part, Took, with_call_or_back, put_part, part_of, node_of, took, session_at, is_idle, with_read, read_at, no_batch, claimed_batch, appended_batch, with_event, world_after, trace_after, trace_of}
+use Rattle.schedule.specs.Steps.{Part, Took, with_call_or_back, put_part, part_of, node_of, took, session_at, is_idle, with_read, read_at, no_batch, inner, seen_of, with_event, world_after, trace_after, trace_of}
 use Rattle.schedule.specs.Stands.{DeskStands, Stands}
 use Rattle.schedule.specs.Taking.{answer_of, step_answer, answers_to}
 use Rattle.schedule.specs.ReadOff.{event_of, before_events, read_off}
@@ -40,6 +41,12 @@ event_is p q same = ap (λ (r : Part). r.event) (same_Some p q same)
 
 -- ---- one step
 
+-- of a step that no client sees
+inner_told : (m : Opening) (kind : NodeStep) (step : Step) (g : Log) (node : NodeView) (p : Part) → inner m kind g node ≡ Some p → IsTold m.config step None → IsTold m.config step p.event
+inner_told m kind step g node p taken is =
+    let c = cond_gives (may kind (seen_of g node)) _ p taken in
+    told m.config step None p.event (event_is _ p c.1) is
+
 part_told : (m : Opening) (step : Step) (g : Log) (node : NodeView) (p : Part) → DeskStands m (node_of step) node → part_of m step g node ≡ Some p → IsTold m.config step p.event
 part_told m (Post n s program argument) g node p desk taken =
     let op : Operation = record { program = program; argument = argument.items } in
@@ -49,20 +56,10 @@ part_told m (Post n s program argument) g node p desk taken =
 part_told m (Claim n) g node p desk taken =
     let c = cond_gives (no_batch node.batch && has_request node.desk) _ p taken in
     told m.config (Claim n) None p.event (event_is _ p c.1) refl
-part_told m (Append n) g node p desk taken =
-    let r = then_gives _ (claimed_batch node.batch) p taken in
-    let c = cond_gives (may_append (r.0).records g (own_of node)) _ p r.2 in
-    told m.config (Append n) None p.event (event_is _ p c.1) refl
-part_told m (Replay n) g node p desk taken =
-    let c = cond_gives (has_next g (own_of node)) _ p taken in
-    told m.config (Replay n) None p.event (event_is _ p c.1) refl
-part_told m (Finish n) g node p desk taken =
-    let c = cond_gives (may_finish g.done (own_of node)) _ p taken in
-    told m.config (Finish n) None p.event (event_is _ p c.1) refl
-part_told m (Reply n) g node p desk taken =
-    let r = then_gives _ (appended_batch node.batch) p taken in
-    let c = cond_gives (may_reply g.done (own_of node)) _ p r.2 in
-    told m.config (Reply n) None p.event (event_is _ p c.1) refl
+part_told m (Append n) g node p desk taken = inner_told m Appends (Append n) g node p taken refl
+part_told m (Replay n) g node p desk taken = inner_told m Replays (Replay n) g node p taken refl
+part_told m (Finish n) g node p desk taken = inner_told m Finishes (Finish n) g node p taken refl
+part_told m (Reply n) g node p desk taken = inner_told m Replies (Reply n) g node p taken refl
 part_told m (Collect n s) g node p desk taken =
     let d = map_gives (λ c. with_call_or_back (Back (session_at node s) (Updated c.reply)) g (record node { desk = c.desk })) (collected s node.desk) p taken in
     told m.config (Collect n s) (Some (Back (session m.config n s) (Updated d.0.reply))) p.event (ap (λ x. Some (Back x (Updated d.0.reply))) (sym (session_is m n node s desk)) ∙ ap (λ (q : Part). q.event) d.2) refl
@@ -77,12 +74,8 @@ part_told m (ReadAnswer n s) g node p desk taken =
     let d = map_gives (λ (f : ReadEffect). with_call_or_back (Back (session_at node s) (ReadBack (record { point = node.replica.tail; reply = f.reply }))) g (with_read node s None)) (store_meaning.read m.catalogue read.op node.replica.maps) p c.1 in
     let a : Answer = ReadBack (record { point = node.replica.tail; reply = d.0.reply }) in
     told m.config (ReadAnswer n s) (Some (Back (session m.config n s) a)) p.event (ap (λ x. Some (Back x a)) (sym (session_is m n node s desk)) ∙ ap (λ (q : Part). q.event) d.2) refl
-part_told m (Reclaim n) g node p desk taken =
-    let c = cond_gives (may_reclaim g.done g (own_of node)) _ p taken in
-    told m.config (Reclaim n) None p.event (event_is _ p c.1) refl
-part_told m (Rebase n) g node p desk taken =
-    let c = cond_gives (may_rebase g (own_of node)) _ p taken in
-    told m.config (Rebase n) None p.event (event_is _ p c.1) refl
+part_told m (Reclaim n) g node p desk taken = inner_told m Reclaims (Reclaim n) g node p taken refl
+part_told m (Rebase n) g node p desk taken = inner_told m Rebases (Rebase n) g node p taken refl
 
 -- a step that may not be taken is no event
 not_told : (c : Config) (step : Step) → event_of c step answers.NotNow ≡ None

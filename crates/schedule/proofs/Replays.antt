@@ -14,16 +14,17 @@ use Rattle.replica.specs.Views.{ReplicaView, with_outcome}
 use Rattle.replica.proofs.Histories.{have_effects}
 use Rattle.replica.proofs.Kept.{count_with, at_with, off_with}
 use Rattle.combiner.specs.Desks.{BatchView, IsBatchOf}
-use Rattle.schedule.specs.declared.parts.Written.{Written}
-use Rattle.schedule.specs.declared.parts.NodeBatch.{NodeBatch}
-use Rattle.schedule.specs.declared.parts.NodeBatch.TheVariants.{Absent, Held, InLog}
+use Rattle.node.specs.declared.parts.Written.{Written}
+use Rattle.node.specs.declared.parts.NodeBatch.{NodeBatch}
+use Rattle.node.specs.declared.parts.NodeBatch.TheVariants.{Absent, Held, InLog}
 use Rattle.schedule.specs.Trace.{Trace, Places}
 use Rattle.schedule.specs.declared.parts.Opening.{Opening}
 use Rattle.node.specs.declared.following.NodeReplica.{NodeReplica}
 use Rattle.node.specs.Following.{no_records, is_above, has_next, to_run, with_next, with_effect, outcomes_after, replies_after}
+use Rattle.node.specs.Steps.{Replays, batch_after, next}
 use Rattle.node.proofs.Keeping.{after_count, after_first}
 use Rattle.schedule.specs.Worlds.{NodeView, WorldView, own_of}
-use Rattle.schedule.specs.Steps.{Part, replay, batch_after, with_replayed}
+use Rattle.schedule.specs.Steps.{Part, inner, seen_of, put_seen}
 use Rattle.schedule.specs.Stands.{DeskStands, NodeStands, LogStands, BatchStands, WrittenStands, Stands, batch_in, place_in}
 use Rattle.schedule.proofs.Lists.{get_drop, get_in, set_length}
 use Rattle.schedule.proofs.Options.{cond_gives, some_is}
@@ -184,14 +185,14 @@ runs_next m g h places t n node next log x =
         (subst (λ hand. (j : ℕ) (f : Record) → slice_get hand j ≡ Some f → slice_get h (node.replica.tail + j) ≡ Some f) is x.replica.next, omega arith)
 
 pub keeps_replay : (m : Opening) (w : WorldView) (h : History) (places : Places) (t : Trace) (n : ℕ) (node : NodeView) (p : Part)
-    → slice_get w.nodes n ≡ Some node → replay m w.log node ≡ Some p → Stands m w h places t → Kept m w h places t n p
+    → slice_get w.nodes n ≡ Some node → inner m Replays w.log node ≡ Some p → Stands m w h places t → Kept m w h places t n p
 keeps_replay m w h places t n node p at_n taken x =
     let c = cond_gives (has_next w.log (own_of node)) _ p taken in
     let o = x.nodes n node at_n in
     let own : NodeReplica = with_next w.log (own_of node) in
     let runs = runs_next m w.log h places t n node c.0 x.log o in
     let end = after_all m.catalogue h own.hand.records node.replica.tail node.replica.maps runs.0 o.replica.maps o.replica.tail in
-    let new : NodeView = with_replayed m.catalogue own node in
+    let new : NodeView = (put_seen node (next m.catalogue Replays (seen_of w.log node))).node in
     subst (λ z. Kept m w h places t n z) (same_Some _ p c.1)
     (same_history m (record { log = w.log; nodes = slice_set w.nodes n new }) h places t (record {
       catalogue = x.catalogue;
@@ -203,7 +204,7 @@ keeps_replay m w h places t n node p at_n taken x =
       nodes = nodes_put (λ k y. NodeStands m w.log.done h places t k y) w.nodes n new (λ k old ne g. x.nodes k old g)
           (record {
             replica = record { tail = end.1; maps = end.0; begins = refl; next = λ j f g. absurd (none-some f g); window = o.replica.window };
-            desk = same_desk m n node own o.desk;
+            desk = same_desk m w n node o.desk;
             batch = batch_all m h own node.batch new.replica new.hand x.catalogue x.explains.updates runs.0 o.replica.maps refl refl runs.1;
             seats = λ s y read there begun. stage_batch m w.log.done h places t (session m.config n s) node.batch new.batch y.count y.stage read
                 (λ k q at is. (
@@ -214,9 +215,9 @@ keeps_replay m w h places t n node p at_n taken x =
           });
     }))
   where
-    same_desk : (m : Opening) (n : ℕ) (node : NodeView) (own : NodeReplica) → DeskStands m n node → DeskStands m n (with_replayed m.catalogue own node)
-    same_desk m n node own d =
-        let same = kept_records m.catalogue own node.batch in
+    same_desk : (m : Opening) (w : WorldView) (n : ℕ) (node : NodeView) → DeskStands m n node → DeskStands m n (put_seen node (next m.catalogue Replays (seen_of w.log node))).node
+    same_desk m w n node d =
+        let same = kept_records m.catalogue (with_next w.log (own_of node)) node.batch in
         record {
           number = d.number;
           slots = d.slots;

@@ -8,7 +8,7 @@ use Rattle.combiner.specs.declared.slots.Reply.TheVariants.{Placed, Ended}
 use Rattle.combiner.specs.declared.slots.Stage.TheVariants.{Empty}
 use Rattle.combiner.specs.Slots.{slot}
 use Rattle.combiner.specs.Desks.{claimed_from}
-use Rattle.schedule.specs.declared.parts.NodeBatch.TheVariants.{Absent}
+use Rattle.node.specs.declared.parts.NodeBatch.TheVariants.{Absent}
 use Rattle.schedule.specs.declared.steps.Step.{Step}
 use Rattle.schedule.specs.declared.steps.Step.TheVariants.{Post, Claim, Append, Replay, Finish, Reply, Collect, ReadBegin, ReadAnswer, Reclaim, Rebase}
 use Rattle.schedule.specs.Trace.{Updated, ReadBack, Call, Back, Trace, Places}

@@ -14,7 +14,7 @@ use Rattle.combiner.specs.declared.slots.Reply.TheVariants.{Placed, Ended}
 use Rattle.combiner.specs.declared.slots.Stage.{Stage}
 use Rattle.combiner.specs.declared.slots.Stage.TheVariants.{Empty, Posted, Claimed, Answered}
 use Rattle.schedule.specs.declared.parts.BegunRead.{BegunRead}
-use Rattle.schedule.specs.declared.parts.NodeBatch.{NodeBatch}
+use Rattle.node.specs.declared.parts.NodeBatch.{NodeBatch}
 use Rattle.schedule.specs.Trace.{Event, Call, Trace, Places, caller, IsOpen}
 use Rattle.schedule.specs.declared.parts.Opening.{Opening}
 use Rattle.schedule.specs.Explains.{count_of}

@@ -8,8 +8,8 @@ use Rattle.combiner.specs.Desks.{DeskView}
 use Rattle.combiner.specs.contracts.desks.Desk as desk_row
 use Rattle.replica.specs.Views.{ReplicaView, replica_code}
 use Rattle.schedule.specs.declared.parts.BegunRead.{BegunRead}
-use Rattle.schedule.specs.declared.parts.NodeBatch.{NodeBatch}
-use Rattle.schedule.specs.contracts.parts.NodeBatch as batch_row
+use Rattle.node.specs.declared.parts.NodeBatch.{NodeBatch}
+use Rattle.node.specs.contracts.parts.NodeBatch as batch_row
 use Rattle.schedule.specs.contracts.parts.BegunRead as read_row
 use Rattle.schedule.specs.declared.parts.Opening.{Opening}
 use Rattle.schedule.specs.contracts.parts.Opening as opening_row

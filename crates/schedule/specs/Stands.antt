@@ -18,9 +18,9 @@ use Rattle.combiner.specs.Desks.{BatchView, IsBatchOf}
 use Rattle.replica.specs.StoreMeaning.{store_meaning, outcome_of, is_operation}
 use Rattle.replica.specs.Views.{ReplicaView}
 use Rattle.schedule.specs.declared.parts.BegunRead.{BegunRead}
-use Rattle.schedule.specs.declared.parts.Written.{Written}
-use Rattle.schedule.specs.declared.parts.NodeBatch.{NodeBatch}
-use Rattle.schedule.specs.declared.parts.NodeBatch.TheVariants.{Absent, Held, InLog}
+use Rattle.node.specs.declared.parts.Written.{Written}
+use Rattle.node.specs.declared.parts.NodeBatch.{NodeBatch}
+use Rattle.node.specs.declared.parts.NodeBatch.TheVariants.{Absent, Held, InLog}
 use Rattle.schedule.specs.Trace.{Answer, Call, Back, Trace, Places, IsOpen, IsIdle, StampBefore, stamp}
 use Rattle.schedule.specs.declared.parts.Opening.{Opening}
 use Rattle.schedule.specs.Explains.{Explains, count_of}

@@ -2,25 +2,22 @@
 use Rattle.std.specs.Prelude.{ℕ, ◌+◌, Bool, true, false, ◌&&◌, List, [], ◌∷◌, ◌++◌, Option, Some, None, option_map, slice_get, slice_set, cond}
 use Rattle.std.specs.Option.{option_and_then}
 use Rattle.verifier.specs.declared.refusal.Mode.TheVariants.{Update, Read}
-use Rattle.loader.specs.CatalogueView.{CatalogueView}
 use Rattle.oplog.specs.Operations.{Operation}
 use Rattle.oplog.specs.Logs.{Log}
 use Rattle.combiner.specs.declared.slots.Slot.{Slot}
 use Rattle.combiner.specs.Slots.{is_empty}
-use Rattle.combiner.specs.Desks.{BatchView, first_author, posted, has_request, batch_of, claimed, replied, collected}
+use Rattle.combiner.specs.Desks.{first_author, posted, has_request, batch_of, claimed, collected}
 use Rattle.replica.specs.StoreMeaning.{store_meaning, is_operation}
-use Rattle.node.specs.declared.following.NodeReplica.{NodeReplica}
-use Rattle.node.specs.Following.{may_append, grown, copied, replies_for, has_next, with_next, replayed, replies_after, may_finish, told, may_reclaim, reclaimed, may_rebase, rebased, may_answer, may_reply}
-use Rattle.node.specs.Answering.{answered_batch}
+use Rattle.node.specs.Following.{may_answer}
+use Rattle.node.specs.Steps.{NodeStep, Appends, Replays, Finishes, Reclaims, Rebases, Replies, Seen, may, next}
 use Rattle.schedule.specs.declared.parts.BegunRead.{BegunRead}
-use Rattle.schedule.specs.declared.parts.Written.{Written}
-use Rattle.schedule.specs.declared.parts.NodeBatch.{NodeBatch}
-use Rattle.schedule.specs.declared.parts.NodeBatch.TheVariants.{Absent, Held, InLog}
+use Rattle.node.specs.declared.parts.NodeBatch.{NodeBatch}
+use Rattle.node.specs.declared.parts.NodeBatch.TheVariants.{Absent, Held}
 use Rattle.schedule.specs.declared.steps.Step.{Step}
 use Rattle.schedule.specs.declared.steps.Step.TheVariants.{Post, Claim, Append, Replay, Finish, Reply, Collect, ReadBegin, ReadAnswer, Reclaim, Rebase}
 use Rattle.schedule.specs.Trace.{Updated, ReadBack, Event, Call, Back, Trace}
 use Rattle.schedule.specs.declared.parts.Opening.{Opening}
-use Rattle.schedule.specs.Worlds.{NodeView, WorldView, own_of, with_own}
+use Rattle.schedule.specs.Worlds.{NodeView, WorldView, own_of}
 
 -- what a step makes of the log and of its node, and the event that it is
 pub record Part : Type 0 where
@@ -62,16 +59,6 @@ abbrev pub no_batch : NodeBatch → Bool
 no_batch Absent = true
 no_batch batch = false
 
--- the requests of the batch, while they are claimed and not appended
-abbrev pub claimed_batch : NodeBatch → Option BatchView
-claimed_batch (Held b) = Some b
-claimed_batch batch = None
-
--- the batch, once it is appended
-abbrev pub appended_batch : NodeBatch → Option Written
-appended_batch (InLog b) = Some b
-appended_batch batch = None
-
 -- the read that was begun at a slot
 abbrev pub read_at : NodeView → ℕ → Option BegunRead
 read_at node s = option_and_then (λ read. read) (slice_get node.reads s)
@@ -96,50 +83,6 @@ claim g node =
     (Some (silent g (record node { desk = claimed node.desk; batch = Held (batch_of node.desk) })))
     None
 
--- the node with its batch in the log, and with the records of the log that its replica lacks
-abbrev pub with_appended : Log → BatchView → NodeView → NodeView
-with_appended g b node =
-    with_own (copied (grown b.records g) (own_of node)) (record node { batch = InLog (record { batch = b; replies = replies_for b.records g }) })
-
--- append: a batch is claimed, what the replica lacks is still in the log, and the log has room for as many of the batch's records as
--- the history may still have; the log gets them, and the records that the replica lacks are copied
-abbrev pub append : Log → NodeView → Option Part
-append g node =
-    option_and_then (λ b.
-    cond (may_append b.records g (own_of node))
-    (Some (silent (grown b.records g) (with_appended g b node)))
-    None)
-    (claimed_batch node.batch)
-
--- the batch keeps its own outcomes of the records that the replica applies
-abbrev pub batch_after : CatalogueView → NodeReplica → NodeBatch → NodeBatch
-batch_after c own Absent = Absent
-batch_after c own (Held b) = Held b
-batch_after c own (InLog b) = InLog (record b { replies = replies_after c own b.replies })
-
--- the node once this replica of it has applied the records in its hand
-abbrev pub with_replayed : CatalogueView → NodeReplica → NodeView → NodeView
-with_replayed c own node = with_own (replayed c own) (record node { batch = batch_after c own node.batch })
-
--- replay: there is a record to apply; the replica applies the copied records, or where there are none those of the log that it lacks
-abbrev pub replay : Opening → Log → NodeView → Option Part
-replay m g node =
-    cond (has_next g (own_of node)) (Some (silent g (with_replayed m.catalogue (with_next g (own_of node)) node))) None
-
--- finish: the replica is past the completed tail, which becomes the replica's tail
-abbrev pub finish : Log → NodeView → Option Part
-finish g node = cond (may_finish g.done (own_of node)) (Some (silent (told (own_of node) g) node)) None
-
--- reply: a batch is appended, no copied record is left to apply, and all that the replica has applied is completed; the batch's
--- requests are answered at the desk, and the node has no batch then
-abbrev pub reply : Log → NodeView → Option Part
-reply g node =
-    option_and_then (λ b.
-    cond (may_reply g.done (own_of node))
-    (Some (silent g (record node { desk = replied (answered_batch b.replies b.batch) node.desk; batch = Absent })))
-    None)
-    (appended_batch node.batch)
-
 -- collect: an answer waits at the slot; the slot's session takes it
 abbrev pub collect : ℕ → Log → NodeView → Option Part
 collect s g node = option_map (λ c. with_call_or_back (Back (session_at node s) (Updated c.reply)) g (record node { desk = c.desk })) (collected s node.desk)
@@ -162,13 +105,25 @@ read_answer m s g node =
     None)
     (read_at node s)
 
--- reclaim: the replica is past the log's base, and all that it has applied is completed; it becomes the base
-abbrev pub reclaim : Log → NodeView → Option Part
-reclaim g node = cond (may_reclaim g.done g (own_of node)) (Some (silent (reclaimed (own_of node) g) node)) None
+-- what node's steps see of the log and the node
+abbrev pub seen_of : Log → NodeView → Seen
+seen_of g node = record { log = g; own = own_of node; batch = node.batch; desk = node.desk }
 
+-- the log and the node with it
+abbrev pub put_seen : NodeView → Seen → Part
+put_seen node s = silent s.log (record node { replica = s.own.replica; hand = s.own.hand; desk = s.desk; batch = s.batch })
+
+-- the steps that no client sees, which are node's:
+-- append: a batch is claimed, what the replica lacks is still in the log, and the log has room for as many of the batch's records as the
+-- history may still have; the log gets them, and the records that the replica lacks are copied
+-- replay: there is a record to apply; the replica applies the copied records, or where there are none those of the log that it lacks
+-- finish: the replica is past the completed tail, which becomes the replica's tail
+-- reply: a batch is appended, no copied record is left to apply, and all that the replica has applied is completed; the batch's requests
+-- are answered at the desk, and the node has no batch then
+-- reclaim: the replica is past the log's base, and all that it has applied is completed; it becomes the base
 -- rebase: the replica is behind the log's base, and has no copied record left to apply; it becomes a copy of the base
-abbrev pub rebase : Log → NodeView → Option Part
-rebase g node = cond (may_rebase g (own_of node)) (Some (silent g (with_own (rebased g (own_of node)) node))) None
+abbrev pub inner : Opening → NodeStep → Log → NodeView → Option Part
+inner m step g node = cond (may step (seen_of g node)) (Some (put_seen node (next m.catalogue step (seen_of g node)))) None
 
 -- ---- the steps of a store
 
@@ -190,15 +145,15 @@ node_of (Rebase n) = n
 abbrev pub part_of : Opening → Step → Log → NodeView → Option Part
 part_of m (Post n s program argument) = post m s (record { program = program; argument = argument.items })
 part_of m (Claim n) = claim
-part_of m (Append n) = append
-part_of m (Replay n) = replay m
-part_of m (Finish n) = finish
-part_of m (Reply n) = reply
+part_of m (Append n) = inner m Appends
+part_of m (Replay n) = inner m Replays
+part_of m (Finish n) = inner m Finishes
+part_of m (Reply n) = inner m Replies
 part_of m (Collect n s) = collect s
 part_of m (ReadBegin n s program argument) = read_begin m s (record { program = program; argument = argument.items })
 part_of m (ReadAnswer n s) = read_answer m s
-part_of m (Reclaim n) = reclaim
-part_of m (Rebase n) = rebase
+part_of m (Reclaim n) = inner m Reclaims
+part_of m (Rebase n) = inner m Rebases
 
 -- a store after a step, and the event that the step is
 pub record Took : Type 0 where

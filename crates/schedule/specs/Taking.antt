@@ -1,15 +1,11 @@
 -- What a call that takes a step does.
-use Rattle.std.specs.Prelude.{◌≡◌, ℕ, Bool, false, List, [], ◌∷◌, Option, Some, None}
+use Rattle.std.specs.Prelude.{◌≡◌, ℕ, List, [], ◌∷◌, Option, Some, None}
 use Rattle.loader.specs.CatalogueView.{IsCatalogue}
 use Rattle.oplog.specs.History.{History}
 use Rattle.oplog.specs.Limits.{IsConfig}
 use Rattle.oplog.specs.Logs.{Log}
 use Rattle.replica.specs.StoreMeaning.{AreUpdates}
-use Rattle.node.specs.declared.following.NodeReplica.{NodeReplica}
-use Rattle.node.specs.Following.{may_append}
 use Rattle.schedule.specs.declared.parts.Opening.{Opening}
-use Rattle.schedule.specs.declared.parts.NodeBatch.{NodeBatch}
-use Rattle.schedule.specs.declared.parts.NodeBatch.TheVariants.{Held}
 use Rattle.schedule.specs.declared.steps.Step.{Step}
 use Rattle.schedule.specs.declared.steps.StepAnswer.{StepAnswer}
 use Rattle.schedule.specs.declared.steps.StepAnswer.TheVariants as answers
@@ -77,10 +73,3 @@ pub record IsStanding (s : WorldState) : Type 0 where
   pub places : Places
   pub trace : Trace
   pub stands : Stands s.opening s.world history places trace
-
--- ---- between the calls of a node
-
--- a batch is claimed, and may be appended
-abbrev pub may_append_batch : NodeBatch → Log → NodeReplica → Bool
-may_append_batch (Held b) g own = may_append b.records g own
-may_append_batch batch g own = false

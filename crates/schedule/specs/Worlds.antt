@@ -6,8 +6,8 @@ use Rattle.replica.specs.StoreMeaning.{store_meaning}
 use Rattle.replica.specs.Views.{ReplicaView}
 use Rattle.node.specs.declared.following.NodeReplica.{NodeReplica}
 use Rattle.schedule.specs.declared.parts.BegunRead.{BegunRead}
-use Rattle.schedule.specs.declared.parts.NodeBatch.{NodeBatch}
-use Rattle.schedule.specs.declared.parts.NodeBatch.TheVariants.{Absent}
+use Rattle.node.specs.declared.parts.NodeBatch.{NodeBatch}
+use Rattle.node.specs.declared.parts.NodeBatch.TheVariants.{Absent}
 use Rattle.schedule.specs.declared.parts.Opening.{Opening}
 
 -- a node: its replica, the records copied for it, its desk, its batch, and for each slot the read that was begun there
@@ -21,10 +21,6 @@ pub record NodeView : Type 0 where
 -- the node's replica, with its hand
 abbrev pub own_of : NodeView → NodeReplica
 own_of node = record { replica = node.replica; hand = node.hand }
-
--- the node with this replica and this hand
-abbrev pub with_own : NodeReplica → NodeView → NodeView
-with_own own node = record node { replica = own.replica; hand = own.hand }
 
 -- the log, and the nodes in the order of their numbers
 pub record WorldView : Type 0 where

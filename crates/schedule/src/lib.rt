@@ -10,6 +10,7 @@ mod steps;
 mod worlds;
 
 pub use laws::{every_schedule, standing_is_kept};
-pub use parts::{BegunRead, NodeBatch, Opening, Written};
+pub use node::{NodeBatch, Written};
+pub use parts::{BegunRead, Opening};
 pub use steps::{Step, StepAnswer};
 pub use worlds::{World, run_steps};

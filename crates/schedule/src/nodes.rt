@@ -9,15 +9,16 @@ ghost use Rattle.replica.specs.StoreMeaning.{IsOperation, is_operation, store_me
 ghost use Rattle.verifier.specs.declared.refusal.Mode.TheVariants.{Update, Read};
 ghost use Rattle.schedule.specs.declared.parts.Opening.{Opening as TheOpening};
 ghost use Rattle.node.specs.Following.{Fits, has_next, with_next};
+ghost use Rattle.node.specs.Steps.{Appends, Replays, Finishes, Reclaims, Rebases, Replies as TheReplies, may_append_batch};
 ghost use Rattle.schedule.specs.Worlds.{opened_node, own_of};
-ghost use Rattle.schedule.specs.Steps.{is_idle, part_of, post, claim, append, replay, finish, reply, collect, read_at, read_begin, read_answer, reclaim, rebase};
-ghost use Rattle.schedule.specs.Taking.{IsOfStore, TakesPart, may_append_batch};
+ghost use Rattle.schedule.specs.Steps.{is_idle, part_of, inner, post, claim, collect, read_at, read_begin, read_answer};
+ghost use Rattle.schedule.specs.Taking.{IsOfStore, TakesPart};
 
-use crate::parts::{BegunRead, NodeBatch, Opening, Written};
+use crate::parts::{BegunRead, Opening};
 use crate::steps::{Step, StepAnswer};
 use combiner::{Batch, Desk, Stage};
 use loader::Catalogue;
-use node::NodeReplica;
+use node::{NodeBatch, NodeReplica, Written};
 use oplog::{Hand, LogState, Op};
 use readpath::{ReadAnswer, answer};
 use replica::{Replica, Replies, find_program_of};
@@ -147,7 +148,7 @@ impl Node {
     // The batch is appended, and the records that the replica lacks are copied.
     fn append(&mut self, log: &mut LogState) -> StepAnswer
         requires own { (m : TheOpening) × IsOfStore m log.old self.old }
-        ensures appended { TakesPart (append log.old self.old) log.old self.old log.new self.new result }
+        ensures appended { (m : TheOpening) → TakesPart (inner m Appends log.old self.old) log.old self.old log.new self.new result }
     {
         if !self.may_append(log) {
             return StepAnswer::NotNow;
@@ -176,7 +177,7 @@ impl Node {
     fn replay(&mut self, catalogue: &Catalogue, log: &LogState) -> StepAnswer
         requires own { (m : TheOpening) × (m.catalogue ≡ catalogue.now) × IsOfStore m log.now self.old }
         ensures replayed { (m : TheOpening) → m.catalogue ≡ catalogue.now
-            → TakesPart (replay m log.now self.old) log.now self.old log.now self.new result }
+            → TakesPart (inner m Replays log.now self.old) log.now self.old log.now self.new result }
     {
         if !node::has_next(log, &self.own) {
             return StepAnswer::NotNow;
@@ -197,7 +198,7 @@ impl Node {
     // What the replica has applied is completed.
     fn finish(&self, log: &mut LogState) -> StepAnswer
         requires own { (m : TheOpening) × IsOfStore m log.old self.now }
-        ensures finished { TakesPart (finish log.old self.now) log.old self.now log.new self.now result }
+        ensures finished { (m : TheOpening) → TakesPart (inner m Finishes log.old self.now) log.old self.now log.new self.now result }
     {
         if !node::may_finish(log.done(), &self.own) {
             return StepAnswer::NotNow;
@@ -280,7 +281,7 @@ impl Node {
     // The log takes the replica as its base.
     fn reclaim(&self, log: &mut LogState) -> StepAnswer
         requires own { (m : TheOpening) × IsOfStore m log.old self.now }
-        ensures reclaimed { TakesPart (reclaim log.old self.now) log.old self.now log.new self.now result }
+        ensures reclaimed { (m : TheOpening) → TakesPart (inner m Reclaims log.old self.now) log.old self.now log.new self.now result }
     {
         if !node::may_reclaim(log.done(), log, &self.own) {
             return StepAnswer::NotNow;
@@ -292,7 +293,7 @@ impl Node {
     // The replica takes the base of the log.
     fn rebase(&mut self, log: &LogState) -> StepAnswer
         requires own { (m : TheOpening) × IsOfStore m log.now self.old }
-        ensures rebased { TakesPart (rebase log.now self.old) log.now self.old log.now self.new result }
+        ensures rebased { (m : TheOpening) → TakesPart (inner m Rebases log.now self.old) log.now self.old log.now self.new result }
     {
         if !node::may_rebase(log, &self.own) {
             return StepAnswer::NotNow;
@@ -304,7 +305,7 @@ impl Node {
     // The requests of the batch are answered at the desk.
     fn reply(&mut self, log: &LogState) -> StepAnswer
         requires own { (m : TheOpening) × IsOfStore m log.now self.old }
-        ensures replied { TakesPart (reply log.now self.old) log.now self.old log.now self.new result }
+        ensures replied { (m : TheOpening) → TakesPart (inner m TheReplies log.now self.old) log.now self.old log.now self.new result }
     {
         if !node::may_reply(log.done(), &self.own) || !matches!(self.batch, NodeBatch::InLog(_)) {
             return StepAnswer::NotNow;

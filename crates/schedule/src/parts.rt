@@ -1,9 +1,7 @@
-// What a node has beside its replica and its desk.
+// What a store is opened with, and a begun read.
 
-use combiner::Batch;
 use loader::Catalogue;
 use oplog::{Config, Op};
-use replica::Replies;
 
 /// What a store is opened with.
 #[derive(Drop)]
@@ -21,25 +19,4 @@ pub struct BegunRead {
     pub op: Op,
     /// How many operations were completed when it was called.
     pub seen: u64,
-}
-
-/// A batch in the log.
-#[derive(Drop)]
-pub struct Written {
-    /// Its requests.
-    pub batch: Batch,
-    /// The places of those of them, from the first on, for which the history had room, and their outcomes, as far as the replica has
-    /// applied them.
-    pub replies: Replies,
-}
-
-/// The batch of a node's combiner.
-#[derive(Drop)]
-pub enum NodeBatch {
-    /// There is none.
-    Absent,
-    /// Its requests are claimed at the desk.
-    Held(Batch),
-    /// They stand in the log.
-    InLog(Written),
 }

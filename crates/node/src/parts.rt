@@ -1,0 +1,25 @@
+// The batch of a node's combiner.
+
+use combiner::Batch;
+use replica::Replies;
+
+/// A batch in the log.
+#[derive(Drop)]
+pub struct Written {
+    /// Its requests.
+    pub batch: Batch,
+    /// The places of those of them, from the first on, for which the history had room, and their outcomes, as far as the replica has
+    /// applied them.
+    pub replies: Replies,
+}
+
+/// The batch of a node's combiner.
+#[derive(Drop)]
+pub enum NodeBatch {
+    /// There is none.
+    Absent,
+    /// Its requests are claimed at the desk.
+    Held(Batch),
+    /// They stand in the log.
+    InLog(Written),
+}
