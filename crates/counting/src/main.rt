@@ -4,13 +4,12 @@
 ghost use Rattle.std.specs.Prelude.{◌≡◌, ◌≤◌, [], vec_capacity};
 ghost use Rattle.store.specs.Sessions.{IsOf};
 
-use loader::{Catalogue, load_manifest};
-use oplog::Config;
-use readpath::ReadAnswer;
 use std::alloc::Global;
 use std::io;
 use std::sync::Wait;
-use store::{Answer, Closed, Session, Store, StoreRefused};
+use store::{
+    Answer, Catalogue, Closed, Config, ReadAnswer, Session, Store, StoreRefused, load_manifest,
+};
 
 // One array of sixteen numbers of eight bytes, and two programs whose argument is a key of four bytes.
 const MANIFEST: &str =

@@ -101,12 +101,19 @@ pub record IsReadBy (k after : SessionKnown) (op : Operation) (answer : ReadAnsw
   pub well_formed : IsWellFormed store_meaning after.progress
   pub tells : ReadTells store_meaning after.progress k.progress.completed op answer.point answer.reply
 
--- the answer to an update that was not refused early: Ok with its place and its reply there, the update counted; or S4, where the
--- history has its last record, none of this request, and nothing is counted
+-- an answered update: its request has that place in the history and that reply there, and the session counts it
+abbrev pub TellsAnswered : (old new : SessionView) → Operation → Answer → Type 0
+TellsAnswered old new op a =
+    Tells store_meaning new.progress old.session (length old.note.answered) (request_of old.progress op) (Placed a.index a.reply) × (new.note ≡ note_with old.note a.index op)
+
+-- an ended update: S4, the history has its last record, and none of this request, and the session counts nothing
+abbrev pub TellsEnded : (old new : SessionView) → Operation → StoreRefused → Type 0
+TellsEnded old new op refused =
+    (refused ≡ TheEnd) × Tells store_meaning new.progress old.session (length old.note.answered) (request_of old.progress op) EndedAnswer × (new.note ≡ old.note)
+
+-- the answer to an update that was not refused early: it is answered or it is ended
 abbrev pub TellsUpdate : (old new : SessionView) → Operation → Result Answer StoreRefused → Type 0
-TellsUpdate old new op result = MatchResult result
-    (λ a. Tells store_meaning new.progress old.session (length old.note.answered) (request_of old.progress op) (Placed a.index a.reply) × (new.note ≡ note_with old.note a.index op))
-    (λ e. (e ≡ TheEnd) × Tells store_meaning new.progress old.session (length old.note.answered) (request_of old.progress op) EndedAnswer × (new.note ≡ old.note))
+TellsUpdate old new op result = MatchResult result (TellsAnswered old new op) (TellsEnded old new op)
 
 -- within the call the session has read the completed tail, and the answer's point is not below what it was then
 abbrev pub BeginsWithin : (old new : SessionView) → Result ReadAnswer StoreRefused → Type 0

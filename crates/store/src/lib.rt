@@ -1,5 +1,5 @@
 //! A store whose sessions run on threads of their own (Calciu et al., ASPLOS 2017: Node Replication): a log of updates, and a
-//! replica of the maps on each node that replays it.
+//! replica of the maps on each node that replays it. A program that embeds one needs no other crate's names.
 #![tactic(auto)]
 
 mod answers;
@@ -17,7 +17,10 @@ mod values;
 
 pub use answers::Answer;
 pub use closed::Closed;
+pub use loader::{Catalogue, LoadError, load_manifest};
 pub use node::NodeReplica;
+pub use oplog::{Config, OpenError};
+pub use readpath::ReadAnswer;
 pub use replica::StoreRefused;
 pub use session::Session;
 pub use store::Store;
