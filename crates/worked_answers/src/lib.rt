@@ -10,15 +10,28 @@ ghost use Rattle.worked_answers.specs.Pages.{IsOnPage};
 use console::{Held, HeldFiles, Page, Reply, Status, in_memory};
 use std::alloc::{AllocError, Global};
 
+// The first page's manifest, and its program's bytes in digits.
+const FIRST_PAGE: &[u8] = b"map array 8 16\nprogram five update 0 five.hex\n";
+
+const FIVE: &[u8] = b"b7000000050000009500000000000000";
+
+// The counter's manifest, the bytes of its two programs, and five calls.
+const COUNTER: &[u8] =
+    b"map array 8 16\nprogram bump update 4 bump.hex\nprogram peek read 4 peek.hex\n";
+
+const BUMP: &[u8] =
+    b"bf12000000000000\n1851000000000000\n0000000000000000\n8500000001000000\n1500050000000000\n7906000000000000\n0706000001000000\n7b60000000000000\nbf60000000000000\n9500000000000000\nb7000000ffffffff\n9500000000000000\n";
+
+const PEEK: &[u8] =
+    b"bf12000000000000\n1851000000000000\n0000000000000000\n8500000001000000\n1500020000000000\n7900000000000000\n9500000000000000\nb7000000ffffffff\n9500000000000000\n";
+
+const SCRIPT: &[u8] = b"bump 00000000\nbump 00000000\npeek 00000000\nbump 10000000\nnope 00\n";
+
 /// What `check` answers to the first page's manifest: `five ok 2 2`.
 pub fn five_checked(alloc: Global) -> Result<Reply, AllocError>
     ensures answer { IfOk result (λ r. answer_of r ≡ five_checked) }
 {
-    in_memory::check(
-        alloc,
-        &[("five.hex", b"b7000000050000009500000000000000")],
-        b"map array 8 16\nprogram five update 0 five.hex\n",
-    )
+    in_memory::check(alloc, &[("five.hex", FIVE)], FIRST_PAGE)
 }
 
 /// The command itself, writing on a page.
@@ -31,8 +44,8 @@ pub fn five_on_page(alloc: Global) -> (Status, Page)
     };
     let status = console::check(
         alloc,
-        &HeldFiles(&[("five.hex", b"b7000000050000009500000000000000")]),
-        &mut Held(b"map array 8 16\nprogram five update 0 five.hex\n"),
+        &HeldFiles(&[("five.hex", FIVE)]),
+        &mut Held(FIRST_PAGE),
         &mut page,
     );
     (status, page)
@@ -42,20 +55,7 @@ pub fn five_on_page(alloc: Global) -> (Status, Page)
 pub fn counter_checked(alloc: Global) -> Result<Reply, AllocError>
     ensures answer { IfOk result (λ r. answer_of r ≡ counter_checked) }
 {
-    in_memory::check(
-        alloc,
-        &[
-            (
-                "bump.hex",
-                b"bf12000000000000\n1851000000000000\n0000000000000000\n8500000001000000\n1500050000000000\n7906000000000000\n0706000001000000\n7b60000000000000\nbf60000000000000\n9500000000000000\nb7000000ffffffff\n9500000000000000\n",
-            ),
-            (
-                "peek.hex",
-                b"bf12000000000000\n1851000000000000\n0000000000000000\n8500000001000000\n1500020000000000\n7900000000000000\n9500000000000000\nb7000000ffffffff\n9500000000000000\n",
-            ),
-        ],
-        b"map array 8 16\nprogram bump update 4 bump.hex\nprogram peek read 4 peek.hex\n",
-    )
+    in_memory::check(alloc, &[("bump.hex", BUMP), ("peek.hex", PEEK)], COUNTER)
 }
 
 /// What `run` answers to five calls of the counter.
@@ -64,18 +64,9 @@ pub fn counter_ran(alloc: Global) -> Result<Reply, AllocError>
 {
     in_memory::run(
         alloc,
-        &[
-            (
-                "bump.hex",
-                b"bf12000000000000\n1851000000000000\n0000000000000000\n8500000001000000\n1500050000000000\n7906000000000000\n0706000001000000\n7b60000000000000\nbf60000000000000\n9500000000000000\nb7000000ffffffff\n9500000000000000\n",
-            ),
-            (
-                "peek.hex",
-                b"bf12000000000000\n1851000000000000\n0000000000000000\n8500000001000000\n1500020000000000\n7900000000000000\n9500000000000000\nb7000000ffffffff\n9500000000000000\n",
-            ),
-        ],
-        b"map array 8 16\nprogram bump update 4 bump.hex\nprogram peek read 4 peek.hex\n",
-        b"bump 00000000\nbump 00000000\npeek 00000000\nbump 10000000\nnope 00\n",
+        &[("bump.hex", BUMP), ("peek.hex", PEEK)],
+        COUNTER,
+        SCRIPT,
     )
 }
 
@@ -89,20 +80,9 @@ pub fn counter_on_page(alloc: Global) -> (Status, Page)
     };
     let status = console::run(
         alloc,
-        &HeldFiles(&[
-            (
-                "bump.hex",
-                b"bf12000000000000\n1851000000000000\n0000000000000000\n8500000001000000\n1500050000000000\n7906000000000000\n0706000001000000\n7b60000000000000\nbf60000000000000\n9500000000000000\nb7000000ffffffff\n9500000000000000\n",
-            ),
-            (
-                "peek.hex",
-                b"bf12000000000000\n1851000000000000\n0000000000000000\n8500000001000000\n1500020000000000\n7900000000000000\n9500000000000000\nb7000000ffffffff\n9500000000000000\n",
-            ),
-        ]),
-        &mut Held(
-            b"map array 8 16\nprogram bump update 4 bump.hex\nprogram peek read 4 peek.hex\n",
-        ),
-        &mut Held(b"bump 00000000\nbump 00000000\npeek 00000000\nbump 10000000\nnope 00\n"),
+        &HeldFiles(&[("bump.hex", BUMP), ("peek.hex", PEEK)]),
+        &mut Held(COUNTER),
+        &mut Held(SCRIPT),
         &mut page,
     );
     (status, page)
