@@ -46,28 +46,14 @@ fn take_lines(
     Ok(Verdict::Good)
 }
 
-// What a new node answers to a script.
-fn node_reply(
-    alloc: Global,
-    node: &mut SingleNode,
-    catalogue: &Catalogue,
-    script: &str,
-) -> Result<Reply, AllocError>
-    requires steady { IsSteady catalogue.now node.old }
-    requires nothing { Follows catalogue.now [] node.old }
-    ensures { IfOk result (λ r. answer_of r ≡ script_answer catalogue.now script.now) }
-{
-    let mut text = Vec::new(alloc);
-    let verdict = take_lines(node, catalogue, script, &mut text)?;
-    Ok(Reply { text, verdict })
-}
-
 // What a catalogue's programs answer to a script.
 fn script_reply(alloc: Global, catalogue: &Catalogue, script: &str) -> Result<Reply, AllocError>
     ensures { IfOk result (λ r. answer_of r ≡ script_answer catalogue.now script.now) }
 {
     let mut node = SingleNode::open(alloc, catalogue)?;
-    node_reply(alloc, &mut node, catalogue, script)
+    let mut text = Vec::new(alloc);
+    let verdict = take_lines(&mut node, catalogue, script, &mut text)?;
+    Ok(Reply { text, verdict })
 }
 
 // What a manifest that was loaded and a script get.

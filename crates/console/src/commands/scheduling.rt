@@ -61,21 +61,6 @@ fn take_lines(
     Ok(Verdict::Good)
 }
 
-// What a new store answers to a list of steps.
-fn steps_reply(
-    alloc: Global,
-    world: &mut World,
-    nodes: u32,
-    steps: &str,
-) -> Result<Reply, AllocError>
-    requires { length world.old.world.nodes ≡ nodes }
-    ensures { IfOk result (λ r. answer_of r ≡ steps_answer world.old.opening 1 world.old.world (lines_of steps.now)) }
-{
-    let mut text = Vec::new(alloc);
-    let verdict = take_lines(alloc, world, nodes, steps, &mut text)?;
-    Ok(Reply { text, verdict })
-}
-
 /// What is answered where the sizes of a store are out of their limits.
 pub fn sizes_refused(alloc: Global) -> Result<Reply, AllocError>
     ensures { IfOk result (λ r. answer_of r ≡ sizes_refused) }
@@ -96,7 +81,11 @@ fn catalogue_reply(
     ensures { IfOk result (λ r. answer_of r ≡ catalogue_answer config catalogue steps.now) }
 {
     match World::open(alloc, config, catalogue) {
-        Ok(mut world) => steps_reply(alloc, &mut world, config.nodes, steps),
+        Ok(mut world) => {
+            let mut text = Vec::new(alloc);
+            let verdict = take_lines(alloc, &mut world, config.nodes, steps, &mut text)?;
+            Ok(Reply { text, verdict })
+        }
         Err(OpenError::OutOfLimits) => sizes_refused(alloc),
         Err(OpenError::NoMemory) => Err(AllocError),
     }
