@@ -7,10 +7,11 @@ use Rattle.insn.specs.declared.instruction.Condition.TheVariants.{Jeq}
 use Rattle.insn.specs.declared.instruction.Form.{Form}
 use Rattle.insn.specs.declared.instruction.Form.TheVariants.{Alu, Load, Store, Imm64, MapRef, Ja, Branch, Call, Exit}
 use Rattle.flow.specs.declared.rules.StructureRule.TheVariants.{TargetOutside, TargetNotForward, TargetInsideWide, RunsOffTheEnd, Unreachable}
-use Rattle.flow.specs.Faults.{Fault, fault, reached_slots, first_rule, lowest_fault, structure_fault}
+use Rattle.flow.specs.declared.rules.Broken.{Broken}
+use Rattle.flow.specs.Faults.{fault, reached_slots, first_rule, lowest_fault, structure_fault}
 
 -- `ja` from slot 0
-abbrev jumps : List Form → Form → Option Fault
+abbrev jumps : List Form → Form → Option Broken
 jumps rest ja = structure_fault (ja ∷ rest)
 
 to_itself : jumps (Exit ∷ []) (Ja false (negsuc 0)) ≡ Some (fault 0 TargetNotForward)
@@ -53,7 +54,7 @@ unfolding structure_fault lowest_fault first_rule reached_slots
 no_test = refl
 
 -- its first instructions alone
-abbrev front : ℕ → Option Fault
+abbrev front : ℕ → Option Broken
 front n = structure_fault (take n (counts null_test))
 
 front_1 : front 1 ≡ Some (fault 0 RunsOffTheEnd)

@@ -5,18 +5,17 @@ use Rattle.std.proofs.lemmas.Bool.{cases_Bool, false≢true}
 use Rattle.std.proofs.lemmas.Option.{none-some}
 use Rattle.insn.specs.declared.instruction.Form.{Form}
 use Rattle.insn.specs.Layout.{size}
-use Rattle.flow.specs.declared.rules.StructureRule.{StructureRule}
 use Rattle.flow.specs.declared.rules.StructureRule.TheVariants.{RunsOffTheEnd}
 use Rattle.flow.specs.declared.rules.Broken.{Broken}
-use Rattle.flow.specs.Structure.{IsStructured, FirstBroken, rule_number}
-use Rattle.flow.specs.Faults.{Fault, fault, has_good_size, lowest_fault, structure_fault, Names}
+use Rattle.flow.specs.Structure.{IsStructured, FirstBroken}
+use Rattle.flow.specs.Faults.{fault, has_good_size, lowest_fault, structure_fault}
 use Rattle.flow.proofs.Lowest.{structured_from_fault, broken_from_fault, broken_is_not_structured}
 
 -- the answer is the computed one
 abbrev pub Reads : List Form → Result (Unit {0}) Broken → Type 0
-Reads p answer = MatchResult answer (λ u. structure_fault p ≡ None) (λ b. Names b (structure_fault p))
+Reads p answer = MatchResult answer (λ u. structure_fault p ≡ None) (λ b. structure_fault p ≡ Some b)
 
-abbrev chosen : List Form → Bool → Option Fault
+abbrev chosen : List Form → Bool → Option Broken
 chosen p b = cond b (lowest_fault p (size p)) (Some (fault 0 RunsOffTheEnd))
 
 abbrev sized : List Form → Bool → Option ℕ
@@ -41,13 +40,13 @@ fault_of_bad p h =
     (λ bad. ap (chosen p) bad)
     (cases_Bool (has_good_size p))
 
-pub reads : (p : List Form) (n : ℕ) (answer : Result (Unit {0}) Broken) → Some n ≡ sized p (has_good_size p) → MatchResult answer (λ u. lowest_fault p n ≡ None) (λ b. Names b (lowest_fault p n)) → Reads p answer
-reads p n answer h read = subst (λ o. MatchResult answer (λ u. o ≡ None) (λ b. Names b o)) (fault_of_good p n h) read
+pub reads : (p : List Form) (n : ℕ) (answer : Result (Unit {0}) Broken) → Some n ≡ sized p (has_good_size p) → MatchResult answer (λ u. lowest_fault p n ≡ None) (λ b. lowest_fault p n ≡ Some b) → Reads p answer
+reads p n answer h read = subst (λ o. MatchResult answer (λ u. o ≡ None) (λ b. o ≡ Some b)) (fault_of_good p n h) read
 
 pub decides : (p : List Form) (answer : Result (Unit {0}) Broken) → Reads p answer → IsOk answer ↔ IsStructured p
 decides p (Ok u) read = (λ ok. structured_from_fault p read, λ good. refl)
-decides p (Err b) read = (λ ok. absurd (false≢true ok), λ good. absurd (broken_is_not_structured p b.slot read.0 (broken_from_fault p (fault b.slot read.0) read.1) good))
+decides p (Err b) read = (λ ok. absurd (false≢true ok), λ good. absurd (broken_is_not_structured p b.slot b.rule (broken_from_fault p b read) good))
 
-pub names_first : (p : List Form) (answer : Result (Unit {0}) Broken) → Reads p answer → IfErr answer (λ b. (rule : StructureRule) × FirstBroken p b.slot rule × (b.number ≡ rule_number rule))
+pub names_first : (p : List Form) (answer : Result (Unit {0}) Broken) → Reads p answer → IfErr answer (λ b. FirstBroken p b.slot b.rule)
 names_first p (Ok u) read = tt
-names_first p (Err b) read = (read.0, broken_from_fault p (fault b.slot read.0) read.1, read.2)
+names_first p (Err b) read = broken_from_fault p b read

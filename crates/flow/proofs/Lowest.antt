@@ -8,7 +8,8 @@ use Rattle.insn.specs.Layout.{layout, size, instruction_at}
 use Rattle.flow.specs.declared.rules.StructureRule.{StructureRule}
 use Rattle.flow.specs.declared.rules.StructureRule.TheVariants.{RunsOffTheEnd}
 use Rattle.flow.specs.Structure.{StandsAt, Breaks, rule_number, HasGoodSize, HasBadSize, IsUnbroken, IsStructured, BreaksFirst, FirstBroken}
-use Rattle.flow.specs.Faults.{Fault, fault, is_second_half, is_reached, is_broken, first_rule, rule_at, or_fault_at, lowest_fault, has_good_size, structure_fault}
+use Rattle.flow.specs.declared.rules.Broken.{Broken}
+use Rattle.flow.specs.Faults.{fault, is_second_half, is_reached, is_broken, first_rule, rule_at, or_fault_at, lowest_fault, has_good_size, structure_fault}
 use Rattle.flow.proofs.Reach.{last_or_below}
 use Rattle.flow.proofs.Order.{breaks_from_test, test_from_breaks, none_found, first_found, same_rule}
 
@@ -60,12 +61,12 @@ some_at p s rule h = chosen p s rule (instruction_at p s) refl h
 
 -- ---- the slots in order
 
-or_none : (s : ℕ) (rule : Option StructureRule) (o : Option Fault) → or_fault_at s rule o ≡ None → (rule ≡ None) × (o ≡ None)
+or_none : (s : ℕ) (rule : Option StructureRule) (o : Option Broken) → or_fault_at s rule o ≡ None → (rule ≡ None) × (o ≡ None)
 or_none s rule (Some f) h = cc
 or_none s (Some v) None h = cc
 or_none s None None h = (refl, refl)
 
-or_some : (s : ℕ) (rule : Option StructureRule) (o : Option Fault) (f : Fault) → or_fault_at s rule o ≡ Some f → (o ≡ Some f) ⊎ ((o ≡ None) × (v : StructureRule) × (rule ≡ Some v) × (fault s v ≡ f))
+or_some : (s : ℕ) (rule : Option StructureRule) (o : Option Broken) (f : Broken) → or_fault_at s rule o ≡ Some f → (o ≡ Some f) ⊎ ((o ≡ None) × (v : StructureRule) × (rule ≡ Some v) × (fault s v ≡ f))
 or_some s rule (Some g) f h = inl h
 or_some s (Some v) None f h = inr (refl, v, refl, cc)
 or_some s None None f h = cc
@@ -89,7 +90,7 @@ broken_here p k v good below h =
     let at = some_at p k v h in
     (at.0, record { size_good = good; stands = at.1.stands; broken = at.1.broken; lowest_slot = below; lowest_number = at.1.lowest })
 
-pub broken_first : (p : List Form) (k : ℕ) (f : Fault) → HasGoodSize p → lowest_fault p k ≡ Some f → (i : Form) × BreaksFirst p i f.slot f.rule
+pub broken_first : (p : List Form) (k : ℕ) (f : Broken) → HasGoodSize p → lowest_fault p k ≡ Some f → (i : Form) × BreaksFirst p i f.slot f.rule
 unfolding lowest_fault
 broken_first p zero f good h = cc
 broken_first p (suc k) f good h =
@@ -126,7 +127,7 @@ structured_from_fault p h =
     (λ bad. absurd (none-some _ (sym h ∙ ap (λ b. cond b (lowest_fault p (size p)) (Some (fault 0 RunsOffTheEnd))) bad)))
     (cases_Bool (has_good_size p))
 
-pub broken_from_fault : (p : List Form) (f : Fault) → structure_fault p ≡ Some f → FirstBroken p f.slot f.rule
+pub broken_from_fault : (p : List Form) (f : Broken) → structure_fault p ≡ Some f → FirstBroken p f.slot f.rule
 unfolding structure_fault
 broken_from_fault p f h =
     ⊎_elim
@@ -170,14 +171,14 @@ only_one_broken p s t v w (inr a) (inr b) = first_is_one p a.0 b.0 s t v w a.1 b
 
 -- ---- the laws
 
-no_fault : (p : List Form) (o : Option Fault) → structure_fault p ≡ o → IsStructured p → structure_fault p ≡ None
+no_fault : (p : List Form) (o : Option Broken) → structure_fault p ≡ o → IsStructured p → structure_fault p ≡ None
 no_fault p None e good = e
 no_fault p (Some f) e good = absurd (broken_is_not_structured p f.slot f.rule (broken_from_fault p f e) good)
 
 pub no_fault_iff : (p : List Form) → (structure_fault p ≡ None) ↔ IsStructured p
 no_fault_iff p = (structured_from_fault p, no_fault p (structure_fault p) refl)
 
-named : (p : List Form) (s : ℕ) (rule : StructureRule) (o : Option Fault) → structure_fault p ≡ o → FirstBroken p s rule → structure_fault p ≡ Some (fault s rule)
+named : (p : List Form) (s : ℕ) (rule : StructureRule) (o : Option Broken) → structure_fault p ≡ o → FirstBroken p s rule → structure_fault p ≡ Some (fault s rule)
 named p s rule None e broken = absurd (broken_is_not_structured p s rule broken (structured_from_fault p e))
 named p s rule (Some f) e broken =
     let same = only_one_broken p f.slot s f.rule rule (broken_from_fault p f e) broken in

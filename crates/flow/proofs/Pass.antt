@@ -11,7 +11,8 @@ use Rattle.insn.specs.declared.instruction.Edge.TheVariants.{Fall, Jump}
 use Rattle.flow.specs.declared.rules.StructureRule.{StructureRule}
 use Rattle.flow.specs.declared.rules.StructureRule.TheVariants.{TargetOutside, RunsOffTheEnd, Unreachable}
 use Rattle.flow.specs.Structure.{StandsAt}
-use Rattle.flow.specs.Faults.{Fault, fault, leads_to, is_reached_from, reached_slots, is_reached, is_second_half, first_rule, rule_at, or_fault_at, lowest_fault}
+use Rattle.flow.specs.declared.rules.Broken.{Broken}
+use Rattle.flow.specs.Faults.{fault, leads_to, is_reached_from, reached_slots, is_reached, is_second_half, first_rule, rule_at, or_fault_at, lowest_fault}
 use Rattle.flow.specs.declared.slot_set.SlotSet.{SlotSet}
 use Rattle.flow.specs.SlotSets.{has_slot}
 use Rattle.flow.proofs.Jumps.{edge_found}
@@ -51,7 +52,7 @@ a_rule : (p : List Form) (s : ℕ) (rule : StructureRule) → rule_at p s ≡ So
 unfolding lowest_fault
 a_rule p s rule broken before = ap (or_fault_at s (rule_at p s)) before ∙ ap (option_map (fault s)) broken
 
-stays : (p : List Form) (f : Fault) (s n : ℕ) → lowest_fault p s ≡ Some f → lowest_fault p (s + n) ≡ Some f
+stays : (p : List Form) (f : Broken) (s n : ℕ) → lowest_fault p s ≡ Some f → lowest_fault p (s + n) ≡ Some f
 unfolding lowest_fault
 stays p f s zero h = let e : s + 0 ≡ s = omega arith in ap (lowest_fault p) e ∙ h
 stays p f s (suc n) h = let e : s + suc n ≡ suc (s + n) = omega arith in ap (lowest_fault p) e ∙ ap (or_fault_at (s + n) (rule_at p (s + n))) (stays p f s n h)

@@ -1,6 +1,6 @@
 -- The broken rule that is named for a program, computed: the first slot in order at which a rule is broken, and the first of the
 -- rules there. The laws `no_fault_where_structured` and `fault_is_first_broken` say that it is the one that `Structure` defines.
-use Rattle.std.specs.Prelude.{◌≡◌, ℕ, zero, suc, ◌+◌, Bool, true, false, cond, not, ◌&&◌, ◌||◌, nat_lt, nat_le, nat_eq, ℤ, pos, negsuc, ◌+ℤ◌, List, [], ◌∷◌, ◌++◌, Option, Some, None, find, slice_get, option_map, option_and_then}
+use Rattle.std.specs.Prelude.{ℕ, zero, suc, ◌+◌, Bool, true, false, cond, not, ◌&&◌, ◌||◌, nat_lt, nat_le, nat_eq, ℤ, pos, negsuc, ◌+ℤ◌, List, [], ◌∷◌, ◌++◌, Option, Some, None, find, slice_get, option_map, option_and_then}
 use Rattle.std.specs.List.{list_any}
 use Rattle.insn.specs.declared.instruction.TheConstants.{MAX_SLOTS}
 use Rattle.insn.specs.declared.instruction.Form.{Form}
@@ -8,15 +8,9 @@ use Rattle.insn.specs.Layout.{layout, size, slot_count, instruction_at, falls_th
 use Rattle.flow.specs.declared.rules.StructureRule.{StructureRule}
 use Rattle.flow.specs.declared.rules.StructureRule.TheVariants.{TargetOutside, TargetNotForward, TargetInsideWide, RunsOffTheEnd, Unreachable}
 use Rattle.flow.specs.declared.rules.Broken.{Broken}
-use Rattle.flow.specs.Structure.{rule_number}
-
--- a broken rule, and its slot
-pub record Fault : Type 0 where
-  pub slot : ℕ
-  pub rule : StructureRule
 
 -- the fault of a rule at a slot
-abbrev pub fault : ℕ → StructureRule → Fault
+abbrev pub fault : ℕ → StructureRule → Broken
 fault slot rule = record { slot = slot; rule = rule }
 
 -- ---- jumps
@@ -111,12 +105,12 @@ abbrev pub rule_at : List Form → ℕ → Option StructureRule
 rule_at p s = option_and_then (λ i. first_rule (size p) (is_second_half p) (is_reached p s) i s) (instruction_at p s)
 
 -- the fault of a lower slot, or else that of this rule at slot s
-abbrev pub or_fault_at : ℕ → Option StructureRule → Option Fault → Option Fault
+abbrev pub or_fault_at : ℕ → Option StructureRule → Option Broken → Option Broken
 or_fault_at s rule (Some f) = Some f
 or_fault_at s rule None = option_map (fault s) rule
 
 -- the fault at the lowest of the slots below k
-unfoldable pub lowest_fault : List Form → ℕ → Option Fault
+unfoldable pub lowest_fault : List Form → ℕ → Option Broken
 lowest_fault p zero = None
 lowest_fault p (suc k) = or_fault_at k (rule_at p k) (lowest_fault p k)
 
@@ -125,9 +119,5 @@ abbrev pub has_good_size : List Form → Bool
 has_good_size p = nat_lt 0 (size p) && nat_le (size p) MAX_SLOTS
 
 -- the fault that is to be named
-unfoldable pub structure_fault : List Form → Option Fault
+unfoldable pub structure_fault : List Form → Option Broken
 structure_fault p = cond (has_good_size p) (lowest_fault p (size p)) (Some (fault 0 RunsOffTheEnd))
-
--- the refusal says the fault's slot, and the number of its rule
-abbrev pub Names : Broken → Option Fault → Type 0
-Names broken read = (rule : StructureRule) × (read ≡ Some (fault broken.slot rule)) × (broken.number ≡ rule_number rule)

@@ -3,9 +3,8 @@
 
 ghost use Rattle.std.specs.Prelude.{◌≡◌, ℕ, Bool, find, ◌&&◌, nat_eq, ◌+◌, ◌<◌, ◌≤◌, ◌↔◌, cond, None, Some, IsOk, IfErr, MatchResult};
 ghost use Rattle.insn.specs.Layout.{size, slot_count, falls_through};
-ghost use Rattle.flow.specs.declared.rules.StructureRule.{StructureRule};
-ghost use Rattle.flow.specs.Structure.{IsStructured, FirstBroken, rule_number};
-ghost use Rattle.flow.specs.Faults.{is_second_half, is_broken, rules_of_jumps, first_rule, lowest_fault, has_good_size, structure_fault, Names};
+ghost use Rattle.flow.specs.Structure.{IsStructured, FirstBroken};
+ghost use Rattle.flow.specs.Faults.{fault, is_second_half, is_broken, rules_of_jumps, first_rule, lowest_fault, has_good_size, structure_fault};
 ghost use Rattle.flow.specs.SlotSets.{has_slot};
 
 use crate::edges::{insert_targets, target_of};
@@ -18,10 +17,10 @@ use insn::{Form, Insn, MAX_SLOTS};
 pub fn structure(program: &[Insn]) -> Result<(), Broken>
     // Accepted is what is structured.
     ensures structured { IsOk result ↔ IsStructured program.now }
-    // The refusal names the first rule that is broken.
-    ensures first { IfErr result (λ b. (rule : StructureRule) × FirstBroken program.now b.slot rule × (b.number ≡ rule_number rule)) }
+    // The refusal has the first rule that is broken.
+    ensures first { IfErr result (λ b. FirstBroken program.now b.slot b.rule) }
     // The answer is the computed one.
-    ensures reading { MatchResult result (λ _. structure_fault program.now ≡ None) (λ b. Names b (structure_fault program.now)) }
+    ensures reading { MatchResult result (λ _. structure_fault program.now ≡ None) (λ b. structure_fault program.now ≡ Some b) }
 {
     match good_size(program) {
         Some(end) => check_each(program, end),
@@ -32,12 +31,11 @@ pub fn structure(program: &[Insn]) -> Result<(), Broken>
 // The refusal of the rule at the slot.
 fn broken(slot: usize, rule: StructureRule) -> Broken
     requires { slot < MAX_SLOTS }
-    ensures at { result.slot ≡ slot }
-    ensures named { result.number ≡ rule_number rule }
+    ensures { result ≡ fault slot rule }
 {
     Broken {
         slot: slot as u32,
-        number: rule.number(),
+        rule,
     }
 }
 
@@ -75,7 +73,7 @@ fn second_halves(program: &[Insn]) -> SlotSet
 fn check_each(program: &[Insn], end: usize) -> Result<(), Broken>
     requires sized { end ≡ size program.now }
     requires few { end ≤ MAX_SLOTS }
-    ensures { MatchResult result (λ _. lowest_fault program.now end ≡ None) (λ b. Names b (lowest_fault program.now end)) }
+    ensures { MatchResult result (λ _. lowest_fault program.now end ≡ None) (λ b. lowest_fault program.now end ≡ Some b) }
 {
     let halves = second_halves(program);
     let mut reached = SlotSet::new();

@@ -1,4 +1,4 @@
-// The rules of structure, and the refusal that names the one that is broken.
+// The rules of structure, and the refusal that has the one that is broken.
 
 ghost use Rattle.std.specs.Prelude.{◌≡◌};
 ghost use Rattle.flow.specs.Structure.{rule_number};
@@ -33,25 +33,29 @@ impl StructureRule {
             StructureRule::Unreachable => 5,
         }
     }
+
+    // What is wrong, in words.
+    fn text(self) -> &'static str {
+        match self {
+            StructureRule::TargetOutside => "the jump leaves the program",
+            StructureRule::TargetNotForward => "the jump doesn't lead forward",
+            StructureRule::TargetInsideWide => {
+                "the jump lands in the second half of a wide instruction"
+            }
+            StructureRule::RunsOffTheEnd => {
+                "the program runs off its end, is empty or has more than 4096 slots"
+            }
+            StructureRule::Unreachable => "nothing leads to this instruction",
+        }
+    }
 }
 
 /// Why a program isn't structured: the lowest slot at which a rule is broken, and there the lowest number of one.
 #[derive(Clone, Copy, PartialEq, Eq, Debug, Error)]
-#[error("slot {slot}: {} (V{number})", meaning(*.number))]
+#[error("slot {slot}: {} (V{})", .rule.text(), .rule.number())]
 pub struct Broken {
     /// The slot of the instruction that breaks the rule, from 0.
     pub slot: u32,
-    /// The number of the rule, from 1 to 5.
-    pub number: u8,
-}
-
-// What is wrong, by the number of the rule.
-fn meaning(number: u8) -> &'static str {
-    match number {
-        1 => "the jump leaves the program",
-        2 => "the jump doesn't lead forward",
-        3 => "the jump lands in the second half of a wide instruction",
-        4 => "the program runs off its end, is empty or has more than 4096 slots",
-        _ => "nothing leads to this instruction",
-    }
+    /// The rule.
+    pub rule: StructureRule,
 }

@@ -1,7 +1,7 @@
 //! Writes what each refusal says. The texts that it must write stand beside this program.
 #![tactic(auto)]
 
-use flow::Broken;
+use flow::{Broken, StructureRule};
 use insn::{DecodeError, DecodeFault, DecodeRefusal};
 use loader::{LoadError, LoadFault, LoadRefusal};
 use maps::{MapError, ShapeFault};
@@ -18,6 +18,14 @@ const DECODER: [DecodeFault; 9] = [
     DecodeFault::UnusedFieldSet,
     DecodeFault::CutOff,
     DecodeFault::BadSecondHalf,
+];
+
+const STRUCTURE: [StructureRule; 5] = [
+    StructureRule::TargetOutside,
+    StructureRule::TargetNotForward,
+    StructureRule::TargetInsideWide,
+    StructureRule::RunsOffTheEnd,
+    StructureRule::Unreachable,
 ];
 
 const VERIFIER: [VerifyFault; 18] = [
@@ -51,8 +59,8 @@ fn main(rt: HostRuntime) -> io::Result<()> {
     for why in DECODER {
         println!(rt; "{}", DecodeError::Refused(DecodeRefusal { slot: 3, why }))?;
     }
-    for number in 1..6u8 {
-        println!(rt; "{}", Broken { slot: 3, number })?;
+    for rule in STRUCTURE {
+        println!(rt; "{}", Broken { slot: 3, rule })?;
     }
     for why in VERIFIER {
         println!(rt; "{}", VerifyError::Refused(Refused { slot: 7, why }))?;

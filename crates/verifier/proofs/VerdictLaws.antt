@@ -11,7 +11,8 @@ use Rattle.insn.proofs.Places.{first_of}
 use Rattle.regkind.specs.Frames.{Frame, Covers, IsFrame, entry_frame}
 use Rattle.regkind.proofs.Laws.{covers_antisymmetric, IsFrame-entry}
 use Rattle.flow.specs.Structure.{IsStructured, StandsAt}
-use Rattle.flow.specs.Faults.{Fault, structure_fault}
+use Rattle.flow.specs.declared.rules.Broken.{Broken}
+use Rattle.flow.specs.Faults.{structure_fault}
 use Rattle.flow.proofs.Forward.{leads_on, target_stands}
 use Rattle.flow.proofs.Lowest.{structured_from_fault, broken_from_fault, broken_is_not_structured, only_one_broken, fault_iff}
 use Rattle.verifier.specs.declared.refusal.VerifyFault.{VerifyFault}
@@ -134,7 +135,7 @@ pub accepts : (p : List Form) (l : Signature) → verdict p l ≡ None → IsTyp
 unfolding verdict
 accepts p l h = by (structure_fault p) refl h
   where
-    by : (o : Option Fault) → structure_fault p ≡ o → after_structure o (lowest_refusal p l (size p)) ≡ None → IsTypable p l
+    by : (o : Option Broken) → structure_fault p ≡ o → after_structure o (lowest_refusal p l (size p)) ≡ None → IsTypable p l
     by None e h = typing p l (structured_from_fault p e) h
     by (Some f) e h = cc
 
@@ -142,7 +143,7 @@ pub refuses : (p : List Form) (l : Signature) (e : Refused) → verdict p l ≡ 
 unfolding verdict
 refuses p l e h = by (structure_fault p) refl h
   where
-    by : (o : Option Fault) → structure_fault p ≡ o → after_structure o (lowest_refusal p l (size p)) ≡ Some e → Refuses p l e
+    by : (o : Option Broken) → structure_fault p ≡ o → after_structure o (lowest_refusal p l (size p)) ≡ Some e → Refuses p l e
     by None eq h = inr (refusal p l (structured_from_fault p eq) e h)
     by (Some f) eq h =
         let same : refused f.slot (structure_reason f.rule) ≡ e = cc in

@@ -4,7 +4,8 @@ use Rattle.std.specs.Option.{option_map}
 use Rattle.insn.specs.declared.instruction.Form.{Form}
 use Rattle.insn.specs.Layout.{size, instruction_at}
 use Rattle.regkind.specs.Frames.{Frame}
-use Rattle.flow.specs.Faults.{Fault, structure_fault}
+use Rattle.flow.specs.declared.rules.Broken.{Broken}
+use Rattle.flow.specs.Faults.{structure_fault}
 use Rattle.verifier.specs.declared.refusal.VerifyFault.{VerifyFault}
 use Rattle.verifier.specs.declared.refusal.Refused.{Refused}
 use Rattle.verifier.specs.Signature.{Signature}
@@ -32,7 +33,7 @@ lowest_refusal p l zero = None
 lowest_refusal p l (suc s) = or_else (lowest_refusal p l s) (refusal_of l (instruction_at p s) (joined_frame p s) s)
 
 -- structure is decided for the whole program first
-abbrev pub after_structure : Option Fault → Option Refused → Option Refused
+abbrev pub after_structure : Option Broken → Option Refused → Option Refused
 after_structure (Some f) other = Some (refused f.slot (structure_reason f.rule))
 after_structure None other = other
 

@@ -4,9 +4,12 @@ ghost use Rattle.std.specs.Prelude.{◌≡◌, ◌↔◌, List, None, Some};
 ghost use Rattle.std.specs.List.{AllByRecursion};
 ghost use Rattle.insn.specs.declared.instruction.Form.{Form};
 ghost use Rattle.insn.specs.Encoding.{HasEncoding};
+ghost use Rattle.flow.specs.declared.rules.StructureRule.{StructureRule};
+ghost use Rattle.flow.specs.Structure.{rule_number};
 ghost use Rattle.verifier.specs.declared.refusal.Refused.{Refused};
 ghost use Rattle.verifier.specs.Signature.{Signature};
-ghost use Rattle.verifier.specs.Typing.{IsTypable, Refuses};
+ghost use Rattle.verifier.specs.Numbers.{fault_number};
+ghost use Rattle.verifier.specs.Typing.{IsTypable, Refuses, structure_reason};
 ghost use Rattle.verifier.specs.Verdict.{verdict};
 
 /// The verdict is no refusal exactly where a program is typable.
@@ -17,6 +20,11 @@ pub fn no_refusal_where_typable()
 /// The verdict is the refusal that is to be named.
 pub fn refusal_is_first_broken()
     ensures { (p : List Form) (l : Signature) (e : Refused) → AllByRecursion HasEncoding p → (verdict p l ≡ Some e) ↔ Refuses p l e }
+{}
+
+/// A rule of structure has the number of the refusal that it is the reason of.
+pub fn structure_keeps_its_numbers()
+    ensures { (rule : StructureRule) → fault_number (structure_reason rule) ≡ rule_number rule }
 {}
 
 /// A refused program has no typing at all.

@@ -17,6 +17,9 @@ mod verification;
 mod visiting;
 
 pub use accepted::Accepted;
-pub use laws::{no_refusal_where_typable, refusal_is_first_broken, refused_is_untypable};
+pub use laws::{
+    no_refusal_where_typable, refusal_is_first_broken, refused_is_untypable,
+    structure_keeps_its_numbers,
+};
 pub use refusal::{Mode, Refused, VerifyError, VerifyFault};
 pub use verification::verify;

@@ -5,8 +5,7 @@ ghost use Rattle.std.specs.List.{AllByRecursion};
 ghost use Rattle.insn.specs.Encoding.{HasEncoding};
 ghost use Rattle.insn.specs.Layout.{size};
 ghost use Rattle.regkind.specs.Frames.{entry_frame};
-ghost use Rattle.flow.specs.Structure.{IsStructured, rule_number};
-ghost use Rattle.flow.specs.declared.rules.StructureRule.{StructureRule};
+ghost use Rattle.flow.specs.Structure.{IsStructured};
 ghost use Rattle.maps.specs.Shapes.{AreShapesOk};
 ghost use Rattle.verifier.specs.Accepted.{checked};
 ghost use Rattle.verifier.specs.Signature.{Signature, signature, IsSignatureOk};
@@ -18,7 +17,7 @@ use crate::accepted::Accepted;
 use crate::refusal::{Mode, Refused, VerifyError, VerifyFault};
 use crate::signature::Signature;
 use crate::visiting::visit;
-use flow::structure;
+use flow::{StructureRule, structure};
 use insn::{Insn, MAX_SLOTS};
 use maps::{MAX_ARG_LEN, Shape};
 use regkind::Frame;
@@ -68,21 +67,21 @@ fn check_structure(program: &[Insn]) -> Result<(), Refused>
         Ok(()) => Ok(()),
         Err(broken) => Err(Refused {
             slot: broken.slot,
-            why: fault_of_structure(broken.number),
+            why: fault_of_structure(broken.rule),
         }),
     }
 }
 
-// The rule of structure of this number.
-fn fault_of_structure(number: u8) -> VerifyFault
-    ensures { (rule : StructureRule) → number ≡ rule_number rule → result ≡ structure_reason rule }
+// A rule of structure as the reason of a refusal.
+fn fault_of_structure(rule: StructureRule) -> VerifyFault
+    ensures { result ≡ structure_reason rule }
 {
-    match number {
-        1 => VerifyFault::TargetOutside,
-        2 => VerifyFault::TargetNotForward,
-        3 => VerifyFault::TargetInsideWide,
-        4 => VerifyFault::RunsOffTheEnd,
-        _ => VerifyFault::Unreachable,
+    match rule {
+        StructureRule::TargetOutside => VerifyFault::TargetOutside,
+        StructureRule::TargetNotForward => VerifyFault::TargetNotForward,
+        StructureRule::TargetInsideWide => VerifyFault::TargetInsideWide,
+        StructureRule::RunsOffTheEnd => VerifyFault::RunsOffTheEnd,
+        StructureRule::Unreachable => VerifyFault::Unreachable,
     }
 }
 

@@ -1,7 +1,7 @@
 use Rattle.std.proofs.Common.{◌≡◌, ◌+◌, get_or, Some, refl, sym, ap, ◌∙◌, subst, arith}
 use Rattle.std.specs.Prelude.{nat_eq, ◌||◌}
 use Rattle.insn.specs.Layout.{slot_count}
-use Rattle.flow.specs.Faults.{is_reached_from, reached_slots, leads_to, lowest_fault, fault}
+use Rattle.flow.specs.Faults.{is_reached_from, reached_slots, leads_to, lowest_fault}
 use Rattle.flow.proofs.Forward.{width_some}
 use Rattle.flow.proofs.Positions.{placed, size_next}
 use Rattle.flow.proofs.Pass.{as_found, lowest_next, reached_next, reached_here, fault_here, targets_within}
@@ -91,7 +91,7 @@ returns-in-Some c =
     let found = as_found p i s c.args.end c.second_halves-halves.result c.contains.result c.requires.sized c.second_halves-halves.ensures (c.contains.ensures ∙ c.loop-insn.invariant.reached s) in
     let broken = sym found ∙ sym c.broken_rule.ensures ∙ c.in-Some.is in
     let lowest = fault_here p i s c.args.end c.in-Some.rule at broken c.loop-insn.invariant.unbroken (omega (arith, at.within, width_some i)) in
-    (c.in-Some.rule, lowest ∙ ap (λ n. Some (fault n c.in-Some.rule)) (sym c.broken.ensures.at), c.broken.ensures.named)
+    lowest ∙ ap Some (sym c.broken.ensures)
 
 pub loop-insn-preserved : goal.loop-insn-preserved
 loop-insn-preserved c =

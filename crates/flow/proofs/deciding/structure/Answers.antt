@@ -1,6 +1,4 @@
 use Rattle.std.proofs.Common.{Some, sym, ap, ◌∙◌}
-use Rattle.flow.specs.declared.rules.StructureRule.TheVariants.{RunsOffTheEnd}
-use Rattle.flow.specs.Faults.{fault}
 use Rattle.flow.proofs.Judged.{fault_of_bad, reads, decides, names_first}
 use Rattle.flow.proofs.deciding.structure.Goals as goal
 
@@ -22,4 +20,4 @@ returns-in-Some-clause-reading c =
 pub returns-in-None-clause-reading : goal.returns-in-None-clause-reading
 returns-in-None-clause-reading c =
     let bad = fault_of_bad c.args.program.now (sym c.in-None.is ∙ c.good_size.ensures) in
-    (RunsOffTheEnd, bad ∙ ap (λ n. Some (fault n RunsOffTheEnd)) (sym c.broken.ensures.at), c.broken.ensures.named)
+    bad ∙ ap Some (sym c.broken.ensures)
