@@ -10,7 +10,7 @@ use std::hash::Hash;
 use std::hint::black_box;
 use std::time::{Duration, Instant};
 
-/// What to do, and how often: see crates/maps_bench.
+/// What to do, and how often: see crates/bench_maps.
 #[repr(C)]
 struct Job {
     size: u32,

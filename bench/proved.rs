@@ -1,4 +1,4 @@
-//! The proved store, as a program (crates/store_bench) that is told over a pipe how many calls to make, and the programs that it runs.
+//! The proved store, as a program (crates/bench_store) that is told over a pipe how many calls to make, and the programs that it runs.
 
 use crate::twins::{Programs, Sizes};
 use std::io::{BufRead, BufReader, Write};

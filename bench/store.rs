@@ -1,4 +1,4 @@
-//! Times the proved store (the program crates/store_bench, whose path is the first word) beside stores in plain Rust. On one thread it
+//! Times the proved store (the program crates/bench_store, whose path is the first word) beside stores in plain Rust. On one thread it
 //! checks that all give the same replies, and prints what an update and a ready read cost, and an update by the bytes of the maps and
 //! the window; then it prints how many calls a second several threads make. With `replicated` or `locked`, `update` or `read`, and a
 //! number in place of the path it makes so many calls of that twin alone, for a tool that counts processor instructions.
@@ -14,7 +14,7 @@ use std::time::{Duration, Instant};
 use twins::{Caller, Locked, Mix, Replicated, Sizes, Twin, call_often};
 
 unsafe extern "C" {
-    // Runs a program so often on an array of so many counters: see crates/machine_bench.
+    // Runs a program so often on an array of so many counters: see crates/bench_machine.
     fn bench_run(code: *const u8, code_len: usize, argument: *const u8, argument_len: usize, entries: u32, times: u64) -> u64;
 }
 
@@ -135,9 +135,9 @@ fn main() {
         [_, path] => {
             print_calls(path);
             print_sizes(path);
-            threads::print(path);
+            example_threads::print(path);
         }
         [_, twin, call, times] => alone(twin, call, times.parse().expect("a number")),
-        _ => panic!("the path of store_bench"),
+        _ => panic!("the path of bench_store"),
     }
 }

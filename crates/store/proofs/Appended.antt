@@ -17,18 +17,18 @@ use Rattle.oplog.specs.History.{History, maps_after}
 use Rattle.oplog.specs.declared.configuration.TheConstants.{MAX_LIMIT}
 use Rattle.oplog.specs.Logs.{Log as LogView, left_of, room_in, tail_of}
 use Rattle.replica.specs.StoreMeaning.{store_meaning}
-use Rattle.progress.specs.declared.sessions.Progress.{Progress}
-use Rattle.progress.specs.declared.sessions.SessionNote.{SessionNote}
-use Rattle.progress.specs.Accounts.{Extends}
-use Rattle.progress.specs.DeskNotes.{Looked}
-use Rattle.progress.specs.LogSteps.{LogStep}
-use Rattle.progress.specs.Moves.{placed_from, record_of, unplaced}
-use Rattle.progress.specs.Putting.{KeepsSizes}
-use Rattle.progress.specs.Picks.{put_progress, put_note, IsPut}
-use Rattle.progress.proofs.DeskNotes.{batch_noted}
-use Rattle.progress.proofs.Tellings.{tail_is}
-use Rattle.progress.proofs.Picked.{log_picks, log_picked, puts_account}
-use Rattle.progress.proofs.Lists.{at_behind}
+use Rattle.accounts.specs.declared.sessions.Progress.{Progress}
+use Rattle.accounts.specs.declared.sessions.SessionNote.{SessionNote}
+use Rattle.accounts.specs.Accounts.{Extends}
+use Rattle.accounts.specs.DeskNotes.{Looked}
+use Rattle.accounts.specs.LogSteps.{LogStep}
+use Rattle.accounts.specs.Moves.{placed_from, record_of, unplaced}
+use Rattle.accounts.specs.Putting.{KeepsSizes}
+use Rattle.accounts.specs.Picks.{put_progress, put_note, IsPut}
+use Rattle.accounts.proofs.DeskNotes.{batch_noted}
+use Rattle.accounts.proofs.Tellings.{tail_is}
+use Rattle.accounts.proofs.Picked.{log_picks, log_picked, puts_account}
+use Rattle.accounts.proofs.Lists.{at_behind}
 use Rattle.node.specs.declared.following.NodeReplica.{NodeReplica}
 use Rattle.store.specs.declared.values.Value.{Value}
 use Rattle.store.specs.declared.values.Value.TheVariants.{Log, Replica, Desk}

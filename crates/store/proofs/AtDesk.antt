@@ -19,20 +19,20 @@ use Rattle.combiner.specs.declared.slots.Reply.TheVariants.{Placed, Ended}
 use Rattle.node.specs.Answering.{answered_batch}
 use Rattle.node.proofs.Answers.{answers_placed, answers_ended}
 use Rattle.node.proofs.Keeping.{get_some}
-use Rattle.progress.specs.declared.sessions.Claim.{Claim}
-use Rattle.progress.specs.declared.sessions.Pending.{Pending}
-use Rattle.progress.specs.declared.sessions.SessionNote.{SessionNote}
-use Rattle.progress.specs.Accounts.{IsAllowed}
-use Rattle.progress.specs.Agreement.{StageAgrees, SlotAgrees}
-use Rattle.progress.specs.DeskSteps.{PostStep, ClaimStep, ReplyStep, CollectStep, Gives}
-use Rattle.progress.specs.Batches.{Ascend}
-use Rattle.progress.specs.Moves.{record_of, unplaced}
-use Rattle.progress.proofs.Batches.{batch_is, claims_ascend}
-use Rattle.progress.proofs.Desks.{collected_is}
-use Rattle.progress.proofs.Ended.{answered}
-use Rattle.progress.proofs.Lists.{at_below, at_of, at_one, get_of}
-use Rattle.progress.proofs.Moved.{some_none}
-use Rattle.progress.proofs.Puts.{at_there}
+use Rattle.accounts.specs.declared.sessions.Claim.{Claim}
+use Rattle.accounts.specs.declared.sessions.Pending.{Pending}
+use Rattle.accounts.specs.declared.sessions.SessionNote.{SessionNote}
+use Rattle.accounts.specs.Accounts.{IsAllowed}
+use Rattle.accounts.specs.Agreement.{StageAgrees, SlotAgrees}
+use Rattle.accounts.specs.DeskSteps.{PostStep, ClaimStep, ReplyStep, CollectStep, Gives}
+use Rattle.accounts.specs.Batches.{Ascend}
+use Rattle.accounts.specs.Moves.{record_of, unplaced}
+use Rattle.accounts.proofs.Batches.{batch_is, claims_ascend}
+use Rattle.accounts.proofs.Desks.{collected_is}
+use Rattle.accounts.proofs.Ended.{answered}
+use Rattle.accounts.proofs.Lists.{at_below, at_of, at_one, get_of}
+use Rattle.accounts.proofs.Moved.{some_none}
+use Rattle.accounts.proofs.Puts.{at_there}
 use Rattle.store.specs.declared.desks.Turn.{Turn}
 use Rattle.store.specs.declared.desks.Turn.TheVariants.{Collects, Combines, Waits}
 use Rattle.store.specs.AtDesk.{IsAt, HasAsked, IsReady, IsTurn, IsClaim, Steps, TurnSteps}

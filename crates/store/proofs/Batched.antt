@@ -4,9 +4,9 @@ use mathlib.Core.Option.{some-injective}
 use Rattle.ownlock.specs.Seats.{At}
 use Rattle.oplog.specs.History.{History}
 use Rattle.oplog.specs.declared.records.Record.{Record}
-use Rattle.progress.specs.declared.sessions.Claim.{Claim}
-use Rattle.progress.specs.Moves.{placed_from, record_of, unplaced}
-use Rattle.progress.proofs.Lists.{at_none}
+use Rattle.accounts.specs.declared.sessions.Claim.{Claim}
+use Rattle.accounts.specs.Moves.{placed_from, record_of, unplaced}
+use Rattle.accounts.proofs.Lists.{at_none}
 
 pub records_of_unplaced : (rs : History) → map record_of (unplaced rs) ≡ rs
 records_of_unplaced [] = refl

@@ -13,15 +13,15 @@ use Rattle.oplog.specs.Limits.{IsConfig}
 use Rattle.oplog.specs.Logs.{Log as LogView}
 use Rattle.replica.specs.StoreMeaning.{store_meaning}
 use Rattle.replica.specs.Views.{ReplicaView}
-use Rattle.progress.specs.declared.sessions.Progress.{Progress}
-use Rattle.progress.specs.declared.sessions.SessionNote.{SessionNote}
-use Rattle.progress.specs.Accounts.{Extends}
-use Rattle.progress.specs.Agreement.{LogAgrees, ReplicaAgrees}
-use Rattle.progress.specs.LogSteps.{fresh_note}
-use Rattle.progress.proofs.Ended.{ends}
-use Rattle.progress.proofs.Lists.{at_none}
-use Rattle.progress.proofs.Puts.{at_there}
-use Rattle.progress.proofs.Tellings.{tail_is}
+use Rattle.accounts.specs.declared.sessions.Progress.{Progress}
+use Rattle.accounts.specs.declared.sessions.SessionNote.{SessionNote}
+use Rattle.accounts.specs.Accounts.{Extends}
+use Rattle.accounts.specs.Agreement.{LogAgrees, ReplicaAgrees}
+use Rattle.accounts.specs.LogSteps.{fresh_note}
+use Rattle.accounts.proofs.Ended.{ends}
+use Rattle.accounts.proofs.Lists.{at_none}
+use Rattle.accounts.proofs.Puts.{at_there}
+use Rattle.accounts.proofs.Tellings.{tail_is}
 use Rattle.node.specs.declared.following.NodeReplica.{NodeReplica}
 use Rattle.store.specs.declared.values.Setup.{Setup}
 use Rattle.store.specs.declared.values.Value.{Value}

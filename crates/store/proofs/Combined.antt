@@ -15,16 +15,16 @@ use Rattle.replica.specs.Views.{RepliesView}
 use Rattle.node.specs.Answering.{answered_batch, HaveRun}
 use Rattle.node.proofs.Answers.{answers_placed, answers_ended}
 use Rattle.node.proofs.Keeping.{get_some}
-use Rattle.progress.specs.declared.sessions.Claim.{Claim}
-use Rattle.progress.specs.declared.sessions.SessionNote.{SessionNote}
-use Rattle.progress.specs.Accounts.{Accounts, Extends}
-use Rattle.progress.specs.Batches.{Ascend}
-use Rattle.progress.specs.DeskSteps.{Gives}
-use Rattle.progress.specs.Moves.{placed_from, record_of, unplaced}
-use Rattle.progress.proofs.Lists.{at_below}
-use Rattle.progress.proofs.Parts.{placed_back}
-use Rattle.progress.proofs.Puts.{at_there}
-use Rattle.progress.proofs.Tellings.{reply_on}
+use Rattle.accounts.specs.declared.sessions.Claim.{Claim}
+use Rattle.accounts.specs.declared.sessions.SessionNote.{SessionNote}
+use Rattle.accounts.specs.Accounts.{Accounts, Extends}
+use Rattle.accounts.specs.Batches.{Ascend}
+use Rattle.accounts.specs.DeskSteps.{Gives}
+use Rattle.accounts.specs.Moves.{placed_from, record_of, unplaced}
+use Rattle.accounts.proofs.Lists.{at_below}
+use Rattle.accounts.proofs.Parts.{placed_back}
+use Rattle.accounts.proofs.Puts.{at_there}
+use Rattle.accounts.proofs.Tellings.{reply_on}
 use Rattle.store.specs.declared.values.Value.{Value}
 use Rattle.store.specs.AtDesk.{IsReady}
 use Rattle.store.specs.Combining.{HasCombined}
@@ -35,8 +35,8 @@ use Rattle.store.proofs.Finished.{Back, reply_kept}
 use Rattle.store.proofs.StoreLaws.{store_laws}
 use Rattle.store.specs.declared.steps.Caller.{Caller}
 use Rattle.store.specs.Shelving.{view_of}
-use Rattle.progress.specs.Values.{TheDesk}
-use Rattle.progress.specs.DeskNotes.{RepliedThere}
+use Rattle.accounts.specs.Values.{TheDesk}
+use Rattle.accounts.specs.DeskNotes.{RepliedThere}
 use Rattle.store.proofs.AtDesk.{reply_steps}
 use Rattle.store.proofs.Taken.{TookReplica}
 use Rattle.store.proofs.TakenDesk.{BackDesk, PutsDesk, TookDesk, puts_desk}

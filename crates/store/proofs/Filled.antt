@@ -7,13 +7,13 @@ use Rattle.maps.specs.declared.shapes.Shape.{Shape}
 use Rattle.loader.specs.CatalogueView.{CatalogueView}
 use Rattle.oplog.specs.declared.configuration.Config.{Config}
 use Rattle.replica.specs.StoreMeaning.{store_meaning}
-use Rattle.progress.specs.Values.{TheDesk}
-use Rattle.progress.specs.Agreement.{AgreesWith, desk_place}
-use Rattle.progress.specs.LogSteps.{first_progress, fresh_note}
-use Rattle.progress.proofs.Finish.{opens}
-use Rattle.progress.proofs.Lists.{at_front, at_behind}
-use Rattle.progress.proofs.Putting.{store_opens}
-use Rattle.progress.proofs.StoreRules.{desk_store}
+use Rattle.accounts.specs.Values.{TheDesk}
+use Rattle.accounts.specs.Agreement.{AgreesWith, desk_place}
+use Rattle.accounts.specs.LogSteps.{first_progress, fresh_note}
+use Rattle.accounts.proofs.Finish.{opens}
+use Rattle.accounts.proofs.Lists.{at_front, at_behind}
+use Rattle.accounts.proofs.Putting.{store_opens}
+use Rattle.accounts.proofs.StoreRules.{desk_store}
 use Rattle.store.specs.declared.values.Value.{Value}
 use Rattle.store.specs.declared.values.Value.TheVariants.{Log, Replica, Desk}
 use Rattle.store.specs.Places.{AreFilled, AreKept, AreShelved, IsOpenedDesk}

@@ -12,16 +12,16 @@ use Rattle.oplog.specs.History.{reply_at}
 use Rattle.readpath.specs.declared.reading.ReadAnswer.{ReadAnswer}
 use Rattle.replica.specs.StoreMeaning.{store_meaning}
 use Rattle.replica.specs.Views.{RepliesView}
-use Rattle.progress.specs.declared.sessions.Progress.{Progress}
-use Rattle.progress.specs.declared.sessions.SessionNote.{SessionNote}
-use Rattle.progress.specs.Accounts.{Extends}
-use Rattle.progress.specs.Agreement.{replica_place}
-use Rattle.progress.specs.Picks.{put_progress, put_note}
-use Rattle.progress.specs.Told.{ReadTells}
-use Rattle.progress.proofs.Tellings.{reads_tell}
-use Rattle.progress.proofs.Picked.{replica_picked, replica_picks, puts_account, same_picked, same_picks}
-use Rattle.progress.proofs.Finish.{grown_long}
-use Rattle.progress.proofs.Seen.{sized_on}
+use Rattle.accounts.specs.declared.sessions.Progress.{Progress}
+use Rattle.accounts.specs.declared.sessions.SessionNote.{SessionNote}
+use Rattle.accounts.specs.Accounts.{Extends}
+use Rattle.accounts.specs.Agreement.{replica_place}
+use Rattle.accounts.specs.Picks.{put_progress, put_note}
+use Rattle.accounts.specs.Told.{ReadTells}
+use Rattle.accounts.proofs.Tellings.{reads_tell}
+use Rattle.accounts.proofs.Picked.{replica_picked, replica_picks, puts_account, same_picked, same_picks}
+use Rattle.accounts.proofs.Finish.{grown_long}
+use Rattle.accounts.proofs.Seen.{sized_on}
 use Rattle.node.specs.declared.following.NodeReplica.{NodeReplica}
 use Rattle.store.specs.declared.values.Value.{Value}
 use Rattle.store.specs.Lending.{with_replica}

@@ -6,15 +6,15 @@ use Rattle.loader.specs.CatalogueView.{CatalogueView}
 use Rattle.oplog.specs.Logs.{Log as LogView, HandView, records_from}
 use Rattle.oplog.specs.History.{maps_after}
 use Rattle.replica.specs.StoreMeaning.{store_meaning, AreUpdates}
-use Rattle.progress.specs.declared.sessions.Progress.{Progress}
-use Rattle.progress.specs.Accounts.{Extends, IsWellFormed}
-use Rattle.progress.proofs.Tellings.{maps_on}
-use Rattle.progress.proofs.Finish.{grown_long}
+use Rattle.accounts.specs.declared.sessions.Progress.{Progress}
+use Rattle.accounts.specs.Accounts.{Extends, IsWellFormed}
+use Rattle.accounts.proofs.Tellings.{maps_on}
+use Rattle.accounts.proofs.Finish.{grown_long}
 use Rattle.node.specs.declared.following.NodeReplica.{NodeReplica}
 use Rattle.node.specs.Following.{Fits, copied, is_above, may_rebase, no_records, rebased}
 use Rattle.store.specs.Standing.{Follows, HasOthers, IsLogOf}
 use Rattle.store.proofs.Places.{at_drop, drop_drop}
-use Rattle.progress.proofs.Lists.{at_of}
+use Rattle.accounts.proofs.Lists.{at_of}
 
 abbrev L : Type 0
 L = Progress CatalogueView

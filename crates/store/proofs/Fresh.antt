@@ -5,10 +5,10 @@ use mathlib.Core.Option.{some-injective}
 use Rattle.ownlock.specs.Seats.{HoldsNone, SeatView, ShelfId, all_sessions}
 use Rattle.loader.specs.CatalogueView.{CatalogueView}
 use Rattle.oplog.specs.declared.configuration.Config.{Config}
-use Rattle.progress.specs.declared.sessions.Progress.{Progress}
-use Rattle.progress.specs.declared.sessions.SessionNote.{SessionNote}
-use Rattle.progress.specs.LogSteps.{first_progress, fresh_note}
-use Rattle.progress.proofs.Lists.{at_none}
+use Rattle.accounts.specs.declared.sessions.Progress.{Progress}
+use Rattle.accounts.specs.declared.sessions.SessionNote.{SessionNote}
+use Rattle.accounts.specs.LogSteps.{first_progress, fresh_note}
+use Rattle.accounts.proofs.Lists.{at_none}
 use Rattle.store.specs.declared.steps.Caller.{Caller}
 use Rattle.store.specs.declared.values.Value.{Value}
 use Rattle.store.specs.Opening.{AreOf}

@@ -8,12 +8,12 @@ use Rattle.oplog.specs.declared.configuration.Config.{Config}
 use Rattle.oplog.specs.Limits.{IsConfig}
 use Rattle.oplog.specs.Operations.{Operation}
 use Rattle.replica.specs.StoreMeaning.{store_meaning}
-use Rattle.progress.specs.declared.sessions.Progress.{Progress}
-use Rattle.progress.specs.declared.sessions.SessionNote.{SessionNote}
-use Rattle.progress.specs.Accounts.{Extends, IsWellFormed}
-use Rattle.progress.specs.Moves.{answered_with}
-use Rattle.progress.specs.Told.{Tells}
-use Rattle.progress.proofs.Finish.{grown_long}
+use Rattle.accounts.specs.declared.sessions.Progress.{Progress}
+use Rattle.accounts.specs.declared.sessions.SessionNote.{SessionNote}
+use Rattle.accounts.specs.Accounts.{Extends, IsWellFormed}
+use Rattle.accounts.specs.Moves.{answered_with}
+use Rattle.accounts.specs.Told.{Tells}
+use Rattle.accounts.proofs.Finish.{grown_long}
 use Rattle.replica.specs.declared.refusals.StoreRefused.{StoreRefused}
 use Rattle.store.specs.declared.steps.Caller.{Caller}
 use Rattle.store.specs.declared.values.Value.{Value}

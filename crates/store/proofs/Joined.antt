@@ -3,10 +3,10 @@ use Rattle.std.proofs.Common.{◌≡◌, ℕ, zero, suc, ◌+◌, List, [], ◌�
 use mathlib.Core.Option.{some-injective}
 use Rattle.ownlock.specs.Seats.{At, HoldsNone, SeatView, ShelfId}
 use Rattle.loader.specs.CatalogueView.{CatalogueView}
-use Rattle.progress.specs.declared.sessions.Progress.{Progress}
-use Rattle.progress.specs.declared.sessions.Pending.{Pending}
-use Rattle.progress.specs.declared.sessions.SessionNote.{SessionNote}
-use Rattle.progress.proofs.Lists.{at_none, at_front, at_behind, at_joined}
+use Rattle.accounts.specs.declared.sessions.Progress.{Progress}
+use Rattle.accounts.specs.declared.sessions.Pending.{Pending}
+use Rattle.accounts.specs.declared.sessions.SessionNote.{SessionNote}
+use Rattle.accounts.proofs.Lists.{at_none, at_front, at_behind, at_joined}
 use Rattle.store.specs.declared.steps.Caller.{Caller}
 use Rattle.store.specs.declared.values.Value.{Value}
 use Rattle.store.specs.Opening.{AreIdle, AreOf, known_back}

@@ -6,8 +6,8 @@ use Rattle.maps.specs.MapSets.{opening_maps}
 use Rattle.loader.specs.CatalogueView.{CatalogueView}
 use Rattle.oplog.specs.declared.configuration.Config.{Config}
 use Rattle.replica.specs.StoreMeaning.{store_meaning}
-use Rattle.progress.specs.Values.{TheLog, TheReplica}
-use Rattle.progress.specs.LogSteps.{first_log, first_replica}
+use Rattle.accounts.specs.Values.{TheLog, TheReplica}
+use Rattle.accounts.specs.LogSteps.{first_log, first_replica}
 use Rattle.node.specs.declared.following.NodeReplica.{NodeReplica}
 use Rattle.store.specs.declared.values.Value.{Value}
 use Rattle.store.specs.declared.values.Value.TheVariants.{Log, Replica, Desk}

@@ -11,19 +11,19 @@ use Rattle.oplog.specs.History.{after, maps_after}
 use Rattle.replica.specs.StoreMeaning.{store_meaning}
 use Rattle.replica.specs.Replaying.{IsAnswered, KeepsOutcomes}
 use Rattle.replica.specs.Views.{RepliesView}
-use Rattle.progress.specs.declared.sessions.Progress.{Progress}
-use Rattle.progress.specs.declared.sessions.SessionNote.{SessionNote}
-use Rattle.progress.specs.Accounts.{Extends, IsWellFormed}
-use Rattle.progress.specs.Moves.{raised}
-use Rattle.progress.proofs.Tellings.{replays, replayed_agrees}
-use Rattle.progress.proofs.Finish.{grown_long}
+use Rattle.accounts.specs.declared.sessions.Progress.{Progress}
+use Rattle.accounts.specs.declared.sessions.SessionNote.{SessionNote}
+use Rattle.accounts.specs.Accounts.{Extends, IsWellFormed}
+use Rattle.accounts.specs.Moves.{raised}
+use Rattle.accounts.proofs.Tellings.{replays, replayed_agrees}
+use Rattle.accounts.proofs.Finish.{grown_long}
 use Rattle.node.specs.declared.following.NodeReplica.{NodeReplica}
 use Rattle.store.specs.Shelving.{replica_value, store_rules}
 use Rattle.node.specs.Following.{IsNext, copied, replayed}
 use Rattle.store.specs.Standing.{SessionKnown, Agrees, IsLogOf, Follows, HasOthers, HasRaised, KeepsOutcomesOf, HasReplayed}
 use Rattle.store.proofs.Places.{at_drop, drop_at, long_drop, take_whole}
 use Rattle.store.proofs.Followed.{HasAll, others}
-use Rattle.progress.proofs.Lists.{at_of, get_of}
+use Rattle.accounts.proofs.Lists.{at_of, get_of}
 
 abbrev L : Type 0
 L = Progress CatalogueView

@@ -12,12 +12,12 @@ use Rattle.combiner.specs.declared.slots.Stage.TheVariants.{Empty, Posted, Claim
 use Rattle.combiner.specs.declared.slots.Reply.{Reply}
 use Rattle.combiner.specs.declared.slots.Reply.TheVariants.{Placed, Ended}
 use Rattle.replica.specs.StoreMeaning.{store_meaning}
-use Rattle.progress.specs.declared.sessions.Pending.{Pending}
-use Rattle.progress.specs.declared.sessions.Progress.{Progress}
-use Rattle.progress.specs.declared.sessions.SessionNote.{SessionNote}
-use Rattle.progress.specs.Accounts.{Accounts, Extends, HasNoRecord}
-use Rattle.progress.specs.Told.{Tells}
-use Rattle.progress.proofs.Tellings.{placed_tells}
+use Rattle.accounts.specs.declared.sessions.Pending.{Pending}
+use Rattle.accounts.specs.declared.sessions.Progress.{Progress}
+use Rattle.accounts.specs.declared.sessions.SessionNote.{SessionNote}
+use Rattle.accounts.specs.Accounts.{Accounts, Extends, HasNoRecord}
+use Rattle.accounts.specs.Told.{Tells}
+use Rattle.accounts.proofs.Tellings.{placed_tells}
 
 -- ---- a posted request is claimed
 

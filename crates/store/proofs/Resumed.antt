@@ -6,11 +6,11 @@ use Rattle.combiner.specs.declared.slots.Reply.{Reply}
 use Rattle.oplog.specs.declared.configuration.Config.{Config}
 use Rattle.oplog.specs.Sessions.{session}
 use Rattle.replica.specs.StoreMeaning.{store_meaning}
-use Rattle.progress.specs.declared.sessions.Pending.{Pending}
-use Rattle.progress.specs.declared.sessions.SessionNote.{SessionNote}
-use Rattle.progress.specs.Accounts.{Extends}
-use Rattle.progress.specs.Moves.{answered_with, unplaced}
-use Rattle.progress.specs.Told.{Tells}
+use Rattle.accounts.specs.declared.sessions.Pending.{Pending}
+use Rattle.accounts.specs.declared.sessions.SessionNote.{SessionNote}
+use Rattle.accounts.specs.Accounts.{Extends}
+use Rattle.accounts.specs.Moves.{answered_with, unplaced}
+use Rattle.accounts.specs.Told.{Tells}
 use Rattle.store.specs.declared.desks.Turn.TheVariants.{Collects, Combines, Waits}
 use Rattle.store.specs.declared.steps.Caller.{Caller}
 use Rattle.store.specs.AtDesk.{HasAsked}

@@ -6,10 +6,10 @@ use Rattle.maps.specs.Maps.{shapes_of}
 use Rattle.loader.specs.CatalogueView.{CatalogueView}
 use Rattle.oplog.specs.Logs.{Log as LogView, tail_of, left_of, room_in}
 use Rattle.replica.specs.StoreMeaning.{store_meaning}
-use Rattle.progress.specs.declared.sessions.Progress.{Progress}
-use Rattle.progress.specs.Accounts.{IsWellFormed}
-use Rattle.progress.specs.Agreement.{LogAgrees}
-use Rattle.progress.proofs.Tellings.{maps_on}
+use Rattle.accounts.specs.declared.sessions.Progress.{Progress}
+use Rattle.accounts.specs.Accounts.{IsWellFormed}
+use Rattle.accounts.specs.Agreement.{LogAgrees}
+use Rattle.accounts.proofs.Tellings.{maps_on}
 use Rattle.node.specs.declared.following.NodeReplica.{NodeReplica}
 use Rattle.store.specs.Shelving.{log_value}
 use Rattle.node.specs.Following.{told, reclaimed}

@@ -1,10 +1,10 @@
 -- The laws of a store's rules.
 use Rattle.ownlock.specs.Rules.{Laws}
 use Rattle.replica.specs.StoreMeaning.{store_meaning}
-use Rattle.progress.specs.StoreRules.{IsStoreRules, IsNoting}
-use Rattle.progress.proofs.StoreRules.{desk_store}
-use Rattle.progress.proofs.DeskNotes.{desk_notes}
-use Rattle.progress.proofs.StoreLaws.{laws_seen}
+use Rattle.accounts.specs.StoreRules.{IsStoreRules, IsNoting}
+use Rattle.accounts.proofs.StoreRules.{desk_store}
+use Rattle.accounts.proofs.DeskNotes.{desk_notes}
+use Rattle.accounts.proofs.StoreLaws.{laws_seen}
 use Rattle.store.specs.Shelving.{view_of, IsSized, session_rules, session_noting, store_rules}
 
 pub session_laws : IsStoreRules store_meaning session_rules

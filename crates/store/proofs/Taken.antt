@@ -11,14 +11,14 @@ use Rattle.oplog.specs.declared.configuration.Config.{Config}
 use Rattle.oplog.specs.Logs.{Log as LogView}
 use Rattle.oplog.specs.Sessions.{IsSessionOf, session as place}
 use Rattle.replica.specs.StoreMeaning.{store_meaning}
-use Rattle.progress.specs.declared.sessions.Progress.{Progress}
-use Rattle.progress.specs.Values.{LogValue, ReplicaValue, StoreValue, TheLog, TheReplica, TheDesk}
-use Rattle.progress.specs.Accounts.{Accounts, Extends, IsWellFormed}
-use Rattle.progress.specs.Agreement.{LogAgrees, ReplicaAgrees}
-use Rattle.progress.specs.Moves.{HoldsBoth}
-use Rattle.progress.proofs.Putting.{may_take_first, takes_log, takes_its_replica}
-use Rattle.progress.proofs.Tellings.{tail_is}
-use Rattle.progress.proofs.Lists.{at_none}
+use Rattle.accounts.specs.declared.sessions.Progress.{Progress}
+use Rattle.accounts.specs.Values.{LogValue, ReplicaValue, StoreValue, TheLog, TheReplica, TheDesk}
+use Rattle.accounts.specs.Accounts.{Accounts, Extends, IsWellFormed}
+use Rattle.accounts.specs.Agreement.{LogAgrees, ReplicaAgrees}
+use Rattle.accounts.specs.Moves.{HoldsBoth}
+use Rattle.accounts.proofs.Putting.{may_take_first, takes_log, takes_its_replica}
+use Rattle.accounts.proofs.Tellings.{tail_is}
+use Rattle.accounts.proofs.Lists.{at_none}
 use Rattle.store.specs.declared.steps.Caller.{Caller}
 use Rattle.store.specs.declared.values.Value.{Value}
 use Rattle.store.specs.declared.values.Value.TheVariants.{Log, Replica, Desk}

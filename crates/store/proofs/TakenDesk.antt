@@ -8,21 +8,21 @@ use Rattle.oplog.specs.declared.configuration.Config.{Config}
 use Rattle.oplog.specs.Sessions.{IsSessionOf, session}
 use Rattle.combiner.specs.Desks.{DeskView}
 use Rattle.replica.specs.StoreMeaning.{store_meaning}
-use Rattle.progress.specs.declared.sessions.Progress.{Progress}
-use Rattle.progress.specs.declared.sessions.SessionNote.{SessionNote}
-use Rattle.progress.specs.Values.{TheDesk}
+use Rattle.accounts.specs.declared.sessions.Progress.{Progress}
+use Rattle.accounts.specs.declared.sessions.SessionNote.{SessionNote}
+use Rattle.accounts.specs.Values.{TheDesk}
 use Rattle.store.proofs.Parts.{IsDeskSeen, desk_or, has_desk}
 use Rattle.std.specs.Prelude.{IsSome, is_some}
 use Rattle.std.proofs.lemmas.Option.{same_Some}
-use Rattle.progress.specs.Accounts.{Extends}
-use Rattle.progress.specs.Agreement.{desk_place}
-use Rattle.progress.specs.DeskNotes.{DeskDeed, desk_note, desk_noting}
-use Rattle.progress.specs.Picks.{put_progress, put_note}
-use Rattle.progress.specs.Putting.{KeepsSizes}
-use Rattle.progress.proofs.DeskNotes.{desk_picked, desk_picks}
-use Rattle.progress.proofs.Picked.{puts_account, same_picked, same_picks}
-use Rattle.progress.proofs.Putting.{may_take_desk, takes_desk}
-use Rattle.progress.proofs.Puts.{desk_puts}
+use Rattle.accounts.specs.Accounts.{Extends}
+use Rattle.accounts.specs.Agreement.{desk_place}
+use Rattle.accounts.specs.DeskNotes.{DeskDeed, desk_note, desk_noting}
+use Rattle.accounts.specs.Picks.{put_progress, put_note}
+use Rattle.accounts.specs.Putting.{KeepsSizes}
+use Rattle.accounts.proofs.DeskNotes.{desk_picked, desk_picks}
+use Rattle.accounts.proofs.Picked.{puts_account, same_picked, same_picks}
+use Rattle.accounts.proofs.Putting.{may_take_desk, takes_desk}
+use Rattle.accounts.proofs.Puts.{desk_puts}
 use Rattle.store.specs.declared.steps.Caller.{Caller}
 use Rattle.store.specs.declared.values.Value.{Value}
 use Rattle.store.specs.declared.values.Value.TheVariants.{Log, Replica, Desk}

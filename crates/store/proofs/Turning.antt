@@ -15,21 +15,21 @@ use Rattle.combiner.specs.declared.slots.Slot.{Slot}
 use Rattle.combiner.specs.declared.slots.Stage.{Stage}
 use Rattle.combiner.specs.declared.slots.Stage.TheVariants.{Empty, Posted, Claimed, Answered}
 use Rattle.replica.specs.StoreMeaning.{store_meaning}
-use Rattle.progress.specs.declared.sessions.Pending.{Pending}
-use Rattle.progress.specs.declared.sessions.Progress.{Progress}
-use Rattle.progress.specs.declared.sessions.SessionNote.{SessionNote}
-use Rattle.progress.specs.Values.{TheDesk}
-use Rattle.progress.specs.Accounts.{Extends, IsAllowed}
-use Rattle.progress.specs.Agreement.{StageAgrees}
-use Rattle.progress.specs.DeskNotes.{ClaimedThere, CollectedThere, DeskDeed, Looked, PostedThere, desk_held, desk_in, desk_note, stage_at}
-use Rattle.progress.specs.Moves.{answered_with, unplaced}
-use Rattle.progress.specs.Told.{Tells}
-use Rattle.progress.proofs.DeskNotes.{claim_noted, collect_noted, desk_picks, post_noted}
-use Rattle.progress.proofs.Desks.{collected_is, none_claimed}
-use Rattle.progress.proofs.Finish.{grown_long}
-use Rattle.progress.proofs.Lists.{get_of}
-use Rattle.progress.proofs.Moved.{some_none}
-use Rattle.progress.proofs.Puts.{at_map}
+use Rattle.accounts.specs.declared.sessions.Pending.{Pending}
+use Rattle.accounts.specs.declared.sessions.Progress.{Progress}
+use Rattle.accounts.specs.declared.sessions.SessionNote.{SessionNote}
+use Rattle.accounts.specs.Values.{TheDesk}
+use Rattle.accounts.specs.Accounts.{Extends, IsAllowed}
+use Rattle.accounts.specs.Agreement.{StageAgrees}
+use Rattle.accounts.specs.DeskNotes.{ClaimedThere, CollectedThere, DeskDeed, Looked, PostedThere, desk_held, desk_in, desk_note, stage_at}
+use Rattle.accounts.specs.Moves.{answered_with, unplaced}
+use Rattle.accounts.specs.Told.{Tells}
+use Rattle.accounts.proofs.DeskNotes.{claim_noted, collect_noted, desk_picks, post_noted}
+use Rattle.accounts.proofs.Desks.{collected_is, none_claimed}
+use Rattle.accounts.proofs.Finish.{grown_long}
+use Rattle.accounts.proofs.Lists.{get_of}
+use Rattle.accounts.proofs.Moved.{some_none}
+use Rattle.accounts.proofs.Puts.{at_map}
 use Rattle.store.specs.declared.desks.Turn.{Turn}
 use Rattle.store.specs.declared.desks.Turn.TheVariants.{Collects, Combines, Waits}
 use Rattle.store.specs.declared.steps.Caller.{Caller}

@@ -4,10 +4,10 @@ use lib.ListN.{get_elem?}
 use Rattle.ownlock.specs.Seats.{At, left_with, without}
 use Rattle.ownlock.specs.Knowledge.{MayPut, Possible}
 use Rattle.loader.specs.CatalogueView.{CatalogueView}
-use Rattle.progress.specs.declared.sessions.Progress.{Progress}
-use Rattle.progress.proofs.Lists.{at_behind, at_front}
-use Rattle.progress.proofs.Picked.{puts_account}
-use Rattle.progress.proofs.Putting.{same_may_put}
+use Rattle.accounts.specs.declared.sessions.Progress.{Progress}
+use Rattle.accounts.proofs.Lists.{at_behind, at_front}
+use Rattle.accounts.proofs.Picked.{puts_account}
+use Rattle.accounts.proofs.Putting.{same_may_put}
 use Rattle.store.specs.declared.steps.Caller.{Caller}
 use Rattle.store.specs.declared.values.Value.{Value}
 use Rattle.store.specs.Opening.{AreOf}

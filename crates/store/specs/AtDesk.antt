@@ -8,15 +8,15 @@ use Rattle.combiner.specs.declared.slots.Reply.{Reply}
 use Rattle.replica.specs.StoreMeaning.{store_meaning}
 use Rattle.replica.specs.Views.{RepliesView}
 use Rattle.node.specs.Answering.{answered_batch, HaveRun}
-use Rattle.progress.specs.declared.sessions.Pending.{Pending}
-use Rattle.progress.specs.declared.sessions.Claim.{Claim}
-use Rattle.progress.specs.declared.sessions.SessionNote.{SessionNote}
-use Rattle.progress.specs.Accounts.{Accounts}
-use Rattle.progress.specs.Agreement.{DeskAgrees}
-use Rattle.progress.specs.Batches.{Ascend}
-use Rattle.progress.specs.DeskSteps.{DeskStep, Gives}
-use Rattle.progress.specs.Moves.{answered_with, record_of, unplaced}
-use Rattle.progress.specs.Told.{Tells}
+use Rattle.accounts.specs.declared.sessions.Pending.{Pending}
+use Rattle.accounts.specs.declared.sessions.Claim.{Claim}
+use Rattle.accounts.specs.declared.sessions.SessionNote.{SessionNote}
+use Rattle.accounts.specs.Accounts.{Accounts}
+use Rattle.accounts.specs.Agreement.{DeskAgrees}
+use Rattle.accounts.specs.Batches.{Ascend}
+use Rattle.accounts.specs.DeskSteps.{DeskStep, Gives}
+use Rattle.accounts.specs.Moves.{answered_with, record_of, unplaced}
+use Rattle.accounts.specs.Told.{Tells}
 use Rattle.store.specs.declared.desks.Turn.{Turn}
 use Rattle.store.specs.declared.desks.Turn.TheVariants.{Collects, Combines, Waits}
 use Rattle.store.specs.Standing.{SessionKnown}

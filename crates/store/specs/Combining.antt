@@ -1,9 +1,9 @@
 -- What a session has that combines the requests of its node, and what it leaves.
 use Rattle.std.specs.Prelude.{◌≡◌, ◌<◌, [], length}
 use Rattle.combiner.specs.Desks.{BatchView}
-use Rattle.progress.specs.Accounts.{Extends}
-use Rattle.progress.specs.Batches.{Ascend}
-use Rattle.progress.specs.Moves.{unplaced}
+use Rattle.accounts.specs.Accounts.{Extends}
+use Rattle.accounts.specs.Batches.{Ascend}
+use Rattle.accounts.specs.Moves.{unplaced}
 use Rattle.store.specs.Standing.{SessionKnown, Stands}
 
 -- the session combines the requests of this batch, by ascending authors, none of which has a place

@@ -10,10 +10,10 @@ use Rattle.oplog.specs.Logs.{Log, opened_log, tail_of}
 use Rattle.replica.specs.StoreMeaning.{store_meaning}
 use Rattle.oplog.specs.Codes.{log_code}
 use Rattle.replica.specs.Views.{ReplicaView, replica_code}
-use Rattle.progress.specs.declared.sessions.Progress.{Progress}
-use Rattle.progress.specs.Accounts.{Extends, IsWellFormed}
-use Rattle.progress.specs.Agreement.{LogAgrees, ReplicaAgrees}
-use Rattle.progress.specs.Told.{records_of, numbered}
+use Rattle.accounts.specs.declared.sessions.Progress.{Progress}
+use Rattle.accounts.specs.Accounts.{Extends, IsWellFormed}
+use Rattle.accounts.specs.Agreement.{LogAgrees, ReplicaAgrees}
+use Rattle.accounts.specs.Told.{records_of, numbered}
 use Rattle.node.specs.declared.following.NodeReplica.{NodeReplica}
 use Rattle.store.specs.declared.values.Value.{Value}
 use Rattle.store.specs.declared.values.Value.TheVariants.{Log as LogPlace, Replica}

@@ -5,11 +5,11 @@ use Rattle.combiner.specs.Desks.{BatchView}
 use Rattle.combiner.specs.declared.slots.Reply.{Reply}
 use Rattle.combiner.specs.declared.slots.Reply.TheVariants.{Placed, Ended}
 use Rattle.replica.specs.StoreMeaning.{store_meaning}
-use Rattle.progress.specs.declared.sessions.Pending.{Pending}
-use Rattle.progress.specs.Accounts.{Extends}
-use Rattle.progress.specs.Batches.{Ascend}
-use Rattle.progress.specs.Moves.{answered_with, unplaced}
-use Rattle.progress.specs.Told.{Tells}
+use Rattle.accounts.specs.declared.sessions.Pending.{Pending}
+use Rattle.accounts.specs.Accounts.{Extends}
+use Rattle.accounts.specs.Batches.{Ascend}
+use Rattle.accounts.specs.Moves.{answered_with, unplaced}
+use Rattle.accounts.specs.Told.{Tells}
 use Rattle.store.specs.declared.answers.Answer.{Answer}
 use Rattle.replica.specs.declared.refusals.StoreRefused.{StoreRefused}
 use Rattle.replica.specs.declared.refusals.StoreRefused.TheVariants.{Ended as TheEnd}

@@ -6,13 +6,13 @@ use Rattle.oplog.specs.declared.configuration.Config.{Config}
 use Rattle.oplog.specs.Operations.{Operation}
 use Rattle.readpath.specs.declared.reading.ReadAnswer.{ReadAnswer}
 use Rattle.replica.specs.StoreMeaning.{store_meaning}
-use Rattle.progress.specs.declared.sessions.Progress.{Progress}
-use Rattle.progress.specs.declared.sessions.Pending.{Pending}
-use Rattle.progress.specs.declared.sessions.SessionNote.{SessionNote}
+use Rattle.accounts.specs.declared.sessions.Progress.{Progress}
+use Rattle.accounts.specs.declared.sessions.Pending.{Pending}
+use Rattle.accounts.specs.declared.sessions.SessionNote.{SessionNote}
 use Rattle.combiner.specs.declared.slots.Reply.TheVariants.{Placed, Ended as EndedAnswer}
-use Rattle.progress.specs.Accounts.{Extends, IsWellFormed}
-use Rattle.progress.specs.LogSteps.{first_progress, fresh_note}
-use Rattle.progress.specs.Told.{Tells, ReadTells, note_with}
+use Rattle.accounts.specs.Accounts.{Extends, IsWellFormed}
+use Rattle.accounts.specs.LogSteps.{first_progress, fresh_note}
+use Rattle.accounts.specs.Told.{Tells, ReadTells, note_with}
 use Rattle.store.specs.declared.answers.Answer.{Answer}
 use Rattle.replica.specs.declared.refusals.StoreRefused.{StoreRefused}
 use Rattle.replica.specs.declared.refusals.StoreRefused.TheVariants.{Ended as TheEnd}

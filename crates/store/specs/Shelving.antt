@@ -10,14 +10,14 @@ use Rattle.replica.specs.Views.{ReplicaView}
 use Rattle.maps.specs.declared.shapes.Shape.{Shape}
 use Rattle.maps.specs.MapSets.{opening_maps}
 use Rattle.replica.specs.StoreMeaning.{store_meaning}
-use Rattle.progress.specs.declared.sessions.Progress.{Progress}
-use Rattle.progress.specs.declared.sessions.SessionNote.{SessionNote}
-use Rattle.progress.specs.Values.{LogValue, ReplicaValue, StoreValue, TheLog, TheReplica, TheDesk}
-use Rattle.progress.specs.LogSteps.{first_progress, fresh_note}
-use Rattle.progress.specs.StoreRules.{Noting}
-use Rattle.progress.specs.DeskNotes.{Looked, desk_noting}
-use Rattle.progress.specs.Moves.{desk_rules}
-use Rattle.progress.specs.Putting.{the_rules}
+use Rattle.accounts.specs.declared.sessions.Progress.{Progress}
+use Rattle.accounts.specs.declared.sessions.SessionNote.{SessionNote}
+use Rattle.accounts.specs.Values.{LogValue, ReplicaValue, StoreValue, TheLog, TheReplica, TheDesk}
+use Rattle.accounts.specs.LogSteps.{first_progress, fresh_note}
+use Rattle.accounts.specs.StoreRules.{Noting}
+use Rattle.accounts.specs.DeskNotes.{Looked, desk_noting}
+use Rattle.accounts.specs.Moves.{desk_rules}
+use Rattle.accounts.specs.Putting.{the_rules}
 use Rattle.store.specs.declared.values.Setup.{Setup}
 use Rattle.node.specs.declared.following.NodeReplica.{NodeReplica}
 use Rattle.store.specs.declared.values.Value.{Value}

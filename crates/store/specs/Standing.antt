@@ -14,11 +14,11 @@ use Rattle.machine.specs.declared.running.Outcome.{Outcome}
 use Rattle.replica.specs.StoreMeaning.{store_meaning}
 use Rattle.replica.specs.Views.{RepliesView}
 use Rattle.replica.specs.Replaying.{IsAnswered}
-use Rattle.progress.specs.declared.sessions.Progress.{Progress}
-use Rattle.progress.specs.declared.sessions.SessionNote.{SessionNote}
-use Rattle.progress.specs.Accounts.{Accounts, Extends, IsWellFormed}
-use Rattle.progress.specs.Agreement.{LogAgrees, ReplicaAgrees, replica_place}
-use Rattle.progress.specs.Moves.{placed_from, unplaced}
+use Rattle.accounts.specs.declared.sessions.Progress.{Progress}
+use Rattle.accounts.specs.declared.sessions.SessionNote.{SessionNote}
+use Rattle.accounts.specs.Accounts.{Accounts, Extends, IsWellFormed}
+use Rattle.accounts.specs.Agreement.{LogAgrees, ReplicaAgrees, replica_place}
+use Rattle.accounts.specs.Moves.{placed_from, unplaced}
 use Rattle.store.specs.declared.steps.Caller.{Caller}
 use Rattle.node.specs.declared.following.NodeReplica.{NodeReplica}
 use Rattle.store.specs.declared.values.Value.{Value}

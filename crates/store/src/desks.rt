@@ -4,8 +4,8 @@
 ghost use Rattle.std.specs.Prelude.{◌≡◌, ℕ, [], Some, None};
 ghost use Rattle.combiner.specs.Desks.{posted, replied};
 ghost use Rattle.replica.specs.StoreMeaning.{store_meaning};
-ghost use Rattle.progress.specs.Accounts.{IsAllowed};
-ghost use Rattle.progress.specs.declared.sessions.Pending.{Pending};
+ghost use Rattle.accounts.specs.Accounts.{IsAllowed};
+ghost use Rattle.accounts.specs.declared.sessions.Pending.{Pending};
 ghost use Rattle.node.specs.Answering.{answered_batch};
 ghost use Rattle.store.specs.AtDesk.{IsAt, IsClaim, IsReady, HasAsked, IsTurn, TurnSteps, KeepsBatch, Steps};
 ghost use Rattle.store.specs.Sessions.{request_of};

@@ -5,7 +5,7 @@ ghost use Rattle.maps.specs.Shapes.{AreShapesOk};
 ghost use Rattle.oplog.specs.Limits.{IsConfig, IsWindow};
 ghost use Rattle.oplog.specs.declared.configuration.TheConstants.{MAX_NODES, MAX_NODE_SLOTS};
 ghost use Rattle.ownlock.specs.Knowledge.{AllAgree};
-ghost use Rattle.progress.specs.LogSteps.{first_progress, fresh_note};
+ghost use Rattle.accounts.specs.LogSteps.{first_progress, fresh_note};
 ghost use Rattle.ownlock.specs.Seats.{all_sessions};
 ghost use Rattle.store.specs.Shelving.{IsOpenedReplica, opening_notes, opening_progress, sessions_of, store_rules};
 ghost use Rattle.store.specs.Sessions.{fresh_sessions};

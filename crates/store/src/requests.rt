@@ -3,7 +3,7 @@
 ghost use Rattle.std.specs.Prelude.{◌≡◌, None, Some, true, Err, IsOk};
 ghost use Rattle.verifier.specs.declared.refusal.Mode.TheVariants.{Update};
 ghost use Rattle.ownlock.specs.Seats.{IsSession};
-ghost use Rattle.progress.specs.declared.sessions.Pending.{Pending};
+ghost use Rattle.accounts.specs.declared.sessions.Pending.{Pending};
 ghost use Rattle.replica.specs.StoreMeaning.{is_operation};
 ghost use Rattle.replica.specs.declared.refusals.StoreRefused.{StoreRefused as TheRefusal};
 ghost use Rattle.store.specs.AtDesk.{HasAsked};

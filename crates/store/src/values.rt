@@ -86,15 +86,15 @@ impl Value {
 }
 
 impl Shelved for Value {
-    type Progress = progress::Progress<Catalogue>;
+    type Progress = accounts::Progress<Catalogue>;
 
-    type SessionNote = progress::SessionNote;
+    type SessionNote = accounts::SessionNote;
 
     type Setup = Setup;
 
     ghost use Rattle.replica.specs.StoreMeaning.{store_meaning};
-    ghost use Rattle.progress.proofs.StoreRules.{desk_store};
-    ghost use Rattle.progress.proofs.StoreLaws.{laws_seen};
+    ghost use Rattle.accounts.proofs.StoreRules.{desk_store};
+    ghost use Rattle.accounts.proofs.StoreLaws.{laws_seen};
     ghost use Rattle.store.specs.Shelving.{view_of, IsSized, store_rules, opening_progress, opening_notes, places_of};
 
     ghost rules = { store_rules };

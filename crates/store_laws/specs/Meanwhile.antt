@@ -8,11 +8,11 @@ use Rattle.ownlock.specs.Words.{word_of, completed_word}
 use Rattle.ownlock.specs.Seats.{At, View, place_of}
 use Rattle.ownlock.specs.Between.{Holds, HeldByNobody, HeldOnce}
 use Rattle.replica.specs.StoreMeaning.{store_meaning}
-use Rattle.progress.specs.declared.sessions.Progress.{Progress}
-use Rattle.progress.specs.declared.sessions.SessionNote.{SessionNote}
-use Rattle.progress.specs.Accounts.{Accounts, Extends}
-use Rattle.progress.specs.Agreement.{AgreesWith, log_place}
-use Rattle.progress.specs.Moves.{MayHold}
+use Rattle.accounts.specs.declared.sessions.Progress.{Progress}
+use Rattle.accounts.specs.declared.sessions.SessionNote.{SessionNote}
+use Rattle.accounts.specs.Accounts.{Accounts, Extends}
+use Rattle.accounts.specs.Agreement.{AgreesWith, log_place}
+use Rattle.accounts.specs.Moves.{MayHold}
 use Rattle.store.specs.declared.values.Setup.{Setup}
 use Rattle.store.specs.declared.values.Value.{Value}
 use Rattle.store.specs.Shelving.{view_of, IsSized}

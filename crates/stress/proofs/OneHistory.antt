@@ -15,15 +15,15 @@ use Rattle.oplog.specs.declared.configuration.Config.{Config}
 use Rattle.oplog.specs.Operations.{Operation}
 use Rattle.oplog.specs.declared.records.Record.{Record}
 use Rattle.replica.specs.StoreMeaning.{store_meaning}
-use Rattle.progress.specs.declared.sessions.Progress.{Progress}
-use Rattle.progress.specs.declared.sessions.AnsweredUpdate.{AnsweredUpdate}
-use Rattle.progress.specs.declared.sessions.SessionNote.{SessionNote}
-use Rattle.progress.specs.Accounts.{Extends, IsWellFormed}
-use Rattle.progress.specs.Told.{Tells, ReadTells, note_with}
-use Rattle.progress.proofs.Lists.{at_below, at_front, at_joined, at_none}
-use Rattle.progress.proofs.Finish.{grown_long}
-use Rattle.progress.proofs.Puts.{at_there}
-use Rattle.progress.proofs.Tellings.{reply_on, read_on}
+use Rattle.accounts.specs.declared.sessions.Progress.{Progress}
+use Rattle.accounts.specs.declared.sessions.AnsweredUpdate.{AnsweredUpdate}
+use Rattle.accounts.specs.declared.sessions.SessionNote.{SessionNote}
+use Rattle.accounts.specs.Accounts.{Extends, IsWellFormed}
+use Rattle.accounts.specs.Told.{Tells, ReadTells, note_with}
+use Rattle.accounts.proofs.Lists.{at_below, at_front, at_joined, at_none}
+use Rattle.accounts.proofs.Finish.{grown_long}
+use Rattle.accounts.proofs.Puts.{at_there}
+use Rattle.accounts.proofs.Tellings.{reply_on, read_on}
 use Rattle.combiner.specs.declared.slots.Reply.TheVariants.{Placed, Ended}
 use Rattle.readpath.specs.declared.reading.ReadAnswer.{ReadAnswer}
 use Rattle.console.specs.Script.{ProgramCall, Meaning, Call}

@@ -13,9 +13,9 @@ use Rattle.stress.specs.declared.calls.ScriptCalls.TheVariants as reads
 use Rattle.stress.specs.declared.players.Player.{Player}
 use Rattle.stress.specs.Calls.{Called}
 use Rattle.stress.specs.Dealt.{dealt}
-use Rattle.progress.specs.declared.sessions.Progress.{Progress}
-use Rattle.progress.specs.declared.sessions.AnsweredUpdate.{AnsweredUpdate}
-use Rattle.progress.specs.Accounts.{Extends}
+use Rattle.accounts.specs.declared.sessions.Progress.{Progress}
+use Rattle.accounts.specs.declared.sessions.AnsweredUpdate.{AnsweredUpdate}
+use Rattle.accounts.specs.Accounts.{Extends}
 use Rattle.ownlock.specs.Seats.{At}
 use Rattle.oplog.specs.Operations.{Operation}
 use Rattle.stress.specs.declared.lines.Told.{Told}

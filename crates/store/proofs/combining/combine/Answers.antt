@@ -1,7 +1,7 @@
 use Rattle.std.proofs.Common.{◌+◌, [], ◌∷◌, sym, refl, ap, ◌∙◌, subst}
 use Rattle.ownlock.proofs.Seats.{one_known}
-use Rattle.progress.specs.declared.sessions.SessionNote.{SessionNote}
-use Rattle.progress.specs.Moves.{unplaced}
+use Rattle.accounts.specs.declared.sessions.SessionNote.{SessionNote}
+use Rattle.accounts.specs.Moves.{unplaced}
 use Rattle.store.specs.Combining.{HasClaimed}
 use Rattle.store.specs.Standing.{HasAppended, IsFree}
 use Rattle.store.proofs.Combined.{combined, from_k, ready, session_is}

@@ -1,5 +1,5 @@
-use Rattle.progress.specs.DeskNotes.{RepliedThere, desk_noting}
-use Rattle.progress.specs.Picks.{put_progress, put_note}
+use Rattle.accounts.specs.DeskNotes.{RepliedThere, desk_noting}
+use Rattle.accounts.specs.Picks.{put_progress, put_note}
 use Rattle.store.specs.Shelving.{view_of}
 use Rattle.store.proofs.combining.hand_over.Given as goal
 

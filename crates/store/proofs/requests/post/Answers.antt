@@ -2,7 +2,7 @@ use Rattle.std.proofs.Common.{◌+◌, ◌∙◌, sym, ap, subst}
 use Rattle.ownlock.proofs.Seats.{one_known}
 use Rattle.combiner.specs.Desks.{posted}
 use Rattle.replica.specs.StoreMeaning.{store_meaning}
-use Rattle.progress.specs.Accounts.{IsAllowed}
+use Rattle.accounts.specs.Accounts.{IsAllowed}
 use Rattle.store.specs.Lending.{with_desk}
 use Rattle.store.specs.Standing.{IsFree, IsOnShelf}
 use Rattle.store.proofs.Parts.{desk_put}

@@ -1,5 +1,5 @@
-use Rattle.progress.specs.DeskNotes.{PostedThere, desk_noting}
-use Rattle.progress.specs.Picks.{put_progress, put_note}
+use Rattle.accounts.specs.DeskNotes.{PostedThere, desk_noting}
+use Rattle.accounts.specs.Picks.{put_progress, put_note}
 use Rattle.store.specs.Shelving.{view_of}
 use Rattle.store.proofs.requests.post.Given as goal
 

@@ -1,5 +1,5 @@
-use Rattle.progress.specs.DeskNotes.{desk_noting}
-use Rattle.progress.specs.Picks.{put_progress, put_note}
+use Rattle.accounts.specs.DeskNotes.{desk_noting}
+use Rattle.accounts.specs.Picks.{put_progress, put_note}
 use Rattle.store.specs.Shelving.{view_of}
 use Rattle.store.proofs.Turning.{deed_in}
 use Rattle.store.proofs.requests.turn.Given as goal

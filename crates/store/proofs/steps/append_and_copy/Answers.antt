@@ -1,6 +1,6 @@
 use Rattle.std.proofs.Common.{◌≡◌, sym, subst, ◌∙◌}
 use Rattle.ownlock.proofs.Seats.{one_known}
-use Rattle.progress.specs.Moves.{unplaced}
+use Rattle.accounts.specs.Moves.{unplaced}
 use Rattle.store.specs.Standing.{Agrees, Stands}
 use Rattle.store.proofs.Taken.{may_take_log, took_log, holds_log, follows_agreed, well_formed}
 use Rattle.store.proofs.Followed.{fits}

@@ -1,4 +1,4 @@
-use Rattle.progress.specs.Picks.{put_progress, put_note}
+use Rattle.accounts.specs.Picks.{put_progress, put_note}
 use Rattle.store.specs.Shelving.{session_noting, view_of}
 use Rattle.store.proofs.steps.append_and_copy.Given as goal
 

@@ -1,4 +1,4 @@
-use Rattle.progress.specs.Picks.{put_progress, put_note}
+use Rattle.accounts.specs.Picks.{put_progress, put_note}
 use Rattle.store.specs.Shelving.{session_noting, view_of}
 use Rattle.store.proofs.steps.follow_and_raise.Given as goal
 

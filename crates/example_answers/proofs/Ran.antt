@@ -1,0 +1,55 @@
+-- What `run` answers to the counter's script, line by line.
+use Rattle.std.proofs.Common.{◌≡◌, ◌∙◌, ℕ, true, List, [], ◌∷◌, codes, Some, refl, ap}
+use Rattle.std.specs.Prelude.{if◌then◌else◌}
+use Rattle.std.specs.Str.{chars, is_utf8, trim_start, trim_end}
+use Rattle.std.specs.Fmt.{digits}
+use lib.Utf8.{encode}
+use Rattle.text.specs.Lines.{next_line}
+use Rattle.loader.specs.NamedFiles.{named_in}
+use Rattle.loader.specs.Loading.{loaded}
+use Rattle.loader.specs.CatalogueView.{CatalogueView}
+use Rattle.oplog.specs.History.{History}
+use Rattle.console.specs.Files.{present}
+use Rattle.console.specs.Inputs.{all_texts, texts_answer}
+use Rattle.console.specs.Answer.{not_text}
+use Rattle.console.specs.RunAnswer.{Turn, behind, bad_line, by_turn, line_turn, lines_answer, script_answer, ran, run_answer}
+use Rattle.example_answers.specs.Counter.{counter_manifest, counter_folder, counter_script, counter_ran}
+use Rattle.example_answers.proofs.Counting.{counter}
+use Rattle.example_answers.proofs.Checked.{counter_loads}
+use Rattle.example_answers.proofs.Script.{once, twice, thrice, bump_once, bump_twice, peek_then, bump_none, nope}
+
+line : (c : CatalogueView) (n : ℕ) (h : History) (l : List ℕ) (ls : List (List ℕ)) (t : Turn) → line_turn c h l ≡ Some t → lines_answer c n h (l ∷ ls) ≡ behind t.text (lines_answer c (next_line n) t.history ls)
+unfolding lines_answer
+line c n h l ls t e = ap (by_turn (bad_line n) (λ turn. behind turn.text (lines_answer c (next_line n) turn.history ls))) e
+
+-- the lines behind the first, and so on
+abbrev behind_4 : List (List ℕ)
+behind_4 = codes "nope 00" ∷ []
+
+abbrev behind_3 : List (List ℕ)
+behind_3 = codes "bump 10000000" ∷ behind_4
+
+abbrev behind_2 : List (List ℕ)
+behind_2 = codes "peek 00000000" ∷ behind_3
+
+abbrev behind_1 : List (List ℕ)
+behind_1 = codes "bump 00000000" ∷ behind_2
+
+lines : script_answer counter counter_script ≡ counter_ran
+unfolding lines_answer chars encode digits
+lines =
+    line counter 1 [] _ behind_1 _ bump_once
+    ∙ ap (behind (codes "update 0 reply 1 steps 9\n")) (line counter 2 once _ behind_2 _ bump_twice
+    ∙ ap (behind (codes "update 1 reply 2 steps 9\n")) (line counter 3 twice _ behind_3 _ peek_then
+    ∙ ap (behind (codes "read 2 reply 2 steps 6\n")) (line counter 4 twice _ behind_4 _ bump_none
+    ∙ ap (behind (codes "update 2 reply 18446744073709551615 steps 6\n")) (line counter 5 thrice _ [] _ nope))))
+
+texts : all_texts counter_manifest counter_folder counter_script ≡ true
+unfolding chars is_utf8 encode trim_start trim_end named_in
+texts = refl
+
+pub counter_runs : run_answer counter_manifest counter_folder counter_script ≡ counter_ran
+unfolding texts_answer
+counter_runs =
+    ap (λ b. if b then ran (loaded counter_manifest (present counter_folder (named_in counter_manifest))) counter_script else not_text) texts
+    ∙ ap (λ o. ran o counter_script) counter_loads ∙ lines

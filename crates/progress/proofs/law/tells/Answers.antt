@@ -1,8 +1,0 @@
-use Rattle.progress.proofs.Ended.{answered, ends}
-use Rattle.progress.proofs.law.tells.Goals as goal
-
-pub returns-clause-desk : goal.returns-clause-desk
-returns-clause-desk g c = answered g.E.Effects.meaning
-
-pub returns-clause-ends : goal.returns-clause-ends
-returns-clause-ends g c = ends g.E.Effects.meaning

@@ -1,6 +1,0 @@
-use Rattle.std.proofs.Common.{◌≡◌, ◌%◌, ◌^◌, take}
-use Rattle.sums.specs.Sums.{total}
-use Rattle.sums.proofs.replay.replay.Given as goal
-
-abbrev pub invariant-loop-index : goal.invariant-loop-index
-invariant-loop-index l = l.sum.sum ≡ total (take l.index l.list.items.items) % 2 ^ 64

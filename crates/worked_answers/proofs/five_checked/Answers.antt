@@ -1,8 +1,0 @@
-use Rattle.std.proofs.Common.{◌≡◌, subst}
-use Rattle.std.specs.Prelude.{IfOk}
-use Rattle.console.specs.Report.{answer_of}
-use Rattle.worked_answers.proofs.Checked.{five_is}
-use Rattle.worked_answers.proofs.five_checked.Goals as goal
-
-pub returns : goal.returns
-returns c = record { answer = subst (λ a. IfOk c.check.result (λ r. answer_of r ≡ a)) five_is c.check.ensures }
