@@ -135,7 +135,7 @@ fn main() {
         [_, path] => {
             print_calls(path);
             print_sizes(path);
-            example_threads::print(path);
+            threads::print(path);
         }
         [_, twin, call, times] => alone(twin, call, times.parse().expect("a number")),
         _ => panic!("the path of bench_store"),
