@@ -1,10 +1,14 @@
 //! Times the proved store (the program crates/bench_store, whose path is the first word) beside stores in plain Rust. On one thread it
-//! checks that all give the same replies, and prints what an update and a ready read cost, and an update by the bytes of the maps and
-//! the window; then it prints how many calls a second several threads make. With `replicated` or `locked`, `update` or `read`, and a
+//! checks that all give the same replies, and prints what an update and a ready read cost, an update by the bytes of the maps and the
+//! window, and the longest pause of one; then it prints how many calls a second several threads make. With `replicated` or `locked`, `update` or `read`, and a
 //! number in place of the path it makes so many calls of that twin alone, for a tool that counts processor instructions.
 
+mod classic;
+mod host;
 mod interpreter;
+mod pauses;
 mod proved;
+mod rounds;
 mod threads;
 mod twins;
 
@@ -133,8 +137,10 @@ fn main() {
     let words: Vec<String> = std::env::args().collect();
     match &words[..] {
         [_, path] => {
+            host::print();
             print_calls(path);
             print_sizes(path);
+            pauses::print(path);
             threads::print(path);
         }
         [_, twin, call, times] => alone(twin, call, times.parse().expect("a number")),

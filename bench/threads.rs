@@ -1,71 +1,110 @@
-//! Times the proved store beside three stores in plain Rust on 1, 2 and 4 threads and 1 and 2 nodes, with none, 90 and all of 100 calls
-//! reads, and prints how many calls a second each makes.
+//! Times the proved store beside four stores in plain Rust on 1, 2 and 4 threads and 1 and 2 nodes, with none, 90 and all of 100 calls
+//! reads, and prints how many calls a second each makes. All threads begin at once, and a round is long enough that they run beside each
+//! other.
 
+use crate::classic::Classic;
 use crate::proved::{Proved, programs};
+use crate::rounds::{Spread, in_turn};
 use crate::twins::{Caller, Locked, Mix, ReadersWriter, Replicated, Sizes, Twin, call_often};
 use std::hint::black_box;
+use std::sync::Barrier;
 use std::thread;
 use std::time::{Duration, Instant};
 
-// Short rounds, of which the best counts, so that other work of the machine matters less.
-const ROUNDS: usize = 7;
+// How long a round is at least, but for the proved store's updates, of which a history may have 1,000,000.
+const ROUND: Duration = Duration::from_millis(200);
 
-// Calls of each thread in a round. All rounds of four threads together stay below 1,000,000 updates, which a history may have.
-const CALLS: u64 = 30_000;
+// Calls of a thread by which the length of a round is chosen.
+const TRIAL: u64 = 20_000;
+
+// The most updates of the proved store in a round, with some left of what a history may have.
+const MOST_UPDATES: u64 = 900_000;
 
 const SIZES: Sizes = Sizes { window: 4_096, entries: 64, value: 8 };
 
-// How long so many threads take, which go round the nodes.
-fn twin_time(twin: &impl Twin, nodes: usize, threads: usize, reads: u64) -> Duration {
-    let start = Instant::now();
-    thread::scope(|scope| {
-        for thread in 0..threads {
-            let caller = Caller { node: thread % nodes, slot: thread / nodes };
-            scope.spawn(move || black_box(call_often(twin, caller, Mix { reads, times: CALLS })));
-        }
-    });
-    start.elapsed()
+/// So many threads, which go round the nodes, and how many of 100 calls are reads.
+#[derive(Clone, Copy)]
+struct Load {
+    threads: usize,
+    nodes: usize,
+    reads: u64,
 }
 
-// How long the proved store takes for so many calls of each thread.
+impl Load {
+    fn millions(&self, calls: u64, time: Duration) -> f64 {
+        (self.threads as u64 * calls) as f64 / time.as_secs_f64() / 1e6
+    }
+}
+
+// How long the threads take for so many calls each, from when all of them are there.
+fn twin_time(twin: &impl Twin, load: Load, times: u64) -> Duration {
+    let barrier = Barrier::new(load.threads + 1);
+    let begun = thread::scope(|scope| {
+        for thread in 0..load.threads {
+            let caller = Caller { node: thread % load.nodes, slot: thread / load.nodes };
+            let barrier = &barrier;
+            scope.spawn(move || {
+                barrier.wait();
+                black_box(call_often(twin, caller, Mix { reads: load.reads, times }))
+            });
+        }
+        barrier.wait();
+        Instant::now()
+    });
+    begun.elapsed()
+}
+
+// Calls of a thread that take at least a round.
+fn calls_in_round(trial: Duration) -> u64 {
+    (TRIAL as f64 * (ROUND.as_secs_f64() / trial.as_secs_f64()).clamp(1.0, 1_000.0)) as u64
+}
+
+fn twin_rate(twin: &impl Twin, load: Load) -> f64 {
+    let calls = calls_in_round(twin_time(twin, load, TRIAL));
+    load.millions(calls, twin_time(twin, load, calls))
+}
+
 fn proved_time(proved: &mut Proved, reads: u64, times: u64) -> Duration {
     let start = Instant::now();
     proved.calls(&format!("threads {reads}"), times);
     start.elapsed()
 }
 
-// Millions of calls a second: the proved store, the same design unproved, the readers-writer lock, the mutex.
-fn compared(path: &str, nodes: usize, threads: usize, reads: u64) -> [f64; 4] {
-    let mut proved = Proved::start(path, nodes, threads.div_ceil(nodes), SIZES);
-    let replicated = Replicated::new(programs(), SIZES, nodes);
-    let readers_writer = ReadersWriter::new(programs(), SIZES);
-    let locked = Locked::new(programs(), SIZES);
-    let mut best = [Duration::MAX; 5];
-    for _ in 0..ROUNDS {
-        let measured = [
-            proved_time(&mut proved, reads, CALLS),
-            twin_time(&replicated, nodes, threads, reads),
-            twin_time(&readers_writer, nodes, threads, reads),
-            twin_time(&locked, nodes, threads, reads),
-            proved_time(&mut proved, reads, 0),
-        ];
-        for (best, time) in best.iter_mut().zip(measured) {
-            *best = (*best).min(time);
-        }
-    }
+// A store of its own for each round, since a history ends; the time to start the threads is taken off.
+fn proved_rate(path: &str, load: Load) -> f64 {
+    let mut proved = Proved::start(path, load.nodes, load.threads.div_ceil(load.nodes), SIZES);
+    let trial = proved_time(&mut proved, load.reads, TRIAL);
+    let updates = load.threads as u64 * (100 - load.reads);
+    let most = (100 * MOST_UPDATES).checked_div(updates).map_or(u64::MAX, |most| most - TRIAL);
+    let calls = calls_in_round(trial).min(most);
+    let idle = proved_time(&mut proved, load.reads, 0);
+    let time = proved_time(&mut proved, load.reads, calls).saturating_sub(idle);
     proved.end();
-    let [proved, replicated, readers_writer, locked, idle] = best;
-    [proved.saturating_sub(idle), replicated, readers_writer, locked].map(|time| (threads as u64 * CALLS) as f64 / time.as_secs_f64() / 1e6)
+    load.millions(calls, time)
 }
 
-/// Prints how many calls a second each store makes, by threads, nodes and reads.
+// Millions of calls a second: the proved store, the same design unproved, classic node replication, the readers-writer lock, the mutex.
+fn compared(path: &str, load: Load) -> [Spread; 5] {
+    in_turn(|| {
+        [
+            proved_rate(path, load),
+            twin_rate(&Replicated::new(programs(), SIZES, load.nodes), load),
+            twin_rate(&Classic::new(programs(), SIZES, load.nodes), load),
+            twin_rate(&ReadersWriter::new(programs(), SIZES), load),
+            twin_rate(&Locked::new(programs(), SIZES), load),
+        ]
+    })
+}
+
+/// Prints how many calls a second each store makes, by threads, nodes and reads: medians, and half the spread of the rounds.
 pub fn print(path: &str) {
-    println!("\n{:<32}{:>8}{:>10}{:>10}{:>8}{:>12}{:>10}", "millions of calls a second", "proved", "unproved", "readers", "mutex", "to unproved", "to mutex");
+    println!("\n{:<32}{:>13}{:>13}{:>13}{:>13}{:>13}{:>9}{:>9}", "millions of calls a second", "proved", "unproved", "classic", "readers", "mutex", "to unpr.", "to mutex");
     for reads in [0, 90, 100] {
         for (nodes, threads) in [(1, 1), (1, 2), (1, 4), (2, 2), (2, 4)] {
-            let [proved, replicated, readers_writer, locked] = compared(path, nodes, threads, reads);
+            let [proved, replicated, classic, readers_writer, locked] = compared(path, Load { threads, nodes, reads });
             let name = format!("{reads} % reads, {threads} threads, {nodes} nodes");
-            println!("{name:<32}{proved:>8.2}{replicated:>10.2}{readers_writer:>10.2}{locked:>8.2}{:>12.2}{:>10.2}", proved / replicated, proved / locked);
+            let (to_unproved, to_mutex) = (proved.median / replicated.median, proved.median / locked.median);
+            println!("{name:<32}{proved:>13}{replicated:>13}{classic:>13}{readers_writer:>13}{locked:>13}{to_unproved:>9.2}{to_mutex:>9.2}");
         }
     }
 }
