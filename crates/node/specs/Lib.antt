@@ -3,3 +3,5 @@ pub mod Following
 pub mod Answering
 -- These steps as one list.
 pub mod Steps
+-- What a thread does by a list of them.
+pub mod Seen
