@@ -1,5 +1,6 @@
 pub mod NameLemmas
 pub mod Entries
+pub mod WordLemmas
 pub mod Spelled
 pub mod Respelled
 pub mod ShapesFit
@@ -8,3 +9,4 @@ pub mod LoopLemmas
 pub mod Passed
 pub mod Offered
 pub mod Outcomes
+pub mod Named

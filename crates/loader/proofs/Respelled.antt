@@ -12,7 +12,7 @@ use Rattle.maps.specs.declared.shapes.TheConstants.{MAX_ARG_LEN, MAX_KEY_BYTES, 
 use Rattle.text.specs.Words.{IsFrom, number_within, is_name_byte, is_name}
 use Rattle.text.specs.declared.lines.TheConstants.{LINE_BYTES}
 use Rattle.text.proofs.LineReadings.{by_words, by_hash, by_empty}
-use Rattle.loader.specs.Grammar.{is_path, ProgramLine, Meaning, Comment, Map, Program, array_meaning, hash_meaning, by_kind_of_map, map_meaning, mode_of, program_meaning, words_meaning, line_meaning}
+use Rattle.loader.specs.Grammar.{is_path, ProgramLine, Meaning, Comment, Map, Program, array_meaning, hash_meaning, by_kind_of_map, map_meaning, mode_of, program_meaning, words_of, words_meaning, line_meaning}
 use Rattle.loader.specs.Spelling.{mode_word, Spells}
 use Rattle.text.proofs.Numbers.{own}
 use Rattle.text.proofs.Numerals.{numerals_are_decimals}
@@ -27,7 +27,7 @@ unfolding number_within
 within low high n h lt = rw ((numerals_are_decimals (decimal n) n).1 (refl, small high n h.1 lt), le-leb low n h.0, le-leb n high h.1) refl
 
 -- what passes a test that no space passes has no space
-no_space_from : (p : ℕ → Bool) → ((b : ℕ) → p b ≡ true → is_space b ≡ false) → (t : List ℕ) → list_all p t ≡ true → has_no_space t ≡ true
+pub no_space_from : (p : ℕ → Bool) → ((b : ℕ) → p b ≡ true → is_space b ≡ false) → (t : List ℕ) → list_all p t ≡ true → has_no_space t ≡ true
 no_space_from p other [] h = refl
 no_space_from p other (b ∷ t) h =
     let both = and_parts (p b) (list_all p t) h in
@@ -74,13 +74,13 @@ hash_to k v e hk hv he =
 
 -- a line of a map, by its second word
 map_to : (word rest : List ℕ) (x : Meaning) → has_no_space word ≡ true → by_kind_of_map word rest ≡ Some x → words_meaning (codes "map " ++ (word ++ 32 ∷ rest)) ≡ Some x
-unfolding words_meaning map_meaning
+unfolding words_meaning words_of map_meaning
 map_to word rest x plain is =
     let first : split_at_space (codes "map" ++ 32 ∷ (word ++ 32 ∷ rest)) ≡ Some (codes "map", word ++ 32 ∷ rest) = split_to (codes "map") _ refl in
     let second : split_at_space (word ++ 32 ∷ rest) ≡ Some (word, rest) = split_to word rest plain in
     rw (first, second) is
 
-abbrev fields : ProgramLine → List ℕ
+abbrev pub fields : ProgramLine → List ℕ
 fields p = p.name ++ 32 ∷ (mode_word p.mode ++ 32 ∷ (decimal p.arg_len ++ 32 ∷ p.file))
 
 fields_to : (p : ProgramLine) → is_name p.name ≡ true → p.arg_len ≤ MAX_ARG_LEN → is_path p.file ≡ true → program_meaning (fields p) ≡ Some (Program p)
@@ -97,7 +97,7 @@ fields_to p name len path =
     ) refl
 
 program_to : (p : ProgramLine) → is_name p.name ≡ true → p.arg_len ≤ MAX_ARG_LEN → is_path p.file ≡ true → words_meaning (codes "program " ++ fields p) ≡ Some (Program p)
-unfolding words_meaning
+unfolding words_meaning words_of
 program_to p name len path =
     let first : split_at_space (codes "program" ++ 32 ∷ fields p) ≡ Some (codes "program", fields p) = split_to (codes "program") _ refl in
     rw first (fields_to p name len path)

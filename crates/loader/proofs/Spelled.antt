@@ -1,7 +1,6 @@
 -- What a line means is how it is spelled.
 use Rattle.std.proofs.Common.{◌≡◌, ◌⊎◌, inl, inr, ℕ, ◌≤◌, Bool, true, false, cond, leb, ◌&&◌, List, ◌∷◌, ◌++◌, length, codes, bytes_eq, decimal, Some, None, refl, sym, ap, ap₂, subst, ◌∙◌}
 use Rattle.std.proofs.lemmas.Bool.{leb-true, and_parts}
-use Rattle.std.proofs.lemmas.Slice.Eq.{bytes_eq-Decides}
 use Rattle.maps.specs.declared.shapes.Shape.TheVariants.{Array, Hash}
 use Rattle.verifier.specs.declared.refusal.Mode.{Mode}
 use Rattle.verifier.specs.declared.refusal.Mode.TheVariants.{Update, Read}
@@ -10,8 +9,11 @@ use Rattle.maps.specs.declared.shapes.TheConstants.{MAX_ARG_LEN, MAX_KEY_BYTES, 
 use Rattle.text.specs.Words.{IsFrom, number_of, number_within, is_name}
 use Rattle.text.proofs.LineReadings.{IsSilent, by_kind_from}
 use Rattle.text.specs.declared.lines.TheConstants.{LINE_BYTES}
-use Rattle.loader.specs.Grammar.{is_path, Meaning, Comment, Map, Program, array_meaning, hash_meaning, map_meaning, mode_of, program_meaning, words_meaning, line_meaning}
+use Rattle.loader.specs.Grammar.{is_path, Meaning, Comment, Map, Program, array_meaning, hash_meaning, map_meaning, mode_of, program_meaning, words_of, by_first_word, words_meaning, line_meaning}
+use Rattle.loader.specs.declared.grammar.FirstWord.{FirstWord}
+use Rattle.loader.specs.declared.grammar.FirstWord.TheVariants as words
 use Rattle.loader.specs.Spelling.{mode_word, Spells}
+use Rattle.loader.proofs.WordLemmas.{word_is, is_map, is_program, IsCut, cut_from}
 use Rattle.text.proofs.Numerals.{numerals_are_decimals}
 use Rattle.text.proofs.Cuts.{steps, where_true, split_from}
 
@@ -35,9 +37,6 @@ array_from t x e =
     let n = within 1 MAX_ENTRIES value.0.1 entries.0 entries.1 in
     let whole : t ≡ decimal size.0 ++ 32 ∷ decimal entries.0 = split_from t value.0 value.1 ∙ ap₂ (λ a b. a ++ 32 ∷ b) v.0 n.0 in
     subst (λ y. Spells y (codes "map array " ++ t)) is (ap (λ u. codes "map array " ++ u) whole, v.1, n.1)
-
-word_is : (w : List ℕ) (word : List ℕ) → bytes_eq w word ≡ true → w ≡ word
-word_is w word e = (bytes_eq-Decides w word).0 e
 
 hash_from : (t : List ℕ) (x : Meaning) → hash_meaning t ≡ Some x → Spells x (codes "map hash " ++ t)
 unfolding hash_meaning
@@ -95,13 +94,13 @@ program_from t x e =
 words_from : (t : List ℕ) (x : Meaning) → words_meaning t ≡ Some x → Spells x t
 unfolding words_meaning
 words_from t x e =
-    let first = steps (split_at_space t) _ x e in
-    by_word first.0.0 first.0.1 (bytes_eq first.0.0 (codes "map")) (bytes_eq first.0.0 (codes "program")) first.2 (word_is _ _) (word_is _ _) (split_from t first.0 first.1)
+    let first = steps (words_of t) _ x e in
+    by_word first.0.0 first.0.1 first.2 (cut_from t first.0 first.1)
   where
-    by_word : (w r : List ℕ) (m p : Bool) → cond m (map_meaning r) (cond p (program_meaning r) None) ≡ Some x → (m ≡ true → w ≡ codes "map") → (p ≡ true → w ≡ codes "program") → t ≡ w ++ 32 ∷ r → Spells x t
-    by_word w r true p e f g whole = subst (λ u. Spells x u) (sym (whole ∙ ap (λ u. u ++ 32 ∷ r) (f refl))) (map_from r x e)
-    by_word w r false true e f g whole = subst (λ u. Spells x u) (sym (whole ∙ ap (λ u. u ++ 32 ∷ r) (g refl))) (program_from r x e)
-    by_word w r false false e f g whole = absurd cc
+    by_word : (k : FirstWord) (r : List ℕ) → by_first_word k r ≡ Some x → IsCut t (k, r) → Spells x t
+    by_word words.Map r e c = subst (λ u. Spells x u) (sym (c.whole ∙ ap (λ u. u ++ 32 ∷ r) (is_map c.word c.kind))) (map_from r x e)
+    by_word words.Program r e c = subst (λ u. Spells x u) (sym (c.whole ∙ ap (λ u. u ++ 32 ∷ r) (is_program c.word c.kind))) (program_from r x e)
+    by_word words.Other r e c = absurd cc
 
 pub spelled : (line : List ℕ) (x : Meaning) → line_meaning line ≡ Some x → (length line ≤ LINE_BYTES) × Spells x line
 unfolding line_meaning

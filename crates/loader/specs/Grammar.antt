@@ -8,6 +8,8 @@ use Rattle.verifier.specs.declared.refusal.Mode.TheVariants as modes
 use Rattle.text.specs.Lines.{kind_of, by_kind}
 use Rattle.text.specs.Fields.{split_at_space}
 use Rattle.text.specs.Words.{◌>>=◌, number_within, is_name}
+use Rattle.loader.specs.declared.grammar.FirstWord.{FirstWord}
+use Rattle.loader.specs.declared.grammar.FirstWord.TheVariants as words
 use Rattle.maps.specs.declared.shapes.TheConstants.{MAX_ARG_LEN, MAX_KEY_BYTES, MAX_VALUE_BYTES, MAX_ENTRIES}
 use Rattle.loader.specs.declared.paths.TheConstants.{PATH_BYTES}
 
@@ -78,15 +80,27 @@ program_meaning text = do
   n ← number_within 0 MAX_ARG_LEN len.0
   if is_name name.0 && is_path len.1 then Some (Program (record { name = name.0; mode = m; arg_len = n; file = len.1 })) else None
 
-abbrev pub by_first_word : List ℕ → List ℕ → Option Meaning
-by_first_word first rest =
-    if bytes_eq first (codes "map") then map_meaning rest
-    else if bytes_eq first (codes "program") then program_meaning rest
-    else None
+-- what kind of line a first word begins
+abbrev pub first_word : List ℕ → FirstWord
+first_word word =
+    if bytes_eq word (codes "map") then words.Map
+    else if bytes_eq word (codes "program") then words.Program
+    else words.Other
+
+-- the first word of a line, and what stands behind it
+unfoldable pub words_of : List ℕ → Option (FirstWord × List ℕ)
+words_of line = do
+  w ← split_at_space line
+  Some (first_word w.0, w.1)
+
+abbrev pub by_first_word : FirstWord → List ℕ → Option Meaning
+by_first_word words.Map rest = map_meaning rest
+by_first_word words.Program rest = program_meaning rest
+by_first_word words.Other rest = None
 
 unfoldable pub words_meaning : List ℕ → Option Meaning
 words_meaning line = do
-  w ← split_at_space line
+  w ← words_of line
   by_first_word w.0 w.1
 
 -- a line over 512 bytes is bad whatever it holds; an empty line and one that begins with # say nothing

@@ -1,35 +1,34 @@
 // The files that a manifest's lines name.
 
-ghost use Rattle.std.specs.Prelude.{◌≡◌, ◌==◌, map, option_map, IfOk};
-ghost use Rattle.std.specs.List.{after_last};
-ghost use Rattle.loader.specs.NamedFiles.{file_field, named_in};
+ghost use Rattle.std.specs.Prelude.{◌≡◌, map, option_map, IfOk};
+ghost use Rattle.loader.specs.NamedFiles.{last_word, file_field, named_in};
 
+use crate::grammar::{FirstWord, words_of};
 use std::alloc::{AllocError, Global};
 use text::NumberedLines;
 
 // What stands behind the last space.
-fn last_field(line: &str) -> &str
-    ensures { result.now ≡ after_last (λ b. b == 32) line.now }
+fn last_word(text: &str) -> &str
+    ensures { result.now ≡ last_word text.now }
 {
-    match line.rsplit_once(' ') {
+    match text.rsplit_once(' ') {
         Some((_, last)) => last,
-        None => line,
+        None => text,
     }
 }
 
-// The last field of a line that begins with `program `.
+// The last word of a line of a program.
 fn file_field(line: &str) -> Option<&str>
     ensures { option_map (λ t. t.now) result ≡ file_field line.now }
 {
-    if line.starts_with("program ") {
-        Some(last_field(line))
-    } else {
-        None
+    match words_of(line) {
+        Some((FirstWord::Program, rest)) => Some(last_word(rest)),
+        _ => None,
     }
 }
 
-/// The files that a manifest names, in order: the last field of each line that begins with
-/// `program `, whatever else is wrong with that line. They are paths for the caller to open.
+/// The files that a manifest names, in order: the last word of each line whose first is
+/// `program`, whatever else is wrong with that line. They are paths for the caller to open.
 ///
 /// Fails only where there is no memory left.
 pub fn named_files(alloc: Global, manifest: &str) -> Result<Vec<&str>, AllocError>

@@ -1,7 +1,7 @@
 // What one line of a manifest means.
 
 ghost use Rattle.std.specs.Prelude.{◌≡◌, IfSome, option_map};
-ghost use Rattle.loader.specs.Grammar.{mode_of, array_meaning, hash_meaning, map_meaning, program_meaning, words_meaning, line_meaning};
+ghost use Rattle.loader.specs.Grammar.{mode_of, array_meaning, hash_meaning, map_meaning, program_meaning, first_word, words_of, words_meaning, line_meaning};
 ghost use Rattle.loader.specs.LineShown.{meaning_of, LineFits};
 
 use crate::paths::is_path;
@@ -16,6 +16,14 @@ pub(crate) struct ProgramLine<'a> {
     pub mode: Mode,
     pub arg_len: u8,
     pub file: &'a str,
+}
+
+// What a line is about, by its first word.
+#[derive(Clone, Copy)]
+pub(crate) enum FirstWord {
+    Map,
+    Program,
+    Other,
 }
 
 // What a line means.
@@ -109,18 +117,37 @@ fn program_line(text: &str) -> Option<Line<'_>>
     }
 }
 
+// What kind of line a first word begins.
+fn first_word(word: &str) -> FirstWord
+    ensures word { result ≡ first_word word.now }
+{
+    if word == "map" {
+        FirstWord::Map
+    } else if word == "program" {
+        FirstWord::Program
+    } else {
+        FirstWord::Other
+    }
+}
+
+// The first word of a line, and what stands behind it.
+#[tactic(auto, unfolding(crate::specs::Grammar::words_of))]
+pub(crate) fn words_of(line: &str) -> Option<(FirstWord, &str)>
+    ensures words { option_map (λ w. (w.0, w.1.now)) result ≡ words_of line.now }
+{
+    let (first, rest) = split_at_space(line)?;
+    Some((first_word(first), rest))
+}
+
 #[tactic(auto, unfolding(crate::specs::Grammar::words_meaning))]
 fn words_line(text: &str) -> Option<Line<'_>>
     ensures meaning { option_map meaning_of result ≡ words_meaning text.now }
     ensures fits { IfSome result LineFits }
 {
-    let (first, rest) = split_at_space(text)?;
-    if first == "map" {
-        map_line(rest)
-    } else if first == "program" {
-        program_line(rest)
-    } else {
-        None
+    match words_of(text)? {
+        (FirstWord::Map, rest) => map_line(rest),
+        (FirstWord::Program, rest) => program_line(rest),
+        (FirstWord::Other, _) => None,
     }
 }
 

@@ -5,6 +5,7 @@ ghost use Rattle.loader.specs.declared.loading.TheConstants.{MAX_PROGRAMS};
 ghost use Rattle.loader.specs.declared.paths.TheConstants.{PATH_BYTES};
 ghost use Rattle.loader.specs.Spelling.{EachLineIsItsSpelling};
 ghost use Rattle.loader.specs.Offers.{LoadedIsOffered, RefusedIsFirstBad};
+ghost use Rattle.loader.specs.NamedFiles.{NamesAreFiles, NoOtherFile};
 
 /// The limits that the definitions cite, as numbers.
 pub fn limits()
@@ -15,6 +16,12 @@ pub fn limits()
 /// A line means a map, a program or a comment exactly where it is spelled so.
 pub fn each_line_is_its_spelling()
     ensures spelling { EachLineIsItsSpelling }
+{}
+
+/// The loading asks for the files that are listed, and of these each is the last word of a line of a program.
+pub fn names_are_files()
+    ensures files { NamesAreFiles }
+    ensures no_other { NoOtherFile }
 {}
 
 /// A manifest loads as a catalogue exactly where its lines are that catalogue's maps and then its programs.
