@@ -13,7 +13,10 @@ use Rattle.maps.specs.Maps.{Maps, MapState, Entries, AreBytes, IsKeyOf, IsValueO
 use Rattle.maps.specs.Values.{MachineValue, Num, IsMachineValue}
 use Rattle.helpers.specs.Helpers.{enoent, e2big, eexist, einval, noexist, exist, found, update_error, delete_error, changed_unless, with_entries, update_answer, delete_answer, HelperCall, LookupCall, UpdateCall, DeleteCall, HelperAnswer, HelperAnswers}
 use Rattle.helpers.specs.Laws.{Names, FitsMaps}
-use Rattle.helpers.proofs.Places.{map_set, all_get, all_set, option_map_some, key_same}
+use Rattle.maps.proofs.Keys.{key_same}
+use Rattle.maps.proofs.Stored.{all_get}
+use Rattle.maps.proofs.Written.{all_set}
+use Rattle.helpers.proofs.Places.{map_set, option_map_some}
 use Rattle.helpers.proofs.Answers.{IsErrno, update_errno, delete_errno, value_there, value_after, value_elsewhere, inserted_other, removed_other}
 
 -- ---- an answer either changes the entries and is 0, or leaves the maps
