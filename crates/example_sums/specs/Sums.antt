@@ -1,5 +1,5 @@
 -- How a list, the sum that follows it, and the notes of who appends fit together.
-use Rattle.std.specs.Prelude.{◌≡◌, ◌≢◌, ℕ, ◌+◌, ◌-◌, ◌%◌, ◌^◌, ◌<◌, ◌≤◌, max, List, [], ◌∷◌, ◌++◌, length, take}
+use Rattle.std.specs.Prelude.{◌≡◌, ◌≢◌, ℕ, ◌+◌, ◌-◌, ◌%◌, ◌^◌, ◌<◌, ◌≤◌, max, List, [], ◌∷◌, ◌++◌, length, take, Result, MatchResult}
 use Rattle.ownlock.specs.declared.known.Known.{Known}
 use Rattle.ownlock.specs.Seats.{SeatView, IsSession}
 use Rattle.ownlock.specs.Rules.{Rules}
@@ -96,6 +96,17 @@ IsTold (Sum x) tail sum = (tail ≡ x.tail) × (sum ≡ x.sum)
 -- the item is in the list, behind all that was known, and completed, and this is the sum of the numbers up to it
 abbrev pub IsAppended : List ℕ → ℕ → Progress → ℕ → Type 0
 IsAppended known item l sum = (before more : List ℕ) × StartsWith known before × (l.items ≡ before ++ item ∷ more) × (length before < l.completed) × (sum ≡ total (before ++ item ∷ []) % 2 ^ 64)
+
+-- the session after, which holds no place, is the session k once it has appended the item and counted it, and told the sum; or, where
+-- there was no memory, once it has counted nothing
+abbrev pub HasAppended : {E : Type 0} → Known Progress ℕ Value → ℕ → Result ℕ E → Known Progress ℕ Value → Type 0
+HasAppended k item told after =
+    (after.session ≡ k.session) × (after.held ≡ [])
+    × MatchResult told (λ sum. (after.note ≡ k.note + 1) × IsAppended k.progress.items item after.progress sum) (λ _. after.note ≡ k.note)
+
+-- what an append of the item tells the session
+abbrev pub Appends : {E : Type 0} → SeatView Progress ℕ Value → ℕ → Result ℕ E → SeatView Progress ℕ Value → Type 0
+Appends before item told now = (k : Known Progress ℕ Value) → IsSession before k → (after : Known Progress ℕ Value) × IsSession now after × HasAppended k item told after
 
 -- the seat is one session, which holds no place
 abbrev pub IsIdle : SeatView Progress ℕ Value → Type 0

@@ -1,10 +1,10 @@
 // Appending through both places of a shelf.
-ghost use Rattle.std.specs.Prelude.{◌≡◌, ◌+◌, ◌≤◌, ℕ, List, [], ◌∷◌, ◌++◌, MatchResult, IfOk};
+ghost use Rattle.std.specs.Prelude.{◌≡◌, ◌≤◌, ℕ, [], ◌∷◌, ◌++◌, MatchResult, IfOk};
 ghost use Rattle.ownlock.specs.declared.known.Known.{Known};
 ghost use Rattle.ownlock.specs.Seats.{IsSession};
 ghost use Rattle.example_sums.specs.declared.kinds.Progress.{Progress};
 ghost use Rattle.example_sums.specs.declared.kinds.Value.{Value};
-ghost use Rattle.example_sums.specs.Sums.{IsList, IsExtended, IsIdle, Counted, IsAppended};
+ghost use Rattle.example_sums.specs.Sums.{IsList, IsExtended, IsIdle, Counted, Appends};
 
 use crate::kinds::{Numbers, Value};
 use crate::replay::{catch_up, tail_and_sum};
@@ -50,9 +50,7 @@ pub fn append<R: Wait>(
     requires idle { IsIdle seat.old }
     ensures idle { IsIdle seat.new }
     ensures same { seat.new.shelf ≡ seat.old.shelf }
-    ensures note { (k : Known Progress ℕ Value) → IsSession seat.old k → (after : Known Progress ℕ Value) × IsSession seat.new after
-        × (after.session ≡ k.session) × (after.held ≡ []) × MatchResult result (λ sum. (after.note ≡ k.note + 1)
-        × IsAppended k.progress.items item after.progress sum) (λ _. after.note ≡ k.note) }
+    ensures note { Appends seat.old item result seat.new }
 {
     let mut follower = shelf.take(rt, seat, FOLLOWER);
     let mut leader = shelf.take(rt, seat, LEADER);

@@ -7,7 +7,7 @@ use Rattle.ownlock.specs.declared.known.Known.{Known}
 use Rattle.ownlock.specs.Rules.{Rules}
 use Rattle.ownlock.specs.Words.{word_of, completed_word}
 use Rattle.ownlock.specs.Seats.{At, View, Opened, place_of, without, left_with, with_progress, having_read}
-use Rattle.ownlock.specs.Knowledge.{Later, Possible, Acquired}
+use Rattle.ownlock.specs.Knowledge.{Later, Possible, Acquired, MayFind}
 
 -- the slot of a place that is held has no value
 abbrev pub emptied : {V : Type 0} → ℕ × V → ℕ × Option V
@@ -62,6 +62,14 @@ module _ {P N V : Type 0} (R : Rules P N V) where
     pub busy : (p : ℕ) → p < length s.homes → slice_index s.words (word_of p) ≢ 0 → HeldBySome p s.views
     pub each : (j i : ℕ) (v : View P N V) (k : Known P N V) → At j v s.views → At i k v → SessionInvariant progress notes s.homes holder k × (owner k.session ≡ j)
     pub distinct : (j a b : ℕ) (v : View P N V) (k m : Known P N V) → At j v s.views → At a k v → At b m v → k.session ≡ m.session → a ≡ b
+
+  -- the seat of the table, which is a session, is that session still once it has taken the value x of the place p
+  abbrev pub StepsTaking : Me (Option V) (View P N V) → ℕ → V → Me (Option V) (View P N V) → Type 0
+  StepsTaking m p x m' = (k : Known P N V) → StepsAs m k → (after : Known P N V) × Acquired R p k after x × StepsAs m' after
+
+  -- and once it has put a value back to the place p
+  abbrev pub StepsPutting : (P → P) → (N → N) → Me (Option V) (View P N V) → ℕ → Me (Option V) (View P N V) → Type 0
+  StepsPutting grown noted m p m' = (k : Known P N V) → StepsAs m k → (progress : P) × MayFind R k progress × StepsAs m' (left_with k p (grown progress) (noted k.note))
 
   -- a try at a place: where the word was 0, the seat has the value, and knows a progress that it agrees with
   abbrev pub tried : Step (Option V) → Me (Option V) (View P N V) → ℕ → Me (Option V) (View P N V) → Type 0

@@ -1,8 +1,8 @@
 -- What a session may rely on, what take tells it, and what it owes to put.
-use Rattle.std.specs.Prelude.{◌≡◌, ℕ, ◌<◌, List, ◌∷◌, map, length, slice_set, Option, Some}
+use Rattle.std.specs.Prelude.{◌≡◌, ℕ, ◌<◌, max, List, ◌∷◌, map, length, slice_set, Option, Some}
 use Rattle.ownlock.specs.declared.known.Known.{Known}
 use Rattle.ownlock.specs.Rules.{Rules, leader}
-use Rattle.ownlock.specs.Seats.{At, View, IsNotHeld, place_of, holding}
+use Rattle.ownlock.specs.Seats.{At, View, SeatView, IsSession, IsNotHeld, place_of, holding, left_with, with_progress, having_read}
 
 module _ {P N V : Type 0} (R : Rules P N V) where
   -- the values that these places had when they were taken agree
@@ -31,6 +31,29 @@ module _ {P N V : Type 0} (R : Rules P N V) where
       (x : V) × (a : ℕ) × At a (p, x) k.held
       × ((progress : P) (notes : List N) → Possible k progress notes
       → R.Moves p k.session x progress k.note (grown progress) (noted k.note) × R.AgreesWith p (grown progress) (slice_set notes k.session (noted k.note)) y)
+
+  -- the session may find this progress, with some notes
+  abbrev pub MayFind : Known P N V → P → Type 0
+  MayFind k progress = (notes : List N) × Possible k progress notes
+
+  -- what a take of the place p tells the session that takes the value x there
+  abbrev pub Takes : SeatView P N V → ℕ → V → SeatView P N V → Type 0
+  Takes before p x now = (k : Known P N V) → IsSession before k → (after : Known P N V) × Acquired p k after x × IsSession now after
+
+  -- what a put at the place p tells the session: it has left the place, with the progress and the note that the put made
+  abbrev pub Puts : (P → P) → (N → N) → SeatView P N V → ℕ → SeatView P N V → Type 0
+  Puts grown noted before p now = (k : Known P N V) → IsSession before k
+      → (progress : P) × MayFind k progress × IsSession now (left_with k p (grown progress) (noted k.note))
+
+  -- what a read of the completed tail n tells the session
+  abbrev pub Reads : SeatView P N V → ℕ → SeatView P N V → Type 0
+  Reads before n now = (k : Known P N V) → IsSession before k → (progress : P) × MayFind k progress × (n ≡ R.completed progress) × IsSession now (having_read k progress n)
+
+  -- what a raise of the completed tail to at least n tells the session
+  abbrev pub Raises : SeatView P N V → ℕ → SeatView P N V → Type 0
+  Raises before n now = (k : Known P N V) → IsSession before k
+      → (progress : P) × Later k progress × MayFind k (R.raised progress n) × (R.completed (R.raised progress n) ≡ max (R.completed progress) n)
+      × IsSession now (with_progress k (R.raised progress n))
 
   -- the value of each place agrees with this progress and these notes
   abbrev pub AllAgree : P → List N → List (Option V) → Type 0

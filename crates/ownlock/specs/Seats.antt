@@ -77,6 +77,14 @@ module _ {P N V : Type 0} where
   all_sessions progress i [] = []
   all_sessions progress i (n ∷ ns) = record { session = i; progress = progress; note = n; held = []; tails_read = [] } ∷ all_sessions progress (suc i) ns
 
+  -- a view whose first session is k goes into k alone, and the others
+  abbrev pub IsSplit : View P N V → View P N V → View P N V → Type 0
+  IsSplit all first others = (k : Known P N V) (ks : View P N V) → all ≡ k ∷ ks → (others ≡ ks) × (first ≡ k ∷ [])
+
+  -- the view has a session
+  abbrev pub HasSession : View P N V → Type 0
+  HasSession v = (k : Known P N V) × (ks : View P N V) × (v ≡ k ∷ ks)
+
   -- no session of the view holds a place
   abbrev pub HoldsNone : View P N V → Type 0
   HoldsNone v = (i : ℕ) (k : Known P N V) → At i k v → k.held ≡ []

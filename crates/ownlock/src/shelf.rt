@@ -1,9 +1,9 @@
 // The shelf, and its calls.
-ghost use Rattle.std.specs.Prelude.{◌≡◌, ◌<◌, ◌≤◌, max, List, [], ◌∷◌, ◌++◌, length, replicate, vec_capacity, IfOk, IfErr};
+ghost use Rattle.std.specs.Prelude.{◌≡◌, ◌<◌, ◌≤◌, [], ◌++◌, length, replicate, vec_capacity, IfOk, IfErr};
 ghost use Rattle.std.specs.Mem.Slots.{slots_items, slots_len, IsFull};
 ghost use Rattle.ownlock.specs.declared.known.Known.{Known};
-ghost use Rattle.ownlock.specs.Seats.{IsSession, left_with, with_progress, having_read, all_sessions, HoldsNone};
-ghost use Rattle.ownlock.specs.Knowledge.{Later, Acquired, Possible, MayTake, MayPut, AllAgree, Closes};
+ghost use Rattle.ownlock.specs.Seats.{IsSession, IsSplit, HasSession, all_sessions, HoldsNone};
+ghost use Rattle.ownlock.specs.Knowledge.{MayTake, MayPut, Takes, Puts, Reads, Raises, AllAgree, Closes};
 ghost use Rattle.ownlock.specs.Held.{held_place};
 
 use crate::change::Change;
@@ -118,11 +118,10 @@ impl<V: Shelved> Shelf<V> {
     /// The first session of the seat, in a seat of its own. None of the seat's sessions holds a place.
     pub fn split(&self, seat: &mut Seat<V>) -> Seat<V>
         requires own { seat.old.shelf ≡ self.now.id }
-        requires some { (k : Known V.Progress V.SessionNote V) × (ks : List (Known V.Progress V.SessionNote V)) × (seat.old.sessions ≡ k ∷ ks) }
+        requires some { HasSession seat.old.sessions }
         requires idle { HoldsNone seat.old.sessions }
         ensures same { (seat.new.shelf ≡ seat.old.shelf) × (result.shelf ≡ seat.old.shelf) }
-        ensures apart { (k : Known V.Progress V.SessionNote V) (ks : List (Known V.Progress V.SessionNote V)) → seat.old.sessions ≡ k ∷ ks
-            → (seat.new.sessions ≡ ks) × (result.sessions ≡ k ∷ []) }
+        ensures apart { IsSplit seat.old.sessions result.sessions seat.new.sessions }
     {
         let pass = self.table.shared.split_seat::<SplitFirst>(&mut seat.pass);
         Seat { pass }
@@ -135,8 +134,7 @@ impl<V: Shelved> Shelf<V> {
         requires there { place < self.now.places }
         requires may { (k : Known V.Progress V.SessionNote V) × IsSession seat.old k × MayTake V.rules place k }
         ensures same { (seat.new.shelf ≡ seat.old.shelf) × (held_place result ≡ place) }
-        ensures taken { (k : Known V.Progress V.SessionNote V) → IsSession seat.old k → (after : Known V.Progress V.SessionNote V)
-            × Acquired V.rules place k after result.value × IsSession seat.new after }
+        ensures taken { Takes V.rules seat.old place result.value seat.new }
     {
         let value = acquire(rt, &self.table.shared, &mut seat.pass, place);
         Held { value, place }
@@ -149,9 +147,7 @@ impl<V: Shelved> Shelf<V> {
         requires there { held_place held < self.now.places }
         requires may { (k : Known V.Progress V.SessionNote V) × IsSession seat.old k × MayPut V.rules M.progress M.note k (held_place held) held.value }
         ensures same { seat.new.shelf ≡ seat.old.shelf }
-        ensures put { (k : Known V.Progress V.SessionNote V) → IsSession seat.old k → (progress : V.Progress)
-            × ((notes : List V.SessionNote) × Possible V.rules k progress notes)
-            × IsSession seat.new (left_with k (held_place held) (M.progress progress) (M.note k.note)) }
+        ensures put { Puts V.rules M.progress M.note seat.old (held_place held) seat.new }
     {
         let Held { value, place } = held;
         release::<V, M>(&self.table.shared, &mut seat.pass, place, value);
@@ -163,9 +159,7 @@ impl<V: Shelved> Shelf<V> {
         requires own { seat.old.shelf ≡ self.now.id }
         requires one { (k : Known V.Progress V.SessionNote V) × IsSession seat.old k }
         ensures same { seat.new.shelf ≡ seat.old.shelf }
-        ensures read { (k : Known V.Progress V.SessionNote V) → IsSession seat.old k → (progress : V.Progress)
-            × ((notes : List V.SessionNote) × Possible V.rules k progress notes) × (result ≡ V.rules.completed progress)
-            × IsSession seat.new (having_read k progress result) }
+        ensures read { Reads V.rules seat.old result seat.new }
     {
         let word = word_of(self.table.slot_count());
         self.table.shared.load::<ReadDone>(&mut seat.pass, word)
@@ -177,10 +171,7 @@ impl<V: Shelved> Shelf<V> {
         requires own { seat.old.shelf ≡ self.now.id }
         requires may { (k : Known V.Progress V.SessionNote V) × IsSession seat.old k × V.rules.Reaches k.progress n }
         ensures same { seat.new.shelf ≡ seat.old.shelf }
-        ensures raised { (k : Known V.Progress V.SessionNote V) → IsSession seat.old k → (before : V.Progress) × Later V.rules k before
-            × ((notes : List V.SessionNote) × Possible V.rules k (V.rules.raised before n) notes)
-            × (V.rules.completed (V.rules.raised before n) ≡ max (V.rules.completed before) n)
-            × IsSession seat.new (with_progress k (V.rules.raised before n)) }
+        ensures raised { Raises V.rules seat.old n seat.new }
     {
         let word = word_of(self.table.slot_count());
         self.table

@@ -1,11 +1,10 @@
 // The atomic steps of the lock: a failed try, a won try, the value taken, the value put, the word freed, the completed tail read,
 // the completed tail raised.
-ghost use Rattle.std.specs.Prelude.{◌≡◌, ◌<◌, List, [], ◌∷◌, Some, None};
+ghost use Rattle.std.specs.Prelude.{◌≡◌, ◌<◌, Some, None};
 ghost use Rattle.ownlock.specs.Words.{HasLines};
 ghost use Rattle.ownlock.specs.declared.known.Known.{Known};
-ghost use Rattle.ownlock.specs.Seats.{left_with};
-ghost use Rattle.ownlock.specs.Knowledge.{Acquired, Possible, MayTake, MayPut};
-ghost use Rattle.ownlock.specs.Invariant.{StepsAs};
+ghost use Rattle.ownlock.specs.Knowledge.{MayTake, MayPut};
+ghost use Rattle.ownlock.specs.Invariant.{StepsAs, StepsTaking, StepsPutting};
 
 use crate::change::Change;
 use crate::rule::{Free, OwnRetry, Pass, Steps, Try};
@@ -21,8 +20,7 @@ fn try_once<V: Shelved>(steps: &Steps<V>, pass: &mut Pass<V>, place: usize) -> O
     requires may { (k : Known V.Progress V.SessionNote V) × StepsAs pass.old.me k × MayTake V.rules place k }
     ensures same { pass.new.table_id ≡ pass.old.table_id }
     ensures failed { result ≡ None → pass.new.me ≡ pass.old.me }
-    ensures taken { (value : V) → result ≡ Some value → (k : Known V.Progress V.SessionNote V) → StepsAs pass.old.me k
-        → (after : Known V.Progress V.SessionNote V) × Acquired V.rules place k after value × StepsAs pass.new.me after }
+    ensures taken { (value : V) → result ≡ Some value → StepsTaking V.rules pass.old.me place value pass.new.me }
 {
     if steps.compare_exchange::<Try>(pass, word_of(place), 0, 1) != 0 {
         return None;
@@ -57,8 +55,7 @@ pub(crate) fn acquire<V: Shelved, R: Wait>(
     requires there { (place < steps.now.table_id.slots) × HasLines steps.now.table_id }
     requires may { (k : Known V.Progress V.SessionNote V) × StepsAs pass.old.me k × MayTake V.rules place k }
     ensures same { pass.new.table_id ≡ pass.old.table_id }
-    ensures taken { (k : Known V.Progress V.SessionNote V) → StepsAs pass.old.me k → (after : Known V.Progress V.SessionNote V)
-        × Acquired V.rules place k after result × StepsAs pass.new.me after }
+    ensures taken { StepsTaking V.rules pass.old.me place result pass.new.me }
 {
     for _ in rt.forever() {
         if let Some(value) = try_once(steps, pass, place) {
@@ -81,8 +78,7 @@ pub(crate) fn release<V: Shelved, M: Change<V::Progress, V::SessionNote>>(
     requires there { (place < steps.now.table_id.slots) × HasLines steps.now.table_id }
     requires may { (k : Known V.Progress V.SessionNote V) × StepsAs pass.old.me k × MayPut V.rules M.progress M.note k place value }
     ensures same { pass.new.table_id ≡ pass.old.table_id }
-    ensures put { (k : Known V.Progress V.SessionNote V) → StepsAs pass.old.me k → (progress : V.Progress) × ((notes : List V.SessionNote)
-        × Possible V.rules k progress notes) × StepsAs pass.new.me (left_with k place (M.progress progress) (M.note k.note)) }
+    ensures put { StepsPutting V.rules M.progress M.note pass.old.me place pass.new.me }
 {
     let word = word_of(place);
     let _ = steps.load::<OwnRetry>(pass, word);

@@ -83,13 +83,15 @@ returns-in-Ok-clause-note g c k is =
     let up = v.1.1.0.0.1 in (
       _,
       v.2,
-      b.session,
-      nothing_left k u.0 w x b _ _ c.take-leader.ensures.same.1 c.take-follower.ensures.same.1 idle,
       (
-        note,
-        stands_behind u.0.progress p.0 _ b.notes x y z o.0 c.args.item k.progress.items _ _ b.list o.1 c.catch_up.ensures c.tail_and_sum-tail.ensures b.start
-            (subst (λ l. StartsWith (moved_progress y p.0).items l.items) (sym still) (starts_on _ _ _ r.1.0.0 v.1.1.0.0.0))
-            (subst (λ l. c.tail_and_sum-tail.result.0 ≤ l.completed) (sym still) (raised_low r.0 _ v.0 up)) one,
+        b.session,
+        nothing_left k u.0 w x b _ _ c.take-leader.ensures.same.1 c.take-follower.ensures.same.1 idle,
+        (
+          note,
+          stands_behind u.0.progress p.0 _ b.notes x y z o.0 c.args.item k.progress.items _ _ b.list o.1 c.catch_up.ensures c.tail_and_sum-tail.ensures b.start
+              (subst (λ l. StartsWith (moved_progress y p.0).items l.items) (sym still) (starts_on _ _ _ r.1.0.0 v.1.1.0.0.0))
+              (subst (λ l. c.tail_and_sum-tail.result.0 ≤ l.completed) (sym still) (raised_low r.0 _ v.0 up)) one,
+        ),
       ),
     )
 
@@ -111,4 +113,4 @@ returns-in-Err-clause-note g c k is =
     let sum = sum_of_raised p.0 r.0 y z _ _ c.catch_up.ensures c.tail_and_sum-tail.ensures r.1.0.0 in
     let none = none_more c.extend-appended.result _ _ _ o.2 c.in-Err.is in
     let much = counts u.0 b.notes x y o.0 c.take-leader.new.seat.sessions b.list o.1 u.2 ∙ (ap (λ n. n + length o.0) b.note ∙ ap (λ l. k.note + length l) none) in
-    (_, v.2, b.session, nothing_left k u.0 w x b _ _ c.take-leader.ensures.same.1 c.take-follower.ensures.same.1 idle, counts_none _ z c.raise.new.seat.sessions _ sum ∙ omega (arith, much))
+    (_, v.2, (b.session, nothing_left k u.0 w x b _ _ c.take-leader.ensures.same.1 c.take-follower.ensures.same.1 idle, counts_none _ z c.raise.new.seat.sessions _ sum ∙ omega (arith, much)))
