@@ -1,14 +1,14 @@
 -- What an answer of `decode` says, by the function `decoded`.
-use Rattle.std.proofs.Common.{◌≡◌, ℕ, false, List, length, None, refl, sym, ◌∙◌, subst}
+use Rattle.std.proofs.Common.{◌≡◌, ℕ, List, refl, sym, ◌∙◌}
 use Rattle.std.specs.Prelude.{Result, Ok, Err, Vec, IfOk, IfErr, MatchResult}
 use Rattle.std.specs.Global.{Global}
 use Rattle.insn.specs.declared.instruction.Form.{Form}
 use Rattle.insn.specs.declared.decoding.DecodeRefusal.{DecodeRefusal}
 use Rattle.insn.specs.declared.decoding.DecodeError.{DecodeError}
 use Rattle.insn.specs.declared.decoding.DecodeError.TheVariants.{NoMemory, Refused}
-use Rattle.insn.specs.Refusal.{length_fault, AreBytes, Decodes, IsOnly, IsFirst, slots_in}
-use Rattle.insn.specs.Decoded.{decoded, program_from, DecodeFails}
-use Rattle.insn.proofs.Laws.{decoded_as, read_is_spelled, spelled_is_read, read_is_refused}
+use Rattle.insn.specs.Refusal.{AreBytes, Decodes, IsOnly, IsFirst}
+use Rattle.insn.specs.Decoded.{decoded, DecodeFails}
+use Rattle.insn.proofs.Laws.{read_is_spelled, spelled_is_read, read_is_refused}
 
 abbrev pub Answer : Type 0
 Answer = Result (Vec Form Global) DecodeError
@@ -29,7 +29,3 @@ pub first_refusal : (bytes : List ℕ) (r : Answer) → AreBytes bytes → Reads
 first_refusal bytes (Ok v) h reads = tt
 first_refusal bytes (Err NoMemory) h reads = tt
 first_refusal bytes (Err (Refused e)) h reads = read_is_refused bytes e h reads
-
--- bytes whose number is right read as their slots do
-pub reads_slots : (bytes : List ℕ) (r : Answer) → length_fault (length bytes) ≡ None → ReadsAs r (program_from 0 false (slots_in bytes)) → ReadsAs r (decoded bytes)
-reads_slots bytes r e reads = subst (ReadsAs r) (sym (decoded_as bytes None e)) reads

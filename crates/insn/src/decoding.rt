@@ -1,6 +1,6 @@
 // Programs out of bytes, whole.
 
-ghost use Rattle.std.specs.Prelude.{◌≡◌, ℕ, ◌*◌, ◌%◌, ◌≤◌, ◌++◌, ◌∷◌, [], List, false, Ok, length, IfOk, IfErr, OnOk, MatchResult};
+ghost use Rattle.std.specs.Prelude.{◌≡◌, ℕ, ◌*◌, ◌%◌, ◌≤◌, [], List, false, Ok, Err, length, vec_capacity, IfOk, IfErr, MatchResult};
 ghost use Rattle.insn.specs.declared.instruction.Form.{Form};
 ghost use Rattle.insn.specs.declared.decoding.DecodeError.TheVariants.{NoMemory, Refused};
 ghost use Rattle.insn.specs.Refusal.{slots_in, length_fault, fault_number, Decodes, IsOnly, IsFirst};
@@ -10,6 +10,9 @@ use crate::instruction::{Insn, MAX_SLOTS};
 use crate::reading::instruction;
 use std::alloc::{AllocError, Global};
 use thiserror::Error;
+
+/// The most slots of a program that is installed while a store runs, for which room is taken before.
+pub const MAX_INSTALLED_SLOTS: usize = 24;
 
 /// Why bytes are no program. Each has its number, from 1 to 9.
 #[derive(Clone, Copy, PartialEq, Eq, Debug, Error)]
@@ -133,8 +136,33 @@ pub fn decode(alloc: Global, bytes: &[u8]) -> Result<Vec<Insn>, DecodeError>
         (λ e. DecodeFails e (decoded bytes.now)) }
 {
     match fault_of_length(bytes.len()) {
+        Some(why) => Err(DecodeError::Refused(refused(0, why))),
+        None => {
+            let mut program = Vec::with_capacity(alloc, bytes.len() / 8)?;
+            match decode_into(bytes, &mut program) {
+                Ok(()) => Ok(program),
+                Err(refusal) => Err(DecodeError::Refused(refusal)),
+            }
+        }
+    }
+}
+
+/// What `decode` answers, in room that was taken before: no memory is taken. What stood there is dropped; after a refusal
+/// there stands what was read before it.
+pub fn decode_into(bytes: &[u8], program: &mut Vec<Insn>) -> Result<(), DecodeRefusal>
+    // There is room for an instruction in each slot.
+    requires room { length bytes.now ≤ 8 * vec_capacity program.old }
+    // What is answered is what `decode` answers.
+    ensures reading { MatchResult result
+        (λ _. decoded bytes.now ≡ Ok program.new.items)
+        (λ e. decoded bytes.now ≡ Err e) }
+    // The room stays.
+    ensures room { vec_capacity program.new ≡ vec_capacity program.old }
+{
+    program.clear();
+    match fault_of_length(bytes.len()) {
         Some(why) => Err(refused(0, why)),
-        None => read_slots(alloc, bytes),
+        None => read_slots(bytes, program),
     }
 }
 
@@ -153,44 +181,35 @@ fn fault_of_length(count: usize) -> Option<DecodeFault>
     }
 }
 
-// The program in the slots of the bytes, or the first refusal there.
-fn read_slots(alloc: Global, bytes: &[u8]) -> Result<Vec<Insn>, DecodeError>
+// The program in the slots of the bytes, or the first refusal there. There is room for it.
+fn read_slots(bytes: &[u8], program: &mut Vec<Insn>) -> Result<(), DecodeRefusal>
     requires whole { length bytes.now % 8 ≡ 0 }
     requires few { length bytes.now ≤ 8 * MAX_SLOTS }
-    ensures { MatchResult result
-        (λ v. program_from 0 false (slots_in bytes.now) ≡ Ok v.items)
-        (λ e. DecodeFails e (program_from 0 false (slots_in bytes.now))) }
+    requires empty { program.old.items ≡ [] }
+    requires room { length bytes.now ≤ 8 * vec_capacity program.old }
+    ensures reading { MatchResult result
+        (λ _. program_from 0 false (slots_in bytes.now) ≡ Ok program.new.items)
+        (λ e. program_from 0 false (slots_in bytes.now) ≡ Err e) }
+    ensures room { vec_capacity program.new ≡ vec_capacity program.old }
 {
-    let mut program = Vec::new(alloc);
     let mut slot = 0;
     while 8 * slot < bytes.len() {
         match instruction(bytes, slot) {
             Ok(insn) => {
-                push(&mut program, insn)?;
+                program.push_reserved(insn);
                 slot += insn.slot_count();
             }
             Err(why) => return Err(refused(slot as u32, why)),
         }
     }
-    Ok(program)
+    Ok(())
 }
 
 // The refusal at a slot.
-fn refused(slot: u32, why: DecodeFault) -> DecodeError
-    ensures { result ≡ Refused (record { slot = slot; why = why }) }
+fn refused(slot: u32, why: DecodeFault) -> DecodeRefusal
+    ensures { result ≡ record { slot = slot; why = why } }
 {
-    DecodeError::Refused(DecodeRefusal { slot, why })
-}
-
-// Adds an instruction.
-fn push(program: &mut Vec<Insn>, insn: Insn) -> Result<(), DecodeError>
-    ensures added { OnOk result (program.new.items ≡ program.old.items ++ insn ∷ []) }
-    ensures no_memory { IfErr result (λ e. e ≡ NoMemory) }
-{
-    match program.push(insn) {
-        Ok(()) => Ok(()),
-        Err(_) => Err(DecodeError::NoMemory),
-    }
+    DecodeRefusal { slot, why }
 }
 
 /// The function `decoded`, which tells what `decode` answers, reads as a program exactly what bytes spell.

@@ -13,7 +13,8 @@ mod spelling;
 mod uses;
 
 pub use decoding::{
-    DecodeError, DecodeFault, DecodeRefusal, decode, decoded_is_refused, decoded_is_spelled,
+    DecodeError, DecodeFault, DecodeRefusal, MAX_INSTALLED_SLOTS, decode, decode_into,
+    decoded_is_refused, decoded_is_spelled,
 };
 pub use encoding::{encode, encode_inverts_decode, one_instruction_is_a_program};
 pub use flat::{Division, Op, forms_lie_one_for_one};
