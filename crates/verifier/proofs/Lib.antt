@@ -14,3 +14,4 @@ pub mod Joins
 pub mod VerdictLaws
 pub mod PlacesLemmas
 pub mod Kept
+pub mod ZeroReply

@@ -11,6 +11,7 @@ mod laws;
 mod operands;
 mod refusal;
 mod regions;
+mod rooms;
 mod rules;
 mod signature;
 mod verification;
@@ -22,4 +23,5 @@ pub use laws::{
     structure_keeps_its_numbers,
 };
 pub use refusal::{Mode, Refused, VerifyError, VerifyFault};
-pub use verification::verify;
+pub use rooms::Scratch;
+pub use verification::{verify, verify_into};

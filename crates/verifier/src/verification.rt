@@ -1,6 +1,7 @@
 // The verifier: structure first, then one pass over the instructions in program order.
 
-ghost use Rattle.std.specs.Prelude.{◌≡◌, ◌<◌, ◌≤◌, None, Some, replicate, slice_set, IfOk, IfErr, OnOk, MatchResult};
+ghost use Rattle.std.specs.Prelude.{◌≡◌, ◌<◌, ◌≤◌, None, Some, replicate, slice_set, vec_capacity, IfOk, IfErr, IsOk, OnOk, OnErr, MatchResult};
+ghost use Rattle.insn.specs.declared.decoding.TheConstants.{MAX_INSTALLED_SLOTS};
 ghost use Rattle.std.specs.List.{AllByRecursion};
 ghost use Rattle.insn.specs.Encoding.{HasEncoding};
 ghost use Rattle.insn.specs.Layout.{size};
@@ -15,10 +16,11 @@ ghost use Rattle.verifier.specs.Verdict.{verdict};
 
 use crate::accepted::Accepted;
 use crate::refusal::{Mode, Refused, VerifyError, VerifyFault};
+use crate::rooms::Scratch;
 use crate::signature::Signature;
 use crate::visiting::visit;
 use flow::{StructureRule, structure};
-use insn::{Insn, MAX_SLOTS};
+use insn::{Insn, MAX_INSTALLED_SLOTS, MAX_SLOTS};
 use maps::{MAX_ARG_LEN, Shape};
 use regkind::Frame;
 use std::alloc::{AllocError, Global};
@@ -52,9 +54,38 @@ pub fn verify(
 {
     let l = Signature::new(shapes, arg_len, mode);
     check_structure(&program)?;
-    let frames = check_kinds(alloc, &program, &l)?;
+    let mut frames = Vec::with_capacity(alloc, count_slots(&program))?;
+    check_kinds(&program, &l, &mut frames)?;
     let accepted = Accepted::of(alloc, program, &frames, &l)?;
     Ok(accepted)
+}
+
+/// What `verify` answers of a program of at most [`MAX_INSTALLED_SLOTS`] slots, in room that is lent. No memory is taken. An accepted program
+/// takes the place of the one that was there; where it is refused, that one stays.
+pub fn verify_into(
+    program: &[Insn],
+    shapes: &[Shape],
+    arg_len: usize,
+    mode: Mode,
+    scratch: &mut Scratch,
+    room: &mut Accepted,
+) -> Result<(), Refused>
+    requires few { size program.now ≤ MAX_INSTALLED_SLOTS }
+    requires shapes { AreShapesOk shapes.now }
+    requires argument { arg_len ≤ MAX_ARG_LEN }
+    ensures accepted { OnOk result (room.new ≡ checked program.now shapes.now arg_len mode) }
+    ensures same { OnErr result (room.new ≡ room.old) }
+    ensures typable { OnOk result (IsTypable program.now (signature shapes.now arg_len mode)) }
+    ensures refused { IfErr result (Refuses program.now (signature shapes.now arg_len mode)) }
+    ensures reading { MatchResult result
+        (λ _. verdict program.now (signature shapes.now arg_len mode) ≡ None)
+        (λ e. verdict program.now (signature shapes.now arg_len mode) ≡ Some e) }
+{
+    let l = Signature::new(shapes, arg_len, mode);
+    check_structure(program)?;
+    check_kinds(program, &l, &mut scratch.frames)?;
+    room.refill(program, &scratch.frames, &mut scratch.places, &l);
+    Ok(())
 }
 
 // Whether the structure is good; else the first rule of structure that is broken.
@@ -85,39 +116,41 @@ fn fault_of_structure(rule: StructureRule) -> VerifyFault
     }
 }
 
-// The frames of a structured program, by their slots, if it can be typed; else the first rule of kinds that is broken.
+// The frames of a structured program, by their slots, if it can be typed; else the first rule of kinds that is broken. There is room.
 fn check_kinds(
-    alloc: Global,
     program: &[Insn],
     l: &Signature,
-) -> Result<Vec<Option<Frame>>, VerifyError>
+    frames: &mut Vec<Option<Frame>>,
+) -> Result<(), Refused>
     requires structured { IsStructured program.now }
     requires limits { IsSignatureOk l.now }
+    requires room { size program.now ≤ vec_capacity frames.old }
     ensures accepted { OnOk result (IsTypable program.now l.now) }
-    ensures frames { IfOk result (λ v. IsTypedBy program.now l.now v.items) }
+    ensures frames { OnOk result (IsTypedBy program.now l.now frames.new.items) }
     ensures instructions { AllByRecursion HasEncoding program.now }
-    ensures only { IsTypable program.now l.now → IfErr result IsNoMemory }
-    ensures refused { IfErr result (IfRefused (RefusedByKinds program.now l.now)) }
+    ensures only { IsTypable program.now l.now → IsOk result }
+    ensures refused { IfErr result (RefusedByKinds program.now l.now) }
     ensures reading { MatchResult result
         (λ _. verdict program.now l.now ≡ None)
-        (IfRefused (λ e. verdict program.now l.now ≡ Some e)) }
+        (λ e. verdict program.now l.now ≡ Some e) }
+    ensures room { vec_capacity frames.new ≡ vec_capacity frames.old }
 {
     let slots = count_slots(program);
-    let mut frames = first_frames(alloc, slots)?;
+    first_frames(frames, slots);
     let mut slot = 0;
     for insn in program {
         let i = insn.form();
-        match visit(&mut frames, l, i, slot) {
+        match visit(frames, l, i, slot) {
             None => slot += i.slot_count(),
             Some(why) => {
-                return Err(VerifyError::Refused(Refused {
+                return Err(Refused {
                     slot: slot as u32,
                     why,
-                }));
+                });
             }
         }
     }
-    Ok(frames)
+    Ok(())
 }
 
 // How many slots the instructions take.
@@ -133,15 +166,16 @@ fn count_slots(program: &[Insn]) -> usize
     slots
 }
 
-// A place for the frame of each slot: the entry's at the first, none yet at the others.
-fn first_frames(alloc: Global, slots: usize) -> Result<Vec<Option<Frame>>, AllocError>
+// A place for the frame of each slot: the entry's at the first, none yet at the others. There is room.
+fn first_frames(frames: &mut Vec<Option<Frame>>, slots: usize)
     requires some { 0 < slots }
-    ensures { IfOk result (λ v. v.items ≡ slice_set (replicate slots None) 0 (Some entry_frame)) }
+    requires room { slots ≤ vec_capacity frames.old }
+    ensures frames { frames.new.items ≡ slice_set (replicate slots None) 0 (Some entry_frame) }
+    ensures room { vec_capacity frames.new ≡ vec_capacity frames.old }
 {
-    let mut frames = Vec::with_capacity(alloc, slots)?;
+    frames.clear();
     for _slot in 0..slots {
-        frames.push(None)?;
+        frames.push_reserved(None);
     }
     frames[0] = Some(Frame::entry());
-    Ok(frames)
 }

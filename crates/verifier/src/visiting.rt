@@ -1,6 +1,6 @@
 // One instruction is checked on the frame before it, and the frames after it come in at the slots to which it leads.
 
-ghost use Rattle.std.specs.Prelude.{◌≡◌, ℕ, ◌<◌, ◌≤◌, pos, Some, None, slice_get, vec_len};
+ghost use Rattle.std.specs.Prelude.{◌≡◌, ℕ, ◌<◌, ◌≤◌, pos, Some, None, slice_get, vec_len, vec_capacity};
 ghost use Rattle.insn.specs.Encoding.{HasEncoding};
 ghost use Rattle.insn.specs.Layout.{LeadsTo};
 ghost use Rattle.insn.specs.declared.instruction.Edge.{Edge};
@@ -31,7 +31,8 @@ pub(crate) fn visit(
     requires few { vec_len frames.old ≤ MAX_SLOTS }
     requires inside { (t : ℕ) (e : Edge) → LeadsTo i slot e (pos t) → t < vec_len frames.old }
     requires there { (f : Frame) × (slice_get frames.old.items slot ≡ Some (Some f)) × IsFrame f }
-    ensures { Visits l.now i slot frames.old.items frames.new.items result }
+    ensures visits { Visits l.now i slot frames.old.items frames.new.items result }
+    ensures room { vec_capacity frames.new ≡ vec_capacity frames.old }
 {
     match &frames[slot] {
         None => unreachable!(),
@@ -61,7 +62,8 @@ fn jump(frames: &mut Vec<Option<Frame>>, on: &Context, i: Form, slot: usize)
     requires frame { IsFrame on.now.frame.now }
     requires few { slot < MAX_SLOTS }
     requires inside { (t : ℕ) → LeadsTo i slot Jump (pos t) → t < vec_len frames.old }
-    ensures { Follows i slot Jump (frame_after i on.now.frame.now Jump) frames.old.items frames.new.items }
+    ensures follows { Follows i slot Jump (frame_after i on.now.frame.now Jump) frames.old.items frames.new.items }
+    ensures room { vec_capacity frames.new ≡ vec_capacity frames.old }
 {
     if let Some(to) = i.successor(slot, Edge::Jump) {
         let mut after = *on.frame;
@@ -78,7 +80,8 @@ fn fall_through(frames: &mut Vec<Option<Frame>>, f: &mut Frame, l: &Signature, i
     requires frame { IsFrame f.old }
     requires few { slot < MAX_SLOTS }
     requires inside { (t : ℕ) → LeadsTo i slot Fall (pos t) → t < vec_len frames.old }
-    ensures { Follows i slot Fall (frame_after i f.old Fall) frames.old.items frames.new.items }
+    ensures follows { Follows i slot Fall (frame_after i f.old Fall) frames.old.items frames.new.items }
+    ensures room { vec_capacity frames.new ≡ vec_capacity frames.old }
 {
     if let Some(to) = i.successor(slot, Edge::Fall) {
         advance(f, l, i, Edge::Fall);
@@ -90,7 +93,8 @@ fn fall_through(frames: &mut Vec<Option<Frame>>, f: &mut Frame, l: &Signature, i
 fn flow(frames: &mut Vec<Option<Frame>>, slot: usize, new: &Frame)
     requires inside { slot < vec_len frames.old }
     requires frame { IsFrame new.now }
-    ensures { FlowsInto frames.old.items frames.new.items slot new.now }
+    ensures flows { FlowsInto frames.old.items frames.new.items slot new.now }
+    ensures room { vec_capacity frames.new ≡ vec_capacity frames.old }
 {
     match &frames[slot] {
         None => frames[slot] = Some(*new),

@@ -12,8 +12,8 @@ use Rattle.verifier.proofs.verification.check_kinds.Goals as goal
 pub loop-insn-init : goal.loop-insn-init
 loop-insn-init c =
     let n = c.count_slots-slots.ensures.slots in
-    let b = begin c.args.program.now c.args.l.now c.count_slots-slots.result c.in_ok-frames.frames.items (omega (arith, n, c.requires.structured.size_good.some)) c.in_ok-frames.ensures in
-    (refl, b.0 ∙ n, b.1)
+    let b = begin c.args.program.now c.args.l.now c.count_slots-slots.result c.first_frames.new.frames.items (omega (arith, n, c.requires.structured.size_good.some)) c.first_frames.ensures.frames in
+    (refl, b.0 ∙ n, b.1, c.first_frames.ensures.room)
 
 pub visit-requires-clause-few : goal.visit-requires-clause-few
 visit-requires-clause-few c = omega (arith, c.loop-insn.invariant.1, c.requires.structured.size_good.few, c.loop-insn.frames.ok.0)
@@ -49,7 +49,7 @@ returns-in-Some-clause-refused c =
     let p = c.args.program.now in
     let here = read p c.loop-insn.insn-index c.insn-item.result c.form-i.result c.loop-insn-test.true c.insn-item.is c.form-i.ensures.same in
     let stands = subst (StandsAt p c.form-i.result) (sym c.loop-insn.invariant.0) (stands_in p c.loop-insn.insn-index c.form-i.result here) in
-    let v = c.in-Some.ensures in
+    let v = c.in-Some.ensures.visits in
     (c.requires.structured, refuse p c.args.l.now c.requires.structured c.loop-insn.frames.items c.loop-insn.slot c.loop-insn.invariant.1 c.loop-insn.invariant.2 c.form-i.result stands v.0 c.in-Some.why v.1 v.2)
 
 pub returns-in-Some-clause-only : goal.returns-in-Some-clause-only
@@ -57,7 +57,7 @@ returns-in-Some-clause-only c =
     let p = c.args.program.now in
     let here = read p c.loop-insn.insn-index c.insn-item.result c.form-i.result c.loop-insn-test.true c.insn-item.is c.form-i.ensures.same in
     let stands = subst (StandsAt p c.form-i.result) (sym c.loop-insn.invariant.0) (stands_in p c.loop-insn.insn-index c.form-i.result here) in
-    let v = c.in-Some.ensures in
+    let v = c.in-Some.ensures.visits in
     let broken = refuse p c.args.l.now c.requires.structured c.loop-insn.frames.items c.loop-insn.slot c.loop-insn.invariant.1 c.loop-insn.invariant.2 c.form-i.result stands v.0 c.in-Some.why v.1 v.2 in
     λ typable. absurd (untypable p c.args.l.now c.loop-insn.slot c.in-Some.why c.count_slots-slots.ensures.instructions broken typable)
 
@@ -66,7 +66,7 @@ returns-in-Some-clause-reading c =
     let p = c.args.program.now in
     let here = read p c.loop-insn.insn-index c.insn-item.result c.form-i.result c.loop-insn-test.true c.insn-item.is c.form-i.ensures.same in
     let stands = subst (StandsAt p c.form-i.result) (sym c.loop-insn.invariant.0) (stands_in p c.loop-insn.insn-index c.form-i.result here) in
-    let v = c.in-Some.ensures in
+    let v = c.in-Some.ensures.visits in
     let broken = refuse p c.args.l.now c.requires.structured c.loop-insn.frames.items c.loop-insn.slot c.loop-insn.invariant.1 c.loop-insn.invariant.2 c.form-i.result stands v.0 c.in-Some.why v.1 v.2 in
     by_kinds p c.args.l.now (refused c.loop-insn.slot c.in-Some.why) c.count_slots-slots.ensures.instructions (c.requires.structured, broken)
 
@@ -79,9 +79,9 @@ loop-insn-preserved c =
     let more = size_next p c.loop-insn.insn-index c.form-i.result here in
     let sum : c.loop-insn.slot + c.slot_count-slot.result ≡ size (take (suc c.loop-insn.insn-index) p) = omega (arith, more, c.loop-insn.invariant.0, c.slot_count-slot.ensures.count) in
     let wide = subst (Widths p c.form-i.result) (sym c.loop-insn.invariant.0) (widths p c.loop-insn.insn-index c.form-i.result here) in
-    let on = turn p c.args.l.now c.requires.structured c.loop-insn.frames.items c.loop-insn.slot c.loop-insn.invariant.1 c.loop-insn.invariant.2 c.form-i.result stands c.visit.new.frames.items wide c.in-None.ensures in
+    let on = turn p c.args.l.now c.requires.structured c.loop-insn.frames.items c.loop-insn.slot c.loop-insn.invariant.1 c.loop-insn.invariant.2 c.form-i.result stands c.visit.new.frames.items wide c.in-None.ensures.visits in
     let same : c.loop-insn.slot + slot_count c.form-i.result ≡ c.loop-insn.slot + c.slot_count-slot.result = ap (λ n. c.loop-insn.slot + n) (sym c.slot_count-slot.ensures.count) in
-    (sum ∙ ap (λ n. size (take n p)) next, on.0, subst (λ n. Progress p c.args.l.now c.visit.new.frames.items n (Below n)) same on.1)
+    (sum ∙ ap (λ n. size (take n p)) next, on.0, subst (λ n. Progress p c.args.l.now c.visit.new.frames.items n (Below n)) same on.1, c.in-None.ensures.room ∙ c.loop-insn.invariant.3)
 
 pub returns-clause-accepted : goal.returns-clause-accepted
 returns-clause-accepted c =

@@ -4,8 +4,8 @@ use Rattle.std.proofs.lemmas.Option.{slice_get_read}
 use Rattle.verifier.specs.Pass.{Meets}
 use Rattle.verifier.proofs.visiting.flow.Goals as goal
 
-pub returns-in-None : goal.returns-in-None
-returns-in-None c =
+pub returns-in-None-clause-flows : goal.returns-in-None-clause-flows
+returns-in-None-clause-flows c =
     let inside : c.args.slot < length c.args.frames.now.items = omega (arith, c.requires.inside, c.args.frames.now.ok.0) in
     let here = slice_get_read c.args.frames.now.items (length c.args.frames.now.items) c.args.slot c.index.result.now refl inside c.index.ensures in
     let none : slice_get c.args.frames.now.items c.args.slot ≡ Some None = here ∙ ap Some c.in-None.is in
@@ -16,8 +16,8 @@ returns-in-None c =
       written = refl;
     }
 
-pub returns-in-Some : goal.returns-in-Some
-returns-in-Some c =
+pub returns-in-Some-clause-flows : goal.returns-in-Some-clause-flows
+returns-in-Some-clause-flows c =
     let inside : c.args.slot < length c.args.frames.now.items = omega (arith, c.requires.inside, c.args.frames.now.ok.0) in
     let here = slice_get_read c.args.frames.now.items (length c.args.frames.now.items) c.args.slot c.index.result.now refl inside c.index.ensures in
     let some : slice_get c.args.frames.now.items c.args.slot ≡ Some (Some c.in-Some.old) = here ∙ ap Some c.in-Some.is in

@@ -12,10 +12,10 @@ flow-requires-clause-inside c = c.requires.inside c.in-Some.to ((c.successor.ens
 pub flow-requires-clause-frame : goal.flow-requires-clause-frame
 flow-requires-clause-frame c = subst IsFrame (sym c.advance.ensures) (after_frame c.args.i c.args.on.now.frame.now Jump c.requires.frame)
 
-pub returns-in-Some : goal.returns-in-Some
-returns-in-Some c =
+pub returns-in-Some-clause-follows : goal.returns-in-Some-clause-follows
+returns-in-Some-clause-follows c =
     goes c.args.i c.args.slot Jump _ c.args.frames.now.items c.flow.new.frames.items c.successor.result c.in-Some.to c.successor.ensures c.in-Some.is
-    (subst (λ g. FlowsInto c.args.frames.now.items c.flow.new.frames.items c.in-Some.to g) c.advance.ensures c.flow.ensures)
+    (subst (λ g. FlowsInto c.args.frames.now.items c.flow.new.frames.items c.in-Some.to g) c.advance.ensures c.flow.ensures.flows)
 
-pub returns-in_default : goal.returns-in_default
-returns-in_default c = goes_not c.args.i c.args.slot Jump _ c.args.frames.now.items c.successor.result c.successor.ensures c.in_default.is
+pub returns-in_default-clause-follows : goal.returns-in_default-clause-follows
+returns-in_default-clause-follows c = goes_not c.args.i c.args.slot Jump _ c.args.frames.now.items c.successor.result c.successor.ensures c.in_default.is

@@ -21,21 +21,21 @@ pub fall_through-requires-clause-few : goal.fall_through-requires-clause-few
 fall_through-requires-clause-few c = let h = c.requires.there in omega (arith, c.requires.few, is_there c.args.frames.now.items c.args.slot h.0 h.1, c.args.frames.now.ok.0)
 
 pub fall_through-requires-clause-inside : goal.fall_through-requires-clause-inside
-fall_through-requires-clause-inside c = λ t leads. omega (arith, c.requires.inside t Fall leads, same_length c.args.i c.args.slot Jump (frame_after c.args.i c.in-Some.here Jump) c.args.frames.now.items c.jump.new.frames.items c.jump.ensures, c.args.frames.now.ok.0, c.jump.new.frames.ok.0)
+fall_through-requires-clause-inside c = λ t leads. omega (arith, c.requires.inside t Fall leads, same_length c.args.i c.args.slot Jump (frame_after c.args.i c.in-Some.here Jump) c.args.frames.now.items c.jump.new.frames.items c.jump.ensures.follows, c.args.frames.now.ok.0, c.jump.new.frames.ok.0)
 
-pub returns-in-Some-broken_rule : goal.returns-in-Some-broken_rule
-returns-in-Some-broken_rule c =
+pub returns-in-Some-broken_rule-clause-visits : goal.returns-in-Some-broken_rule-clause-visits
+returns-in-Some-broken_rule-clause-visits c =
     let h = c.requires.there in
     (c.in-Some.here, read_here c.args.frames.now.items c.args.slot _ c.in-Some.here (is_there c.args.frames.now.items c.args.slot h.0 h.1) c.index.ensures c.in-Some.is, sym c.broken_rule.ensures ∙ c.in-Some-broken_rule.is)
 
-pub returns-in-None-broken_rule : goal.returns-in-None-broken_rule
-returns-in-None-broken_rule c =
+pub returns-in-None-broken_rule-clause-visits : goal.returns-in-None-broken_rule-clause-visits
+returns-in-None-broken_rule-clause-visits c =
     let h = c.requires.there in
     record {
       frame = c.in-Some.here;
       here = read_here c.args.frames.now.items c.args.slot _ c.in-Some.here (is_there c.args.frames.now.items c.args.slot h.0 h.1) c.index.ensures c.in-Some.is;
       fine = sym c.broken_rule.ensures ∙ c.in-None-broken_rule.is;
       between = c.jump.new.frames.items;
-      jumps = c.jump.ensures;
-      falls = c.fall_through.ensures;
+      jumps = c.jump.ensures.follows;
+      falls = c.fall_through.ensures.follows;
     }
