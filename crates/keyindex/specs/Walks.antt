@@ -6,7 +6,7 @@ use Rattle.std.specs.Int.{bit_at, w64, from_le_bytes}
 unfoldable pub key_bit : List ℕ → ℕ → ℕ
 key_bit key i = bit_at (slice_index key (i / 8)) (i % 8)
 
--- word i of a key, of eight bytes, the low one first
+-- word i of a key, of eight bytes, the low one first; past the key's end 0
 unfoldable pub word_of : List ℕ → ℕ → ℕ
 word_of key i = from_le_bytes w64 (slice_index key (8 * i) ∷ slice_index key (8 * i + 1) ∷ slice_index key (8 * i + 2) ∷ slice_index key (8 * i + 3) ∷ slice_index key (8 * i + 4) ∷ slice_index key (8 * i + 5) ∷ slice_index key (8 * i + 6) ∷ slice_index key (8 * i + 7) ∷ [])
 
@@ -19,14 +19,9 @@ abbrev pub words_hash : List ℕ → ℕ → ℕ
 words_hash key zero = 11400714819323198485
 words_hash key (suc i) = mix (words_hash key i) (word_of key i)
 
--- and of so many bytes more, from place i on
-abbrev pub bytes_hash : List ℕ → ℕ → ℕ → ℕ → ℕ
-bytes_hash key hash i zero = hash
-bytes_hash key hash i (suc n) = mix (bytes_hash key hash i n) (slice_index key (i + n))
-
 -- the bucket of a key: its hash, spread over so many
 unfoldable pub bucket_of : ℕ → List ℕ → ℕ
-bucket_of buckets key = bytes_hash key (words_hash key (length key / 8)) (length key / 8 * 8) (length key % 8) % 2 ^ 64 / 2 ^ 32 * buckets / 2 ^ 32
+bucket_of buckets key = words_hash key ((length key + 7) / 8) % 2 ^ 64 / 2 ^ 32 * buckets / 2 ^ 32
 
 -- the node that a key leads to in so many steps, 0 where it leads nowhere; at buckets + 2 * n + b is the link from node n under bit b
 abbrev pub walk : ℕ → (ℕ → ℕ) → List ℕ → ℕ → ℕ

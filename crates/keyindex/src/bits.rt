@@ -1,6 +1,6 @@
 // The bucket and the bits of a key.
 
-ghost use Rattle.std.specs.Prelude.{◌≡◌, ◌+◌, ◌*◌, ◌<◌, ◌≤◌, length};
+ghost use Rattle.std.specs.Prelude.{◌≡◌, ◌+◌, ◌*◌, ◌<◌, ◌≤◌, length, slice_index};
 ghost use Rattle.keyindex.specs.Walks.{key_bit, bucket_of, word_of, mix};
 
 use crate::index::MAX_BUCKETS;
@@ -17,9 +17,8 @@ pub(crate) fn bucket(key: &[u8], buckets: usize) -> usize
     for i in 0..words {
         hash = mixed(hash, word(key, i));
     }
-    let start = words * 8;
-    for j in 0..key.len() % 8 {
-        hash = mixed(hash, key[start + j] as u64);
+    if key.len() % 8 != 0 {
+        hash = mixed(hash, last_word(key, words));
     }
     ((hash >> 32) * buckets as u64 >> 32) as usize
 }
@@ -40,6 +39,36 @@ fn word(key: &[u8], i: usize) -> u64
         key[w + 6],
         key[w + 7],
     ])
+}
+
+/// The word that a key ends in, with zeros past its end.
+fn last_word(key: &[u8], i: usize) -> u64
+    requires low { 8 * i < length key.now }
+    requires high { length key.now < 8 * i + 8 }
+    ensures { result ≡ word_of key.now i }
+{
+    let w = 8 * i;
+    if key.len() - w == 4 {
+        u32::from_le_bytes([key[w], key[w + 1], key[w + 2], key[w + 3]]) as u64
+    } else {
+        u64::from_le_bytes([
+            key[w],
+            byte(key, w + 1),
+            byte(key, w + 2),
+            byte(key, w + 3),
+            byte(key, w + 4),
+            byte(key, w + 5),
+            byte(key, w + 6),
+            0,
+        ])
+    }
+}
+
+/// A byte of a key, 0 past its end.
+fn byte(key: &[u8], i: usize) -> u8
+    ensures { result ≡ slice_index key.now i }
+{
+    if i < key.len() { key[i] } else { 0 }
 }
 
 /// A hash with a word more.
