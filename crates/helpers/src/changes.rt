@@ -4,7 +4,7 @@ ghost use Rattle.std.specs.Prelude.{◌≡◌, ◌≢◌, ◌<◌, ℕ, length, 
 ghost use Rattle.maps.specs.Shapes.{key_size, value_size};
 ghost use Rattle.maps.specs.Values.{Num};
 ghost use Rattle.maps.specs.MapSets.{maps_of, stored_shapes};
-ghost use Rattle.helpers.specs.Helpers.{negative_errno, update_error, delete_error, UpdateCall, DeleteCall, HelperAnswers};
+ghost use Rattle.helpers.specs.Helpers.{exist, negative_errno, UpdateCall, DeleteCall, HelperAnswers};
 
 use maps::{MapSet, Shape};
 
@@ -36,14 +36,38 @@ pub fn update(maps: &mut MapSet, m: usize, key: &[u8], value: &[u8], flags: u64)
     ensures others { (n : ℕ) → n ≢ m → slice_get maps.new n ≡ slice_get maps.old n }
     ensures shapes { stored_shapes maps.new ≡ stored_shapes maps.old }
 {
-    let found = maps.lookup(m, key);
-    if let Some(errno) = error_of_update(maps.shape(m), found.is_some(), maps.len(m), flags) {
-        return negative(errno);
+    if flags > EXIST {
+        return negative(EINVAL);
     }
-    match found {
-        Some(entry) => maps.value_mut(entry).copy_from_slice(value),
-        None => maps.update(m, key, value),
+    if flags == EXIST {
+        return replace(maps, m, key, value);
     }
+    let Some(inserted) = maps.insert(m, key) else {
+        return negative(E2BIG);
+    };
+    if flags == NOEXIST && !inserted.is_new {
+        return negative(EEXIST);
+    }
+    maps.value_mut(inserted.entry).copy_from_slice(value);
+    0
+}
+
+/// An update whose key has to be there.
+fn replace(maps: &mut MapSet, m: usize, key: &[u8], value: &[u8]) -> u64
+    requires map { m < length (stored_shapes maps.old) }
+    requires key { IfSome (slice_get (stored_shapes maps.old) m) (λ s. length key.now ≡ key_size s) }
+    requires value { IfSome (slice_get (stored_shapes maps.old) m) (λ s. length value.now ≡ value_size s) }
+    ensures answers { HelperAnswers (UpdateCall m key.now value.now exist) (maps_of maps.old) (Num result) (maps_of maps.new) }
+    ensures others { (n : ℕ) → n ≢ m → slice_get maps.new n ≡ slice_get maps.old n }
+    ensures shapes { stored_shapes maps.new ≡ stored_shapes maps.old }
+{
+    let Some(entry) = maps.lookup(m, key) else {
+        return match maps.shape(m) {
+            Shape::Array { .. } => negative(E2BIG),
+            Shape::Hash { .. } => negative(ENOENT),
+        };
+    };
+    maps.value_mut(entry).copy_from_slice(value);
     0
 }
 
@@ -56,47 +80,15 @@ pub fn delete(maps: &mut MapSet, m: usize, key: &[u8]) -> u64
     ensures others { (n : ℕ) → n ≢ m → slice_get maps.new n ≡ slice_get maps.old n }
     ensures shapes { stored_shapes maps.new ≡ stored_shapes maps.old }
 {
-    let present = maps.lookup(m, key).is_some();
-    if let Some(errno) = error_of_delete(maps.shape(m), present) {
-        return negative(errno);
-    }
-    maps.remove(m, key);
-    0
-}
-
-/// The error of an update, by whether the key is present and how many keys there are.
-fn error_of_update(shape: Shape, present: bool, keys: usize, flags: u64) -> Option<u64>
-    ensures error { result ≡ update_error shape present keys flags }
-    ensures some { IfSome result (λ errno. 0 < errno) }
-{
-    if flags > EXIST {
-        return Some(EINVAL);
-    }
-    if present {
-        return (flags == NOEXIST).then_some(EEXIST);
-    }
-    match shape {
-        Shape::Array { .. } => Some(E2BIG),
-        Shape::Hash { entries, .. } => {
-            if flags == EXIST {
-                Some(ENOENT)
-            } else if keys >= entries as usize {
-                Some(E2BIG)
+    match maps.shape(m) {
+        Shape::Array { .. } => negative(EINVAL),
+        Shape::Hash { .. } => {
+            if maps.remove(m, key) {
+                0
             } else {
-                None
+                negative(ENOENT)
             }
         }
-    }
-}
-
-/// The error of a delete, by whether the key is present.
-fn error_of_delete(shape: Shape, present: bool) -> Option<u64>
-    ensures error { result ≡ delete_error shape present }
-    ensures some { IfSome result (λ errno. 0 < errno) }
-{
-    match shape {
-        Shape::Array { .. } => Some(EINVAL),
-        Shape::Hash { .. } => (!present).then_some(ENOENT),
     }
 }
 

@@ -1,6 +1,6 @@
 // An index of keys of one size.
 
-ghost use Rattle.std.specs.Prelude.{◌≡◌, ◌≢◌, ◌+◌, ◌<◌, ◌≤◌, ◌*◌, ℕ, List, suc, length, slice_set, replicate, Some, None, IfSome, IfNone, IfOk};
+ghost use Rattle.std.specs.Prelude.{◌≡◌, ◌≢◌, ◌+◌, ◌<◌, ◌≤◌, ◌*◌, ℕ, List, suc, length, slice_set, replicate, Some, None, IfSome, IfNone, IfOk, true, false};
 ghost use Rattle.keyindex.specs.Walks.{walk, cell};
 ghost use Rattle.keyindex.specs.Indexes.{at, key_of, HasRoom, IsIndex, HasFree};
 
@@ -43,6 +43,15 @@ pub struct KeyIndex {
     ghost room: { HasRoom size buckets links.items depths.items keys.items free.items },
     ghost linked: { IsIndex size buckets links.items depths.items keys.items },
     ghost store: { HasFree depths.items free.items free_count },
+}
+
+/// A key stands at `place`, and came there only now where it is new.
+#[derive(Clone, Copy)]
+pub struct Inserted {
+    /// Where the key stands.
+    pub place: u32,
+    /// Whether it stood nowhere before.
+    pub is_new: bool,
 }
 
 /// A key was taken from `place`. Where `from` is another place, the key that was there is at `place` now.
@@ -163,19 +172,26 @@ impl KeyIndex {
     }
 
     /// The place where a key stands from now on: its own, or a free one; none where there is no free one.
-    pub fn insert(&mut self, key: &[u8]) -> Option<u32>
+    pub fn insert(&mut self, key: &[u8]) -> Option<Inserted>
         requires key { length key.now ≡ self.old.size }
         ensures sizes { SameSizes self.old self.new }
-        ensures place { IfSome result (λ p. p < places self.old) }
-        ensures keys { IfSome result (λ p. keys_of self.new ≡ slice_set (keys_of self.old) p (Some key.now)) }
-        ensures own { IfSome result (λ p. (other : List ℕ) → key_in self.old p ≡ Some other → other ≡ key.now) }
+        ensures place { IfSome result (λ r. r.place < places self.old) }
+        ensures keys { IfSome result (λ r. keys_of self.new ≡ slice_set (keys_of self.old) r.place (Some key.now)) }
+        ensures own { IfSome result (λ r. (other : List ℕ) → key_in self.old r.place ≡ Some other → other ≡ key.now) }
+        ensures found { IfSome result (λ r. r.is_new ≡ false → key_in self.old r.place ≡ Some key.now) }
+        ensures kept { IfSome result (λ r. r.is_new ≡ false → keys_of self.new ≡ keys_of self.old) }
+        ensures new { IfSome result (λ r. r.is_new ≡ true → IsAbsent self.old key.now) }
+        ensures room { IfSome result (λ r. r.is_new ≡ true → filled (keys_of self.old) < places self.old) }
         ensures full { IfNone result (filled (keys_of self.old) ≡ places self.old) }
         ensures absent { IfNone result (IsAbsent self.old key.now) }
         ensures unchanged { IfNone result (keys_of self.new ≡ keys_of self.old) }
     {
         let spot = self.find(key);
         if spot.node != 0 {
-            return Some(spot.node as u32 - 1);
+            return Some(Inserted {
+                place: spot.node as u32 - 1,
+                is_new: false,
+            });
         }
         if self.free_count == 0 {
             return None;
@@ -186,7 +202,10 @@ impl KeyIndex {
         self.depths[node as usize] = (spot.depth + 1) as u16;
         self.links[spot.cell] = node;
         self.free_count = count;
-        Some(node - 1)
+        Some(Inserted {
+            place: node - 1,
+            is_new: true,
+        })
     }
 
     /// A node below one, or itself, under which there is none.

@@ -5,4 +5,4 @@ mod bits;
 mod block;
 mod index;
 
-pub use index::{KeyIndex, MAX_BUCKETS, MAX_KEY_SIZE, MAX_PLACES, Removed, limits};
+pub use index::{Inserted, KeyIndex, MAX_BUCKETS, MAX_KEY_SIZE, MAX_PLACES, Removed, limits};

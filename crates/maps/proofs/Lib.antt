@@ -9,3 +9,4 @@ pub mod Copied
 pub mod Opened
 pub mod OpeningShapes
 pub mod StoredShapes
+pub mod Exchanged

@@ -1,14 +1,14 @@
 -- The keys of one table: where one stands, where one is put, and what is taken out.
-use Rattle.std.proofs.Common.{◌≡◌, ◌≢◌, ℕ, zero, suc, ◌+◌, ◌-◌, ◌*◌, ◌<◌, ◌≤◌, Bool, true, false, cond, List, [], ◌∷◌, ◌++◌, length, take, drop, Option, Some, None, refl, sym, ap, ◌∙◌, arith, subst, inl, inr, get_or}
+use Rattle.std.proofs.Common.{◌≡◌, ◌≢◌, ℕ, zero, suc, ◌+◌, ◌-◌, ◌*◌, ◌<◌, ◌≤◌, Bool, true, false, cond, List, [], ◌∷◌, ◌++◌, length, take, drop, Option, Some, None, refl, sym, ap, ◌∙◌, arith, subst, get_or}
 use Rattle.std.specs.Prelude.{◌^◌, IfSome, IfNone, IsSome, is_some, slice_get, slice_set}
 use Rattle.std.specs.List.{refill, CopiedTo, SameBelow, SameFrom}
 use Rattle.std.specs.Ordering.{nat_cmp, eq_by_cmp}
 use Rattle.std.specs.Cmp.Lexicographic.{slice_cmp, nat_list_cmp_total}
 use Rattle.std.specs.FinMap as finite_map
 use Rattle.std.specs.FinMap.{get-remove, same_map, slice_cmp-IsAntisymmetric, nat_cmp-IsAntisymmetric}
-use Rattle.std.proofs.lemmas.Bool.{cases_lt}
 use Rattle.std.proofs.Math.Nat.{mul-le-mul, mul-le-mul_right}
 use Rattle.keyindex.specs.declared.index.KeyIndex.{KeyIndex}
+use Rattle.keyindex.specs.declared.index.Inserted.{Inserted}
 use Rattle.keyindex.specs.Indexes.{key_of}
 use Rattle.keyindex.specs.Places.{key_in, places, keys_of, filled, IsAbsent}
 use Rattle.keyindex.proofs.Found.{key_is, key_length}
@@ -20,7 +20,7 @@ use Rattle.maps.specs.declared.table.Table.{Table}
 use Rattle.maps.specs.Shapes.{IsShapeOk, IsHash, value_size, entry_count}
 use Rattle.maps.specs.Maps.{Entries, MapState, index_key}
 use Rattle.maps.specs.MapSets.{Contents, placed, value_in, entries_of, maps_of, write_over, HasRoom}
-use Rattle.maps.specs.Blocks.{keys_at, stored, FitsIndex, IsTable, HasRoomFor}
+use Rattle.maps.specs.Blocks.{keys_at, stored, FitsIndex, IsTable, HasRoomFor, HasFreePlace, HasClaimed}
 use Rattle.maps.specs.Lent.{with_bytes}
 use Rattle.maps.proofs.Keys.{key_same}
 use Rattle.maps.proofs.Placed.{get_nowhere, len_placed, index_at, index_nowhere}
@@ -42,6 +42,14 @@ pub index_missing : (t : Table) (place : ℕ) (key : List ℕ) → t.index ≡ N
     → (p : ℕ) → slice_get (keys_at t.shape t.index) p ≢ Some (Some key)
 index_missing t place key none few high small e p x =
     index_nowhere 0 (entry_count t.shape) place p (omega (arith, few)) small (λ q low is. omega (arith, low, is, high)) (sym (ap (λ i. slice_get (keys_at t.shape i) p) none) ∙ (x ∙ ap (λ k. Some (Some k)) e))
+
+-- a table whose keys stay
+pub index_claimed : (t u : Table) (place : ℕ) (key : List ℕ) → (stored u).keys ≡ (stored t).keys → slice_get (stored t).keys place ≡ Some (Some key) → HasClaimed t u key place
+index_claimed t u place key same is = record {
+  stands = ap (λ ks. slice_get ks place) same ∙ is;
+  own = λ other e. same_key _ other key e is;
+  others = λ p ne. ap (λ ks. slice_get ks p) same;
+}
 
 -- ---- a hash's keys
 
@@ -65,24 +73,9 @@ room_for c m t key at room = λ none.
     let many = len_placed (keys_at t.shape t.index) (value_in (value_size t.shape) t.block.items) 0 (distinct t.shape t.index at.ok.entries.1) in
     (has.0, subst (λ n. n < entry_count t.shape) many has.1)
 
-no_hash : (shape : Shape) → FitsIndex shape None → IsHash shape → ⊥
+pub no_hash : (shape : Shape) → FitsIndex shape None → IsHash shape → ⊥
 no_hash (Array value entries) fits is = is
 no_hash (Hash key value entries) fits is = fits
-
-pub index_claimed : (t : Table) (place : ℕ) (key : List ℕ) → t.index ≡ None → IsShapeOk t.shape → IsTable t → place < 2 ^ 32 → key ≡ index_key place → HasRoomFor t key → place < entry_count t.shape
-index_claimed t place key none ok table small e room = elim (cases_lt place (entry_count t.shape)) [
-  | inl low ↦ low
-  | inr high ↦ absurd (no_hash t.shape (subst (FitsIndex t.shape) none table.index) (room (index_missing t place key none ok.entries.1 high small e)).0)
-]
-
-pub has_place : (t : Table) (x : KeyIndex) (key : List ℕ) (o : Option ℕ) → t.index ≡ Some x → IsTable t → IfNone o (filled (keys_of x) ≡ places x) → IfNone o (IsAbsent x key) → HasRoomFor t key → IsSome o
-has_place t x key (Some p) some table full absent room = refl
-has_place t x key None some table full absent room =
-    let fits = sizes t.shape x (subst (FitsIndex t.shape) some table.index) in
-    let many = fits.places_are in
-    let more = (room (hash_missing t x key some absent)).1 in
-    let same : filled (keys_at t.shape t.index) ≡ filled (keys_of x) = ap (λ i. filled (keys_at t.shape i)) some in
-    absurd (omega (arith, full, many, more, same))
 
 get_set_same : {A : Type 0} (xs : List A) (i : ℕ) (y : A) → i < length xs → slice_get (slice_set xs i y) i ≡ Some y
 get_set_same [] i y h = absurd (omega arith)
@@ -107,13 +100,6 @@ pub record IsInserted (x y : KeyIndex) (key : List ℕ) (p : ℕ) : Type 0 where
   pub keys : keys_of y ≡ slice_set (keys_of x) p (Some key)
   pub own : (other : List ℕ) → key_in x p ≡ Some other → other ≡ key
 
-pub inserted_at : (x y : KeyIndex) (key : List ℕ) (o : Option ℕ) (p : ℕ) → o ≡ Some p → IfSome o (λ q. q < places x) → IfSome o (λ q. keys_of y ≡ slice_set (keys_of x) q (Some key))
-    → IfSome o (λ q. (other : List ℕ) → key_in x q ≡ Some other → other ≡ key) → IsInserted x y key p
-inserted_at x y key None p e low keys own = absurd cc
-inserted_at x y key (Some q) p e low keys own =
-    let same : q ≡ p = cc in
-    subst (λ n. IsInserted x y key n) same (record { place = low; keys = keys; own = own })
-
 pub insert_place : (x y : KeyIndex) (key : List ℕ) (p : ℕ) → IsInserted x y key p → slice_get (keys_of y) p ≡ Some (Some key)
 insert_place x y key p h = ap (λ ks. slice_get ks p) h.keys ∙ get_set_same (keys_of x) p (Some key) (let n = many_keys x in let low = h.place in omega (arith, n, low))
 
@@ -122,6 +108,50 @@ insert_others t x y key p some h q ne = ap (λ ks. slice_get ks q) h.keys ∙ (g
 
 pub insert_own : (t : Table) (x y : KeyIndex) (key : List ℕ) (p : ℕ) → t.index ≡ Some x → IsInserted x y key p → (other : List ℕ) → slice_get (keys_at t.shape t.index) p ≡ Some (Some other) → other ≡ key
 insert_own t x y key p some h other e = h.own other (listed_key x p (Some other) (sym (ap (λ i. slice_get (keys_at t.shape i) p) some) ∙ e)).1
+
+pub hash_claimed : (t u : Table) (x y : KeyIndex) (key : List ℕ) (o : Option Inserted) → t.index ≡ Some x → u.index ≡ Some y → IfSome o (λ r. r.place < places x)
+    → IfSome o (λ r. keys_of y ≡ slice_set (keys_of x) r.place (Some key)) → IfSome o (λ r. (other : List ℕ) → key_in x r.place ≡ Some other → other ≡ key) → IfSome o (λ r. HasClaimed t u key r.place)
+hash_claimed t u x y key None some now low keys own = tt
+hash_claimed t u x y key (Some r) some now low keys own =
+    let is : IsInserted x y key r.place = record { place = low; keys = keys; own = own } in
+    let new : (q : ℕ) → slice_get (keys_at u.shape u.index) q ≡ slice_get (keys_of y) q = λ q. ap (λ i. slice_get (keys_at u.shape i) q) now in
+    record {
+      stands = new r.place ∙ insert_place x y key r.place is;
+      own = insert_own t x y key r.place some is;
+      others = λ q ne. new q ∙ insert_others t x y key r.place some is q ne;
+    }
+
+pub hash_was : (t : Table) (x : KeyIndex) (key : List ℕ) (o : Option Inserted) → t.index ≡ Some x → IfSome o (λ r. r.place < places x) → IfSome o (λ r. r.is_new ≡ false → key_in x r.place ≡ Some key)
+    → IfSome o (λ r. r.is_new ≡ false → slice_get (keys_at t.shape t.index) r.place ≡ Some (Some key))
+hash_was t x key None some low e = tt
+hash_was t x key (Some r) some low e = λ old. ap (λ i. slice_get (keys_at t.shape i) r.place) some ∙ (key_listed x r.place low ∙ ap Some (e old))
+
+pub hash_new : (t : Table) (x : KeyIndex) (key : List ℕ) (o : Option Inserted) → t.index ≡ Some x → IfSome o (λ r. r.is_new ≡ true → IsAbsent x key)
+    → IfSome o (λ r. r.is_new ≡ true → (p : ℕ) → slice_get (keys_at t.shape t.index) p ≢ Some (Some key))
+hash_new t x key None some absent = tt
+hash_new t x key (Some r) some absent = λ new. hash_missing t x key some (absent new)
+
+pub hash_room : (t : Table) (x : KeyIndex) (o : Option Inserted) → t.index ≡ Some x → IsTable t → IfSome o (λ r. r.is_new ≡ true → filled (keys_of x) < places x) → IfSome o (λ r. r.is_new ≡ true → HasFreePlace t)
+hash_room t x None some table less = tt
+hash_room t x (Some r) some table less = λ new.
+    let fits = subst (FitsIndex t.shape) some table.index in
+    let many = (sizes t.shape x fits).places_are in let low = less new in
+    let same : filled (keys_at t.shape t.index) ≡ filled (keys_of x) = ap (λ i. filled (keys_at t.shape i)) some in
+    (is_hash t.shape x fits, omega (arith, low, many, same))
+  where
+    is_hash : (shape : Shape) (index : KeyIndex) → FitsIndex shape (Some index) → IsHash shape
+    is_hash (Array value entries) index fits = fits
+    is_hash (Hash key value entries) index fits = tt
+
+pub hash_absent : (t : Table) (x : KeyIndex) (key : List ℕ) (o : Option Inserted) → t.index ≡ Some x → IfNone o (IsAbsent x key) → IfNone o ((p : ℕ) → slice_get (keys_at t.shape t.index) p ≢ Some (Some key))
+hash_absent t x key None some absent = hash_missing t x key some absent
+hash_absent t x key (Some r) some absent = tt
+
+-- a table that has room for a key has a place for it
+pub has_place : (t : Table) (key : List ℕ) (o : Option Inserted) → HasRoomFor t key → IfNone o ((p : ℕ) → slice_get (keys_at t.shape t.index) p ≢ Some (Some key))
+    → IfNone o (IsHash t.shape → entry_count t.shape ≤ filled (keys_at t.shape t.index)) → IsSome o
+has_place t key (Some r) room absent full = refl
+has_place t key None room absent full = let r = room absent in let most = full r.0 in absurd (let less = r.1 in omega (arith, less, most))
 
 -- ---- a value put under a key
 
@@ -133,13 +163,15 @@ pub record IsClaimed (t u : Table) (key : List ℕ) (place : ℕ) : Type 0 where
   pub shape : u.shape ≡ t.shape
   pub block : u.block ≡ t.block
   pub table : IsTable u
-  pub stands : slice_get (stored u).keys place ≡ Some (Some key)
-  pub own : (other : List ℕ) → slice_get (stored t).keys place ≡ Some (Some other) → other ≡ key
-  pub others : (p : ℕ) → p ≢ place → slice_get (stored u).keys p ≡ slice_get (stored t).keys p
+  pub claimed : HasClaimed t u key place
+
+pub claimed_at : (t u : Table) (key : List ℕ) (o : Option Inserted) (r : Inserted) → o ≡ Some r → u.shape ≡ t.shape → u.block ≡ t.block → IsTable u → IfSome o (λ i. HasClaimed t u key i.place) → IsClaimed t u key r.place
+claimed_at t u key o r is shape block table all =
+    record { shape = shape; block = block; table = table; claimed = subst (λ x. IfSome x (λ i. HasClaimed t u key i.place)) is all }
 
 pub claimed_room : (t u : Table) (key : List ℕ) (place size : ℕ) → IsShapeOk t.shape → IsClaimed t u key place → size ≡ value_size u.shape → (place * size + size ≤ length u.block.items) × (length u.block.items ≤ 16777216)
 claimed_room t u key place size ok h width =
-    subst (λ n. (place * n + n ≤ length u.block.items) × (length u.block.items ≤ 16777216)) (sym width) (room_at u place key (subst IsShapeOk (sym h.shape) ok) h.table h.stands)
+    subst (λ n. (place * n + n ≤ length u.block.items) × (length u.block.items ≤ 16777216)) (sym width) (room_at u place key (subst IsShapeOk (sym h.shape) ok) h.table h.claimed.stands)
 
 pub put_entries : (t u : Table) (key value : List ℕ) (place size : ℕ) → IsShapeOk t.shape → IsClaimed t u key place → size ≡ value_size u.shape → length value ≡ value_size t.shape
     → entries_of (stored (with_bytes u (place * size) value)) ≡ finite_map.insert (entries_of (stored t)) key value
@@ -149,12 +181,12 @@ put_entries t u key value place size ok h width many =
     let s = value_size u.shape in
     let b = u.block.items in
     let okay : IsShapeOk u.shape = subst IsShapeOk (sym h.shape) ok in
-    let fits = (room_at u place key okay h.table h.stands).0 in
+    let fits = (room_at u place key okay h.table h.claimed.stands).0 in
     let long : length value ≡ s = many ∙ ap value_size (sym h.shape) in
     let w = value_in s (write_over b (place * s) value) in
     let put : placed ls w 0 ≡ finite_map.insert (placed ks (value_in s b) 0) key (w place) =
-    put_placed ks ls (value_in s b) w place key (distinct t.shape t.index ok.entries.1) (distinct u.shape u.index okay.entries.1) h.stands
-    (λ q ne e. ne (h.own q e)) h.others (λ i ne. kept_at b place s value fits long i ne) in
+    put_placed ks ls (value_in s b) w place key (distinct t.shape t.index ok.entries.1) (distinct u.shape u.index okay.entries.1) h.claimed.stands
+    (λ q ne e. ne (h.claimed.own q e)) h.claimed.others (λ i ne. kept_at b place s value fits long i ne) in
     ap (λ n. placed ls (value_in s (with_bytes u (place * n) value).block.items) 0) width
     ∙ (ap (λ bytes. placed ls (value_in s bytes) 0) (bytes_written u (place * s) value)
     ∙ (put
@@ -185,6 +217,9 @@ pub record IsTakenOut (x y : KeyIndex) (key : List ℕ) (place from : ℕ) : Typ
   pub low : (place < places x) × (from < places x)
   pub was : key_in x place ≡ Some key
   pub keys : keys_of y ≡ slice_set (slice_set (keys_of x) place (key_in x from)) from None
+
+pub taken_from : (t : Table) (x : KeyIndex) (key : List ℕ) (place : ℕ) → t.index ≡ Some x → place < places x → key_in x place ≡ Some key → slice_get (keys_at t.shape t.index) place ≡ Some (Some key)
+taken_from t x key place some low was = ap (λ i. slice_get (keys_at t.shape i) place) some ∙ (key_listed x place low ∙ ap Some was)
 
 -- the value of one place copied over that of another
 pub record IsMoved (size : ℕ) (b c : List ℕ) (from place : ℕ) : Type 0 where

@@ -34,9 +34,19 @@ pub record IsTable (t : Table) : Type 0 where
   pub index : FitsIndex t.shape t.index
   pub full : length t.block.items ≡ block_size t.shape
 
--- a key that isn't there has room: the table is a hash's, with fewer keys than entries
+-- the table is a hash's, with fewer keys than entries
+abbrev pub HasFreePlace : Table → Type 0
+HasFreePlace t = IsHash t.shape × (filled (stored t).keys < entry_count t.shape)
+
+-- a key that isn't there has room
 abbrev pub HasRoomFor : Table → List ℕ → Type 0
-HasRoomFor t key = ((p : ℕ) → slice_get (stored t).keys p ≢ Some (Some key)) → IsHash t.shape × (filled (stored t).keys < entry_count t.shape)
+HasRoomFor t key = ((p : ℕ) → slice_get (stored t).keys p ≢ Some (Some key)) → HasFreePlace t
+
+-- a key stands at a place that was its own or free, and the others where they did
+pub record HasClaimed (t u : Table) (key : List ℕ) (place : ℕ) : Type 0 where
+  pub stands : slice_get (stored u).keys place ≡ Some (Some key)
+  pub own : (other : List ℕ) → slice_get (stored t).keys place ≡ Some (Some other) → other ≡ key
+  pub others : (p : ℕ) → p ≢ place → slice_get (stored u).keys p ≡ slice_get (stored t).keys p
 
 -- allowed shapes, and what each shape asks
 pub record AreTables (tables : List Table) : Type 0 where

@@ -1,5 +1,5 @@
 -- A set of maps as callers see it: which key stands at which place of which map, and the values by place; and the finite maps that this makes.
-use Rattle.std.specs.Prelude.{ℕ, zero, suc, ◌*◌, List, [], ◌∷◌, ◌++◌, length, map, take, drop, replicate, Option, Some, None, slice_get, option_and_then, ◌≡◌, ◌<◌, IsSome, IsNone, IfSome}
+use Rattle.std.specs.Prelude.{ℕ, zero, suc, ◌*◌, List, [], ◌∷◌, ◌++◌, length, map, take, drop, replicate, Option, Some, None, slice_get, option_and_then, ◌≡◌, ◌<◌, ◌≤◌, IsSome, IsNone, IfSome}
 use Rattle.std.specs.List.{refill}
 use Rattle.std.specs.Option.{option_map}
 use Rattle.std.specs.FinMap as finite_map
@@ -107,6 +107,11 @@ PutsOneValue c m block =
     (key v : List ℕ) (e : Entry) → e.map ≡ m → key_of c e ≡ Some key
     → IfSome (slice_get (stored_shapes c) m) (λ s. length v ≡ value_size s → maps_of (write_block c m (write_over block (e.place * value_size s) v)) ≡ put_value (maps_of c) m key v)
 
+-- a value written at an entry of the second set makes its maps those of the first with the value under a key of map m
+abbrev pub PutsWritten : Contents → Contents → ℕ → List ℕ → Entry → Type 0
+PutsWritten c d m key e =
+    (w : List ℕ) → IfSome (slice_get (stored_shapes c) m) (λ s. length w ≡ value_size s → maps_of (write_value d e w) ≡ put_value (maps_of c) m key w)
+
 -- map m without a key
 abbrev pub take_key : Maps → ℕ → List ℕ → Maps
 take_key maps m key = change_at (λ (s : MapState). record { shape = s.shape; entries = finite_map.remove s.entries key }) maps m
@@ -114,6 +119,10 @@ take_key maps m key = change_at (λ (s : MapState). record { shape = s.shape; en
 -- a key of map m is there, or the map is a hash that isn't full
 abbrev pub HasRoom : Maps → ℕ → List ℕ → Type 0
 HasRoom maps m key = IsNone (value_at maps m key) → IfSome (slice_get maps m) (λ s. IsHash s.shape × (finite_map.len s.entries < entry_count s.shape))
+
+-- a hash has as many keys as it may have; an array always has all
+abbrev pub IsFull : MapState → Type 0
+IsFull s = IsHash s.shape → entry_count s.shape ≤ finite_map.len s.entries
 
 -- ---- maps as they are opened: arrays of zeros, and hashes without a key
 

@@ -21,3 +21,12 @@ impl Entry {
         place
     }
 }
+
+/// The entry of a key, which came there only now where it is new.
+#[derive(Clone, Copy, PartialEq, Eq, Debug)]
+pub struct Inserted {
+    /// Where the key stands.
+    pub entry: Entry,
+    /// Whether it stood nowhere before.
+    pub is_new: bool,
+}

@@ -6,7 +6,7 @@ mod map_set;
 mod shapes;
 mod table;
 
-pub use entry::Entry;
+pub use entry::{Entry, Inserted};
 pub use map_set::MapSet;
 pub use shapes::{
     INDEX_BYTES, MAX_ARG_LEN, MAX_ENTRIES, MAX_KEY_BYTES, MAX_MAPS, MAX_TOTAL_BYTES,

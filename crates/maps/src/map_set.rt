@@ -1,6 +1,6 @@
 // The maps of a program in memory.
 
-ghost use Rattle.std.specs.Prelude.{◌≡◌, ◌↔◌, ◌<◌, ◌≢◌, ℕ, List, length, slice_get, All, Some, Err, IfSome, IfNone, IsSome, IsNone, IfOk, IfErr};
+ghost use Rattle.std.specs.Prelude.{◌≡◌, ◌↔◌, ◌<◌, ◌≢◌, ℕ, List, length, slice_get, All, Some, Err, IfSome, IfNone, IsSome, IsNone, IfOk, IfErr, is_some, not, false};
 ghost use Rattle.std.specs.List.{AllByRecursion};
 ghost use Rattle.std.specs.FinMap as finite_map;
 ghost use Rattle.std.specs.Borrow.{sem};
@@ -8,9 +8,9 @@ ghost use Rattle.maps.specs.Shapes.{key_size, value_size, entry_count, block_siz
 ghost use Rattle.maps.specs.Blocks.{contents, IsTable};
 ghost use Rattle.maps.specs.declared.shapes.MapError.TheVariants.{NoMemory, Refused};
 ghost use Rattle.maps.specs.Maps.{HasShapes, value_at};
-ghost use Rattle.maps.specs.MapSets.{maps_of, stored_shapes, key_of, value_of, block_of, HoldsValues, write_value, write_block, PutsOneValue, opened, opening_maps, put_value, take_key, HasRoom};
+ghost use Rattle.maps.specs.MapSets.{maps_of, stored_shapes, key_of, value_of, block_of, HoldsValues, write_value, write_block, PutsOneValue, opened, opening_maps, PutsWritten, put_value, take_key, HasRoom, IsFull};
 
-use crate::entry::Entry;
+use crate::entry::{Entry, Inserted};
 use crate::shapes::{MapError, Shape, shapes_ok};
 use crate::table::{Table, copy_tables};
 use std::alloc::{AllocError, Global};
@@ -165,18 +165,50 @@ impl MapSet {
         table.put(key, value);
     }
 
-    /// Takes a key out of map `m`, a hash that has it.
-    pub fn remove(&mut self, m: usize, key: &[u8])
+    /// The entry of a key of map `m` from now on: its own, or, where a hash has fewer keys than entries, a free one. What
+    /// its value is before one is written is not told where the key is new.
+    pub fn insert(&mut self, m: usize, key: &[u8]) -> Option<Inserted>
         requires map { m < length (stored_shapes self.old) }
-        requires hash { IfSome (slice_get (stored_shapes self.old) m) IsHash }
         requires key { IfSome (slice_get (stored_shapes self.old) m) (λ s. length key.now ≡ key_size s) }
-        requires present { IsSome (value_at (maps_of self.old) m key.now) }
-        ensures removed { maps_of self.new ≡ take_key (maps_of self.old) m key.now }
+        ensures entry { IfSome result (λ r. (r.entry.map ≡ m) × (key_of self.new r.entry ≡ Some key.now)) }
+        ensures place { IfSome result (λ r. IfSome (slice_get (stored_shapes self.old) m) (λ s. r.entry.place < entry_count s)) }
+        ensures written { IfSome result (λ r. PutsWritten self.old self.new m key.now r.entry) }
+        ensures found { IfSome result (λ r. is_some (value_at (maps_of self.old) m key.now) ≡ not r.is_new) }
+        ensures kept { IfSome result (λ r. r.is_new ≡ false → self.new ≡ self.old) }
+        ensures room { IfSome result (λ _. HasRoom (maps_of self.old) m key.now) }
+
+        // No entry is told where the key isn't there and can't be put.
+        ensures absent { IfNone result (IsNone (value_at (maps_of self.old) m key.now)) }
+        ensures full { IfNone result (IfSome (slice_get (maps_of self.old) m) IsFull) }
+        ensures unchanged { IfNone result (self.new ≡ self.old) }
         ensures others { (n : ℕ) → n ≢ m → slice_get self.new n ≡ slice_get self.old n }
         ensures shapes { stored_shapes self.new ≡ stored_shapes self.old }
     {
         let table = &mut self.tables[m];
-        table.take_out(key);
+        let claimed = table.claim(key)?;
+        let entry = Entry {
+            map: m as u8,
+            place: claimed.place,
+        };
+        Some(Inserted {
+            entry,
+            is_new: claimed.is_new,
+        })
+    }
+
+    /// Takes a key out of map `m`, a hash. Whether it was there.
+    pub fn remove(&mut self, m: usize, key: &[u8]) -> bool
+        requires map { m < length (stored_shapes self.old) }
+        requires hash { IfSome (slice_get (stored_shapes self.old) m) IsHash }
+        requires key { IfSome (slice_get (stored_shapes self.old) m) (λ s. length key.now ≡ key_size s) }
+        ensures removed { maps_of self.new ≡ take_key (maps_of self.old) m key.now }
+        ensures was { result ≡ is_some (value_at (maps_of self.old) m key.now) }
+        ensures unchanged { result ≡ false → self.new ≡ self.old }
+        ensures others { (n : ℕ) → n ≢ m → slice_get self.new n ≡ slice_get self.old n }
+        ensures shapes { stored_shapes self.new ≡ stored_shapes self.old }
+    {
+        let table = &mut self.tables[m];
+        table.take_out(key)
     }
 
     /// Makes the maps those of `source`, which has the same shapes. Takes time in proportion to their room.

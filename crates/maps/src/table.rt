@@ -1,16 +1,17 @@
 // One map in memory.
 
-ghost use Rattle.std.specs.Prelude.{◌≡◌, ◌≢◌, ◌+◌, ◌≤◌, ℕ, List, take, drop, length, vec_len, slice_get, Some, None, IfSome, IfNone, IfOk};
+ghost use Rattle.std.specs.Prelude.{◌≡◌, ◌≢◌, ◌+◌, ◌≤◌, ℕ, List, take, drop, length, vec_len, slice_get, Some, None, IfSome, IfNone, IfOk, true, false};
 ghost use Rattle.std.specs.List.{AllByRecursion};
 ghost use Rattle.std.specs.FinMap as finite_map;
 ghost use Rattle.std.specs.Borrow.{sem};
-ghost use Rattle.maps.specs.Shapes.{key_size, value_size, IsShapeOk, IsHash};
+ghost use Rattle.maps.specs.Shapes.{key_size, value_size, entry_count, IsShapeOk, IsHash};
 ghost use Rattle.maps.specs.Maps.{index_key};
 ghost use Rattle.maps.specs.MapSets.{stored_shapes, entries_of, opening_keys, opened_map};
-ghost use Rattle.maps.specs.Blocks.{keys_at, stored, contents, FitsIndex, IsTable, HasRoomFor, AreTables};
+ghost use Rattle.maps.specs.Blocks.{keys_at, stored, contents, FitsIndex, IsTable, HasRoomFor, HasFreePlace, HasClaimed, AreTables};
+ghost use Rattle.keyindex.specs.Places.{filled};
 
 use crate::shapes::Shape;
-use keyindex::KeyIndex;
+use keyindex::{Inserted, KeyIndex};
 use std::alloc::{AllocError, Global};
 
 /// A shape, its block of values, one place after another, and of a hash the index that says which key stands at which
@@ -84,22 +85,36 @@ impl Table {
         block.slice_mut(start..start + size)
     }
 
-    /// The place of a key, from now on: its own, or a free one.
-    fn claim(&mut self, key: &[u8]) -> u32
+    /// The place of a key, from now on: its own, or a free one; none where there is none.
+    pub(crate) fn claim(&mut self, key: &[u8]) -> Option<Inserted>
         requires shape { IsShapeOk self.old.shape }
         requires table { IsTable self.old }
         requires key { length key.now ≡ key_size self.old.shape }
-        requires room { HasRoomFor self.old key.now }
         ensures shape { self.new.shape ≡ self.old.shape }
         ensures block { self.new.block ≡ self.old.block }
         ensures table { IsTable self.new }
-        ensures place { slice_get (stored self.new).keys result ≡ Some (Some key.now) }
-        ensures own { (other : List ℕ) → slice_get (stored self.old).keys result ≡ Some (Some other) → other ≡ key.now }
-        ensures others { (p : ℕ) → p ≢ result → slice_get (stored self.new).keys p ≡ slice_get (stored self.old).keys p }
+        ensures claimed { IfSome result (λ r. HasClaimed self.old self.new key.now r.place) }
+        ensures found { IfSome result (λ r. r.is_new ≡ false → slice_get (stored self.old).keys r.place ≡ Some (Some key.now)) }
+        ensures kept { IfSome result (λ r. r.is_new ≡ false → (stored self.new).keys ≡ (stored self.old).keys) }
+        ensures new { IfSome result (λ r. r.is_new ≡ true → (p : ℕ) → slice_get (stored self.old).keys p ≢ Some (Some key.now)) }
+        ensures room { IfSome result (λ r. r.is_new ≡ true → HasFreePlace self.old) }
+        ensures absent { IfNone result ((p : ℕ) → slice_get (stored self.old).keys p ≢ Some (Some key.now)) }
+        ensures full { IfNone result (IsHash self.old.shape → entry_count self.old.shape ≤ filled (stored self.old).keys) }
+        ensures unchanged { IfNone result ((stored self.new).keys ≡ (stored self.old).keys) }
     {
         match &mut self.index {
-            None => index_of(key),
-            Some(index) => index.insert(key).unwrap(),
+            None => {
+                let place = index_of(key);
+                if (place as usize) < self.shape.entry_count() {
+                    Some(Inserted {
+                        place,
+                        is_new: false,
+                    })
+                } else {
+                    None
+                }
+            }
+            Some(index) => index.insert(key),
         }
     }
 
@@ -114,14 +129,14 @@ impl Table {
         ensures table { IsTable self.new }
         ensures entries { entries_of (stored self.new) ≡ finite_map.insert (entries_of (stored self.old)) key.now value.now }
     {
-        let place = self.claim(key);
+        let place = self.claim(key).unwrap().place;
         let size = self.shape.value_bytes();
         let bytes = self.bytes_mut(place as usize * size, size);
         bytes.copy_from_slice(value);
     }
 
-    /// Takes a hash's key out, with its value.
-    pub(crate) fn take_out(&mut self, key: &[u8])
+    /// Takes a hash's key out, with its value. Whether it was there.
+    pub(crate) fn take_out(&mut self, key: &[u8]) -> bool
         requires shape { IsShapeOk self.old.shape }
         requires table { IsTable self.old }
         requires hash { IsHash self.old.shape }
@@ -129,16 +144,21 @@ impl Table {
         ensures shape { self.new.shape ≡ self.old.shape }
         ensures table { IsTable self.new }
         ensures entries { entries_of (stored self.new) ≡ finite_map.remove (entries_of (stored self.old)) key.now }
+        ensures was { result ≡ true → (p : ℕ) × (slice_get (stored self.old).keys p ≡ Some (Some key.now)) }
+        ensures absent { result ≡ false → (p : ℕ) → slice_get (stored self.old).keys p ≢ Some (Some key.now) }
+        ensures unchanged { result ≡ false → stored self.new ≡ stored self.old }
     {
         let Some(index) = &mut self.index else {
-            return;
+            return false;
         };
-        if let Some(removed) = index.remove(key) {
-            let size = self.shape.value_bytes();
-            let from = removed.from as usize * size;
-            let to = removed.place as usize * size;
-            self.block.copy_within(from..from + size, to);
-        }
+        let Some(removed) = index.remove(key) else {
+            return false;
+        };
+        let size = self.shape.value_bytes();
+        let from = removed.from as usize * size;
+        let to = removed.place as usize * size;
+        self.block.copy_within(from..from + size, to);
+        true
     }
 
     /// Copies the keys and the values of a table of the same shape.

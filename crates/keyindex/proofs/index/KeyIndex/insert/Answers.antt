@@ -1,4 +1,4 @@
-use Rattle.std.proofs.Common.{◌≡◌, ◌≢◌, ◌+◌, ◌-◌, ◌<◌, ℕ, List, Option, refl, sym, ap, ◌∙◌, subst, arith, length, get_or, set, Some, None}
+use Rattle.std.proofs.Common.{◌≡◌, ◌≢◌, ◌+◌, ◌-◌, ◌<◌, ℕ, List, Option, refl, sym, ap, ◌∙◌, subst, arith, length, get_or, set, Some, None, true, false}
 use Rattle.keyindex.specs.Indexes.{at, key_of, key_at, standing}
 use Rattle.std.proofs.lemmas.List.{get_or_read}
 use Rattle.keyindex.proofs.Found.{cell_within, key_within}
@@ -6,6 +6,9 @@ use Rattle.keyindex.proofs.Leaves.{used_within}
 use Rattle.keyindex.proofs.Listed.{listed_set, keys_counted}
 use Rattle.keyindex.proofs.Taken.{low_node, Takes, took, took_found, took_others, was_free, stands_no_more}
 use Rattle.keyindex.proofs.index.KeyIndex.insert.Goals as goal
+
+not_false : true ≡ false → ⊥
+not_false e = cc
 
 no_key : (o : Option (List ℕ)) (k : List ℕ) → o ≡ None → o ≢ Some k
 no_key o k e f = let no : None ≡ Some k = sym e ∙ f in cc
@@ -72,6 +75,12 @@ returns c =
           (ap (key_at s.size (set s.depths.items v (spot.depth + 1)) c.write_at.new.block.items) (let e : 0 + (v - 1) ≡ v - 1 = omega arith in e) ∙ took_found s.size s.buckets s.links.items s.depths.items s.keys.items c.write_at.new.block.items s.free.items s.free_count k spot.depth spot.cell v takes)
           (λ q ne. took_others s.size s.buckets s.links.items s.depths.items s.keys.items c.write_at.new.block.items s.free.items s.free_count k spot.depth spot.cell v takes q (λ e. ne (omega (arith, e))));
       own = λ other e. absurd (no_key _ other (was_free s.size s.buckets s.links.items s.depths.items s.keys.items c.write_at.new.block.items s.free.items s.free_count k spot.depth spot.cell v takes) e);
+      found = λ e. absurd (not_false e);
+      kept = λ e. absurd (not_false e);
+      new = λ _. stands_no_more s.size s.depths.items s.keys.items k (c.find-spot.ensures.absent none);
+      room = λ _.
+          let counted = keys_counted s.size s.depths.items s.keys.items (length s.free.items) s.room.free_len s.linked.null in
+          let all = s.store.all in omega (arith, counted, all, some);
       full = tt;
       absent = tt;
       unchanged = tt;
@@ -104,6 +113,10 @@ returns-then-spot-ne0 c =
       place = low;
       keys = listed_set f f 0 (length s.free.items) (n - 1) (Some k) low (ap f (let z : 0 + (n - 1) ≡ n - 1 = omega arith in z) ∙ is) (λ q ne. refl);
       own = λ other q. same_key _ other k q is;
+      found = λ _. is;
+      kept = λ _. refl;
+      new = λ e. absurd (not_false (sym e));
+      room = λ e. absurd (not_false (sym e));
       full = tt;
       absent = tt;
       unchanged = tt;

@@ -7,6 +7,7 @@ use Rattle.maps.specs.MapSets.{maps_of, entries_of, stored_shapes}
 use Rattle.maps.specs.Blocks.{stored}
 use Rattle.maps.proofs.Stored.{within, many_tables, is_at, for_shape}
 use Rattle.maps.proofs.Written.{kept_shapes, tables_kept, view_exchanged, maps_exchanged, others_kept}
+use Rattle.maps.proofs.Exchanged.{IsExchanged, was_there, exchanged_stored}
 use Rattle.maps.proofs.map_set.MapSet.remove.Goals as goal
 
 pub take_out-requires-clause-shape : goal.take_out-requires-clause-shape
@@ -75,3 +76,22 @@ returns-clause-others c = λ n ne.
 pub returns-clause-shapes : goal.returns-clause-shapes
 returns-clause-shapes c =
     kept_shapes c.self.inside.tables.items c.args.m c.index_mut-table.result.now c.take_out.new.self c.index_mut-table.ensures.value c.take_out.ensures.shape ∙ ap stored_shapes c.self.view_is
+
+pub returns-clause-was : goal.returns-clause-was
+returns-clause-was c =
+    let ts = c.self.inside.tables.items in let t = c.index_mut-table.result.now in
+    let before = c.args.self.now in let m = c.args.m in let key = c.args.key.now in
+    let e = c.index_mut-table.ensures.value in
+    let inside = within before m c.requires.map in
+    let at = is_at ts before m t c.self.view_is c.self.invariant inside e in
+    was_there before m t key c.take_out.result at c.take_out.ensures.was c.take_out.ensures.absent
+
+pub returns-clause-unchanged : goal.returns-clause-unchanged
+returns-clause-unchanged c =
+    let ts = c.self.inside.tables.items in let t = c.index_mut-table.result.now in let u = c.take_out.new.self in
+    let before = c.args.self.now in let m = c.args.m in
+    let e = c.index_mut-table.ensures.value in
+    let inside = within before m c.requires.map in
+    let at = is_at ts before m t c.self.view_is c.self.invariant inside e in
+    let x : IsExchanged ts before m t u = record { tables = c.self.invariant; view = c.self.view_is; inside = inside; at = e; there = at } in
+    λ gone. exchanged_stored ts before m t u x (c.take_out.ensures.unchanged gone)

@@ -1,5 +1,5 @@
 use Rattle.std.proofs.Common.{◌≡◌, ◌∙◌, ◌-◌, ◌*◌, ◌+◌, length, sym, arith, subst}
-use Rattle.maps.proofs.TableKeys.{IsTakenOut, IsMoved, moved_by, place_room, kept_entries, taken_entries}
+use Rattle.maps.proofs.TableKeys.{IsTakenOut, IsMoved, moved_by, place_room, kept_entries, taken_entries, taken_from, hash_missing}
 use Rattle.maps.proofs.table.Table.take_out.Goals as goal
 
 pub copy_within-requires-clause-dest_in_bounds : goal.copy_within-requires-clause-dest_in_bounds
@@ -11,8 +11,8 @@ copy_within-requires-clause-dest_in_bounds c =
     let len = t.block.ok.0 in
     omega (arith, fits.0, len)
 
-pub returns-in-Some-remove-clause-entries : goal.returns-in-Some-remove-clause-entries
-returns-in-Some-remove-clause-entries c =
+pub returns-clause-entries : goal.returns-clause-entries
+returns-clause-entries c =
     let t = c.args.self.now in let x = c.in-Some.index in let r = c.in-Some-remove.removed in
     let h = c.in-Some-remove.ensures in
     let y = c.remove.new.self in
@@ -24,7 +24,15 @@ returns-in-Some-remove-clause-entries c =
     let moved : IsMoved size b d r.from r.place = moved_by size (r.from * size + size - r.from * size) b d r.from r.place (omega arith) same c.copy_within.ensures.by_index in
     taken_entries t x y d c.args.key.now r.place r.from c.requires.shape c.requires.table c.in-Some.is out (subst (λ n. IsMoved n b d r.from r.place) c.value_bytes-size.ensures.value moved)
 
+pub returns-clause-was : goal.returns-clause-was
+returns-clause-was c = λ _.
+    let r = c.in-Some-remove.removed in let h = c.in-Some-remove.ensures in
+    (r.place, taken_from c.args.self.now c.in-Some.index c.args.key.now r.place c.in-Some.is h.place.0 h.was)
+
 pub returns-in_default-remove-clause-entries : goal.returns-in_default-remove-clause-entries
 returns-in_default-remove-clause-entries c =
     let h = c.in_default-remove.ensures in
     kept_entries c.args.self.now c.in-Some.index c.remove.new.self c.args.key.now c.requires.shape c.in-Some.is h.absent h.unchanged
+
+pub returns-in_default-remove-clause-absent : goal.returns-in_default-remove-clause-absent
+returns-in_default-remove-clause-absent c = λ _. hash_missing c.args.self.now c.in-Some.index c.args.key.now c.in-Some.is c.in_default-remove.ensures.absent
