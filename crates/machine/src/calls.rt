@@ -13,10 +13,10 @@ ghost use Rattle.machine.specs.Executing.{Stands, Executes};
 use crate::executing::call_lookup;
 use crate::memory::{Base, locate, part};
 use crate::registers::Machine;
+use crate::row::Row;
 use helpers::{Helper, delete, update};
 use insn::Edge;
 use maps::MapSet;
-use regkind::Kind;
 
 /// A call of a helper by its number. A program that calls another number isn't accepted.
 #[inline(always)]
@@ -24,11 +24,11 @@ pub(crate) fn call_helper(
     machine: &mut Machine,
     maps: &mut MapSet,
     argument: &[u8],
-    kinds: &[Kind; 11],
+    kinds: Row<'_>,
     id: i32,
 ) -> Option<Edge>
-    requires told { Stands (form.Call id) kinds.now machine.old maps.old argument.now }
-    ensures executes { Executes (form.Call id) kinds.now machine.old maps.old argument.now machine.new maps.new result }
+    requires told { Stands (form.Call id) kinds machine.old maps.old argument.now }
+    ensures executes { Executes (form.Call id) kinds.entry machine.old maps.old argument.now machine.new maps.new result }
 {
     match Helper::numbered(id) {
         Some(Helper::Lookup) => call_lookup(machine, maps, argument, kinds),
@@ -58,27 +58,16 @@ fn call_update(
     machine: &mut Machine,
     maps: &mut MapSet,
     argument: &[u8],
-    kinds: &[Kind; 11],
+    kinds: Row<'_>,
 ) -> Option<Edge>
-    requires told { Stands (form.Call (pos (helper_number Update))) kinds.now machine.old maps.old argument.now }
-    ensures executes { Executes (form.Call (pos (helper_number Update))) kinds.now machine.old maps.old argument.now machine.new maps.new result }
+    requires told { Stands (form.Call (pos (helper_number Update))) kinds machine.old maps.old argument.now }
+    ensures executes { Executes (form.Call (pos (helper_number Update))) kinds.entry machine.old maps.old argument.now machine.new maps.new result }
 {
-    let Kind::Map(m) = kinds[1] else {
-        unreachable!()
-    };
-    let m = usize::from(m);
+    let m = kinds.map_named();
     let shape = maps.shape(m);
     let (key_bytes, value_bytes) = (shape.key_bytes(), shape.value_bytes());
-    let key = Base {
-        kind: kinds[2],
-        word: machine.words[2],
-        off: 0,
-    };
-    let value = Base {
-        kind: kinds[3],
-        word: machine.words[3],
-        off: 0,
-    };
+    let key = Base::at(&kinds, &machine.words, 2, 0);
+    let value = Base::at(&kinds, &machine.words, 3, 0);
     let key = fetch(&machine.stack, maps, argument, key, key_bytes);
     let value = fetch(&machine.stack, maps, argument, value, value_bytes);
     let flags = machine.words[4];
@@ -92,21 +81,14 @@ fn call_delete(
     machine: &mut Machine,
     maps: &mut MapSet,
     argument: &[u8],
-    kinds: &[Kind; 11],
+    kinds: Row<'_>,
 ) -> Option<Edge>
-    requires told { Stands (form.Call (pos (helper_number Delete))) kinds.now machine.old maps.old argument.now }
-    ensures executes { Executes (form.Call (pos (helper_number Delete))) kinds.now machine.old maps.old argument.now machine.new maps.new result }
+    requires told { Stands (form.Call (pos (helper_number Delete))) kinds machine.old maps.old argument.now }
+    ensures executes { Executes (form.Call (pos (helper_number Delete))) kinds.entry machine.old maps.old argument.now machine.new maps.new result }
 {
-    let Kind::Map(m) = kinds[1] else {
-        unreachable!()
-    };
-    let m = usize::from(m);
+    let m = kinds.map_named();
     let key_bytes = maps.shape(m).key_bytes();
-    let key = Base {
-        kind: kinds[2],
-        word: machine.words[2],
-        off: 0,
-    };
+    let key = Base::at(&kinds, &machine.words, 2, 0);
     let key = fetch(&machine.stack, maps, argument, key, key_bytes);
     machine.words[0] = delete(maps, m, &key[..key_bytes]);
     Some(Edge::Fall)

@@ -1,31 +1,40 @@
-use Rattle.std.proofs.Common.{rules, ◌≡◌, ◌≤◌, length, take, sym, subst, ◌∙◌, arith}
-use Rattle.std.specs.Prelude.{IfSome}
+use Rattle.std.proofs.Common.{rules, ◌≡◌, ℕ, ◌≤◌, List, length, take, ap, sym, subst, ◌∙◌, arith}
+use Rattle.std.specs.Prelude.{slice_index_or, IfSome}
 use Rattle.std.proofs.lemmas.List.{length-take-le}
 use Rattle.std.proofs.lemmas.Option.{slice_get_within}
 use Rattle.maps.specs.Shapes.{AreShapesOk, key_size}
+use Rattle.regkind.specs.declared.frames.Kind.TheVariants.{Unreadable}
+use Rattle.machine.specs.Accesses.{IsRead}
 use Rattle.machine.proofs.Looking.{same_map}
-use Rattle.machine.proofs.Altering.{shape_ok, delete_key_told, deleted_leads}
+use Rattle.machine.proofs.Altering.{shape_ok, deletes, delete_key_told, deleted_leads}
 use Rattle.machine.proofs.calls.call_delete.Goals as goal
+
+pub map_named-m-requires : goal.map_named-m-requires
+map_named-m-requires c =
+    let s = c.requires.told in
+    let x = deletes c.args.kinds c.args.machine.now c.args.maps.now c.args.argument.now s in
+    record { named = (x.map, ap (λ ks. slice_index_or ks 1 Unreadable) s.same_kinds ∙ x.names) }
 
 pub fetch-key-requires-clause-told : goal.fetch-key-requires-clause-told
 fetch-key-requires-clause-told c =
     let s = c.requires.told in
-    delete_key_told c.args.kinds.now c.args.machine.now c.args.maps.now c.args.argument.now s c.from-m.result c.key_bytes-key_bytes.result c.shape.result
-    (same_map s.frame c.args.kinds.now c.in-Map.m c.from-m.result s.same_kinds c.in-Map.is c.from-m.ensures) c.shape.ensures.shape c.key_bytes-key_bytes.ensures.key
+    subst (λ b. (bs : List ℕ) × IsRead c.args.machine.now.stack c.args.maps.now c.args.argument.now b c.key_bytes-key_bytes.result bs) (sym c.at-key.ensures.base)
+    (delete_key_told c.args.kinds c.args.machine.now c.args.maps.now c.args.argument.now s c.map_named-m.result c.key_bytes-key_bytes.result c.shape.result
+    (same_map s.frame c.args.kinds c.map_named-m.result s.same_kinds c.map_named-m.ensures.map) c.shape.ensures.shape c.key_bytes-key_bytes.ensures.key)
 
 pub slice_bounds-key-end : goal.slice_bounds-key-end
 slice_bounds-key-end c =
     let s = c.requires.told in
-    let ok = shape_ok c.args.maps.now s.signature c.from-m.result c.shape.result s.limits s.shapes c.shape.ensures.shape in
+    let ok = shape_ok c.args.maps.now s.signature c.map_named-m.result c.shape.result s.limits s.shapes c.shape.ensures.shape in
     let few : c.key_bytes-key_bytes.result ≤ 64 = omega (arith, ok.key.1, c.key_bytes-key_bytes.ensures.key) in
     search rules
 
 pub returns : goal.returns
 returns c = record {
   executes = λ s.
-      deleted_leads c.args.kinds.now c.args.machine.now c.args.maps.now c.args.argument.now s c.from-m.result c.key_bytes-key_bytes.result c.shape.result
-      (same_map s.frame c.args.kinds.now c.in-Map.m c.from-m.result s.same_kinds c.in-Map.is c.from-m.ensures) c.shape.ensures.shape c.key_bytes-key_bytes.ensures.key
-      c.fetch-key.result c.delete.new.maps c.delete.result c.fetch-key.ensures.copied c.delete.ensures.answers
+      deleted_leads c.args.kinds c.args.machine.now c.args.maps.now c.args.argument.now s c.map_named-m.result c.key_bytes-key_bytes.result c.shape.result
+      (same_map s.frame c.args.kinds c.map_named-m.result s.same_kinds c.map_named-m.ensures.map) c.shape.ensures.shape c.key_bytes-key_bytes.ensures.key
+      c.fetch-key.result c.delete.new.maps c.delete.result (λ bs told. c.fetch-key.ensures.copied bs (subst (λ b. IsRead c.args.machine.now.stack c.args.maps.now c.args.argument.now b c.key_bytes-key_bytes.result bs) (sym c.at-key.ensures.base) told)) c.delete.ensures.answers
       (record { maps = c.delete.ensures.others; shapes = c.delete.ensures.shapes });
 }
 
@@ -35,30 +44,30 @@ fetch-key-requires-clause-limits c = subst AreShapesOk c.requires.told.shapes c.
 pub fetch-key-requires-clause-some : goal.fetch-key-requires-clause-some
 fetch-key-requires-clause-some c =
     let s = c.requires.told in
-    let ok = shape_ok c.args.maps.now s.signature c.from-m.result c.shape.result s.limits s.shapes c.shape.ensures.shape in
+    let ok = shape_ok c.args.maps.now s.signature c.map_named-m.result c.shape.result s.limits s.shapes c.shape.ensures.shape in
     omega (arith, ok.key.0, c.key_bytes-key_bytes.ensures.key)
 
 pub fetch-key-requires-clause-few : goal.fetch-key-requires-clause-few
 fetch-key-requires-clause-few c =
     let s = c.requires.told in
-    let ok = shape_ok c.args.maps.now s.signature c.from-m.result c.shape.result s.limits s.shapes c.shape.ensures.shape in
+    let ok = shape_ok c.args.maps.now s.signature c.map_named-m.result c.shape.result s.limits s.shapes c.shape.ensures.shape in
     omega (arith, ok.key.1, c.key_bytes-key_bytes.ensures.key)
 
 pub slice_bounds-delete-end : goal.slice_bounds-delete-end
 slice_bounds-delete-end c =
     let s = c.requires.told in
-    let ok = shape_ok c.args.maps.now s.signature c.from-m.result c.shape.result s.limits s.shapes c.shape.ensures.shape in
+    let ok = shape_ok c.args.maps.now s.signature c.map_named-m.result c.shape.result s.limits s.shapes c.shape.ensures.shape in
     let few : c.key_bytes-key_bytes.result ≤ 64 = omega (arith, ok.key.1, c.key_bytes-key_bytes.ensures.key) in
     let inside : c.key_bytes-key_bytes.result ≤ length c.fetch-key.result = search rules in
     sym (length-take-le c.key_bytes-key_bytes.result c.fetch-key.result inside)
 
 pub delete-requires-clause-map : goal.delete-requires-clause-map
-delete-requires-clause-map c = slice_get_within _ c.from-m.result c.shape.result c.shape.ensures.shape
+delete-requires-clause-map c = slice_get_within _ c.map_named-m.result c.shape.result c.shape.ensures.shape
 
 pub delete-requires-clause-key : goal.delete-requires-clause-key
 delete-requires-clause-key c =
     let s = c.requires.told in
-    let ok = shape_ok c.args.maps.now s.signature c.from-m.result c.shape.result s.limits s.shapes c.shape.ensures.shape in
+    let ok = shape_ok c.args.maps.now s.signature c.map_named-m.result c.shape.result s.limits s.shapes c.shape.ensures.shape in
     let few : c.key_bytes-key_bytes.result ≤ 64 = omega (arith, ok.key.1, c.key_bytes-key_bytes.ensures.key) in
     let inside : c.key_bytes-key_bytes.result ≤ length c.fetch-key.result = search rules in
     subst (λ o. IfSome o (λ shape. length (take c.key_bytes-key_bytes.result c.fetch-key.result) ≡ key_size shape)) (sym c.shape.ensures.shape)
