@@ -7,7 +7,7 @@ use Rattle.combiner.specs.Desks.{first_author, claimed_from}
 use Rattle.replica.specs.StoreMeaning.{store_meaning}
 use Rattle.node.specs.Steps.{NodeStep, Seen, may, next}
 
--- the log as it is seen together with the completed word, which the log itself may not have been told
+-- the log as it is seen together with the completed tail of the word, which the log itself may not have been told
 abbrev pub with_word : ℕ → Log → Log
 with_word done g = record g { done = done }
 
