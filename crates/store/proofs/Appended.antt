@@ -166,6 +166,9 @@ module _ (k t m : K) (n0 : NodeReplica) (g : Box LogView) (h : LogView) (h2 : Bo
     long_history : length f.progress.history ≡ length m.progress.history + count
     long_history = ap length history ∙ (length-append m.progress.history (take count rs) ∙ ap (λ z. length m.progress.history + z) (length-take-le count rs count_low))
 
+    put_log : IsLogOf f.progress h2.value × Extends m.progress f.progress
+    put_log = (log_f, put.extends)
+
     note : f.note ≡ record k.note { batch = placed_from kept.first count (unplaced rs) }
     note = ap (λ q. q m.note) picks.1 ∙ (λ i. record (note_is i) { batch = placed_from (sym first_is i) (long_more i) (batch i) })
 
@@ -200,3 +203,11 @@ module _ (k t m : K) (n0 : NodeReplica) (g h : LogView) (n n2 : NodeReplica) (rs
       subst (λ z. HasAppended k (put_back sessions (with_log (Log g1) h2) m z l) rs kept n2) (sym at) (has_appended k t m n0 g1 h (record g1 { value = h2 }) n n2 rs kept b (subst (λ z. HasPlace t m (length rs) z h n) (sym (same_Some g1.value g e)) p) a noted sessions is l ns may)
   back_appended (Replica x) e b p h2 a q at l ns may = absurd (none-some g e)
   back_appended (Desk x) e b p h2 a q at l ns may = absurd (none-some g e)
+
+  -- the log that was put back is that of what the session knows then
+  pub back_log : (x : Value) → log_of x ≡ Some g → TookLog k t n0 x → HasPlace t m (length rs) g h n → (h2 : LogView) → (h2 ≡ grown rs h) × (n2 ≡ copied h2 n) × (kept ≡ replies_for rs h) × (tail_of h2 ≤ MAX_LIMIT) → (q : ℕ) → q ≡ leader
+      → (l : L) (ns : List SessionNote) → Possible store_rules m l ns → (let f = put_back sessions (with_log x h2) m q l in IsLogOf f.progress h2 × Extends m.progress f.progress)
+  back_log (Log g1) e b p h2 a q at l ns may =
+      put_log k t m n0 g1 h (record g1 { value = h2 }) n n2 rs kept b (subst (λ z. HasPlace t m (length rs) z h n) (sym (same_Some g1.value g e)) p) a noted sessions is l ns may
+  back_log (Replica x) e b p h2 a q at l ns may = absurd (none-some g e)
+  back_log (Desk x) e b p h2 a q at l ns may = absurd (none-some g e)

@@ -28,6 +28,7 @@ follows_on l m n grown f =
       maps = f.maps ∙ maps_on store_meaning l m n.replica.tail grown f.within;
       shapes = f.shapes ∙ ap (λ (c : CatalogueView). c.shapes) grown.catalogue;
       window = f.window ∙ ap (λ c. c.window) grown.config;
+      begins = f.begins;
       empty = f.empty;
     }
 
@@ -39,6 +40,7 @@ module _ (l : L) (g : LogView) (n : NodeReplica) (is : IsLogOf l g) (f : Follows
     maps = is.agrees.base_maps;
     shapes = is.sizes.2;
     window = f.window;
+    begins = refl;
     empty = refl;
   }
 
@@ -82,4 +84,4 @@ pub record HasAll (l : L) (n : NodeReplica) : Type 0 where
   pub hand : n.hand ≡ (let rest : HandView = record { begin = n.replica.tail; records = []; window = l.config.window } in rest)
 
 pub all_follows : (l : L) (n : NodeReplica) → HasAll l n → Follows l n
-all_follows l n a = let t = a.tail in record { within = omega (arith, t); maps = a.maps; shapes = a.shapes; window = ap (λ (h : HandView). h.window) a.hand; empty = ap (λ (h : HandView). h.records) a.hand }
+all_follows l n a = let t = a.tail in record { within = omega (arith, t); maps = a.maps; shapes = a.shapes; window = ap (λ (h : HandView). h.window) a.hand; begins = ap (λ (h : HandView). h.begin) a.hand; empty = ap (λ (h : HandView). h.records) a.hand }

@@ -16,6 +16,8 @@ pub mod Left
 pub mod Fresh
 pub mod Joined
 pub mod Combined
+pub mod Whole
+pub mod Stretches
 pub mod Requested
 pub mod Resumed
 pub mod Turning

@@ -4,7 +4,7 @@ use Rattle.std.proofs.Math.Nat.{le-max_right}
 use Rattle.maps.specs.Maps.{shapes_of}
 use Rattle.ownlock.specs.Rules.{leader}
 use Rattle.ownlock.specs.Seats.{At, with_progress}
-use Rattle.ownlock.specs.Knowledge.{Possible}
+use Rattle.ownlock.specs.Knowledge.{Later, Possible}
 use Rattle.loader.specs.CatalogueView.{CatalogueView}
 use Rattle.oplog.specs.Logs.{Log as LogView, HandView}
 use Rattle.oplog.specs.History.{after, maps_after}
@@ -107,13 +107,16 @@ followed_all l g n m is f low e same =
 -- ---- what is told of the replay and the raise
 
 -- once the completed tail is raised to m
-pub has_raised : (k : K) (before : L) (n m : ℕ) → m ≡ n → ((notes : List SessionNote) × Possible store_rules k (raised before m) notes) → HasRaised k (with_progress k (raised before m)) n
-has_raised k before n m is (notes, may) = record {
+pub has_raised : (k : K) (before : L) (n m : ℕ) → m ≡ n → Later store_rules k before → ((notes : List SessionNote) × Possible store_rules k (raised before m) notes) → HasRaised k (with_progress k (raised before m)) n
+has_raised k before n m is first (notes, may) = record {
   goes = record { session = refl; held = refl; tails_read = refl; extends = may.0.0 };
   note = refl;
   stands = record { notes = notes; accounts = may.2; here = may.1 };
   completed = omega (arith, is, le-max_right before.completed m);
   still = λ h. may.0.1 h.1 (leader, h.0) h.2 refl;
+  before = before;
+  was = first.0;
+  is = ap (raised before) is;
 }
 
 pub raised_as : (k after : K) (n m : ℕ) → HasRaised k after n → n ≡ m → HasRaised k after m

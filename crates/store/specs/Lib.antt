@@ -11,3 +11,5 @@ pub mod Lending
 pub mod Places
 pub mod Combining
 pub mod Requests
+-- Whole calls as lists of steps.
+pub mod Whole

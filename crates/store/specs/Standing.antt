@@ -18,7 +18,7 @@ use Rattle.accounts.specs.declared.sessions.Progress.{Progress}
 use Rattle.accounts.specs.declared.sessions.SessionNote.{SessionNote}
 use Rattle.accounts.specs.Accounts.{Accounts, Extends, IsWellFormed}
 use Rattle.accounts.specs.Agreement.{LogAgrees, ReplicaAgrees, replica_place}
-use Rattle.accounts.specs.Moves.{placed_from, unplaced}
+use Rattle.accounts.specs.Moves.{placed_from, raised, unplaced}
 use Rattle.store.specs.declared.steps.Caller.{Caller}
 use Rattle.node.specs.declared.following.NodeReplica.{NodeReplica}
 use Rattle.store.specs.declared.values.Value.{Value}
@@ -47,6 +47,7 @@ pub record Follows (l : Progress CatalogueView) (n : NodeReplica) : Type 0 where
   pub maps : n.replica.maps ≡ maps_after store_meaning l.catalogue l.history n.replica.tail
   pub shapes : shapes_of n.replica.maps ≡ l.catalogue.shapes
   pub window : n.hand.window ≡ l.config.window
+  pub begins : n.hand.begin ≡ n.replica.tail
   pub empty : n.hand.records ≡ []
 
 -- the replica has the maps after a beginning of the history, and its hand has all other records
@@ -111,6 +112,10 @@ pub record HasRaised (k after : SessionKnown) (n : ℕ) : Type 0 where
   pub stands : Stands after
   pub completed : n ≤ after.progress.completed
   pub still : HoldsLog k → k.progress.history ≡ after.progress.history
+  -- what stood just before the raise
+  pub before : Progress CatalogueView
+  pub was : Extends k.progress before
+  pub is : after.progress ≡ raised before n
 
 -- the second log has the sizes of the first
 abbrev pub KeepsLogSizes : LogView → LogView → Type 0

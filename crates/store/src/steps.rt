@@ -5,7 +5,8 @@ ghost use Rattle.maps.specs.Maps.{shapes_of};
 ghost use Rattle.verifier.specs.declared.refusal.Mode.TheVariants.{Read};
 ghost use Rattle.ownlock.specs.Seats.{IsSession};
 ghost use Rattle.oplog.specs.Limits.{IsWindow};
-ghost use Rattle.oplog.specs.Logs.{left_of, room_in};
+ghost use Rattle.oplog.specs.Logs.{Log as LogView, left_of, room_in};
+ghost use Rattle.combiner.specs.Desks.{BatchView};
 ghost use Rattle.node.specs.Following.{may_rebase, rebased};
 ghost use Rattle.replica.specs.StoreMeaning.{store_meaning};
 ghost use Rattle.accounts.specs.Accounts.{IsWellFormed};
@@ -13,6 +14,7 @@ ghost use Rattle.accounts.specs.Moves.{unplaced};
 ghost use Rattle.replica.specs.Refusals.{early_refusal};
 ghost use Rattle.store.specs.Sessions.{IsReadBy, RepliesThere};
 ghost use Rattle.store.specs.Standing.{SessionKnown, Stands, IsLogOf, Follows, Agrees, HoldsLog, HoldsReplica, IsFree, IsOnShelf, HasOthers, HasRaised, HasPlace, HasAppended, HasReplayed, HasReached};
+ghost use Rattle.store.specs.Whole.{MakesRoom, AppendsBy, ReplaysBy, FollowsBy, ReadsBy};
 
 use crate::values::Value;
 use loader::Catalogue;
@@ -91,6 +93,7 @@ fn make_room(
     ensures same { seat.new.shelf ≡ seat.old.shelf }
     ensures room { (k : SessionKnown) → IsSession seat.old k → (after : SessionKnown) × IsSession seat.new after
         × HasPlace k after want log.old log.new node.new }
+    ensures goes { (k after : SessionKnown) → IsSession seat.old k → IsSession seat.new after → MakesRoom k after log.old log.new node.old node.new }
 {
     let Shared {
         shelf,
@@ -122,6 +125,8 @@ pub(crate) fn append_and_copy<R: Wait>(
     ensures same { seat.new.shelf ≡ seat.old.shelf }
     ensures appended { (k : SessionKnown) → IsSession seat.old k → (after : SessionKnown) × IsSession seat.new after
         × HasAppended k after records.now result node.new }
+    ensures goes { (k after : SessionKnown) (batch : BatchView) → IsSession seat.old k → IsSession seat.new after → batch.records ≡ records.now
+        → AppendsBy k after batch node.old node.new result }
 {
     let mut held = shared.shelf.take(rt, seat, LEADER);
     let log = held.value.log_mut();
@@ -144,6 +149,8 @@ pub(crate) fn replay_and_raise(
     ensures same { seat.new.shelf ≡ seat.old.shelf }
     ensures replayed { (k : SessionKnown) → IsSession seat.old k → (after : SessionKnown) × IsSession seat.new after
         × HasReplayed k after node.old node.new replies.old replies.new }
+    ensures goes { (k after : SessionKnown) (log : LogView) → IsSession seat.old k → IsSession seat.new after → IsLogOf k.progress log
+        → ReplaysBy k after log node.old node.new replies.old replies.new }
 {
     replay(node, catalogue, replies);
     let replayed = node.replica.tail();
@@ -165,6 +172,7 @@ fn follow_and_raise<R: Wait>(
     ensures same { seat.new.shelf ≡ seat.old.shelf }
     ensures reached { (k : SessionKnown) → IsSession seat.old k → (after : SessionKnown) × IsSession seat.new after
         × HasReached k after k.progress.completed node.new }
+    ensures goes { (k after : SessionKnown) → IsSession seat.old k → IsSession seat.new after → FollowsBy k after node.old node.new }
 {
     let held = shelf.take(rt, seat, LEADER);
     let log = held.value.log();
@@ -189,6 +197,7 @@ fn reach<R: Wait>(
         × (k.progress.catalogue ≡ shared.catalogue.now) × (done ≤ k.progress.completed) }
     ensures same { seat.new.shelf ≡ seat.old.shelf }
     ensures reached { (k : SessionKnown) → IsSession seat.old k → (after : SessionKnown) × IsSession seat.new after × HasReached k after done node.new }
+    ensures goes { (k after : SessionKnown) → IsSession seat.old k → IsSession seat.new after → FollowsBy k after node.old node.new }
 {
     if ready(&node.replica, done) {
         return;
@@ -225,6 +234,8 @@ pub(crate) fn query<R: Wait>(
     ensures same { seat.new.shelf ≡ seat.old.shelf }
     ensures read { (k : SessionKnown) → IsSession seat.old k → (after : SessionKnown) × IsSession seat.new after
         × IsReadBy k after (record { program = question.entry.program; argument = question.entry.argument.now }) result }
+    ensures goes { (k after : SessionKnown) → IsSession seat.old k → IsSession seat.new after
+        → ReadsBy k after (record { program = question.entry.program; argument = question.entry.argument.now }) result }
 {
     let Shared {
         shelf,

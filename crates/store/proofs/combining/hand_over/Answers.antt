@@ -3,6 +3,8 @@ use Rattle.ownlock.proofs.Seats.{one_known}
 use Rattle.store.specs.AtDesk.{IsReady}
 use Rattle.store.specs.Lending.{with_desk}
 use Rattle.store.specs.Standing.{IsFree, IsOnShelf, Stands}
+use Rattle.store.specs.Whole.{HandsOver}
+use Rattle.store.proofs.Stretches.{hands_over}
 use Rattle.store.proofs.Combined.{handed, puts_replied, ready_on}
 use Rattle.store.proofs.Parts.{desk_put}
 use Rattle.store.proofs.TakenDesk.{is_at, is_desk, may_take_its_desk, same_desk, took_desk}
@@ -62,3 +64,23 @@ returns-clause-combined g c k is =
     let puts = puts_replied c.args.caller k t.0 place v c.args.batch.now c.args.replies.now b ready c.reply.new.batch x y same c.reply.ensures.answered c.reply.ensures.replied (with_desk v y) (desk_put v x y c.desk_mut.ensures.desk) c.take-held.new.seat.sessions t.2 c.take-held.result.place c.take-held.ensures.same.1 in
     let p = c.put.ensures.put t.0 t.2 in
     (_, p.2, handed k t.0 _ b.note (puts.back p.0 p.1.0 p.1.1))
+
+pub returns-clause-handed : goal.returns-clause-handed
+returns-clause-handed g c k after log node is now log_is agrees =
+    let i = c.requires.ready in
+    let e = one_known c.args.seat.now i.0 k i.1 is in
+    let free = subst (λ z. IsFree c.args.caller z) e i.2 in
+    let on = subst (λ z. IsOnShelf c.args.shared.shelf.now.places c.args.shared.nodes c.args.shared.catalogue.now z) e i.4 in
+    let v = c.take-held.result.value in
+    let x = c.desk_mut.result.now in
+    let y = c.reply.new.desk in
+    let place = 1 + c.args.shared.nodes + c.args.caller.node in
+    let t = c.take-held.ensures.taken k is in
+    let b = took_desk k t.0 c.args.caller place v free (ap (λ n. 1 + n + c.args.caller.node) (sym on.nodes_are)) t.1 in
+    let ready = ready_on k t.0 c.args.batch.now c.args.replies.now b.here.notes b.note b.extends (subst (λ z. Stands z) e i.5) b.here.accounts (subst (λ z. IsReady z c.args.batch.now c.args.replies.now) e i.3) in
+    let same = same_desk c.args.caller k t.0 place v b x c.desk_mut.ensures.desk in
+    let puts = puts_replied c.args.caller k t.0 place v c.args.batch.now c.args.replies.now b ready c.reply.new.batch x y same c.reply.ensures.answered c.reply.ensures.replied (with_desk v y) (desk_put v x y c.desk_mut.ensures.desk) c.take-held.new.seat.sessions t.2 c.take-held.result.place c.take-held.ensures.same.1 in
+    let p = c.put.ensures.put t.0 t.2 in
+    let f = handed k t.0 _ b.note (puts.back p.0 p.1.0 p.1.1) in
+    subst (λ z. HandsOver k z log node c.args.batch.now c.args.replies.now) (one_known c.put.new.seat _ after p.2 now)
+    (hands_over k _ log node c.args.batch.now c.args.replies.now x log_is agrees f.extends f.stands.accounts.completed)

@@ -2,9 +2,11 @@ use Rattle.std.proofs.Common.{◌≡◌, sym, subst, ◌∙◌}
 use Rattle.ownlock.proofs.Seats.{one_known}
 use Rattle.accounts.specs.Moves.{unplaced}
 use Rattle.store.specs.Standing.{Agrees, Stands}
+use Rattle.store.specs.Whole.{AppendsBy}
 use Rattle.store.proofs.Taken.{may_take_log, took_log, holds_log, follows_agreed, well_formed}
 use Rattle.store.proofs.Followed.{fits}
-use Rattle.store.proofs.Appended.{may, put_appended, back_appended}
+use Rattle.store.proofs.Appended.{may, put_appended, back_appended, back_log}
+use Rattle.store.proofs.Stretches.{appends_by}
 use Rattle.store.proofs.steps.append_and_copy.Goals as goal
 
 pub take-held-requires-clause-may : goal.take-held-requires-clause-may
@@ -78,3 +80,27 @@ returns-clause-appended g c k is =
       back_appended k t.0 m.0 n c.log_mut-log.result.now c.make_room.new.log c.make_room.new.node c.append-replies.new.node c.args.records.now c.append-replies.result noted c.make_room.new.seat.sessions m.1 x c.log_mut-log.ensures.log b m.2 c.append-replies.new.log
           (a.log, a.node, a.replies, a.within) _ c.take-held.ensures.same.1 p.0 p.1.0 p.1.1,
     )
+
+pub returns-clause-goes : goal.returns-clause-goes
+returns-clause-goes g c k after batch is now same =
+    let i = c.requires.holds in
+    let n = c.args.node.now in
+    let x = c.take-held.result.value in
+    let h = c.log_mut-log.result.now in
+    let e = one_known c.args.seat.now i.0 k i.2 is in
+    let agrees = subst (λ z. Agrees z.progress n) e i.4 in
+    let stands = subst (λ z. Stands z) e i.5 in
+    let noted = subst (λ z. z.note.batch ≡ unplaced c.args.records.now) e i.6 in
+    let t = c.take-held.ensures.taken k is in
+    let b = took_log k t.0 n x (follows_agreed k.progress n (well_formed k.progress stands.notes stands.accounts) agrees) t.1 in
+    let m = c.make_room.ensures.room t.0 t.2 in
+    let p = c.put.ensures.put m.0 m.1 in
+    let a = c.append-replies.ensures in
+    let f = back_appended k t.0 m.0 n h c.make_room.new.log c.make_room.new.node c.append-replies.new.node c.args.records.now c.append-replies.result noted c.make_room.new.seat.sessions m.1 x c.log_mut-log.ensures.log b m.2 c.append-replies.new.log
+    (a.log, a.node, a.replies, a.within) _ c.take-held.ensures.same.1 p.0 p.1.0 p.1.1 in
+    let back = back_log k t.0 m.0 n h c.make_room.new.log c.make_room.new.node c.append-replies.new.node c.args.records.now c.append-replies.result noted c.make_room.new.seat.sessions m.1 x c.log_mut-log.ensures.log b m.2 c.append-replies.new.log
+    (a.log, a.node, a.replies, a.within) _ c.take-held.ensures.same.1 p.0 p.1.0 p.1.1 in
+    let room = c.make_room.ensures.goes t.0 m.0 t.2 m.1 in
+    subst (λ z. AppendsBy k z batch n c.append-replies.new.node c.append-replies.result) (one_known c.put.new.seat _ after p.2 now)
+    (appends_by k t.0 m.0 _ h c.make_room.new.log c.append-replies.new.log n c.make_room.new.node c.append-replies.new.node c.args.records.now c.append-replies.result b.extends (b.log h c.log_mut-log.ensures.log) room
+    (may t.0 m.0 h c.make_room.new.log c.make_room.new.node c.args.records.now m.2) a.log a.node a.replies back.0 back.1.completed f.stands.accounts.completed batch same)

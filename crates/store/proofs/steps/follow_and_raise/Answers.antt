@@ -4,10 +4,12 @@ use Rattle.node.specs.Following.{replayed, copied}
 use Rattle.replica.specs.StoreMeaning.{AreUpdates}
 use Rattle.oplog.specs.Logs.{records_from}
 use Rattle.store.specs.Standing.{Agrees, Stands}
+use Rattle.store.specs.Whole.{FollowsBy}
 use Rattle.store.proofs.Taken.{may_take_log, took_log, follows_agreed, well_formed}
 use Rattle.store.proofs.Followed.{above, fits, kept_up, updates}
 use Rattle.store.proofs.Played.{followed_all, raised_as}
 use Rattle.store.proofs.Finished.{log_catalogue, same_put, same_back, long_enough, followed}
+use Rattle.store.proofs.Stretches.{follows_by}
 use Rattle.store.proofs.steps.follow_and_raise.Goals as goal
 
 pub take-held-requires-clause-may : goal.take-held-requires-clause-may
@@ -134,3 +136,27 @@ returns-clause-reached g c k is =
     let r = c.raise_to.ensures.raised _ p.2 in
     let here = c.tail-followed.ensures.tail in
     (r.0, r.1, followed k t.0 n x b v _ r.0 s all (raised_as _ r.0 _ v.replica.tail r.2 (omega (arith, here))))
+
+pub returns-clause-goes : goal.returns-clause-goes
+returns-clause-goes g c k after is now =
+    let i = c.requires.holds in
+    let n = c.args.node.now in
+    let x = c.take-held.result.value in
+    let h = c.log-log.result.now in
+    let y = c.rebase_if_behind.new.node in
+    let v = c.follow.new.node in
+    let e = one_known c.args.seat.now i.0 k i.2 is in
+    let stands = subst (λ z. Stands z) e i.5 in
+    let agrees = subst (λ z. Agrees z.progress n) e i.4 in
+    let catalogue = subst (λ z. z.progress.catalogue ≡ c.args.catalogue.now) e i.6 in
+    let t = c.take-held.ensures.taken k is in
+    let b = took_log k t.0 n x (follows_agreed k.progress n (well_formed k.progress stands.notes stands.accounts) agrees) t.1 in
+    let log_is = b.log h c.log-log.ensures.log in
+    let same = sym (log_catalogue k t.0 n x b c.args.catalogue.now catalogue) in
+    let p = c.put.ensures.put t.0 t.2 in
+    let s = same_back k t.0 n x b c.take-held.new.seat.sessions t.2 _ c.take-held.ensures.same.1 p.0 p.1.0 p.1.1 in
+    let r = c.raise_to.ensures.raised _ p.2 in
+    let here = c.tail-followed.ensures.tail in
+    subst (λ z. FollowsBy k z n v) (one_known c.raise_to.new.seat r.0 after r.1 now)
+    (follows_by k t.0 _ r.0 h n y v b.extends log_is b.follows c.rebase_if_behind.ensures.behind c.rebase_if_behind.ensures.above (c.follow.ensures.node ∙ ap (λ d. replayed d (copied h y)) same) s.on
+    (raised_as _ r.0 _ v.replica.tail r.2 (omega (arith, here))))

@@ -3,10 +3,12 @@ use Rattle.ownlock.proofs.Seats.{one_known}
 use Rattle.node.specs.Following.{replayed, copied}
 use Rattle.replica.specs.StoreMeaning.{AreUpdates}
 use Rattle.oplog.specs.Logs.{records_from}
-use Rattle.store.specs.Standing.{HasPlace}
+use Rattle.store.specs.Standing.{HasPlace, Follows, IsLogOf}
+use Rattle.store.specs.Whole.{MakesRoom}
 use Rattle.store.proofs.Rooms.{roomy, can_reclaim, freed, not_true}
 use Rattle.store.proofs.Followed.{above, fits, kept_up, updates}
 use Rattle.store.proofs.Played.{followed_all, raised_as}
+use Rattle.store.proofs.Stretches.{makes_none, makes_room}
 use Rattle.store.proofs.steps.make_room.Goals as goal
 
 pub rebase_if_behind-requires : goal.rebase_if_behind-requires
@@ -83,3 +85,28 @@ returns-else-lacks_room-clause-room c k is =
     let e = one_known c.args.seat.now i.0 k i.1 is in
     let u = kept_up i.0.progress g c.args.node.now i.3 i.4 n c.rebase_if_behind.ensures.behind c.rebase_if_behind.ensures.above in
     (k, is, subst (λ q. HasPlace q q c.args.want g g n) e (roomy i.0 c.args.want g n i.5 i.3 u.0 u.1 (λ f. not_true c.lacks_room.result c.if-lacks_room.false (c.lacks_room.ensures.lacks.1 f))))
+
+pub returns-then-lacks_room-clause-goes : goal.returns-then-lacks_room-clause-goes
+returns-then-lacks_room-clause-goes c k after is now =
+    let i = c.requires.holds in
+    let g = c.args.log.now in
+    let n = c.rebase_if_behind.new.node in
+    let e = one_known c.args.seat.now i.0 k i.1 is in
+    let u = kept_up i.0.progress g c.args.node.now i.3 i.4 n c.rebase_if_behind.ensures.behind c.rebase_if_behind.ensures.above in
+    let ran = c.follow.ensures.node ∙ ap (λ d. replayed d (copied g n)) (sym i.6) in
+    let all = followed_all i.0.progress g n c.follow.new.node i.3 u.0 u.1 ran c.follow.ensures.shapes in
+    let up = c.raise_to.ensures.raised i.0 i.1 in
+    let here = c.tail.ensures.tail in
+    let done = raised_as i.0 up.0 _ c.follow.new.node.replica.tail up.2 (omega (arith, here)) in
+    let may = can_reclaim i.0 up.0 g c.follow.new.node i.3 all done i.2 c.args.want c.requires.few c.lacks_room.ensures.window.0 (c.lacks_room.ensures.lacks.0 c.if-lacks_room.true) in
+    let room = makes_room i.0 g c.args.node.now n i.3 i.4 c.rebase_if_behind.ensures.behind c.rebase_if_behind.ensures.above up.0 c.follow.new.node ran done i.2 may.0 c.reclaim.new.log c.reclaim.ensures.log in
+    subst (λ q. MakesRoom q after g c.reclaim.new.log c.args.node.now c.follow.new.node) e
+    (subst (λ q. MakesRoom i.0 q g c.reclaim.new.log c.args.node.now c.follow.new.node) (one_known c.raise_to.new.seat up.0 after up.1 now) room)
+
+pub returns-else-lacks_room-clause-goes : goal.returns-else-lacks_room-clause-goes
+returns-else-lacks_room-clause-goes c k after is now =
+    let i = c.requires.holds in
+    let g = c.args.log.now in
+    let n = c.rebase_if_behind.new.node in
+    let room = makes_none k g c.args.node.now n (subst (λ q. IsLogOf q.progress g) (one_known c.args.seat.now i.0 k i.1 is) i.3) (subst (λ q. Follows q.progress c.args.node.now) (one_known c.args.seat.now i.0 k i.1 is) i.4) c.rebase_if_behind.ensures.behind c.rebase_if_behind.ensures.above in
+    subst (λ q. MakesRoom k q g g c.args.node.now n) (one_known c.args.seat.now k after is now) room

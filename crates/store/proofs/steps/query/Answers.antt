@@ -2,8 +2,12 @@ use Rattle.std.proofs.Common.{sym, ap, refl, subst, ◌+◌, ◌∙◌, ◌≡�
 use Rattle.ownlock.specs.Seats.{having_read}
 use Rattle.ownlock.proofs.Seats.{one_known}
 use Rattle.store.specs.Standing.{Agrees, IsFree}
+use Rattle.store.specs.Sessions.{RepliesThere}
+use Rattle.store.specs.Whole.{ReadsBy}
+use Rattle.oplog.specs.Operations.{Operation}
 use Rattle.store.proofs.Taken.{free_on, may_take_replica, took_replica}
 use Rattle.store.proofs.Finished.{holds_on, may_put_replica, back, is_read, later_catalogue, far_enough}
+use Rattle.store.proofs.Stretches.{reads_by}
 use Rattle.store.proofs.steps.query.Goals as goal
 
 pub take-held-requires-clause-may : goal.take-held-requires-clause-may
@@ -79,3 +83,26 @@ returns-clause-read g c k is =
       is_read (1 + c.args.caller.node) k t.0 r.0 _ d.0 w v c.done-done.result (record { program = c.args.question.program; argument = c.args.question.argument.now }) c.args.shared.catalogue.now c.answer_there-answer.result d.1.1.0.0 d.2 b up f
           (later_catalogue (1 + c.args.caller.node) k t.0 r.0 d.0 w v c.done-done.result c.args.shared.catalogue.now d.1.1.0.0 b up same) c.answer_there-answer.ensures.point c.answer_there-answer.ensures.reply,
     )
+
+pub returns-clause-goes : goal.returns-clause-goes
+returns-clause-goes g c k after is now =
+    let i = c.requires.idle in
+    let w = c.take-held.result.value in
+    let e = one_known c.args.seat.now i.0 k i.1 is in
+    let free = subst (λ z. IsFree c.args.caller z) e i.2 in
+    let same = subst (λ z. z.progress.catalogue ≡ c.args.shared.catalogue.now) e i.3.catalogue_is in
+    let op : Operation = record { program = c.args.question.program; argument = c.args.question.argument.now } in
+    let d = c.done-done.ensures.read k is in
+    let t = c.take-held.ensures.taken _ d.3 in
+    let b = took_replica _ t.0 c.args.caller w (free_on c.args.caller k (having_read k d.0 c.done-done.result) refl free.held d.1.1.0.0 free) t.1 in
+    let r = c.reach.ensures.reached t.0 t.2 in
+    let held = r.2.goes.held ∙ (b.held ∙ ap (λ z. (z, w) ∷ []) (sym c.take-held.ensures.same.1)) in
+    let p = c.put.ensures.put r.0 r.1 in
+    let v = c.reach.new.node in
+    let n = c.answer_there-answer.new.node in
+    let stays = sym c.answer_there-answer.ensures.same in
+    let up = far_enough t.0 r.0 v c.done-done.result _ (omega arith) r.2 in
+    let f = back r.0 w (holds_on t.0 r.0 w r.2.goes b.holds) c.reach.new.seat.sessions r.1 n (subst (Agrees r.0.progress) stays r.2.agrees) (subst (λ z. z.replica.tail ≤ length r.0.progress.history) stays r.2.within) _ held p.0 p.1.0 p.1.1 in
+    subst (λ z. ReadsBy k z op c.answer_there-answer.result) (one_known c.put.new.seat _ after p.2 now)
+    (reads_by k t.0 r.0 _ d.0 c.done-done.result c.replica_mut-node.result.now v op c.answer_there-answer.result d.1.1.0.0 d.2 b.extends (b.agrees c.replica_mut-node.result.now c.replica_mut-node.ensures.replica) b.stands (c.reach.ensures.goes t.0 r.0 t.2 r.1)
+    r.2.goes.extends r.2.agrees r.2.within up.reached f.extends f.stands (f.tails_read ∙ (up.goes.tails_read ∙ b.tails_read)) c.answer_there-answer.ensures.point (subst (λ z. RepliesThere z op v c.answer_there-answer.result.reply) (sym same) c.answer_there-answer.ensures.reply))

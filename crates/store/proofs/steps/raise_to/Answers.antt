@@ -8,4 +8,4 @@ raise-requires-clause-may c = c.requires.known
 pub returns-clause-raised : goal.returns-clause-raised
 returns-clause-raised c k is =
     let r = c.raise.ensures.raised k is in
-    (_, r.4, has_raised k r.0 _ _ refl r.2)
+    (_, r.4, has_raised k r.0 _ _ refl r.1 r.2)

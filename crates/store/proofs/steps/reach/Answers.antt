@@ -1,7 +1,9 @@
 use Rattle.std.proofs.Common.{◌≤◌, subst, arith}
 use Rattle.ownlock.proofs.Seats.{one_known}
 use Rattle.store.specs.Standing.{Agrees, Stands}
+use Rattle.store.specs.Whole.{FollowsBy}
 use Rattle.store.proofs.Finished.{is_there, far_enough}
+use Rattle.store.proofs.Stretches.{follows_none}
 use Rattle.store.proofs.steps.reach.Goals as goal
 
 pub follow_and_raise-requires-clause-holds : goal.follow_and_raise-requires-clause-holds
@@ -20,3 +22,9 @@ returns-clause-reached g c k is =
     let e = one_known c.args.seat.now i.0 k i.2 is in
     let r = c.follow_and_raise.ensures.reached k is in
     (r.0, r.1, far_enough k r.0 c.follow_and_raise.new.node c.args.done k.progress.completed (subst (λ z. c.args.done ≤ z.progress.completed) e i.7) r.2)
+
+pub returns-then-ready-clause-goes : goal.returns-then-ready-clause-goes
+returns-then-ready-clause-goes g c k after is now =
+    let i = c.requires.holds in
+    let e = one_known c.args.seat.now i.0 k i.2 is in
+    subst (λ z. FollowsBy k z c.args.node.now c.args.node.now) (one_known c.args.seat.now k after is now) (follows_none k c.args.node.now (subst (λ z. Agrees z.progress c.args.node.now) e i.4) (subst (λ z. Stands z) e i.5))
