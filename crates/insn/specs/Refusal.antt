@@ -86,7 +86,15 @@ fault_number BadSecondHalf = 9
 
 -- RFC 9669, section 3.1: the slots that bytes are, 8 bytes each; fewer than 8 at the end are none
 abbrev pub slots_in : List ℕ → List Fields
-slots_in (opcode ∷ registers ∷ o0 ∷ o1 ∷ i0 ∷ i1 ∷ i2 ∷ i3 ∷ rest) = record { opcode = opcode; dst = registers % 16; src = registers / 16; offset = cast_signed w16 (from_le_bytes w16 (o0 ∷ o1 ∷ [])); imm = cast_signed w32 (from_le_bytes w32 (i0 ∷ i1 ∷ i2 ∷ i3 ∷ [])) } ∷ slots_in rest
+slots_in (opcode ∷ registers ∷ o0 ∷ o1 ∷ i0 ∷ i1 ∷ i2 ∷ i3 ∷ rest) =
+    record {
+      opcode = opcode;
+      dst = registers % 16;
+      src = registers / 16;
+      offset = cast_signed w16 (from_le_bytes w16 (o0 ∷ o1 ∷ []));
+      imm = cast_signed w32 (from_le_bytes w32 (i0 ∷ i1 ∷ i2 ∷ i3 ∷ []));
+    }
+    ∷ slots_in rest
 slots_in _ = []
 
 -- each number is a byte
