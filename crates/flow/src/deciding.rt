@@ -39,8 +39,8 @@ fn broken(slot: usize, rule: StructureRule) -> Broken
     }
 }
 
-// How many slots the program has, if that is neither none nor too many.
-fn good_size(program: &[Insn]) -> Option<usize>
+/// How many slots the program has, if that is neither none nor too many.
+pub fn good_size(program: &[Insn]) -> Option<usize>
     ensures { result ≡ cond (has_good_size program.now) (Some (size program.now)) None }
 {
     let mut slots = 0;

@@ -10,6 +10,6 @@ mod laws;
 mod rules;
 mod slot_set;
 
-pub use deciding::structure;
+pub use deciding::{good_size, structure};
 pub use laws::{fault_is_first_broken, no_fault_where_structured};
 pub use rules::{Broken, StructureRule};

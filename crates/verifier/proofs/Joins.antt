@@ -1,6 +1,6 @@
 -- The joined frames, as they are computed, are what comes in at each slot.
 use Rattle.std.proofs.Common.{◌≡◌, ◌≢◌, ℕ, zero, suc, ◌+◌, ◌<◌, Bool, true, false, cond, List, [], ◌∷◌, ◌++◌, length, map, Option, Some, None, refl, sym, ap, ◌∙◌, inl, inr, ⊎_elim, arith, subst, length-append}
-use Rattle.std.specs.Prelude.{pos, option_and_then, fold, filter, flat_map, ◌==◌}
+use Rattle.std.specs.Prelude.{pos, option_and_then, fold, filter, flat_map, ◌==◌, ◌⊎◌}
 use Rattle.std.specs.List.{range_with_len}
 use Rattle.std.specs.Option.{option_map}
 use Rattle.std.proofs.lemmas.List.{map-append, append-nil}
@@ -23,29 +23,45 @@ use Rattle.verifier.specs.FrameAfter.{frame_after}
 use Rattle.verifier.specs.Typing.{Frames, IsJoin, Leads}
 use Rattle.verifier.specs.Joined.{common, in_common, Leaving, leaving, edges_of, leads, leads_to, frame_in, frame_along, entry_at, joined_frames, joined_frame}
 use Rattle.verifier.proofs.Monotone.{after_frame}
-use Rattle.verifier.proofs.Progress.{Below, With, same_form}
 use Rattle.verifier.proofs.Lists.{get_left, get_last}
 use Rattle.verifier.proofs.Common.{common_frame, common_covers}
 
 -- ---- edges
 
-leads_is : (i : Form) (s : ℕ) (e : Edge) (t : ℕ) → leads i s e t ≡ true → LeadsTo i s e (pos t)
+-- the edges of the instructions below slot n
+abbrev pub Below : ℕ → ℕ → Edge → Type 0
+Below n s e = s < n
+
+-- one edge more
+abbrev pub With : (ℕ → Edge → Type 0) → ℕ → Edge → ℕ → Edge → Type 0
+With Seen at d s e = Seen s e ⊎ ((s ≡ at) × (e ≡ d))
+
+-- at a slot stands one instruction
+pub same_form : (p : List Form) (x i : Form) (s t : ℕ) → StandsAt p x s → StandsAt p i t → s ≡ t → x ≡ i
+same_form p x i s t hx hi e = let moved = subst (λ y. StandsAt p x y) e hx in cc
+
+-- an edge of an instruction goes to one slot
+pub one_target : (i : Form) (s t u : ℕ) (e : Edge) → LeadsTo i s e (pos t) → LeadsTo i s e (pos u) → t ≡ u
+one_target i s t u Fall h k = let a = h.1 in let b = k.1 in cc
+one_target i s t u Jump h k = let same : h.0 ≡ k.0 = let a = h.1 in let b = k.1 in cc in let a = h.2 in let b = k.2 in cc
+
+pub leads_is : (i : Form) (s : ℕ) (e : Edge) (t : ℕ) → leads i s e t ≡ true → LeadsTo i s e (pos t)
 leads_is i s Fall t h = let b = and_parts (falls_through i) ((s + slot_count i) == t) h in (b.0, ap pos (sym (eqb-true (s + slot_count i) t b.1)))
 leads_is i s Jump t h = let f = jump_found (is_slot t) i s h in subst (LeadsTo i s Jump) (slot_is t f.0 f.2) f.1
 
 slot_self : (t : ℕ) → is_slot t (pos t) ≡ true
 slot_self t = eq-eqb t t refl
 
-is_leads : (i : Form) (s : ℕ) (e : Edge) (t : ℕ) → LeadsTo i s e (pos t) → leads i s e t ≡ true
+pub is_leads : (i : Form) (s : ℕ) (e : Edge) (t : ℕ) → LeadsTo i s e (pos t) → leads i s e t ≡ true
 is_leads i s Fall t h = let same : t ≡ s + slot_count i = let a = h.1 in cc in and_from (falls_through i) ((s + slot_count i) == t) h.0 (eq-eqb (s + slot_count i) t (sym same))
 is_leads i s Jump t h = jump_tested (is_slot t) i s (pos t) h (slot_self t)
 
 -- what came in before, and the frame along this edge, if it leads to slot t
-abbrev along : Edge → Form → ℕ → Frame → ℕ → Option Frame → Option Frame
+abbrev pub along : Edge → Form → ℕ → Frame → ℕ → Option Frame → Option Frame
 along e i s f t before = cond (leads i s e t) (in_common before (Some (frame_after i f e))) before
 
 -- the frames along the edges of what stands at slot s, and what came in before
-abbrev out_of : (ℕ → Option Frame) → ℕ → Option Form → ℕ → Option Frame → Option Frame
+abbrev pub out_of : (ℕ → Option Frame) → ℕ → Option Form → ℕ → Option Frame → Option Frame
 out_of G s o t before = fold in_common before (map (frame_along G) (filter (leads_to t) (edges_of s o)))
 
 -- an edge of a list of edges
@@ -57,17 +73,44 @@ one_edge G t o x xs = by (leads_to t x) refl
     by false e = rw e refl
 
 -- both edges of an instruction
-out_of_both : (G : ℕ → Option Frame) (s t : ℕ) (i : Form) (f : Frame) (o : Option Frame) → G s ≡ Some f → out_of G s (Some i) t o ≡ along Jump i s f t (along Fall i s f t o)
-out_of_both G s t i f o e =
+-- the frames along both edges, of that before the instruction
+abbrev along_both : Form → ℕ → ℕ → Option Frame → Option Frame → Option Frame
+along_both i s t o g =
+    cond (leads i s Jump t) (in_common (cond (leads i s Fall t) (in_common o (option_map (λ x. frame_after i x Fall) g)) o) (option_map (λ x. frame_after i x Jump) g)) (cond (leads i s Fall t) (in_common o (option_map (λ x. frame_after i x Fall) g)) o)
+
+out_of_is : (G : ℕ → Option Frame) (s t : ℕ) (i : Form) (o : Option Frame) → out_of G s (Some i) t o ≡ along_both i s t o (G s)
+out_of_is G s t i o =
     one_edge G t o (leaving s i Fall) (leaving s i Jump ∷ [])
     ∙ one_edge G t (cond (leads i s Fall t) (in_common o (frame_along G (leaving s i Fall))) o) (leaving s i Jump) []
-    ∙ ap (λ g. cond (leads i s Jump t) (in_common (cond (leads i s Fall t) (in_common o (option_map (λ x. frame_after i x Fall) g)) o) (option_map (λ x. frame_after i x Jump) g)) (cond (leads i s Fall t) (in_common o (option_map (λ x. frame_after i x Fall) g)) o)) e
+
+pub out_of_both : (G : ℕ → Option Frame) (s t : ℕ) (i : Form) (f : Frame) (o : Option Frame) → G s ≡ Some f → out_of G s (Some i) t o ≡ along Jump i s f t (along Fall i s f t o)
+out_of_both G s t i f o e = out_of_is G s t i o ∙ ap (along_both i s t o) e
+
+-- nothing comes of an instruction that nothing leads to
+pub out_of_neither : (G : ℕ → Option Frame) (s t : ℕ) (x : Option Form) (o : Option Frame) → G s ≡ None → out_of G s x t o ≡ o
+out_of_neither G s t None o e = refl
+out_of_neither G s t (Some i) o e = out_of_is G s t i o ∙ ap (along_both i s t o) e ∙ by (leads i s Fall t) (leads i s Jump t)
+  where
+    none : (o : Option Frame) → in_common o None ≡ o
+    none None = refl
+    none (Some f) = refl
+
+    by : (a b : Bool) → cond b (in_common (cond a (in_common o None) o) None) (cond a (in_common o None) o) ≡ o
+    by true true = none (in_common o None) ∙ none o
+    by true false = none o
+    by false true = none o
+    by false false = refl
+
+-- it takes the frame of its slot alone
+pub out_of_same : (G H : ℕ → Option Frame) (s t : ℕ) (x : Option Form) (o : Option Frame) → G s ≡ H s → out_of G s x t o ≡ out_of H s x t o
+out_of_same G H s t None o e = refl
+out_of_same G H s t (Some i) o e = out_of_is G s t i o ∙ ap (along_both i s t o) e ∙ sym (out_of_is H s t i o)
 
 -- what comes in at slot t, of the entry and from the slots below n
-abbrev edges_below : List Form → ℕ → List Leaving
+abbrev pub edges_below : List Form → ℕ → List Leaving
 edges_below p n = flat_map (λ s. edges_of s (instruction_at p s)) (range_with_len 0 n)
 
-abbrev coming_in : List Form → (ℕ → Option Frame) → ℕ → ℕ → Option Frame
+abbrev pub coming_in : List Form → (ℕ → Option Frame) → ℕ → ℕ → Option Frame
 coming_in p G n t = fold in_common (entry_at t) (map (frame_along G) (filter (leads_to t) (edges_below p n)))
 
 next_number : (a n : ℕ) → range_with_len a (suc n) ≡ range_with_len a n ++ (a + n) ∷ []
@@ -80,7 +123,7 @@ next_edges p s =
     ∙ flat_map-append (λ u. edges_of u (instruction_at p u)) (range_with_len 0 s) (s ∷ [])
     ∙ ap (λ es. edges_below p s ++ es) (append-nil (edges_of s (instruction_at p s)))
 
-coming_next : (p : List Form) (G : ℕ → Option Frame) (s t : ℕ) → coming_in p G (suc s) t ≡ out_of G s (instruction_at p s) t (coming_in p G s t)
+pub coming_next : (p : List Form) (G : ℕ → Option Frame) (s t : ℕ) → coming_in p G (suc s) t ≡ out_of G s (instruction_at p s) t (coming_in p G s t)
 coming_next p G s t =
     ap (λ es. fold in_common (entry_at t) (map (frame_along G) (filter (leads_to t) es))) (next_edges p s)
     ∙ ap (λ es. fold in_common (entry_at t) (map (frame_along G) es)) (filter-append (leads_to t) (edges_below p s) (edges_of s (instruction_at p s)))
@@ -210,7 +253,7 @@ unfolding joined_frames
 how_many p zero = refl
 how_many p (suc t) = omega (arith, length-append (joined_frames p t) (coming_in p (frame_in (joined_frames p t)) t t ∷ []), how_many p t)
 
-stays : (p : List Form) (n s : ℕ) → s < n → frame_in (joined_frames p n) s ≡ joined_frame p s
+pub stays : (p : List Form) (n s : ℕ) → s < n → frame_in (joined_frames p n) s ≡ joined_frame p s
 unfolding joined_frames
 stays p zero s lt = absurd (omega arith)
 stays p (suc t) s lt = ⊎_elim
@@ -218,7 +261,7 @@ stays p (suc t) s lt = ⊎_elim
     (λ ne. ap (option_and_then (λ o. o)) (get_left (joined_frames p t) _ s (omega (arith, how_many p t))) ∙ stays p t s (omega arith))
     (cases_eq s t)
 
-here : (p : List Form) (t : ℕ) → joined_frame p t ≡ coming_in p (frame_in (joined_frames p t)) t t
+pub here : (p : List Form) (t : ℕ) → joined_frame p t ≡ coming_in p (frame_in (joined_frames p t)) t t
 unfolding joined_frames
 here p t = ap (option_and_then (λ o. o)) (get_last (joined_frames p t) _ t (sym (how_many p t)))
 

@@ -4,10 +4,7 @@ pub mod Broken
 pub mod Immediates
 pub mod Spilled
 pub mod Monotone
-pub mod Progress
-pub mod Coming
 pub mod Steps
-pub mod Pass
 pub mod Untypable
 pub mod Common
 pub mod Joins
@@ -15,3 +12,5 @@ pub mod VerdictLaws
 pub mod PlacesLemmas
 pub mod Kept
 pub mod ZeroReply
+pub mod Sweep
+pub mod Typed

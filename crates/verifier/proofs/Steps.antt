@@ -1,32 +1,41 @@
 -- One visit, in the code's terms.
-use Rattle.std.proofs.Common.{◌≡◌, ℕ, zero, suc, ◌<◌, [], ◌∷◌, length, get_or, Option, Some, None, refl, ap, ◌∙◌, inl, inr, arith, subst}
+use Rattle.std.proofs.Common.{◌≡◌, ℕ, ◌<◌, length, get_or, Option, Some, None, refl, sym, ap, ◌∙◌, inl, inr, subst}
 use Rattle.std.specs.Prelude.{pos, slice_get, ◌↔◌}
 use Rattle.std.proofs.lemmas.Option.{slice_get_read}
 use Rattle.std.proofs.Math.ListN.{length-set}
 use Rattle.insn.specs.declared.instruction.Form.{Form}
 use Rattle.insn.specs.Layout.{LeadsTo}
 use Rattle.insn.specs.declared.instruction.Edge.{Edge}
-use Rattle.regkind.specs.Frames.{Frame, IsFrame}
-use Rattle.verifier.specs.Pass.{Table, FlowsInto, Follows}
+use Rattle.regkind.specs.Frames.{Frame}
+use Rattle.verifier.specs.Pass.{Table, IsForward, FlowsInto, Follows}
 
 pub read_here : (xs : Table) (s : ℕ) (x : Option Frame) (f : Frame) → s < length xs → x ≡ get_or xs s x → x ≡ Some f → slice_get xs s ≡ Some (Some f)
 read_here xs s x f lt e is = slice_get_read xs (length xs) s x refl lt e ∙ ap Some is
-
-pub same_frame : (xs : Table) (s : ℕ) (f g : Frame) → slice_get xs s ≡ Some (Some f) → slice_get xs s ≡ Some (Some g) → IsFrame g → IsFrame f
-same_frame xs s f g e h frame = let eq : g ≡ f = cc in subst IsFrame eq frame
-
-pub is_there : (xs : Table) (s : ℕ) (f : Frame) → slice_get xs s ≡ Some (Some f) → s < length xs
-is_there [] s f e = cc
-is_there (x ∷ xs) zero f e = omega arith
-is_there (x ∷ xs) (suc s) f e = omega (arith, is_there xs s f e)
 
 pub same_length : (i : Form) (s : ℕ) (e : Edge) (f : Frame) (old new : Table) → Follows i s e f old new → length new ≡ length old
 same_length i s e f old new (inl h) = ap length h.2.written ∙ simp length-set refl
 same_length i s e f old new (inr h) = ap length h.1
 
--- a target that was found, and one that wasn't
-pub goes : (i : Form) (s : ℕ) (e : Edge) (f : Frame) (old new : Table) (o : Option ℕ) (t : ℕ) → ((u : ℕ) → (o ≡ Some u) ↔ LeadsTo i s e (pos u)) → o ≡ Some t → FlowsInto old new t f → Follows i s e f old new
-goes i s e f old new o t law is flows = inl (t, (law t).0 is, flows)
+-- the targets that code finds are those that lead forward
+module _ (i : Form) (s : ℕ) (e : Edge) (n : ℕ) (o : Option ℕ) (law : (u : ℕ) → (o ≡ Some u) ↔ LeadsTo i s e (pos u)) where
+  pub found_forward : (to : ℕ) → o ≡ Some to → s < to → to < n → (t : ℕ) → (Some to ≡ Some t) ↔ IsForward i s e t n
+  found_forward to is on inside t = (
+    λ same. let eq : to ≡ t = cc in ((law t).0 (is ∙ same), subst (λ u. s < u) eq on, subst (λ u. u < n) eq inside),
+    λ h. sym is ∙ (law t).1 h.0,
+  )
 
-pub goes_not : (i : Form) (s : ℕ) (e : Edge) (f : Frame) (old : Table) (o : Option ℕ) → ((u : ℕ) → (o ≡ Some u) ↔ LeadsTo i s e (pos u)) → o ≡ None → Follows i s e f old old
-goes_not i s e f old o law is = inr (λ t leads. let some = (law t).1 leads in cc, refl)
+  pub found_other : (to : ℕ) → o ≡ Some to → (s < to → to < n → ⊥) → (t : ℕ) → (None ≡ Some t) ↔ IsForward i s e t n
+  found_other to is none t = (
+    λ (same : None ≡ Some t). cc,
+    λ h. let eq : t ≡ to = let x = (law t).1 h.0 in cc in absurd (none (subst (λ u. s < u) eq h.1) (subst (λ u. u < n) eq h.2)),
+  )
+
+  pub found_none : o ≡ None → (t : ℕ) → (None ≡ Some t) ↔ IsForward i s e t n
+  found_none is t = (λ (same : None ≡ Some t). cc, λ h. let x = (law t).1 h.0 in cc)
+
+-- a target that was found, and one that wasn't
+pub goes : (i : Form) (s : ℕ) (e : Edge) (f : Frame) (old new : Table) (n : ℕ) (o : Option ℕ) (t : ℕ) → n ≡ length old → ((u : ℕ) → (o ≡ Some u) ↔ IsForward i s e u n) → o ≡ Some t → FlowsInto old new t f → Follows i s e f old new
+goes i s e f old new n o t long law is flows = inl (t, subst (IsForward i s e t) long ((law t).0 is), flows)
+
+pub goes_not : (i : Form) (s : ℕ) (e : Edge) (f : Frame) (old : Table) (n : ℕ) (o : Option ℕ) → n ≡ length old → ((u : ℕ) → (o ≡ Some u) ↔ IsForward i s e u n) → o ≡ None → Follows i s e f old old
+goes_not i s e f old n o long law is = inr (λ t h. let some = (law t).1 (subst (IsForward i s e t) (sym long) h) in cc, refl)

@@ -14,18 +14,17 @@ use Rattle.flow.specs.Structure.{IsStructured, StandsAt}
 use Rattle.flow.specs.declared.rules.Broken.{Broken}
 use Rattle.flow.specs.Faults.{structure_fault}
 use Rattle.flow.proofs.Forward.{leads_on, target_stands}
-use Rattle.flow.proofs.Lowest.{structured_from_fault, broken_from_fault, broken_is_not_structured, only_one_broken, fault_iff}
+use Rattle.flow.proofs.Lowest.{structured_from_fault, broken_from_fault, broken_is_not_structured, only_one_broken, no_fault_iff, fault_iff}
 use Rattle.verifier.specs.declared.refusal.VerifyFault.{VerifyFault}
 use Rattle.verifier.specs.declared.refusal.Refused.{Refused}
 use Rattle.verifier.specs.Signature.{Signature}
 use Rattle.verifier.specs.Rules.{first_broken}
 use Rattle.verifier.specs.FrameAfter.{frame_after}
-use Rattle.verifier.specs.Typing.{Frames, IsTypable, IsJoin, FirstBrokenKind, Refuses, RefusedByStructure, RefusedByKinds, structure_reason}
+use Rattle.verifier.specs.Typing.{Frames, IsTyping, IsTypable, IsJoin, FirstBrokenKind, Refuses, RefusedByStructure, RefusedByKinds, structure_reason}
 use Rattle.verifier.specs.Joined.{joined_frame}
 use Rattle.verifier.specs.Verdict.{refused, refusal_of, or_else, lowest_refusal, after_structure, verdict}
-use Rattle.verifier.proofs.Progress.{same_form}
 use Rattle.verifier.proofs.Slots.{stands_inside}
-use Rattle.verifier.proofs.Joins.{joined_at, has_joined, is_join, joins, ComesIn, or_entry_frame}
+use Rattle.verifier.proofs.Joins.{same_form, Below, joined_at, has_joined, is_join, joins, ComesIn, or_entry_frame}
 use Rattle.verifier.proofs.Untypable.{untypable}
 
 -- ---- the lowest refusal
@@ -84,7 +83,7 @@ module _ (p : List Form) (l : Signature) (structured : IsStructured p) where
 
   all_frames : (s : ℕ) (o : Option Frame) → joined_frame p s ≡ o → IsFrame (or_entry_frame o)
   all_frames s None e = IsFrame-entry
-  all_frames s (Some f) e = (subst (ComesIn p (joined_at p) (Rattle.verifier.proofs.Progress.Below s) s) e (joins p structured (suc s) s (omega arith))).frame
+  all_frames s (Some f) e = (subst (ComesIn p (joined_at p) (Below s) s) e (joins p structured (suc s) s (omega arith))).frame
 
   first_entry : Covers (joined_at p 0) entry_frame
   first_entry = ⊎_elim
@@ -92,19 +91,16 @@ module _ (p : List Form) (l : Signature) (structured : IsStructured p) where
       (λ h. (is_join p structured h.0 0 h.1).entry refl)
       (first_of p)
 
+  pub typed_by_joins : lowest_refusal p l (size p) ≡ None → IsTyping p l (joined_at p)
+  typed_by_joins e = record {
+    frames = λ s. all_frames s (joined_frame p s) refl;
+    entry = first_entry;
+    each = λ i s stands. fine (size p) e i s stands (stands_inside p i s stands);
+    edges = λ i s t d leads. let there = target_stands p i s t d structured leads.0 leads.1 in (is_join p structured there.0 t there.1).edges i s d leads;
+  }
+
   pub typing : lowest_refusal p l (size p) ≡ None → IsTypable p l
-  typing e = (
-    structured,
-    (
-      joined_at p,
-      record {
-        frames = λ s. all_frames s (joined_frame p s) refl;
-        entry = first_entry;
-        each = λ i s stands. fine (size p) e i s stands (stands_inside p i s stands);
-        edges = λ i s t d leads. let there = target_stands p i s t d structured leads.0 leads.1 in (is_join p structured there.0 t there.1).edges i s d leads;
-      },
-    ),
-  )
+  typing e = (structured, (joined_at p, typed_by_joins e))
 
   pub refusal : (e : Refused) → lowest_refusal p l (size p) ≡ Some e → RefusedByKinds p l e
   refusal e h = let low = found_lowest p l (size p) e h in by (instruction_at p e.slot) refl low.here low.before
@@ -225,5 +221,10 @@ by_structure p l e h =
     let found = (fault_iff p e.slot h.0).1 h.1 in
     ap (λ o. after_structure o (lowest_refusal p l (size p))) found ∙ ap (λ v. Some (refused e.slot v)) (sym h.2)
 
-pub by_kinds : (p : List Form) (l : Signature) (e : Refused) → AllByRecursion HasEncoding p → RefusedByKinds p l e → verdict p l ≡ Some e
-by_kinds p l e all h = (refused_iff p l e all).1 (inr h)
+-- of a structured program it is the refusal by kinds
+pub verdict_of_kinds : (p : List Form) (l : Signature) → IsStructured p → verdict p l ≡ lowest_refusal p l (size p)
+unfolding verdict
+verdict_of_kinds p l structured = ap (λ o. after_structure o (lowest_refusal p l (size p))) ((no_fault_iff p).1 structured)
+
+pub never_typable : (p : List Form) (l : Signature) (e : Refused) → IsStructured p → AllByRecursion HasEncoding p → lowest_refusal p l (size p) ≡ Some e → IsTypable p l → ⊥
+never_typable p l e structured all low typable = never_both p l e all (inr (refusal p l structured e low)) typable

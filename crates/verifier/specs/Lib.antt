@@ -11,6 +11,7 @@ pub mod Accepted
 -- Functions that laws tie to those: the joined frames, and the first refusal as the crates above cite it.
 pub mod Joined
 pub mod Verdict
+pub mod Known
 -- What the verifier's inner functions speak of.
 pub mod Numbers
 pub mod Pass

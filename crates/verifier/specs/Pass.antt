@@ -1,5 +1,5 @@
 -- Internal: what one visit of an instruction does to the table of frames that the pass keeps. No public contract cites it.
-use Rattle.std.specs.Prelude.{◌≡◌, ℕ, ◌⊎◌, pos, List, length, Option, Some, None, ◌↔◌, slice_get, slice_set}
+use Rattle.std.specs.Prelude.{◌≡◌, ℕ, ◌<◌, ◌⊎◌, pos, List, length, Option, Some, None, ◌↔◌, slice_get, slice_set}
 use Rattle.insn.specs.declared.instruction.Form.{Form}
 use Rattle.insn.specs.Layout.{LeadsTo, size}
 use Rattle.insn.specs.declared.instruction.Edge.{Edge}
@@ -45,10 +45,14 @@ pub record FlowsInto (old new : Table) (t : ℕ) (f : Frame) : Type 0 where
   pub meets : Meets (slice_get old t) f both
   pub written : new ≡ slice_set old t (Some both)
 
--- the frame goes along this edge of i at slot s, if there is one
+-- the edge of i at slot s leads forward, to slot t of n
+abbrev pub IsForward : Form → ℕ → Edge → ℕ → ℕ → Type 0
+IsForward i s e t n = LeadsTo i s e (pos t) × (s < t) × (t < n)
+
+-- the frame goes along this edge of i at slot s, if it leads forward
 abbrev pub Follows : Form → ℕ → Edge → Frame → Table → Table → Type 0
 Follows i s e f old new =
-    ((t : ℕ) × LeadsTo i s e (pos t) × FlowsInto old new t f) ⊎ (((t : ℕ) → LeadsTo i s e (pos t) → ⊥) × (new ≡ old))
+    ((t : ℕ) × IsForward i s e t (length old) × FlowsInto old new t f) ⊎ (((t : ℕ) → IsForward i s e t (length old) → ⊥) × (new ≡ old))
 
 -- no rule is broken, and the frame after goes along each edge
 pub record VisitsFine (l : Signature) (i : Form) (s : ℕ) (old new : Table) : Type 0 where
@@ -59,7 +63,7 @@ pub record VisitsFine (l : Signature) (i : Form) (s : ℕ) (old new : Table) : T
   pub jumps : Follows i s Jump (frame_after i frame Jump) old between
   pub falls : Follows i s Fall (frame_after i frame Fall) between new
 
--- what a visit does, and what it answers: the rule that is broken, if one is
+-- what a visit does, and what it answers: the rule that is broken, if one is. Where nothing leads to it, it does nothing
 abbrev pub Visits : Signature → Form → ℕ → Table → Table → Option VerifyFault → Type 0
-Visits l i s old new None = VisitsFine l i s old new
-Visits l i s old new (Some why) = (f : Frame) × (slice_get old s ≡ Some (Some f)) × (first_broken l i f ≡ Some why)
+Visits l i s old new None = VisitsFine l i s old new ⊎ ((slice_get old s ≡ Some None) × (new ≡ old))
+Visits l i s old new (Some why) = (f : Frame) × (slice_get old s ≡ Some (Some f)) × (first_broken l i f ≡ Some why) × (new ≡ old)

@@ -6,6 +6,7 @@ mod accesses;
 mod arithmetic;
 mod calls;
 mod context;
+mod explaining;
 mod frames_after;
 mod laws;
 mod operands;
@@ -18,6 +19,7 @@ mod verification;
 mod visiting;
 
 pub use accepted::Accepted;
+pub use explaining::{Explained, explain};
 pub use laws::{
     no_refusal_where_typable, refusal_is_first_broken, refused_is_untypable,
     structure_keeps_its_numbers,

@@ -1,18 +1,19 @@
 // The verifier: structure first, then one pass over the instructions in program order.
 
-ghost use Rattle.std.specs.Prelude.{◌≡◌, ◌<◌, ◌≤◌, None, Some, replicate, slice_set, vec_capacity, IfOk, IfErr, IsOk, OnOk, OnErr, MatchResult};
+ghost use Rattle.std.specs.Prelude.{◌≡◌, ◌<◌, ◌≤◌, None, Some, length, replicate, slice_set, vec_capacity, IfOk, IfErr, IsOk, OnOk, OnErr, MatchResult};
 ghost use Rattle.insn.specs.declared.decoding.TheConstants.{MAX_INSTALLED_SLOTS};
 ghost use Rattle.std.specs.List.{AllByRecursion};
 ghost use Rattle.insn.specs.Encoding.{HasEncoding};
 ghost use Rattle.insn.specs.Layout.{size};
 ghost use Rattle.regkind.specs.Frames.{entry_frame};
-ghost use Rattle.flow.specs.Structure.{IsStructured};
+ghost use Rattle.flow.specs.Structure.{IsStructured, HasGoodSize};
 ghost use Rattle.maps.specs.Shapes.{AreShapesOk};
 ghost use Rattle.verifier.specs.Accepted.{checked};
 ghost use Rattle.verifier.specs.Signature.{Signature, signature, IsSignatureOk};
 ghost use Rattle.verifier.specs.Typing.{IsTypable, Refuses, RefusedByStructure, RefusedByKinds, structure_reason, IsNoMemory, IfRefused};
 ghost use Rattle.verifier.specs.Pass.{IsTypedBy};
-ghost use Rattle.verifier.specs.Verdict.{verdict};
+ghost use Rattle.verifier.specs.Verdict.{lowest_refusal, verdict};
+ghost use Rattle.verifier.specs.Known.{AreKnown};
 
 use crate::accepted::Accepted;
 use crate::refusal::{Mode, Refused, VerifyError, VerifyFault};
@@ -89,7 +90,7 @@ pub fn verify_into(
 }
 
 // Whether the structure is good; else the first rule of structure that is broken.
-fn check_structure(program: &[Insn]) -> Result<(), Refused>
+pub(crate) fn check_structure(program: &[Insn]) -> Result<(), Refused>
     ensures structured { OnOk result (IsStructured program.now) }
     ensures refused { IfErr result (λ e. RefusedByStructure program.now e) }
     ensures reading { (l : Signature) → IfErr result (λ e. verdict program.now l ≡ Some e) }
@@ -135,6 +136,28 @@ fn check_kinds(
         (λ e. verdict program.now l.now ≡ Some e) }
     ensures room { vec_capacity frames.new ≡ vec_capacity frames.old }
 {
+    match sweep(program, l, frames) {
+        None => Ok(()),
+        Some(refused) => Err(refused),
+    }
+}
+
+// One pass over the instructions of a program, up to the first rule of kinds that is broken. Edges that don't lead forward are passed over, and
+// so is what nothing leads to. There is room for the frames.
+pub(crate) fn sweep(
+    program: &[Insn],
+    l: &Signature,
+    frames: &mut Vec<Option<Frame>>,
+) -> Option<Refused>
+    requires good_size { HasGoodSize program.now }
+    requires limits { IsSignatureOk l.now }
+    requires room { size program.now ≤ vec_capacity frames.old }
+    ensures reading { result ≡ lowest_refusal program.now l.now (size program.now) }
+    ensures known { AreKnown program.now result frames.new.items }
+    ensures slots { length frames.new.items ≡ size program.now }
+    ensures instructions { AllByRecursion HasEncoding program.now }
+    ensures room { vec_capacity frames.new ≡ vec_capacity frames.old }
+{
     let slots = count_slots(program);
     first_frames(frames, slots);
     let mut slot = 0;
@@ -143,14 +166,14 @@ fn check_kinds(
         match visit(frames, l, i, slot) {
             None => slot += i.slot_count(),
             Some(why) => {
-                return Err(Refused {
+                return Some(Refused {
                     slot: slot as u32,
                     why,
                 });
             }
         }
     }
-    Ok(())
+    None
 }
 
 // How many slots the instructions take.

@@ -1,15 +1,13 @@
 // One instruction is checked on the frame before it, and the frames after it come in at the slots to which it leads.
 
-ghost use Rattle.std.specs.Prelude.{◌≡◌, ℕ, ◌<◌, ◌≤◌, pos, Some, None, slice_get, vec_len, vec_capacity};
+ghost use Rattle.std.specs.Prelude.{◌≡◌, ℕ, ◌<◌, ◌≤◌, ◌↔◌, Some, None, slice_get, vec_len, vec_capacity};
 ghost use Rattle.insn.specs.Encoding.{HasEncoding};
-ghost use Rattle.insn.specs.Layout.{LeadsTo};
-ghost use Rattle.insn.specs.declared.instruction.Edge.{Edge};
 ghost use Rattle.insn.specs.declared.instruction.Edge.TheVariants.{Fall, Jump};
 ghost use Rattle.regkind.specs.Frames.{Frame, IsFrame};
 ghost use Rattle.verifier.specs.Signature.{IsSignatureOk};
 ghost use Rattle.verifier.specs.Rules.{first_broken};
 ghost use Rattle.verifier.specs.FrameAfter.{frame_after};
-ghost use Rattle.verifier.specs.Pass.{FlowsInto, Follows, Visits};
+ghost use Rattle.verifier.specs.Pass.{FlowsInto, IsForward, Follows, Visits};
 
 use crate::context::Context;
 use crate::frames_after::advance;
@@ -19,7 +17,7 @@ use crate::signature::Signature;
 use insn::{Edge, Form, MAX_SLOTS};
 use regkind::{Frame, join};
 
-// The instruction at a slot is checked, and leads on along its edges.
+// The instruction at a slot is checked, and leads on along its edges. Where nothing leads to it, nothing is done.
 pub(crate) fn visit(
     frames: &mut Vec<Option<Frame>>,
     l: &Signature,
@@ -29,13 +27,13 @@ pub(crate) fn visit(
     requires instruction { HasEncoding i }
     requires limits { IsSignatureOk l.now }
     requires few { vec_len frames.old ≤ MAX_SLOTS }
-    requires inside { (t : ℕ) (e : Edge) → LeadsTo i slot e (pos t) → t < vec_len frames.old }
-    requires there { (f : Frame) × (slice_get frames.old.items slot ≡ Some (Some f)) × IsFrame f }
+    requires inside { slot < vec_len frames.old }
+    requires frame { (f : Frame) → slice_get frames.old.items slot ≡ Some (Some f) → IsFrame f }
     ensures visits { Visits l.now i slot frames.old.items frames.new.items result }
     ensures room { vec_capacity frames.new ≡ vec_capacity frames.old }
 {
     match &frames[slot] {
-        None => unreachable!(),
+        None => None,
         Some(here) => {
             let mut f = *here;
             let on = Context {
@@ -61,11 +59,10 @@ fn jump(frames: &mut Vec<Option<Frame>>, on: &Context, i: Form, slot: usize)
     requires unbroken { first_broken on.now.signature.now i on.now.frame.now ≡ None }
     requires frame { IsFrame on.now.frame.now }
     requires few { slot < MAX_SLOTS }
-    requires inside { (t : ℕ) → LeadsTo i slot Jump (pos t) → t < vec_len frames.old }
     ensures follows { Follows i slot Jump (frame_after i on.now.frame.now Jump) frames.old.items frames.new.items }
     ensures room { vec_capacity frames.new ≡ vec_capacity frames.old }
 {
-    if let Some(to) = i.successor(slot, Edge::Jump) {
+    if let Some(to) = forward(i, slot, Edge::Jump, frames.len()) {
         let mut after = *on.frame;
         advance(&mut after, on.signature, i, Edge::Jump);
         flow(frames, to, &after);
@@ -79,13 +76,23 @@ fn fall_through(frames: &mut Vec<Option<Frame>>, f: &mut Frame, l: &Signature, i
     requires unbroken { first_broken l.now i f.old ≡ None }
     requires frame { IsFrame f.old }
     requires few { slot < MAX_SLOTS }
-    requires inside { (t : ℕ) → LeadsTo i slot Fall (pos t) → t < vec_len frames.old }
     ensures follows { Follows i slot Fall (frame_after i f.old Fall) frames.old.items frames.new.items }
     ensures room { vec_capacity frames.new ≡ vec_capacity frames.old }
 {
-    if let Some(to) = i.successor(slot, Edge::Fall) {
+    if let Some(to) = forward(i, slot, Edge::Fall, frames.len()) {
         advance(f, l, i, Edge::Fall);
         flow(frames, to, f);
+    }
+}
+
+// The slot to which this edge leads, if that is a later one of so many.
+fn forward(i: Form, slot: usize, edge: Edge, slots: usize) -> Option<usize>
+    requires { slot < MAX_SLOTS }
+    ensures { (t : ℕ) → (result ≡ Some t) ↔ IsForward i slot edge t slots }
+{
+    match i.successor(slot, edge) {
+        Some(to) if slot < to && to < slots => Some(to),
+        _ => None,
     }
 }
 

@@ -3,7 +3,7 @@ use Rattle.std.specs.List.{AllByRecursion}
 use Rattle.insn.specs.Layout.{size}
 use Rattle.insn.specs.Encoding.{HasEncoding}
 use Rattle.verifier.proofs.Slots.{size_next, size_inside, all_next, take_all}
-use Rattle.verifier.proofs.Pass.{read}
+use Rattle.verifier.proofs.Slots.{read}
 use Rattle.verifier.proofs.verification.count_slots.Goals as goal
 
 pub overflow_add-slots : goal.overflow_add-slots

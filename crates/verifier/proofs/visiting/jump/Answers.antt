@@ -1,4 +1,4 @@
-use Rattle.std.proofs.Common.{sym, subst}
+use Rattle.std.proofs.Common.{◌≡◌, length, sym, subst, arith}
 use Rattle.insn.specs.declared.instruction.Edge.TheVariants.{Jump}
 use Rattle.regkind.specs.Frames.{IsFrame}
 use Rattle.verifier.specs.Pass.{FlowsInto}
@@ -7,15 +7,18 @@ use Rattle.verifier.proofs.Steps.{goes, goes_not}
 use Rattle.verifier.proofs.visiting.jump.Goals as goal
 
 pub flow-requires-clause-inside : goal.flow-requires-clause-inside
-flow-requires-clause-inside c = c.requires.inside c.in-Some.to ((c.successor.ensures c.in-Some.to).0 c.in-Some.is)
+flow-requires-clause-inside c = omega (arith, ((c.forward.ensures c.in-Some.to).0 c.in-Some.is).2, c.len.ensures)
 
 pub flow-requires-clause-frame : goal.flow-requires-clause-frame
 flow-requires-clause-frame c = subst IsFrame (sym c.advance.ensures) (after_frame c.args.i c.args.on.now.frame.now Jump c.requires.frame)
 
 pub returns-in-Some-clause-follows : goal.returns-in-Some-clause-follows
 returns-in-Some-clause-follows c =
-    goes c.args.i c.args.slot Jump _ c.args.frames.now.items c.flow.new.frames.items c.successor.result c.in-Some.to c.successor.ensures c.in-Some.is
+    let long : c.len.result ≡ length c.args.frames.now.items = omega (arith, c.len.ensures, c.args.frames.now.ok.0) in
+    goes c.args.i c.args.slot Jump _ c.args.frames.now.items c.flow.new.frames.items c.len.result c.forward.result c.in-Some.to long c.forward.ensures c.in-Some.is
     (subst (λ g. FlowsInto c.args.frames.now.items c.flow.new.frames.items c.in-Some.to g) c.advance.ensures c.flow.ensures.flows)
 
 pub returns-in_default-clause-follows : goal.returns-in_default-clause-follows
-returns-in_default-clause-follows c = goes_not c.args.i c.args.slot Jump _ c.args.frames.now.items c.successor.result c.successor.ensures c.in_default.is
+returns-in_default-clause-follows c =
+    let long : c.len.result ≡ length c.args.frames.now.items = omega (arith, c.len.ensures, c.args.frames.now.ok.0) in
+    goes_not c.args.i c.args.slot Jump _ c.args.frames.now.items c.len.result c.forward.result long c.forward.ensures c.in_default.is

@@ -1,0 +1,87 @@
+// What the verifier knows before each instruction, also of a program that is refused.
+
+ghost use Rattle.std.specs.Prelude.{◌≡◌, ◌≤◌, IfOk};
+ghost use Rattle.insn.specs.Layout.{size};
+ghost use Rattle.flow.specs.Structure.{HasGoodSize};
+ghost use Rattle.maps.specs.Shapes.{AreShapesOk};
+ghost use Rattle.verifier.specs.Signature.{signature, IsSignatureOk};
+ghost use Rattle.verifier.specs.Known.{AreKnown};
+ghost use Rattle.verifier.specs.Verdict.{lowest_refusal, verdict};
+
+use crate::refusal::{Mode, Refused};
+use crate::signature::Signature;
+use crate::verification::{check_structure, sweep};
+use flow::good_size;
+use insn::Insn;
+use maps::{MAX_ARG_LEN, Shape};
+use regkind::Frame;
+use std::alloc::{AllocError, Global};
+
+/// What is known of a program, for tools that tell an author why it is refused.
+#[derive(Drop)]
+pub struct Explained {
+    /// For each slot what is known before its instruction; `None` where nothing leads to it. What stands behind the slot of
+    /// `kinds` is not done. Empty where the program has no instruction, or more than 4,096 slots.
+    pub frames: Vec<Option<Frame>>,
+    /// The refusal that [`verify`](crate::verify) names, if it names one.
+    pub refused: Option<Refused>,
+    /// The refusal by kinds alone, whatever the structure: edges that don't lead forward are passed over, and so are
+    /// instructions that nothing leads to.
+    pub kinds: Option<Refused>,
+}
+
+/// What is known of a program, whether [`verify`](crate::verify) accepts it or not.
+///
+/// # Errors
+///
+/// The system has no memory left.
+pub fn explain(
+    alloc: Global,
+    program: &[Insn],
+    shapes: &[Shape],
+    arg_len: usize,
+    mode: Mode,
+) -> Result<Explained, AllocError>
+    requires shapes { AreShapesOk shapes.now }
+    requires argument { arg_len ≤ MAX_ARG_LEN }
+    // It is the refusal of `verify`, and none where that accepts.
+    ensures refused { IfOk result (λ k. k.refused ≡ verdict program.now (signature shapes.now arg_len mode)) }
+    // It is the first rule of kinds that a reached instruction breaks.
+    ensures kinds { HasGoodSize program.now
+        → IfOk result (λ k. k.kinds ≡ lowest_refusal program.now (signature shapes.now arg_len mode) (size program.now)) }
+    // The frames are the joined ones.
+    ensures frames { HasGoodSize program.now → IfOk result (λ k. AreKnown program.now k.kinds k.frames.items) }
+{
+    let l = Signature::new(shapes, arg_len, mode);
+    let mut known = explain_kinds(alloc, program, &l)?;
+    match check_structure(program) {
+        Ok(()) => {}
+        Err(refused) => known.refused = Some(refused),
+    }
+    Ok(known)
+}
+
+// The same by kinds alone.
+fn explain_kinds(alloc: Global, program: &[Insn], l: &Signature) -> Result<Explained, AllocError>
+    requires limits { IsSignatureOk l.now }
+    ensures refused { HasGoodSize program.now → IfOk result (λ k. k.refused ≡ lowest_refusal program.now l.now (size program.now)) }
+    ensures kinds { HasGoodSize program.now → IfOk result (λ k. k.kinds ≡ lowest_refusal program.now l.now (size program.now)) }
+    ensures frames { HasGoodSize program.now → IfOk result (λ k. AreKnown program.now k.kinds k.frames.items) }
+{
+    match good_size(program) {
+        None => Ok(Explained {
+            frames: Vec::new(alloc),
+            refused: None,
+            kinds: None,
+        }),
+        Some(slots) => {
+            let mut frames = Vec::with_capacity(alloc, slots)?;
+            let kinds = sweep(program, l, &mut frames);
+            Ok(Explained {
+                frames,
+                refused: kinds,
+                kinds,
+            })
+        }
+    }
+}
