@@ -1,7 +1,7 @@
 // Calls of helpers (RFC 9669, section 4.3.1), and those that change a map (bpf-helpers(7)). The bytes of a key and of a value are
 // read before the change: they may lie in that map.
 
-ghost use Rattle.std.specs.Prelude.{◌≡◌, ◌<◌, ◌≤◌, ℕ, pos, List, take};
+ghost use Rattle.std.specs.Prelude.{◌≡◌, ◌<◌, ◌≤◌, ℕ, pos, List, length};
 ghost use Rattle.insn.specs.declared.instruction.Form.TheVariants as form;
 ghost use Rattle.maps.specs.Shapes.{AreShapesOk};
 ghost use Rattle.maps.specs.MapSets.{stored_shapes};
@@ -38,18 +38,17 @@ pub(crate) fn call_helper(
     }
 }
 
-/// A copy of so many bytes at a pointer, in an array that has room for a value.
-fn fetch(stack: &[u8; 512], maps: &MapSet, argument: &[u8], base: Base, bytes: usize) -> [u8; 256]
+/// Copies the bytes at a pointer into a lent room, as many as it has.
+#[inline(always)]
+fn fetch(stack: &[u8; 512], maps: &MapSet, argument: &[u8], base: Base, room: &mut [u8])
     requires limits { AreShapesOk (stored_shapes maps.now) }
-    requires some { 0 < bytes }
-    requires few { bytes ≤ 256 }
-    requires told { (bs : List ℕ) × IsRead stack.now maps.now argument.now base bytes bs }
-    ensures copied { (bs : List ℕ) → IsRead stack.now maps.now argument.now base bytes bs → take bytes result ≡ bs }
+    requires some { 0 < length room.old }
+    requires told { (bs : List ℕ) × IsRead stack.now maps.now argument.now base (length room.old) bs }
+    ensures copied { (bs : List ℕ) → IsRead stack.now maps.now argument.now base (length room.old) bs → room.new ≡ bs }
+    ensures count { length room.new ≡ length room.old }
 {
     let spot = locate(stack, maps, argument, base);
-    let mut copy = [0; 256];
-    copy[..bytes].copy_from_slice(part(spot.region, spot.at, bytes));
-    copy
+    room.copy_from_slice(part(spot.region, spot.at, room.len()));
 }
 
 /// A call of bpf_map_update_elem.
@@ -66,12 +65,16 @@ fn call_update(
     let m = kinds.map_named();
     let shape = maps.shape(m);
     let (key_bytes, value_bytes) = (shape.key_bytes(), shape.value_bytes());
-    let key = Base::at(&kinds, &machine.words, 2, 0);
-    let value = Base::at(&kinds, &machine.words, 3, 0);
-    let key = fetch(&machine.stack, maps, argument, key, key_bytes);
-    let value = fetch(&machine.stack, maps, argument, value, value_bytes);
+    let key_base = Base::at(&kinds, &machine.words, 2, 0);
+    let value_base = Base::at(&kinds, &machine.words, 3, 0);
+    let mut key_room = [0; 64];
+    let mut value_room = [0; 256];
+    let key = &mut key_room[..key_bytes];
+    let value = &mut value_room[..value_bytes];
+    fetch(&machine.stack, maps, argument, key_base, key);
+    fetch(&machine.stack, maps, argument, value_base, value);
     let flags = machine.words[4];
-    machine.words[0] = update(maps, m, &key[..key_bytes], &value[..value_bytes], flags);
+    machine.words[0] = update(maps, m, key, value, flags);
     Some(Edge::Fall)
 }
 
@@ -88,8 +91,10 @@ fn call_delete(
 {
     let m = kinds.map_named();
     let key_bytes = maps.shape(m).key_bytes();
-    let key = Base::at(&kinds, &machine.words, 2, 0);
-    let key = fetch(&machine.stack, maps, argument, key, key_bytes);
-    machine.words[0] = delete(maps, m, &key[..key_bytes]);
+    let key_base = Base::at(&kinds, &machine.words, 2, 0);
+    let mut key_room = [0; 64];
+    let key = &mut key_room[..key_bytes];
+    fetch(&machine.stack, maps, argument, key_base, key);
+    machine.words[0] = delete(maps, m, key);
     Some(Edge::Fall)
 }
