@@ -4,8 +4,8 @@ use std::collections::BTreeSet;
 
 const BUCKETS: u64 = 65_536;
 
-// The bucket that keys are chosen for: of all buckets the one that most keys of 4 bytes have, 66,580.
-const BUCKET: u64 = 16_649;
+// The bucket that keys are chosen for: of all buckets the one that most keys of 4 bytes have, 65,546.
+const BUCKET: u64 = 62_324;
 
 const FIRST: u64 = 0x9e37_79b9_7f4a_7c15;
 const FACTOR: u64 = 0xff51_afd7_ed55_8ccd;
@@ -81,13 +81,17 @@ impl Keys {
         Keys { size, keys }
     }
 
-    /// So many keys of 4 or of 64 bytes that share a bucket.
+    /// So many keys of 4 or of 64 bytes that share a bucket, or as many as there are.
     pub fn of_one_bucket(size: usize, count: usize, random: &mut Random) -> Keys {
         let mut keys = if size == 4 { short_keys() } else { (0..count).map(|_| long_key(&[], random)).collect() };
         random.shuffle(&mut keys);
         keys.truncate(count);
-        assert_eq!(keys.len(), count);
         Keys { size, keys }
+    }
+
+    /// How many there are.
+    pub fn len(&self) -> usize {
+        self.keys.len()
     }
 
     /// Keys that share a bucket, each of which agrees with the later ones on one bit more: the longest way that could be found.
@@ -125,17 +129,8 @@ impl Keys {
 
 // All keys of 4 bytes of the bucket.
 fn short_keys() -> Vec<Vec<u8>> {
-    let mut keys = Vec::new();
-    for first in 0..1u32 << 24 {
-        let bytes = first.to_le_bytes();
-        let hash = bytes[..3].iter().fold(FIRST, |hash, byte| mixed(hash, u64::from(*byte)));
-        for last in 0..=255u8 {
-            if bucket(mixed(hash, u64::from(last))) == BUCKET {
-                keys.push(vec![bytes[0], bytes[1], bytes[2], last]);
-            }
-        }
-    }
-    keys
+    let of_bucket = |number: &u32| bucket(mixed(FIRST, u64::from(*number))) == BUCKET;
+    (0..=u32::MAX).filter(of_bucket).map(|number| number.to_le_bytes().to_vec()).collect()
 }
 
 // A key of 64 bytes of the bucket that begins so: of the rest all is random but the last word, which is the one that leads there.

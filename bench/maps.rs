@@ -183,7 +183,8 @@ fn print_size<const N: usize>(random: &mut Random) {
     let chosen = Keys::of_one_bucket(N, ENTRIES as usize + MISSES, random);
     for (label, keys) in [("any", &any), ("one bucket", &chosen)] {
         for fill in FILLS {
-            print_rows::<N>(label, &keys.asked(fill, MISSES, random));
+            let misses = MISSES.min(keys.len() - fill);
+            print_rows::<N>(label, &keys.asked(fill, misses, random));
         }
     }
     print_rows::<N>("one path", &Keys::on_one_path(N, random).deepest());
