@@ -6,6 +6,7 @@ use Rattle.std.specs.Fmt.{digits}
 use lib.Utf8.{encode}
 use Rattle.text.specs.Lines.{next_line}
 use Rattle.loader.specs.NamedFiles.{named_in}
+use Rattle.loader.specs.Grammar.{words_of}
 use Rattle.loader.specs.Loading.{loaded}
 use Rattle.loader.specs.CatalogueView.{CatalogueView}
 use Rattle.oplog.specs.History.{History}
@@ -45,7 +46,7 @@ lines =
     ∙ ap (behind (codes "update 2 reply 18446744073709551615 steps 6\n")) (line counter 5 thrice _ [] _ nope))))
 
 texts : all_texts counter_manifest counter_folder counter_script ≡ true
-unfolding chars is_utf8 encode trim_start trim_end named_in
+unfolding chars is_utf8 encode trim_start trim_end named_in words_of
 texts = refl
 
 pub counter_runs : run_answer counter_manifest counter_folder counter_script ≡ counter_ran
