@@ -1,5 +1,6 @@
 // The command line.
 
+use crate::disk::DASH;
 use crate::help;
 use clap::builder::ValueParser;
 use clap::{Arg, ArgMatches, Command, Error};
@@ -8,11 +9,13 @@ use std::alloc::{AllocError, Global};
 
 /// What is to be done.
 #[derive(Clone, Copy)]
-pub enum Task {
+pub enum Task<'a> {
     /// Check a manifest.
     Check,
     /// Assemble a text.
     Assemble,
+    /// Assemble a text into the file of this path.
+    AssembleInto(&'a str),
     /// Disassemble a program file.
     Disassemble,
     /// Run a script.
@@ -29,21 +32,29 @@ pub enum Task {
 #[derive(Clone, Copy)]
 pub struct Call<'a> {
     /// What is to be done.
-    pub task: Task,
+    pub task: Task<'a>,
     /// The path of the manifest, empty where the task reads none.
     pub manifest: &'a str,
     /// The path of the other file, empty where the task reads none.
     pub file: &'a str,
 }
 
-// What a command is: its help, whether it takes the sizes of a store and a manifest, and the name and the help of the file that it
-// reads besides.
+impl Call<'_> {
+    /// Whether both files are standard input, which can be read once.
+    pub fn reads_twice(&self) -> bool {
+        self.manifest == DASH && self.file == DASH
+    }
+}
+
+// What a command is: its help, whether it takes the sizes of a store, a file to write and a manifest, and the name and the help of the
+// file that it reads besides.
 #[derive(Clone, Copy)]
 struct Row<'a> {
     name: &'a str,
     about: &'a str,
     after: &'a str,
     is_sized: bool,
+    has_output: bool,
     has_manifest: bool,
     file: Option<(&'a str, &'a str)>,
 }
@@ -80,6 +91,15 @@ fn size<'a>(alloc: Global, name: &'a str, default: &'a str, help: &'a str) -> Ar
         .help(help)
 }
 
+// The option that names the file to write.
+fn output<'a>(alloc: Global) -> Arg<'a> {
+    Arg::new(alloc, "output")
+        .short('o')
+        .long("output")
+        .value_name("OUT")
+        .help(help::OUTPUT)
+}
+
 // Appends the arguments of a command.
 fn list_arguments<'a>(
     alloc: Global,
@@ -90,6 +110,9 @@ fn list_arguments<'a>(
         for &(name, default, help) in &SIZES {
             append(arguments, size(alloc, name, default, help))?;
         }
+    }
+    if row.has_output {
+        append(arguments, output(alloc))?;
     }
     if row.has_manifest {
         append(
@@ -135,6 +158,7 @@ fn program_rows<'a>() -> [Row<'a>; 3] {
             about: help::CHECK,
             after: help::AFTER_CHECK,
             is_sized: false,
+            has_output: false,
             has_manifest: true,
             file: None,
         },
@@ -143,6 +167,7 @@ fn program_rows<'a>() -> [Row<'a>; 3] {
             about: help::ASM,
             after: help::AFTER_ASM,
             is_sized: false,
+            has_output: true,
             has_manifest: false,
             file: Some(("FILE", help::SOURCE)),
         },
@@ -151,6 +176,7 @@ fn program_rows<'a>() -> [Row<'a>; 3] {
             about: help::DIS,
             after: help::AFTER_DIS,
             is_sized: false,
+            has_output: false,
             has_manifest: false,
             file: Some(("FILE", help::PROGRAM)),
         },
@@ -165,6 +191,7 @@ fn store_rows<'a>() -> [Row<'a>; 4] {
             about: help::RUN,
             after: help::AFTER_RUN,
             is_sized: false,
+            has_output: false,
             has_manifest: true,
             file: Some(("SCRIPT", help::SCRIPT)),
         },
@@ -173,6 +200,7 @@ fn store_rows<'a>() -> [Row<'a>; 4] {
             about: help::REPLAY,
             after: help::AFTER_REPLAY,
             is_sized: false,
+            has_output: false,
             has_manifest: true,
             file: Some(("TRANSCRIPT", help::TRANSCRIPT)),
         },
@@ -181,6 +209,7 @@ fn store_rows<'a>() -> [Row<'a>; 4] {
             about: help::SCHEDULE,
             after: help::AFTER_SCHEDULE,
             is_sized: true,
+            has_output: false,
             has_manifest: true,
             file: Some(("STEPS", help::STEPS)),
         },
@@ -189,6 +218,7 @@ fn store_rows<'a>() -> [Row<'a>; 4] {
             about: help::STRESS,
             after: help::AFTER_STRESS,
             is_sized: true,
+            has_output: false,
             has_manifest: true,
             file: Some(("SCRIPT", help::SCRIPT)),
         },
@@ -206,6 +236,7 @@ fn command<'a>(alloc: Global) -> Result<Command<'a>, AllocError> {
     let mut commands = Vec::new(alloc);
     list_commands(alloc, &mut commands)?;
     helped(alloc, "nrbpf", help::ABOUT, help::AFTER)
+        .version(help::VERSION)
         .subcommand_required(true)
         .arg_required_else_help(true)
         .subcommands(commands)
@@ -221,11 +252,19 @@ fn config_of(matches: &ArgMatches) -> Option<Config> {
     })
 }
 
+// Assembling, to standard output or into a file.
+fn assembling<'a>(matches: &ArgMatches<'a>) -> Task<'a> {
+    match matches.get_str("output") {
+        Some(path) if path != DASH => Task::AssembleInto(path),
+        _ => Task::Assemble,
+    }
+}
+
 // What the command of this name does.
-fn task_of(name: &str, matches: &ArgMatches) -> Option<Task> {
+fn task_of<'a>(name: &str, matches: &ArgMatches<'a>) -> Option<Task<'a>> {
     Some(match name {
         "check" => Task::Check,
-        "asm" => Task::Assemble,
+        "asm" => assembling(matches),
         "dis" => Task::Disassemble,
         "run" => Task::Run,
         "replay" => Task::Replay,

@@ -1,51 +1,132 @@
-// Files by their paths.
+// Files by their paths. One that cannot be opened or read is named on standard error, as `PATH: REASON`.
+
+ghost use Rattle.std.specs.Prelude.{IfOk};
+ghost use Rattle.std.specs.Counts.{IsPrefixLen};
 
 use console::Folder;
-use std::io::Read;
+use std::alloc::{AllocError, Global};
+use std::io::{Eprint, Input, Read};
 use std::rt::Files;
 use std::{fs, io};
 
+/// The path that stands for standard input, and in an option for standard output.
+pub const DASH: &str = "-";
+
+/// Says on standard error why something cannot be used.
+pub fn say<R: Eprint>(rt: &R, name: &str, error: &io::Error) {
+    let _ = eprintln!(rt; "{name}: {error}");
+}
+
+// A text of its own.
+fn copied(alloc: Global, text: &str) -> Result<String, AllocError> {
+    let mut copy = String::new(alloc);
+    copy.push_str(text)?;
+    Ok(copy)
+}
+
 /// The file system, from the working folder.
 #[derive(Drop)]
-pub struct Disk<'a, R: Files> {
+pub struct Disk<'a, R: Files + AllocGlobal + Eprint> {
     pub rt: &'a R,
 }
 
-impl<R: Files> Folder for Disk<'_, R> {
-    type File = R::File;
+/// A file that a manifest names.
+#[derive(Drop)]
+pub struct NamedFile<'a, R: Files + AllocGlobal + Eprint> {
+    rt: &'a R,
+    // Where there was no memory for it, the file goes by no name.
+    name: Option<String>,
+    file: R::File,
+}
 
-    fn open(&self, name: &str) -> Option<R::File> {
-        fs::open(self.rt, name).ok()
+impl<'a, R: Files + AllocGlobal + Eprint> Folder for Disk<'a, R> {
+    type File = NamedFile<'a, R>;
+
+    fn open(&self, name: &str) -> Option<NamedFile<'a, R>> {
+        let rt = self.rt;
+        match fs::open(rt, name) {
+            Ok(file) => {
+                let name = copied(rt.alloc(), name).ok();
+                Some(NamedFile { rt, name, file })
+            }
+            Err(error) => {
+                say(rt, name, &error);
+                None
+            }
+        }
     }
 }
 
-/// A file that is opened when it is first read: what is read before it is judged before it.
-#[derive(Drop)]
-pub struct LateFile<'a, R: Files> {
-    rt: &'a R,
-    path: &'a str,
-    file: Option<R::File>,
+impl<R: Files + AllocGlobal + Eprint> Read for NamedFile<'_, R> {
+    fn read(&mut self, buf: &mut [u8]) -> io::Result<usize> {
+        let read = self.file.read(buf);
+        if let (Some(name), Err(error)) = (&self.name, &read) {
+            say(self.rt, name.as_str(), error);
+        }
+        read
+    }
 }
 
-impl<'a, R: Files> LateFile<'a, R> {
+// A file, or standard input.
+#[derive(Drop)]
+enum Opened<F: Drop, I: Drop> {
+    File(F),
+    Input(I),
+}
+
+/// A file that is opened when it is first read: what is read before it is judged before it. The path `-` is standard input.
+#[derive(Drop)]
+pub struct LateFile<'a, R: Files + Input + Eprint> {
+    rt: &'a R,
+    path: &'a str,
+    opened: Option<Opened<R::File, R::Reader>>,
+}
+
+impl<'a, R: Files + Input + Eprint> LateFile<'a, R> {
     /// The file of this path.
     pub fn new(rt: &'a R, path: &'a str) -> LateFile<'a, R> {
         LateFile {
             rt,
             path,
-            file: None,
+            opened: None,
+        }
+    }
+
+    // The file, opened.
+    fn open(&self) -> io::Result<Opened<R::File, R::Reader>> {
+        if self.path == DASH {
+            Ok(Opened::Input(self.rt.reader()))
+        } else {
+            Ok(Opened::File(fs::open(self.rt, self.path)?))
+        }
+    }
+
+    // Reads some of it.
+    fn read_some(&mut self, buf: &mut [u8]) -> io::Result<usize>
+        ensures { IfOk result (λ n. IsPrefixLen n buf.new) }
+    {
+        if self.opened.is_none() {
+            self.opened = Some(self.open()?);
+        }
+        match &mut self.opened {
+            Some(Opened::File(file)) => file.read(buf),
+            Some(Opened::Input(input)) => input.read(buf),
+            None => Ok(0),
         }
     }
 }
 
-impl<R: Files> Read for LateFile<'_, R> {
+impl<R: Files + Input + Eprint> Read for LateFile<'_, R> {
     fn read(&mut self, buf: &mut [u8]) -> io::Result<usize> {
-        if let Some(file) = &mut self.file {
-            return file.read(buf);
+        let read = self.read_some(buf);
+        if let Err(error) = &read {
+            let name = if self.path == DASH {
+                "standard input"
+            } else {
+                self.path
+            };
+            say(self.rt, name, error);
         }
-        let mut file = fs::open(self.rt, self.path)?;
-        let read = file.read(buf);
-        self.file = Some(file);
         read
     }
 }

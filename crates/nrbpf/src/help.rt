@@ -3,6 +3,9 @@
 /// What the program is, in a line.
 pub const ABOUT: &str = "A store of maps whose operations are eBPF programs";
 
+/// The day of the newest change that a user notices (CHANGELOG).
+pub const VERSION: &str = "2026-11-23";
+
 /// What stands behind the list of commands.
 pub const AFTER: &str = "\
 A manifest is a text that names the maps of a store and its programs:
@@ -16,6 +19,8 @@ of at most ENTRIES keys of KEY bytes, each with such a value. `program NAME MODE
 the file FILE, as hexadecimal digits; its MODE is update or read, and its argument has ARGLEN bytes.
 `nrbpf check --help` says more, `nrbpf run --help` how programs are called, and `nrbpf asm --help` how they are
 written as text.
+
+A path `-` on the command line is standard input, for one file of a command.
 
 Exit statuses: 0 all is well, 2 wrong words on the command line, 3 refused, 4 no memory,
 5 a file cannot be read or the output cannot be written, 6 a transcript differs.";
@@ -64,7 +69,8 @@ them. A line has one instruction or one label; `;` begins a comment.
     mov64 r0, 5
     exit
 
-is `b7000000050000009500000000000000`.
+is `b7000000050000009500000000000000`. With `-o OUT` they are written to the file OUT, and only where the text is
+a program: by way of a file OUT.part beside it, so that OUT is replaced whole or stays as it was.
 
     WORDS                                                        OPERANDS
     add sub mul div or and lsh rsh mod xor mov arsh sdiv smod,   rD, rS or rD, IMM
@@ -98,6 +104,9 @@ Exit statuses: 0 all is well, 2 wrong words on the command line, 3 refused, 4 `n
 
 /// What the path of an assembler text is.
 pub const SOURCE: &str = "The path of the assembler text";
+
+/// What the path of the file to write is.
+pub const OUTPUT: &str = "The path of the program file to write, in place of standard output";
 
 /// What `dis` does, in a line.
 pub const DIS: &str = "Disassembles a program";

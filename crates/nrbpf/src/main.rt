@@ -4,11 +4,15 @@
 mod command_line;
 mod disk;
 mod help;
+mod output;
+mod sizes;
 
 use command_line::{Call, Task};
 use console::{Folder, Setup, Status, assemble, check, disassemble, replay, run, schedule};
 use disk::{Disk, LateFile};
-use std::io::{self, Print, Read, Write};
+use output::{Output, assemble_into};
+use sizes::say_sizes;
+use std::io::{self, Eprint, Input, Print, Read, Write};
 use std::process::ExitCode;
 use std::rt::Files;
 use std::sync::Wait;
@@ -16,9 +20,9 @@ use std::thread::Threads;
 use stress::{OpenGate, Trial, stress};
 
 // Does a task, with what it reads and where it writes.
-fn perform<R: AllocGlobal + Threads + Wait + Sync, F: Folder, I: Read, W: Write>(
+fn perform<R: Files + AllocGlobal + Eprint + Threads + Wait + Sync, F: Folder, I: Read, W: Write>(
     rt: &R,
-    task: Task,
+    task: Task<'_>,
     folder: &F,
     manifest: &mut I,
     file: &mut I,
@@ -28,6 +32,7 @@ fn perform<R: AllocGlobal + Threads + Wait + Sync, F: Folder, I: Read, W: Write>
     match task {
         Task::Check => check(alloc, folder, manifest, writer),
         Task::Assemble => assemble(alloc, file, writer),
+        Task::AssembleInto(path) => assemble_into(rt, path, file, writer),
         Task::Disassemble => disassemble(alloc, file, writer),
         Task::Run => run(alloc, folder, manifest, file, writer),
         Task::Replay => replay(alloc, folder, manifest, file, writer),
@@ -47,24 +52,33 @@ fn perform<R: AllocGlobal + Threads + Wait + Sync, F: Folder, I: Read, W: Write>
     }
 }
 
-// Answers a call from the files that it names, on standard output. A file that its task does not read is not opened.
-fn answer<R: Files + Print + AllocGlobal + Threads + Wait + Sync>(rt: &R, call: &Call) -> Status {
-    perform(
+// Answers a call from the files that it names, on standard output, and says on standard error what it could not say there. A file that its
+// task does not read is not opened.
+fn answer<R: Files + Input + Print + Eprint + AllocGlobal + Threads + Wait + Sync>(
+    rt: &R,
+    call: &Call,
+) -> Status {
+    let mut writer = Output::new(rt, io::writer(rt));
+    let status = perform(
         rt,
         call.task,
         &Disk { rt },
         &mut LateFile::new(rt, call.manifest),
         &mut LateFile::new(rt, call.file),
-        &mut io::writer(rt),
-    )
+        &mut writer,
+    );
+    say_sizes(rt, call.task, status);
+    if !writer.is_closed {
+        complain(rt, status);
+    }
+    status
 }
 
-// Says on standard error what a command could not say on standard output, and gives the exit status.
-fn finish(rt: &HostRuntime, status: Status) -> ExitCode {
+// Says on standard error how a command ended that could not write it.
+fn complain<R: Eprint>(rt: &R, status: Status) {
     if let Some(complaint) = status.complaint() {
         let _ = eprintln!(rt; "{complaint}");
     }
-    ExitCode::from(status.code())
 }
 
 // A fault of the command line.
@@ -79,7 +93,11 @@ fn main(rt: HostRuntime) -> ExitCode {
         Err(_) => return ExitCode::from(FAULT),
     };
     match command_line::read(rt.alloc(), words.as_slice()) {
-        Ok(Some(call)) => finish(&rt, answer(&rt, &call)),
+        Ok(Some(call)) if call.reads_twice() => {
+            let _ = eprintln!(rt; "error: standard input can be one file only");
+            ExitCode::from(FAULT)
+        }
+        Ok(Some(call)) => ExitCode::from(answer(&rt, &call).code()),
         Ok(None) => ExitCode::from(FAULT),
         Err(error) => {
             let _ = error.print(&rt);

@@ -1,0 +1,112 @@
+// Where a command writes.
+
+use crate::disk::say;
+use console::{InputFault, Reply, Sink, Source, Status, Verdict, asm_reply, report};
+use std::alloc::{AllocError, Global};
+use std::io::{Eprint, ErrorKind, Write};
+use std::rt::Files;
+use std::{fs, io};
+
+/// Standard output. Why a write failed is said on standard error, but for one to a pipe that nobody reads any more.
+#[derive(Drop)]
+pub struct Output<'a, R: Eprint, W: Write + Drop> {
+    rt: &'a R,
+    writer: W,
+    /// Whether nobody reads it any more.
+    pub is_closed: bool,
+}
+
+impl<'a, R: Eprint, W: Write + Drop> Output<'a, R, W> {
+    /// What is written goes to this writer.
+    pub fn new(rt: &'a R, writer: W) -> Output<'a, R, W> {
+        Output {
+            rt,
+            writer,
+            is_closed: false,
+        }
+    }
+}
+
+impl<R: Eprint, W: Write + Drop> Write for Output<'_, R, W> {
+    fn write(&mut self, buf: &[u8]) -> io::Result<usize> {
+        let written = self.writer.write(buf);
+        if let Err(error) = &written {
+            if error.kind() == ErrorKind::BrokenPipe {
+                self.is_closed = true;
+            } else {
+                say(self.rt, "standard output", error);
+            }
+        }
+        written
+    }
+
+    fn flush(&mut self) -> io::Result<()> {
+        self.writer.flush()
+    }
+}
+
+// The path of the file that becomes the one of this path.
+fn part_of(alloc: Global, path: &str) -> Result<String, AllocError> {
+    let mut part = String::new(alloc);
+    part.push_str(path)?;
+    part.push_str(".part")?;
+    Ok(part)
+}
+
+// Writes a file beside that of the path, and puts it in its place.
+fn replace<R: Files>(rt: &R, path: &str, part: &str, text: &[u8]) -> io::Result<()> {
+    let mut file = fs::create(rt, part)?;
+    let written = match file.write_all(text) {
+        Ok(()) => fs::rename(rt, part, path),
+        Err(error) => Err(error),
+    };
+    if written.is_err() {
+        let _ = fs::remove_file(rt, part);
+    }
+    written
+}
+
+// Whether what has this path is no plain file: a link, a device, a pipe.
+fn is_special<R: Files>(rt: &R, path: &str) -> bool {
+    match fs::symlink_metadata(rt, path) {
+        Ok(found) => !found.is_file(),
+        Err(_) => false,
+    }
+}
+
+// Puts a text where the path is: a plain file is replaced whole, or stays as it was.
+fn save<R: Files + Eprint>(rt: &R, path: &str, part: &str, text: &[u8]) -> Status {
+    let saved = if is_special(rt, path) {
+        fs::write(rt, path, text)
+    } else {
+        replace(rt, path, part, text)
+    };
+    match saved {
+        Ok(()) => Status::Good,
+        Err(error) => {
+            say(rt, path, &error);
+            Status::CannotWrite
+        }
+    }
+}
+
+/// Assembles a text into the file of a path. A refusal goes to the writer, and the file stays as it was.
+pub fn assemble_into<R: Files + AllocGlobal + Eprint, I: Source, W: Sink>(
+    rt: &R,
+    path: &str,
+    source: &mut I,
+    writer: &mut W,
+) -> Status {
+    match asm_reply(rt.alloc(), source) {
+        Ok(
+            Reply {
+                text,
+                verdict: Verdict::Good,
+            },
+        ) => match part_of(rt.alloc(), path) {
+            Ok(part) => save(rt, path, part.as_str(), &text),
+            Err(_) => report(writer, Err(InputFault::NoMemory)),
+        },
+        other => report(writer, other),
+    }
+}
