@@ -1,0 +1,29 @@
+# Made by .ci/manual from the help of nrbpf: change crates/nrbpf/src/help.rt, not this file.
+# Completes commands, options and paths of nrbpf in bash:  . docs/nrbpf.bash
+_nrbpf() {
+    local word=${COMP_WORDS[COMP_CWORD]} before=${COMP_WORDS[COMP_CWORD - 1]} words
+    if [ "$COMP_CWORD" -eq 1 ]; then
+        words='check asm dis run replay schedule stress help -h --help -V --version'
+        COMPREPLY=($(compgen -W "$words" -- "$word"))
+        return
+    fi
+    case ${COMP_WORDS[1]}:$before in
+        schedule:--limit | schedule:--nodes | schedule:--slots | schedule:--window | stress:--limit | stress:--nodes | stress:--slots | stress:--window) COMPREPLY=(); return ;;
+    esac
+    case ${COMP_WORDS[1]} in
+        check) words='-h --help' ;;
+        asm) words='-o --output -h --help' ;;
+        dis) words='-h --help' ;;
+        run) words='-h --help' ;;
+        replay) words='-h --help' ;;
+        schedule) words='--nodes --slots --window --limit -h --help' ;;
+        stress) words='--nodes --slots --window --limit -h --help' ;;
+        help) words='check asm dis run replay schedule stress' ;;
+        *) words= ;;
+    esac
+    case $word in
+        -*) COMPREPLY=($(compgen -W "$words" -- "$word")) ;;
+        *) if [ "${COMP_WORDS[1]}" = help ]; then COMPREPLY=($(compgen -W "$words" -- "$word")); else COMPREPLY=($(compgen -f -- "$word")); fi ;;
+    esac
+}
+complete -o filenames -F _nrbpf nrbpf ./nrbpf
