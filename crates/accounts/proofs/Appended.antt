@@ -34,7 +34,7 @@ module _ {C M : Type 0} (E : Meaning C M) where
       allowed = subst (λ h. (i : ℕ) (r : Record) → At i r h → IsAllowed E l'.catalogue r.op) (sym same) (subst (λ z. (i : ℕ) (r : Record) → At i r l.history → IsAllowed E z r.op) (sym catalogue) w.allowed);
       accounted = subst (λ h. (i : ℕ) (r : Record) → At i r h → (m : SessionNote) × At r.author m ns × IsNoted m i r) (sym same) w.accounted;
       ordered = subst (λ h. (i j : ℕ) (r s : Record) → At i r h → At j s h → i < j → r.author ≡ s.author → r.seq < s.seq) (sym same) w.ordered;
-      answered = subst (λ h. (a : ℕ) (m : SessionNote) (q : ℕ) (u : AnsweredUpdate) → At a m ns → At q u m.answered → At u.place (record { author = a; seq = q; op = u.op }) h) (sym same) w.answered;
+      answered = subst (λ h. (a : ℕ) (m : SessionNote) (q : ℕ) (u : AnsweredUpdate) → At a m ns → At q u m.answered → At u.index (record { author = a; seq = q; op = u.op }) h) (sym same) w.answered;
       pending = subst (λ h. (a : ℕ) (m : SessionNote) (o : Pending) → At a m ns → m.pending ≡ Some o → IsAllowed E l'.catalogue o.op × (o.seen ≤ length h)) (sym same)
           (subst (λ z. (a : ℕ) (m : SessionNote) (o : Pending) → At a m ns → m.pending ≡ Some o → IsAllowed E z o.op × (o.seen ≤ length l.history)) (sym catalogue) w.pending);
       requested = w.requested;
@@ -45,7 +45,7 @@ module _ {C M : Type 0} (E : Meaning C M) where
       limit = let long = ap length same in let top = ap (λ (z : Config). z.limit) config in let was = w.limit in omega (arith, long, top, was);
     }
 
-    module _ (k : ℕ) (unplaced : (j : ℕ) (t : Claim) → At j t n.batch → t.place ≡ None) (history : l'.history ≡ l.history ++ map record_of (take k n.batch)) where
+    module _ (k : ℕ) (unplaced : (j : ℕ) (t : Claim) → At j t n.batch → t.index ≡ None) (history : l'.history ≡ l.history ++ map record_of (take k n.batch)) where
       abbrev more : List Record
       more = map record_of (take k n.batch)
 
@@ -92,13 +92,13 @@ module _ {C M : Type 0} (E : Meaning C M) where
           theirs : d ≢ c → IsInBatch ns d j u → IsPlacedIn (l.history ++ more) u
           theirs ne g = let p = w.placed d j u g in ((λ i e. at_front l.history more i u.request (p.0 i e)), (λ e. none_still d j u g (λ z. absurd (ne z)) (p.1 e)))
 
-          mine : d ≡ c → (t : Claim) × At j t n.batch × (u.request ≡ t.request) × ((j < k) → u.place ≡ Some (length l.history + j)) × ((k ≤ j) → u.place ≡ t.place) → IsPlacedIn (l.history ++ more) u
+          mine : d ≡ c → (t : Claim) × At j t n.batch × (u.request ≡ t.request) × ((j < k) → u.index ≡ Some (length l.history + j)) × ((k ≤ j) → u.index ≡ t.index) → IsPlacedIn (l.history ++ more) u
           mine is (t, at, same, low, high) = (
-            (λ i e. ⊎_elim (λ lt. here_now i lt e) (λ le. absurd (some_none i u.place e (high le ∙ unplaced j t at))) (cases_lt j k)),
-            (λ e. ⊎_elim (λ lt. absurd (some_none (length l.history + j) u.place (low lt) e)) (λ le. missing le) (cases_lt j k)),
+            (λ i e. ⊎_elim (λ lt. here_now i lt e) (λ le. absurd (some_none i u.index e (high le ∙ unplaced j t at))) (cases_lt j k)),
+            (λ e. ⊎_elim (λ lt. absurd (some_none (length l.history + j) u.index (low lt) e)) (λ le. missing le) (cases_lt j k)),
           )
             where
-              here_now : (i : ℕ) → j < k → u.place ≡ Some i → At i u.request (l.history ++ more)
+              here_now : (i : ℕ) → j < k → u.index ≡ Some i → At i u.request (l.history ++ more)
               here_now i lt e = subst (λ z. At z u.request (l.history ++ more)) (some_one (length l.history + j) i (sym (low lt) ∙ e))
                   (subst (λ (z : Record). At (length l.history + j) z (l.history ++ more)) (sym same) (at_behind l.history more j t.request (taken_on k n.batch j t at lt)))
 

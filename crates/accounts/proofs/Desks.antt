@@ -63,7 +63,7 @@ pub posted_on : (a : ℕ) (xs : List Slot) (j : ℕ) (slot : Slot) (op : Operati
 posted_on a [] j slot op h e = absurd (at_none j slot h)
 posted_on a (x ∷ xs) zero slot op h e =
     subst (λ st. (k : ℕ) × (t : Claim) × At k t (unplaced (requested a x.count st (requests_from (suc a) xs))) × (t.request.author ≡ a + 0)) (sym (ap (λ (z : Slot). z.stage) (some-injective x slot h) ∙ e))
-    (0, record { request = record { author = a; seq = x.count; op = op }; place = None }, refl, plus_zero a)
+    (0, record { request = record { author = a; seq = x.count; op = op }; index = None }, refl, plus_zero a)
 posted_on a (x ∷ xs) (suc j) slot op h e = by_stage x.stage (posted_on (suc a) xs j slot op h e)
   where
     by_stage : (st : Stage) → ((k : ℕ) × (t : Claim) × At k t (unplaced (requests_from (suc a) xs)) × (t.request.author ≡ suc a + j))

@@ -25,10 +25,10 @@ module _ {C M : Type 0} (E : Meaning C M) where
   below_open l ns w n r s i there asked none at e =
       let t = w.accounted i r at in
       let same : t.0 ≡ n = at_one ns s.author t.0 n (subst (λ z. At z t.0 ns) e t.1) there in
-      ⊎_elim (λ h. low (subst (λ (z : SessionNote). At r.seq (record { place = i; op = r.op }) z.answered) same h))
+      ⊎_elim (λ h. low (subst (λ (z : SessionNote). At r.seq (record { index = i; op = r.op }) z.answered) same h))
       (λ h. absurd (none i r at e (h.3 ∙ (ap (λ (z : SessionNote). length z.answered) same ∙ sym asked.3)))) t.2
     where
-      low : At r.seq (record { place = i; op = r.op }) n.answered → r.seq < s.seq
+      low : At r.seq (record { index = i; op = r.op }) n.answered → r.seq < s.seq
       low h = let b = at_below n.answered r.seq _ h in let q = asked.3 in omega (arith, b, q)
 
   -- what is asked of new records
@@ -79,10 +79,10 @@ module _ {C M : Type 0} (E : Meaning C M) where
           (λ u. let same = new.apart t.0 u.0 r s t.2 u.2 e in let x = t.1 in let y = u.1 in absurd (omega (arith, same, x, y, lt))) (at_joined l.history more j s at_j))
           (at_joined l.history more i r at_i)
 
-      answered : (a : ℕ) (m : SessionNote) (q : ℕ) (u : AnsweredUpdate) → At a m ns' → At q u m.answered → At u.place (record { author = a; seq = q; op = u.op }) H'
+      answered : (a : ℕ) (m : SessionNote) (q : ℕ) (u : AnsweredUpdate) → At a m ns' → At q u m.answered → At u.index (record { author = a; seq = q; op = u.op }) H'
       answered a m q u at h =
           let o = alike_back ns c n n' here unlike a m at in
-          at_front l.history more u.place _ (w.answered a o.0 q u o.1 (subst (λ us. At q u us) o.2.answered h))
+          at_front l.history more u.index _ (w.answered a o.0 q u o.1 (subst (λ us. At q u us) o.2.answered h))
 
       opened : (a : ℕ) (m : SessionNote) (o : Pending) → At a m ns' → m.pending ≡ Some o → IsAllowed E l.catalogue o.op × (o.seen ≤ length H')
       opened a m o at h =
@@ -97,7 +97,7 @@ module _ {C M : Type 0} (E : Meaning C M) where
         allowed = subst (λ h. (i : ℕ) (r : Record) → At i r h → IsAllowed E l'.catalogue r.op) (sym history) (subst (λ z. (i : ℕ) (r : Record) → At i r H' → IsAllowed E z r.op) (sym catalogue) allowed);
         accounted = subst (λ h. (i : ℕ) (r : Record) → At i r h → (m : SessionNote) × At r.author m ns' × IsNoted m i r) (sym history) accounted;
         ordered = subst (λ h. (i j : ℕ) (r s : Record) → At i r h → At j s h → i < j → r.author ≡ s.author → r.seq < s.seq) (sym history) ordered;
-        answered = subst (λ h. (a : ℕ) (m : SessionNote) (q : ℕ) (u : AnsweredUpdate) → At a m ns' → At q u m.answered → At u.place (record { author = a; seq = q; op = u.op }) h) (sym history) answered;
+        answered = subst (λ h. (a : ℕ) (m : SessionNote) (q : ℕ) (u : AnsweredUpdate) → At a m ns' → At q u m.answered → At u.index (record { author = a; seq = q; op = u.op }) h) (sym history) answered;
         pending = subst (λ h. (a : ℕ) (m : SessionNote) (o : Pending) → At a m ns' → m.pending ≡ Some o → IsAllowed E l'.catalogue o.op × (o.seen ≤ length h)) (sym history)
             (subst (λ z. (a : ℕ) (m : SessionNote) (o : Pending) → At a m ns' → m.pending ≡ Some o → IsAllowed E z o.op × (o.seen ≤ length H')) (sym catalogue) opened);
         requested = b.requested;
@@ -112,14 +112,14 @@ module _ {C M : Type 0} (E : Meaning C M) where
     pub request_changes : n'.batch ≡ n.batch
         → ((d k : ℕ) (t : Claim) → IsInBatch ns d k t → t.request.author ≢ c)
         → ((i : ℕ) (r : Record) → At i r l.history → r.author ≡ c → IsNoted n i r → IsNoted n' i r)
-        → ((q : ℕ) (u : AnsweredUpdate) → At q u n'.answered → At u.place (record { author = c; seq = q; op = u.op }) l.history)
+        → ((q : ℕ) (u : AnsweredUpdate) → At q u n'.answered → At u.index (record { author = c; seq = q; op = u.op }) l.history)
         → ((o : Pending) → n'.pending ≡ Some o → IsAllowed E l.catalogue o.op × (o.seen ≤ length l.history))
         → Accounts E l (set ns c n')
     request_changes batch unclaimed accounted answered opened = record {
       allowed = w.allowed;
       accounted = λ i r at. let t = w.accounted i r at in on i r at t.0 t.1 t.2 (ℕ_discrete r.author c);
       ordered = w.ordered;
-      answered = λ a m q u at h. ⊎_elim (λ e. subst (λ z. At u.place (record { author = z; seq = q; op = u.op }) l.history) (sym e.0) (answered q u (subst (λ (z : SessionNote). At q u z.answered) (sym e.1) h)))
+      answered = λ a m q u at h. ⊎_elim (λ e. subst (λ z. At u.index (record { author = z; seq = q; op = u.op }) l.history) (sym e.0) (answered q u (subst (λ (z : SessionNote). At q u z.answered) (sym e.1) h)))
           (λ e. w.answered a m q u e.1 h) (note_back ns c n n' here a m at);
       pending = λ a m o at h. ⊎_elim (λ e. opened o (ap (λ (z : SessionNote). z.pending) e.1 ∙ h)) (λ e. w.pending a m o e.1 h) (note_back ns c n n' here a m at);
       requested = λ d k t h. let old = back d k t h in let r = w.requested d k t old in (r.0, note_else ns c n n' here t.request.author r.0 (unclaimed d k t old) r.1, r.2);

@@ -26,7 +26,7 @@ use Rattle.accounts.specs.declared.sessions.Progress.{Progress}
 use Rattle.accounts.specs.declared.sessions.SessionNote.{SessionNote}
 
 abbrev updated : ℕ → Pending → AnsweredUpdate
-updated i o = record { place = i; op = o.op }
+updated i o = record { index = i; op = o.op }
 
 abbrev IsThere : {A : Type 0} → Option A → Type 0
 IsThere (Some b) = Unit {0}
@@ -87,20 +87,20 @@ module _ {C M : Type 0} (E : Meaning C M) where
             let same : h.0 ≡ o = some_one h.0 o (sym h.1 ∙ asked) in
             let place : j ≡ i = one_place l ns w j i r _ at there e h.3 in
             let it : At (length n.answered + 0) (updated i o) (n.answered ++ updated i o ∷ []) = at_behind n.answered (updated i o ∷ []) 0 (updated i o) refl in
-            inl (subst (λ z. At z (record { place = j; op = r.op }) (n.answered ++ updated i o ∷ [])) (plus_zero (length n.answered) r.seq h.3)
-            (subst (λ (z : AnsweredUpdate). At (length n.answered + 0) z (n.answered ++ updated i o ∷ [])) (λ k. record { place = sym place k; op = (ap (λ (z : Pending). z.op) (sym same) ∙ sym h.2) k }) it))
+            inl (subst (λ z. At z (record { index = j; op = r.op }) (n.answered ++ updated i o ∷ [])) (plus_zero (length n.answered) r.seq h.3)
+            (subst (λ (z : AnsweredUpdate). At (length n.answered + 0) z (n.answered ++ updated i o ∷ [])) (λ k. record { index = sym place k; op = (ap (λ (z : Pending). z.op) (sym same) ∙ sym h.2) k }) it))
           where
             plus_zero : (a b : ℕ) → b ≡ a → a + 0 ≡ b
             plus_zero a b e = omega (arith, e)
 
-        answered : (q : ℕ) (u : AnsweredUpdate) → At q u (n.answered ++ updated i o ∷ []) → At u.place (record { author = c; seq = q; op = u.op }) l.history
+        answered : (q : ℕ) (u : AnsweredUpdate) → At q u (n.answered ++ updated i o ∷ []) → At u.index (record { author = c; seq = q; op = u.op }) l.history
         answered q u h = ⊎_elim (λ old. w.answered c n q u here old) (λ t. last t.0 t.1 t.2) (at_joined n.answered (updated i o ∷ []) q u h)
           where
             plus_zero : (a b : ℕ) → b ≡ a + 0 → a ≡ b
             plus_zero a b e = omega (arith, e)
 
-            last : (j : ℕ) → q ≡ length n.answered + j → At j u (updated i o ∷ []) → At u.place (record { author = c; seq = q; op = u.op }) l.history
-            last zero e g = subst (λ (z : AnsweredUpdate). At z.place (record { author = c; seq = q; op = z.op }) l.history) (some-injective (updated i o) u g)
+            last : (j : ℕ) → q ≡ length n.answered + j → At j u (updated i o ∷ []) → At u.index (record { author = c; seq = q; op = u.op }) l.history
+            last zero e g = subst (λ (z : AnsweredUpdate). At z.index (record { author = c; seq = q; op = z.op }) l.history) (some-injective (updated i o) u g)
                 (subst (λ z. At i (record { author = c; seq = z; op = o.op }) l.history) (plus_zero (length n.answered) q e) there)
             last (suc j) e g = absurd (at_none j u g)
 
@@ -125,7 +125,7 @@ module _ {C M : Type 0} (E : Meaning C M) where
         note : SessionNote
         at : At t.request.author note ns
         is : IsRequest note t.request
-        unplaced : t.place ≡ None
+        unplaced : t.index ≡ None
         none : HasNoRecord l.history t.request.author t.request.seq
         free : IsUnclaimed ns t.request.author
         near : IsSessionOf l.config x.node t.request.author
@@ -138,7 +138,7 @@ module _ {C M : Type 0} (E : Meaning C M) where
           let p = posted_back (first_author x) x.slots k t h in
           let told = desk.each p.slot p.posted p.at in
           let st = stage_tells told.0 (session l.config x.node p.slot) p.posted.stage p.op p.stage told.3 in
-          let is0 = p.is ∙ ap (λ z. record { request = record { author = z; seq = p.posted.count; op = p.op }; place = None }) (author_is l.config x p.slot desk.slots) in
+          let is0 = p.is ∙ ap (λ z. record { request = record { author = z; seq = p.posted.count; op = p.op }; index = None }) (author_is l.config x p.slot desk.slots) in
           subst Asked (sym is0) (record {
             note = told.0;
             at = told.1;
@@ -168,7 +168,7 @@ module _ {C M : Type 0} (E : Meaning C M) where
       claim_batches : Batches E l (set ns c claimed)
       claim_batches = record {
         requested = λ d k t h. ⊎_elim (λ a. let p = asked k t a.1 in now t (p.note, p.at, p.is)) (λ a. now t (w.requested d k t a.1)) (back d k t h);
-        placed = λ d k t h. ⊎_elim (λ a. let p = asked k t a.1 in ((λ i e. absurd (some_none i t.place e p.unplaced)), (λ _. p.none))) (λ a. w.placed d k t a.1) (back d k t h);
+        placed = λ d k t h. ⊎_elim (λ a. let p = asked k t a.1 in ((λ i e. absurd (some_none i t.index e p.unplaced)), (λ _. p.none))) (λ a. w.placed d k t a.1) (back d k t h);
         near = λ d k t h. ⊎_elim (λ a. (x.node, subst (λ z. IsSessionOf l.config x.node z) (sym a.0) mine, (asked k t a.1).near)) (λ a. w.near d k t a.1) (back d k t h);
         once = claim_once;
       }

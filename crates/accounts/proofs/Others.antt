@@ -93,7 +93,7 @@ module _ {C M : Type 0} (E : Meaning C M) where
 
   -- a batch grows places
   module _ (l l' : Progress C) (ns : List SessionNote) (c : ℕ) (n : SessionNote) (w : Accounts E l ns) (here : At c n ns) (config : l'.config ≡ l.config) (catalogue : l'.catalogue ≡ l.catalogue)
-      (k : ℕ) (unplaced : (j : ℕ) (t : Claim) → At j t n.batch → t.place ≡ None) (history : l'.history ≡ l.history ++ map record_of (take k n.batch)) where
+      (k : ℕ) (unplaced : (j : ℕ) (t : Claim) → At j t n.batch → t.index ≡ None) (history : l'.history ≡ l.history ++ map record_of (take k n.batch)) where
     abbrev appended : SessionNote
     appended = record n { batch = placed_from (length l.history) k n.batch }
 

@@ -41,7 +41,7 @@ pub alike_self : (n : SessionNote) → Alike n n
 alike_self n = record { answered = refl; pending = refl }
 
 pub alike_accounts : (n m : SessionNote) (i : ℕ) (r : Record) → Alike n m → IsNoted n i r → IsNoted m i r
-alike_accounts n m i r a (inl h) = inl (subst (λ us. At r.seq (record { place = i; op = r.op }) us) a.answered h)
+alike_accounts n m i r a (inl h) = inl (subst (λ us. At r.seq (record { index = i; op = r.op }) us) a.answered h)
 alike_accounts n m i r a (inr h) = inr (h.0, sym a.pending ∙ h.1, h.2, h.3 ∙ ap length a.answered, h.4)
 
 pub alike_request : (n m : SessionNote) (r : Record) → Alike n m → IsRequest n r → IsRequest m r
@@ -81,12 +81,12 @@ module _ (ns : List SessionNote) (c : ℕ) (n n' : SessionNote) (here : At c n n
 
 -- a batch of which the first k were appended
 pub placed_back : (from k : ℕ) (ts : List Claim) (j : ℕ) (u : Claim) → At j u (placed_from from k ts)
-    → (t : Claim) × At j t ts × (u.request ≡ t.request) × ((j < k) → u.place ≡ Some (from + j)) × ((k ≤ j) → u.place ≡ t.place)
+    → (t : Claim) × At j t ts × (u.request ≡ t.request) × ((j < k) → u.index ≡ Some (from + j)) × ((k ≤ j) → u.index ≡ t.index)
 placed_back from zero ts j u h = (u, h, refl, (λ lt. absurd (omega arith)), (λ _. refl))
 placed_back from (suc k) [] j u h = absurd (at_none j u h)
 placed_back from (suc k) (t ∷ ts) zero u h =
     let e = some-injective _ u h in
-    (t, refl, ap (λ (z : Claim). z.request) (sym e), (λ _. ap (λ (z : Claim). z.place) (sym e) ∙ ap Some (plus_zero from)), (λ le. absurd (omega arith)))
+    (t, refl, ap (λ (z : Claim). z.request) (sym e), (λ _. ap (λ (z : Claim). z.index) (sym e) ∙ ap Some (plus_zero from)), (λ le. absurd (omega arith)))
   where
     plus_zero : (n : ℕ) → n ≡ n + 0
     plus_zero n = omega arith
@@ -100,7 +100,7 @@ placed_back from (suc k) (t ∷ ts) (suc j) u h =
 pub placed_on : (from k : ℕ) (ts : List Claim) (j : ℕ) (t : Claim) → At j t ts → (u : Claim) × At j u (placed_from from k ts) × (u.request ≡ t.request)
 placed_on from zero ts j t h = (t, h, refl)
 placed_on from (suc k) [] j t h = absurd (at_none j t h)
-placed_on from (suc k) (x ∷ xs) zero t h = (record { request = x.request; place = Some from }, refl, ap (λ (z : Claim). z.request) (some-injective x t h))
+placed_on from (suc k) (x ∷ xs) zero t h = (record { request = x.request; index = Some from }, refl, ap (λ (z : Claim). z.request) (some-injective x t h))
 placed_on from (suc k) (x ∷ xs) (suc j) t h = placed_on (suc from) k xs j t h
 
 -- the records of the first k
@@ -123,7 +123,7 @@ pub record IsPosted (a : ℕ) (xs : List Slot) (t : Claim) : Type 0 where
   pub op : Operation
   pub at : At slot posted xs
   pub stage : posted.stage ≡ Posted op
-  pub is : t ≡ record { request = record { author = a + slot; seq = posted.count; op = op }; place = None }
+  pub is : t ≡ record { request = record { author = a + slot; seq = posted.count; op = op }; index = None }
 
 pub posted_back : (a : ℕ) (xs : List Slot) (k : ℕ) (t : Claim) → At k t (unplaced (requests_from a xs)) → IsPosted a xs t
 posted_back a [] k t h = absurd (at_none k t h)
@@ -142,7 +142,7 @@ posted_back a (x ∷ xs) k t h = by_stage (λ k h. posted_back (suc a) xs k t h)
       op = r.op;
       at = r.at;
       stage = r.stage;
-      is = r.is ∙ ap (λ z. record { request = record { author = z; seq = r.posted.count; op = r.op }; place = None }) (moved a r.slot);
+      is = r.is ∙ ap (λ z. record { request = record { author = z; seq = r.posted.count; op = r.op }; index = None }) (moved a r.slot);
     }
 
     by_stage : ((k : ℕ) → At k t (unplaced (requests_from (suc a) xs)) → IsPosted (suc a) xs t) → (st : Stage) → st ≡ x.stage → (k : ℕ) → At k t (unplaced (requested a x.count st (requests_from (suc a) xs))) → IsPosted a (x ∷ xs) t
@@ -155,7 +155,7 @@ posted_back a (x ∷ xs) k t h = by_stage (λ k h. posted_back (suc a) xs k t h)
       op = op;
       at = refl;
       stage = sym e;
-      is = sym (some-injective _ t h) ∙ ap (λ z. record { request = record { author = z; seq = x.count; op = op }; place = None }) (plus_zero a);
+      is = sym (some-injective _ t h) ∙ ap (λ z. record { request = record { author = z; seq = x.count; op = op }; index = None }) (plus_zero a);
     }
     by_stage rest (Posted op) e (suc k) h = later (rest k h)
 

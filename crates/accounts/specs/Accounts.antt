@@ -18,7 +18,7 @@ HasNoRecord history author seq = (i : ℕ) (r : Record) → At i r history → r
 -- the session of this note was answered the record r at place i, or waits for it
 abbrev pub IsNoted : SessionNote → ℕ → Record → Type 0
 IsNoted n i r =
-    At r.seq (record { place = i; op = r.op }) n.answered
+    At r.seq (record { index = i; op = r.op }) n.answered
     ⊎ ((o : Pending) × (n.pending ≡ Some o) × (r.op ≡ o.op) × (r.seq ≡ length n.answered) × (o.seen ≤ i))
 
 -- the record is the request that the session of this note waits for
@@ -27,7 +27,7 @@ IsRequest n r = (o : Pending) × (n.pending ≡ Some o) × (r.op ≡ o.op) × (r
 
 -- with a place a request has its record there, without one it has none
 abbrev pub IsPlacedIn : History → Claim → Type 0
-IsPlacedIn history t = ((i : ℕ) → t.place ≡ Some i → At i t.request history) × (t.place ≡ None → HasNoRecord history t.request.author t.request.seq)
+IsPlacedIn history t = ((i : ℕ) → t.index ≡ Some i → At i t.request history) × (t.index ≡ None → HasNoRecord history t.request.author t.request.seq)
 
 -- t is the k-th request of the batch of session c
 abbrev pub IsInBatch : List SessionNote → ℕ → ℕ → Claim → Type 0
@@ -56,7 +56,7 @@ module _ {C M : Type 0} (E : Meaning C M) where
     -- the numbers of a session's records rise
     pub ordered : (i j : ℕ) (r s : Record) → At i r l.history → At j s l.history → i < j → r.author ≡ s.author → r.seq < s.seq
     -- each answered update has its record
-    pub answered : (a : ℕ) (n : SessionNote) (q : ℕ) (u : AnsweredUpdate) → At a n ns → At q u n.answered → At u.place (record { author = a; seq = q; op = u.op }) l.history
+    pub answered : (a : ℕ) (n : SessionNote) (q : ℕ) (u : AnsweredUpdate) → At a n ns → At q u n.answered → At u.index (record { author = a; seq = q; op = u.op }) l.history
     -- each request that a session waits for is allowed, and began when the history was no longer than it is
     pub pending : (a : ℕ) (n : SessionNote) (o : Pending) → At a n ns → n.pending ≡ Some o → IsAllowed l.catalogue o.op × (o.seen ≤ length l.history)
     -- each request of a batch is one that its session waits for, and of the node of who combines it

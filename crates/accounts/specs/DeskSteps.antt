@@ -21,8 +21,8 @@ use Rattle.accounts.specs.Moves.{answered_with, DeskMove, desk_rules, record_of,
 module _ {C M : Type 0} (E : Meaning C M) where
   -- the answer that a combiner has for a request of its batch
   abbrev pub Gives : Progress C → Claim → Reply → Type 0
-  Gives known t (Placed i reply) = (t.place ≡ Some i) × (i < known.completed) × (reply_at E known.catalogue known.history i t.request.op ≡ Some reply)
-  Gives known t Ended = (t.place ≡ None) × (known.completed ≡ known.config.limit)
+  Gives known t (Placed i reply) = (t.index ≡ Some i) × (i < known.completed) × (reply_at E known.catalogue known.history i t.request.op ≡ Some reply)
+  Gives known t Ended = (t.index ≡ None) × (known.completed ≡ known.config.limit)
 
   pub data DeskStep (known : Progress C) (c : ℕ) (n : SessionNote) (x : DeskView) (n' : SessionNote) (y : DeskView) : Type 0 where
     PostStep : (s : ℕ) (op : Operation) → c ≡ session known.config x.node s → IsAllowed E known.catalogue op

@@ -29,7 +29,7 @@ module _ {C M : Type 0} (E : Meaning C M) where
 
   -- the first k requests of the batch may be appended, and y is the log with them
   pub record LogStep (known : Progress C) (n : SessionNote) (x : LogValue M) (k : ℕ) (y : LogValue M) : Type 0 where
-    pub unplaced : (j : ℕ) (t : Claim) → At j t n.batch → t.place ≡ None
+    pub unplaced : (j : ℕ) (t : Claim) → At j t n.batch → t.index ≡ None
     pub count : k ≤ length n.batch
     pub limit : length (known.history ++ map record_of (take k n.batch)) ≤ known.config.limit
     pub log : IsLogAfter E known (map record_of (take k n.batch)) y

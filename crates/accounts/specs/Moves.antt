@@ -27,18 +27,18 @@ with_records l more = record { config = l.config; catalogue = l.catalogue; histo
 abbrev pub placed_from : ℕ → ℕ → List Claim → List Claim
 placed_from from zero ts = ts
 placed_from from (suc k) [] = []
-placed_from from (suc k) (t ∷ ts) = record { request = t.request; place = Some from } ∷ placed_from (suc from) k ts
+placed_from from (suc k) (t ∷ ts) = record { request = t.request; index = Some from } ∷ placed_from (suc from) k ts
 
 abbrev pub record_of : Claim → Record
 record_of t = t.request
 
 -- requests, none of which has a place
 abbrev pub unplaced : List Record → List Claim
-unplaced rs = map (λ r. record { request = r; place = None }) rs
+unplaced rs = map (λ r. record { request = r; index = None }) rs
 
 -- the note once the session has its answer
 abbrev pub answered_with : SessionNote → Operation → Reply → SessionNote
-answered_with n op (Placed i reply) = record n { answered = n.answered ++ record { place = i; op = op } ∷ []; pending = None }
+answered_with n op (Placed i reply) = record n { answered = n.answered ++ record { index = i; op = op } ∷ []; pending = None }
 answered_with n op Ended = record n { pending = None }
 
 -- what session c may hold at once, the one taken last first: nothing, the desk of its node alone, the replica of its node, the log, or these two
@@ -64,7 +64,7 @@ module _ {C M : Type 0} (E : Meaning C M) where
   -- the log is put back with the first k requests of the session's batch
   pub record BatchAppended (l : Progress C) (n : SessionNote) (l' : Progress C) (n' : SessionNote) : Type 0 where
     pub count : ℕ
-    pub unplaced : (j : ℕ) (t : Claim) → At j t n.batch → t.place ≡ None
+    pub unplaced : (j : ℕ) (t : Claim) → At j t n.batch → t.index ≡ None
     pub within : count ≤ length n.batch
     pub history : l'.history ≡ l.history ++ map record_of (take count n.batch)
     pub limit : length l'.history ≤ l.config.limit

@@ -28,7 +28,7 @@ numbered a seq (u ∷ us) = record { author = a; seq = seq; op = u.op } ∷ numb
 
 -- the note, once the session was answered op at place i; it waits for nothing then, and combines nothing
 abbrev pub note_with : SessionNote → ℕ → Operation → SessionNote
-note_with n i op = record { answered = n.answered ++ record { place = i; op = op } ∷ []; pending = None; batch = [] }
+note_with n i op = record { answered = n.answered ++ record { index = i; op = op } ∷ []; pending = None; batch = [] }
 
 module _ {C M : Type 0} (E : Meaning C M) where
   -- the answer to the request o of session c, its next by this number, is right, and its place is not before the history's length at the call

@@ -20,16 +20,16 @@ pub struct Pending {
     pub seen: u64,
 }
 
-/// An update that a session was answered, and its place in the history.
+/// An update that a session was answered, and its index in the history.
 pub struct AnsweredUpdate {
-    pub place: u64,
+    pub index: u64,
     pub op: Op,
 }
 
-/// A request of a combiner's batch, and its place in the history once it is appended.
+/// A request of a combiner's batch, and its index in the history once it is appended.
 pub struct Claim {
     pub request: Record,
-    pub place: Option<u64>,
+    pub index: Option<u64>,
 }
 
 /// What a session has been answered, the request that it waits for, and the batch that it combines. Who combines nothing has an

@@ -61,7 +61,7 @@ answered_slot answer x = slot (answered_stage answer x.stage) x.count
 
 -- ---- collecting
 
--- an answer with a place counts
+-- an answer with an index counts
 abbrev pub counted : Reply → ℕ → ℕ
 counted (Placed index reply) count = suc count
 counted Ended count = count

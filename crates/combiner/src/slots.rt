@@ -12,7 +12,7 @@ use thiserror::Error;
 pub enum Reply {
     /// It stands in the history.
     Placed {
-        /// Its place there, from 0.
+        /// Its index there, from 0.
         index: u64,
         /// What its program replied.
         reply: u64,
@@ -39,7 +39,7 @@ pub enum Stage {
 pub struct Slot {
     /// Where its request is.
     pub stage: Stage,
-    /// How many answers with a place were collected here: the number of its next record among the session's.
+    /// How many answers with an index were collected here: the number of its next record among the session's.
     pub count: u64,
 }
 

@@ -66,8 +66,8 @@ module _ (c : CatalogueView) (g h : Log) (n m : NodeReplica) (r : Record) (log :
     answered : (o : Outcome) × (got ≡ Some o) × IsAnswered c r.op n.replica.maps o
     answered =
         let tail = ap (λ (x : ReplicaView). x.tail) same_replica in
-        let has_place : 0 < length (replies_for (r ∷ []) g).outcomes = rw one (lit< tt) in
-        let there = keeps.replayed 0 0 r has_place (ap (λ (x : History). slice_get x 0) holds_one) (omega (arith, tail, at)) in
+        let has_index : 0 < length (replies_for (r ∷ []) g).outcomes = rw one (lit< tt) in
+        let there = keeps.replayed 0 0 r has_index (ap (λ (x : History). slice_get x 0) holds_one) (omega (arith, tail, at)) in
         (there.0, same_Some got (Some there.0) (sym found ∙ there.1), subst (λ (x : ReplicaView). IsAnswered c r.op x.maps there.0) same_replica there.2)
 
     pub updated : (old : SingleNode) (last : Log) (p : NodeReplica) (op : Operation) → n ≡ old.own → tail_of g ≡ tail_of old.log → g.limit ≡ MAX_LIMIT → r.op ≡ op → p ≡ replayed c m → last ≡ told p h

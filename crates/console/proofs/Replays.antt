@@ -22,47 +22,47 @@ is_off : (b : Bool) → (b ≡ true → ⊥) → b ≡ false
 is_off true h = absurd (h refl)
 is_off false h = refl
 
-same_place : (n : ℕ) → eqb n n ≡ true
-same_place n = by_test (eqb n n) refl
+same_index : (n : ℕ) → eqb n n ≡ true
+same_index n = by_test (eqb n n) refl
   where
     by_test : (b : Bool) → eqb n n ≡ b → eqb n n ≡ true
     by_test true is = is
     by_test false is = grind (arith, is)
 
-module _ (c : CatalogueView) (at : Replayed) (op : Operation) (place reply : ℕ) (old : Replaying) (has : HasReplayed c at old) where
-  -- a line that tells another place
-  away : (place ≡ tail_of old.node.log → ⊥) → eqb place (length at.history) ≡ false
-  away other = is_off (eqb place (length at.history)) (λ e. other (eqb-true place (length at.history) e ∙ sym has.placed.count))
+module _ (c : CatalogueView) (at : Replayed) (op : Operation) (index reply : ℕ) (old : Replaying) (has : HasReplayed c at old) where
+  -- a line that tells another index
+  away : (index ≡ tail_of old.node.log → ⊥) → eqb index (length at.history) ≡ false
+  away other = is_off (eqb index (length at.history)) (λ e. other (eqb-true index (length at.history) e ∙ sym has.placed.count))
 
-  pub update_elsewhere : (new : Replaying) → (place ≡ tail_of old.node.log → ⊥) → IsCompared c (update_agrees c at.history op place reply) (with_update at op) false new
+  pub update_elsewhere : (new : Replaying) → (index ≡ tail_of old.node.log → ⊥) → IsCompared c (update_agrees c at.history op index reply) (with_update at op) false new
   update_elsewhere new other = rw (away other) (record { told = refl; goes_on = λ on. absurd (false≢true on) })
 
-  pub read_elsewhere : (new : Replaying) → (place ≡ tail_of old.node.log → ⊥) → IsCompared c (read_agrees c at.history op place reply) (record at { reads = next_count at.reads }) false new
+  pub read_elsewhere : (new : Replaying) → (index ≡ tail_of old.node.log → ⊥) → IsCompared c (read_agrees c at.history op index reply) (record at { reads = next_count at.reads }) false new
   read_elsewhere new other = rw (away other) (record { told = refl; goes_on = λ on. absurd (false≢true on) })
 
-  module _ (new : Replaying) (is : place ≡ tail_of old.node.log) where
-    on_place : eqb place (length at.history) ≡ true
-    on_place = subst (λ n. eqb place n ≡ true) (is ∙ has.placed.count) (same_place place)
+  module _ (new : Replaying) (is : index ≡ tail_of old.node.log) where
+    on_index : eqb index (length at.history) ≡ true
+    on_index = subst (λ n. eqb index n ≡ true) (is ∙ has.placed.count) (same_index index)
 
     -- an update that was applied
     pub submitted : (o : Outcome) → IsUpdated c op old.node new.node o → new.reads ≡ old.reads → new.ended ≡ old.ended
-        → IsCompared c (update_agrees c at.history op place reply) (with_update at op) (eqb o.reply reply) new
+        → IsCompared c (update_agrees c at.history op index reply) (with_update at op) (eqb o.reply reply) new
     submitted o u reads ended =
-        let there = on_place in
+        let there = on_index in
         let room = has_room c at.history old.node has.placed op new.node o u in
         let effect = effect_here c at.history old.node has.placed op new.node o u in
         let replies : is_reply reply (reply_at store_meaning c at.history (length at.history) op) ≡ eqb o.reply reply =
         ap (λ (e : Option (Effect Maps)). is_reply reply (option_map (λ x. x.reply) e)) effect ∙ ap (λ (x : Outcome). eqb x.reply reply) (sym u.outcome) in
-        let agrees : update_agrees c at.history op place reply ≡ eqb o.reply reply = rw (there, room) replies in
+        let agrees : update_agrees c at.history op index reply ≡ eqb o.reply reply = rw (there, room) replies in
         record {
           told = sym agrees;
           goes_on = λ on. record { placed = updated_follows c at.history old.node has.placed op new.node o u; reads = reads ∙ has.reads; ended = ended ∙ has.ended };
         }
 
     -- an update for which the history has no room
-    pub full : HasEnded old.node new.node → IsCompared c (update_agrees c at.history op place reply) (with_update at op) false new
+    pub full : HasEnded old.node new.node → IsCompared c (update_agrees c at.history op index reply) (with_update at op) false new
     full end =
-        let there = on_place in
+        let there = on_index in
         let limit = end.full in
         let count = has.placed.count in
         let none : ltb (length at.history) MAX_LIMIT ≡ false = is_off (ltb (length at.history) MAX_LIMIT) (λ e. let low = ltb-true (length at.history) MAX_LIMIT e in omega (arith, low, limit, count)) in
@@ -71,12 +71,12 @@ module _ (c : CatalogueView) (at : Replayed) (op : Operation) (place reply : ℕ
     -- a read
     pub queried : (p : Checked) (o : Outcome) → program_at c op.program ≡ Some p → effect p.program old.node.own.replica.maps op.argument ≡ Some (effect_of o.steps o.reply old.node.own.replica.maps)
         → new.node ≡ old.node → new.reads ≡ next_count old.reads → new.ended ≡ old.ended
-        → IsCompared c (read_agrees c at.history op place reply) (record at { reads = next_count at.reads }) (eqb o.reply reply) new
+        → IsCompared c (read_agrees c at.history op index reply) (record at { reads = next_count at.reads }) (eqb o.reply reply) new
     queried p o named ran node reads ended =
-        let there = on_place in
+        let there = on_index in
         let told_here : read_reply_at store_meaning c at.history (length at.history) op ≡ Some o.reply =
         ap (λ (x : Maps). option_map (λ e. e.reply) (store_meaning.read c op x)) (here c at.history old.node has.placed) ∙ rw (named, ran) refl in
-        let agrees : read_agrees c at.history op place reply ≡ eqb o.reply reply = rw there (ap (is_reply reply) told_here) in
+        let agrees : read_agrees c at.history op index reply ≡ eqb o.reply reply = rw there (ap (is_reply reply) told_here) in
         record {
           told = sym agrees;
           goes_on = λ on. record { placed = subst (λ n. Follows c at.history n) (sym node) has.placed; reads = reads ∙ ap next_count has.reads; ended = ended ∙ has.ended };

@@ -16,7 +16,7 @@ use Rattle.console.specs.Replaying.{HasReplayed, IsCompared, LineReplayed, compa
 
 -- a call whose operation is known
 pub of_operation : (c : CatalogueView) (at : Replayed) (a : AnsweredCall) (op : Operation) (v : LineVerdict) (r : Replaying) → Some op ≡ operation_of c a.mode a.call
-    → LineReplayed c (compared c at a.mode a.place a.reply op) v r → LineReplayed c (answered_outcome c at a) v r
+    → LineReplayed c (compared c at a.mode a.index a.reply op) v r → LineReplayed c (answered_outcome c at a) v r
 of_operation c at a op v r found told = rw (← found) told
 
 by_agrees : (c : CatalogueView) (agrees : Bool) (next : Replayed) (told : Bool) (r : Replaying) → IsCompared c agrees next told r → LineReplayed c (if agrees then Agrees next else Differs) (compared_verdict told) r

@@ -58,13 +58,13 @@ module _ (c : CatalogueView) (h : History) (n : SingleNode) (follows : Follows c
 
   module _ (op : Operation) (program : Checked) where
     -- an update
-    pub update_turn : {A E : Type 0} (r : Result A E) (place : ℕ) (m : SingleNode) (o : Outcome) (old new : List ℕ) → place ≡ tail_of n.log → program.mode ≡ Update → IsUpdated c op n m o
-        → OnOk r (new ≡ old ++ update_text place o.reply o.steps) → OnOk r (IsTaken c (performed c h op program.mode) m old new)
-    update_turn r place m o old new is mode u wrote =
-        let at : place ≡ length h = is ∙ follows.count in
+    pub update_turn : {A E : Type 0} (r : Result A E) (index : ℕ) (m : SingleNode) (o : Outcome) (old new : List ℕ) → index ≡ tail_of n.log → program.mode ≡ Update → IsUpdated c op n m o
+        → OnOk r (new ≡ old ++ update_text index o.reply o.steps) → OnOk r (IsTaken c (performed c h op program.mode) m old new)
+    update_turn r index m o old new is mode u wrote =
+        let at : index ≡ length h = is ∙ follows.count in
         let room = has_room op m o u in
-        let text : update_line (length h) (effect_at store_meaning c h (length h) op) ≡ update_text place o.reply o.steps =
+        let text : update_line (length h) (effect_at store_meaning c h (length h) op) ≡ update_text index o.reply o.steps =
         ap (update_line (length h)) (effect_here op m o u) ∙ ap₂ (λ (p : ℕ) (x : Outcome). update_text p x.reply x.steps) (sym at) (sym u.outcome) in
-        on_ok r (new ≡ old ++ update_text place o.reply o.steps) (IsTaken c (performed c h op program.mode) m old new)
+        on_ok r (new ≡ old ++ update_text index o.reply o.steps) (IsTaken c (performed c h op program.mode) m old new)
         (λ w. subst (λ x. IsTaken c (performed c h op x) m old new) (sym mode)
         (rw room (record { written = w ∙ ap (λ t. old ++ t) (sym text); placed = updated_follows op m o u }))) wrote

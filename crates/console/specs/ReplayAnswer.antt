@@ -24,7 +24,7 @@ use Rattle.console.specs.Inputs.{texts_answer, IsTextsAnswer}
 abbrev pub good_text : ℕ → ℕ → ℕ → List ℕ
 good_text updates reads ended = codes "good " ++ (decimal updates ++ (codes " " ++ (decimal reads ++ (codes " " ++ (decimal ended ++ codes "\n")))))
 
--- the line whose place or reply is another
+-- the line whose index or reply is another
 abbrev pub differs_text : ℕ → List ℕ
 differs_text n = codes "line " ++ (decimal n ++ codes " differs\n")
 
@@ -61,9 +61,9 @@ abbrev pub is_reply : ℕ → Option ℕ → Bool
 is_reply told None = false
 is_reply told (Some reply) = reply == told
 
--- the update has the next place of a history, and this reply there
+-- the update has the next index of a history, and this reply there
 abbrev pub update_agrees : CatalogueView → History → Operation → ℕ → ℕ → Bool
-update_agrees c h op place reply = (place == length h) && (nat_lt (length h) MAX_LIMIT && is_reply reply (reply_at store_meaning c h (length h) op))
+update_agrees c h op index reply = (index == length h) && (nat_lt (length h) MAX_LIMIT && is_reply reply (reply_at store_meaning c h (length h) op))
 
 -- the read has the end of the history as its point, and this reply there
 abbrev pub read_agrees : CatalogueView → History → Operation → ℕ → ℕ → Bool
@@ -74,8 +74,8 @@ with_update at op = record at { history = with_operation at.history op }
 
 -- an update stands in the history from then on; a read leaves it
 abbrev pub compared : CatalogueView → Replayed → Mode → ℕ → ℕ → Operation → LineOutcome
-compared c at Update place reply op = if update_agrees c at.history op place reply then Agrees (with_update at op) else Differs
-compared c at Read place reply op = if read_agrees c at.history op place reply then Agrees (record at { reads = next_count at.reads }) else Differs
+compared c at Update index reply op = if update_agrees c at.history op index reply then Agrees (with_update at op) else Differs
+compared c at Read index reply op = if read_agrees c at.history op index reply then Agrees (record at { reads = next_count at.reads }) else Differs
 
 -- a call that names no operation makes its line bad, whatever it tells
 abbrev pub by_operation : (Operation → LineOutcome) → Option Operation → LineOutcome
@@ -83,7 +83,7 @@ by_operation agrees None = Bad
 by_operation agrees (Some op) = agrees op
 
 abbrev pub answered_outcome : CatalogueView → Replayed → AnsweredCall → LineOutcome
-answered_outcome c at a = by_operation (compared c at a.mode a.place a.reply) (operation_of c a.mode a.call)
+answered_outcome c at a = by_operation (compared c at a.mode a.index a.reply) (operation_of c a.mode a.call)
 
 -- an update that was told that the history has ended changes nothing
 abbrev pub ended_outcome : CatalogueView → Replayed → ProgramCall → LineOutcome

@@ -19,11 +19,11 @@ use Rattle.console.specs.Script.{ProgramCall, Meaning, Comment, Call, line_meani
 
 -- ---- the texts
 
--- a place in the history, and what the program replied there after how many steps
+-- an index in the history, and what the program replied there after how many steps
 abbrev pub outcome_text : ℕ → ℕ → ℕ → List ℕ
-outcome_text place reply steps = decimal place ++ (codes " reply " ++ (decimal reply ++ (codes " steps " ++ (decimal steps ++ codes "\n"))))
+outcome_text index reply steps = decimal index ++ (codes " reply " ++ (decimal reply ++ (codes " steps " ++ (decimal steps ++ codes "\n"))))
 
--- INDEX is the update's place in the history, POINT the number of updates before a read
+-- INDEX is the update's index in the history, POINT the number of updates before a read
 abbrev pub update_text : ℕ → ℕ → ℕ → List ℕ
 update_text index reply steps = codes "update " ++ outcome_text index reply steps
 

@@ -28,7 +28,7 @@ pub record CallRuns (c : CatalogueView) (h : History) (op : Operation) (mode : M
   pub left : Maps
   pub runs : Runs program.program (maps_after store_meaning c h (length h)) op.argument steps reply left
 
--- an update wrote its place in the history and what its run answers; the history goes on with it, and with the maps that it leaves
+-- an update wrote its index in the history and what its run answers; the history goes on with it, and with the maps that it leaves
 pub record IsUpdateTurn (c : CatalogueView) (h : History) (op : Operation) (turn : Turn) : Type 0 where
   pub run : CallRuns c h op Update
   pub room : length h < MAX_LIMIT

@@ -47,7 +47,7 @@ step_of (steps.Rebase node) = said.Rebase node
 -- ---- transcripts
 
 abbrev pub answered_of : TheAnsweredCall → AnsweredCall
-answered_of a = record { mode = a.mode; place = a.place; call = call_of a.call; reply = a.reply }
+answered_of a = record { mode = a.mode; index = a.index; call = call_of a.call; reply = a.reply }
 
 abbrev pub told_of : TranscriptLine → TranscriptMeaning
 told_of told.Comment = telling.Comment

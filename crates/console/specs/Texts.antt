@@ -22,13 +22,13 @@ abbrev pub programs_text : List Entry → List ℕ
 programs_text es = flat_map program_line es
 
 -- where the decoder or the verifier refuses: its own number, and the slot
-abbrev pub place_text : LoadFault → List ℕ
-place_text (faults.Decode e) = codes " D" ++ (decimal (decoding.fault_number e.why) ++ (codes " slot " ++ decimal e.slot))
-place_text (faults.Verify e) = codes " V" ++ (decimal (verifying.fault_number e.why) ++ (codes " slot " ++ decimal e.slot))
-place_text why = []
+abbrev pub index_text : LoadFault → List ℕ
+index_text (faults.Decode e) = codes " D" ++ (decimal (decoding.fault_number e.why) ++ (codes " slot " ++ decimal e.slot))
+index_text (faults.Verify e) = codes " V" ++ (decimal (verifying.fault_number e.why) ++ (codes " slot " ++ decimal e.slot))
+index_text why = []
 
 abbrev pub fault_text : LoadFault → List ℕ
-fault_text why = codes "C" ++ (decimal (fault_number why) ++ place_text why)
+fault_text why = codes "C" ++ (decimal (fault_number why) ++ index_text why)
 
 -- the line of a refused manifest
 abbrev pub refusal_text : LoadRefusal → List ℕ

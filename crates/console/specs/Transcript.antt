@@ -10,7 +10,7 @@ use Rattle.console.specs.Script.{ProgramCall, named_call}
 -- a call that was answered: an update or a read, the number of updates before it, the call, and the reply
 pub record AnsweredCall : Type 0 where
   pub mode : Mode
-  pub place : ℕ
+  pub index : ℕ
   pub call : ProgramCall
   pub reply : ℕ
 
@@ -26,10 +26,10 @@ answered_call mode text = do
   first ← split_at_space text
   second ← split_at_space first.1
   third ← split_at_space second.1
-  place ← number_of first.0
+  index ← number_of first.0
   call ← named_call second.0 third.0
   reply ← number_of third.1
-  Some (record { mode = mode; place = place; call = call; reply = reply })
+  Some (record { mode = mode; index = index; call = call; reply = reply })
 
 -- NAME HEX
 unfoldable pub ended_call : List ℕ → Option ProgramCall

@@ -43,14 +43,14 @@ fn perform(
         node.new out.old.items out.new.items) }
 {
     let Numbered { number, program } = numbered;
-    let place = node.tail();
+    let index = node.tail();
     match program.mode() {
         Mode::Read => {
             let outcome = node.query(program, argument);
-            put_read(out, place, outcome)
+            put_read(out, index, outcome)
         }
         Mode::Update => match node.submit(catalogue, number, argument) {
-            Some(outcome) => put_update(out, place, outcome),
+            Some(outcome) => put_update(out, index, outcome),
             None => put_refused(out, StoreRefused::Ended),
         },
     }

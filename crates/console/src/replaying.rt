@@ -98,7 +98,7 @@ impl Replaying {
         })
     }
 
-    // Whether an update has this place and this reply.
+    // Whether an update has this index and this reply.
     fn update(&mut self, catalogue: &Catalogue, number: u16, call: &AnsweredCall) -> bool
         requires steady { IsSteady catalogue.now self.old.node }
         requires call { IsCallOf catalogue.now (record { program = number; argument = call.now.call.argument.items }) Update }
@@ -106,9 +106,9 @@ impl Replaying {
         ensures steady { IsSteady catalogue.now self.new.node }
         ensures compared { (at : Replayed) (op : TheOperation) → op ≡ record { program = number; argument = call.now.call.argument.items }
             → HasReplayed catalogue.now at self.old
-            → IsCompared catalogue.now (update_agrees catalogue.now at.history op call.now.place call.now.reply) (with_update at op) result self.new }
+            → IsCompared catalogue.now (update_agrees catalogue.now at.history op call.now.index call.now.reply) (with_update at op) result self.new }
     {
-        if call.place != self.node.tail() {
+        if call.index != self.node.tail() {
             return false;
         }
         match self
@@ -130,10 +130,10 @@ impl Replaying {
         ensures steady { IsSteady catalogue.now self.new.node }
         ensures compared { (at : Replayed) (op : TheOperation) → op ≡ record { program = found.entry.number; argument = call.now.call.argument.items }
             → HasReplayed catalogue.now at self.old
-            → IsCompared catalogue.now (read_agrees catalogue.now at.history op call.now.place call.now.reply)
+            → IsCompared catalogue.now (read_agrees catalogue.now at.history op call.now.index call.now.reply)
             (record at { reads = next_count at.reads }) result self.new }
     {
-        if call.place != self.node.tail() {
+        if call.index != self.node.tail() {
             return false;
         }
         let outcome = self

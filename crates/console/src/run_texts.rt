@@ -35,17 +35,17 @@ fn write_number(n: u64, room: &mut [u8; OUTCOME_BYTES], end: usize) -> usize
     write_digits(n, room, end)
 }
 
-// A place in the history, and what a program answered there, behind a word. The line is put together from its end on, and
+// An index in the history, and what a program answered there, behind a word. The line is put together from its end on, and
 // then written at once.
 #[inline(never)]
 fn put_outcome(
     out: &mut Vec<u8>,
     word: &[u8],
-    place: u64,
+    index: u64,
     outcome: Outcome,
 ) -> Result<(), AllocError>
     requires { length word.now ≤ 7 }
-    ensures { OnOk result (out.new.items ≡ out.old.items ++ (word.now ++ outcome_text place outcome.reply outcome.steps)) }
+    ensures { OnOk result (out.new.items ≡ out.old.items ++ (word.now ++ outcome_text index outcome.reply outcome.steps)) }
 {
     let mut room = [0; OUTCOME_BYTES];
     let end = write_text(b"\n", &mut room, OUTCOME_BYTES);
@@ -53,7 +53,7 @@ fn put_outcome(
     let end = write_text(b" steps ", &mut room, end);
     let end = write_number(outcome.reply, &mut room, end);
     let end = write_text(b" reply ", &mut room, end);
-    let end = write_number(place, &mut room, end);
+    let end = write_number(index, &mut room, end);
     let start = write_text(word, &mut room, end);
     out.extend_from_slice(&room[start..])
 }

@@ -12,7 +12,7 @@ use verifier::Mode;
 #[derive(Drop)]
 pub(crate) struct AnsweredCall<'a> {
     pub mode: Mode,
-    pub place: u64,
+    pub index: u64,
     pub call: ProgramCall<'a>,
     pub reply: u64,
 }
@@ -31,15 +31,15 @@ fn answered_line(mode: Mode, text: &str) -> Option<TranscriptLine<'_>>
     requires { length text.now ≤ LINE_BYTES }
     ensures { option_map told_of result ≡ option_map Answered (answered_call mode text.now) }
 {
-    let (place, rest) = split_at_space(text)?;
+    let (index, rest) = split_at_space(text)?;
     let (name, rest) = split_at_space(rest)?;
     let (digits, reply) = split_at_space(rest)?;
-    let place = number(place)?;
+    let index = number(index)?;
     let call = named_call(name, digits)?;
     let reply = number(reply)?;
     Some(TranscriptLine::Answered(AnsweredCall {
         mode,
-        place,
+        index,
         call,
         reply,
     }))

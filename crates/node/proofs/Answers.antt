@@ -26,28 +26,28 @@ set_off (x ∷ xs) (suc i) zero v ne = refl
 set_off (x ∷ xs) (suc i) (suc j) v ne = set_off xs i j v (λ e. ne (ap suc e))
 
 -- the k-th answer of a batch
-pub answers_placed : (rs : History) (outcomes : List (Option Outcome)) (place k : ℕ) (r : Record) (o : Option Outcome) → slice_get rs k ≡ Some r → slice_get outcomes k ≡ Some o
-    → slice_get (answers_from place outcomes rs) k ≡ Some (option_map (λ y. Placed (place + k) y.reply) o)
-answers_placed [] outcomes place k r o g f = absurd (none-some r g)
-answers_placed (q ∷ rs) [] place k r o g f = absurd (none-some o f)
-answers_placed (q ∷ rs) (outcome ∷ outcomes) place zero r o g f =
-    let e : place ≡ place + 0 = omega arith in
-    ap (λ y. Some (option_map (λ z. Placed place z.reply) y)) (same_Some outcome o f) ∙ ap (λ k. Some (option_map (λ z. Placed k z.reply) o)) e
-answers_placed (q ∷ rs) (outcome ∷ outcomes) place (suc k) r o g f =
-    let e : (place + 1) + k ≡ place + suc k = omega arith in
-    answers_placed rs outcomes (place + 1) k r o g f ∙ ap (λ i. Some (option_map (λ z. Placed i z.reply) o)) e
+pub answers_placed : (rs : History) (outcomes : List (Option Outcome)) (index k : ℕ) (r : Record) (o : Option Outcome) → slice_get rs k ≡ Some r → slice_get outcomes k ≡ Some o
+    → slice_get (answers_from index outcomes rs) k ≡ Some (option_map (λ y. Placed (index + k) y.reply) o)
+answers_placed [] outcomes index k r o g f = absurd (none-some r g)
+answers_placed (q ∷ rs) [] index k r o g f = absurd (none-some o f)
+answers_placed (q ∷ rs) (outcome ∷ outcomes) index zero r o g f =
+    let e : index ≡ index + 0 = omega arith in
+    ap (λ y. Some (option_map (λ z. Placed index z.reply) y)) (same_Some outcome o f) ∙ ap (λ k. Some (option_map (λ z. Placed k z.reply) o)) e
+answers_placed (q ∷ rs) (outcome ∷ outcomes) index (suc k) r o g f =
+    let e : (index + 1) + k ≡ index + suc k = omega arith in
+    answers_placed rs outcomes (index + 1) k r o g f ∙ ap (λ i. Some (option_map (λ z. Placed i z.reply) o)) e
 
-pub answers_ended : (rs : History) (outcomes : List (Option Outcome)) (place k : ℕ) (r : Record) → slice_get rs k ≡ Some r → length outcomes ≤ k → slice_get (answers_from place outcomes rs) k ≡ Some (Some Ended)
-answers_ended [] outcomes place k r g l = absurd (none-some r g)
-answers_ended (q ∷ rs) [] place zero r g l = refl
-answers_ended (q ∷ rs) [] place (suc k) r g l = answers_ended rs [] place k r g (omega arith)
-answers_ended (q ∷ rs) (outcome ∷ outcomes) place zero r g l = absurd (omega arith)
-answers_ended (q ∷ rs) (outcome ∷ outcomes) place (suc k) r g l = answers_ended rs outcomes (place + 1) k r g (omega arith)
+pub answers_ended : (rs : History) (outcomes : List (Option Outcome)) (index k : ℕ) (r : Record) → slice_get rs k ≡ Some r → length outcomes ≤ k → slice_get (answers_from index outcomes rs) k ≡ Some (Some Ended)
+answers_ended [] outcomes index k r g l = absurd (none-some r g)
+answers_ended (q ∷ rs) [] index zero r g l = refl
+answers_ended (q ∷ rs) [] index (suc k) r g l = answers_ended rs [] index k r g (omega arith)
+answers_ended (q ∷ rs) (outcome ∷ outcomes) index zero r g l = absurd (omega arith)
+answers_ended (q ∷ rs) (outcome ∷ outcomes) index (suc k) r g l = answers_ended rs outcomes (index + 1) k r g (omega arith)
 
-pub answers_length : (place : ℕ) (outcomes : List (Option Outcome)) (rs : History) → length (answers_from place outcomes rs) ≡ length rs
-answers_length place outcomes [] = refl
-answers_length place [] (r ∷ rs) = ap suc (answers_length place [] rs)
-answers_length place (outcome ∷ outcomes) (r ∷ rs) = ap suc (answers_length (place + 1) outcomes rs)
+pub answers_length : (index : ℕ) (outcomes : List (Option Outcome)) (rs : History) → length (answers_from index outcomes rs) ≡ length rs
+answers_length index outcomes [] = refl
+answers_length index [] (r ∷ rs) = ap suc (answers_length index [] rs)
+answers_length index (outcome ∷ outcomes) (r ∷ rs) = ap suc (answers_length (index + 1) outcomes rs)
 
 -- ---- the loop
 

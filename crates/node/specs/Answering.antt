@@ -7,16 +7,16 @@ use Rattle.combiner.specs.declared.slots.Reply.TheVariants.{Placed, Ended}
 use Rattle.combiner.specs.Desks.{BatchView}
 use Rattle.replica.specs.Views.{RepliesView}
 
--- the answers to these requests, the first of which has that place: each that has a place has its outcome, the others came too late
+-- the answers to these requests, the first of which has that index: each that has an index has its outcome, the others came too late
 abbrev pub answers_from : ℕ → List (Option Outcome) → History → List (Option Reply)
-answers_from place outcomes [] = []
-answers_from place [] (r ∷ rs) = Some Ended ∷ answers_from place [] rs
-answers_from place (outcome ∷ outcomes) (r ∷ rs) = option_map (λ o. Placed place o.reply) outcome ∷ answers_from (place + 1) outcomes rs
+answers_from index outcomes [] = []
+answers_from index [] (r ∷ rs) = Some Ended ∷ answers_from index [] rs
+answers_from index (outcome ∷ outcomes) (r ∷ rs) = option_map (λ o. Placed index o.reply) outcome ∷ answers_from (index + 1) outcomes rs
 
 -- the batch with its answers, where these outcomes were kept of it
 abbrev pub answered_batch : RepliesView → BatchView → BatchView
 answered_batch kept b = record b { answers = answers_from kept.first kept.outcomes b.records }
 
--- each request of the batch that has a place has its outcome
+-- each request of the batch that has an index has its outcome
 abbrev pub HaveRun : RepliesView → BatchView → Type 0
 HaveRun kept b = (k : ℕ) → k < length kept.outcomes → k < length b.records → (o : Outcome) × (slice_get kept.outcomes k ≡ Some (Some o))

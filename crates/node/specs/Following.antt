@@ -50,7 +50,7 @@ grown rs g = record g { records = g.records ++ take (room_for rs g) rs }
 abbrev pub copied : Log → NodeReplica → NodeReplica
 copied g n = record n { hand = record n.hand { begin = n.replica.tail; records = records_from g n.replica.tail } }
 
--- what is kept of the outcomes of those that have a place: none yet
+-- what is kept of the outcomes of those that have an index: none yet
 abbrev pub replies_for : History → Log → RepliesView
 replies_for rs g = no_replies (tail_of g) (room_for rs g)
 
@@ -77,16 +77,16 @@ replayed c n =
       hand = record n.hand { begin = tail; records = [] };
     }
 
--- an outcome at a place is kept, if there is one
+-- an outcome at an index is kept, if there is one
 abbrev pub with_effect : RepliesView → ℕ → Option (Effect Maps) → RepliesView
-with_effect kept place (Some e) = with_outcome kept place (outcome_of e)
-with_effect kept place None = kept
+with_effect kept index (Some e) = with_outcome kept index (outcome_of e)
+with_effect kept index None = kept
 
--- the outcomes of these records, the first of which is run on those maps and has that place
+-- the outcomes of these records, the first of which is run on those maps and has that index
 abbrev pub outcomes_after : CatalogueView → Maps → ℕ → History → RepliesView → RepliesView
-outcomes_after c maps place [] kept = kept
-outcomes_after c maps place (r ∷ rs) kept =
-    outcomes_after c (left_by (store_meaning.update c r.op maps) maps) (place + 1) rs (with_effect kept place (store_meaning.update c r.op maps))
+outcomes_after c maps index [] kept = kept
+outcomes_after c maps index (r ∷ rs) kept =
+    outcomes_after c (left_by (store_meaning.update c r.op maps) maps) (index + 1) rs (with_effect kept index (store_meaning.update c r.op maps))
 
 -- what is kept once the replica has applied the records in its hand
 abbrev pub replies_after : CatalogueView → NodeReplica → RepliesView → RepliesView

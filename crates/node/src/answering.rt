@@ -8,8 +8,8 @@ ghost use Rattle.node.specs.Answering.{answered_batch, HaveRun};
 use combiner::{Batch, Reply};
 use replica::Replies;
 
-/// Sets the answer of each request of a batch in the log: one that has a place there is answered with it and its outcome, the others came
-/// too late. Those that have a place were replayed.
+/// Sets the answer of each request of a batch in the log: one that has an index there is answered with it and its outcome, the others came
+/// too late. Those that have an index were replayed.
 pub fn answer_batch(batch: &mut Batch, replies: &Replies)
     requires run { HaveRun replies.now batch.old }
     requires short { replies.now.first + length replies.now.outcomes < 2 ^ 64 }

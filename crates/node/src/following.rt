@@ -30,7 +30,7 @@ pub fn may_append(log: &LogState, node: &NodeReplica, records: &[Record]) -> boo
 }
 
 /// Appends as many of the records, from the first on, as the history may still have, and copies what the replica lacks into the hand.
-/// The replies that it answers keep the places of those that were appended, and no outcome yet.
+/// The replies that it answers keep the indexes of those that were appended, and no outcome yet.
 pub fn append(log: &mut LogState, node: &mut NodeReplica, records: &[Record]) -> Replies
     requires may { may_append records.now log.old node.old ≡ true }
     requires fits { Fits log.old node.old }
@@ -70,7 +70,7 @@ pub fn has_next(log: &LogState, node: &NodeReplica) -> bool
     !node.hand.is_empty() || (log.base() <= tail && tail < log.tail())
 }
 
-/// Applies the records of the hand to the replica, and keeps the outcomes of those that have a place in the replies.
+/// Applies the records of the hand to the replica, and keeps the outcomes of those that have an index in the replies.
 pub fn replay(node: &mut NodeReplica, catalogue: &Catalogue, replies: &mut Replies)
     requires next { IsNext catalogue.now node.old }
     ensures node { node.new ≡ replayed catalogue.now node.old }

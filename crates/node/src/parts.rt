@@ -8,7 +8,7 @@ use replica::Replies;
 pub struct Written {
     /// Its requests.
     pub batch: Batch,
-    /// The places of those of them, from the first on, for which the history had room, and their outcomes, as far as the replica has
+    /// The indexes of those of them, from the first on, for which the history had room, and their outcomes, as far as the replica has
     /// applied them.
     pub replies: Replies,
 }

@@ -187,7 +187,7 @@ A transcript has one answered call a line, at most 512 bytes a line:
     u 0 bump 00000000 1
     r 1 peek 00000000 1
 
-    u INDEX NAME HEX REPLY    an update: its place in the history, from 0, the program, the argument's bytes
+    u INDEX NAME HEX REPLY    an update: its index in the history, from 0, the program, the argument's bytes
                               as two hexadecimal digits each, or - for no bytes, and what it replied
     r POINT NAME HEX REPLY    a read, after POINT updates
     e NAME HEX                an update that was told that the history has ended: it changes nothing
@@ -258,11 +258,11 @@ gives the calls of the script (`nrbpf run --help`) to its sessions in turn: call
 number of sessions, one for each slot of each node. Each session makes its calls on a thread of its own.
 
 Writes a transcript, as `nrbpf replay` reads it:
-    u INDEX NAME HEX REPLY    an update: its place in the history, from 0, and what it replied, in their order
+    u INDEX NAME HEX REPLY    an update: its index in the history, from 0, and what it replied, in their order
     r POINT NAME HEX REPLY    a read: it has seen the first POINT updates, and stands behind them
     e NAME HEX                last, an update that was told that the history has ended: it changed nothing
 
-Which place a call gets is another from run to run; `nrbpf replay` writes `good U R E` for each transcript. With the
+Which index a call gets is another from run to run; `nrbpf replay` writes `good U R E` for each transcript. With the
 manifest of examples/counter, the script
 
     bump 00000000

@@ -68,9 +68,9 @@ impl Hand {
         self.records.is_empty()
     }
 
-    /// The record at a place of the hand, from 0 on.
+    /// The record at an index of the hand, from 0 on.
     pub fn record(&self, k: usize) -> &Record
-        requires place { k < length self.now.records }
+        requires index { k < length self.now.records }
         ensures record { slice_get self.now.records k ≡ Some result.now }
     {
         &self.records[k]

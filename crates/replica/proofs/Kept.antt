@@ -18,13 +18,13 @@ use Rattle.replica.specs.StoreMeaning.{run_of, as_update, store_meaning}
 use Rattle.replica.specs.Views.{RepliesView, with_outcome}
 use Rattle.replica.specs.Replaying.{IsAnswered, KeepsOutcomes}
 
-pub kept_within : (first count place : ℕ) (xs : List (Option Outcome)) (o : Outcome) → first ≤ place → place - first < count
-    → (let kept : RepliesView = record { first = first; outcomes = take count (set xs (place - first) (Some o)) } in kept)
-    ≡ with_outcome (record { first = first; outcomes = take count xs }) place o
-kept_within first count place xs o le lt =
+pub kept_within : (first count index : ℕ) (xs : List (Option Outcome)) (o : Outcome) → first ≤ index → index - first < count
+    → (let kept : RepliesView = record { first = first; outcomes = take count (set xs (index - first) (Some o)) } in kept)
+    ≡ with_outcome (record { first = first; outcomes = take count xs }) index o
+kept_within first count index xs o le lt =
     ap (λ (ys : List (Option Outcome)). (let kept : RepliesView = record { first = first; outcomes = ys } in kept))
-    (take-set-lt count xs (place - first) (Some o) lt
-    ∙ sym (ap (λ (b : Bool). if b then set (take count xs) (place - first) (Some o) else take count xs) (le-leb first place le)))
+    (take-set-lt count xs (index - first) (Some o) lt
+    ∙ sym (ap (λ (b : Bool). if b then set (take count xs) (index - first) (Some o) else take count xs) (le-leb first index le)))
 
 pub get-set_same : {X : Type 0} (xs : List X) (i : ℕ) (x : X) → i < length xs → slice_get (set xs i x) i ≡ Some x
 get-set_same [] i x lt = absurd (omega arith)
@@ -154,12 +154,12 @@ module _ (c : CatalogueView) (maps : Maps) (begin : ℕ) (records : History) (ol
   keeps_next : KeepsOutcomes c maps begin (take (k + 1) records) old (with_outcome mid (begin + k) o)
   keeps_next = rw add-one keeps_suc
 
--- as the loop has it: the record was run on these maps, and its outcome kept at its place
-pub keeps_one_more : (c : CatalogueView) (maps before : Maps) (begin place : ℕ) (records : History) (old mid new : RepliesView) (k : ℕ) (r : Record) (o : Outcome)
+-- as the loop has it: the record was run on these maps, and its outcome kept at its index
+pub keeps_one_more : (c : CatalogueView) (maps before : Maps) (begin index : ℕ) (records : History) (old mid new : RepliesView) (k : ℕ) (r : Record) (o : Outcome)
     → KeepsOutcomes c maps begin (take k records) old mid → slice_get records k ≡ Some r → before ≡ after store_meaning c maps (take k records)
-    → IsAnswered c r.op before o → place ≡ begin → new ≡ with_outcome mid (place + k) o
+    → IsAnswered c r.op before o → index ≡ begin → new ≡ with_outcome mid (index + k) o
     → KeepsOutcomes c maps begin (take (k + 1) records) old new
-keeps_one_more c maps before begin place records old mid new k r o so_far is maps_are outcome there kept =
+keeps_one_more c maps before begin index records old mid new k r o so_far is maps_are outcome there kept =
     subst (λ (m : RepliesView). KeepsOutcomes c maps begin (take (k + 1) records) old m)
     (sym (kept ∙ ap (λ (p : ℕ). with_outcome mid (p + k) o) there))
     (keeps_next c maps begin records old mid k r o so_far is (subst (λ (m : Maps). IsAnswered c r.op m o) maps_are outcome))

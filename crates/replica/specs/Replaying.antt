@@ -15,8 +15,8 @@ pub record IsAnswered (c : CatalogueView) (op : Operation) (maps : Maps) (o : Ou
   pub takes : store_meaning.update c op maps ≡ Some done
   pub outcome : o ≡ outcome_of done
 
--- the records, the first at place begin, were replayed on these maps: of each at a place that is kept, the outcome on the maps after
--- the records before it; at the other places what was kept before
+-- the records, the first at index begin, were replayed on these maps: of each at an index that is kept, the outcome on the maps after
+-- the records before it; at the other indexes what was kept before
 pub record KeepsOutcomes (c : CatalogueView) (maps : Maps) (begin : ℕ) (records : History) (old new : RepliesView) : Type 0 where
   pub first : new.first ≡ old.first
   pub count : length new.outcomes ≡ length old.outcomes

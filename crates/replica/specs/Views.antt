@@ -10,7 +10,7 @@ pub record ReplicaView : Type 0 where
   pub tail : ℕ
   pub maps : Maps
 
--- the outcomes of the records at the places from first on, one for each place; none where the record there was not replayed
+-- the outcomes of the records at the indexes from first on, one for each index; none where the record there was not replayed
 pub record RepliesView : Type 0 where
   pub first : ℕ
   pub outcomes : List (Option Outcome)
@@ -18,10 +18,10 @@ pub record RepliesView : Type 0 where
 abbrev pub no_replies : ℕ → ℕ → RepliesView
 no_replies first count = record { first = first; outcomes = replicate count None }
 
--- the outcome of the record at a place, if that place is one of those kept
+-- the outcome of the record at an index, if that index is one of those kept
 abbrev pub with_outcome : RepliesView → ℕ → Outcome → RepliesView
-with_outcome kept place outcome =
-    record { first = kept.first; outcomes = if nat_le kept.first place then slice_set kept.outcomes (place - kept.first) (Some outcome) else kept.outcomes }
+with_outcome kept index outcome =
+    record { first = kept.first; outcomes = if nat_le kept.first index then slice_set kept.outcomes (index - kept.first) (Some outcome) else kept.outcomes }
 
 -- a replica is told apart by its parts
 abbrev pub replica_code : Coded ReplicaView

@@ -6,7 +6,7 @@ ghost use Rattle.replica.specs.Views.{no_replies, with_outcome};
 use machine::Outcome;
 use std::marker::Model;
 
-/// The outcomes of the records at up to 16 places of the history, each from the time when its record is replayed.
+/// The outcomes of the records at up to 16 indexes of the history, each from the time when its record is replayed.
 #[derive(Drop)]
 pub struct Replies {
     first: u64,
@@ -26,7 +26,7 @@ impl Model for Replies {
 }
 
 impl Replies {
-    /// Keeps the outcomes of `count` places from `first` on, at most 16. No record there was replayed yet.
+    /// Keeps the outcomes of `count` indexes from `first` on, at most 16. No record there was replayed yet.
     pub fn new(first: u64, count: usize) -> Replies
         requires few { count ≤ 16 }
         ensures none { result ≡ no_replies first count }
@@ -38,21 +38,21 @@ impl Replies {
         }
     }
 
-    /// The first of the places.
+    /// The first of the indexes.
     pub fn first(&self) -> u64
         ensures first { result ≡ self.now.first }
     {
         self.first
     }
 
-    /// How many places there are.
+    /// How many indexes there are.
     pub fn len(&self) -> usize
         ensures count { result ≡ length self.now.outcomes }
     {
         self.outcomes[..self.count].len()
     }
 
-    /// The outcome of the record at place `first + k`; `None` while it has not been replayed.
+    /// The outcome of the record at index `first + k`; `None` while it has not been replayed.
     pub fn get(&self, k: usize) -> Option<Outcome>
         requires within { k < length self.now.outcomes }
         ensures outcome { slice_get self.now.outcomes k ≡ Some result }
@@ -61,12 +61,12 @@ impl Replies {
         self.outcomes[k]
     }
 
-    // The outcome of the record at this place of the history, if the place is one of those kept.
-    pub(crate) fn keep(&mut self, place: u64, outcome: Outcome)
-        ensures kept { self.new ≡ with_outcome self.old place outcome }
+    // The outcome of the record at this index of the history, if the index is one of those kept.
+    pub(crate) fn keep(&mut self, index: u64, outcome: Outcome)
+        ensures kept { self.new ≡ with_outcome self.old index outcome }
     {
-        if self.first <= place && place - self.first < self.count as u64 {
-            self.outcomes[(place - self.first) as usize] = Some(outcome);
+        if self.first <= index && index - self.first < self.count as u64 {
+            self.outcomes[(index - self.first) as usize] = Some(outcome);
         }
     }
 }

@@ -43,8 +43,8 @@ module _ {m : Opening} {g : Log} {node : NodeView} (x : IsOfStore m g node) (b :
   pub have_run : HaveRun b.replies b.batch
   have_run k lt inside = let r = get_some b.batch.records k inside in let a = wr.ahead in let known = wr.known k r.0 lt r.1 (omega arith) in (outcome_of known.0, known.2)
 
-  pub places_short : b.replies.first + length b.replies.outcomes < 2 ^ 64
-  places_short = let a = wr.ahead in let t = x.stands.replica.tail in let l = history_short x in omega arith
+  pub positions_short : b.replies.first + length b.replies.outcomes < 2 ^ 64
+  positions_short = let a = wr.ahead in let t = x.stands.replica.tail in let l = history_short x in omega arith
 
 -- each request of it is answered
 pub all_answered : (b : Written) → HaveRun b.replies b.batch → IsAnswered (answered_batch b.replies b.batch)
@@ -76,7 +76,7 @@ read_taken m g node new s read given at may point reply is =
 pub of_store : (s : WorldState) (x : IsStanding s) (n : ℕ) (node : NodeView) → slice_get s.world.nodes n ≡ Some node → IsOfStore s.opening s.world.log node
 of_store s x n node at = record {
   history = x.history;
-  places = x.places;
+  positions = x.positions;
   trace = x.trace;
   number = n;
   config = x.config;
@@ -108,11 +108,11 @@ stepped s step node g new answer at takes =
 
 -- it stands too
 pub still_standing : (s new : WorldState) (step : Step) (answer : StepAnswer) → IsStanding s → Takes (took s.opening s.world step) s new answer → IsStanding new
-still_standing s new step answer x takes = go (took s.opening s.world step) takes (step_keeps s.opening s.world x.history x.places x.trace step x.stands)
+still_standing s new step answer x takes = go (took s.opening s.world step) takes (step_keeps s.opening s.world x.history x.positions x.trace step x.stands)
   where
-    go : (o : Option Took) → Takes o s new answer → ((more : History) × (later : List ℕ) × Stands s.opening (world_after s.world o) (x.history ++ more) (x.places ++ later) (trace_after x.trace o)) → IsStanding new
+    go : (o : Option Took) → Takes o s new answer → ((more : History) × (later : List ℕ) × Stands s.opening (world_after s.world o) (x.history ++ more) (x.positions ++ later) (trace_after x.trace o)) → IsStanding new
     go None (is, same) k = subst IsStanding (sym same) x
-    go (Some r) (is, same) k = subst IsStanding (sym same) (record { config = x.config; history = x.history ++ k.0; places = x.places ++ k.1; trace = with_event x.trace r.event; stands = k.2 })
+    go (Some r) (is, same) k = subst IsStanding (sym same) (record { config = x.config; history = x.history ++ k.0; positions = x.positions ++ k.1; trace = with_event x.trace r.event; stands = k.2 })
 
 -- ---- several steps
 

@@ -12,7 +12,7 @@ use Rattle.node.specs.Following.{room_for, grown, is_above}
 use Rattle.node.specs.Steps.{Appends, may_append_batch, append_batch}
 use Rattle.node.specs.declared.parts.NodeBatch.{NodeBatch}
 use Rattle.node.specs.declared.parts.NodeBatch.TheVariants.{Absent, Held, InLog}
-use Rattle.schedule.specs.Trace.{Trace, Places}
+use Rattle.schedule.specs.Trace.{Trace, Positions}
 use Rattle.schedule.specs.declared.parts.Opening.{Opening}
 use Rattle.schedule.specs.Worlds.{NodeView, WorldView, own_of}
 use Rattle.schedule.specs.Steps.{Part, inner, seen_of, put_seen}
@@ -62,22 +62,22 @@ batch_grow m h rs replica hand (InLog b) l x = record {
   ended = x.ended;
 }
 
-module _ (m : Opening) (w : WorldView) (h : History) (places : Places) (t : Trace) (n : ℕ) (node : NodeView) (b : BatchView) (at_n : slice_get w.nodes n ≡ Some node) (is_b : node.batch ≡ Held b)
-    (above : w.log.base ≤ node.replica.tail) (x : Stands m w h places t) where
+module _ (m : Opening) (w : WorldView) (h : History) (positions : Positions) (t : Trace) (n : ℕ) (node : NodeView) (b : BatchView) (at_n : slice_get w.nodes n ≡ Some node) (is_b : node.batch ≡ Held b)
+    (above : w.log.base ≤ node.replica.tail) (x : Stands m w h positions t) where
   few : room_for b.records w.log ≤ length b.records
   few = min_left (length b.records) (left_of w.log)
 
   fits : length h + room_for b.records w.log ≤ m.config.limit
   fits = let a = min_right (length b.records) (left_of w.log) in let e = x.log.ends in let l = x.log.limit in let v = x.log.within in omega arith
 
-  end : Grown m w h places t n b (room_for b.records w.log)
-  end = grown_to m w h places t n node b at_n is_b x (room_for b.records w.log) few fits
+  end : Grown m w h positions t n b (room_for b.records w.log)
+  end = grown_to m w h positions t n node b at_n is_b x (room_for b.records w.log) few fits
 
   abbrev pub all_of : History
   all_of = h ++ take (room_for b.records w.log) b.records
 
   len : length all_of ≡ length h + room_for b.records w.log
-  len = grown_length m w h places t n node b at_n is_b x (room_for b.records w.log) few
+  len = grown_length m w h positions t n node b at_n is_b x (room_for b.records w.log) few
 
   abbrev pub appended : NodeView
   appended = (put_seen node (append_batch (Held b) (seen_of w.log node))).node
@@ -97,7 +97,7 @@ module _ (m : Opening) (w : WorldView) (h : History) (places : Places) (t : Trac
     window = x.log.window;
   }
 
-  node_then : NodeStands m w.log.done all_of (end.places_then) t n appended
+  node_then : NodeStands m w.log.done all_of (end.positions_then) t n appended
   node_then =
       let o = x.nodes n node at_n in
       let r = replica_grow m h (take (room_for b.records w.log) b.records) node.replica node.hand o.replica in
@@ -130,12 +130,12 @@ module _ (m : Opening) (w : WorldView) (h : History) (places : Places) (t : Trac
           ended = λ short. let s = min_short (length b.records) (left_of w.log) (let c = count in omega arith) in let e = hand_end in let a = x.log.ends in let l = x.log.within in let v = x.log.limit in omega arith;
         };
         seats = λ s z read there begun.
-            subst (λ f. StageStands m w.log.done all_of (end.places_then) t (session m.config n s) (placed f b (room_for b.records w.log)) z.count z.stage read) first
-            (subst (λ v. StageStands m w.log.done all_of (end.places_then) t (session m.config n s) (if v then placed (length h) b (room_for b.records w.log) else node.batch) z.count z.stage read) yes
+            subst (λ f. StageStands m w.log.done all_of (end.positions_then) t (session m.config n s) (placed f b (room_for b.records w.log)) z.count z.stage read) first
+            (subst (λ v. StageStands m w.log.done all_of (end.positions_then) t (session m.config n s) (if v then placed (length h) b (room_for b.records w.log) else node.batch) z.count z.stage read) yes
             (end.seats n node at_n s z read there begun));
       }
 
-  other_then : (k : ℕ) (old : NodeView) → k ≢ n → slice_get w.nodes k ≡ Some old → NodeStands m w.log.done all_of (end.places_then) t k old
+  other_then : (k : ℕ) (old : NodeView) → k ≢ n → slice_get w.nodes k ≡ Some old → NodeStands m w.log.done all_of (end.positions_then) t k old
   other_then k old ne g =
       let o = x.nodes k old g in
       let no = ne_eqb k n ne in
@@ -144,11 +144,11 @@ module _ (m : Opening) (w : WorldView) (h : History) (places : Places) (t : Trac
         desk = o.desk;
         batch = batch_grow m h (take (room_for b.records w.log) b.records) old.replica old.hand old.batch o.replica.tail o.batch;
         seats = λ s z read there begun.
-            subst (λ v. StageStands m w.log.done all_of (end.places_then) t (session m.config k s) (if v then placed (length h) b (room_for b.records w.log) else old.batch) z.count z.stage read) no
+            subst (λ v. StageStands m w.log.done all_of (end.positions_then) t (session m.config k s) (if v then placed (length h) b (room_for b.records w.log) else old.batch) z.count z.stage read) no
             (end.seats k old g s z read there begun);
       }
 
-  pub appended_stands : Kept m w h places t n (put_seen node (append_batch (Held b) (seen_of w.log node)))
+  pub appended_stands : Kept m w h positions t n (put_seen node (append_batch (Held b) (seen_of w.log node)))
   appended_stands = (
     take (room_for b.records w.log) b.records,
     end.more,
@@ -159,16 +159,16 @@ module _ (m : Opening) (w : WorldView) (h : History) (places : Places) (t : Trac
       count = set_length w.nodes n appended ∙ x.count;
       callers = x.callers;
       stamps = x.stamps;
-      nodes = nodes_put (λ k y. NodeStands m w.log.done all_of (end.places_then) t k y) w.nodes n appended other_then node_then;
+      nodes = nodes_put (λ k y. NodeStands m w.log.done all_of (end.positions_then) t k y) w.nodes n appended other_then node_then;
     }),
   )
 
-pub keeps_append : (m : Opening) (w : WorldView) (h : History) (places : Places) (t : Trace) (n : ℕ) (node : NodeView) (p : Part)
-    → slice_get w.nodes n ≡ Some node → inner m Appends w.log node ≡ Some p → Stands m w h places t → Kept m w h places t n p
-keeps_append m w h places t n node p at_n taken x =
+pub keeps_append : (m : Opening) (w : WorldView) (h : History) (positions : Positions) (t : Trace) (n : ℕ) (node : NodeView) (p : Part)
+    → slice_get w.nodes n ≡ Some node → inner m Appends w.log node ≡ Some p → Stands m w h positions t → Kept m w h positions t n p
+keeps_append m w h positions t n node p at_n taken x =
     let c = cond_gives (may_append_batch node.batch w.log (own_of node)) _ p taken in
     let held = claimed_is node.batch w.log (own_of node) c.0 in
     let tests = and_parts (is_above w.log (own_of node)) (nat_le (room_for (held.0).records w.log) (room_in w.log)) held.2 in
     let becomes = ap (λ o. Some (put_seen node (append_batch o (seen_of w.log node)))) held.1 in
-    subst (λ z. Kept m w h places t n z) (same_Some _ p (sym becomes ∙ c.1))
-    (appended_stands m w h places t n node held.0 at_n held.1 (leb-true w.log.base node.replica.tail tests.0) x)
+    subst (λ z. Kept m w h positions t n z) (same_Some _ p (sym becomes ∙ c.1))
+    (appended_stands m w h positions t n node held.0 at_n held.1 (leb-true w.log.base node.replica.tail tests.0) x)

@@ -15,11 +15,11 @@ use Rattle.replica.specs.Views.{no_replies}
 use Rattle.schedule.specs.declared.parts.BegunRead.{BegunRead}
 use Rattle.node.specs.declared.parts.NodeBatch.{NodeBatch}
 use Rattle.node.specs.declared.parts.NodeBatch.TheVariants.{Held, InLog}
-use Rattle.schedule.specs.Trace.{Call, Trace, Places}
+use Rattle.schedule.specs.Trace.{Call, Trace, Positions}
 use Rattle.schedule.specs.declared.parts.Opening.{Opening}
 use Rattle.schedule.specs.Explains.{Explains, count_of}
 use Rattle.schedule.specs.Worlds.{NodeView, WorldView}
-use Rattle.schedule.specs.Stands.{OpenAt, StageStands, Stands, batch_in, place_in}
+use Rattle.schedule.specs.Stands.{OpenAt, StageStands, Stands, batch_in, index_in}
 use Rattle.schedule.proofs.Lists.{get_new, get_in, get_some}
 use Rattle.schedule.proofs.Slots.{claimed_get, claimed_once}
 use Rattle.schedule.proofs.Explained.{explains_entry}
@@ -50,7 +50,7 @@ take_zero (x ∷ xs) = refl
 
 -- ---- one record after another
 
--- the batch, with its first j requests at the places from first on
+-- the batch, with its first j requests at the positions from first on
 abbrev pub placed : ℕ → BatchView → ℕ → NodeBatch
 placed first b j = InLog (record { batch = b; replies = no_replies first j })
 
@@ -59,18 +59,18 @@ pub none_kept : (n : ℕ) → length (replicate n (let v : Option Outcome = None
 none_kept zero = refl
 none_kept (suc n) = ap suc (none_kept n)
 
--- the place of its k-th request
-placed_at : (first : ℕ) (b : BatchView) (j k : ℕ) → place_in (placed first b j) k ≡ (if nat_lt k j then Some (first + k) else None)
+-- the index of its k-th request
+placed_at : (first : ℕ) (b : BatchView) (j k : ℕ) → index_in (placed first b j) k ≡ (if nat_lt k j then Some (first + k) else None)
 placed_at first b j k = ap (λ n. if nat_lt k n then Some (first + k) else None) (none_kept j)
 
-no_place : (first : ℕ) (b : BatchView) (j : ℕ) → place_in (placed first b j) j ≡ None
-no_place first b j = placed_at first b j j ∙ ap (λ v. if v then Some (first + j) else None) (le-ltb j j (omega arith))
+no_index : (first : ℕ) (b : BatchView) (j : ℕ) → index_in (placed first b j) j ≡ None
+no_index first b j = placed_at first b j j ∙ ap (λ v. if v then Some (first + j) else None) (le-ltb j j (omega arith))
 
-has_place : (first : ℕ) (b : BatchView) (j : ℕ) → place_in (placed first b (suc j)) j ≡ Some (first + j)
-has_place first b j = placed_at first b (suc j) j ∙ ap (λ v. if v then Some (first + j) else None) (lt-ltb j (suc j) (omega arith))
+has_index : (first : ℕ) (b : BatchView) (j : ℕ) → index_in (placed first b (suc j)) j ≡ Some (first + j)
+has_index first b j = placed_at first b (suc j) j ∙ ap (λ v. if v then Some (first + j) else None) (lt-ltb j (suc j) (omega arith))
 
-other_place : (first : ℕ) (b : BatchView) (j k : ℕ) → k ≢ j → place_in (placed first b j) k ≡ place_in (placed first b (suc j)) k
-other_place first b j k ne = placed_at first b j k ∙ ap (λ v. if v then Some (first + k) else None) same ∙ sym (placed_at first b (suc j) k)
+other_index : (first : ℕ) (b : BatchView) (j k : ℕ) → k ≢ j → index_in (placed first b j) k ≡ index_in (placed first b (suc j)) k
+other_index first b j k ne = placed_at first b j k ∙ ap (λ v. if v then Some (first + k) else None) same ∙ sym (placed_at first b (suc j) k)
   where
     same : nat_lt k j ≡ nat_lt k (suc j)
     same = ⊎_elim
@@ -78,27 +78,27 @@ other_place first b j k ne = placed_at first b j k ∙ ap (λ v. if v then Some 
         (λ ge. le-ltb k j ge ∙ sym (le-ltb k (suc j) (omega arith)))
         (cases_lt k j)
 
-abbrev pub AllSeats : Opening → ℕ → History → Places → Trace → (ℕ → NodeView → NodeBatch) → List NodeView → Type 0
-AllSeats m done h places t batch nodes =
+abbrev pub AllSeats : Opening → ℕ → History → Positions → Trace → (ℕ → NodeView → NodeBatch) → List NodeView → Type 0
+AllSeats m done h positions t batch nodes =
     (k : ℕ) (node : NodeView) → slice_get nodes k ≡ Some node → (s : ℕ) (x : Slot) (read : Option BegunRead) → slice_get node.desk.slots s ≡ Some x → slice_get node.reads s ≡ Some read
-    → StageStands m done h places t (session m.config k s) (batch k node) x.count x.stage read
+    → StageStands m done h positions t (session m.config k s) (batch k node) x.count x.stage read
 
 -- the batch of each node, once j requests of the batch of node n are appended
 abbrev pub batches : ℕ → ℕ → BatchView → ℕ → ℕ → NodeView → NodeBatch
 batches n first b j k node = if nat_eq k n then placed first b j else node.batch
 
-pub record Grown (m : Opening) (w : WorldView) (h : History) (places : Places) (t : Trace) (n : ℕ) (b : BatchView) (j : ℕ) : Type 0 where
-  pub places_then : Places
-  pub more : Places
-  pub begins : places_then ≡ places ++ more
-  pub explains : Explains m (h ++ take j b.records) places_then t
-  pub seats : AllSeats m w.log.done (h ++ take j b.records) places_then t (batches n (length h) b j) w.nodes
+pub record Grown (m : Opening) (w : WorldView) (h : History) (positions : Positions) (t : Trace) (n : ℕ) (b : BatchView) (j : ℕ) : Type 0 where
+  pub positions_then : Positions
+  pub more : Positions
+  pub begins : positions_then ≡ positions ++ more
+  pub explains : Explains m (h ++ take j b.records) positions_then t
+  pub seats : AllSeats m w.log.done (h ++ take j b.records) positions_then t (batches n (length h) b j) w.nodes
 
 -- a claimed slot has no read, and its request is in the batch
-claimed_waits : (m : Opening) (done : ℕ) (h : History) (places : Places) (t : Trace) (x : ℕ) (batch : NodeBatch) (count : ℕ) (read : Option BegunRead) → StageStands m done h places t x batch count Claimed read
-    → (read ≡ None) × ((c k : ℕ) × (r : Record) × (slice_get (batch_in batch).records k ≡ Some r) × (r.author ≡ x) × (r.seq ≡ count) × OpenAt m h places t x count Update r.op (place_in batch k) c)
-claimed_waits m done h places t x batch count None p = (refl, p)
-claimed_waits m done h places t x batch count (Some read) p = absurd p
+claimed_waits : (m : Opening) (done : ℕ) (h : History) (positions : Positions) (t : Trace) (x : ℕ) (batch : NodeBatch) (count : ℕ) (read : Option BegunRead) → StageStands m done h positions t x batch count Claimed read
+    → (read ≡ None) × ((c k : ℕ) × (r : Record) × (slice_get (batch_in batch).records k ≡ Some r) × (r.author ≡ x) × (r.seq ≡ count) × OpenAt m h positions t x count Update r.op (index_in batch k) c)
+claimed_waits m done h positions t x batch count None p = (refl, p)
+claimed_waits m done h positions t x batch count (Some read) p = absurd p
 
 met : {A : Type 0} {a b c : A} → a ≡ b → c ≡ b → a ≡ c
 met e f = e ∙ sym f
@@ -109,8 +109,8 @@ same_at rs {i} {j} {p} {r} g same f = same_Some p r (sym g ∙ ap (λ k. slice_g
 also_none : (o : Option (Option BegunRead)) (a c : Option BegunRead) → o ≡ Some a → o ≡ Some c → a ≡ None → c ≡ None
 also_none o a c is also nothing = same_Some c a (sym also ∙ is) ∙ nothing
 
-module _ (m : Opening) (w : WorldView) (h : History) (places : Places) (t : Trace) (n : ℕ) (node : NodeView) (b : BatchView) (at_n : slice_get w.nodes n ≡ Some node) (is_b : node.batch ≡ Held b)
-    (x : Stands m w h places t) where
+module _ (m : Opening) (w : WorldView) (h : History) (positions : Positions) (t : Trace) (n : ℕ) (node : NodeView) (b : BatchView) (at_n : slice_get w.nodes n ≡ Some node) (is_b : node.batch ≡ Held b)
+    (x : Stands m w h positions t) where
   own : map (λ (r : Record). r.author) b.records ≡ claimed_from (first_author node.desk) node.desk.slots
   own = subst (λ y. IsBatchOf node.desk (batch_in y)) is_b ((x.nodes n node at_n).desk).own
 
@@ -120,28 +120,28 @@ module _ (m : Opening) (w : WorldView) (h : History) (places : Places) (t : Trac
   once : (j k : ℕ) (q r : Record) → slice_get b.records j ≡ Some q → slice_get b.records k ≡ Some r → q.author ≡ r.author → j ≡ k
   once j k q r f g same = claimed_once node.desk.slots (first_author node.desk) j k r.author (author_at j q f ∙ ap Some same) (author_at k r g)
 
-  none_yet : (k : ℕ) → place_in (placed (length h) b 0) k ≡ None
+  none_yet : (k : ℕ) → index_in (placed (length h) b 0) k ≡ None
   none_yet k = let no = le-ltb k 0 (omega arith) in rw no refl
 
   slot_in : (k : ℕ) (old : NodeView) (s : ℕ) (y : Slot) → slice_get w.nodes k ≡ Some old → slice_get old.desk.slots s ≡ Some y → s < m.config.slots
   slot_in k old s y g there = let a = get_in old.desk.slots s y there in let d = ((x.nodes k old g).desk).slots in omega arith
 
-  grown_none : Grown m w h places t n b 0
+  grown_none : Grown m w h positions t n b 0
   grown_none =
       let e : h ++ take 0 b.records ≡ h = ap (λ rs. h ++ rs) (take_zero b.records) ∙ append_nil h in
       record {
-        places_then = places;
+        positions_then = positions;
         more = [];
-        begins = sym (append_nil places);
-        explains = subst (λ g. Explains m g places t) (sym e) x.explains;
-        seats = subst (λ g. AllSeats m w.log.done g places t (batches n (length h) b 0) w.nodes) (sym e)
+        begins = sym (append_nil positions);
+        explains = subst (λ g. Explains m g positions t) (sym e) x.explains;
+        seats = subst (λ g. AllSeats m w.log.done g positions t (batches n (length h) b 0) w.nodes) (sym e)
             (λ k other g s y read there begun. ⊎_elim
             (λ same. let yes = eq-eqb k n same in
             let is_node : other ≡ node = same_Some other node (sym g ∙ ap (λ i. slice_get w.nodes i) same ∙ at_n) in
             let old = (x.nodes k other g).seats s y read there begun in
             let taken : other.batch ≡ Held b = ap (λ y. y.batch) is_node ∙ is_b in
-            rw yes (stage_batch m w.log.done h places t (session m.config k s) (Held b) (placed (length h) b 0) y.count y.stage read (λ i q f by. (f, sym (none_yet i)))
-            (subst (λ v. StageStands m w.log.done h places t (session m.config k s) v y.count y.stage read) taken old)))
+            rw yes (stage_batch m w.log.done h positions t (session m.config k s) (Held b) (placed (length h) b 0) y.count y.stage read (λ i q f by. (f, sym (none_yet i)))
+            (subst (λ v. StageStands m w.log.done h positions t (session m.config k s) v y.count y.stage read) taken old)))
             (λ ne. let no = ne_eqb k n ne in rw no ((x.nodes k other g).seats s y read there begun))
             (cases_eq k n));
       }
@@ -152,8 +152,8 @@ module _ (m : Opening) (w : WorldView) (h : History) (places : Places) (t : Trac
   pub grown_length : (j : ℕ) → j ≤ length b.records → length (h ++ take j b.records) ≡ length h + j
   grown_length j l = length-append h (take j b.records) ∙ ap (λ i. length h + i) (take_length j b.records l)
 
-  -- the slot of the j-th request, and its open call, which has no place yet
-  record Waits (j : ℕ) (r : Record) (y : Grown m w h places t n b j) : Type 0 where
+  -- the slot of the j-th request, and its open call, which has no index yet
+  record Waits (j : ℕ) (r : Record) (y : Grown m w h positions t n b j) : Type 0 where
     s : ℕ
     slot : Slot
     there : slice_get node.desk.slots s ≡ Some slot
@@ -161,25 +161,25 @@ module _ (m : Opening) (w : WorldView) (h : History) (places : Places) (t : Trac
     by : r.author ≡ session m.config n s
     count : r.seq ≡ slot.count
     c : ℕ
-    open_at : OpenAt m (h ++ take j b.records) y.places_then t r.author slot.count Update r.op None c
+    open_at : OpenAt m (h ++ take j b.records) y.positions_then t r.author slot.count Update r.op None c
     no_read : (read : Option BegunRead) → slice_get node.reads s ≡ Some read → read ≡ None
 
   -- what stands of a slot of the node itself
-  own_seat : (j : ℕ) (y : Grown m w h places t n b j) (s : ℕ) (z : Slot) (read : Option BegunRead) → slice_get node.desk.slots s ≡ Some z → slice_get node.reads s ≡ Some read
-      → StageStands m w.log.done (h ++ take j b.records) y.places_then t (session m.config n s) (placed (length h) b j) z.count z.stage read
+  own_seat : (j : ℕ) (y : Grown m w h positions t n b j) (s : ℕ) (z : Slot) (read : Option BegunRead) → slice_get node.desk.slots s ≡ Some z → slice_get node.reads s ≡ Some read
+      → StageStands m w.log.done (h ++ take j b.records) y.positions_then t (session m.config n s) (placed (length h) b j) z.count z.stage read
   own_seat j y s z read there begun =
       let yes = eq-eqb n n refl in
-      subst (λ v. StageStands m w.log.done (h ++ take j b.records) y.places_then t (session m.config n s) (if v then placed (length h) b j else node.batch) z.count z.stage read) yes (y.seats n node at_n s z read there begun)
+      subst (λ v. StageStands m w.log.done (h ++ take j b.records) y.positions_then t (session m.config n s) (if v then placed (length h) b j else node.batch) z.count z.stage read) yes (y.seats n node at_n s z read there begun)
 
-  waits : (j : ℕ) (r : Record) → slice_get b.records j ≡ Some r → (y : Grown m w h places t n b j) → Waits j r y
+  waits : (j : ℕ) (r : Record) → slice_get b.records j ≡ Some r → (y : Grown m w h positions t n b j) → Waits j r y
   waits j r at_j y =
       let o = x.nodes n node at_n in
       let c = claimed_get node.desk.slots (first_author node.desk) j r.author (author_at j r at_j) in
       let by : r.author ≡ session m.config n c.0 = c.2 ∙ session_is m n node c.0 o.desk in
       let inside = slot_in n node c.0 c.1 at_n c.3 in
       let begun : (read : Option BegunRead) × (slice_get node.reads c.0 ≡ Some read) = get_some node.reads c.0 (let d = o.desk.reads in omega arith) in
-      let st = claimed_waits m w.log.done (h ++ take j b.records) y.places_then t (session m.config n c.0) (placed (length h) b j) (c.1).count begun.0
-      (subst (λ v. StageStands m w.log.done (h ++ take j b.records) y.places_then t (session m.config n c.0) (placed (length h) b j) (c.1).count v begun.0) c.4 (own_seat j y c.0 c.1 begun.0 c.3 begun.1)) in
+      let st = claimed_waits m w.log.done (h ++ take j b.records) y.positions_then t (session m.config n c.0) (placed (length h) b j) (c.1).count begun.0
+      (subst (λ v. StageStands m w.log.done (h ++ take j b.records) y.positions_then t (session m.config n c.0) (placed (length h) b j) (c.1).count v begun.0) c.4 (own_seat j y c.0 c.1 begun.0 c.3 begun.1)) in
       let q = st.1 in
       let is_j : q.1 ≡ j = once q.1 j q.2 r q.3 at_j (met q.4 by) in
       let is_r : q.2 ≡ r = same_at b.records q.3 is_j at_j in
@@ -191,14 +191,14 @@ module _ (m : Opening) (w : WorldView) (h : History) (places : Places) (t : Trac
         by = by;
         count = subst (λ z. z.seq ≡ (c.1).count) is_r q.5;
         c = q.0;
-        open_at = subst (λ v. OpenAt m (h ++ take j b.records) y.places_then t v (c.1).count Update r.op None q.0) (sym by)
-            (subst (λ v. OpenAt m (h ++ take j b.records) y.places_then t (session m.config n c.0) (c.1).count Update r.op v q.0) (no_place (length h) b j)
-            (subst (λ i. OpenAt m (h ++ take j b.records) y.places_then t (session m.config n c.0) (c.1).count Update r.op (place_in (placed (length h) b j) i) q.0) is_j
-            (subst (λ z. OpenAt m (h ++ take j b.records) y.places_then t (session m.config n c.0) (c.1).count Update z.op (place_in (placed (length h) b j) q.1) q.0) is_r q.6)));
+        open_at = subst (λ v. OpenAt m (h ++ take j b.records) y.positions_then t v (c.1).count Update r.op None q.0) (sym by)
+            (subst (λ v. OpenAt m (h ++ take j b.records) y.positions_then t (session m.config n c.0) (c.1).count Update r.op v q.0) (no_index (length h) b j)
+            (subst (λ i. OpenAt m (h ++ take j b.records) y.positions_then t (session m.config n c.0) (c.1).count Update r.op (index_in (placed (length h) b j) i) q.0) is_j
+            (subst (λ z. OpenAt m (h ++ take j b.records) y.positions_then t (session m.config n c.0) (c.1).count Update z.op (index_in (placed (length h) b j) q.1) q.0) is_r q.6)));
         no_read = λ read again. also_none (slice_get node.reads c.0) begun.0 read begun.1 again st.0;
       }
 
-  grown_next : (j : ℕ) (r : Record) → slice_get b.records j ≡ Some r → length h + j < m.config.limit → Grown m w h places t n b j → Grown m w h places t n b (suc j)
+  grown_next : (j : ℕ) (r : Record) → slice_get b.records j ≡ Some r → length h + j < m.config.limit → Grown m w h positions t n b j → Grown m w h positions t n b (suc j)
   grown_next j r at_j room_left y =
       let inside = get_in b.records j r at_j in
       let len : length (h ++ take j b.records) ≡ length h + j = grown_length j (omega arith) in
@@ -208,46 +208,46 @@ module _ (m : Opening) (w : WorldView) (h : History) (places : Places) (t : Trac
       let called : slice_get t c ≡ Some (Call r.author Update r.op) = (free.is_open).call in
       let done = x.log.done in
       let seq : r.seq ≡ count_of r.author (h ++ take j b.records) = (let f = free.counts in let g = mine.count in omega arith) in
-      let grew : Explains m ((h ++ take j b.records) ++ r ∷ []) (y.places_then ++ c ∷ []) t
+      let grew : Explains m ((h ++ take j b.records) ++ r ∷ []) (y.positions_then ++ c ∷ []) t
       = explains_entry r c y.explains free.may called free.has seq (omega arith) (λ e z a g. let l = x.stamps e z a g in omega arith) in
-      let place : length y.places_then ≡ length h + j = (y.explains).each_placed ∙ len in
+      let index : length y.positions_then ≡ length h + j = (y.explains).each_placed ∙ len in
       let next = records_next j r at_j in
-      let opened : OpenAt m ((h ++ take j b.records) ++ r ∷ []) (y.places_then ++ c ∷ []) t r.author (mine.slot).count Update r.op (Some (length h + j)) c = record {
+      let opened : OpenAt m ((h ++ take j b.records) ++ r ∷ []) (y.positions_then ++ c ∷ []) t r.author (mine.slot).count Update r.op (Some (length h + j)) c = record {
         is_open = free.is_open;
         may = free.may;
-        has = subst (λ i. slice_get (y.places_then ++ c ∷ []) i ≡ Some c) place (get_new y.places_then c);
+        has = subst (λ i. slice_get (y.positions_then ++ c ∷ []) i ≡ Some c) index (get_new y.positions_then c);
         counts = count_self (h ++ take j b.records) r ∙ (let f = free.counts in omega arith);
       } in
-      let opened2 = subst (λ v. OpenAt m ((h ++ take j b.records) ++ r ∷ []) (y.places_then ++ c ∷ []) t r.author (mine.slot).count Update r.op v c) (sym (has_place (length h) b j)) opened in
-      let opened3 : OpenAt m ((h ++ take j b.records) ++ r ∷ []) (y.places_then ++ c ∷ []) t (session m.config n mine.s) (mine.slot).count Update r.op (place_in (placed (length h) b (suc j)) j) c =
-      subst (λ v. OpenAt m ((h ++ take j b.records) ++ r ∷ []) (y.places_then ++ c ∷ []) t v (mine.slot).count Update r.op (place_in (placed (length h) b (suc j)) j) c) mine.by opened2 in
-      let own_stage : StageStands m w.log.done ((h ++ take j b.records) ++ r ∷ []) (y.places_then ++ c ∷ []) t (session m.config n mine.s) (placed (length h) b (suc j)) (mine.slot).count Claimed None =
+      let opened2 = subst (λ v. OpenAt m ((h ++ take j b.records) ++ r ∷ []) (y.positions_then ++ c ∷ []) t r.author (mine.slot).count Update r.op v c) (sym (has_index (length h) b j)) opened in
+      let opened3 : OpenAt m ((h ++ take j b.records) ++ r ∷ []) (y.positions_then ++ c ∷ []) t (session m.config n mine.s) (mine.slot).count Update r.op (index_in (placed (length h) b (suc j)) j) c =
+      subst (λ v. OpenAt m ((h ++ take j b.records) ++ r ∷ []) (y.positions_then ++ c ∷ []) t v (mine.slot).count Update r.op (index_in (placed (length h) b (suc j)) j) c) mine.by opened2 in
+      let own_stage : StageStands m w.log.done ((h ++ take j b.records) ++ r ∷ []) (y.positions_then ++ c ∷ []) t (session m.config n mine.s) (placed (length h) b (suc j)) (mine.slot).count Claimed None =
       (c, j, r, at_j, mine.by, mine.count, opened3) in
       record {
-        places_then = y.places_then ++ c ∷ [];
+        positions_then = y.positions_then ++ c ∷ [];
         more = y.more ++ c ∷ [];
-        begins = ap (λ ps. ps ++ c ∷ []) y.begins ∙ append_assoc places y.more (c ∷ []);
-        explains = subst (λ g. Explains m g (y.places_then ++ c ∷ []) t) (sym next) grew;
-        seats = subst (λ g. AllSeats m w.log.done g (y.places_then ++ c ∷ []) t (batches n (length h) b (suc j)) w.nodes) (sym next)
+        begins = ap (λ ps. ps ++ c ∷ []) y.begins ∙ append_assoc positions y.more (c ∷ []);
+        explains = subst (λ g. Explains m g (y.positions_then ++ c ∷ []) t) (sym next) grew;
+        seats = subst (λ g. AllSeats m w.log.done g (y.positions_then ++ c ∷ []) t (batches n (length h) b (suc j)) w.nodes) (sym next)
             (λ k other g s z read there begun. ⊎_elim
             (λ same. let is_n = eq-eqb k n same in
             let is_node : other ≡ node = same_Some other node (sym g ∙ ap (λ i. slice_get w.nodes i) same ∙ at_n) in
             let there2 : slice_get node.desk.slots s ≡ Some z = ap (λ v. slice_get v.desk.slots s) (sym is_node) ∙ there in
             let begun2 : slice_get node.reads s ≡ Some read = ap (λ v. slice_get v.reads s) (sym is_node) ∙ begun in
-            rw is_n (subst (λ i. StageStands m w.log.done ((h ++ take j b.records) ++ r ∷ []) (y.places_then ++ c ∷ []) t (session m.config i s) (placed (length h) b (suc j)) z.count z.stage read) (sym same)
+            rw is_n (subst (λ i. StageStands m w.log.done ((h ++ take j b.records) ++ r ∷ []) (y.positions_then ++ c ∷ []) t (session m.config i s) (placed (length h) b (suc j)) z.count z.stage read) (sym same)
             (own_next j r at_j y mine own_stage s z read there2 begun2)))
             (λ ne. let no_n = ne_eqb k n ne in
-            let old : StageStands m w.log.done (h ++ take j b.records) y.places_then t (session m.config k s) other.batch z.count z.stage read
-            = subst (λ v. StageStands m w.log.done (h ++ take j b.records) y.places_then t (session m.config k s) (if v then placed (length h) b j else other.batch) z.count z.stage read) no_n (y.seats k other g s z read there begun) in
-            rw no_n (stage_entry m w.log.done (h ++ take j b.records) y.places_then t (session m.config k s) other.batch z.count z.stage read r c called
+            let old : StageStands m w.log.done (h ++ take j b.records) y.positions_then t (session m.config k s) other.batch z.count z.stage read
+            = subst (λ v. StageStands m w.log.done (h ++ take j b.records) y.positions_then t (session m.config k s) (if v then placed (length h) b j else other.batch) z.count z.stage read) no_n (y.seats k other g s z read there begun) in
+            rw no_n (stage_entry m w.log.done (h ++ take j b.records) y.positions_then t (session m.config k s) other.batch z.count z.stage read r c called
             (λ e. other_node m.config n k mine.s s (slot_in n node mine.s mine.slot at_n mine.there) (slot_in k other s z g there) ne (sym mine.by ∙ e)) (omega arith) old))
             (cases_eq k n));
       }
     where
-      own_next : (j : ℕ) (r : Record) → slice_get b.records j ≡ Some r → (y : Grown m w h places t n b j) → (mine : Waits j r y)
-          → StageStands m w.log.done ((h ++ take j b.records) ++ r ∷ []) (y.places_then ++ mine.c ∷ []) t (session m.config n mine.s) (placed (length h) b (suc j)) (mine.slot).count Claimed None
+      own_next : (j : ℕ) (r : Record) → slice_get b.records j ≡ Some r → (y : Grown m w h positions t n b j) → (mine : Waits j r y)
+          → StageStands m w.log.done ((h ++ take j b.records) ++ r ∷ []) (y.positions_then ++ mine.c ∷ []) t (session m.config n mine.s) (placed (length h) b (suc j)) (mine.slot).count Claimed None
           → (s : ℕ) (z : Slot) (read : Option BegunRead) → slice_get node.desk.slots s ≡ Some z → slice_get node.reads s ≡ Some read
-          → StageStands m w.log.done ((h ++ take j b.records) ++ r ∷ []) (y.places_then ++ mine.c ∷ []) t (session m.config n s) (placed (length h) b (suc j)) z.count z.stage read
+          → StageStands m w.log.done ((h ++ take j b.records) ++ r ∷ []) (y.positions_then ++ mine.c ∷ []) t (session m.config n s) (placed (length h) b (suc j)) z.count z.stage read
       own_next j r at_j y mine stage s z read there begun =
           let inside = get_in b.records j r at_j in
           let len : length (h ++ take j b.records) ≡ length h + j = grown_length j (omega arith) in
@@ -256,22 +256,22 @@ module _ (m : Opening) (w : WorldView) (h : History) (places : Places) (t : Trac
           (λ slot.
           let is_slot : mine.slot ≡ z = same_Some mine.slot z (sym mine.there ∙ ap (λ i. slice_get node.desk.slots i) (sym slot) ∙ there) in
           let nothing : None ≡ read = sym (mine.no_read read (ap (λ i. slice_get node.reads i) (sym slot) ∙ begun)) in
-          subst (λ i. StageStands m w.log.done ((h ++ take j b.records) ++ r ∷ []) (y.places_then ++ mine.c ∷ []) t (session m.config n i) (placed (length h) b (suc j)) z.count z.stage read) (sym slot)
-          (subst (λ v. StageStands m w.log.done ((h ++ take j b.records) ++ r ∷ []) (y.places_then ++ mine.c ∷ []) t (session m.config n mine.s) (placed (length h) b (suc j)) v.count v.stage read) is_slot
-          (subst (λ v. StageStands m w.log.done ((h ++ take j b.records) ++ r ∷ []) (y.places_then ++ mine.c ∷ []) t (session m.config n mine.s) (placed (length h) b (suc j)) (mine.slot).count v read) (sym mine.stage)
-          (subst (λ v. StageStands m w.log.done ((h ++ take j b.records) ++ r ∷ []) (y.places_then ++ mine.c ∷ []) t (session m.config n mine.s) (placed (length h) b (suc j)) (mine.slot).count Claimed v) nothing stage))))
+          subst (λ i. StageStands m w.log.done ((h ++ take j b.records) ++ r ∷ []) (y.positions_then ++ mine.c ∷ []) t (session m.config n i) (placed (length h) b (suc j)) z.count z.stage read) (sym slot)
+          (subst (λ v. StageStands m w.log.done ((h ++ take j b.records) ++ r ∷ []) (y.positions_then ++ mine.c ∷ []) t (session m.config n mine.s) (placed (length h) b (suc j)) v.count v.stage read) is_slot
+          (subst (λ v. StageStands m w.log.done ((h ++ take j b.records) ++ r ∷ []) (y.positions_then ++ mine.c ∷ []) t (session m.config n mine.s) (placed (length h) b (suc j)) (mine.slot).count v read) (sym mine.stage)
+          (subst (λ v. StageStands m w.log.done ((h ++ take j b.records) ++ r ∷ []) (y.positions_then ++ mine.c ∷ []) t (session m.config n mine.s) (placed (length h) b (suc j)) (mine.slot).count Claimed v) nothing stage))))
           (λ ne.
-          stage_batch m w.log.done ((h ++ take j b.records) ++ r ∷ []) (y.places_then ++ mine.c ∷ []) t (session m.config n s) (placed (length h) b j) (placed (length h) b (suc j)) z.count z.stage read
+          stage_batch m w.log.done ((h ++ take j b.records) ++ r ∷ []) (y.positions_then ++ mine.c ∷ []) t (session m.config n s) (placed (length h) b j) (placed (length h) b (suc j)) z.count z.stage read
           (λ i p f by. (
             f,
-            other_place (length h) b j i (λ e.
+            other_index (length h) b j i (λ e.
                 let is_p : p ≡ r = same_Some p r (sym f ∙ ap (λ i. slice_get b.records i) e ∙ at_j) in
                 other_slot m.config n n mine.s s (slot_in n node mine.s mine.slot at_n mine.there) (slot_in n node s z at_n there) ne (sym mine.by ∙ ap (λ v. v.author) (sym is_p) ∙ by)),
           ))
-          (stage_entry m w.log.done (h ++ take j b.records) y.places_then t (session m.config n s) (placed (length h) b j) z.count z.stage read r mine.c ((mine.open_at).is_open).call
+          (stage_entry m w.log.done (h ++ take j b.records) y.positions_then t (session m.config n s) (placed (length h) b j) z.count z.stage read r mine.c ((mine.open_at).is_open).call
           (λ e. other_slot m.config n n mine.s s (slot_in n node mine.s mine.slot at_n mine.there) (slot_in n node s z at_n there) ne (sym mine.by ∙ e)) (omega arith) (own_seat j y s z read there begun)))
           (cases_eq s mine.s)
 
-  pub grown_to : (j : ℕ) → j ≤ length b.records → length h + j ≤ m.config.limit → Grown m w h places t n b j
+  pub grown_to : (j : ℕ) → j ≤ length b.records → length h + j ≤ m.config.limit → Grown m w h positions t n b j
   grown_to zero l r = grown_none
   grown_to (suc j) l r = let q = get_some b.records j (omega arith) in grown_next j q.0 q.1 (omega arith) (grown_to j (omega arith) (omega arith))

@@ -18,7 +18,7 @@ use Rattle.combiner.specs.Desks.{DeskView, first_author, with_slot, claimed_from
 use Rattle.replica.specs.StoreMeaning.{store_meaning, is_operation}
 use Rattle.schedule.specs.declared.parts.BegunRead.{BegunRead}
 use Rattle.node.specs.declared.parts.NodeBatch.{NodeBatch}
-use Rattle.schedule.specs.Trace.{Answer, Updated, ReadBack, Event, Call, Back, Trace, Places, caller, IsOpen, StampBefore, stamp}
+use Rattle.schedule.specs.Trace.{Answer, Updated, ReadBack, Event, Call, Back, Trace, Positions, caller, IsOpen, StampBefore, stamp}
 use Rattle.schedule.specs.declared.parts.Opening.{Opening}
 use Rattle.schedule.specs.Explains.{count_of}
 use Rattle.schedule.specs.Worlds.{NodeView, WorldView}
@@ -38,15 +38,15 @@ nodes_put P nodes n node others this k new g =
     ⊎_elim (λ (at, is). subst (λ j. P j new) (sym at) (subst (λ y. P n y) (sym is) this)) (λ (ne, old). others k new ne old) (get_set nodes n node k new g)
 
 -- some longer history stands for the store after a step
-abbrev pub Kept : Opening → WorldView → History → Places → Trace → ℕ → Part → Type 0
-Kept m w h places t n p = (more : History) × (later : Places) × Stands m (put_part w n p).world (h ++ more) (places ++ later) (with_event t p.event)
+abbrev pub Kept : Opening → WorldView → History → Positions → Trace → ℕ → Part → Type 0
+Kept m w h positions t n p = (more : History) × (later : Positions) × Stands m (put_part w n p).world (h ++ more) (positions ++ later) (with_event t p.event)
 
 append_nil : {A : Type 0} (xs : List A) → xs ++ [] ≡ xs
 append_nil [] = refl
 append_nil (x ∷ xs) = ap (λ ys. x ∷ ys) (append_nil xs)
 
-pub same_history : (m : Opening) (w : WorldView) (h : History) (places : Places) (t : Trace) → Stands m w h places t → (more : History) × (later : Places) × Stands m w (h ++ more) (places ++ later) t
-same_history m w h places t x = ([], [], subst (λ g. Stands m w g (places ++ []) t) (sym (append_nil h)) (subst (λ ps. Stands m w h ps t) (sym (append_nil places)) x))
+pub same_history : (m : Opening) (w : WorldView) (h : History) (positions : Positions) (t : Trace) → Stands m w h positions t → (more : History) × (later : Positions) × Stands m w (h ++ more) (positions ++ later) t
+same_history m w h positions t x = ([], [], subst (λ g. Stands m w g (positions ++ []) t) (sym (append_nil h)) (subst (λ ps. Stands m w h ps t) (sym (append_nil positions)) x))
 
 -- ---- the desk
 
@@ -92,12 +92,12 @@ others_put node s y j x read ne g f = (⊎_elim (λ same. absurd (ne same.0)) (�
 others_read : (node : NodeView) (s : ℕ) (r : Option BegunRead) → AreOthers node node.desk (slice_set node.reads s r) s
 others_read node s r j x read ne g f = (g, ⊎_elim (λ same. absurd (ne same.0)) (λ old. old.1) (get_set node.reads s r j read f))
 
-pub seat_event : (m : Opening) (w : WorldView) (h : History) (places : Places) (t : Trace) (n s : ℕ) (node : NodeView) (desk : DeskView) (reads : List (Option BegunRead)) (e : Event)
-    → slice_get w.nodes n ≡ Some node → s < m.config.slots → caller e ≡ session m.config n s → Fine m h places t e → stamp_of m e ≤ w.log.done
+pub seat_event : (m : Opening) (w : WorldView) (h : History) (positions : Positions) (t : Trace) (n s : ℕ) (node : NodeView) (desk : DeskView) (reads : List (Option BegunRead)) (e : Event)
+    → slice_get w.nodes n ≡ Some node → s < m.config.slots → caller e ≡ session m.config n s → Fine m h positions t e → stamp_of m e ≤ w.log.done
     → DeskStands m n (seats_of node desk reads) → AreOthers node desk reads s
-    → ((x : Slot) (read : Option BegunRead) → slice_get desk.slots s ≡ Some x → slice_get reads s ≡ Some read → StageStands m w.log.done h places (t ++ e ∷ []) (session m.config n s) node.batch x.count x.stage read)
-    → Stands m w h places t → Stands m (record { log = w.log; nodes = slice_set w.nodes n (seats_of node desk reads) }) h places (t ++ e ∷ [])
-seat_event m w h places t n s node desk reads e at_n inside by fine early stands others this x = record {
+    → ((x : Slot) (read : Option BegunRead) → slice_get desk.slots s ≡ Some x → slice_get reads s ≡ Some read → StageStands m w.log.done h positions (t ++ e ∷ []) (session m.config n s) node.batch x.count x.stage read)
+    → Stands m w h positions t → Stands m (record { log = w.log; nodes = slice_set w.nodes n (seats_of node desk reads) }) h positions (t ++ e ∷ [])
+seat_event m w h positions t n s node desk reads e at_n inside by fine early stands others this x = record {
   catalogue = x.catalogue;
   explains = explains_event e x.explains fine;
   log = x.log;
@@ -106,14 +106,14 @@ seat_event m w h places t n s node desk reads e at_n inside by fine early stands
       (λ new. (n, (s, inside, sym (ap caller new.1) ∙ by, (let l = get_in w.nodes n node at_n in let count = x.count in omega arith))))
       (get_snoc t e c (Call y mode op) g);
   stamps = λ b y a g. ⊎_elim (λ old. x.stamps b y a old) (λ new. let is = new.1 in subst (λ f. stamp_of m f ≤ w.log.done) is early) (get_snoc t e b (Back y a) g);
-  nodes = nodes_put (λ k y. NodeStands m w.log.done h places (t ++ e ∷ []) k y) w.nodes n (seats_of node desk reads)
+  nodes = nodes_put (λ k y. NodeStands m w.log.done h positions (t ++ e ∷ []) k y) w.nodes n (seats_of node desk reads)
       (λ k old ne g. let o = x.nodes k old g in record {
         replica = o.replica;
         desk = o.desk;
         batch = o.batch;
         seats = λ j y read there begun.
             let within : j < m.config.slots = (let a = get_in old.desk.slots j y there in let b = o.desk.slots in omega arith) in
-            stage_event m w.log.done h places t (session m.config k j) old.batch y.count y.stage read e (λ same. other_node m.config n k s j inside within ne (sym by ∙ same)) (o.seats j y read there begun);
+            stage_event m w.log.done h positions t (session m.config k j) old.batch y.count y.stage read e (λ same. other_node m.config n k s j inside within ne (sym by ∙ same)) (o.seats j y read there begun);
       })
       (let o = x.nodes n node at_n in record {
         replica = o.replica;
@@ -121,12 +121,12 @@ seat_event m w h places t n s node desk reads e at_n inside by fine early stands
         batch = o.batch;
         seats = λ j y read there begun.
             ⊎_elim
-            (λ same. subst (λ i. StageStands m w.log.done h places (t ++ e ∷ []) (session m.config n i) node.batch y.count y.stage read) (sym same)
+            (λ same. subst (λ i. StageStands m w.log.done h positions (t ++ e ∷ []) (session m.config n i) node.batch y.count y.stage read) (sym same)
             (this y read (subst (λ i. slice_get desk.slots i ≡ Some y) same there) (subst (λ i. slice_get reads i ≡ Some read) same begun)))
             (λ ne.
             let old = others j y read ne there begun in
             let within : j < m.config.slots = (let a = get_in node.desk.slots j y old.0 in let b = o.desk.slots in omega arith) in
-            stage_event m w.log.done h places t (session m.config n j) node.batch y.count y.stage read e (λ same. other_slot m.config n n s j inside within ne (sym by ∙ same)) (o.seats j y read old.0 old.1))
+            stage_event m w.log.done h positions t (session m.config n j) node.batch y.count y.stage read e (λ same. other_slot m.config n n s j inside within ne (sym by ∙ same)) (o.seats j y read old.0 old.1))
             (cases_eq j s);
       });
 }
@@ -134,16 +134,16 @@ seat_event m w h places t n s node desk reads e at_n inside by fine early stands
 -- ---- the four steps
 
 -- what stands of a slot, by what is there
-pub stage_at : (m : Opening) (done : ℕ) (h : History) (places : Places) (t : Trace) (n s : ℕ) (node : NodeView) (x : Slot) (st : Stage) (read : Option BegunRead) → NodeStands m done h places t n node
-    → slice_get node.desk.slots s ≡ Some x → slice_get node.reads s ≡ Some read → x.stage ≡ st → StageStands m done h places t (session m.config n s) node.batch x.count st read
-stage_at m done h places t n s node x st read o at begun is = subst (λ y. StageStands m done h places t (session m.config n s) node.batch x.count y read) is (o.seats s x read at begun)
+pub stage_at : (m : Opening) (done : ℕ) (h : History) (positions : Positions) (t : Trace) (n s : ℕ) (node : NodeView) (x : Slot) (st : Stage) (read : Option BegunRead) → NodeStands m done h positions t n node
+    → slice_get node.desk.slots s ≡ Some x → slice_get node.reads s ≡ Some read → x.stage ≡ st → StageStands m done h positions t (session m.config n s) node.batch x.count st read
+stage_at m done h positions t n s node x st read o at begun is = subst (λ y. StageStands m done h positions t (session m.config n s) node.batch x.count y read) is (o.seats s x read at begun)
 
 slot_in : (m : Opening) (n s : ℕ) (node : NodeView) (x : Slot) → DeskStands m n node → slice_get node.desk.slots s ≡ Some x → s < m.config.slots
 slot_in m n s node x d at = let a = get_in node.desk.slots s x at in let b = d.slots in omega arith
 
-pub keeps_post : (m : Opening) (w : WorldView) (h : History) (places : Places) (t : Trace) (n s : ℕ) (op : Operation) (node : NodeView) (p : Part)
-    → slice_get w.nodes n ≡ Some node → post m s op w.log node ≡ Some p → Stands m w h places t → Kept m w h places t n p
-keeps_post m w h places t n s op node p at_n taken x =
+pub keeps_post : (m : Opening) (w : WorldView) (h : History) (positions : Positions) (t : Trace) (n s : ℕ) (op : Operation) (node : NodeView) (p : Part)
+    → slice_get w.nodes n ≡ Some node → post m s op w.log node ≡ Some p → Stands m w h positions t → Kept m w h positions t n p
+keeps_post m w h positions t n s op node p at_n taken x =
     let o = x.nodes n node at_n in
     let e = session_is m n node s o.desk in
     let c = cond_gives (is_idle node s && is_operation Update m.catalogue op) _ p taken in
@@ -153,17 +153,17 @@ keeps_post m w h places t n s op node p at_n taken x =
     let free = free_is (slice_get node.desk.slots s) idle.0 in
     let no_begun = no_read_is (slice_get node.reads s) idle.1 in
     let y : Slot = slot (Posted op) (free.0).count in
-    let old = stage_at m w.log.done h places t n s node free.0 Empty None o free.1 no_begun free.2 in
-    let made : Kept m w h places t n (with_call_or_back (Call (session_at node s) Update op) w.log (record node { desk = with_slot node.desk s y })) =
-    same_history m (record { log = w.log; nodes = slice_set w.nodes n (record node { desk = with_slot node.desk s y }) }) h places (t ++ Call (session_at node s) Update op ∷ [])
-    (subst (λ z. Stands m (record { log = w.log; nodes = slice_set w.nodes n (record node { desk = with_slot node.desk s y }) }) h places (t ++ Call z Update op ∷ [])) (sym e)
-    (seat_event m w h places t n s node (with_slot node.desk s y) node.reads (Call (session m.config n s) Update op) at_n (slot_in m n s node free.0 o.desk free.1) refl old.0 (omega arith)
+    let old = stage_at m w.log.done h positions t n s node free.0 Empty None o free.1 no_begun free.2 in
+    let made : Kept m w h positions t n (with_call_or_back (Call (session_at node s) Update op) w.log (record node { desk = with_slot node.desk s y })) =
+    same_history m (record { log = w.log; nodes = slice_set w.nodes n (record node { desk = with_slot node.desk s y }) }) h positions (t ++ Call (session_at node s) Update op ∷ [])
+    (subst (λ z. Stands m (record { log = w.log; nodes = slice_set w.nodes n (record node { desk = with_slot node.desk s y }) }) h positions (t ++ Call z Update op ∷ [])) (sym e)
+    (seat_event m w h positions t n s node (with_slot node.desk s y) node.reads (Call (session m.config n s) Update op) at_n (slot_in m n s node free.0 o.desk free.1) refl old.0 (omega arith)
     (desk_put m n node s free.0 y free.1 (ap is_claimed free.2) refl o.desk) (others_put node s y)
     (λ z read there begun.
     let is : y ≡ z = same_Some y z (sym (set_same node.desk.slots s free.0 y free.1) ∙ there) in
     let nothing : None ≡ read = same_Some None read (sym no_begun ∙ begun) in
-    subst (λ v. StageStands m w.log.done h places (t ++ Call (session m.config n s) Update op ∷ []) (session m.config n s) node.batch v.count v.stage read) is
-    (subst (λ v. StageStands m w.log.done h places (t ++ Call (session m.config n s) Update op ∷ []) (session m.config n s) node.batch y.count y.stage v) nothing (
+    subst (λ v. StageStands m w.log.done h positions (t ++ Call (session m.config n s) Update op ∷ []) (session m.config n s) node.batch v.count v.stage read) is
+    (subst (λ v. StageStands m w.log.done h positions (t ++ Call (session m.config n s) Update op ∷ []) (session m.config n s) node.batch y.count y.stage v) nothing (
       length t,
       record {
         is_open = open_new t (session m.config n s) Update op;
@@ -173,38 +173,38 @@ keeps_post m w h places t n s op node p at_n taken x =
       },
     )))
     x)) in
-    subst (λ z. Kept m w h places t n z) d.2 (subst (λ z. Kept m w h places t n (with_call_or_back (Call (session_at node s) Update op) w.log (record node { desk = z }))) (posted_is s op node.desk d.0 free.0 free.1 d.1) made)
+    subst (λ z. Kept m w h positions t n z) d.2 (subst (λ z. Kept m w h positions t n (with_call_or_back (Call (session_at node s) Update op) w.log (record node { desk = z }))) (posted_is s op node.desk d.0 free.0 free.1 d.1) made)
 
-right_open : (m : Opening) (h : History) (places : Places) (t : Trace) (x : ℕ) (mode : Mode) (op : Operation) (c : ℕ) (a : Answer) → IsOpen t x mode op c → Right m h places t op c a → (k : Mode) (o : Operation) (d : ℕ) → IsOpen t x k o d → Right m h places t o d a
-right_open m h places t x mode op c a open_c right k o d open_d =
+right_open : (m : Opening) (h : History) (positions : Positions) (t : Trace) (x : ℕ) (mode : Mode) (op : Operation) (c : ℕ) (a : Answer) → IsOpen t x mode op c → Right m h positions t op c a → (k : Mode) (o : Operation) (d : ℕ) → IsOpen t x k o d → Right m h positions t o d a
+right_open m h positions t x mode op c a open_c right k o d open_d =
     let w = open_once open_c open_d in
     let same : op ≡ o = ap (op_in op) w.1 in
-    subst (λ y. Right m h places t y d a) same (subst (λ y. Right m h places t op y a) w.0 right)
+    subst (λ y. Right m h positions t y d a) same (subst (λ y. Right m h positions t op y a) w.0 right)
 
 -- an answer that waits at a slot where no read was begun
-answer_waits : (m : Opening) (done : ℕ) (h : History) (places : Places) (t : Trace) (x : ℕ) (batch : NodeBatch) (count : ℕ) (reply : Reply) (read : Option BegunRead)
-    → StageStands m done h places t x batch count (Answered reply) read → (read ≡ None) × ReplyStands m done h places t x count reply
-answer_waits m done h places t x batch count reply None p = (refl, p)
-answer_waits m done h places t x batch count reply (Some read) p = absurd p
+answer_waits : (m : Opening) (done : ℕ) (h : History) (positions : Positions) (t : Trace) (x : ℕ) (batch : NodeBatch) (count : ℕ) (reply : Reply) (read : Option BegunRead)
+    → StageStands m done h positions t x batch count (Answered reply) read → (read ≡ None) × ReplyStands m done h positions t x count reply
+answer_waits m done h positions t x batch count reply None p = (refl, p)
+answer_waits m done h positions t x batch count reply (Some read) p = absurd p
 
-rightly : (m : Opening) (w : WorldView) (h : History) (places : Places) (t : Trace) (x count : ℕ) (reply : Reply) → LogStands m w.log h → ReplyStands m w.log.done h places t x count reply
-    → Fine m h places t (Back x (Updated reply)) × (stamp m.config.limit (Updated reply) ≤ w.log.done) × (count_of x h ≡ counted reply count)
-rightly m w h places t x count (Placed i r) log p =
+rightly : (m : Opening) (w : WorldView) (h : History) (positions : Positions) (t : Trace) (x count : ℕ) (reply : Reply) → LogStands m w.log h → ReplyStands m w.log.done h positions t x count reply
+    → Fine m h positions t (Back x (Updated reply)) × (stamp m.config.limit (Updated reply) ≤ w.log.done) × (count_of x h ≡ counted reply count)
+rightly m w h positions t x count (Placed i r) log p =
     let l = p.3 in
     let c = (p.2).counts in
     let counts : count_of x h ≡ suc count = omega arith in
-    ((Update, p.0, p.1, (p.2).is_open, tt, right_open m h places t x Update p.0 p.1 (Updated (Placed i r)) (p.2).is_open ((p.2).has, p.4)), omega arith, counts)
-rightly m w h places t x count Ended log p =
+    ((Update, p.0, p.1, (p.2).is_open, tt, right_open m h positions t x Update p.0 p.1 (Updated (Placed i r)) (p.2).is_open ((p.2).has, p.4)), omega arith, counts)
+rightly m w h positions t x count Ended log p =
     let l = p.3 in
     let d = log.done in
     let f = log.within in
     let c = (p.2).counts in
     let counts : count_of x h ≡ count = omega arith in
-    ((Update, p.0, p.1, (p.2).is_open, tt, right_open m h places t x Update p.0 p.1 (Updated Ended) (p.2).is_open ((p.2).has, omega arith)), p.3, counts)
+    ((Update, p.0, p.1, (p.2).is_open, tt, right_open m h positions t x Update p.0 p.1 (Updated Ended) (p.2).is_open ((p.2).has, omega arith)), p.3, counts)
 
-pub keeps_collect : (m : Opening) (w : WorldView) (h : History) (places : Places) (t : Trace) (n s : ℕ) (node : NodeView) (p : Part)
-    → slice_get w.nodes n ≡ Some node → collect s w.log node ≡ Some p → Stands m w h places t → Kept m w h places t n p
-keeps_collect m w h places t n s node p at_n taken x =
+pub keeps_collect : (m : Opening) (w : WorldView) (h : History) (positions : Positions) (t : Trace) (n s : ℕ) (node : NodeView) (p : Part)
+    → slice_get w.nodes n ≡ Some node → collect s w.log node ≡ Some p → Stands m w h positions t → Kept m w h positions t n p
+keeps_collect m w h positions t n s node p at_n taken x =
     let o = x.nodes n node at_n in
     let e = session_is m n node s o.desk in
     let d = map_gives (λ c. with_call_or_back (Back (session_at node s) (Updated c.reply)) w.log (record node { desk = c.desk })) (collected s node.desk) p taken in
@@ -212,25 +212,25 @@ keeps_collect m w h places t n s node p at_n taken x =
     let was = collected_is s node.desk d.0 d.1 in
     let y : Slot = slot Empty (counted reply (was.0).count) in
     let begun : (read : Option BegunRead) × (slice_get node.reads s ≡ Some read) = get_some node.reads s (let a = slot_in m n s node was.0 o.desk was.1 in let b = o.desk.reads in omega arith) in
-    let old = answer_waits m w.log.done h places t (session m.config n s) node.batch (was.0).count reply begun.0 (stage_at m w.log.done h places t n s node was.0 (Answered reply) begun.0 o was.1 begun.1 was.2) in
-    let r = rightly m w h places t (session m.config n s) (was.0).count reply x.log old.1 in
-    let made : Kept m w h places t n (with_call_or_back (Back (session_at node s) (Updated reply)) w.log (record node { desk = with_slot node.desk s y })) =
-    same_history m (record { log = w.log; nodes = slice_set w.nodes n (record node { desk = with_slot node.desk s y }) }) h places (t ++ Back (session_at node s) (Updated reply) ∷ [])
-    (subst (λ z. Stands m (record { log = w.log; nodes = slice_set w.nodes n (record node { desk = with_slot node.desk s y }) }) h places (t ++ Back z (Updated reply) ∷ [])) (sym e)
-    (seat_event m w h places t n s node (with_slot node.desk s y) node.reads (Back (session m.config n s) (Updated reply)) at_n (slot_in m n s node was.0 o.desk was.1) refl r.0 r.1
+    let old = answer_waits m w.log.done h positions t (session m.config n s) node.batch (was.0).count reply begun.0 (stage_at m w.log.done h positions t n s node was.0 (Answered reply) begun.0 o was.1 begun.1 was.2) in
+    let r = rightly m w h positions t (session m.config n s) (was.0).count reply x.log old.1 in
+    let made : Kept m w h positions t n (with_call_or_back (Back (session_at node s) (Updated reply)) w.log (record node { desk = with_slot node.desk s y })) =
+    same_history m (record { log = w.log; nodes = slice_set w.nodes n (record node { desk = with_slot node.desk s y }) }) h positions (t ++ Back (session_at node s) (Updated reply) ∷ [])
+    (subst (λ z. Stands m (record { log = w.log; nodes = slice_set w.nodes n (record node { desk = with_slot node.desk s y }) }) h positions (t ++ Back z (Updated reply) ∷ [])) (sym e)
+    (seat_event m w h positions t n s node (with_slot node.desk s y) node.reads (Back (session m.config n s) (Updated reply)) at_n (slot_in m n s node was.0 o.desk was.1) refl r.0 r.1
     (desk_put m n node s was.0 y was.1 (ap is_claimed was.2) refl o.desk) (others_put node s y)
     (λ z read there again.
     let is : y ≡ z = same_Some y z (sym (set_same node.desk.slots s was.0 y was.1) ∙ there) in
     let nothing : None ≡ read = sym old.0 ∙ same_Some begun.0 read (sym begun.1 ∙ again) in
-    subst (λ v. StageStands m w.log.done h places (t ++ Back (session m.config n s) (Updated reply) ∷ []) (session m.config n s) node.batch v.count v.stage read) is
-    (subst (λ v. StageStands m w.log.done h places (t ++ Back (session m.config n s) (Updated reply) ∷ []) (session m.config n s) node.batch y.count y.stage v) nothing
+    subst (λ v. StageStands m w.log.done h positions (t ++ Back (session m.config n s) (Updated reply) ∷ []) (session m.config n s) node.batch v.count v.stage read) is
+    (subst (λ v. StageStands m w.log.done h positions (t ++ Back (session m.config n s) (Updated reply) ∷ []) (session m.config n s) node.batch y.count y.stage v) nothing
     (idle_back t (session m.config n s) (Updated reply), r.2)))
     x)) in
-    subst (λ z. Kept m w h places t n z) d.2 (subst (λ z. Kept m w h places t n (with_call_or_back (Back (session_at node s) (Updated reply)) w.log (record node { desk = z }))) was.3 made)
+    subst (λ z. Kept m w h positions t n z) d.2 (subst (λ z. Kept m w h positions t n (with_call_or_back (Back (session_at node s) (Updated reply)) w.log (record node { desk = z }))) was.3 made)
 
-pub keeps_read_begin : (m : Opening) (w : WorldView) (h : History) (places : Places) (t : Trace) (n s : ℕ) (op : Operation) (node : NodeView) (p : Part)
-    → slice_get w.nodes n ≡ Some node → read_begin m s op w.log node ≡ Some p → Stands m w h places t → Kept m w h places t n p
-keeps_read_begin m w h places t n s op node p at_n taken x =
+pub keeps_read_begin : (m : Opening) (w : WorldView) (h : History) (positions : Positions) (t : Trace) (n s : ℕ) (op : Operation) (node : NodeView) (p : Part)
+    → slice_get w.nodes n ≡ Some node → read_begin m s op w.log node ≡ Some p → Stands m w h positions t → Kept m w h positions t n p
+keeps_read_begin m w h positions t n s op node p at_n taken x =
     let o = x.nodes n node at_n in
     let e = session_is m n node s o.desk in
     let c = cond_gives (is_idle node s && is_operation Read m.catalogue op) _ p taken in
@@ -239,16 +239,16 @@ keeps_read_begin m w h places t n s op node p at_n taken x =
     let free = free_is (slice_get node.desk.slots s) idle.0 in
     let no_begun = no_read_is (slice_get node.reads s) idle.1 in
     let begun : BegunRead = record { op = op; seen = w.log.done } in
-    let old = stage_at m w.log.done h places t n s node free.0 Empty None o free.1 no_begun free.2 in
-    let made : Kept m w h places t n (with_call_or_back (Call (session_at node s) Read op) w.log (with_read node s (Some begun))) =
-    same_history m (record { log = w.log; nodes = slice_set w.nodes n (with_read node s (Some begun)) }) h places (t ++ Call (session_at node s) Read op ∷ [])
-    (subst (λ z. Stands m (record { log = w.log; nodes = slice_set w.nodes n (with_read node s (Some begun)) }) h places (t ++ Call z Read op ∷ [])) (sym e)
-    (seat_event m w h places t n s node node.desk (slice_set node.reads s (Some begun)) (Call (session m.config n s) Read op) at_n (slot_in m n s node free.0 o.desk free.1) refl old.0 (omega arith)
+    let old = stage_at m w.log.done h positions t n s node free.0 Empty None o free.1 no_begun free.2 in
+    let made : Kept m w h positions t n (with_call_or_back (Call (session_at node s) Read op) w.log (with_read node s (Some begun))) =
+    same_history m (record { log = w.log; nodes = slice_set w.nodes n (with_read node s (Some begun)) }) h positions (t ++ Call (session_at node s) Read op ∷ [])
+    (subst (λ z. Stands m (record { log = w.log; nodes = slice_set w.nodes n (with_read node s (Some begun)) }) h positions (t ++ Call z Read op ∷ [])) (sym e)
+    (seat_event m w h positions t n s node node.desk (slice_set node.reads s (Some begun)) (Call (session m.config n s) Read op) at_n (slot_in m n s node free.0 o.desk free.1) refl old.0 (omega arith)
     (read_put m n node s (Some begun) o.desk) (others_read node s (Some begun))
     (λ z read there again.
     let is : free.0 ≡ z = same_Some free.0 z (sym free.1 ∙ there) in
     let same : Some begun ≡ read = same_Some (Some begun) read (sym (set_same node.reads s None (Some begun) no_begun) ∙ again) in
-    let here : StageStands m w.log.done h places (t ++ Call (session m.config n s) Read op ∷ []) (session m.config n s) node.batch (free.0).count Empty (Some begun) = (
+    let here : StageStands m w.log.done h positions (t ++ Call (session m.config n s) Read op ∷ []) (session m.config n s) node.batch (free.0).count Empty (Some begun) = (
       length t,
       record {
         is_open = open_new t (session m.config n s) Read op;
@@ -259,24 +259,24 @@ keeps_read_begin m w h places t n s op node p at_n taken x =
       omega arith,
       λ k before. let b = stamp_less m.config.limit t (Call (session m.config n s) Read op) (omega arith) before in let l = x.stamps b.0 b.1 b.2 b.4 in let e = b.5 in omega arith,
     ) in
-    subst (λ v. StageStands m w.log.done h places (t ++ Call (session m.config n s) Read op ∷ []) (session m.config n s) node.batch v.count v.stage read) is
-    (subst (λ v. StageStands m w.log.done h places (t ++ Call (session m.config n s) Read op ∷ []) (session m.config n s) node.batch (free.0).count v read) (sym free.2)
-    (subst (λ v. StageStands m w.log.done h places (t ++ Call (session m.config n s) Read op ∷ []) (session m.config n s) node.batch (free.0).count Empty v) same here)))
+    subst (λ v. StageStands m w.log.done h positions (t ++ Call (session m.config n s) Read op ∷ []) (session m.config n s) node.batch v.count v.stage read) is
+    (subst (λ v. StageStands m w.log.done h positions (t ++ Call (session m.config n s) Read op ∷ []) (session m.config n s) node.batch (free.0).count v read) (sym free.2)
+    (subst (λ v. StageStands m w.log.done h positions (t ++ Call (session m.config n s) Read op ∷ []) (session m.config n s) node.batch (free.0).count Empty v) same here)))
     x)) in
-    subst (λ z. Kept m w h places t n z) (same_Some _ p c.1) made
+    subst (λ z. Kept m w h positions t n z) (same_Some _ p c.1) made
 
 -- a read that was begun, at a slot that has no request
-read_waits : (m : Opening) (done : ℕ) (h : History) (places : Places) (t : Trace) (x : ℕ) (batch : NodeBatch) (count : ℕ) (st : Stage) (read : BegunRead)
-    → StageStands m done h places t x batch count st (Some read)
-    → (st ≡ Empty) × ((c : ℕ) × OpenAt m h places t x count Read read.op None c × (read.seen ≤ done) × ((s : ℕ) → StampBefore m.config.limit t c s → s ≤ read.seen))
-read_waits m done h places t x batch count Empty read p = (refl, p)
-read_waits m done h places t x batch count (Posted op) read p = absurd p
-read_waits m done h places t x batch count Claimed read p = absurd p
-read_waits m done h places t x batch count (Answered r) read p = absurd p
+read_waits : (m : Opening) (done : ℕ) (h : History) (positions : Positions) (t : Trace) (x : ℕ) (batch : NodeBatch) (count : ℕ) (st : Stage) (read : BegunRead)
+    → StageStands m done h positions t x batch count st (Some read)
+    → (st ≡ Empty) × ((c : ℕ) × OpenAt m h positions t x count Read read.op None c × (read.seen ≤ done) × ((s : ℕ) → StampBefore m.config.limit t c s → s ≤ read.seen))
+read_waits m done h positions t x batch count Empty read p = (refl, p)
+read_waits m done h positions t x batch count (Posted op) read p = absurd p
+read_waits m done h positions t x batch count Claimed read p = absurd p
+read_waits m done h positions t x batch count (Answered r) read p = absurd p
 
-pub keeps_read_answer : (m : Opening) (w : WorldView) (h : History) (places : Places) (t : Trace) (n s : ℕ) (node : NodeView) (p : Part)
-    → slice_get w.nodes n ≡ Some node → read_answer m s w.log node ≡ Some p → Stands m w h places t → Kept m w h places t n p
-keeps_read_answer m w h places t n s node p at_n taken x =
+pub keeps_read_answer : (m : Opening) (w : WorldView) (h : History) (positions : Positions) (t : Trace) (n s : ℕ) (node : NodeView) (p : Part)
+    → slice_get w.nodes n ≡ Some node → read_answer m s w.log node ≡ Some p → Stands m w h positions t → Kept m w h positions t n p
+keeps_read_answer m w h positions t n s node p at_n taken x =
     let o = x.nodes n node at_n in
     let e = session_is m n node s o.desk in
     let r = then_gives _ _ p taken in
@@ -289,20 +289,20 @@ keeps_read_answer m w h places t n s node p at_n taken x =
     let d = map_gives (λ (f : ReadEffect). with_call_or_back (Back (session_at node s) (ReadBack (record { point = node.replica.tail; reply = f.reply }))) w.log (with_read node s None)) (store_meaning.read m.catalogue read.op node.replica.maps) p c.1 in
     let a : Answer = ReadBack (record { point = node.replica.tail; reply = d.0.reply }) in
     let there : (y : Slot) × (slice_get node.desk.slots s ≡ Some y) = get_some node.desk.slots s (let l = get_in node.reads s (Some read) begun in let f = o.desk.reads in let g = o.desk.slots in omega arith) in
-    let q = read_waits m w.log.done h places t (session m.config n s) node.batch (there.0).count (there.0).stage read (o.seats s there.0 (Some read) there.1 begun) in
+    let q = read_waits m w.log.done h positions t (session m.config n s) node.batch (there.0).count (there.0).stage read (o.seats s there.0 (Some read) there.1 begun) in
     let old = q.1 in
     let right : read_reply_at store_meaning m.catalogue h node.replica.tail read.op ≡ Some d.0.reply =
     ap (λ maps. option_map (λ (f : ReadEffect). f.reply) (store_meaning.read m.catalogue read.op maps)) (sym o.replica.maps) ∙ ap (option_map (λ (f : ReadEffect). f.reply)) d.1 in
-    let made : Kept m w h places t n (with_call_or_back (Back (session_at node s) a) w.log (with_read node s None)) =
-    same_history m (record { log = w.log; nodes = slice_set w.nodes n (with_read node s None) }) h places (t ++ Back (session_at node s) a ∷ [])
-    (subst (λ z. Stands m (record { log = w.log; nodes = slice_set w.nodes n (with_read node s None) }) h places (t ++ Back z a ∷ [])) (sym e)
-    (seat_event m w h places t n s node node.desk (slice_set node.reads s None) (Back (session m.config n s) a) at_n (slot_in m n s node there.0 o.desk there.1) refl (
+    let made : Kept m w h positions t n (with_call_or_back (Back (session_at node s) a) w.log (with_read node s None)) =
+    same_history m (record { log = w.log; nodes = slice_set w.nodes n (with_read node s None) }) h positions (t ++ Back (session_at node s) a ∷ [])
+    (subst (λ z. Stands m (record { log = w.log; nodes = slice_set w.nodes n (with_read node s None) }) h positions (t ++ Back z a ∷ [])) (sym e)
+    (seat_event m w h positions t n s node node.desk (slice_set node.reads s None) (Back (session m.config n s) a) at_n (slot_in m n s node there.0 o.desk there.1) refl (
       Read,
       read.op,
       old.0,
       (old.1).is_open,
       tt,
-      right_open m h places t (session m.config n s) Read read.op old.0 a (old.1).is_open
+      right_open m h positions t (session m.config n s) Read read.op old.0 a (old.1).is_open
           (o.replica.tail, right, λ k before. let l = old.3 k before in omega arith),
     )
     done
@@ -311,10 +311,10 @@ keeps_read_answer m w h places t n s node p at_n taken x =
     let is : there.0 ≡ z = same_Some there.0 z (sym there.1 ∙ at_z) in
     let same : None ≡ now = same_Some None now (sym (set_same node.reads s (Some read) None begun) ∙ again) in
     let counts = (old.1).counts in
-    let here : StageStands m w.log.done h places (t ++ Back (session m.config n s) a ∷ []) (session m.config n s) node.batch (there.0).count Empty None =
+    let here : StageStands m w.log.done h positions (t ++ Back (session m.config n s) a ∷ []) (session m.config n s) node.batch (there.0).count Empty None =
     (idle_back t (session m.config n s) a, counts ∙ (let z : (there.0).count + 0 ≡ (there.0).count = omega arith in z)) in
-    subst (λ v. StageStands m w.log.done h places (t ++ Back (session m.config n s) a ∷ []) (session m.config n s) node.batch v.count v.stage now) is
-    (subst (λ v. StageStands m w.log.done h places (t ++ Back (session m.config n s) a ∷ []) (session m.config n s) node.batch (there.0).count v now) (sym q.0)
-    (subst (λ v. StageStands m w.log.done h places (t ++ Back (session m.config n s) a ∷ []) (session m.config n s) node.batch (there.0).count Empty v) same here)))
+    subst (λ v. StageStands m w.log.done h positions (t ++ Back (session m.config n s) a ∷ []) (session m.config n s) node.batch v.count v.stage now) is
+    (subst (λ v. StageStands m w.log.done h positions (t ++ Back (session m.config n s) a ∷ []) (session m.config n s) node.batch (there.0).count v now) (sym q.0)
+    (subst (λ v. StageStands m w.log.done h positions (t ++ Back (session m.config n s) a ∷ []) (session m.config n s) node.batch (there.0).count Empty v) same here)))
     x)) in
-    subst (λ z. Kept m w h places t n z) d.2 made
+    subst (λ z. Kept m w h positions t n z) d.2 made

@@ -23,11 +23,11 @@ use Rattle.node.proofs.Answers.{answers_placed, answers_ended}
 use Rattle.schedule.specs.declared.parts.BegunRead.{BegunRead}
 use Rattle.node.specs.declared.parts.Written.{Written}
 use Rattle.node.specs.declared.parts.NodeBatch.TheVariants.{Absent, Held, InLog}
-use Rattle.schedule.specs.Trace.{Trace, Places}
+use Rattle.schedule.specs.Trace.{Trace, Positions}
 use Rattle.schedule.specs.declared.parts.Opening.{Opening}
 use Rattle.schedule.specs.Worlds.{NodeView, WorldView, own_of}
 use Rattle.schedule.specs.Steps.{Part, claim, no_batch, inner, seen_of, put_seen}
-use Rattle.schedule.specs.Stands.{OpenAt, ReplyStands, StageStands, DeskStands, NodeStands, BatchStands, WrittenStands, Stands, batch_in, place_in}
+use Rattle.schedule.specs.Stands.{OpenAt, ReplyStands, StageStands, DeskStands, NodeStands, BatchStands, WrittenStands, Stands, batch_in, index_in}
 use Rattle.schedule.proofs.Lists.{get_in, set_length}
 use Rattle.schedule.proofs.Options.{cond_gives, none_is, no_batch_is, appended_is}
 use Rattle.schedule.proofs.Slots.{claims_own, requests_have, request_of, claimed_has, claimed_once, answered_get, answered_length, AllAnswered, none_claimed, answer_found}
@@ -40,7 +40,7 @@ mapped_get f [] s y g = absurd (none-some y g)
 mapped_get f (x ∷ xs) zero y g = (x, refl, same_Some (f x) y g)
 mapped_get f (x ∷ xs) (suc s) y g = mapped_get f xs s y g
 
-module _ (m : Opening) (w : WorldView) (h : History) (places : Places) (t : Trace) (n : ℕ) (node : NodeView) (o : NodeStands m w.log.done h places t n node) (idle : node.batch ≡ Absent) where
+module _ (m : Opening) (w : WorldView) (h : History) (positions : Positions) (t : Trace) (n : ℕ) (node : NodeView) (o : NodeStands m w.log.done h positions t n node) (idle : node.batch ≡ Absent) where
   -- where there is no batch, no slot is claimed
   pub free : claimed_from (first_author node.desk) node.desk.slots ≡ []
   free = sym (subst (λ b. IsBatchOf node.desk (batch_in b)) idle o.desk.own)
@@ -57,8 +57,8 @@ module _ (m : Opening) (w : WorldView) (h : History) (places : Places) (t : Trac
       }
 
   stage_claimed : (s : ℕ) (x : Slot) → slice_get node.desk.slots s ≡ Some x → (st : Stage) (read : Option BegunRead) → x.stage ≡ st
-      → StageStands m w.log.done h places t (session m.config n s) node.batch x.count st read
-      → StageStands m w.log.done h places t (session m.config n s) (Held (batch_of node.desk)) x.count (claimed_stage st) read
+      → StageStands m w.log.done h positions t (session m.config n s) node.batch x.count st read
+      → StageStands m w.log.done h positions t (session m.config n s) (Held (batch_of node.desk)) x.count (claimed_stage st) read
   stage_claimed s x at Empty None is p = p
   stage_claimed s x at Empty (Some read) is p = p
   stage_claimed s x at (Posted op) None is p =
@@ -70,40 +70,40 @@ module _ (m : Opening) (w : WorldView) (h : History) (places : Places) (t : Trac
   stage_claimed s x at Claimed (Some read) is p = absurd p
   stage_claimed s x at (Answered reply) (Some read) is p = p
 
-  node_claimed : NodeStands m w.log.done h places t n (record node { desk = claimed node.desk; batch = Held (batch_of node.desk) })
+  node_claimed : NodeStands m w.log.done h positions t n (record node { desk = claimed node.desk; batch = Held (batch_of node.desk) })
   node_claimed = record {
     replica = o.replica;
     desk = desk_claimed;
     batch = tt;
     seats = λ s y read there begun.
         let c = mapped_get claimed_slot node.desk.slots s y there in
-        subst (λ z. StageStands m w.log.done h places t (session m.config n s) (Held (batch_of node.desk)) z.count z.stage read) c.2
+        subst (λ z. StageStands m w.log.done h positions t (session m.config n s) (Held (batch_of node.desk)) z.count z.stage read) c.2
         (stage_claimed s c.0 c.1 (c.0).stage read refl (o.seats s c.0 read c.1 begun));
   }
 
-pub keeps_claim : (m : Opening) (w : WorldView) (h : History) (places : Places) (t : Trace) (n : ℕ) (node : NodeView) (p : Part)
-    → slice_get w.nodes n ≡ Some node → claim w.log node ≡ Some p → Stands m w h places t → Kept m w h places t n p
-keeps_claim m w h places t n node p at_n taken x =
+pub keeps_claim : (m : Opening) (w : WorldView) (h : History) (positions : Positions) (t : Trace) (n : ℕ) (node : NodeView) (p : Part)
+    → slice_get w.nodes n ≡ Some node → claim w.log node ≡ Some p → Stands m w h positions t → Kept m w h positions t n p
+keeps_claim m w h positions t n node p at_n taken x =
     let c = cond_gives (no_batch node.batch && has_request node.desk) _ p taken in
     let tests = and_parts (no_batch node.batch) (has_request node.desk) c.0 in
     let idle = no_batch_is node.batch tests.0 in
     let o = x.nodes n node at_n in
     let new : NodeView = record node { desk = claimed node.desk; batch = Held (batch_of node.desk) } in
-    subst (λ z. Kept m w h places t n z) (same_Some _ p c.1)
-    (same_history m (record { log = w.log; nodes = slice_set w.nodes n (record node { desk = claimed node.desk; batch = Held (batch_of node.desk) }) }) h places t (record {
+    subst (λ z. Kept m w h positions t n z) (same_Some _ p c.1)
+    (same_history m (record { log = w.log; nodes = slice_set w.nodes n (record node { desk = claimed node.desk; batch = Held (batch_of node.desk) }) }) h positions t (record {
       catalogue = x.catalogue;
       explains = x.explains;
       log = x.log;
       count = set_length w.nodes n (record node { desk = claimed node.desk; batch = Held (batch_of node.desk) }) ∙ x.count;
       callers = x.callers;
       stamps = x.stamps;
-      nodes = nodes_put (λ k y. NodeStands m w.log.done h places t k y) w.nodes n (record node { desk = claimed node.desk; batch = Held (batch_of node.desk) }) (λ k old ne g. x.nodes k old g)
-          (node_claimed m w h places t n node o idle);
+      nodes = nodes_put (λ k y. NodeStands m w.log.done h positions t k y) w.nodes n (record node { desk = claimed node.desk; batch = Held (batch_of node.desk) }) (λ k old ne g. x.nodes k old g)
+          (node_claimed m w h positions t n node o idle);
     }))
 
 -- ---- reply
 
-module _ (m : Opening) (w : WorldView) (h : History) (places : Places) (t : Trace) (n : ℕ) (node : NodeView) (b : Written) (o : NodeStands m w.log.done h places t n node) (is_b : node.batch ≡ InLog b)
+module _ (m : Opening) (w : WorldView) (h : History) (positions : Positions) (t : Trace) (n : ℕ) (node : NodeView) (b : Written) (o : NodeStands m w.log.done h positions t n node) (is_b : node.batch ≡ InLog b)
     (empty : node.hand.records ≡ []) (below : node.replica.tail ≤ w.log.done) where
   wr : WrittenStands m h node.replica node.hand b
   wr = subst (λ y. BatchStands m h node.replica node.hand y) is_b o.batch
@@ -122,7 +122,7 @@ module _ (m : Opening) (w : WorldView) (h : History) (places : Places) (t : Trac
 
   -- the answer to the k-th request stands for it
   abbrev pub AnswersWell : ℕ → Record → Reply → Type 0
-  AnswersWell k r y = (c : ℕ) (x count : ℕ) → OpenAt m h places t x count Update r.op (place_in (InLog b) k) c → ReplyStands m w.log.done h places t x count y
+  AnswersWell k r y = (c : ℕ) (x count : ℕ) → OpenAt m h positions t x count Update r.op (index_in (InLog b) k) c → ReplyStands m w.log.done h positions t x count y
 
   answer_at : (k : ℕ) (r : Record) → slice_get b.batch.records k ≡ Some r → (y : Reply) × (slice_get (answered_batch b.replies b.batch).answers k ≡ Some (Some y)) × AnswersWell k r y
   answer_at k r g =
@@ -138,7 +138,7 @@ module _ (m : Opening) (w : WorldView) (h : History) (places : Places) (t : Trac
         λ c x count opened. (
           r.op,
           c,
-          subst (λ v. OpenAt m h places t x count Update r.op (if v then Some (b.replies.first + k) else None) c) yes opened,
+          subst (λ v. OpenAt m h positions t x count Update r.op (if v then Some (b.replies.first + k) else None) c) yes opened,
           before,
           ap (option_map (λ (e : Effect _). e.reply)) known.1,
         ),
@@ -150,7 +150,7 @@ module _ (m : Opening) (w : WorldView) (h : History) (places : Places) (t : Trac
       let all : m.config.limit ≤ w.log.done = omega arith in (
         Ended,
         answers_ended b.batch.records b.replies.outcomes b.replies.first k r g (omega arith),
-        (λ c x count opened. (r.op, c, subst (λ v. OpenAt m h places t x count Update r.op (if v then Some (b.replies.first + k) else None) c) no opened, all)),
+        (λ c x count opened. (r.op, c, subst (λ v. OpenAt m h positions t x count Update r.op (if v then Some (b.replies.first + k) else None) c) no opened, all)),
       ))
       (cases_lt k (length b.replies.outcomes))
 
@@ -179,8 +179,8 @@ module _ (m : Opening) (w : WorldView) (h : History) (places : Places) (t : Trac
   }
 
   stage_replied : (s : ℕ) (x : Slot) → slice_get node.desk.slots s ≡ Some x → (st : Stage) (read : Option BegunRead) → x.stage ≡ st
-      → StageStands m w.log.done h places t (session m.config n s) (InLog b) x.count st read
-      → StageStands m w.log.done h places t (session m.config n s) Absent x.count (answered_stage (answer_for (first_author node.desk + s) b.batch.records (answered_batch b.replies b.batch).answers) st) read
+      → StageStands m w.log.done h positions t (session m.config n s) (InLog b) x.count st read
+      → StageStands m w.log.done h positions t (session m.config n s) Absent x.count (answered_stage (answer_for (first_author node.desk + s) b.batch.records (answered_batch b.replies b.batch).answers) st) read
   stage_replied s x at Empty None is p = p
   stage_replied s x at Empty (Some read) is p = p
   stage_replied s x at (Posted op) None is p = p
@@ -191,22 +191,22 @@ module _ (m : Opening) (w : WorldView) (h : History) (places : Places) (t : Trac
   stage_replied s x at Claimed None is (c, k, r, g, by, seq, opened) =
       let known : answer_for (first_author node.desk + s) b.batch.records (answered_batch b.replies b.batch).answers ≡ Some ((answer_at k r g).0) =
       ap (λ a. answer_for a b.batch.records (answered_batch b.replies b.batch).answers) (session_is m n node s o.desk ∙ sym by) ∙ answer_is k r g in
-      subst (λ v. StageStands m w.log.done h places t (session m.config n s) Absent x.count (with_answer v) None) (sym known) ((answer_at k r g).2 c (session m.config n s) x.count opened)
+      subst (λ v. StageStands m w.log.done h positions t (session m.config n s) Absent x.count (with_answer v) None) (sym known) ((answer_at k r g).2 c (session m.config n s) x.count opened)
 
-  pub node_replied : NodeStands m w.log.done h places t n (record node { desk = replied (answered_batch b.replies b.batch) node.desk; batch = Absent })
+  pub node_replied : NodeStands m w.log.done h positions t n (record node { desk = replied (answered_batch b.replies b.batch) node.desk; batch = Absent })
   node_replied = record {
     replica = o.replica;
     desk = desk_replied;
     batch = tt;
     seats = λ s y read there begun.
         let c = answered_get (first_author node.desk) (answered_batch b.replies b.batch) node.desk.slots s y there in
-        subst (λ z. StageStands m w.log.done h places t (session m.config n s) Absent z.count z.stage read) c.2
-        (stage_replied s c.0 c.1 (c.0).stage read refl (subst (λ v. StageStands m w.log.done h places t (session m.config n s) v (c.0).count (c.0).stage read) is_b (o.seats s c.0 read c.1 begun)));
+        subst (λ z. StageStands m w.log.done h positions t (session m.config n s) Absent z.count z.stage read) c.2
+        (stage_replied s c.0 c.1 (c.0).stage read refl (subst (λ v. StageStands m w.log.done h positions t (session m.config n s) v (c.0).count (c.0).stage read) is_b (o.seats s c.0 read c.1 begun)));
   }
 
-pub keeps_reply : (m : Opening) (w : WorldView) (h : History) (places : Places) (t : Trace) (n : ℕ) (node : NodeView) (p : Part)
-    → slice_get w.nodes n ≡ Some node → inner m Replies w.log node ≡ Some p → Stands m w h places t → Kept m w h places t n p
-keeps_reply m w h places t n node p at_n taken x =
+pub keeps_reply : (m : Opening) (w : WorldView) (h : History) (positions : Positions) (t : Trace) (n : ℕ) (node : NodeView) (p : Part)
+    → slice_get w.nodes n ≡ Some node → inner m Replies w.log node ≡ Some p → Stands m w h positions t → Kept m w h positions t n p
+keeps_reply m w h positions t n node p at_n taken x =
     let c = cond_gives (is_in_log node.batch && may_reply w.log.done (own_of node)) _ p taken in
     let both = and_parts (is_in_log node.batch) (may_reply w.log.done (own_of node)) c.0 in
     let written = appended_is node.batch both.0 in
@@ -216,14 +216,14 @@ keeps_reply m w h places t n node p at_n taken x =
     let empty = none_is node.hand.records tests.0 in
     let below = leb-true node.replica.tail w.log.done tests.1 in
     let o = x.nodes n node at_n in
-    subst (λ z. Kept m w h places t n z) (same_Some _ p (sym becomes ∙ c.1))
-    (same_history m (record { log = w.log; nodes = slice_set w.nodes n (record node { desk = replied (answered_batch b.replies b.batch) node.desk; batch = Absent }) }) h places t (record {
+    subst (λ z. Kept m w h positions t n z) (same_Some _ p (sym becomes ∙ c.1))
+    (same_history m (record { log = w.log; nodes = slice_set w.nodes n (record node { desk = replied (answered_batch b.replies b.batch) node.desk; batch = Absent }) }) h positions t (record {
       catalogue = x.catalogue;
       explains = x.explains;
       log = x.log;
       count = set_length w.nodes n (record node { desk = replied (answered_batch b.replies b.batch) node.desk; batch = Absent }) ∙ x.count;
       callers = x.callers;
       stamps = x.stamps;
-      nodes = nodes_put (λ k y. NodeStands m w.log.done h places t k y) w.nodes n (record node { desk = replied (answered_batch b.replies b.batch) node.desk; batch = Absent }) (λ k old ne g. x.nodes k old g)
-          (node_replied m w h places t n node b o written.1 empty below);
+      nodes = nodes_put (λ k y. NodeStands m w.log.done h positions t k y) w.nodes n (record node { desk = replied (answered_batch b.replies b.batch) node.desk; batch = Absent }) (λ k old ne g. x.nodes k old g)
+          (node_replied m w h positions t n node b o written.1 empty below);
     }))

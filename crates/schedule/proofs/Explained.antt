@@ -9,56 +9,56 @@ use Rattle.oplog.specs.Operations.{Operation}
 use Rattle.oplog.specs.History.{History, after, maps_after, effect_at, reply_at, read_reply_at}
 use Rattle.combiner.specs.declared.slots.Reply.TheVariants.{Placed, Ended}
 use Rattle.replica.specs.StoreMeaning.{store_meaning, is_operation}
-use Rattle.schedule.specs.Trace.{Answer, Updated, ReadBack, Event, Call, Back, Trace, Places, IsOpen, IsIdle, StampBefore, stamp, Suits}
+use Rattle.schedule.specs.Trace.{Answer, Updated, ReadBack, Event, Call, Back, Trace, Positions, IsOpen, IsIdle, StampBefore, stamp, Suits}
 use Rattle.schedule.specs.declared.parts.Opening.{Opening}
 use Rattle.schedule.specs.Explains.{Explains, count_of}
 use Rattle.schedule.proofs.Lists.{get_more, get_snoc, get_in, get_some}
 use Rattle.schedule.proofs.Traces.{take_all_front, answers_in, answers_more, answers_less, stamp_less}
 
 -- what an answer has to be
-abbrev pub Right : Opening → History → Places → Trace → Operation → ℕ → Answer → Type 0
-Right m h places t op c (Updated (Placed i r)) = (slice_get places i ≡ Some c) × (reply_at store_meaning m.catalogue h i op ≡ Some r)
-Right m h places t op c (Updated Ended) = ((i : ℕ) → slice_get places i ≢ Some c) × (length h ≡ m.config.limit)
-Right m h places t op c (ReadBack a) = (a.point ≤ length h) × (read_reply_at store_meaning m.catalogue h a.point op ≡ Some a.reply) × ((s : ℕ) → StampBefore m.config.limit t c s → s ≤ a.point)
+abbrev pub Right : Opening → History → Positions → Trace → Operation → ℕ → Answer → Type 0
+Right m h positions t op c (Updated (Placed i r)) = (slice_get positions i ≡ Some c) × (reply_at store_meaning m.catalogue h i op ≡ Some r)
+Right m h positions t op c (Updated Ended) = ((i : ℕ) → slice_get positions i ≢ Some c) × (length h ≡ m.config.limit)
+Right m h positions t op c (ReadBack a) = (a.point ≤ length h) × (read_reply_at store_meaning m.catalogue h a.point op ≡ Some a.reply) × ((s : ℕ) → StampBefore m.config.limit t c s → s ≤ a.point)
 
 -- what an event has to be
-abbrev pub Fine : Opening → History → Places → Trace → Event → Type 0
-Fine m h places t (Call x mode op) = IsIdle t x
-Fine m h places t (Back x a) = (mode : Mode) × (op : Operation) × (c : ℕ) × IsOpen t x mode op c × Suits mode a × ((k : Mode) (o : Operation) (d : ℕ) → IsOpen t x k o d → Right m h places t o d a)
+abbrev pub Fine : Opening → History → Positions → Trace → Event → Type 0
+Fine m h positions t (Call x mode op) = IsIdle t x
+Fine m h positions t (Back x a) = (mode : Mode) × (op : Operation) × (c : ℕ) × IsOpen t x mode op c × Suits mode a × ((k : Mode) (o : Operation) (d : ℕ) → IsOpen t x k o d → Right m h positions t o d a)
 
-pub in_trace : {m : Opening} {h : History} {places : Places} {t : Trace} → Explains m h places t → (i c : ℕ) → slice_get places i ≡ Some c → (i < length h) × (c < length t) × ((e : Record) × (slice_get h i ≡ Some e) × (slice_get t c ≡ Some (Call e.author Update e.op)))
-in_trace {m} {h} {places} {t} x i c g =
-    let l = get_in places i c g in
+pub in_trace : {m : Opening} {h : History} {positions : Positions} {t : Trace} → Explains m h positions t → (i c : ℕ) → slice_get positions i ≡ Some c → (i < length h) × (c < length t) × ((e : Record) × (slice_get h i ≡ Some e) × (slice_get t c ≡ Some (Call e.author Update e.op)))
+in_trace {m} {h} {positions} {t} x i c g =
+    let l = get_in positions i c g in
     let p = x.each_placed in
     let e = get_some h i (omega arith) in
     let k = x.calls i c e.0 e.1 g in
     (get_in h i e.0 e.1, get_in t c (Call (e.0).author Update (e.0).op) k, (e.0, e.1, k))
 
-right_at : (m : Opening) (h : History) (places : Places) (t : Trace) (x : ℕ) (mode : Mode) (op : Operation) (c : ℕ) (a : Answer) (e : Event) → Fine m h places t e → e ≡ Back x a → IsOpen t x mode op c → Right m h places t op c a
-right_at m h places t x mode op c a e fine same o = let f = subst (λ y. Fine m h places t y) same fine in f.5 mode op c o
+right_at : (m : Opening) (h : History) (positions : Positions) (t : Trace) (x : ℕ) (mode : Mode) (op : Operation) (c : ℕ) (a : Answer) (e : Event) → Fine m h positions t e → e ≡ Back x a → IsOpen t x mode op c → Right m h positions t op c a
+right_at m h positions t x mode op c a e fine same o = let f = subst (λ y. Fine m h positions t y) same fine in f.5 mode op c o
 
-pub explains_event : {m : Opening} {h : History} {places : Places} {t : Trace} (e : Event) → Explains m h places t → Fine m h places t e → Explains m h places (t ++ e ∷ [])
-explains_event {m} {h} {places} {t} e x fine = record {
+pub explains_event : {m : Opening} {h : History} {positions : Positions} {t : Trace} (e : Event) → Explains m h positions t → Fine m h positions t e → Explains m h positions (t ++ e ∷ [])
+explains_event {m} {h} {positions} {t} e x fine = record {
   updates = x.updates;
   each_placed = x.each_placed;
   calls = λ i c f g p. get_more t (e ∷ []) c (Call f.author Update f.op) (x.calls i c f g p);
   once = x.once;
   seqs = x.seqs;
-  placed = λ y mode op c b i r ans. ⊎_elim (λ old. x.placed y mode op c b i r old) (λ new. right_at m h places t y mode op c (Updated (Placed i r)) e fine new.1 new.2) (answers_less e ans);
-  read = λ y mode op c b k r ans. ⊎_elim (λ old. x.read y mode op c b k r old) (λ new. let w = right_at m h places t y mode op c (ReadBack (record { point = k; reply = r })) e fine new.1 new.2 in (w.0, w.1)) (answers_less e ans);
-  ended = λ y mode op c b ans. ⊎_elim (λ old. x.ended y mode op c b old) (λ new. right_at m h places t y mode op c (Updated Ended) e fine new.1 new.2) (answers_less e ans);
+  placed = λ y mode op c b i r ans. ⊎_elim (λ old. x.placed y mode op c b i r old) (λ new. right_at m h positions t y mode op c (Updated (Placed i r)) e fine new.1 new.2) (answers_less e ans);
+  read = λ y mode op c b k r ans. ⊎_elim (λ old. x.read y mode op c b k r old) (λ new. let w = right_at m h positions t y mode op c (ReadBack (record { point = k; reply = r })) e fine new.1 new.2 in (w.0, w.1)) (answers_less e ans);
+  ended = λ y mode op c b ans. ⊎_elim (λ old. x.ended y mode op c b old) (λ new. right_at m h positions t y mode op c (Updated Ended) e fine new.1 new.2) (answers_less e ans);
   placed_later = λ c i s p before. let l = (in_trace x i c p).1 in x.placed_later c i s p (stamp_less m.config.limit t e (omega arith) before);
   read_later = λ y mode op c b k r s ans before. ⊎_elim
       (λ old. let l = answers_in old in let l0 = l.0 in let l1 = l.1 in x.read_later y mode op c b k r s old (stamp_less m.config.limit t e (omega arith) before))
-      (λ new. let w = right_at m h places t y mode op c (ReadBack (record { point = k; reply = r })) e fine new.1 new.2 in let l = get_in t c (Call y mode op) (new.2).call in w.2 s (stamp_less m.config.limit t e (omega arith) before))
+      (λ new. let w = right_at m h positions t y mode op c (ReadBack (record { point = k; reply = r })) e fine new.1 new.2 in let l = get_in t c (Call y mode op) (new.2).call in w.2 s (stamp_less m.config.limit t e (omega arith) before))
       (answers_less e ans);
   calls_in_turn = λ c y mode op g. ⊎_elim
       (λ old. let l = get_in t c (Call y mode op) old in subst (λ s. IsIdle s y) (sym (take-append-le c t (e ∷ []) (omega arith))) (x.calls_in_turn c y mode op old))
-      (λ new. let idle = subst (λ f. Fine m h places t f) new.1 fine in subst (λ k. IsIdle (take k (t ++ e ∷ [])) y) (sym new.0) (subst (λ s. IsIdle s y) (sym (take_all_front t (e ∷ []))) idle))
+      (λ new. let idle = subst (λ f. Fine m h positions t f) new.1 fine in subst (λ k. IsIdle (take k (t ++ e ∷ [])) y) (sym new.0) (subst (λ s. IsIdle s y) (sym (take_all_front t (e ∷ []))) idle))
       (get_snoc t e c (Call y mode op) g);
   answers_in_turn = λ b y a g. ⊎_elim
       (λ old. let w = x.answers_in_turn b y a old in (w.0, w.1, w.2, answers_more e w.3, w.4))
-      (λ new. let f = subst (λ z. Fine m h places t z) new.1 fine in
+      (λ new. let f = subst (λ z. Fine m h positions t z) new.1 fine in
       (f.0, f.1, f.2, record { open_call = subst (λ k. IsOpen (take k (t ++ e ∷ [])) y f.0 f.1 f.2) (sym new.0) (subst (λ s. IsOpen s y f.0 f.1 f.2) (sym (take_all_front t (e ∷ []))) f.3); back = g }, f.4))
       (get_snoc t e b (Back y a) g);
 }
@@ -75,32 +75,32 @@ reply_more m h es k op l = ap (λ maps. option_map (λ e. e.reply) (store_meanin
 pub read_more : (m : Opening) (h es : History) (k : ℕ) (op : Operation) → k ≤ length h → read_reply_at store_meaning m.catalogue (h ++ es) k op ≡ read_reply_at store_meaning m.catalogue h k op
 read_more m h es k op l = ap (λ maps. option_map (λ e. e.reply) (store_meaning.read m.catalogue op maps)) (after_more m h es k l)
 
-pub explains_entry : {m : Opening} {h : History} {places : Places} {t : Trace} (e : Record) (c : ℕ) → Explains m h places t → is_operation Update m.catalogue e.op ≡ true
-    → slice_get t c ≡ Some (Call e.author Update e.op) → ((i : ℕ) → slice_get places i ≢ Some c) → e.seq ≡ count_of e.author h → length h < m.config.limit
+pub explains_entry : {m : Opening} {h : History} {positions : Positions} {t : Trace} (e : Record) (c : ℕ) → Explains m h positions t → is_operation Update m.catalogue e.op ≡ true
+    → slice_get t c ≡ Some (Call e.author Update e.op) → ((i : ℕ) → slice_get positions i ≢ Some c) → e.seq ≡ count_of e.author h → length h < m.config.limit
     → ((b : ℕ) (y : ℕ) (a : Answer) → slice_get t b ≡ Some (Back y a) → stamp m.config.limit a ≤ length h)
-    → Explains m (h ++ e ∷ []) (places ++ c ∷ []) t
-explains_entry {m} {h} {places} {t} e c x may call free seq room stamps = record {
+    → Explains m (h ++ e ∷ []) (positions ++ c ∷ []) t
+explains_entry {m} {h} {positions} {t} e c x may call free seq room stamps = record {
   updates = λ i f g. ⊎_elim (λ old. x.updates i f old) (λ new. subst (λ z. is_operation Update m.catalogue z.op ≡ true) new.1 may) (get_snoc h e i f g);
   each_placed = let p = x.each_placed in simp (length-append) (omega arith);
   calls = λ i d f g p. ⊎_elim
-      (λ old. ⊎_elim (λ oldp. x.calls i d f old oldp) (λ new. absurd (let l = get_in h i f old in let n = new.0 in let q = x.each_placed in omega arith)) (get_snoc places c i d p))
-      (λ new. ⊎_elim (λ oldp. absurd (let l = get_in places i d oldp in let n = new.0 in let q = x.each_placed in omega arith)) (λ newp. subst (λ k. slice_get t k ≡ Some (Call f.author Update f.op)) newp.1 (subst (λ z. slice_get t c ≡ Some (Call z.author Update z.op)) new.1 call)) (get_snoc places c i d p))
+      (λ old. ⊎_elim (λ oldp. x.calls i d f old oldp) (λ new. absurd (let l = get_in h i f old in let n = new.0 in let q = x.each_placed in omega arith)) (get_snoc positions c i d p))
+      (λ new. ⊎_elim (λ oldp. absurd (let l = get_in positions i d oldp in let n = new.0 in let q = x.each_placed in omega arith)) (λ newp. subst (λ k. slice_get t k ≡ Some (Call f.author Update f.op)) newp.1 (subst (λ z. slice_get t c ≡ Some (Call z.author Update z.op)) new.1 call)) (get_snoc positions c i d p))
       (get_snoc h e i f g);
   once = λ i j d p q. ⊎_elim
-      (λ oldp. ⊎_elim (λ oldq. x.once i j d oldp oldq) (λ newq. absurd (free i (subst (λ k. slice_get places i ≡ Some k) (sym newq.1) oldp))) (get_snoc places c j d q))
-      (λ newp. ⊎_elim (λ oldq. absurd (free j (subst (λ k. slice_get places j ≡ Some k) (sym newp.1) oldq))) (λ newq. newp.0 ∙ sym newq.0) (get_snoc places c j d q))
-      (get_snoc places c i d p);
+      (λ oldp. ⊎_elim (λ oldq. x.once i j d oldp oldq) (λ newq. absurd (free i (subst (λ k. slice_get positions i ≡ Some k) (sym newq.1) oldp))) (get_snoc positions c j d q))
+      (λ newp. ⊎_elim (λ oldq. absurd (free j (subst (λ k. slice_get positions j ≡ Some k) (sym newp.1) oldq))) (λ newq. newp.0 ∙ sym newq.0) (get_snoc positions c j d q))
+      (get_snoc positions c i d p);
   seqs = λ i f g. ⊎_elim
       (λ old. let l = get_in h i f old in x.seqs i f old ∙ ap (λ es. count_of f.author es) (sym (take-append-le i h (e ∷ []) (omega arith))))
       (λ new. subst (λ z. z.seq ≡ count_of z.author (take i (h ++ e ∷ []))) new.1 (seq ∙ ap (λ es. count_of e.author es) (sym (ap (λ k. take k (h ++ e ∷ [])) new.0 ∙ take_all_front h (e ∷ [])))))
       (get_snoc h e i f g);
-  placed = λ y mode op d b i r ans. let w = x.placed y mode op d b i r ans in let l = (in_trace x i d w.0).0 in (get_more places (c ∷ []) i d w.0, reply_more m h (e ∷ []) i op (omega arith) ∙ w.1);
+  placed = λ y mode op d b i r ans. let w = x.placed y mode op d b i r ans in let l = (in_trace x i d w.0).0 in (get_more positions (c ∷ []) i d w.0, reply_more m h (e ∷ []) i op (omega arith) ∙ w.1);
   read = λ y mode op d b k r ans. let w = x.read y mode op d b k r ans in let l = w.0 in (simp (length-append) (omega arith), read_more m h (e ∷ []) k op w.0 ∙ w.1);
   ended = λ y mode op d b ans. let w = x.ended y mode op d b ans in let f = w.1 in absurd (omega arith);
   placed_later = λ d i s p before. ⊎_elim
       (λ old. x.placed_later d i s old before)
       (λ new. let q = x.each_placed in let n = new.0 in let l = stamps before.0 before.1 before.2 before.4 in let k = before.5 in omega arith)
-      (get_snoc places c i d p);
+      (get_snoc positions c i d p);
   read_later = x.read_later;
   calls_in_turn = x.calls_in_turn;
   answers_in_turn = x.answers_in_turn;

@@ -11,7 +11,7 @@ use Rattle.node.specs.Following.{no_records, may_finish, told, may_reclaim, recl
 use Rattle.node.specs.Steps.{Finishes, Reclaims, Rebases, next}
 use Rattle.node.specs.declared.parts.NodeBatch.{NodeBatch}
 use Rattle.node.specs.declared.parts.NodeBatch.TheVariants.{Absent, Held, InLog}
-use Rattle.schedule.specs.Trace.{Trace, Places}
+use Rattle.schedule.specs.Trace.{Trace, Positions}
 use Rattle.schedule.specs.declared.parts.Opening.{Opening}
 use Rattle.schedule.specs.Worlds.{NodeView, WorldView, own_of}
 use Rattle.schedule.specs.Steps.{Part, inner, seen_of, put_seen}
@@ -22,23 +22,23 @@ use Rattle.schedule.proofs.Seats.{stage_done}
 use Rattle.schedule.proofs.Calls.{nodes_put, Kept, same_history}
 
 -- more is done
-node_done : (m : Opening) (done more : ℕ) (h : History) (places : Places) (t : Trace) (n : ℕ) (node : NodeView) → done ≤ more → NodeStands m done h places t n node → NodeStands m more h places t n node
-node_done m done more h places t n node l o = record {
+node_done : (m : Opening) (done more : ℕ) (h : History) (positions : Positions) (t : Trace) (n : ℕ) (node : NodeView) → done ≤ more → NodeStands m done h positions t n node → NodeStands m more h positions t n node
+node_done m done more h positions t n node l o = record {
   replica = o.replica;
   desk = o.desk;
   batch = o.batch;
-  seats = λ s x read there begun. stage_done m done more h places t (session m.config n s) node.batch x.count x.stage read l (o.seats s x read there begun);
+  seats = λ s x read there begun. stage_done m done more h positions t (session m.config n s) node.batch x.count x.stage read l (o.seats s x read there begun);
 }
 
-pub keeps_finish : (m : Opening) (w : WorldView) (h : History) (places : Places) (t : Trace) (n : ℕ) (node : NodeView) (p : Part)
-    → slice_get w.nodes n ≡ Some node → inner m Finishes w.log node ≡ Some p → Stands m w h places t → Kept m w h places t n p
-keeps_finish m w h places t n node p at_n taken x =
+pub keeps_finish : (m : Opening) (w : WorldView) (h : History) (positions : Positions) (t : Trace) (n : ℕ) (node : NodeView) (p : Part)
+    → slice_get w.nodes n ≡ Some node → inner m Finishes w.log node ≡ Some p → Stands m w h positions t → Kept m w h positions t n p
+keeps_finish m w h positions t n node p at_n taken x =
     let c = cond_gives (may_finish w.log.done (own_of node)) _ p taken in
     let above = ltb-true w.log.done node.replica.tail c.0 in
     let raised : max w.log.done node.replica.tail ≡ node.replica.tail = omega arith in
     let o = x.nodes n node at_n in
-    subst (λ z. Kept m w h places t n z) (same_Some _ p c.1)
-    (same_history m (record { log = told (own_of node) w.log; nodes = slice_set w.nodes n node }) h places t (record {
+    subst (λ z. Kept m w h positions t n z) (same_Some _ p c.1)
+    (same_history m (record { log = told (own_of node) w.log; nodes = slice_set w.nodes n node }) h positions t (record {
       catalogue = x.catalogue;
       explains = x.explains;
       log = record {
@@ -54,21 +54,21 @@ keeps_finish m w h places t n node p at_n taken x =
       count = set_length w.nodes n node ∙ x.count;
       callers = x.callers;
       stamps = λ b y a g. let l = x.stamps b y a g in omega arith;
-      nodes = nodes_put (λ k y. NodeStands m (max w.log.done node.replica.tail) h places t k y) w.nodes n node
-          (λ k old ne g. node_done m w.log.done (max w.log.done node.replica.tail) h places t k old (omega arith) (x.nodes k old g))
-          (node_done m w.log.done (max w.log.done node.replica.tail) h places t n node (omega arith) o);
+      nodes = nodes_put (λ k y. NodeStands m (max w.log.done node.replica.tail) h positions t k y) w.nodes n node
+          (λ k old ne g. node_done m w.log.done (max w.log.done node.replica.tail) h positions t k old (omega arith) (x.nodes k old g))
+          (node_done m w.log.done (max w.log.done node.replica.tail) h positions t n node (omega arith) o);
     }))
 
-pub keeps_reclaim : (m : Opening) (w : WorldView) (h : History) (places : Places) (t : Trace) (n : ℕ) (node : NodeView) (p : Part)
-    → slice_get w.nodes n ≡ Some node → inner m Reclaims w.log node ≡ Some p → Stands m w h places t → Kept m w h places t n p
-keeps_reclaim m w h places t n node p at_n taken x =
+pub keeps_reclaim : (m : Opening) (w : WorldView) (h : History) (positions : Positions) (t : Trace) (n : ℕ) (node : NodeView) (p : Part)
+    → slice_get w.nodes n ≡ Some node → inner m Reclaims w.log node ≡ Some p → Stands m w h positions t → Kept m w h positions t n p
+keeps_reclaim m w h positions t n node p at_n taken x =
     let c = cond_gives (may_reclaim w.log.done w.log (own_of node)) _ p taken in
     let tests = and_parts (nat_lt w.log.base node.replica.tail) (nat_le node.replica.tail w.log.done) c.0 in
     let above = ltb-true w.log.base node.replica.tail tests.0 in
     let below = leb-true node.replica.tail w.log.done tests.1 in
     let o = x.nodes n node at_n in
-    subst (λ z. Kept m w h places t n z) (same_Some _ p c.1)
-    (same_history m (record { log = reclaimed (own_of node) w.log; nodes = slice_set w.nodes n node }) h places t (record {
+    subst (λ z. Kept m w h positions t n z) (same_Some _ p c.1)
+    (same_history m (record { log = reclaimed (own_of node) w.log; nodes = slice_set w.nodes n node }) h positions t (record {
       catalogue = x.catalogue;
       explains = x.explains;
       log = record {
@@ -85,7 +85,7 @@ keeps_reclaim m w h places t n node p at_n taken x =
       count = set_length w.nodes n node ∙ x.count;
       callers = x.callers;
       stamps = x.stamps;
-      nodes = nodes_put (λ k y. NodeStands m w.log.done h places t k y) w.nodes n node (λ k old ne g. x.nodes k old g) o;
+      nodes = nodes_put (λ k y. NodeStands m w.log.done h positions t k y) w.nodes n node (λ k old ne g. x.nodes k old g) o;
     }))
 
 -- a replica that moves up to the base has its batch behind it
@@ -103,9 +103,9 @@ moved m h replica hand new (InLog b) l empty inside p =
       ended = λ short. let e = p.ended short in omega arith;
     }
 
-pub keeps_rebase : (m : Opening) (w : WorldView) (h : History) (places : Places) (t : Trace) (n : ℕ) (node : NodeView) (p : Part)
-    → slice_get w.nodes n ≡ Some node → inner m Rebases w.log node ≡ Some p → Stands m w h places t → Kept m w h places t n p
-keeps_rebase m w h places t n node p at_n taken x =
+pub keeps_rebase : (m : Opening) (w : WorldView) (h : History) (positions : Positions) (t : Trace) (n : ℕ) (node : NodeView) (p : Part)
+    → slice_get w.nodes n ≡ Some node → inner m Rebases w.log node ≡ Some p → Stands m w h positions t → Kept m w h positions t n p
+keeps_rebase m w h positions t n node p at_n taken x =
     let c = cond_gives (may_rebase w.log (own_of node)) _ p taken in
     let tests = and_parts (nat_lt node.replica.tail w.log.base) (no_records node.hand.records) c.0 in
     let below = ltb-true node.replica.tail w.log.base tests.0 in
@@ -114,15 +114,15 @@ keeps_rebase m w h places t n node p at_n taken x =
     let e = x.log.reclaimed in
     let d = x.log.done in
     let inside : w.log.base ≤ length h = omega arith in
-    subst (λ z. Kept m w h places t n z) (same_Some _ p c.1)
-    (same_history m (record { log = w.log; nodes = slice_set w.nodes n ((put_seen node (next m.catalogue Rebases (seen_of w.log node))).node) }) h places t (record {
+    subst (λ z. Kept m w h positions t n z) (same_Some _ p c.1)
+    (same_history m (record { log = w.log; nodes = slice_set w.nodes n ((put_seen node (next m.catalogue Rebases (seen_of w.log node))).node) }) h positions t (record {
       catalogue = x.catalogue;
       explains = x.explains;
       log = x.log;
       count = set_length w.nodes n ((put_seen node (next m.catalogue Rebases (seen_of w.log node))).node) ∙ x.count;
       callers = x.callers;
       stamps = x.stamps;
-      nodes = nodes_put (λ k y. NodeStands m w.log.done h places t k y) w.nodes n ((put_seen node (next m.catalogue Rebases (seen_of w.log node))).node) (λ k old ne g. x.nodes k old g)
+      nodes = nodes_put (λ k y. NodeStands m w.log.done h positions t k y) w.nodes n ((put_seen node (next m.catalogue Rebases (seen_of w.log node))).node) (λ k old ne g. x.nodes k old g)
           (record {
             replica = record { tail = inside; maps = x.log.maps; begins = refl; next = λ j f g. absurd (none-some f g); window = o.replica.window };
             desk = record { number = o.desk.number; slots = o.desk.slots; reads = o.desk.reads; own = o.desk.own; answers = o.desk.answers };

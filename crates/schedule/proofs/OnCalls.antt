@@ -4,7 +4,7 @@ use Rattle.oplog.specs.History.{History}
 use Rattle.schedule.specs.declared.steps.Step.{Step}
 use Rattle.schedule.specs.declared.steps.StepAnswer.{StepAnswer}
 use Rattle.schedule.specs.declared.parts.Opening.{Opening}
-use Rattle.schedule.specs.Trace.{Trace, Places}
+use Rattle.schedule.specs.Trace.{Trace, Positions}
 use Rattle.schedule.specs.Worlds.{WorldView}
 use Rattle.schedule.specs.Steps.{took, world_after, world_of}
 use Rattle.schedule.specs.Stands.{Stands}
@@ -20,14 +20,14 @@ answers_count m w [] = refl
 answers_count m w (step ∷ steps) = ap suc (answers_count m (world_after w (took m w step)) steps)
 
 -- from a history that stands there goes on one that does, after these steps
-goes_on : (m : Opening) (w : WorldView) (h : History) (places : Places) (t : Trace) (steps : List Step) → Stands m w h places t
-    → GoesOn h places m (world_of m w steps) (t ++ read_off m.config steps (answers_to m w steps))
-goes_on m w h places t steps x =
-    let r = run_stands m steps w h places t x in
+goes_on : (m : Opening) (w : WorldView) (h : History) (positions : Positions) (t : Trace) (steps : List Step) → Stands m w h positions t
+    → GoesOn h positions m (world_of m w steps) (t ++ read_off m.config steps (answers_to m w steps))
+goes_on m w h positions t steps x =
+    let r = run_stands m steps w h positions t x in
     let after : WorldView = world_of m w steps in
     let trace : Trace = t ++ read_off m.config steps (answers_to m w steps) in
-    let stands = subst (λ s. Stands m after (h ++ r.0) (places ++ r.1) s) (steps_told m steps w h places t t x) r.2 in
-    (r.0, r.1, stands, standing_is_explained m after (h ++ r.0) (places ++ r.1) trace stands)
+    let stands = subst (λ s. Stands m after (h ++ r.0) (positions ++ r.1) s) (steps_told m steps w h positions t t x) r.2 in
+    (r.0, r.1, stands, standing_is_explained m after (h ++ r.0) (positions ++ r.1) trace stands)
 
 -- the steps of a store that stands, with their answers
 all_explained : (s : WorldState) (steps : List Step) → IsStanding s
@@ -40,7 +40,7 @@ all_explained s steps x = record {
       let k = goes_on s.opening s.world [] [] [] steps nothing in
       (k.0, k.1, k.3);
   stood = x;
-  goes_on = λ h places t stands. goes_on s.opening s.world h places t steps stands;
+  goes_on = λ h positions t stands. goes_on s.opening s.world h positions t steps stands;
 }
 
 pub steps_explained : (old new : WorldState) (steps : List Step) (answers : List StepAnswer) → IsStanding old

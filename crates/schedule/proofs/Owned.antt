@@ -28,7 +28,7 @@ use Rattle.node.specs.declared.parts.NodeBatch.{NodeBatch}
 use Rattle.node.specs.declared.parts.NodeBatch.TheVariants.{Absent, Held}
 use Rattle.schedule.specs.declared.parts.Opening.{Opening}
 use Rattle.schedule.specs.declared.steps.StepAnswer.TheVariants as answers
-use Rattle.schedule.specs.Trace.{Trace, Places}
+use Rattle.schedule.specs.Trace.{Trace, Positions}
 use Rattle.schedule.specs.Explains.{count_of}
 use Rattle.schedule.specs.Worlds.{NodeView, own_of}
 use Rattle.schedule.specs.Steps.{silent, read_at, claim, no_batch}
@@ -61,16 +61,16 @@ count_few x (r ∷ rs) = let l = count_few x rs in let one = few (r.author == x)
     few false = omega arith
 
 -- a slot has counted no more than the history has of its session
-stage_count : (m : Opening) (done : ℕ) (h : History) (places : Places) (t : Trace) (x : ℕ) (batch : NodeBatch) (count : ℕ) (st : Stage) (read : Option BegunRead) → StageStands m done h places t x batch count st read → count ≤ count_of x h
-stage_count m done h places t x batch count Empty None p = let c = p.1 in omega arith
-stage_count m done h places t x batch count Empty (Some read) p = let c = (p.1).counts in omega arith
-stage_count m done h places t x batch count (Posted op) None p = let c = (p.1).counts in omega arith
-stage_count m done h places t x batch count Claimed None p = let c = (p.6).counts in omega arith
-stage_count m done h places t x batch count (Answered (Placed i r)) None p = let c = (p.2).counts in omega arith
-stage_count m done h places t x batch count (Answered Ended) None p = let c = (p.2).counts in omega arith
-stage_count m done h places t x batch count (Posted op) (Some read) p = absurd p
-stage_count m done h places t x batch count Claimed (Some read) p = absurd p
-stage_count m done h places t x batch count (Answered r) (Some read) p = absurd p
+stage_count : (m : Opening) (done : ℕ) (h : History) (positions : Positions) (t : Trace) (x : ℕ) (batch : NodeBatch) (count : ℕ) (st : Stage) (read : Option BegunRead) → StageStands m done h positions t x batch count st read → count ≤ count_of x h
+stage_count m done h positions t x batch count Empty None p = let c = p.1 in omega arith
+stage_count m done h positions t x batch count Empty (Some read) p = let c = (p.1).counts in omega arith
+stage_count m done h positions t x batch count (Posted op) None p = let c = (p.1).counts in omega arith
+stage_count m done h positions t x batch count Claimed None p = let c = (p.6).counts in omega arith
+stage_count m done h positions t x batch count (Answered (Placed i r)) None p = let c = (p.2).counts in omega arith
+stage_count m done h positions t x batch count (Answered Ended) None p = let c = (p.2).counts in omega arith
+stage_count m done h positions t x batch count (Posted op) (Some read) p = absurd p
+stage_count m done h positions t x batch count Claimed (Some read) p = absurd p
+stage_count m done h positions t x batch count (Answered r) (Some read) p = absurd p
 
 pub history_short : {m : Opening} {g : Log} {node : NodeView} (x : IsOfStore m g node) → length x.history ≤ MAX_LIMIT
 history_short x = let a = x.log.within in let b = (x.config.limit).1 in omega arith
@@ -82,7 +82,7 @@ countable {m} {g} {node} x s y at =
     let b = o.desk.slots in
     let c = o.desk.reads in
     let read = get_some node.reads s (omega arith) in
-    let l = stage_count m g.done x.history x.places x.trace (session m.config x.number s) node.batch y.count y.stage read.0 (o.seats s y read.0 at read.1) in
+    let l = stage_count m g.done x.history x.positions x.trace (session m.config x.number s) node.batch y.count y.stage read.0 (o.seats s y read.0 at read.1) in
     let few = count_few (session m.config x.number s) x.history in
     let short = history_short x in
     omega arith
@@ -125,7 +125,7 @@ claim_refused {m} {h} {node} x idle e refusal g desk same =
 pub is_next : {m : Opening} {g : Log} {node : NodeView} (c : CatalogueView) → m.catalogue ≡ c → IsOfStore m g node → has_next g (own_of node) ≡ true → IsNext c (with_next g (own_of node))
 is_next {m} {g} {node} c same x next =
     let own : NodeReplica = with_next g (own_of node) in
-    let runs = runs_next m g x.history x.places x.trace x.number node next x.log x.stands in
+    let runs = runs_next m g x.history x.positions x.trace x.number node next x.log x.stands in
     let end = (after_all m.catalogue x.history own.hand.records node.replica.tail node.replica.maps runs.0 x.stands.replica.maps x.stands.replica.tail).1 in
     let short = history_short x in
     subst (λ k. IsNext k own) same (record {
@@ -137,18 +137,18 @@ is_next {m} {g} {node} c same x next =
 
 -- ---- reads
 
-waiting_read : (m : Opening) (done : ℕ) (h : History) (places : Places) (t : Trace) (x : ℕ) (batch : NodeBatch) (count : ℕ) (st : Stage) (read : BegunRead) → StageStands m done h places t x batch count st (Some read) → is_operation Read m.catalogue read.op ≡ true
-waiting_read m done h places t x batch count Empty read p = (p.1).may
-waiting_read m done h places t x batch count (Posted op) read p = absurd p
-waiting_read m done h places t x batch count Claimed read p = absurd p
-waiting_read m done h places t x batch count (Answered r) read p = absurd p
+waiting_read : (m : Opening) (done : ℕ) (h : History) (positions : Positions) (t : Trace) (x : ℕ) (batch : NodeBatch) (count : ℕ) (st : Stage) (read : BegunRead) → StageStands m done h positions t x batch count st (Some read) → is_operation Read m.catalogue read.op ≡ true
+waiting_read m done h positions t x batch count Empty read p = (p.1).may
+waiting_read m done h positions t x batch count (Posted op) read p = absurd p
+waiting_read m done h positions t x batch count Claimed read p = absurd p
+waiting_read m done h positions t x batch count (Answered r) read p = absurd p
 
 -- a read that was begun asks a read program of the catalogue
 pub read_asks : {m : Opening} {g : Log} {node : NodeView} → IsOfStore m g node → (s : ℕ) (read : BegunRead) → slice_get node.reads s ≡ Some (Some read) → IsOperation Read m.catalogue read.op
 read_asks {m} {g} {node} x s read at =
     let o = x.stands in
     let y = get_some node.desk.slots s (let a = get_in node.reads s (Some read) at in let b = o.desk.slots in let d = o.desk.reads in omega arith) in
-    is_tested Read m.catalogue read.op (waiting_read m g.done x.history x.places x.trace (session m.config x.number s) node.batch (y.0).count (y.0).stage read (o.seats s y.0 (Some read) y.1 at))
+    is_tested Read m.catalogue read.op (waiting_read m g.done x.history x.positions x.trace (session m.config x.number s) node.batch (y.0).count (y.0).stage read (o.seats s y.0 (Some read) y.1 at))
 
 pub read_asked : {m : Opening} {g : Log} {node : NodeView} (c : CatalogueView) → m.catalogue ≡ c → IsOfStore m g node → (s : ℕ) (read : BegunRead) → read_at node s ≡ Some read → IsOperation Read c read.op
 read_asked {m} {g} {node} c same x s read at = subst (λ k. IsOperation Read k read.op) same (read_asks x s read (read_is (slice_get node.reads s) read at))

@@ -17,7 +17,7 @@ use Rattle.schedule.specs.declared.parts.Opening.{Opening}
 use Rattle.schedule.specs.declared.steps.Step.{Step}
 use Rattle.schedule.specs.declared.steps.Step.TheVariants.{Post, Claim, Append, Replay, Finish, Reply, Collect, ReadBegin, ReadAnswer, Reclaim, Rebase}
 use Rattle.schedule.specs.declared.steps.StepAnswer.TheVariants as answers
-use Rattle.schedule.specs.Trace.{Answer, Updated, ReadBack, Event, Call, Back, Trace, Places}
+use Rattle.schedule.specs.Trace.{Answer, Updated, ReadBack, Event, Call, Back, Trace, Positions}
 use Rattle.schedule.specs.Worlds.{NodeView, WorldView, own_of}
 use Rattle.schedule.specs.Steps.{Part, Took, with_call_or_back, put_part, part_of, node_of, took, session_at, is_idle, with_read, read_at, no_batch, inner, seen_of, with_event, world_after, trace_after, trace_of}
 use Rattle.schedule.specs.Stands.{DeskStands, Stands}
@@ -96,8 +96,8 @@ abbrev event_in : Option Took → Option Event
 event_in None = None
 event_in (Some r) = r.event
 
-step_told : (m : Opening) (w : WorldView) (h : History) (places : Places) (t : Trace) (step : Step) → Stands m w h places t → event_of m.config step (step_answer (took m w step)) ≡ event_in (took m w step)
-step_told m w h places t step x = go (took m w step) refl
+step_told : (m : Opening) (w : WorldView) (h : History) (positions : Positions) (t : Trace) (step : Step) → Stands m w h positions t → event_of m.config step (step_answer (took m w step)) ≡ event_in (took m w step)
+step_told m w h positions t step x = go (took m w step) refl
   where
     go : (o : Option Took) → took m w step ≡ o → event_of m.config step (step_answer o) ≡ event_in o
     go None e = not_told m.config step
@@ -125,15 +125,15 @@ before_append None ts = refl
 before_append (Some e) ts = refl
 
 -- from a store that stands, whatever its trace
-pub steps_told : (m : Opening) (steps : List Step) (w : WorldView) (h : History) (places : Places) (past t : Trace) → Stands m w h places past → trace_of m w t steps ≡ t ++ read_off m.config steps (answers_to m w steps)
-steps_told m [] w h places past t x = sym (append_nil t)
-steps_told m (step ∷ steps) w h places past t x =
-    let k = step_keeps m w h places past step x in
+pub steps_told : (m : Opening) (steps : List Step) (w : WorldView) (h : History) (positions : Positions) (past t : Trace) → Stands m w h positions past → trace_of m w t steps ≡ t ++ read_off m.config steps (answers_to m w steps)
+steps_told m [] w h positions past t x = sym (append_nil t)
+steps_told m (step ∷ steps) w h positions past t x =
+    let k = step_keeps m w h positions past step x in
     let rest : Trace = read_off m.config steps (answers_to m (world_after w (took m w step)) steps) in
-    steps_told m steps (world_after w (took m w step)) (h ++ k.0) (places ++ k.1) (trace_after past (took m w step)) (trace_after t (took m w step)) k.2
+    steps_told m steps (world_after w (took m w step)) (h ++ k.0) (positions ++ k.1) (trace_after past (took m w step)) (trace_after t (took m w step)) k.2
     ∙ ap (λ s. s ++ rest) (trace_step t (took m w step))
     ∙ append_assoc t (before_events (event_in (took m w step)) []) rest
-    ∙ ap (λ s. t ++ s) (before_append (event_in (took m w step)) rest ∙ ap (λ e. before_events e rest) (sym (step_told m w h places past step x)))
+    ∙ ap (λ s. t ++ s) (before_append (event_in (took m w step)) rest ∙ ap (λ e. before_events e rest) (sym (step_told m w h positions past step x)))
 
 pub trace_is_read_off : TraceIsReadOff
-trace_is_read_off m w h places past t steps x = steps_told m steps w h places past t x
+trace_is_read_off m w h positions past t steps x = steps_told m steps w h positions past t x

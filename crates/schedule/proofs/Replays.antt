@@ -17,7 +17,7 @@ use Rattle.combiner.specs.Desks.{BatchView, IsBatchOf}
 use Rattle.node.specs.declared.parts.Written.{Written}
 use Rattle.node.specs.declared.parts.NodeBatch.{NodeBatch}
 use Rattle.node.specs.declared.parts.NodeBatch.TheVariants.{Absent, Held, InLog}
-use Rattle.schedule.specs.Trace.{Trace, Places}
+use Rattle.schedule.specs.Trace.{Trace, Positions}
 use Rattle.schedule.specs.declared.parts.Opening.{Opening}
 use Rattle.node.specs.declared.following.NodeReplica.{NodeReplica}
 use Rattle.node.specs.Following.{no_records, is_above, has_next, to_run, with_next, with_effect, outcomes_after, replies_after}
@@ -25,7 +25,7 @@ use Rattle.node.specs.Steps.{Replays, batch_after, next}
 use Rattle.node.proofs.Keeping.{after_count, after_first}
 use Rattle.schedule.specs.Worlds.{NodeView, WorldView, own_of}
 use Rattle.schedule.specs.Steps.{Part, inner, seen_of, put_seen}
-use Rattle.schedule.specs.Stands.{DeskStands, NodeStands, LogStands, BatchStands, WrittenStands, Stands, batch_in, place_in}
+use Rattle.schedule.specs.Stands.{DeskStands, NodeStands, LogStands, BatchStands, WrittenStands, Stands, batch_in, index_in}
 use Rattle.schedule.proofs.Lists.{get_drop, get_in, set_length}
 use Rattle.schedule.proofs.Options.{cond_gives, some_is}
 use Rattle.schedule.proofs.Seats.{stage_batch}
@@ -129,10 +129,10 @@ kept_records c own Absent = refl
 kept_records c own (Held b) = refl
 kept_records c own (InLog b) = refl
 
-kept_places : (c : CatalogueView) (own : NodeReplica) (b : NodeBatch) (k : ℕ) → place_in b k ≡ place_in (batch_after c own b) k
-kept_places c own Absent k = refl
-kept_places c own (Held b) k = refl
-kept_places c own (InLog b) k =
+kept_positions : (c : CatalogueView) (own : NodeReplica) (b : NodeBatch) (k : ℕ) → index_in b k ≡ index_in (batch_after c own b) k
+kept_positions c own Absent k = refl
+kept_positions c own (Held b) k = refl
+kept_positions c own (InLog b) k =
     ap (λ n. if nat_lt k n then Some (b.replies.first + k) else None) (sym (after_count c own.replica.maps own.replica.tail own.hand.records b.replies))
     ∙ ap (λ i. if nat_lt k (length (replies_after c own b.replies).outcomes) then Some (i + k) else None) (sym (after_first c own.replica.maps own.replica.tail own.hand.records b.replies))
 
@@ -165,9 +165,9 @@ next_is g own next =
     (or_cases (not (no_records own.hand.records)) (is_above g own && nat_lt own.replica.tail (tail_of g)) next)
 
 -- what is run comes next, and the batch stands over it
-pub runs_next : (m : Opening) (g : Log) (h : History) (places : Places) (t : Trace) (n : ℕ) (node : NodeView) → has_next g (own_of node) ≡ true → LogStands m g h → NodeStands m g.done h places t n node
+pub runs_next : (m : Opening) (g : Log) (h : History) (positions : Positions) (t : Trace) (n : ℕ) (node : NodeView) → has_next g (own_of node) ≡ true → LogStands m g h → NodeStands m g.done h positions t n node
     → ComesNext h (with_next g (own_of node)) × BatchStands m h node.replica (with_next g (own_of node)).hand node.batch
-runs_next m g h places t n node next log x =
+runs_next m g h positions t n node next log x =
     let runs = go node.hand.records refl (next_is g (own_of node) next) in
     (runs.0, longer_hand m h node.replica node.hand (with_next g (own_of node)).hand node.batch runs.1 x.batch)
   where
@@ -184,32 +184,32 @@ runs_next m g h places t n node next log x =
         let all : length node.hand.records ≡ length (r ∷ rs) = ap length is in
         (subst (λ hand. (j : ℕ) (f : Record) → slice_get hand j ≡ Some f → slice_get h (node.replica.tail + j) ≡ Some f) is x.replica.next, omega arith)
 
-pub keeps_replay : (m : Opening) (w : WorldView) (h : History) (places : Places) (t : Trace) (n : ℕ) (node : NodeView) (p : Part)
-    → slice_get w.nodes n ≡ Some node → inner m Replays w.log node ≡ Some p → Stands m w h places t → Kept m w h places t n p
-keeps_replay m w h places t n node p at_n taken x =
+pub keeps_replay : (m : Opening) (w : WorldView) (h : History) (positions : Positions) (t : Trace) (n : ℕ) (node : NodeView) (p : Part)
+    → slice_get w.nodes n ≡ Some node → inner m Replays w.log node ≡ Some p → Stands m w h positions t → Kept m w h positions t n p
+keeps_replay m w h positions t n node p at_n taken x =
     let c = cond_gives (has_next w.log (own_of node)) _ p taken in
     let o = x.nodes n node at_n in
     let own : NodeReplica = with_next w.log (own_of node) in
-    let runs = runs_next m w.log h places t n node c.0 x.log o in
+    let runs = runs_next m w.log h positions t n node c.0 x.log o in
     let end = after_all m.catalogue h own.hand.records node.replica.tail node.replica.maps runs.0 o.replica.maps o.replica.tail in
     let new : NodeView = (put_seen node (next m.catalogue Replays (seen_of w.log node))).node in
-    subst (λ z. Kept m w h places t n z) (same_Some _ p c.1)
-    (same_history m (record { log = w.log; nodes = slice_set w.nodes n new }) h places t (record {
+    subst (λ z. Kept m w h positions t n z) (same_Some _ p c.1)
+    (same_history m (record { log = w.log; nodes = slice_set w.nodes n new }) h positions t (record {
       catalogue = x.catalogue;
       explains = x.explains;
       log = x.log;
       count = set_length w.nodes n new ∙ x.count;
       callers = x.callers;
       stamps = x.stamps;
-      nodes = nodes_put (λ k y. NodeStands m w.log.done h places t k y) w.nodes n new (λ k old ne g. x.nodes k old g)
+      nodes = nodes_put (λ k y. NodeStands m w.log.done h positions t k y) w.nodes n new (λ k old ne g. x.nodes k old g)
           (record {
             replica = record { tail = end.1; maps = end.0; begins = refl; next = λ j f g. absurd (none-some f g); window = o.replica.window };
             desk = same_desk m w n node o.desk;
             batch = batch_all m h own node.batch new.replica new.hand x.catalogue x.explains.updates runs.0 o.replica.maps refl refl runs.1;
-            seats = λ s y read there begun. stage_batch m w.log.done h places t (session m.config n s) node.batch new.batch y.count y.stage read
+            seats = λ s y read there begun. stage_batch m w.log.done h positions t (session m.config n s) node.batch new.batch y.count y.stage read
                 (λ k q at is. (
                   subst (λ b. slice_get b.records k ≡ Some q) (sym (kept_records m.catalogue own node.batch)) at,
-                  kept_places m.catalogue own node.batch k,
+                  kept_positions m.catalogue own node.batch k,
                 ))
                 (o.seats s y read there begun);
           });

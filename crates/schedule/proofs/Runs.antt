@@ -11,7 +11,7 @@ use Rattle.combiner.specs.Desks.{claimed_from}
 use Rattle.node.specs.declared.parts.NodeBatch.TheVariants.{Absent}
 use Rattle.schedule.specs.declared.steps.Step.{Step}
 use Rattle.schedule.specs.declared.steps.Step.TheVariants.{Post, Claim, Append, Replay, Finish, Reply, Collect, ReadBegin, ReadAnswer, Reclaim, Rebase}
-use Rattle.schedule.specs.Trace.{Updated, ReadBack, Call, Back, Trace, Places}
+use Rattle.schedule.specs.Trace.{Updated, ReadBack, Call, Back, Trace, Positions}
 use Rattle.schedule.specs.declared.parts.Opening.{Opening}
 use Rattle.schedule.specs.Worlds.{NodeView, WorldView, opened_node, opened_nodes, opened}
 use Rattle.schedule.specs.Steps.{Part, Took, put_part, part_of, node_of, took, world_after, trace_after, world_of, trace_of}
@@ -31,36 +31,36 @@ use Rattle.schedule.proofs.Append.{keeps_append}
 -- ---- a step
 
 -- the node's part of a step keeps what stands
-pub keeps_part : (m : Opening) (w : WorldView) (h : History) (places : Places) (t : Trace) (step : Step) (node : NodeView) (p : Part)
-    → slice_get w.nodes (node_of step) ≡ Some node → part_of m step w.log node ≡ Some p → Stands m w h places t → Kept m w h places t (node_of step) p
-keeps_part m w h places t (Post n s program argument) node p at taken x = keeps_post m w h places t n s (record { program = program; argument = argument.items }) node p at taken x
-keeps_part m w h places t (Claim n) node p at taken x = keeps_claim m w h places t n node p at taken x
-keeps_part m w h places t (Append n) node p at taken x = keeps_append m w h places t n node p at taken x
-keeps_part m w h places t (Replay n) node p at taken x = keeps_replay m w h places t n node p at taken x
-keeps_part m w h places t (Finish n) node p at taken x = keeps_finish m w h places t n node p at taken x
-keeps_part m w h places t (Reply n) node p at taken x = keeps_reply m w h places t n node p at taken x
-keeps_part m w h places t (Collect n s) node p at taken x = keeps_collect m w h places t n s node p at taken x
-keeps_part m w h places t (ReadBegin n s program argument) node p at taken x = keeps_read_begin m w h places t n s (record { program = program; argument = argument.items }) node p at taken x
-keeps_part m w h places t (ReadAnswer n s) node p at taken x = keeps_read_answer m w h places t n s node p at taken x
-keeps_part m w h places t (Reclaim n) node p at taken x = keeps_reclaim m w h places t n node p at taken x
-keeps_part m w h places t (Rebase n) node p at taken x = keeps_rebase m w h places t n node p at taken x
+pub keeps_part : (m : Opening) (w : WorldView) (h : History) (positions : Positions) (t : Trace) (step : Step) (node : NodeView) (p : Part)
+    → slice_get w.nodes (node_of step) ≡ Some node → part_of m step w.log node ≡ Some p → Stands m w h positions t → Kept m w h positions t (node_of step) p
+keeps_part m w h positions t (Post n s program argument) node p at taken x = keeps_post m w h positions t n s (record { program = program; argument = argument.items }) node p at taken x
+keeps_part m w h positions t (Claim n) node p at taken x = keeps_claim m w h positions t n node p at taken x
+keeps_part m w h positions t (Append n) node p at taken x = keeps_append m w h positions t n node p at taken x
+keeps_part m w h positions t (Replay n) node p at taken x = keeps_replay m w h positions t n node p at taken x
+keeps_part m w h positions t (Finish n) node p at taken x = keeps_finish m w h positions t n node p at taken x
+keeps_part m w h positions t (Reply n) node p at taken x = keeps_reply m w h positions t n node p at taken x
+keeps_part m w h positions t (Collect n s) node p at taken x = keeps_collect m w h positions t n s node p at taken x
+keeps_part m w h positions t (ReadBegin n s program argument) node p at taken x = keeps_read_begin m w h positions t n s (record { program = program; argument = argument.items }) node p at taken x
+keeps_part m w h positions t (ReadAnswer n s) node p at taken x = keeps_read_answer m w h positions t n s node p at taken x
+keeps_part m w h positions t (Reclaim n) node p at taken x = keeps_reclaim m w h positions t n node p at taken x
+keeps_part m w h positions t (Rebase n) node p at taken x = keeps_rebase m w h positions t n node p at taken x
 
 -- some history, from this one on, stands after the step
-abbrev After : Opening → History → Places → Trace → WorldView → Option Took → Type 0
-After m h places t w o = (more : History) × (later : Places) × Stands m (world_after w o) (h ++ more) (places ++ later) (trace_after t o)
+abbrev After : Opening → History → Positions → Trace → WorldView → Option Took → Type 0
+After m h positions t w o = (more : History) × (later : Positions) × Stands m (world_after w o) (h ++ more) (positions ++ later) (trace_after t o)
 
-pub keeps : (m : Opening) (w : WorldView) (h : History) (places : Places) (t : Trace) (step : Step) (r : Took) → took m w step ≡ Some r → Stands m w h places t → After m h places t w (Some r)
-keeps m w h places t step r e x =
+pub keeps : (m : Opening) (w : WorldView) (h : History) (positions : Positions) (t : Trace) (step : Step) (r : Took) → took m w step ≡ Some r → Stands m w h positions t → After m h positions t w (Some r)
+keeps m w h positions t step r e x =
     let at = then_gives (λ node. option_map (put_part w (node_of step)) (part_of m step w.log node)) (slice_get w.nodes (node_of step)) r e in
     let p = map_gives (put_part w (node_of step)) (part_of m step w.log at.0) r at.2 in
-    subst (λ z. After m h places t w (Some z)) p.2 (keeps_part m w h places t step at.0 p.0 at.1 p.1 x)
+    subst (λ z. After m h positions t w (Some z)) p.2 (keeps_part m w h positions t step at.0 p.0 at.1 p.1 x)
 
 pub step_keeps : StepKeeps
-step_keeps m w h places t step x = go (took m w step) refl
+step_keeps m w h positions t step x = go (took m w step) refl
   where
-    go : (o : Option Took) → took m w step ≡ o → After m h places t w o
-    go None e = same_history m w h places t x
-    go (Some r) e = keeps m w h places t step r e x
+    go : (o : Option Took) → took m w step ≡ o → After m h positions t w o
+    go None e = same_history m w h positions t x
+    go (Some r) e = keeps m w h positions t step r e x
 
 -- ---- the opening
 
@@ -138,23 +138,23 @@ opening_stands m whole = record {
 
 -- ---- any list of steps
 
-pub run_stands : (m : Opening) (steps : List Step) (w : WorldView) (h : History) (places : Places) (t : Trace) → Stands m w h places t
-    → (more : History) × (later : Places) × Stands m (world_of m w steps) (h ++ more) (places ++ later) (trace_of m w t steps)
-run_stands m [] w h places t x = same_history m w h places t x
-run_stands m (step ∷ steps) w h places t x =
-    let k = step_keeps m w h places t step x in
-    let r = run_stands m steps (world_after w (took m w step)) (h ++ k.0) (places ++ k.1) (trace_after t (took m w step)) k.2 in (
+pub run_stands : (m : Opening) (steps : List Step) (w : WorldView) (h : History) (positions : Positions) (t : Trace) → Stands m w h positions t
+    → (more : History) × (later : Positions) × Stands m (world_of m w steps) (h ++ more) (positions ++ later) (trace_of m w t steps)
+run_stands m [] w h positions t x = same_history m w h positions t x
+run_stands m (step ∷ steps) w h positions t x =
+    let k = step_keeps m w h positions t step x in
+    let r = run_stands m steps (world_after w (took m w step)) (h ++ k.0) (positions ++ k.1) (trace_after t (took m w step)) k.2 in (
       k.0 ++ r.0,
       k.1 ++ r.1,
-      subst (λ g. Stands m (world_of m w (step ∷ steps)) g (places ++ (k.1 ++ r.1)) (trace_of m w t (step ∷ steps))) (append_assoc h k.0 r.0)
-          (subst (λ ps. Stands m (world_of m w (step ∷ steps)) ((h ++ k.0) ++ r.0) ps (trace_of m w t (step ∷ steps))) (append_assoc places k.1 r.1) r.2),
+      subst (λ g. Stands m (world_of m w (step ∷ steps)) g (positions ++ (k.1 ++ r.1)) (trace_of m w t (step ∷ steps))) (append_assoc h k.0 r.0)
+          (subst (λ ps. Stands m (world_of m w (step ∷ steps)) ((h ++ k.0) ++ r.0) ps (trace_of m w t (step ∷ steps))) (append_assoc positions k.1 r.1) r.2),
     )
 
 pub steps_keep : StepsKeep
-steps_keep m w h places t steps x = run_stands m steps w h places t x
+steps_keep m w h positions t steps x = run_stands m steps w h positions t x
 
 pub standing_is_explained : StandingIsExplained
-standing_is_explained m w h places t x = record {
+standing_is_explained m w h positions t x = record {
   explains = x.explains;
   tail = x.log.ends;
   nodes = x.count;
@@ -183,4 +183,4 @@ new_stands m g nodes whole is are =
 
 pub new_is_standing : (m : Opening) (g : Log) (nodes : List NodeView) → IsConfig m.config → IsCatalogue m.catalogue → g ≡ opened_log m.catalogue.shapes m.config.window m.config.limit → nodes ≡ opened_nodes m 0 m.config.nodes
     → IsStanding (store_of m g nodes)
-new_is_standing m g nodes config whole is are = record { config = config; history = []; places = []; trace = []; stands = new_stands m g nodes whole is are }
+new_is_standing m g nodes config whole is are = record { config = config; history = []; positions = []; trace = []; stands = new_stands m g nodes whole is are }

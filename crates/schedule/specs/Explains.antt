@@ -1,4 +1,4 @@
--- What it is that one list of operations explains a trace: each call took its effect at one place of the list, between the call and
+-- What it is that one list of operations explains a trace: each call took its effect at one index of the list, between the call and
 -- its answer (Herlihy and Wing, TOPLAS 1990: a linearization).
 use Rattle.std.specs.Prelude.{◌≡◌, ◌≢◌, ℕ, ◌+◌, ◌≤◌, ◌==◌, true, [], ◌∷◌, length, take, Some, slice_get, if◌then◌else◌}
 use Rattle.verifier.specs.declared.refusal.Mode.{Mode}
@@ -9,7 +9,7 @@ use Rattle.oplog.specs.History.{History, reply_at, read_reply_at}
 use Rattle.combiner.specs.declared.slots.Reply.TheVariants.{Placed, Ended}
 use Rattle.replica.specs.StoreMeaning.{store_meaning, is_operation}
 use Rattle.schedule.specs.declared.parts.Opening.{Opening}
-use Rattle.schedule.specs.Trace.{Answer, Updated, ReadBack, Call, Back, Trace, Places, Suits, IsIdle, Answers, StampBefore}
+use Rattle.schedule.specs.Trace.{Answer, Updated, ReadBack, Call, Back, Trace, Positions, Suits, IsIdle, Answers, StampBefore}
 
 -- how many records of a list are a session's
 abbrev pub count_of : ℕ → History → ℕ
@@ -17,26 +17,26 @@ count_of x [] = 0
 count_of x (r ∷ rs) = (if r.author == x then 1 else 0) + count_of x rs
 
 -- one list of operations explains the trace
-pub record Explains (m : Opening) (h : History) (places : Places) (t : Trace) : Type 0 where
+pub record Explains (m : Opening) (h : History) (positions : Positions) (t : Trace) : Type 0 where
   -- each operation is an update of the catalogue
   pub updates : (i : ℕ) (r : Record) → slice_get h i ≡ Some r → is_operation Update m.catalogue r.op ≡ true
-  -- each place is that of one update call, of that session and that operation; no call has two places
-  pub each_placed : length places ≡ length h
-  pub calls : (i c : ℕ) (r : Record) → slice_get h i ≡ Some r → slice_get places i ≡ Some c → slice_get t c ≡ Some (Call r.author Update r.op)
-  pub once : (i j c : ℕ) → slice_get places i ≡ Some c → slice_get places j ≡ Some c → i ≡ j
+  -- each index is that of one update call, of that session and that operation; no call has two
+  pub each_placed : length positions ≡ length h
+  pub calls : (i c : ℕ) (r : Record) → slice_get h i ≡ Some r → slice_get positions i ≡ Some c → slice_get t c ≡ Some (Call r.author Update r.op)
+  pub once : (i j c : ℕ) → slice_get positions i ≡ Some c → slice_get positions j ≡ Some c → i ≡ j
   -- a record has the number of its session's earlier records
   pub seqs : (i : ℕ) (r : Record) → slice_get h i ≡ Some r → r.seq ≡ count_of r.author (take i h)
-  -- an answered update has its place, and what its program replies there
+  -- an answered update has its index, and what its program replies there
   pub placed : (x : ℕ) (mode : Mode) (op : Operation) (c b i reply : ℕ) → Answers t x mode op c b (Updated (Placed i reply))
-      → (slice_get places i ≡ Some c) × (reply_at store_meaning m.catalogue h i op ≡ Some reply)
+      → (slice_get positions i ≡ Some c) × (reply_at store_meaning m.catalogue h i op ≡ Some reply)
   -- an answered read has a point within the history, and what its program replies there
   pub read : (x : ℕ) (mode : Mode) (op : Operation) (c b point reply : ℕ) → Answers t x mode op c b (ReadBack (record { point = point; reply = reply }))
       → (point ≤ length h) × (read_reply_at store_meaning m.catalogue h point op ≡ Some reply)
-  -- a call that was told that the history has ended has no place, and the history is full
+  -- a call that was told that the history has ended has no index, and the history is full
   pub ended : (x : ℕ) (mode : Mode) (op : Operation) (c b : ℕ) → Answers t x mode op c b (Updated Ended)
-      → ((i : ℕ) → slice_get places i ≢ Some c) × (length h ≡ m.config.limit)
+      → ((i : ℕ) → slice_get positions i ≢ Some c) × (length h ≡ m.config.limit)
   -- what was answered before a call happened before it
-  pub placed_later : (c i s : ℕ) → slice_get places i ≡ Some c → StampBefore m.config.limit t c s → s ≤ i
+  pub placed_later : (c i s : ℕ) → slice_get positions i ≡ Some c → StampBefore m.config.limit t c s → s ≤ i
   pub read_later : (x : ℕ) (mode : Mode) (op : Operation) (c b point reply s : ℕ) → Answers t x mode op c b (ReadBack (record { point = point; reply = reply }))
       → StampBefore m.config.limit t c s → s ≤ point
   -- each session calls and is answered in turn, an update as an update and a read as a read

@@ -21,7 +21,7 @@ use Rattle.schedule.specs.declared.parts.BegunRead.{BegunRead}
 use Rattle.node.specs.declared.parts.Written.{Written}
 use Rattle.node.specs.declared.parts.NodeBatch.{NodeBatch}
 use Rattle.node.specs.declared.parts.NodeBatch.TheVariants.{Absent, Held, InLog}
-use Rattle.schedule.specs.Trace.{Answer, Call, Back, Trace, Places, IsOpen, IsIdle, StampBefore, stamp}
+use Rattle.schedule.specs.Trace.{Answer, Call, Back, Trace, Positions, IsOpen, IsIdle, StampBefore, stamp}
 use Rattle.schedule.specs.declared.parts.Opening.{Opening}
 use Rattle.schedule.specs.Explains.{Explains, count_of}
 use Rattle.schedule.specs.Worlds.{NodeView, WorldView}
@@ -51,7 +51,7 @@ batch_in Absent = record { records = []; answers = [] }
 batch_in (Held b) = b
 batch_in (InLog b) = b.batch
 
--- the desk is this node's, with a place for a read beside each slot; its claimed slots are those of the batch
+-- the desk is this node's, with room for a read beside each slot; its claimed slots are those of the batch
 pub record DeskStands (m : Opening) (n : ℕ) (node : NodeView) : Type 0 where
   pub number : node.desk.node ≡ n
   pub slots : length node.desk.slots ≡ m.config.slots
@@ -59,7 +59,7 @@ pub record DeskStands (m : Opening) (n : ℕ) (node : NodeView) : Type 0 where
   pub own : IsBatchOf node.desk (batch_in node.batch)
   pub answers : length (batch_in node.batch).answers ≡ length (batch_in node.batch).records
 
--- the k-th request of a batch in the log, where it has a place, has its record there, and once the replica has come past it its outcome
+-- the k-th request of a batch in the log, where it has an index, has its record there, and once the replica has come past it its outcome
 pub record WrittenStands (m : Opening) (h : History) (replica : ReplicaView) (hand : HandView) (b : Written) : Type 0 where
   pub placed : (k : ℕ) (r : Record) → k < length b.replies.outcomes → slice_get b.batch.records k ≡ Some r → slice_get h (b.replies.first + k) ≡ Some r
   pub ahead : b.replies.first + length b.replies.outcomes ≤ replica.tail + length hand.records
@@ -73,62 +73,62 @@ BatchStands m h replica hand Absent = Unit {0}
 BatchStands m h replica hand (Held b) = Unit {0}
 BatchStands m h replica hand (InLog b) = WrittenStands m h replica hand b
 
--- the place of the k-th request of a batch, if it has one
-abbrev pub place_in : NodeBatch → ℕ → Option ℕ
-place_in Absent k = None
-place_in (Held b) k = None
-place_in (InLog b) k = if nat_lt k (length b.replies.outcomes) then Some (b.replies.first + k) else None
+-- the index of the k-th request of a batch, if it has one
+abbrev pub index_in : NodeBatch → ℕ → Option ℕ
+index_in Absent k = None
+index_in (Held b) k = None
+index_in (InLog b) k = if nat_lt k (length b.replies.outcomes) then Some (b.replies.first + k) else None
 
--- the call has this place, or no place
-abbrev pub HasPlace : Places → ℕ → Option ℕ → Type 0
-HasPlace places c None = (i : ℕ) → slice_get places i ≢ Some c
-HasPlace places c (Some i) = slice_get places i ≡ Some c
+-- the call has this index, or no index
+abbrev pub HasIndex : Positions → ℕ → Option ℕ → Type 0
+HasIndex positions c None = (i : ℕ) → slice_get positions i ≢ Some c
+HasIndex positions c (Some i) = slice_get positions i ≡ Some c
 
--- 1 where there is a place, else 0
+-- 1 where there is an index, else 0
 abbrev pub one_if_placed : Option ℕ → ℕ
 one_if_placed None = 0
 one_if_placed (Some i) = 1
 
--- call c is open, with that place or none, and the history has beside it as many records of the session as its slot has counted
-pub record OpenAt (m : Opening) (h : History) (places : Places) (t : Trace) (x count : ℕ) (mode : Mode) (op : Operation) (place : Option ℕ) (c : ℕ) : Type 0 where
+-- call c is open, with that index or none, and the history has beside it as many records of the session as its slot has counted
+pub record OpenAt (m : Opening) (h : History) (positions : Positions) (t : Trace) (x count : ℕ) (mode : Mode) (op : Operation) (index : Option ℕ) (c : ℕ) : Type 0 where
   pub is_open : IsOpen t x mode op c
   pub may : is_operation mode m.catalogue op ≡ true
-  pub has : HasPlace places c place
-  pub counts : count_of x h ≡ count + one_if_placed place
+  pub has : HasIndex positions c index
+  pub counts : count_of x h ≡ count + one_if_placed index
 
 -- the answer that waits for the session is the right one to its open call, and is completed
-abbrev pub ReplyStands : Opening → ℕ → History → Places → Trace → ℕ → ℕ → Reply → Type 0
-ReplyStands m done h places t x count (Placed i reply) =
-    (op : Operation) × (c : ℕ) × OpenAt m h places t x count Update op (Some i) c × (i < done) × (reply_at store_meaning m.catalogue h i op ≡ Some reply)
-ReplyStands m done h places t x count Ended = (op : Operation) × (c : ℕ) × OpenAt m h places t x count Update op None c × (m.config.limit ≤ done)
+abbrev pub ReplyStands : Opening → ℕ → History → Positions → Trace → ℕ → ℕ → Reply → Type 0
+ReplyStands m done h positions t x count (Placed i reply) =
+    (op : Operation) × (c : ℕ) × OpenAt m h positions t x count Update op (Some i) c × (i < done) × (reply_at store_meaning m.catalogue h i op ≡ Some reply)
+ReplyStands m done h positions t x count Ended = (op : Operation) × (c : ℕ) × OpenAt m h positions t x count Update op None c × (m.config.limit ≤ done)
 
 -- the session's open call is where its slot says
-abbrev pub StageStands : Opening → ℕ → History → Places → Trace → ℕ → NodeBatch → ℕ → Stage → Option BegunRead → Type 0
-StageStands m done h places t x batch count Empty None = IsIdle t x × (count_of x h ≡ count)
-StageStands m done h places t x batch count Empty (Some read) =
-    (c : ℕ) × OpenAt m h places t x count Read read.op None c × (read.seen ≤ done) × ((s : ℕ) → StampBefore m.config.limit t c s → s ≤ read.seen)
-StageStands m done h places t x batch count (Posted op) None = (c : ℕ) × OpenAt m h places t x count Update op None c
-StageStands m done h places t x batch count Claimed None =
-    (c k : ℕ) × (r : Record) × (slice_get (batch_in batch).records k ≡ Some r) × (r.author ≡ x) × (r.seq ≡ count) × OpenAt m h places t x count Update r.op (place_in batch k) c
-StageStands m done h places t x batch count (Answered reply) None = ReplyStands m done h places t x count reply
-StageStands m done h places t x batch count stage (Some read) = ⊥
+abbrev pub StageStands : Opening → ℕ → History → Positions → Trace → ℕ → NodeBatch → ℕ → Stage → Option BegunRead → Type 0
+StageStands m done h positions t x batch count Empty None = IsIdle t x × (count_of x h ≡ count)
+StageStands m done h positions t x batch count Empty (Some read) =
+    (c : ℕ) × OpenAt m h positions t x count Read read.op None c × (read.seen ≤ done) × ((s : ℕ) → StampBefore m.config.limit t c s → s ≤ read.seen)
+StageStands m done h positions t x batch count (Posted op) None = (c : ℕ) × OpenAt m h positions t x count Update op None c
+StageStands m done h positions t x batch count Claimed None =
+    (c k : ℕ) × (r : Record) × (slice_get (batch_in batch).records k ≡ Some r) × (r.author ≡ x) × (r.seq ≡ count) × OpenAt m h positions t x count Update r.op (index_in batch k) c
+StageStands m done h positions t x batch count (Answered reply) None = ReplyStands m done h positions t x count reply
+StageStands m done h positions t x batch count stage (Some read) = ⊥
 
 -- the node stands for the history: its replica, its desk, its batch, and each of its slots
-pub record NodeStands (m : Opening) (done : ℕ) (h : History) (places : Places) (t : Trace) (n : ℕ) (node : NodeView) : Type 0 where
+pub record NodeStands (m : Opening) (done : ℕ) (h : History) (positions : Positions) (t : Trace) (n : ℕ) (node : NodeView) : Type 0 where
   pub replica : ReplicaStands m h node.replica node.hand
   pub desk : DeskStands m n node
   pub batch : BatchStands m h node.replica node.hand node.batch
   pub seats : (s : ℕ) (x : Slot) (read : Option BegunRead) → slice_get node.desk.slots s ≡ Some x → slice_get node.reads s ≡ Some read
-      → StageStands m done h places t (session m.config n s) node.batch x.count x.stage read
+      → StageStands m done h positions t (session m.config n s) node.batch x.count x.stage read
 
 -- the history stands for the store: it explains the trace, the log and the nodes agree with it, each call is one of a session of the
 -- store, and what was answered is completed
-pub record Stands (m : Opening) (w : WorldView) (h : History) (places : Places) (t : Trace) : Type 0 where
+pub record Stands (m : Opening) (w : WorldView) (h : History) (positions : Positions) (t : Trace) : Type 0 where
   pub catalogue : IsCatalogue m.catalogue
-  pub explains : Explains m h places t
+  pub explains : Explains m h positions t
   pub log : LogStands m w.log h
   -- as many nodes as it was opened with, and who has called is the session of a slot of one of them
   pub count : length w.nodes ≡ m.config.nodes
   pub callers : (c x : ℕ) (mode : Mode) (op : Operation) → slice_get t c ≡ Some (Call x mode op) → (n : ℕ) × IsSessionOf m.config n x
   pub stamps : (b x : ℕ) (answer : Answer) → slice_get t b ≡ Some (Back x answer) → stamp m.config.limit answer ≤ w.log.done
-  pub nodes : (n : ℕ) (node : NodeView) → slice_get w.nodes n ≡ Some node → NodeStands m w.log.done h places t n node
+  pub nodes : (n : ℕ) (node : NodeView) → slice_get w.nodes n ≡ Some node → NodeStands m w.log.done h positions t n node

@@ -9,7 +9,7 @@ use Rattle.schedule.specs.declared.parts.Opening.{Opening}
 use Rattle.schedule.specs.declared.steps.Step.{Step}
 use Rattle.schedule.specs.declared.steps.StepAnswer.{StepAnswer}
 use Rattle.schedule.specs.declared.steps.StepAnswer.TheVariants as answers
-use Rattle.schedule.specs.Trace.{Updated, ReadBack, Event, Call, Back, Trace, Places}
+use Rattle.schedule.specs.Trace.{Updated, ReadBack, Event, Call, Back, Trace, Positions}
 use Rattle.schedule.specs.Worlds.{NodeView, WorldView, opened}
 use Rattle.schedule.specs.Steps.{Part, Took, took, world_after}
 use Rattle.schedule.specs.Stands.{LogStands, NodeStands, Stands}
@@ -57,19 +57,19 @@ answers_to m w (step ∷ steps) = step_answer (took m w step) ∷ answers_to m (
 -- the log and a node are those of a store that stands for a history
 pub record IsOfStore (m : Opening) (g : Log) (node : NodeView) : Type 0 where
   pub history : History
-  pub places : Places
+  pub positions : Positions
   pub trace : Trace
   pub number : ℕ
   pub config : IsConfig m.config
   pub catalogue : IsCatalogue m.catalogue
   pub updates : AreUpdates m.catalogue history
   pub log : LogStands m g history
-  pub stands : NodeStands m g.done history places trace number node
+  pub stands : NodeStands m g.done history positions trace number node
 
 -- some history stands for the store
 pub record IsStanding (s : WorldState) : Type 0 where
   pub config : IsConfig s.opening.config
   pub history : History
-  pub places : Places
+  pub positions : Positions
   pub trace : Trace
-  pub stands : Stands s.opening s.world history places trace
+  pub stands : Stands s.opening s.world history positions trace

@@ -7,7 +7,7 @@ use Rattle.combiner.specs.declared.slots.Reply.{Reply}
 use Rattle.combiner.specs.declared.slots.Reply.TheVariants.{Placed, Ended}
 use Rattle.readpath.specs.declared.reading.ReadAnswer.{ReadAnswer}
 
--- what a call is answered: an update its place and its reply, or that the history has ended; a read its point and its reply
+-- what a call is answered: an update its index and its reply, or that the history has ended; a read its point and its reply
 pub data Answer : Type 0 where
   Updated : Reply → Answer
   ReadBack : ReadAnswer → Answer
@@ -21,9 +21,9 @@ pub data Event : Type 0 where
 abbrev pub Trace : Type 0
 Trace = List Event
 
--- the calls at the places of a history
-abbrev pub Places : Type 0
-Places = List ℕ
+-- the calls' positions in a trace, at the indexes of a history
+abbrev pub Positions : Type 0
+Positions = List ℕ
 
 -- whose call, or whose answer
 abbrev pub caller : Event → ℕ

@@ -31,9 +31,9 @@ pub long_unplaced : (rs : History) → length (unplaced rs) ≡ length rs
 long_unplaced [] = refl
 long_unplaced (r ∷ rs) = ap suc (long_unplaced rs)
 
-pub at_unplaced : (rs : History) (j : ℕ) (t : Claim) → At j t (unplaced rs) → At j t.request rs × (t.place ≡ None)
+pub at_unplaced : (rs : History) (j : ℕ) (t : Claim) → At j t (unplaced rs) → At j t.request rs × (t.index ≡ None)
 at_unplaced [] j t e = absurd (at_none j t e)
-at_unplaced (r ∷ rs) zero t e = let same = some-injective _ t e in (subst (λ (z : Claim). At 0 z.request (r ∷ rs)) same refl, ap (λ (z : Claim). z.place) (sym same))
+at_unplaced (r ∷ rs) zero t e = let same = some-injective _ t e in (subst (λ (z : Claim). At 0 z.request (r ∷ rs)) same refl, ap (λ (z : Claim). z.index) (sym same))
 at_unplaced (r ∷ rs) (suc j) t e = at_unplaced rs j t e
 
 pub at_taken : (k : ℕ) (rs : History) (j : ℕ) (r : Record) → j < k → At j r rs → At j r (take k rs)

@@ -94,7 +94,7 @@ module _ (t a r : K) (rs : History) (old : RepliesView) (n m : NodeReplica) (new
         (λ late. let count = c.count in subst (Gives store_meaning f.progress u) (sym (same Ended (answers_ended b.records new.outcomes new.first j q.0 q.1 (omega (arith, late, count))))) (ended late))
         (cases_lt j (length old.outcomes))
       where
-        p : (x : Claim) × At j x (unplaced rs) × (u.request ≡ x.request) × ((j < length old.outcomes) → u.place ≡ Some (old.first + j)) × ((length old.outcomes ≤ j) → u.place ≡ x.place)
+        p : (x : Claim) × At j x (unplaced rs) × (u.request ≡ x.request) × ((j < length old.outcomes) → u.index ≡ Some (old.first + j)) × ((length old.outcomes ≤ j) → u.index ≡ x.index)
         p = placed_back old.first (length old.outcomes) (unplaced rs) j u at
 
         there : At j u.request rs

@@ -77,7 +77,7 @@ pub record IsIdle (s : SeatView (Progress CatalogueView) SessionNote Value) (cal
   pub batch : known.note.batch ≡ []
   -- what the session knows is a history of the store's catalogue, within its limit
   pub well_formed : IsWellFormed store_meaning known.progress
-  -- each answered update has its place in the history
+  -- each answered update has its index in the history
   pub within : length known.note.answered ≤ length known.progress.history
 
 -- the operation as a request of this session
@@ -101,7 +101,7 @@ pub record IsReadBy (k after : SessionKnown) (op : Operation) (answer : ReadAnsw
   pub well_formed : IsWellFormed store_meaning after.progress
   pub tells : ReadTells store_meaning after.progress k.progress.completed op answer.point answer.reply
 
--- an answered update: its request has that place in the history and that reply there, and the session counts it
+-- an answered update: its request has that index in the history and that reply there, and the session counts it
 abbrev pub TellsAnswered : (old new : SessionView) → Operation → Answer → Type 0
 TellsAnswered old new op a =
     Tells store_meaning new.progress old.session (length old.note.answered) (request_of old.progress op) (Placed a.index a.reply) × (new.note ≡ note_with old.note a.index op)

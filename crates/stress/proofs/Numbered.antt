@@ -48,10 +48,10 @@ module _ (a : ℕ) where
       by rest (no not) (suc i) at = rest m us (sym (another's x xs not) ∙ e) i at
 
   -- no two of them have one number
-  pub one_place : (m : ℕ) (us : List AnsweredUpdate) (h : List Record) → records_of a h ≡ numbered a m us → (i j : ℕ) (r s : Record) → At i r h → At j s h → r.author ≡ a → s.author ≡ a
+  pub one_index : (m : ℕ) (us : List AnsweredUpdate) (h : List Record) → records_of a h ≡ numbered a m us → (i j : ℕ) (r s : Record) → At i r h → At j s h → r.author ≡ a → s.author ≡ a
       → r.seq ≡ s.seq → i ≡ j
-  one_place m us [] e i j r s at there own its same = absurd (at_none i r at)
-  one_place m us (x ∷ xs) e i j r s at there own its same = by (λ m us e i j at there. one_place m us xs e i j r s at there own its same) (ℕ_discrete x.author a) i j at there
+  one_index m us [] e i j r s at there own its same = absurd (at_none i r at)
+  one_index m us (x ∷ xs) e i j r s at there own its same = by (λ m us e i j at there. one_index m us xs e i j r s at there own its same) (ℕ_discrete x.author a) i j at there
     where
       apart : (x.author ≡ a) → (k : ℕ) (y z : Record) → At 0 y (x ∷ xs) → At k z xs → z.author ≡ a → y.seq ≡ z.seq → ⊥
       apart is k y z first later mine both =

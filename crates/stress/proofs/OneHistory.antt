@@ -38,7 +38,7 @@ use Rattle.stress.specs.Lines.{ToldCall}
 use Rattle.stress.specs.OneHistory.{Asks, Holds, IsSo, IsOfOneHistory, is_at, lines_at}
 use Rattle.stress.specs.Playing.{IsSoIn, AreShown, HasAnswered, IsTold, IsNoted, IsAsked, AreToldIn, AreTold, AreNumbered}
 use Rattle.stress.specs.Shown.{called, said_of, told_of}
-use Rattle.stress.proofs.Numbered.{is_numbered, one_place}
+use Rattle.stress.proofs.Numbered.{is_numbered, one_index}
 
 -- ---- in a history that has grown
 
@@ -60,7 +60,7 @@ module _ (a b : Progress CatalogueView) (grown : Extends a b) where
   so_on t h = (h.0, h.1, holds_on h.0 t.said h.2)
 
   pub shown_on : (s : SessionView) (said : List ToldCall) → AreShown a s said → AreShown b s said
-  shown_on s said h q u at = let one = h q u at in (at_on u.place _ one.0, one.1)
+  shown_on s said h q u at = let one = h q u at in (at_on u.index _ one.0, one.1)
 
 at_end : {A : Type 0} (xs : List A) (x : A) → At (length xs) x (xs ++ x ∷ [])
 at_end [] x = refl
@@ -68,11 +68,11 @@ at_end (y ∷ ys) x = at_end ys x
 
 -- ---- one call more
 
--- how many lines of place i a told call is
+-- how many lines of index i a told call is
 abbrev counted : ℕ → ToldCall → ℕ
 counted i t = cond (is_at i t.said) 1 0
 
--- no line has a place but that of an update that the session was answered
+-- no line has an index but that of an update that the session was answered
 abbrev OnlyIts : SessionView → List ToldCall → Type 0
 OnlyIts s lines = (i : ℕ) → (lines_at i lines ≡ 0) ⊎ HasAnswered i s
 
@@ -81,9 +81,9 @@ module _ (old new : SessionView) (t : Told) (asked : IsAsked old new t) (before 
   now = before ++ told_of t ∷ []
 
   -- the record of an update that was answered before
-  kept : (q : ℕ) (u : AnsweredUpdate) → At q u old.note.answered → At u.place (record { author = new.session; seq = q; op = u.op }) new.progress.history
+  kept : (q : ℕ) (u : AnsweredUpdate) → At q u old.note.answered → At u.index (record { author = new.session; seq = q; op = u.op }) new.progress.history
   kept q u at =
-      subst (λ a. At u.place (record { author = a; seq = q; op = u.op }) new.progress.history) (sym asked.session) (at_on old.progress new.progress asked.grown u.place _ (shown q u at).0)
+      subst (λ a. At u.index (record { author = a; seq = q; op = u.op }) new.progress.history) (sym asked.session) (at_on old.progress new.progress asked.grown u.index _ (shown q u at).0)
 
   no_line : (i : ℕ) → is_at i (said_of t.said) ≡ false → lines_at i now ≡ lines_at i before
   no_line i none =
@@ -93,20 +93,20 @@ module _ (old new : SessionView) (t : Told) (asked : IsAsked old new t) (before 
 
   nothing_noted : new.note.answered ≡ old.note.answered → ((i : ℕ) → is_at i (said_of t.said) ≡ false) → AreShown new.progress new now × OnlyIts new now
   nothing_noted same none = (
-    λ q u at. let was = subst (At q u) same at in (kept q u was, no_line u.place (none u.place) ∙ (shown q u was).1),
+    λ q u at. let was = subst (At q u) same at in (kept q u was, no_line u.index (none u.index) ∙ (shown q u was).1),
     λ i. ⊎_elim (λ no. inl (no_line i (none i) ∙ no)) (λ h. inr (h.0, h.1, subst (At h.0 h.1) (sym same) h.2, h.3)) (only i),
   )
 
   module _ (a : Answer) (is : t.said ≡ told.Updated a) (noted : IsNoted old new (told.Updated a)) where
     abbrev one : AnsweredUpdate
-    one = record { place = a.index; op = noted.0 }
+    one = record { index = a.index; op = noted.0 }
 
     its_line : (i : ℕ) → is_at i (said_of t.said) ≡ eqb a.index i
     its_line i = ap (λ said. is_at i (said_of said)) is
 
-    -- no update that was answered before has this place
-    new_place : (q : ℕ) (u : AnsweredUpdate) → At q u old.note.answered → u.place ≡ a.index → ⊥
-    new_place q u at same =
+    -- no update that was answered before has this index
+    new_index : (q : ℕ) (u : AnsweredUpdate) → At q u old.note.answered → u.index ≡ a.index → ⊥
+    new_index q u at same =
         let there = subst (λ i. At i (record { author = new.session; seq = q; op = u.op }) new.progress.history) same (kept q u at) in
         let both = some-injective (record { author = new.session; seq = q; op = u.op }) (record { author = old.session; seq = length old.note.answered; op = noted.0 }) (sym there ∙ noted.2) in
         let number : q ≡ length old.note.answered = ap (λ (r : Record). r.seq) both in
@@ -114,7 +114,7 @@ module _ (old new : SessionView) (t : Told) (asked : IsAsked old new t) (before 
         omega (arith, number, below)
 
     none_before : lines_at a.index before ≡ 0
-    none_before = ⊎_elim (λ no. no) (λ h. absurd (new_place h.0 h.1 h.2 h.3)) (only a.index)
+    none_before = ⊎_elim (λ no. no) (λ h. absurd (new_index h.0 h.1 h.2 h.3)) (only a.index)
 
     now_one : lines_at a.index now ≡ 1
     now_one =
@@ -128,14 +128,14 @@ module _ (old new : SessionView) (t : Told) (asked : IsAsked old new t) (before 
 
     shown_one : AreShown new.progress new now
     shown_one q u at =
-        ⊎_elim (λ front. (kept q u front, elsewhere u.place (λ same. new_place q u front (sym same)) ∙ (shown q u front).1)) (λ behind. last behind.0 behind.1 behind.2)
+        ⊎_elim (λ front. (kept q u front, elsewhere u.index (λ same. new_index q u front (sym same)) ∙ (shown q u front).1)) (λ behind. last behind.0 behind.1 behind.2)
         (at_joined old.note.answered (one ∷ []) q u (subst (At q u) noted.1 at))
       where
-        last : (j : ℕ) → q ≡ length old.note.answered + j → At j u (one ∷ []) → At u.place (record { author = new.session; seq = q; op = u.op }) new.progress.history × (lines_at u.place now ≡ 1)
+        last : (j : ℕ) → q ≡ length old.note.answered + j → At j u (one ∷ []) → At u.index (record { author = new.session; seq = q; op = u.op }) new.progress.history × (lines_at u.index now ≡ 1)
         last zero e first =
             let same : one ≡ u = some-injective one u first in
             let number : length old.note.answered ≡ q = omega (arith, e) in
-            subst (λ (v : AnsweredUpdate). At v.place (record { author = new.session; seq = q; op = v.op }) new.progress.history × (lines_at v.place now ≡ 1)) same (
+            subst (λ (v : AnsweredUpdate). At v.index (record { author = new.session; seq = q; op = v.op }) new.progress.history × (lines_at v.index now ≡ 1)) same (
               subst (λ (p : ℕ × ℕ). At a.index (record { author = p.0; seq = p.1; op = noted.0 }) new.progress.history) (λ i. (sym asked.session i, number i)) noted.2,
               now_one,
             )
@@ -220,7 +220,7 @@ noted_none shelf config c a n xs is k s at = of n a k (subst (At k s) is at)
     of (suc n) a zero at = ap (λ (z : SessionView). z.note.answered) (sym (some-injective (fresh_session shelf config c a) s at))
     of (suc n) a (suc k) at = of n (suc a) k at
 
--- and its number is its place
+-- and its number is its index
 pub numbered_fresh : (shelf : ShelfId) (config : Config) (c : CatalogueView) (n : ℕ) (xs : List SessionView) → xs ≡ fresh_sessions shelf config c 0 n → AreNumbered xs
 numbered_fresh shelf config c n xs is k d below =
     subst (λ ys. (slice_index_or ys k d).session ≡ k) (sym is) (of n 0 k (subst (λ ys. k < length ys) is below) ∙ (let e : 0 + k ≡ k = omega arith in e))
@@ -254,12 +254,12 @@ module _ (sessions : List SessionView) (s : SessionView) (said more : List Told)
   own : AreShown l s behind
   own = shown_on s.progress l ends.0 s behind new.shown
 
-  -- no session before was answered an update at the place of one of this session
+  -- no session before was answered an update at the index of one of this session
   apart : (k : ℕ) (z : SessionView) → At k z sessions → (i : ℕ) → HasAnswered i z → HasAnswered i s → ⊥
   apart k z at i his mine =
       let there = (first.shown k z at his.0 his.1 his.2).0 in
       let here = (own mine.0 mine.1 mine.2).0 in
-      let same : mine.1.place ≡ his.1.place = mine.3 ∙ sym his.3 in
+      let same : mine.1.index ≡ his.1.index = mine.3 ∙ sym his.3 in
       let r : Record = record { author = z.session; seq = his.0; op = his.1.op } in
       let o : Record = record { author = s.session; seq = mine.0; op = mine.1.op } in
       let both = some-injective r o (sym there ∙ subst (λ j. At j o l.history) same here) in
@@ -275,12 +275,12 @@ module _ (sessions : List SessionView) (s : SessionView) (said more : List Told)
   shown_front : (k : ℕ) (z : SessionView) → At k z sessions → AreShown l z (before ++ behind)
   shown_front k z at q u there =
       let one = first.shown k z at q u there in
-      (one.0, all_lines u.place 1 0 one.1 (⊎_elim (λ none. none) (λ mine. absurd (apart k z at u.place (q, u, there, refl) mine)) (new.only u.place)))
+      (one.0, all_lines u.index 1 0 one.1 (⊎_elim (λ none. none) (λ mine. absurd (apart k z at u.index (q, u, there, refl) mine)) (new.only u.index)))
 
   shown_last : AreShown l s (before ++ behind)
   shown_last q u there =
       let one = own q u there in
-      (one.0, all_lines u.place 0 1 (⊎_elim (λ none. none) (λ h. absurd (apart h.0 h.1 h.2 u.place h.3 (q, u, there, refl))) (first.only u.place)) one.1)
+      (one.0, all_lines u.index 0 1 (⊎_elim (λ none. none) (λ h. absurd (apart h.0 h.1 h.2 u.index h.3 (q, u, there, refl))) (first.only u.index)) one.1)
 
   shown_all : (k : ℕ) (z : SessionView) → At k z (sessions ++ s ∷ []) → AreShown l z (before ++ behind)
   shown_all k z at = ⊎_elim (λ front. shown_front k z front) (λ back. last back.0 back.2) (at_joined sessions (s ∷ []) k z at)
@@ -343,7 +343,7 @@ module _ (store : StoreView) (sessions : List SessionView) (closed : ClosedView)
       let one = is_numbered s.session 0 s.note.answered l.history own i r at author.3 in
       let shown = all.shown author.0 s author.2 one.0 one.1 one.2 in
       let number : r.seq ≡ one.0 = ap (λ (z : Record). z.seq) one.3 ∙ (let e : 0 + one.0 ≡ one.0 = omega arith in e) in
-      subst (λ j. lines_at j (map told_of said) ≡ 1) (sym (one_place s.session 0 s.note.answered l.history own i one.1.place r _ at shown.0 author.3 refl number)) shown.1
+      subst (λ j. lines_at j (map told_of said) ≡ 1) (sym (one_index s.session 0 s.note.answered l.history own i one.1.index r _ at shown.0 author.3 refl number)) shown.1
 
   pub one_history : IsOfOneHistory store.catalogue store.config.limit (map told_of said)
   one_history = subst (λ (p : Config × CatalogueView). IsOfOneHistory p.1 p.0.limit (map told_of said)) (λ i. (is.of.0 i, is.of.1 i)) (record {

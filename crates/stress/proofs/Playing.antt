@@ -12,11 +12,11 @@ use Rattle.stress.specs.Shown.{calls_told}
 use Rattle.stress.specs.Playing.{TellTheirs}
 use Rattle.stress.proofs.Dealt.{last_apart}
 
--- the player at place k was told the calls of its session
+-- the player at index k was told the calls of its session
 abbrev Tells : ℕ → List (Option Called) → ℕ → Player → Type 0
 Tells n calls k p = IfOk p.told (λ v. calls_told v.items ≡ dealt n (n - 1 - k) calls)
 
--- what holds of each element by its place
+-- what holds of each element by its index
 module _ {X : Type 0} (P : ℕ → X → Type 0) where
   abbrev pub EachAt : List X → Type 0
   EachAt xs = (k : ℕ) (d : X) → k < length xs → P k (slice_index_or xs k d)

@@ -6,7 +6,7 @@ use Rattle.verifier.specs.declared.refusal.Mode.{Mode}
 use Rattle.verifier.specs.declared.refusal.Mode.TheVariants.{Update, Read}
 use Rattle.stress.specs.Calls.{Called}
 
--- what a session was told: the place of its update and the reply there, how many updates its read has seen and the reply, or that the
+-- what a session was told: the index of its update and the reply there, how many updates its read has seen and the reply, or that the
 -- history has ended
 pub data Said : Type 0 where
   Updated : ℕ → ℕ → Said
@@ -18,14 +18,14 @@ pub record ToldCall : Type 0 where
   pub call : Called
   pub said : Said
 
--- where a line stands: an update at its place, a read behind the updates that it has seen and before the others, and what has ended
+-- where a line stands: an update at its index, a read behind the updates that it has seen and before the others, and what has ended
 -- behind all
 abbrev pub rank : Said → ℕ
 rank (Updated index reply) = 2 * index + 1
 rank (Seen point reply) = 2 * point
 rank Ended = 2 ^ 65
 
--- an update is told its place or that the history has ended, a read what it has seen
+-- an update is told its index or that the history has ended, a read what it has seen
 abbrev pub suits : Mode → Said → Bool
 suits Update (Updated index reply) = true
 suits Update Ended = true
@@ -37,7 +37,7 @@ AreOrdered told = IsNonDecreasingBy (λ t. rank t.said) told
 
 -- PLACE NAME HEX REPLY behind a letter
 abbrev pub answered_text : List ℕ → ℕ → Called → ℕ → List ℕ
-answered_text letter place c reply = letter ++ (decimal place ++ (codes " " ++ (c.line ++ (codes " " ++ (decimal reply ++ codes "\n")))))
+answered_text letter index c reply = letter ++ (decimal index ++ (codes " " ++ (c.line ++ (codes " " ++ (decimal reply ++ codes "\n")))))
 
 abbrev pub said_text : Called → Said → List ℕ
 said_text c (Updated index reply) = answered_text (codes "u ") index c reply

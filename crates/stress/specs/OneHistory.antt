@@ -15,7 +15,7 @@ use Rattle.stress.specs.Lines.{Said, Updated, Seen, Ended, ToldCall}
 abbrev pub Asks : Called → Operation → Type 0
 Asks call op = (said : ProgramCall) × (line_meaning call.line ≡ Some (Call said)) × (op ≡ record { program = call.program; argument = said.argument })
 
--- what a session was told of an operation is so in this history of a catalogue: the operation's record stands at the update's place,
+-- what a session was told of an operation is so in this history of a catalogue: the operation's record stands at the update's index,
 -- with its reply there; the read has seen no more than the history has, and its reply is the one there; the history has ended only
 -- where it has as many records as the limit
 abbrev pub Holds : CatalogueView → ℕ → History → Operation → Said → Type 0
@@ -26,13 +26,13 @@ Holds c limit history op Ended = limit ≤ length history
 abbrev pub IsSo : CatalogueView → ℕ → History → ToldCall → Type 0
 IsSo c limit history t = (op : Operation) × Asks t.call op × Holds c limit history op t.said
 
--- whether this is what an update at place i was told
+-- whether this is what an update at index i was told
 abbrev pub is_at : ℕ → Said → Bool
-is_at i (Updated place reply) = place == i
+is_at i (Updated index reply) = index == i
 is_at i (Seen point reply) = false
 is_at i Ended = false
 
--- how many of these were told the place i
+-- how many of these were told the index i
 abbrev pub lines_at : ℕ → List ToldCall → ℕ
 lines_at i told = count_by (λ t. is_at i t.said) told
 

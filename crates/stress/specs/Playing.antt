@@ -48,7 +48,7 @@ AreIn store n sessions = (length sessions ≡ n) × All (IsOf store) sessions
 abbrev pub IsPlaying : StoreView → Player → Type 0
 IsPlaying store p = IsOf store p.session
 
--- each session has its place as its number
+-- each session has its index as its number
 abbrev pub AreNumbered : List SessionView → Type 0
 AreNumbered sessions = (k : ℕ) (d : SessionView) → k < length sessions → (slice_index_or sessions k d).session ≡ k
 
@@ -71,11 +71,11 @@ IsSoIn l t = IsSo l.catalogue l.config.limit l.history t
 abbrev pub AreShown : Progress CatalogueView → SessionView → List ToldCall → Type 0
 AreShown l s lines =
     (q : ℕ) (u : AnsweredUpdate) → At q u s.note.answered
-    → At u.place (record { author = s.session; seq = q; op = u.op }) l.history × (lines_at u.place lines ≡ 1)
+    → At u.index (record { author = s.session; seq = q; op = u.op }) l.history × (lines_at u.index lines ≡ 1)
 
--- the session was answered an update at place i
+-- the session was answered an update at index i
 abbrev pub HasAnswered : ℕ → SessionView → Type 0
-HasAnswered i s = (q : ℕ) × (u : AnsweredUpdate) × At q u s.note.answered × (u.place ≡ i)
+HasAnswered i s = (q : ℕ) × (u : AnsweredUpdate) × At q u s.note.answered × (u.index ≡ i)
 
 -- the session was told all this, and no more
 pub record IsTold (s : SessionView) (told : List Told) : Type 0 where
@@ -87,13 +87,13 @@ pub record IsTold (s : SessionView) (told : List Told) : Type 0 where
 abbrev pub IsNew : StoreView → SessionView → Type 0
 IsNew store s = IsOf store s × (s.note.answered ≡ [])
 
--- so many of them, numbered by their places
+-- so many of them, numbered by their indexes
 abbrev pub AreNew : StoreView → ℕ → List SessionView → Type 0
 AreNew store n sessions = (length sessions ≡ n) × All (IsNew store) sessions × AreNumbered sessions
 
 -- the answer to an update is in the session's note, with its record in the history
 abbrev pub IsNoted : (old new : SessionView) → Said → Type 0
-IsNoted old new (told.Updated a) = (op : Operation) × (new.note.answered ≡ old.note.answered ++ record { place = a.index; op = op } ∷ [])
+IsNoted old new (told.Updated a) = (op : Operation) × (new.note.answered ≡ old.note.answered ++ record { index = a.index; op = op } ∷ [])
     × At a.index (record { author = old.session; seq = length old.note.answered; op = op }) new.progress.history
 IsNoted old new (told.Seen a) = new.note.answered ≡ old.note.answered
 IsNoted old new told.Ended = new.note.answered ≡ old.note.answered
@@ -111,7 +111,7 @@ pub record AreToldIn (l : Progress CatalogueView) (sessions : List SessionView) 
   pub shown : (k : ℕ) (s : SessionView) → At k s sessions → AreShown l s (map told_of told)
   pub only : (i : ℕ) → (lines_at i (map told_of told) ≡ 0) ⊎ ((k : ℕ) × (s : SessionView) × At k s sessions × HasAnswered i s)
 
--- the same in whatever has grown from what these sessions know, if each is numbered by its place
+-- the same in whatever has grown from what these sessions know, if each is numbered by its index
 abbrev pub AreTold : List SessionView → List Told → Type 0
 AreTold sessions told =
     (l : Progress CatalogueView) → ((k : ℕ) (s : SessionView) → At k s sessions → Extends s.progress l × (s.session ≡ k)) → AreToldIn l sessions told

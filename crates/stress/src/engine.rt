@@ -109,7 +109,7 @@ fn prepare<R: Threads + Wait + Sync, F: Folder, G: Gate + Sync, M: Source, S: So
 /// Makes the calls of a script on a new store of several nodes with the maps and the programs of a manifest. The lines go to the
 /// sessions in turn, and each session makes its own in their order, on a thread of its own.
 ///
-/// Writes a transcript, as `replay` reads it: each update at its place in the history with its reply, each read behind the updates
+/// Writes a transcript, as `replay` reads it: each update at its index in the history with its reply, each read behind the updates
 /// that it has seen, and last the updates that were told that the history has ended. A line that is no call of a program of the
 /// manifest with an argument of its length, no comment and not empty writes `line N bad`, and no thread starts. Sizes out of their
 /// limits write `refused O1`, a refused manifest only its refusal. Says how it ended. Each file is read whole before anything is

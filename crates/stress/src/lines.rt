@@ -26,7 +26,7 @@ pub(crate) struct Told<'a> {
     pub said: Said,
 }
 
-// Where a line stands: an update at its place, a read behind the updates that it has seen and before the others, and what has ended
+// Where a line stands: an update at its index, a read behind the updates that it has seen and before the others, and what has ended
 // behind all.
 fn rank(said: Said) -> u128
     ensures { result ≡ rank (said_of said) }
@@ -42,13 +42,13 @@ fn rank(said: Said) -> u128
 fn put_answered(
     out: &mut Vec<u8>,
     letter: &[u8],
-    place: u64,
+    index: u64,
     call: &ScriptCall,
     reply: u64,
 ) -> Result<(), AllocError>
-    ensures { OnOk result (out.new.items ≡ out.old.items ++ answered_text letter.now place (called call.now) reply) }
+    ensures { OnOk result (out.new.items ≡ out.old.items ++ answered_text letter.now index (called call.now) reply) }
 {
-    put_numbered(out, letter, place)?;
+    put_numbered(out, letter, index)?;
     out.extend_from_slice(b" ")?;
     out.extend_from_slice(call.line.as_bytes())?;
     put_numbered(out, b" ", reply)?;
@@ -70,7 +70,7 @@ fn put_told(out: &mut Vec<u8>, told: &Told) -> Result<(), AllocError>
     }
 }
 
-// The transcript: the calls in the order of their places, those of one place in the order in which they come.
+// The transcript: the calls in the order of their indexes, those of one index in the order in which they come.
 pub(crate) fn transcript(alloc: Global, mut told: Vec<Told<'_>>) -> Result<Vec<u8>, AllocError>
     ensures { IfOk result (λ text. (lines : List ToldCall) × IsPermutation (map told_of told.entry.items) lines × AreOrdered lines
         × (text.items ≡ transcript_text lines)) }

@@ -130,14 +130,14 @@ fn play_together<'a, R: Threads + Wait + Sync, G: Gate + Sync>(
         rt,
         players,
         ground.sessions,
-        &|place: usize, player: &mut Player|
+        &|index: usize, player: &mut Player|
             requires { IsNew ground.now.store.now player.now.session × All (IsReady ground.now.store.now.catalogue) ground.now.calls.now
-                × (place < ground.now.sessions) × (player.now.session.session ≡ ground.now.sessions - 1 - place) }
+                × (index < ground.now.sessions) × (player.now.session.session ≡ ground.now.sessions - 1 - index) }
             ensures { IsOf ground.entry.now.store.now player.exit.now.session
                 × IfOk player.exit.now.told (λ v. calls_told v.items
-                ≡ dealt ground.entry.now.sessions (ground.entry.now.sessions - 1 - place) (to_be_told ground.entry.now.calls.now))
-                × IsToldPlayer player.exit.now × (player.exit.now.session.session ≡ ground.entry.now.sessions - 1 - place) }
-        { play(rt, ground, ground.sessions - 1 - place, player) },
+                ≡ dealt ground.entry.now.sessions (ground.entry.now.sessions - 1 - index) (to_be_told ground.entry.now.calls.now))
+                × IsToldPlayer player.exit.now × (player.exit.now.session.session ≡ ground.entry.now.sessions - 1 - index) }
+        { play(rt, ground, ground.sessions - 1 - index, player) },
     );
 }
 

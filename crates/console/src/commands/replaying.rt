@@ -73,9 +73,9 @@ pub fn replay_reply<F: Folder, R: Source, S: Source>(
 }
 
 /// Replays a transcript on one replica with the maps and the programs of a manifest: the updates in the order of their
-/// places, and each read after the updates before its point.
+/// indexes, and each read after the updates before its point.
 ///
-/// Writes `good UPDATES READS ENDED`, the numbers of the lines of each kind, where each update has the next place and each
+/// Writes `good UPDATES READS ENDED`, the numbers of the lines of each kind, where each update has the next index and each
 /// read the number of updates before it as its point, and each reply is what the program replies there. Else it writes one
 /// line for the first line that is not so: `line N bad` where it is no line of a transcript or names no program of its mode
 /// with an argument of its length, and otherwise `line N differs`. A refused manifest writes only its refusal. Says how it

@@ -22,6 +22,6 @@ loop-session-preserved c =
           let taken = each_pop IsAt c.loop-session.sessions.items c.pop.new.self.items c.pop.result c.pop.ensures.items held.0 in
           let last : c.in-Some.session.session ≡ left = subst (λ r. IfSome r (IsAt left)) c.in-Some.is taken.1 in
           let count : left + 1 + length c.loop-session.players.items ≡ n = search rules in
-          let place : c.in-Some.session.session ≡ n - 1 - length c.loop-session.players.items = omega (arith, last, count) in
-          (taken.0, rw c.push_reserved.ensures.items (each_push (IsLastAt n) c.loop-session.players.items _ held.1 place)),
+          let index : c.in-Some.session.session ≡ n - 1 - length c.loop-session.players.items = omega (arith, last, count) in
+          (taken.0, rw c.push_reserved.ensures.items (each_push (IsLastAt n) c.loop-session.players.items _ held.1 index)),
     )

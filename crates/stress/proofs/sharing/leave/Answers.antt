@@ -47,8 +47,8 @@ loop-player-preserved c =
           let taken = each_pop (IsLastAt n) c.loop-player.players.items c.pop.new.self.items c.pop.result c.pop.ensures.items held.0 in
           let last : c.in-Some.player.session.session ≡ n - 1 - left = subst (λ r. IfSome r (IsLastAt n left)) c.in-Some.is taken.1 in
           let count : left + 1 + m ≡ n = search rules in
-          let place : c.in-Some.player.session.session ≡ m = omega (arith, last, count) in
-          (taken.0, rw c.push_reserved.ensures.items (each_push IsAt c.loop-player.sessions.items c.in-Some.player.session held.1 place)),
+          let index : c.in-Some.player.session.session ≡ m = omega (arith, last, count) in
+          (taken.0, rw c.push_reserved.ensures.items (each_push IsAt c.loop-player.sessions.items c.in-Some.player.session held.1 index)),
     )
 
 pub returns-clause-told : goal.returns-clause-told

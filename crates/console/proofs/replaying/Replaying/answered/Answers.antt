@@ -8,5 +8,5 @@ returns-in-Read-clause-replayed c =
     λ at has. rw c.verdict_of-in-Read.ensures
     (of_operation c.args.catalogue.now at (answered_of c.args.call.now) (record { program = c.in-Some.found.number; argument = c.args.call.now.call.argument.items }) _ c.read.new.self c.in-Some.ensures.found
     (rw c.in-Read.is
-    (of_read c.args.catalogue.now at (record { program = c.in-Some.found.number; argument = c.args.call.now.call.argument.items }) c.args.call.now.place c.args.call.now.reply c.read.result c.read.new.self
+    (of_read c.args.catalogue.now at (record { program = c.in-Some.found.number; argument = c.args.call.now.call.argument.items }) c.args.call.now.index c.args.call.now.reply c.read.result c.read.new.self
     (c.read.ensures.compared at _ refl has))))

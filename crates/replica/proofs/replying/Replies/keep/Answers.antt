@@ -3,9 +3,9 @@ use Rattle.replica.specs.Views.{RepliesView, with_outcome}
 use Rattle.replica.proofs.Kept.{kept_within}
 use Rattle.replica.proofs.replying.Replies.keep.Goals as goal
 
-pub returns-then-place-self : goal.returns-then-place-self
-returns-then-place-self c = record {
+pub returns-then-index-self : goal.returns-then-index-self
+returns-then-index-self c = record {
   kept =
-      kept_within c.self.inside.first c.self.inside.count c.args.place c.self.inside.outcomes c.args.outcome c.if-self-place.true c.if-place-self.true
-      ∙ ap (λ (r : RepliesView). with_outcome r c.args.place c.args.outcome) c.self.view_is;
+      kept_within c.self.inside.first c.self.inside.count c.args.index c.self.inside.outcomes c.args.outcome c.if-self-index.true c.if-index-self.true
+      ∙ ap (λ (r : RepliesView). with_outcome r c.args.index c.args.outcome) c.self.view_is;
 }
