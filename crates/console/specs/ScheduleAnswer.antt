@@ -30,7 +30,7 @@ use Rattle.console.specs.RunAnswer.{behind, bad_line}
 abbrev pub step_text : StepAnswer → List ℕ
 step_text Done = codes "ok\n"
 step_text NotNow = codes "notnow\n"
-step_text (Back (Placed place reply)) = codes "ok place " ++ (decimal place ++ (codes " reply " ++ (decimal reply ++ codes "\n")))
+step_text (Back (Placed index reply)) = codes "ok place " ++ (decimal index ++ (codes " reply " ++ (decimal reply ++ codes "\n")))
 step_text (Back Ended) = codes "ok ended\n"
 step_text (ReadBack a) = codes "ok point " ++ (decimal a.point ++ (codes " reply " ++ (decimal a.reply ++ codes "\n")))
 
