@@ -1,2 +1,4 @@
 -- The proof of what holds between two atomic steps.
 pub mod Meanwhile
+-- Whole calls are steps of the schedule.
+pub mod InOrder

@@ -1,2 +1,4 @@
 -- What holds between two atomic steps.
 pub mod Meanwhile
+-- What a whole call does, step by step.
+pub mod InOrder

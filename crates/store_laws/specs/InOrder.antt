@@ -1,0 +1,59 @@
+-- Whole calls in the words of the schedule: which of its steps they take, in which order.
+use Rattle.std.specs.Prelude.{◌≡◌, ℕ, List, [], ◌∷◌, map, Option, Some, None}
+use Rattle.oplog.specs.Logs.{Log}
+use Rattle.oplog.specs.Operations.{Operation}
+use Rattle.combiner.specs.Desks.{BatchView, DeskView, replied}
+use Rattle.readpath.specs.declared.reading.ReadAnswer.{ReadAnswer}
+use Rattle.node.specs.Answering.{answered_batch}
+use Rattle.node.specs.Seen.{OthersDo}
+use Rattle.node.specs.Steps.{NodeStep, Appends, Replays, Finishes, Reclaims, Rebases, Replies, Seen}
+use Rattle.node.specs.declared.parts.NodeBatch.TheVariants.{Absent, Held}
+use Rattle.schedule.specs.declared.parts.BegunRead.{BegunRead}
+use Rattle.schedule.specs.declared.parts.Opening.{Opening}
+use Rattle.schedule.specs.declared.steps.Step.{Step}
+use Rattle.schedule.specs.declared.steps.Step.TheVariants.{Append, Replay, Finish, Reply, Reclaim, Rebase, ReadAnswer as Answers}
+use Rattle.schedule.specs.Steps.{Part, part_of, read_at, seen_of, session_at, with_call_or_back, with_read}
+use Rattle.schedule.specs.Trace.{Back, ReadBack}
+use Rattle.schedule.specs.Worlds.{NodeView}
+use Rattle.store.specs.Standing.{SessionKnown}
+use Rattle.store.specs.Whole.{CombinesBy, ReadsBy, combine_steps, read_steps, sees}
+
+-- the schedule's step of the node n
+abbrev pub step_of : ℕ → NodeStep → Step
+step_of n Appends = Append n
+step_of n Replays = Replay n
+step_of n Finishes = Finish n
+step_of n Reclaims = Reclaim n
+step_of n Rebases = Rebase n
+step_of n Replies = Reply n
+
+-- the node of which that is seen, and at whose slots these reads were begun
+abbrev pub node_of : Seen → List (Option BegunRead) → NodeView
+node_of s reads = record { replica = s.own.replica; hand = s.own.hand; desk = s.desk; batch = s.batch; reads = reads }
+
+-- from one log and node to another by these steps of the schedule, in this order, each of which may be taken then; others may do something
+-- before each, and after the last
+pub data InOrder (m : Opening) : Log → NodeView → List Step → Log → NodeView → Type 0 where
+  Ends : (g : Log) (node : NodeView) → InOrder m g node [] g node
+  Takes : (step : Step) (g h : Log) (node last : NodeView) (steps : List Step) (p : Part) → part_of m step g node ≡ Some p → InOrder m p.log p.node steps h last → InOrder m g node (step ∷ steps) h last
+  Meets : (g f h : Log) (node other last : NodeView) (steps : List Step) → OthersDo m.catalogue (seen_of g node) (seen_of f other) → InOrder m f other steps h last → InOrder m g node steps h last
+
+-- the same of what is seen of the node n
+abbrev pub SeenInOrder : Opening → ℕ → List (Option BegunRead) → Seen → List NodeStep → Seen → Type 0
+SeenInOrder m n reads s steps t = InOrder m s.log (node_of s reads) (map (step_of n) steps) t.log (node_of t reads)
+
+-- a combine of the batch b
+abbrev pub CombinesInOrder : Opening → ℕ → List (Option BegunRead) → (k after : SessionKnown) → (b answered : BatchView) → CombinesBy k after b answered → Type 0
+CombinesInOrder m n reads k after b answered c =
+    SeenInOrder m n reads (sees c.from c.log c.own (Held b) c.desk) (combine_steps c.low c.full c.next c.later c.more c.ahead)
+    (sees after.progress c.back c.left Absent (replied (answered_batch c.kept b) c.desk))
+
+-- the read of the slot s is answered so on that log and node
+abbrev pub IsAnsweredThere : Opening → (n s : ℕ) → Log → NodeView → ReadAnswer → Type 0
+IsAnsweredThere m n s g node answer = part_of m (Answers n s) g node ≡ Some (with_call_or_back (Back (session_at node s) (ReadBack answer)) g (with_read node s None))
+
+-- a read that was begun at the slot s, with the completed tail as the call loaded it: the steps, and then the schedule's own answer
+pub record ReadsInOrder (m : Opening) (n s : ℕ) (reads : List (Option BegunRead)) (k after : SessionKnown) (op : Operation) (answer : ReadAnswer) (c : ReadsBy k after op answer) (d : DeskView) : Type 0 where
+  pub steps : SeenInOrder m n reads (sees c.from c.log c.own Absent d) (read_steps c.low c.next c.later) (sees after.progress c.back c.left Absent d)
+  pub answered : (let t = sees after.progress c.back c.left Absent d in
+      read_at (node_of t reads) s ≡ Some (record { op = op; seen = c.seen }) → IsAnsweredThere m n s t.log (node_of t reads) answer)
