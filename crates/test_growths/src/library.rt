@@ -3,11 +3,11 @@
 use crate::endings::{Ending, judged};
 use crate::served::{BUMP_LINE, BUMP_TEXT, MANIFEST, PEEK_LINE};
 use asm::AsmError;
+use example_sums::open_two;
 use insn::{DecodeError, Insn};
 use loader::{LoadError, load_manifest, named_files};
 use maps::{MapError, MapSet, Shape, shapes_ok};
 use std::alloc::Global;
-use example_sums::open_two;
 use verifier::{Mode, VerifyError, verify};
 
 // An array and a hash.

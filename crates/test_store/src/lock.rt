@@ -1,8 +1,8 @@
 //! The lock, with a list that threads append to and a running sum that follows it.
 
+use example_sums::{append, append_both, open_two};
 use ownlock::OpenError;
 use std::test::Fail;
-use example_sums::{append, append_both, open_two};
 
 #[test]
 fn two_threads_append_a_thousand_each(rt: HostRuntime) {
