@@ -1,32 +1,57 @@
--- How the fields of operations and logs are read. No public clause cites this module.
+-- How the fields of calls, new programs and logs are read. No public clause cites this module.
 use Rattle.std.specs.Prelude.{◌≡◌, ℕ, ◌≤◌, List, length, take}
 use Rattle.std.proofs.Common.{sym, ap, ◌∙◌}
 use Rattle.maps.specs.Maps.{AreBytes}
 use Rattle.maps.specs.MapSets.{maps_of}
 use Rattle.maps.specs.declared.shapes.TheConstants.{MAX_ARG_LEN}
-use Rattle.oplog.specs.declared.records.Op.TheInside as ops
+use Rattle.oplog.specs.declared.records.TheConstants.{MAX_INSTALLED_BYTES}
+use Rattle.oplog.specs.declared.records.Call.TheInside as calls
+use Rattle.oplog.specs.declared.records.NewProgram.TheInside as programs
 use Rattle.oplog.specs.declared.log_state.LogState.TheInside as logs
-use Rattle.oplog.specs.Operations.{Operation, padded}
+use Rattle.oplog.specs.Calls.{Call, NewProgram, padded}
 use Rattle.oplog.specs.Logs.{Log}
 
--- the argument is the first n bytes, and after them there are zeros
-pub record IsArgument (n : ℕ) (bytes : List ℕ) : Type 0 where
-  pub fits : n ≤ MAX_ARG_LEN
-  pub size : length (take n bytes) ≡ n
-  pub are_bytes : AreBytes (take n bytes)
-  pub rest : bytes ≡ padded (take n bytes)
+-- the first n of a room's bytes are in use, and after them there are zeros
+pub record IsFilled (size n : ℕ) (room : List ℕ) : Type 0 where
+  pub fits : n ≤ size
+  pub count : length (take n room) ≡ n
+  pub are_bytes : AreBytes (take n room)
+  pub rest : room ≡ padded size (take n room)
 
-abbrev pub operation_of : ops.Inside → Operation
-operation_of o = record { program = o.program; argument = take o.argument_len o.argument_bytes }
+-- ---- a call
 
-abbrev pub fields_of : Operation → ops.Inside
-fields_of o = record { program = o.program; argument_len = length o.argument; argument_bytes = padded o.argument }
+abbrev pub call_of : calls.Inside → Call
+call_of o = record { program = o.program; argument = take o.argument_len o.argument_bytes }
 
-pub fields_of_operation : (o : ops.Inside) → IsArgument o.argument_len o.argument_bytes → fields_of (operation_of o) ≡ o
-fields_of_operation o h =
+abbrev pub call_fields : Call → calls.Inside
+call_fields o = record { program = o.program; argument_len = length o.argument; argument_bytes = padded MAX_ARG_LEN o.argument }
+
+pub fields_of_call : (o : calls.Inside) → IsFilled MAX_ARG_LEN o.argument_len o.argument_bytes → call_fields (call_of o) ≡ o
+fields_of_call o h =
     let kept : List ℕ = take o.argument_len o.argument_bytes in
-    let same : ops.Inside = o in
-    ap (λ n. record same { argument_len = n; argument_bytes = padded kept }) h.size ∙ ap (λ bytes. record same { argument_bytes = bytes }) (sym h.rest)
+    let same : calls.Inside = o in
+    ap (λ n. record same { argument_len = n; argument_bytes = padded MAX_ARG_LEN kept }) h.count ∙ ap (λ bytes. record same { argument_bytes = bytes }) (sym h.rest)
+
+-- ---- a program to be installed
+
+-- its argument fits, and its bytes are filled up
+pub record IsNewProgram (o : programs.Inside) : Type 0 where
+  pub argument : o.arg_len ≤ MAX_ARG_LEN
+  pub filled : IsFilled MAX_INSTALLED_BYTES o.bytes_len o.program_bytes
+
+abbrev pub program_of : programs.Inside → NewProgram
+program_of o = record { mode = o.mode; arg_len = o.arg_len; bytes = take o.bytes_len o.program_bytes }
+
+abbrev pub program_fields : NewProgram → programs.Inside
+program_fields o = record { mode = o.mode; arg_len = o.arg_len; bytes_len = length o.bytes; program_bytes = padded MAX_INSTALLED_BYTES o.bytes }
+
+pub fields_of_program : (o : programs.Inside) → IsNewProgram o → program_fields (program_of o) ≡ o
+fields_of_program o h =
+    let kept : List ℕ = take o.bytes_len o.program_bytes in
+    let same : programs.Inside = o in
+    ap (λ n. record same { bytes_len = n; program_bytes = padded MAX_INSTALLED_BYTES kept }) h.filled.count ∙ ap (λ bytes. record same { program_bytes = bytes }) (sym h.filled.rest)
+
+-- ---- the log
 
 abbrev pub log_of : logs.Inside → Log
 log_of a = record {

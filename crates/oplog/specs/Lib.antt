@@ -1,4 +1,5 @@
--- Operations, what a history of them means, whose record each is, the sizes of a store, and the log.
+-- Calls and operations, what a history of them means, whose record each is, the sizes of a store, and the log.
+pub mod Calls
 pub mod Operations
 pub mod History
 pub mod Sessions

@@ -1,12 +1,6 @@
 -- An operation as its users see it.
-use Rattle.std.specs.Prelude.{ℕ, ◌-◌, List, ◌++◌, length, replicate}
-use Rattle.maps.specs.declared.shapes.TheConstants.{MAX_ARG_LEN}
+use Rattle.oplog.specs.declared.records.Op.{Op}
 
--- a program of the catalogue, by its number, and the bytes of its argument
-pub record Operation : Type 0 where
-  pub program : ℕ
-  pub argument : List ℕ
-
--- bytes, and zeros up to the most that an argument has
-abbrev pub padded : List ℕ → List ℕ
-padded argument = argument ++ replicate (MAX_ARG_LEN - length argument) 0
+-- the run of a call, or the installing of a program
+abbrev pub Operation : Type 0
+Operation = Op

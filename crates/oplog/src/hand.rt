@@ -85,10 +85,11 @@ impl Hand {
     }
 
     /// Puts one more record at the end. There is room for it.
-    pub(crate) fn push(&mut self, next: Record)
+    pub(crate) fn push(&mut self, next: &Record)
         requires room { length self.old.records < self.old.window }
-        ensures pushed { self.new ≡ record self.old { records = self.old.records ++ next ∷ [] } }
+        ensures pushed { self.new ≡ record self.old { records = self.old.records ++ next.now ∷ [] } }
     {
-        self.records.push_reserved(next);
+        let Record { author, op, seq } = *next;
+        self.records.push_reserved(Record { author, op, seq });
     }
 }

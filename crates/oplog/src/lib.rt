@@ -14,4 +14,4 @@ pub use configuration::{
 };
 pub use hand::Hand;
 pub use log_state::LogState;
-pub use records::{Op, Record};
+pub use records::{Call, MAX_INSTALLED_BYTES, NewProgram, Op, Record};

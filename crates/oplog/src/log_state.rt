@@ -164,7 +164,7 @@ impl LogState {
         hand.clear(index);
         let start = (index - self.base) as usize;
         for record in &self.records[start..] {
-            hand.push(*record);
+            hand.push(record);
         }
         CopyAnswer::Copied
     }

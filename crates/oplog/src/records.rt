@@ -2,48 +2,54 @@
 
 ghost use Rattle.std.specs.Prelude.{◌≡◌, ◌≤◌, length, []};
 ghost use Rattle.maps.specs.Maps.{AreBytes};
-ghost use Rattle.oplog.specs.Operations.{padded};
+ghost use Rattle.oplog.specs.declared.records.Op.TheVariants.{Run};
+ghost use Rattle.oplog.specs.Calls.{padded};
 
 use maps::MAX_ARG_LEN;
 use std::marker::Model;
+use verifier::Mode;
 
-/// An operation: a program of the catalogue, by its number there, and its argument of at most [`MAX_ARG_LEN`]. It is copied
+/// The most bytes of a program that may be installed.
+pub const MAX_INSTALLED_BYTES: usize = 192;
+
+/// A call: a program of the catalogue, by its number there, and its argument of at most [`MAX_ARG_LEN`]. It is copied
 /// as one block of bytes.
 #[derive(Clone, Copy)]
-pub struct Op {
+pub struct Call {
     program: u16,
     argument_len: u8,
     // The argument, and zeros after it.
     argument_bytes: [u8; MAX_ARG_LEN],
 }
 
-impl Model for Op {
-    ghost use Rattle.oplog.specs.Operations.{Operation};
+impl Model for Call {
+    ghost use Rattle.oplog.specs.Calls.{Call};
 
-    ghost Value = { Operation };
+    ghost Value = { Call };
 
-    ghost use Rattle.oplog.specs.Fields.{operation_of, fields_of, fields_of_operation, IsArgument};
+    ghost use Rattle.maps.specs.declared.shapes.TheConstants.{MAX_ARG_LEN};
+    ghost use Rattle.oplog.specs.Fields.{call_of, call_fields, fields_of_call, IsFilled};
 
-    ghost view = { operation_of };
+    ghost view = { call_of };
 
-    ghost invariant = { λ o. IsArgument o.argument_len o.argument_bytes };
+    ghost invariant = { λ o. IsFilled MAX_ARG_LEN o.argument_len o.argument_bytes };
 
-    ghost inverse = { fields_of };
+    ghost inverse = { call_fields };
 
-    ghost inverse_ok = { fields_of_operation };
+    ghost inverse_ok = { fields_of_call };
 }
 
-impl Op {
-    /// The operation of a program, by its number in the catalogue, and an argument of at most [`MAX_ARG_LEN`].
-    pub fn new(program: u16, argument: &[u8]) -> Op
+impl Call {
+    /// The call of a program, by its number in the catalogue, on an argument of at most [`MAX_ARG_LEN`].
+    pub fn new(program: u16, argument: &[u8]) -> Call
         requires fits { length argument.now ≤ MAX_ARG_LEN }
-        ensures operation { result ≡ record { program = program; argument = argument.now } }
+        ensures call { result ≡ record { program = program; argument = argument.now } }
         ensures bytes { AreBytes result.argument }
     {
-        Op {
+        Call {
             program,
             argument_len: argument.len() as u8,
-            argument_bytes: filled_up(argument),
+            argument_bytes: padded_argument(argument),
         }
     }
 
@@ -64,12 +70,99 @@ impl Op {
     }
 }
 
-impl Default for Op {
-    /// The first program, without an argument.
-    fn default() -> Op
+impl Default for Call {
+    /// The call of the first program, without an argument.
+    fn default() -> Call
         ensures { result ≡ record { program = 0; argument = [] } }
     {
-        Op::new(0, &[])
+        Call::new(0, &[])
+    }
+}
+
+/// A program that is to be installed: what it may call, how long its argument is, and its instructions as bytes, at most
+/// [`MAX_INSTALLED_BYTES`]. It is copied as one block of bytes.
+#[derive(Clone, Copy)]
+pub struct NewProgram {
+    mode: Mode,
+    arg_len: u8,
+    bytes_len: u8,
+    // The instructions, and zeros after them.
+    program_bytes: [u8; MAX_INSTALLED_BYTES],
+}
+
+impl Model for NewProgram {
+    ghost use Rattle.oplog.specs.Calls.{NewProgram};
+
+    ghost Value = { NewProgram };
+
+    ghost use Rattle.oplog.specs.Fields.{program_of, program_fields, fields_of_program, IsNewProgram};
+
+    ghost view = { program_of };
+
+    ghost invariant = { IsNewProgram };
+
+    ghost inverse = { program_fields };
+
+    ghost inverse_ok = { fields_of_program };
+}
+
+impl NewProgram {
+    /// A program of this mode for arguments of `arg_len` bytes, at most [`MAX_ARG_LEN`], with at most
+    /// [`MAX_INSTALLED_BYTES`] bytes of instructions.
+    pub fn new(mode: Mode, arg_len: usize, bytes: &[u8]) -> NewProgram
+        requires argument { arg_len ≤ MAX_ARG_LEN }
+        requires fits { length bytes.now ≤ MAX_INSTALLED_BYTES }
+        ensures program { result ≡ record { mode = mode; arg_len = arg_len; bytes = bytes.now } }
+        ensures bytes { AreBytes result.bytes }
+    {
+        NewProgram {
+            mode,
+            arg_len: arg_len as u8,
+            bytes_len: bytes.len() as u8,
+            program_bytes: padded_program(bytes),
+        }
+    }
+
+    /// What it may call.
+    pub fn mode(&self) -> Mode
+        ensures mode { result ≡ self.now.mode }
+    {
+        self.mode
+    }
+
+    /// How many bytes its argument has.
+    pub fn arg_len(&self) -> usize
+        ensures length { result ≡ self.now.arg_len }
+        ensures fits { result ≤ MAX_ARG_LEN }
+    {
+        self.arg_len as usize
+    }
+
+    /// Its instructions, as bytes.
+    pub fn bytes(&self) -> &[u8]
+        ensures bytes { result.now ≡ self.now.bytes }
+        ensures fits { length result.now ≤ MAX_INSTALLED_BYTES }
+        ensures are_bytes { AreBytes result.now }
+    {
+        &self.program_bytes[..self.bytes_len as usize]
+    }
+}
+
+/// An operation. It is copied as one block of bytes.
+#[derive(Clone, Copy)]
+pub enum Op {
+    /// The run of a program.
+    Run(Call),
+    /// A program is installed.
+    Install(NewProgram),
+}
+
+impl Default for Op {
+    /// The run of the first program, without an argument.
+    fn default() -> Op
+        ensures { result ≡ Run (record { program = 0; argument = [] }) }
+    {
+        Op::Run(Call::default())
     }
 }
 
@@ -85,12 +178,23 @@ pub struct Record {
 }
 
 // The bytes of an argument, and zeros after them.
-fn filled_up(argument: &[u8]) -> [u8; MAX_ARG_LEN]
+fn padded_argument(argument: &[u8]) -> [u8; MAX_ARG_LEN]
     requires fits { length argument.now ≤ MAX_ARG_LEN }
-    ensures filled { result ≡ padded argument.now }
+    ensures padded { result ≡ padded MAX_ARG_LEN argument.now }
 {
     let mut bytes = [0; MAX_ARG_LEN];
     let front = &mut bytes[..argument.len()];
     front.copy_from_slice(argument);
+    bytes
+}
+
+// The bytes of a program, and zeros after them.
+fn padded_program(program: &[u8]) -> [u8; MAX_INSTALLED_BYTES]
+    requires fits { length program.now ≤ MAX_INSTALLED_BYTES }
+    ensures padded { result ≡ padded MAX_INSTALLED_BYTES program.now }
+{
+    let mut bytes = [0; MAX_INSTALLED_BYTES];
+    let front = &mut bytes[..program.len()];
+    front.copy_from_slice(program);
     bytes
 }
