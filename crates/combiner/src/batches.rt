@@ -6,7 +6,7 @@ ghost use Rattle.combiner.specs.Desks.{BatchView};
 
 use crate::slots::Reply;
 use arrayvec::ArrayVec;
-use oplog::Record;
+use oplog::{Op, Record};
 use std::marker::Model;
 
 /// The requests that a combiner claimed at its desk, by ascending slots, and the answer of each once it has one. It is lent to
@@ -48,13 +48,14 @@ impl Batch {
         self.answers.clear();
     }
 
-    // One more request, which has no answer yet.
-    pub(crate) fn push(&mut self, request: Record)
+    // One more request, by its record's fields. It has no answer yet.
+    pub(crate) fn push(&mut self, author: u16, op: &Op, seq: u64)
         requires room { length self.old.records < 16 }
-        ensures records { self.new.records ≡ self.old.records ++ request ∷ [] }
+        ensures records { self.new.records ≡ self.old.records ++ record { author = author; op = op.now; seq = seq } ∷ [] }
         ensures answers { self.new.answers ≡ self.old.answers ++ None ∷ [] }
     {
-        self.records.push(request);
+        let op = *op;
+        self.records.push(Record { author, op, seq });
         self.answers.push(None);
     }
 

@@ -12,7 +12,7 @@ ghost use Rattle.combiner.specs.Answering.{answer_no, uses};
 
 use crate::batches::Batch;
 use crate::slots::{DeskRefused, Reply, Slot, Stage};
-use oplog::{Op, Record};
+use oplog::Op;
 use std::marker::Model;
 
 /// The desk of a node: a slot for each of its sessions. It takes no memory but its own bytes.
@@ -171,15 +171,11 @@ impl Desk {
         ensures desk { (x : TheSlot) → slice_get self.old.slots slot ≡ Some x → self.new ≡ with_slot self.old slot (claimed_slot x) }
     {
         let here = self.at(slot);
-        let Stage::Posted(op) = here.stage else {
+        let Stage::Posted(op) = &here.stage else {
             return;
         };
         let count = here.count;
-        batch.push(Record {
-            author: self.author(slot),
-            op,
-            seq: count,
-        });
+        batch.push(self.author(slot), op, count);
         let stage = Stage::Claimed;
         self.put(slot, Slot { stage, count });
     }
