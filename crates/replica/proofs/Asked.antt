@@ -1,4 +1,4 @@
--- What is not refused early is an operation of the catalogue.
+-- What is not refused early is a call of the catalogue.
 use Rattle.std.proofs.Common.{◌≡◌, ℕ, true, List, length, Option, Some, None, refl, sym, ap, ◌∙◌, eq-eqb, ne_eqb, if◌then◌else◌}
 use mathlib.Core.Logic.{dite}
 use native.Mathlib.Decide.{ℕ_discrete}
@@ -7,8 +7,8 @@ use Rattle.verifier.specs.declared.refusal.Mode.{Mode}
 use Rattle.verifier.specs.declared.refusal.Mode.TheVariants.{Update, Read}
 use Rattle.verifier.specs.Accepted.{Checked}
 use Rattle.loader.specs.CatalogueView.{CatalogueView}
-use Rattle.replica.specs.StoreMeaning.{program_at, is_operation}
-use Rattle.replica.proofs.Tested.{tests_true}
+use Rattle.replica.specs.StoreMeaning.{program_at, is_call}
+use Rattle.replica.proofs.Tested.{tests_call}
 use Rattle.replica.specs.declared.refusals.StoreRefused.TheVariants.{ArgumentLength}
 use Rattle.replica.specs.Refusals.{mode_refusal, program_refusal, early_refusal}
 
@@ -27,7 +27,7 @@ asked_program mode argument (Some p) e = dite (ℕ_discrete (length argument) p.
     no_length : Some ArgumentLength ≡ None → ⊥
     no_length f = cc
 
-pub is_asked : (mode : Mode) (c : CatalogueView) (program : ℕ) (argument : List ℕ) → early_refusal c mode program argument ≡ None → AreBytes argument → is_operation mode c (record { program = program; argument = argument }) ≡ true
+pub is_asked : (mode : Mode) (c : CatalogueView) (program : ℕ) (argument : List ℕ) → early_refusal c mode program argument ≡ None → AreBytes argument → is_call mode c (record { program = program; argument = argument }) ≡ true
 is_asked mode c program argument e bytes =
     let t = asked_program mode argument (program_at c program) e in
-    tests_true mode c (record { program = program; argument = argument }) (record { program = t.0; named = t.1; mode_is = t.2; length_is = t.3; bytes = bytes })
+    tests_call mode c (record { program = program; argument = argument }) (record { program = t.0; named = t.1; mode_is = t.2; length_is = t.3; bytes = bytes })

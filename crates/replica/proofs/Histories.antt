@@ -12,12 +12,14 @@ use Rattle.verifier.specs.Accepted.{Checked, IsAccepted, signature_of}
 use Rattle.machine.specs.Effects.{Effect as RunEffect}
 use Rattle.machine.proofs.EffectsOfRuns.{typable_takes_effect}
 use Rattle.loader.specs.CatalogueView.{CatalogueView, IsCatalogue, Entry}
+use Rattle.oplog.specs.Calls.{Call}
 use Rattle.oplog.specs.Operations.{Operation}
-use Rattle.oplog.specs.History.{History, left_by, maps_after, after, effect_at, read_at}
-use Rattle.replica.specs.StoreMeaning.{program_at, run_of, as_update, as_read, IsOperation, is_operation, AreUpdates, store_meaning}
+use Rattle.oplog.specs.declared.records.Op.TheVariants.{Run, Install}
+use Rattle.oplog.specs.History.{Effect, History, left_by, maps_after, after, effect_at, read_at}
+use Rattle.replica.specs.StoreMeaning.{program_at, run_of, as_update, as_read, IsCall, is_operation, AreUpdates, store_meaning}
 use Rattle.replica.specs.HistoryLaws.{HasRun, HasEffects}
 use Rattle.replica.proofs.Outcomes.{known_run}
-use Rattle.replica.proofs.Tested.{is_tested}
+use Rattle.replica.proofs.Tested.{call_tested}
 
 mapped : {A B : Type 0} (f : A → B) (o : Option A) (y : B) → option_map f o ≡ Some y → (x : A) × (o ≡ Some x) × (f x ≡ y)
 mapped f None y e = absurd cc
@@ -43,31 +45,32 @@ accepted_at c k p whole known =
     let there = get_or_from_slice_get c.programs k entry.0 entry.0 entry.1 in
     subst IsAccepted entry.2 (subst (λ (e : Entry). IsAccepted e.checked) there (whole.checked k entry.0 (slice_get_within c.programs k entry.0 entry.1)))
 
--- an operation whose program takes effect, on maps of the catalogue's shapes
-record Takes (c : CatalogueView) (op : Operation) (p : Checked) (maps : Maps) : Type 0 where
-  has : HasRun c op maps
-  done : run_of c op maps ≡ Some has.done
+-- a call whose program takes effect, on maps of the catalogue's shapes
+record Takes (c : CatalogueView) (call : Call) (p : Checked) (maps : Maps) : Type 0 where
+  has : HasRun c call maps
+  done : run_of c call maps ≡ Some has.done
   reads : p.mode ≡ Read → has.done.maps ≡ maps
 
 module _ (c : CatalogueView) (whole : IsCatalogue c) where
-  takes : (mode : Mode) (op : Operation) (maps : Maps) (is : IsOperation mode c op) → HasShapes c.shapes maps → Takes c op is.program maps
-  takes mode op maps is shapes =
+  takes : (mode : Mode) (call : Call) (maps : Maps) (is : IsCall mode c call) → HasShapes c.shapes maps → Takes c call is.program maps
+  takes mode call maps is shapes =
       let p = is.program in
-      let accepted = accepted_at c op.program p whole is.named in
-      let same = for_shapes c op.program p whole is.named in
+      let accepted = accepted_at c call.program p whole is.named in
+      let same = for_shapes c call.program p whole is.named in
       let t =
-      typable_takes_effect p.program (signature_of p) accepted.instructions accepted.typable maps op.argument
+      typable_takes_effect p.program (signature_of p) accepted.instructions accepted.typable maps call.argument
       (subst (λ (s : List Shape). HasShapes s maps) (sym same) shapes) is.bytes is.length_is in
       record {
         has = record { program = p; named = is.named; done = t.done; run = t.run; shapes = subst (λ (s : List Shape). HasShapes s t.done.maps) same t.shapes };
-        done = known_run c op maps p is.named ∙ t.takes;
+        done = known_run c call maps p is.named ∙ t.takes;
         reads = t.reads;
       }
 
   shapes_next : (op : Operation) (maps : Maps) → is_operation Update c op ≡ true → HasShapes c.shapes maps → HasShapes c.shapes (left_by (store_meaning.update c op maps) maps)
-  shapes_next op maps update shapes =
-      let t = takes Update op maps (is_tested Update c op update) shapes in
+  shapes_next (Run call) maps update shapes =
+      let t = takes Update call maps (call_tested Update c call update) shapes in
       subst (λ (o : Option RunEffect). HasShapes c.shapes (left_by (option_map as_update o) maps)) (sym t.done) t.has.shapes
+  shapes_next (Install new) maps update shapes = absurd cc
 
   shapes_after : (maps : Maps) (history : History) → AreUpdates c history → HasShapes c.shapes maps → HasShapes c.shapes (after store_meaning c maps history)
   shapes_after maps [] updates shapes = shapes
@@ -78,22 +81,27 @@ module _ (c : CatalogueView) (whole : IsCatalogue c) where
   shapes_at history k updates =
       shapes_after (opening_maps c.shapes) (take k history) (λ i r e. updates i r (from-take history k i r e)) (opening_shapes c.shapes whole.shapes)
 
-  updates_at : (history : History) (k : ℕ) (op : Operation) → AreUpdates c history → is_operation Update c op ≡ true
-      → (h : HasRun c op (maps_after store_meaning c history k)) × (effect_at store_meaning c history k op ≡ Some (as_update h.done))
-  updates_at history k op updates is =
-      let t = takes Update op (maps_after store_meaning c history k) (is_tested Update c op is) (shapes_at history k updates) in
+  updates_at : (history : History) (k : ℕ) (call : Call) → AreUpdates c history → is_operation Update c (Run call) ≡ true
+      → (h : HasRun c call (maps_after store_meaning c history k)) × (effect_at store_meaning c history k (Run call) ≡ Some (as_update h.done))
+  updates_at history k call updates is =
+      let t = takes Update call (maps_after store_meaning c history k) (call_tested Update c call is) (shapes_at history k updates) in
       (t.has, ap (option_map as_update) t.done)
 
-  reads_at : (history : History) (k : ℕ) (op : Operation) → AreUpdates c history → is_operation Read c op ≡ true
-      → (h : HasRun c op (maps_after store_meaning c history k)) × (read_at store_meaning c history k op ≡ Some (as_read h.done)) × (h.done.maps ≡ maps_after store_meaning c history k)
-  reads_at history k op updates is =
-      let known = is_tested Read c op is in
-      let t = takes Read op (maps_after store_meaning c history k) known (shapes_at history k updates) in
+  reads_at : (history : History) (k : ℕ) (call : Call) → AreUpdates c history → is_operation Read c (Run call) ≡ true
+      → (h : HasRun c call (maps_after store_meaning c history k)) × (read_at store_meaning c history k (Run call) ≡ Some (as_read h.done)) × (h.done.maps ≡ maps_after store_meaning c history k)
+  reads_at history k call updates is =
+      let known = call_tested Read c call is in
+      let t = takes Read call (maps_after store_meaning c history k) known (shapes_at history k updates) in
       (t.has, ap (option_map as_read) t.done, t.reads known.mode_is)
 
   pub have_effects : (history : History) → AreUpdates c history → HasEffects c history
   have_effects history updates = record {
     shapes = λ k. shapes_at history k updates;
-    updates = λ k op is. updates_at history k op updates is;
-    reads = λ k op is. reads_at history k op updates is;
+    updates = λ k call is. updates_at history k call updates is;
+    reads = λ k call is. reads_at history k call updates is;
   }
+
+  -- each update takes effect
+  pub takes_effect : (history : History) (k : ℕ) (op : Operation) → AreUpdates c history → is_operation Update c op ≡ true → (e : Effect Maps) × (effect_at store_meaning c history k op ≡ Some e)
+  takes_effect history k (Run call) updates is = let u = updates_at history k call updates is in (as_update (u.0).done, u.1)
+  takes_effect history k (Install new) updates is = absurd cc

@@ -14,7 +14,7 @@ use Rattle.oplog.specs.declared.records.Record.{Record}
 use Rattle.oplog.specs.History.{History, after, left_by}
 use Rattle.oplog.specs.Operations.{Operation}
 use Rattle.machine.specs.Effects.{effect_of}
-use Rattle.replica.specs.StoreMeaning.{run_of, as_update, store_meaning}
+use Rattle.replica.specs.StoreMeaning.{as_update, updated, store_meaning}
 use Rattle.replica.specs.Views.{RepliesView, with_outcome}
 use Rattle.replica.specs.Replaying.{IsAnswered, KeepsOutcomes}
 
@@ -164,15 +164,15 @@ keeps_one_more c maps before begin index records old mid new k r o so_far is map
     (sym (kept ∙ ap (λ (p : ℕ). with_outcome mid (p + k) o) there))
     (keeps_next c maps begin records old mid k r o so_far is (subst (λ (m : Maps). IsAnswered c r.op m o) maps_are outcome))
 
--- ---- what a run says
+-- ---- what an outcome says
 
-pub is_answered : (c : CatalogueView) (op : Operation) (maps left : Maps) (o : Outcome) → run_of c op maps ≡ Some (effect_of o.steps o.reply left) → IsAnswered c op maps o
-is_answered c op maps left o run = record {
+pub is_answered : (c : CatalogueView) (op : Operation) (maps left : Maps) (o : Outcome) → updated c op maps ≡ Some (as_update (effect_of o.steps o.reply left)) → IsAnswered c op maps o
+is_answered c op maps left o takes = record {
   done = as_update (effect_of o.steps o.reply left);
-  takes = ap (option_map as_update) run;
+  takes = takes;
   outcome = refl;
 }
 
-pub leaves : (c : CatalogueView) (op : Operation) (maps left : Maps) (o : Outcome) → run_of c op maps ≡ Some (effect_of o.steps o.reply left)
+pub leaves : (c : CatalogueView) (op : Operation) (maps left : Maps) (o : Outcome) → updated c op maps ≡ Some (as_update (effect_of o.steps o.reply left))
     → left ≡ left_by (store_meaning.update c op maps) maps
-leaves c op maps left o run = sym (ap (λ e. left_by (option_map as_update e) maps) run)
+leaves c op maps left o takes = sym (ap (λ e. left_by e maps) takes)

@@ -8,19 +8,19 @@ use Rattle.machine.specs.Runs.{Runs}
 use Rattle.machine.specs.Effects.{effect, effect_of}
 use Rattle.machine.proofs.EffectsOfRuns.{runs_are}
 use Rattle.loader.specs.CatalogueView.{CatalogueView}
-use Rattle.oplog.specs.Operations.{Operation}
+use Rattle.oplog.specs.Calls.{Call}
 use Rattle.replica.specs.StoreMeaning.{program_at, run_of}
 
--- the operation of a known program
-pub known_run : (c : CatalogueView) (op : Operation) (maps : Maps) (program : Checked) → program_at c op.program ≡ Some program → run_of c op maps ≡ effect program.program maps op.argument
-known_run c op maps program known = ap (λ (o : Option Checked). option_and_then (λ p. effect p.program maps op.argument) o) known
+-- the call of a known program
+pub known_run : (c : CatalogueView) (call : Call) (maps : Maps) (program : Checked) → program_at c call.program ≡ Some program → run_of c call maps ≡ effect program.program maps call.argument
+known_run c call maps program known = ap (λ (o : Option Checked). option_and_then (λ p. effect p.program maps call.argument) o) known
 
 -- the same, once it was run
-pub ran : (c : CatalogueView) (op : Operation) (maps left : Maps) (program : Checked) (argument : List ℕ) (n r : ℕ) → program_at c op.program ≡ Some program → argument ≡ op.argument
+pub ran : (c : CatalogueView) (call : Call) (maps left : Maps) (program : Checked) (argument : List ℕ) (n r : ℕ) → program_at c call.program ≡ Some program → argument ≡ call.argument
     → Runs program.program maps argument n r left → n ≤ length program.program
-    → run_of c op maps ≡ Some (effect_of n r left)
-ran c op maps left program argument n r known same run few =
-    known_run c op maps program known
+    → run_of c call maps ≡ Some (effect_of n r left)
+ran c call maps left program argument n r known same run few =
+    known_run c call maps program known
     ∙ ap (λ (a : List ℕ). effect program.program maps a) (sym same)
     ∙ runs_are program.program maps left argument n r run few
 

@@ -8,8 +8,10 @@ use Rattle.verifier.specs.declared.refusal.Mode.{Mode}
 use Rattle.verifier.specs.declared.refusal.Mode.TheVariants.{Update, Read}
 use Rattle.verifier.specs.Accepted.{Checked}
 use Rattle.loader.specs.CatalogueView.{CatalogueView}
+use Rattle.oplog.specs.Calls.{Call}
 use Rattle.oplog.specs.Operations.{Operation}
-use Rattle.replica.specs.StoreMeaning.{program_at, IsOperation, is_mode, takes_argument, fits, is_operation}
+use Rattle.oplog.specs.declared.records.Op.TheVariants.{Run, Install}
+use Rattle.replica.specs.StoreMeaning.{program_at, IsCall, IsOperation, is_mode, takes_argument, fits, is_call, is_operation}
 use Rattle.replica.specs.HistoryLaws.{OperationsAreTested}
 
 both : (a b : Bool) → (a && b) ≡ true → (a ≡ true) × (b ≡ true)
@@ -62,17 +64,26 @@ fitting mode argument (Some p) e =
     let rest = both (nat_eq (length argument) p.arg_len) (list_all (λ b. nat_lt b 256) argument) parts.1 in
     (p, refl, same_mode p.mode mode parts.0, equal (length argument) p.arg_len rest.0, bytes_from argument rest.1)
 
-pub is_tested : (mode : Mode) (c : CatalogueView) (op : Operation) → is_operation mode c op ≡ true → IsOperation mode c op
-is_tested mode c op e =
-    let found = fitting mode op.argument (program_at c op.program) e in
+pub call_tested : (mode : Mode) (c : CatalogueView) (call : Call) → is_call mode c call ≡ true → IsCall mode c call
+call_tested mode c call e =
+    let found = fitting mode call.argument (program_at c call.program) e in
     record { program = found.0; named = found.1; mode_is = found.2; length_is = found.3; bytes = found.4 }
 
-pub tests_true : (mode : Mode) (c : CatalogueView) (op : Operation) → IsOperation mode c op → is_operation mode c op ≡ true
-tests_true mode c op h =
-    subst (λ (o : Option Checked). fits mode op.argument o ≡ true) (sym h.named)
-    (both_are (is_mode h.program.mode mode) (takes_argument h.program op.argument)
+pub is_tested : (mode : Mode) (c : CatalogueView) (op : Operation) → is_operation mode c op ≡ true → IsOperation mode c op
+is_tested mode c (Run call) e = call_tested mode c call e
+is_tested mode c (Install new) e = absurd cc
+
+pub tests_call : (mode : Mode) (c : CatalogueView) (call : Call) → IsCall mode c call → is_call mode c call ≡ true
+tests_call mode c call h =
+    subst (λ (o : Option Checked). fits mode call.argument o ≡ true) (sym h.named)
+    (both_are (is_mode h.program.mode mode) (takes_argument h.program call.argument)
     (subst (λ (m : Mode). is_mode h.program.mode m ≡ true) h.mode_is (mode_same h.program.mode))
-    (both_are (nat_eq (length op.argument) h.program.arg_len) (list_all (λ b. nat_lt b 256) op.argument) (is_equal (length op.argument) h.program.arg_len h.length_is) (bytes_are op.argument h.bytes)))
+    (both_are (nat_eq (length call.argument) h.program.arg_len) (list_all (λ b. nat_lt b 256) call.argument) (is_equal (length call.argument) h.program.arg_len h.length_is)
+    (bytes_are call.argument h.bytes)))
+
+tests_true : (mode : Mode) (c : CatalogueView) (op : Operation) → IsOperation mode c op → is_operation mode c op ≡ true
+tests_true mode c (Run call) h = tests_call mode c call h
+tests_true mode c (Install new) h = absurd h
 
 pub are_tested : OperationsAreTested
 are_tested mode c op = (is_tested mode c op, tests_true mode c op)

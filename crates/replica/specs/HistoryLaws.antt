@@ -6,26 +6,28 @@ use Rattle.verifier.specs.declared.refusal.Mode.TheVariants.{Update, Read}
 use Rattle.verifier.specs.Accepted.{Checked}
 use Rattle.machine.specs.Effects.{IsRun, Effect as RunEffect}
 use Rattle.loader.specs.CatalogueView.{CatalogueView, IsCatalogue}
+use Rattle.oplog.specs.Calls.{Call}
 use Rattle.oplog.specs.Operations.{Operation}
+use Rattle.oplog.specs.declared.records.Op.TheVariants.{Run}
 use Rattle.oplog.specs.History.{History, maps_after, effect_at, read_at}
 use Rattle.replica.specs.StoreMeaning.{program_at, IsOperation, is_operation, as_update, as_read, AreUpdates, store_meaning}
 
--- the operation's program has a run on these maps, and leaves maps of the catalogue's shapes
-pub record HasRun (c : CatalogueView) (op : Operation) (maps : Maps) : Type 0 where
+-- the call's program has a run on these maps, and leaves maps of the catalogue's shapes
+pub record HasRun (c : CatalogueView) (call : Call) (maps : Maps) : Type 0 where
   pub program : Checked
-  pub named : program_at c op.program ≡ Some program
+  pub named : program_at c call.program ≡ Some program
   pub done : RunEffect
-  pub run : IsRun program.program maps op.argument done
+  pub run : IsRun program.program maps call.argument done
   pub shapes : HasShapes c.shapes done.maps
 
--- after every number of operations the maps have the catalogue's shapes, and what an update or a read does there is the run of its
--- program; a read leaves the maps
+-- after every number of operations the maps have the catalogue's shapes, and what the call of an update or a read does there is the run
+-- of its program; a read leaves the maps
 pub record HasEffects (c : CatalogueView) (history : History) : Type 0 where
   pub shapes : (k : ℕ) → HasShapes c.shapes (maps_after store_meaning c history k)
-  pub updates : (k : ℕ) (op : Operation) → is_operation Update c op ≡ true
-      → (h : HasRun c op (maps_after store_meaning c history k)) × (effect_at store_meaning c history k op ≡ Some (as_update h.done))
-  pub reads : (k : ℕ) (op : Operation) → is_operation Read c op ≡ true
-      → (h : HasRun c op (maps_after store_meaning c history k)) × (read_at store_meaning c history k op ≡ Some (as_read h.done)) × (h.done.maps ≡ maps_after store_meaning c history k)
+  pub updates : (k : ℕ) (call : Call) → is_operation Update c (Run call) ≡ true
+      → (h : HasRun c call (maps_after store_meaning c history k)) × (effect_at store_meaning c history k (Run call) ≡ Some (as_update h.done))
+  pub reads : (k : ℕ) (call : Call) → is_operation Read c (Run call) ≡ true
+      → (h : HasRun c call (maps_after store_meaning c history k)) × (read_at store_meaning c history k (Run call) ≡ Some (as_read h.done)) × (h.done.maps ≡ maps_after store_meaning c history k)
 
 abbrev pub HistoriesHaveEffects : Type 0
 HistoriesHaveEffects = (c : CatalogueView) (history : History) → IsCatalogue c → AreUpdates c history → HasEffects c history

@@ -1,4 +1,4 @@
--- What the operations of a store mean: each is a run of its program on the maps.
+-- What the operations of a store mean: a call is a run of its program on the maps.
 use Rattle.std.specs.Prelude.{◌≡◌, ℕ, Bool, true, false, ◌&&◌, nat_eq, nat_lt, List, length, Option, Some, None, slice_get, option_map, option_and_then}
 use Rattle.std.specs.List.{list_all}
 use Rattle.maps.specs.Maps.{Maps, AreBytes}
@@ -9,7 +9,9 @@ use Rattle.verifier.specs.Accepted.{Checked}
 use Rattle.machine.specs.Effects.{effect, Effect as RunEffect}
 use Rattle.machine.specs.declared.running.Outcome.{Outcome}
 use Rattle.loader.specs.CatalogueView.{CatalogueView}
+use Rattle.oplog.specs.Calls.{Call}
 use Rattle.oplog.specs.Operations.{Operation}
+use Rattle.oplog.specs.declared.records.Op.TheVariants.{Run, Install}
 use Rattle.oplog.specs.declared.records.Record.{Record}
 use Rattle.oplog.specs.History.{Effect, ReadEffect, Meaning, History}
 
@@ -17,9 +19,9 @@ use Rattle.oplog.specs.History.{Effect, ReadEffect, Meaning, History}
 abbrev pub program_at : CatalogueView → ℕ → Option Checked
 program_at c k = option_map (λ e. e.checked) (slice_get c.programs k)
 
--- the run of an operation's program on its argument, if the catalogue has the program and it runs
-abbrev pub run_of : CatalogueView → Operation → Maps → Option RunEffect
-run_of c op maps = option_and_then (λ p. effect p.program maps op.argument) (program_at c op.program)
+-- the run of a call's program on its argument, if the catalogue has the program and it runs
+abbrev pub run_of : CatalogueView → Call → Maps → Option RunEffect
+run_of c call maps = option_and_then (λ p. effect p.program maps call.argument) (program_at c call.program)
 
 -- a run as an update, and as a read
 abbrev pub as_update : RunEffect → Effect Maps
@@ -34,13 +36,18 @@ outcome_of e = record { reply = e.reply; steps = e.steps }
 
 -- ---- which operations there are
 
--- the operation names a program of the catalogue, of that mode, and its argument is bytes, as many as the program's has
-pub record IsOperation (mode : Mode) (c : CatalogueView) (op : Operation) : Type 0 where
+-- the call names a program of the catalogue, of that mode, and its argument is bytes, as many as the program's has
+pub record IsCall (mode : Mode) (c : CatalogueView) (call : Call) : Type 0 where
   pub program : Checked
-  pub named : program_at c op.program ≡ Some program
+  pub named : program_at c call.program ≡ Some program
   pub mode_is : program.mode ≡ mode
-  pub length_is : length op.argument ≡ program.arg_len
-  pub bytes : AreBytes op.argument
+  pub length_is : length call.argument ≡ program.arg_len
+  pub bytes : AreBytes call.argument
+
+-- the operation runs such a call
+abbrev pub IsOperation : Mode → CatalogueView → Operation → Type 0
+IsOperation mode c (Run call) = IsCall mode c call
+IsOperation mode c (Install new) = ⊥
 
 -- the same as a test
 abbrev pub is_mode : Mode → Mode → Bool
@@ -56,17 +63,30 @@ abbrev pub fits : Mode → List ℕ → Option Checked → Bool
 fits mode argument None = false
 fits mode argument (Some p) = is_mode p.mode mode && takes_argument p argument
 
+abbrev pub is_call : Mode → CatalogueView → Call → Bool
+is_call mode c call = fits mode call.argument (program_at c call.program)
+
 abbrev pub is_operation : Mode → CatalogueView → Operation → Bool
-is_operation mode c op = fits mode op.argument (program_at c op.program)
+is_operation mode c (Run call) = is_call mode c call
+is_operation mode c (Install new) = false
 
 -- ---- what they mean
+
+-- what an operation does as an update, and as a read: a call is the run of its program, and nothing is installed
+abbrev pub updated : CatalogueView → Operation → Maps → Option (Effect Maps)
+updated c (Run call) maps = option_map as_update (run_of c call maps)
+updated c (Install new) maps = None
+
+abbrev pub read_of : CatalogueView → Operation → Maps → Option ReadEffect
+read_of c (Run call) maps = option_map as_read (run_of c call maps)
+read_of c (Install new) maps = None
 
 -- a store opens with the opening maps of its shapes; its updates are runs of update programs, its reads runs of read programs
 abbrev pub store_meaning : Meaning CatalogueView Maps
 store_meaning = record {
   opening = λ c. opening_maps c.shapes;
-  update = λ c op maps. option_map as_update (run_of c op maps);
-  read = λ c op maps. option_map as_read (run_of c op maps);
+  update = updated;
+  read = read_of;
   is_update = is_operation Update;
   is_read = is_operation Read;
 }

@@ -10,7 +10,7 @@ ghost use Rattle.oplog.specs.History.{after};
 ghost use Rattle.replica.specs.StoreMeaning.{store_meaning, AreUpdates};
 ghost use Rattle.replica.specs.Replaying.{KeepsOutcomes};
 
-use crate::operations::run_each;
+use crate::operations::perform_each;
 use crate::replying::Replies;
 use loader::Catalogue;
 use machine::{Outcome, run};
@@ -85,7 +85,7 @@ impl Replica {
         ensures hand { hand.new ≡ record hand.old { begin = self.new.tail; records = [] } }
         ensures replies { KeepsOutcomes catalogue.now self.old.maps self.old.tail hand.old.records replies.old replies.new }
     {
-        run_each(catalogue, &mut self.maps, hand, replies);
+        perform_each(catalogue, &mut self.maps, hand, replies);
         self.tail += hand.len() as u64;
         hand.clear(self.tail);
     }

@@ -1,11 +1,11 @@
--- So far the first k records were run.
+-- So far the first k records were performed.
 use Rattle.std.proofs.Common.{◌≡◌, take}
 use Rattle.maps.specs.Maps.{HasShapes}
 use Rattle.maps.specs.MapSets.{maps_of}
 use Rattle.oplog.specs.History.{after}
 use Rattle.replica.specs.StoreMeaning.{store_meaning}
 use Rattle.replica.specs.Replaying.{KeepsOutcomes}
-use Rattle.replica.proofs.operations.run_each.Given as goal
+use Rattle.replica.proofs.operations.perform_each.Given as goal
 
 abbrev pub invariant-loop-k : goal.invariant-loop-k
 invariant-loop-k l = record {
