@@ -66,9 +66,9 @@ module _ {C M V : Type 0} (E : Meaning C M) (view : V → StoreValue M) (IsSized
   )
 
   pub desk_picked : DeskPicked E view IsSized
-  desk_picked deed sessions k p a v w x y n' at isx isy keeps low mine step noted is =
-      let e = desk_picks deed sessions k w y is isy in
-      picked (desk_store E) view (desk_notes view) IsSized _ _ (put_note (desk_noting view deed) sessions (view w)) (λ _. n') k p w e.0 (ap (λ g. g k.note) e.1 ∙ noted) (seen_desk_may_put E view IsSized k p a v w x y n' at isx isy keeps low mine step)
+  desk_picked deed sessions k p v w x y n' h noted is =
+      let e = desk_picks deed sessions k w y is h.becomes in
+      picked (desk_store E) view (desk_notes view) IsSized _ _ (put_note (desk_noting view deed) sessions (view w)) (λ _. n') k p w e.0 (ap (λ g. g k.note) e.1 ∙ noted) (seen_desk_may_put E view IsSized k p v w x y n' h)
 
   pub batch_noted : BatchNoted E view IsSized
   batch_noted deed known c n x y k s =

@@ -322,21 +322,21 @@ module _ {C M : Type 0} (E : Meaning C M) where
 
 module _ {C M V : Type 0} (E : Meaning C M) (view : V → StoreValue M) (IsSized : Config → C → V → Type 0) where
   pub seen_desk_may_put : SeenDeskMayPut E view IsSized
-  seen_desk_may_put k p a v w x y n' held isx isy keeps low mine step = (
+  seen_desk_may_put k p v w x y n' h = (
     v,
-    a,
-    held,
+    h.index,
+    h.held,
     λ line notes may.
         let grown = may.0.0 in
-        let own : IsSessionOf line.config x.node k.session = subst (λ z. IsSessionOf z x.node k.session) grown.config mine in
-        let was = may.3 a (p, v) held in
-        let agrees = subst (λ z. AgreesWith E p line notes z) isx was.0 in
-        let t = desk_puts E k.progress line notes k.session k.note n' x y low grown may.2 may.1 own agrees.2 step in
-        let node = same_node E k.progress k.session k.note n' x y step in (
-          subst (λ z. Moves E p k.session z line k.note line n') (sym isx) (refl, inr (own, t.0)),
+        let own : IsSessionOf line.config x.node k.session = subst (λ z. IsSessionOf z x.node k.session) grown.config h.own in
+        let was = may.3 h.index (p, v) h.held in
+        let agrees = subst (λ z. AgreesWith E p line notes z) h.was was.0 in
+        let t = desk_puts E k.progress line notes k.session k.note n' x y h.completed grown may.2 may.1 own agrees.2 h.step in
+        let node = same_node E k.progress k.session k.note n' x y h.step in (
+          subst (λ z. Moves E p k.session z line k.note line n') (sym h.was) (refl, inr (own, t.0)),
           (
-            subst (λ z. AgreesWith E p line (set notes k.session n') z) (sym isy) (subst (λ z. z < line.config.nodes) node agrees.0, agrees.1 ∙ ap (λ z. desk_place line.config z) node, t.1),
-            keeps line.config line.catalogue was.1,
+            subst (λ z. AgreesWith E p line (set notes k.session n') z) (sym h.becomes) (subst (λ z. z < line.config.nodes) node agrees.0, agrees.1 ∙ ap (λ z. desk_place line.config z) node, t.1),
+            h.sizes line.config line.catalogue was.1,
           ),
         ),
   )

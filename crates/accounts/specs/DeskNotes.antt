@@ -1,12 +1,11 @@
 -- What a session notes when it puts its desk back, by what it did there: read off the desk that it took, the one that it puts back, and
 -- what it knows.
-use Rattle.std.specs.Prelude.{◌≡◌, ℕ, ◌-◌, ◌≤◌, List, [], ◌∷◌, map, take, length, Option, Some, None, slice_get}
+use Rattle.std.specs.Prelude.{◌≡◌, ℕ, ◌-◌, List, [], ◌∷◌, map, take, length, Option, Some, None, slice_get}
 use Rattle.std.specs.Option.{option_and_then, option_map}
 use Rattle.ownlock.specs.declared.known.Known.{Known}
-use Rattle.ownlock.specs.Seats.{At}
 use Rattle.oplog.specs.declared.configuration.Config.{Config}
 use Rattle.oplog.specs.Operations.{Operation}
-use Rattle.oplog.specs.Sessions.{session, IsSessionOf}
+use Rattle.oplog.specs.Sessions.{session}
 use Rattle.oplog.specs.History.{Meaning, History}
 use Rattle.combiner.specs.Desks.{DeskView, batch_of, posted, collected, answer_in}
 use Rattle.combiner.specs.declared.slots.Stage.{Stage}
@@ -17,10 +16,9 @@ use Rattle.accounts.specs.declared.sessions.Pending.{Pending}
 use Rattle.accounts.specs.declared.sessions.SessionNote.{SessionNote}
 use Rattle.accounts.specs.Values.{LogValue, StoreValue, TheLog, TheReplica, TheDesk}
 use Rattle.accounts.specs.Moves.{answered_with, desk_rules, placed_from, record_of, unplaced}
-use Rattle.accounts.specs.DeskSteps.{DeskStep}
 use Rattle.accounts.specs.LogSteps.{LogStep}
 use Rattle.accounts.specs.StoreRules.{Noting, MayAppend}
-use Rattle.accounts.specs.Putting.{KeepsSizes}
+use Rattle.accounts.specs.Putting.{HoldsDesk}
 use Rattle.accounts.specs.Picks.{MayPutPicked, put_progress, put_note}
 
 -- what a session did at its desk
@@ -95,9 +93,8 @@ module _ {C M V : Type 0} (E : Meaning C M) (view : V → StoreValue M) (IsSized
   -- with desks: a desk after the step that the session did there may be put back, where that step is noted so
   abbrev pub DeskPicked : Type 0
   DeskPicked =
-      (deed : DeskDeed) (sessions : List (Known (Progress C) SessionNote V)) (k : Known (Progress C) SessionNote V) (p a : ℕ) (v w : V) (x y : DeskView) (n' : SessionNote) → At a (p, v) k.held → view v ≡ TheDesk x → view w ≡ TheDesk y → KeepsSizes IsSized v w
-      → k.progress.completed ≤ length k.progress.history → IsSessionOf k.progress.config x.node k.session → DeskStep E k.progress k.session k.note x n' y
-      → desk_note view deed k y k.note ≡ n' → MayPutPicked E (desk_rules E) (desk_noting view deed) view IsSized sessions k p w
+      (deed : DeskDeed) (sessions : List (Known (Progress C) SessionNote V)) (k : Known (Progress C) SessionNote V) (p : ℕ) (v w : V) (x y : DeskView) (n' : SessionNote)
+      → HoldsDesk E view IsSized k p v w x y n' → desk_note view deed k y k.note ≡ n' → MayPutPicked E (desk_rules E) (desk_noting view deed) view IsSized sessions k p w
 
   -- what such a pick comes to
   abbrev pub DeskIs : Type 0

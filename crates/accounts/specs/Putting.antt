@@ -107,8 +107,27 @@ module _ {C M V : Type 0} (E : Meaning C M) (R : Rules (Progress C) SessionNote 
       → MayPut the_rules (λ l. l) (λ n. n) k p w
 
 module _ {C M V : Type 0} (E : Meaning C M) (view : V → StoreValue M) (IsSized : Config → C → V → Type 0) where
+  -- the session k holds the desk of its node, which it took from the place p as the value v, and has done a step there, after which the value is w
+  -- and the session notes n'
+  pub record HoldsDesk (k : Known (Progress C) SessionNote V) (p : ℕ) (v w : V) (x y : DeskView) (n' : SessionNote) : Type 0 where
+    -- so many of the values that the session holds stand before the desk
+    pub index : ℕ
+    -- it holds the desk
+    pub held : At index (p, v) k.held
+    -- the desk as it was taken
+    pub was : view v ≡ TheDesk x
+    -- the desk as it is after the step
+    pub becomes : view w ≡ TheDesk y
+    -- which has the sizes that it had
+    pub sizes : KeepsSizes IsSized v w
+    -- so much as the session knows to be completed is in the history that it knows
+    pub completed : k.progress.completed ≤ length k.progress.history
+    -- the desk is that of the session's own node
+    pub own : IsSessionOf k.progress.config x.node k.session
+    -- the step
+    pub step : DeskStep E k.progress k.session k.note x n' y
+
   -- with desks: a desk after one of its steps may be put back
   abbrev pub SeenDeskMayPut : Type 0
   SeenDeskMayPut =
-      (k : Known (Progress C) SessionNote V) (p a : ℕ) (v w : V) (x y : DeskView) (n' : SessionNote) → At a (p, v) k.held → view v ≡ TheDesk x → view w ≡ TheDesk y → KeepsSizes IsSized v w → k.progress.completed ≤ length k.progress.history
-      → IsSessionOf k.progress.config x.node k.session → DeskStep E k.progress k.session k.note x n' y → MayPut (the_rules E (desk_rules E) view IsSized) (λ l. l) (λ _. n') k p w
+      (k : Known (Progress C) SessionNote V) (p : ℕ) (v w : V) (x y : DeskView) (n' : SessionNote) → HoldsDesk k p v w x y n' → MayPut (the_rules E (desk_rules E) view IsSized) (λ l. l) (λ _. n') k p w

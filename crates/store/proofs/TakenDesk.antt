@@ -18,7 +18,7 @@ use Rattle.accounts.specs.Accounts.{Extends}
 use Rattle.accounts.specs.Agreement.{desk_place}
 use Rattle.accounts.specs.DeskNotes.{DeskDeed, desk_note, desk_noting}
 use Rattle.accounts.specs.Picks.{put_progress, put_note}
-use Rattle.accounts.specs.Putting.{KeepsSizes}
+use Rattle.accounts.specs.Putting.{HoldsDesk, KeepsSizes}
 use Rattle.accounts.proofs.DeskNotes.{desk_picked, desk_picks}
 use Rattle.accounts.proofs.Picked.{puts_account, same_picked, same_picks}
 use Rattle.accounts.proofs.Putting.{may_take_desk, takes_desk}
@@ -137,8 +137,11 @@ module _ (caller : Caller) (k t : K) (p : ℕ) (v : Value) (b : TookDesk caller 
     same_slots : length y.slots ≡ length b.desk.slots
     same_slots = (desk_puts store_meaning t.progress t.progress b.here.notes t.session t.note n b.desk y b.here.accounts.completed (store_laws.extends_self t.progress) b.here.accounts b.here.here own b.here.agrees step).1.slots ∙ sym b.here.agrees.slots
 
+    holds : HoldsDesk store_meaning view_of IsSized t p v w b.desk y n
+    holds = record { index = 0; held = at_desk; was = b.seen; becomes = isw; sizes = keeps_desk v w b.desk y b.seen isw same_slots; completed = b.here.accounts.completed; own = own; step = step }
+
     pub may_put_desk : DeskMayBePut deed sessions t p w
-    may_put_desk = desk_picked store_meaning view_of IsSized deed sessions t p 0 v w b.desk y n at_desk b.seen isw (keeps_desk v w b.desk y b.seen isw same_slots) b.here.accounts.completed own step noted is
+    may_put_desk = desk_picked store_meaning view_of IsSized deed sessions t p v w b.desk y n holds noted is
 
     pub back_desk : (l : L) (ns : List SessionNote) → Possible store_rules t l ns → BackDesk k (desk_back deed sessions t p w l) n
     back_desk l ns may =

@@ -2,6 +2,7 @@
 use Rattle.std.specs.Prelude.{◌≡◌, ℕ, suc, ◌+◌, ◌<◌, ◌≤◌, ◌^◌, List, [], map, length, Some, None, slice_get, true, false}
 use Rattle.ownlock.specs.Seats.{At}
 use Rattle.oplog.specs.declared.configuration.TheConstants.{MAX_LIMIT}
+use Rattle.oplog.specs.Operations.{Operation}
 use Rattle.oplog.specs.Sessions.{session}
 use Rattle.combiner.specs.Desks.{DeskView, BatchView, batch_of, claimed, collected, has_combiner, has_request}
 use Rattle.combiner.specs.declared.slots.Reply.{Reply}
@@ -19,6 +20,7 @@ use Rattle.accounts.specs.Moves.{answered_with, record_of, unplaced}
 use Rattle.accounts.specs.Told.{Tells}
 use Rattle.store.specs.declared.desks.Turn.{Turn}
 use Rattle.store.specs.declared.desks.Turn.TheVariants.{Collects, Combines, Waits}
+use Rattle.store.specs.Sessions.{request_of}
 use Rattle.store.specs.Standing.{SessionKnown}
 
 -- the slot of this desk is the session's own, and the desk agrees with some notes, of which the session's is one
@@ -51,6 +53,10 @@ pub record IsReady (k : SessionKnown) (b : BatchView) (kept : RepliesView) : Typ
 -- the session may put the desk back as y, with the note n
 abbrev pub Steps : SessionKnown → DeskView → SessionNote → DeskView → Type 0
 Steps k x n y = DeskStep store_meaning k.progress k.session k.note x n y
+
+-- which it does when it posts the operation, and notes that it waits for the answer
+abbrev pub PostSteps : SessionKnown → Operation → DeskView → DeskView → Type 0
+PostSteps k op x y = Steps k x (record k.note { pending = Some (request_of k.progress op) }) y
 
 -- what a session did that looked for its answer: it collected the one that waits; else it claimed all posted requests, where nobody
 -- combines, and the batch has them; else nothing

@@ -11,5 +11,6 @@ pub mod Lending
 pub mod Places
 pub mod Combining
 pub mod Requests
+pub mod Asking
 -- Whole calls as lists of steps.
 pub mod Whole

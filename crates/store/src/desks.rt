@@ -7,8 +7,7 @@ ghost use Rattle.replica.specs.StoreMeaning.{store_meaning};
 ghost use Rattle.accounts.specs.Accounts.{IsAllowed};
 ghost use Rattle.accounts.specs.declared.sessions.Pending.{Pending};
 ghost use Rattle.node.specs.Answering.{answered_batch};
-ghost use Rattle.store.specs.AtDesk.{IsAt, IsClaim, IsReady, HasAsked, IsTurn, TurnSteps, KeepsBatch, Steps};
-ghost use Rattle.store.specs.Sessions.{request_of};
+ghost use Rattle.store.specs.AtDesk.{IsAt, IsClaim, IsReady, HasAsked, IsTurn, PostSteps, TurnSteps, KeepsBatch, Steps};
 ghost use Rattle.store.specs.Standing.{SessionKnown};
 
 use combiner::{Batch, Desk, Reply};
@@ -31,8 +30,7 @@ pub enum Turn {
 pub fn post(desk: &mut Desk, slot: usize, op: Op)
     requires own { (k : SessionKnown) × IsAt slot k desk.old × (k.note.pending ≡ None) × IsAllowed store_meaning k.progress.catalogue op }
     ensures posted { posted slot op desk.old ≡ Some desk.new }
-    ensures step { (k : SessionKnown) → IsAt slot k desk.old → IsAllowed store_meaning k.progress.catalogue op
-        → Steps k desk.old (record k.note { pending = Some (request_of k.progress op) }) desk.new }
+    ensures step { (k : SessionKnown) → IsAt slot k desk.old → IsAllowed store_meaning k.progress.catalogue op → PostSteps k op desk.old desk.new }
 {
     match desk.post(slot, op) {
         Ok(()) => {}

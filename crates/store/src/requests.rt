@@ -2,14 +2,9 @@
 
 ghost use Rattle.std.specs.Prelude.{◌≡◌, None, Some, true, Err, IsOk};
 ghost use Rattle.verifier.specs.declared.refusal.Mode.TheVariants.{Update};
-ghost use Rattle.ownlock.specs.Seats.{IsSession};
-ghost use Rattle.accounts.specs.declared.sessions.Pending.{Pending};
 ghost use Rattle.replica.specs.StoreMeaning.{is_operation};
 ghost use Rattle.replica.specs.declared.refusals.StoreRefused.{StoreRefused as TheRefusal};
-ghost use Rattle.store.specs.AtDesk.{HasAsked};
-ghost use Rattle.replica.specs.Refusals.{early_refusal};
-ghost use Rattle.store.specs.Requests.{HasPosted, HasTurned, HasCompleted};
-ghost use Rattle.store.specs.Standing.{SessionKnown, IsFree, IsOnShelf};
+ghost use Rattle.store.specs.Asking.{AwaitsNothing, AwaitsAnswer, SessionPosts, SessionTurns, SessionCompletes, update_of, update_refusal};
 
 use crate::combining::combine;
 use crate::desks;
@@ -28,11 +23,10 @@ use verifier::Mode;
 // Posts an operation at the desk of the caller's node.
 fn post<R: Wait>(rt: &R, shared: Shared<'_>, seat: &mut Seat<Value>, caller: Caller, op: Op)
     requires own { seat.old.shelf ≡ shared.shelf.now.id }
-    requires idle { (k : SessionKnown) × IsSession seat.old k × IsFree caller k × (k.note.pending ≡ None)
-        × IsOnShelf shared.shelf.now.places shared.nodes shared.catalogue.now k }
+    requires idle { AwaitsNothing seat.old caller shared }
     requires update { is_operation Update shared.catalogue.now op ≡ true }
     ensures same { seat.new.shelf ≡ seat.old.shelf }
-    ensures posted { (k : SessionKnown) → IsSession seat.old k → (after : SessionKnown) × IsSession seat.new after × HasPosted k after op }
+    ensures posted { SessionPosts seat.old seat.new op }
 {
     let mut held = shared.shelf.take(rt, seat, 1 + shared.nodes + caller.node);
     desks::post(held.value.desk_mut(), caller.slot, op);
@@ -48,14 +42,10 @@ pub(crate) fn post_only<R: Wait>(
     asked: Question<'_>,
 ) -> Result<(), StoreRefused>
     requires own { seat.old.shelf ≡ shared.shelf.now.id }
-    requires idle { (k : SessionKnown) × IsSession seat.old k × IsFree caller k × (k.note.pending ≡ None)
-        × IsOnShelf shared.shelf.now.places shared.nodes shared.catalogue.now k }
+    requires idle { AwaitsNothing seat.old caller shared }
     ensures same { seat.new.shelf ≡ seat.old.shelf }
-    ensures refused { (r : TheRefusal) → early_refusal shared.entry.catalogue.now Update asked.entry.program asked.entry.argument.now ≡ Some r
-        → (result ≡ Err r) × (seat.new ≡ seat.old) }
-    ensures posted { early_refusal shared.entry.catalogue.now Update asked.entry.program asked.entry.argument.now ≡ None → IsOk result
-        × ((k : SessionKnown) → IsSession seat.old k → (after : SessionKnown) × IsSession seat.new after
-        × HasPosted k after (record { program = asked.entry.program; argument = asked.entry.argument.now })) }
+    ensures refused { (r : TheRefusal) → update_refusal shared.entry.catalogue.now asked.entry ≡ Some r → (result ≡ Err r) × (seat.new ≡ seat.old) }
+    ensures posted { update_refusal shared.entry.catalogue.now asked.entry ≡ None → IsOk result × SessionPosts seat.old seat.new (update_of asked.entry) }
 {
     let Question { program, argument } = asked;
     find_program_of(shared.catalogue, Mode::Update, program, argument)?;
@@ -73,11 +63,9 @@ fn turn<R: Wait>(
     batch: &mut Batch,
 ) -> Turn
     requires own { seat.old.shelf ≡ shared.shelf.now.id }
-    requires asked { (k : SessionKnown) × (o : Pending) × IsSession seat.old k × IsFree caller k × HasAsked k o
-        × IsOnShelf shared.shelf.now.places shared.nodes shared.catalogue.now k }
+    requires asked { AwaitsAnswer seat.old caller shared }
     ensures same { seat.new.shelf ≡ seat.old.shelf }
-    ensures turned { (k : SessionKnown) (o : Pending) → IsSession seat.old k → HasAsked k o → (after : SessionKnown) × IsSession seat.new after
-        × HasTurned k after o batch.new result }
+    ensures turned { SessionTurns seat.old seat.new batch.new result }
 {
     let mut held = shared.shelf.take(rt, seat, 1 + shared.nodes + caller.node);
     let turn = desks::look(held.value.desk_mut(), caller.slot, batch);
@@ -95,11 +83,9 @@ pub(crate) fn complete<R: Wait>(
     batch: &mut Batch,
 ) -> Reply
     requires own { seat.old.shelf ≡ shared.shelf.now.id }
-    requires asked { (k : SessionKnown) × (o : Pending) × IsSession seat.old k × IsFree caller k × HasAsked k o
-        × IsOnShelf shared.shelf.now.places shared.nodes shared.catalogue.now k }
+    requires asked { AwaitsAnswer seat.old caller shared }
     ensures same { seat.new.shelf ≡ seat.old.shelf }
-    ensures completed { (k : SessionKnown) (o : Pending) → IsSession seat.old k → HasAsked k o → (after : SessionKnown) × IsSession seat.new after
-        × HasCompleted k after o result }
+    ensures completed { SessionCompletes seat.old seat.new result }
 {
     let backoff = Backoff::new();
     for _ in rt.forever() {
