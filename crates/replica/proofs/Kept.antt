@@ -1,6 +1,6 @@
 -- Outcomes that are kept.
 use Rattle.std.proofs.Common.{◌≡◌, ℕ, zero, suc, ◌+◌, ◌-◌, ◌<◌, ◌≤◌, Bool, true, false, List, [], ◌∷◌, length, take, set, Option, Some, slice_get, refl, sym, ap, ◌∙◌, arith, add-one, subst, ◌⊎◌, inl, inr}
-use Rattle.std.specs.Prelude.{nat_le, if◌then◌else◌, option_map}
+use Rattle.std.specs.Prelude.{nat_le, if◌then◌else◌}
 use Rattle.std.proofs.lemmas.Bool.{le-leb}
 use Rattle.std.proofs.lemmas.Bool.Decides.{leb_tells}
 use Rattle.std.proofs.lemmas.List.{length-set, length-take-le}
