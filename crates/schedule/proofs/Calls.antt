@@ -5,7 +5,9 @@ use Rattle.std.proofs.lemmas.Option.{same_Some}
 use Rattle.std.proofs.lemmas.Bool.{cases_eq, and_parts, leb-true}
 use Rattle.verifier.specs.declared.refusal.Mode.{Mode}
 use Rattle.verifier.specs.declared.refusal.Mode.TheVariants.{Update, Read}
+use Rattle.oplog.specs.Calls.{Call as ProgramCall}
 use Rattle.oplog.specs.Operations.{Operation}
+use Rattle.oplog.specs.declared.records.Op.TheVariants.{Run}
 use Rattle.oplog.specs.History.{History, ReadEffect, read_reply_at}
 use Rattle.oplog.specs.Sessions.{session}
 use Rattle.combiner.specs.declared.slots.Reply.{Reply}
@@ -228,47 +230,47 @@ keeps_collect m w h positions t n s node p at_n taken x =
     x)) in
     subst (λ z. Kept m w h positions t n z) d.2 (subst (λ z. Kept m w h positions t n (with_call_or_back (Back (session_at node s) (Updated reply)) w.log (record node { desk = z }))) was.3 made)
 
-pub keeps_read_begin : (m : Opening) (w : WorldView) (h : History) (positions : Positions) (t : Trace) (n s : ℕ) (op : Operation) (node : NodeView) (p : Part)
-    → slice_get w.nodes n ≡ Some node → read_begin m s op w.log node ≡ Some p → Stands m w h positions t → Kept m w h positions t n p
-keeps_read_begin m w h positions t n s op node p at_n taken x =
+pub keeps_read_begin : (m : Opening) (w : WorldView) (h : History) (positions : Positions) (t : Trace) (n s : ℕ) (call : ProgramCall) (node : NodeView) (p : Part)
+    → slice_get w.nodes n ≡ Some node → read_begin m s call w.log node ≡ Some p → Stands m w h positions t → Kept m w h positions t n p
+keeps_read_begin m w h positions t n s call node p at_n taken x =
     let o = x.nodes n node at_n in
     let e = session_is m n node s o.desk in
-    let c = cond_gives (is_idle node s && is_operation Read m.catalogue op) _ p taken in
-    let tests = and_parts (is_idle node s) (is_operation Read m.catalogue op) c.0 in
+    let c = cond_gives (is_idle node s && is_operation Read m.catalogue (Run call)) _ p taken in
+    let tests = and_parts (is_idle node s) (is_operation Read m.catalogue (Run call)) c.0 in
     let idle = and_parts (is_free (slice_get node.desk.slots s)) (no_read (slice_get node.reads s)) tests.0 in
     let free = free_is (slice_get node.desk.slots s) idle.0 in
     let no_begun = no_read_is (slice_get node.reads s) idle.1 in
-    let begun : BegunRead = record { op = op; seen = w.log.done } in
+    let begun : BegunRead = record { call = call; seen = w.log.done } in
     let old = stage_at m w.log.done h positions t n s node free.0 Empty None o free.1 no_begun free.2 in
-    let made : Kept m w h positions t n (with_call_or_back (Call (session_at node s) Read op) w.log (with_read node s (Some begun))) =
-    same_history m (record { log = w.log; nodes = slice_set w.nodes n (with_read node s (Some begun)) }) h positions (t ++ Call (session_at node s) Read op ∷ [])
-    (subst (λ z. Stands m (record { log = w.log; nodes = slice_set w.nodes n (with_read node s (Some begun)) }) h positions (t ++ Call z Read op ∷ [])) (sym e)
-    (seat_event m w h positions t n s node node.desk (slice_set node.reads s (Some begun)) (Call (session m.config n s) Read op) at_n (slot_in m n s node free.0 o.desk free.1) refl old.0 (omega arith)
+    let made : Kept m w h positions t n (with_call_or_back (Call (session_at node s) Read (Run call)) w.log (with_read node s (Some begun))) =
+    same_history m (record { log = w.log; nodes = slice_set w.nodes n (with_read node s (Some begun)) }) h positions (t ++ Call (session_at node s) Read (Run call) ∷ [])
+    (subst (λ z. Stands m (record { log = w.log; nodes = slice_set w.nodes n (with_read node s (Some begun)) }) h positions (t ++ Call z Read (Run call) ∷ [])) (sym e)
+    (seat_event m w h positions t n s node node.desk (slice_set node.reads s (Some begun)) (Call (session m.config n s) Read (Run call)) at_n (slot_in m n s node free.0 o.desk free.1) refl old.0 (omega arith)
     (read_put m n node s (Some begun) o.desk) (others_read node s (Some begun))
     (λ z read there again.
     let is : free.0 ≡ z = same_Some free.0 z (sym free.1 ∙ there) in
     let same : Some begun ≡ read = same_Some (Some begun) read (sym (set_same node.reads s None (Some begun) no_begun) ∙ again) in
-    let here : StageStands m w.log.done h positions (t ++ Call (session m.config n s) Read op ∷ []) (session m.config n s) node.batch (free.0).count Empty (Some begun) = (
+    let here : StageStands m w.log.done h positions (t ++ Call (session m.config n s) Read (Run call) ∷ []) (session m.config n s) node.batch (free.0).count Empty (Some begun) = (
       length t,
       record {
-        is_open = open_new t (session m.config n s) Read op;
+        is_open = open_new t (session m.config n s) Read (Run call);
         may = tests.1;
         has = λ i g. let l = (in_trace x.explains i (length t) g).1 in absurd (omega arith);
         counts = old.1 ∙ (let z : (free.0).count ≡ (free.0).count + 0 = omega arith in z);
       },
       omega arith,
-      λ k before. let b = stamp_less m.config.limit t (Call (session m.config n s) Read op) (omega arith) before in let l = x.stamps b.0 b.1 b.2 b.4 in let e = b.5 in omega arith,
+      λ k before. let b = stamp_less m.config.limit t (Call (session m.config n s) Read (Run call)) (omega arith) before in let l = x.stamps b.0 b.1 b.2 b.4 in let e = b.5 in omega arith,
     ) in
-    subst (λ v. StageStands m w.log.done h positions (t ++ Call (session m.config n s) Read op ∷ []) (session m.config n s) node.batch v.count v.stage read) is
-    (subst (λ v. StageStands m w.log.done h positions (t ++ Call (session m.config n s) Read op ∷ []) (session m.config n s) node.batch (free.0).count v read) (sym free.2)
-    (subst (λ v. StageStands m w.log.done h positions (t ++ Call (session m.config n s) Read op ∷ []) (session m.config n s) node.batch (free.0).count Empty v) same here)))
+    subst (λ v. StageStands m w.log.done h positions (t ++ Call (session m.config n s) Read (Run call) ∷ []) (session m.config n s) node.batch v.count v.stage read) is
+    (subst (λ v. StageStands m w.log.done h positions (t ++ Call (session m.config n s) Read (Run call) ∷ []) (session m.config n s) node.batch (free.0).count v read) (sym free.2)
+    (subst (λ v. StageStands m w.log.done h positions (t ++ Call (session m.config n s) Read (Run call) ∷ []) (session m.config n s) node.batch (free.0).count Empty v) same here)))
     x)) in
     subst (λ z. Kept m w h positions t n z) (same_Some _ p c.1) made
 
 -- a read that was begun, at a slot that has no request
 read_waits : (m : Opening) (done : ℕ) (h : History) (positions : Positions) (t : Trace) (x : ℕ) (batch : NodeBatch) (count : ℕ) (st : Stage) (read : BegunRead)
     → StageStands m done h positions t x batch count st (Some read)
-    → (st ≡ Empty) × ((c : ℕ) × OpenAt m h positions t x count Read read.op None c × (read.seen ≤ done) × ((s : ℕ) → StampBefore m.config.limit t c s → s ≤ read.seen))
+    → (st ≡ Empty) × ((c : ℕ) × OpenAt m h positions t x count Read (Run read.call) None c × (read.seen ≤ done) × ((s : ℕ) → StampBefore m.config.limit t c s → s ≤ read.seen))
 read_waits m done h positions t x batch count Empty read p = (refl, p)
 read_waits m done h positions t x batch count (Posted op) read p = absurd p
 read_waits m done h positions t x batch count Claimed read p = absurd p
@@ -286,23 +288,23 @@ keeps_read_answer m w h positions t n s node p at_n taken x =
     let tests = and_parts (nat_le read.seen node.replica.tail) (nat_le node.replica.tail w.log.done) c.0 in
     let seen = leb-true read.seen node.replica.tail tests.0 in
     let done = leb-true node.replica.tail w.log.done tests.1 in
-    let d = map_gives (λ (f : ReadEffect). with_call_or_back (Back (session_at node s) (ReadBack (record { point = node.replica.tail; reply = f.reply }))) w.log (with_read node s None)) (store_meaning.read m.catalogue read.op node.replica.maps) p c.1 in
+    let d = map_gives (λ (f : ReadEffect). with_call_or_back (Back (session_at node s) (ReadBack (record { point = node.replica.tail; reply = f.reply }))) w.log (with_read node s None)) (store_meaning.read m.catalogue (Run read.call) node.replica.maps) p c.1 in
     let a : Answer = ReadBack (record { point = node.replica.tail; reply = d.0.reply }) in
     let there : (y : Slot) × (slice_get node.desk.slots s ≡ Some y) = get_some node.desk.slots s (let l = get_in node.reads s (Some read) begun in let f = o.desk.reads in let g = o.desk.slots in omega arith) in
     let q = read_waits m w.log.done h positions t (session m.config n s) node.batch (there.0).count (there.0).stage read (o.seats s there.0 (Some read) there.1 begun) in
     let old = q.1 in
-    let right : read_reply_at store_meaning m.catalogue h node.replica.tail read.op ≡ Some d.0.reply =
-    ap (λ maps. option_map (λ (f : ReadEffect). f.reply) (store_meaning.read m.catalogue read.op maps)) (sym o.replica.maps) ∙ ap (option_map (λ (f : ReadEffect). f.reply)) d.1 in
+    let right : read_reply_at store_meaning m.catalogue h node.replica.tail (Run read.call) ≡ Some d.0.reply =
+    ap (λ maps. option_map (λ (f : ReadEffect). f.reply) (store_meaning.read m.catalogue (Run read.call) maps)) (sym o.replica.maps) ∙ ap (option_map (λ (f : ReadEffect). f.reply)) d.1 in
     let made : Kept m w h positions t n (with_call_or_back (Back (session_at node s) a) w.log (with_read node s None)) =
     same_history m (record { log = w.log; nodes = slice_set w.nodes n (with_read node s None) }) h positions (t ++ Back (session_at node s) a ∷ [])
     (subst (λ z. Stands m (record { log = w.log; nodes = slice_set w.nodes n (with_read node s None) }) h positions (t ++ Back z a ∷ [])) (sym e)
     (seat_event m w h positions t n s node node.desk (slice_set node.reads s None) (Back (session m.config n s) a) at_n (slot_in m n s node there.0 o.desk there.1) refl (
       Read,
-      read.op,
+      Run read.call,
       old.0,
       (old.1).is_open,
       tt,
-      right_open m h positions t (session m.config n s) Read read.op old.0 a (old.1).is_open
+      right_open m h positions t (session m.config n s) Read (Run read.call) old.0 a (old.1).is_open
           (o.replica.tail, right, λ k before. let l = old.3 k before in omega arith),
     )
     done

@@ -8,6 +8,7 @@ use Rattle.maps.specs.Maps.{HasShapes, shapes_of}
 use Rattle.verifier.specs.declared.refusal.Mode.TheVariants.{Read}
 use Rattle.loader.specs.CatalogueView.{CatalogueView}
 use Rattle.oplog.specs.declared.configuration.TheConstants.{MAX_LIMIT}
+use Rattle.oplog.specs.declared.records.Op.TheVariants.{Run}
 use Rattle.oplog.specs.History.{History}
 use Rattle.oplog.specs.Logs.{Log}
 use Rattle.oplog.specs.Sessions.{session}
@@ -18,8 +19,8 @@ use Rattle.combiner.specs.declared.slots.Stage.TheVariants.{Empty, Posted, Claim
 use Rattle.combiner.specs.declared.slots.Slot.{Slot}
 use Rattle.combiner.specs.Slots.{is_claimed}
 use Rattle.combiner.specs.Desks.{DeskView, first_author, claimed_from, has_combiner, has_request, claim_refusal, claimed, batch_of, IsBatchOf}
-use Rattle.replica.specs.StoreMeaning.{IsOperation, is_operation}
-use Rattle.replica.proofs.Tested.{is_tested}
+use Rattle.replica.specs.StoreMeaning.{IsCall, is_operation}
+use Rattle.replica.proofs.Tested.{call_tested}
 use Rattle.replica.proofs.Histories.{have_effects}
 use Rattle.node.specs.declared.following.NodeReplica.{NodeReplica}
 use Rattle.node.specs.Following.{IsNext, has_next, with_next}
@@ -137,18 +138,18 @@ is_next {m} {g} {node} c same x next =
 
 -- ---- reads
 
-waiting_read : (m : Opening) (done : ℕ) (h : History) (positions : Positions) (t : Trace) (x : ℕ) (batch : NodeBatch) (count : ℕ) (st : Stage) (read : BegunRead) → StageStands m done h positions t x batch count st (Some read) → is_operation Read m.catalogue read.op ≡ true
+waiting_read : (m : Opening) (done : ℕ) (h : History) (positions : Positions) (t : Trace) (x : ℕ) (batch : NodeBatch) (count : ℕ) (st : Stage) (read : BegunRead) → StageStands m done h positions t x batch count st (Some read) → is_operation Read m.catalogue (Run read.call) ≡ true
 waiting_read m done h positions t x batch count Empty read p = (p.1).may
 waiting_read m done h positions t x batch count (Posted op) read p = absurd p
 waiting_read m done h positions t x batch count Claimed read p = absurd p
 waiting_read m done h positions t x batch count (Answered r) read p = absurd p
 
 -- a read that was begun asks a read program of the catalogue
-pub read_asks : {m : Opening} {g : Log} {node : NodeView} → IsOfStore m g node → (s : ℕ) (read : BegunRead) → slice_get node.reads s ≡ Some (Some read) → IsOperation Read m.catalogue read.op
+pub read_asks : {m : Opening} {g : Log} {node : NodeView} → IsOfStore m g node → (s : ℕ) (read : BegunRead) → slice_get node.reads s ≡ Some (Some read) → IsCall Read m.catalogue read.call
 read_asks {m} {g} {node} x s read at =
     let o = x.stands in
     let y = get_some node.desk.slots s (let a = get_in node.reads s (Some read) at in let b = o.desk.slots in let d = o.desk.reads in omega arith) in
-    is_tested Read m.catalogue read.op (waiting_read m g.done x.history x.positions x.trace (session m.config x.number s) node.batch (y.0).count (y.0).stage read (o.seats s y.0 (Some read) y.1 at))
+    call_tested Read m.catalogue read.call (waiting_read m g.done x.history x.positions x.trace (session m.config x.number s) node.batch (y.0).count (y.0).stage read (o.seats s y.0 (Some read) y.1 at))
 
-pub read_asked : {m : Opening} {g : Log} {node : NodeView} (c : CatalogueView) → m.catalogue ≡ c → IsOfStore m g node → (s : ℕ) (read : BegunRead) → read_at node s ≡ Some read → IsOperation Read c read.op
-read_asked {m} {g} {node} c same x s read at = subst (λ k. IsOperation Read k read.op) same (read_asks x s read (read_is (slice_get node.reads s) read at))
+pub read_asked : {m : Opening} {g : Log} {node : NodeView} (c : CatalogueView) → m.catalogue ≡ c → IsOfStore m g node → (s : ℕ) (read : BegunRead) → read_at node s ≡ Some read → IsCall Read c read.call
+read_asked {m} {g} {node} c same x s read at = subst (λ k. IsCall Read k read.call) same (read_asks x s read (read_is (slice_get node.reads s) read at))

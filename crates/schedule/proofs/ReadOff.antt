@@ -5,6 +5,7 @@ use Rattle.std.proofs.lemmas.Option.{same_Some}
 use Rattle.verifier.specs.declared.refusal.Mode.TheVariants.{Update, Read}
 use Rattle.oplog.specs.declared.configuration.Config.{Config}
 use Rattle.oplog.specs.Operations.{Operation}
+use Rattle.oplog.specs.declared.records.Op.TheVariants.{Run}
 use Rattle.oplog.specs.History.{ReadEffect, History}
 use Rattle.oplog.specs.Logs.{Log}
 use Rattle.oplog.specs.Sessions.{session}
@@ -49,7 +50,7 @@ inner_told m kind step g node p taken is =
 
 part_told : (m : Opening) (step : Step) (g : Log) (node : NodeView) (p : Part) → DeskStands m (node_of step) node → part_of m step g node ≡ Some p → IsTold m.config step p.event
 part_told m (Post n s program argument) g node p desk taken =
-    let op : Operation = record { program = program; argument = argument.items } in
+    let op : Operation = Run (record { program = program; argument = argument.items }) in
     let c = cond_gives (is_idle node s && is_operation Update m.catalogue op) _ p taken in
     let d = map_gives (λ desk. with_call_or_back (Call (session_at node s) Update op) g (record node { desk = desk })) (posted s op node.desk) p c.1 in
     told m.config (Post n s program argument) (Some (Call (session m.config n s) Update op)) p.event (ap (λ x. Some (Call x Update op)) (sym (session_is m n node s desk)) ∙ ap (λ (q : Part). q.event) d.2) refl
@@ -64,14 +65,14 @@ part_told m (Collect n s) g node p desk taken =
     let d = map_gives (λ c. with_call_or_back (Back (session_at node s) (Updated c.reply)) g (record node { desk = c.desk })) (collected s node.desk) p taken in
     told m.config (Collect n s) (Some (Back (session m.config n s) (Updated d.0.reply))) p.event (ap (λ x. Some (Back x (Updated d.0.reply))) (sym (session_is m n node s desk)) ∙ ap (λ (q : Part). q.event) d.2) refl
 part_told m (ReadBegin n s program argument) g node p desk taken =
-    let op : Operation = record { program = program; argument = argument.items } in
+    let op : Operation = Run (record { program = program; argument = argument.items }) in
     let c = cond_gives (is_idle node s && is_operation Read m.catalogue op) _ p taken in
     told m.config (ReadBegin n s program argument) (Some (Call (session m.config n s) Read op)) p.event (ap (λ x. Some (Call x Read op)) (sym (session_is m n node s desk)) ∙ event_is _ p c.1) refl
 part_told m (ReadAnswer n s) g node p desk taken =
     let r = then_gives _ (read_at node s) p taken in
     let read : BegunRead = r.0 in
     let c = cond_gives (may_answer read.seen g.done (own_of node)) _ p r.2 in
-    let d = map_gives (λ (f : ReadEffect). with_call_or_back (Back (session_at node s) (ReadBack (record { point = node.replica.tail; reply = f.reply }))) g (with_read node s None)) (store_meaning.read m.catalogue read.op node.replica.maps) p c.1 in
+    let d = map_gives (λ (f : ReadEffect). with_call_or_back (Back (session_at node s) (ReadBack (record { point = node.replica.tail; reply = f.reply }))) g (with_read node s None)) (store_meaning.read m.catalogue (Run read.call) node.replica.maps) p c.1 in
     let a : Answer = ReadBack (record { point = node.replica.tail; reply = d.0.reply }) in
     told m.config (ReadAnswer n s) (Some (Back (session m.config n s) a)) p.event (ap (λ x. Some (Back x a)) (sym (session_is m n node s desk)) ∙ ap (λ (q : Part). q.event) d.2) refl
 part_told m (Reclaim n) g node p desk taken = inner_told m Reclaims (Reclaim n) g node p taken refl

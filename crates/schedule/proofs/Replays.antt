@@ -11,7 +11,7 @@ use Rattle.oplog.specs.Logs.{Log, HandView, tail_of}
 use Rattle.oplog.specs.Sessions.{session}
 use Rattle.replica.specs.StoreMeaning.{store_meaning, outcome_of, AreUpdates}
 use Rattle.replica.specs.Views.{ReplicaView, with_outcome}
-use Rattle.replica.proofs.Histories.{have_effects}
+use Rattle.replica.proofs.Histories.{takes_effect}
 use Rattle.replica.proofs.Kept.{count_with, at_with, off_with}
 use Rattle.combiner.specs.Desks.{BatchView, IsBatchOf}
 use Rattle.node.specs.declared.parts.Written.{Written}
@@ -114,8 +114,7 @@ written_all m h [] tail maps hand b new left whole updates next is at empty x =
     }
 written_all m h (r ∷ rs) tail maps hand b new left whole updates next is at empty x =
     let there = first_there h rs r tail next in
-    let effects = have_effects m.catalogue whole h updates in
-    let has = effects.updates tail r.op (updates tail r there) in
+    let has = takes_effect m.catalogue whole h tail r.op updates (updates tail r there) in
     let takes = has.1 in
     let known = ap (λ y. store_meaning.update m.catalogue r.op y) is ∙ takes in
     let step = ap (λ y. left_by (store_meaning.update m.catalogue r.op y) y) is ∙ sym (after_next m.catalogue h tail r there) in

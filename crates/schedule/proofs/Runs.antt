@@ -2,6 +2,7 @@
 use Rattle.std.proofs.Common.{◌≡◌, ℕ, zero, suc, ◌+◌, ◌*◌, List, [], ◌∷◌, ◌++◌, length, Option, Some, None, refl, sym, ap, ◌∙◌, arith, subst, append_assoc}
 use Rattle.std.specs.Prelude.{slice_get, replicate, option_map}
 use Rattle.std.proofs.lemmas.Option.{none-some, same_Some}
+use Rattle.oplog.specs.declared.records.Op.TheVariants.{Run}
 use Rattle.oplog.specs.History.{History}
 use Rattle.oplog.specs.Sessions.{session}
 use Rattle.combiner.specs.declared.slots.Reply.TheVariants.{Placed, Ended}
@@ -33,7 +34,7 @@ use Rattle.schedule.proofs.Append.{keeps_append}
 -- the node's part of a step keeps what stands
 pub keeps_part : (m : Opening) (w : WorldView) (h : History) (positions : Positions) (t : Trace) (step : Step) (node : NodeView) (p : Part)
     → slice_get w.nodes (node_of step) ≡ Some node → part_of m step w.log node ≡ Some p → Stands m w h positions t → Kept m w h positions t (node_of step) p
-keeps_part m w h positions t (Post n s program argument) node p at taken x = keeps_post m w h positions t n s (record { program = program; argument = argument.items }) node p at taken x
+keeps_part m w h positions t (Post n s program argument) node p at taken x = keeps_post m w h positions t n s (Run (record { program = program; argument = argument.items })) node p at taken x
 keeps_part m w h positions t (Claim n) node p at taken x = keeps_claim m w h positions t n node p at taken x
 keeps_part m w h positions t (Append n) node p at taken x = keeps_append m w h positions t n node p at taken x
 keeps_part m w h positions t (Replay n) node p at taken x = keeps_replay m w h positions t n node p at taken x

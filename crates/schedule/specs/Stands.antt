@@ -4,6 +4,7 @@ use Rattle.maps.specs.Maps.{Maps}
 use Rattle.verifier.specs.declared.refusal.Mode.{Mode}
 use Rattle.verifier.specs.declared.refusal.Mode.TheVariants.{Update, Read}
 use Rattle.loader.specs.CatalogueView.{IsCatalogue}
+use Rattle.oplog.specs.declared.records.Op.TheVariants.{Run}
 use Rattle.oplog.specs.declared.records.Record.{Record}
 use Rattle.oplog.specs.Operations.{Operation}
 use Rattle.oplog.specs.History.{Effect, History, maps_after, effect_at, reply_at}
@@ -106,7 +107,7 @@ ReplyStands m done h positions t x count Ended = (op : Operation) × (c : ℕ) �
 abbrev pub StageStands : Opening → ℕ → History → Positions → Trace → ℕ → NodeBatch → ℕ → Stage → Option BegunRead → Type 0
 StageStands m done h positions t x batch count Empty None = IsIdle t x × (count_of x h ≡ count)
 StageStands m done h positions t x batch count Empty (Some read) =
-    (c : ℕ) × OpenAt m h positions t x count Read read.op None c × (read.seen ≤ done) × ((s : ℕ) → StampBefore m.config.limit t c s → s ≤ read.seen)
+    (c : ℕ) × OpenAt m h positions t x count Read (Run read.call) None c × (read.seen ≤ done) × ((s : ℕ) → StampBefore m.config.limit t c s → s ≤ read.seen)
 StageStands m done h positions t x batch count (Posted op) None = (c : ℕ) × OpenAt m h positions t x count Update op None c
 StageStands m done h positions t x batch count Claimed None =
     (c k : ℕ) × (r : Record) × (slice_get (batch_in batch).records k ≡ Some r) × (r.author ≡ x) × (r.seq ≡ count) × OpenAt m h positions t x count Update r.op (index_in batch k) c

@@ -2,7 +2,9 @@
 use Rattle.std.specs.Prelude.{ℕ, ◌+◌, Bool, true, false, ◌&&◌, List, [], ◌∷◌, ◌++◌, Option, Some, None, option_map, slice_get, slice_set, cond}
 use Rattle.std.specs.Option.{option_and_then}
 use Rattle.verifier.specs.declared.refusal.Mode.TheVariants.{Update, Read}
+use Rattle.oplog.specs.Calls.{Call as ProgramCall}
 use Rattle.oplog.specs.Operations.{Operation}
+use Rattle.oplog.specs.declared.records.Op.TheVariants.{Run}
 use Rattle.oplog.specs.Logs.{Log}
 use Rattle.combiner.specs.declared.slots.Slot.{Slot}
 use Rattle.combiner.specs.Slots.{is_empty}
@@ -87,11 +89,11 @@ claim g node =
 abbrev pub collect : ℕ → Log → NodeView → Option Part
 collect s g node = option_map (λ c. with_call_or_back (Back (session_at node s) (Updated c.reply)) g (record node { desk = c.desk })) (collected s node.desk)
 
--- readbegin: the slot is idle, and the operation is a read of the catalogue; it is called, with the completed tail of that moment
-abbrev pub read_begin : Opening → ℕ → Operation → Log → NodeView → Option Part
-read_begin m s op g node =
-    cond (is_idle node s && is_operation Read m.catalogue op)
-    (Some (with_call_or_back (Call (session_at node s) Read op) g (with_read node s (Some (record { op = op; seen = g.done })))))
+-- readbegin: the slot is idle, and the call is a read of the catalogue; it is called, with the completed tail of that moment
+abbrev pub read_begin : Opening → ℕ → ProgramCall → Log → NodeView → Option Part
+read_begin m s call g node =
+    cond (is_idle node s && is_operation Read m.catalogue (Run call))
+    (Some (with_call_or_back (Call (session_at node s) Read (Run call)) g (with_read node s (Some (record { call = call; seen = g.done })))))
     None
 
 -- readanswer: a read was begun at the slot, the replica has come to what the read saw completed, and all that the replica has applied
@@ -101,7 +103,7 @@ read_answer m s g node =
     option_and_then (λ read.
     cond (may_answer read.seen g.done (own_of node))
     (option_map (λ e. with_call_or_back (Back (session_at node s) (ReadBack (record { point = node.replica.tail; reply = e.reply }))) g (with_read node s None))
-    (store_meaning.read m.catalogue read.op node.replica.maps))
+    (store_meaning.read m.catalogue (Run read.call) node.replica.maps))
     None)
     (read_at node s)
 
@@ -143,7 +145,7 @@ node_of (Rebase n) = n
 
 -- what the step makes of the log and of its node
 abbrev pub part_of : Opening → Step → Log → NodeView → Option Part
-part_of m (Post n s program argument) = post m s (record { program = program; argument = argument.items })
+part_of m (Post n s program argument) = post m s (Run (record { program = program; argument = argument.items }))
 part_of m (Claim n) = claim
 part_of m (Append n) = inner m Appends
 part_of m (Replay n) = inner m Replays

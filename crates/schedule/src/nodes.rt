@@ -5,7 +5,8 @@ ghost use Rattle.maps.specs.Maps.{shapes_of};
 ghost use Rattle.oplog.specs.declared.configuration.TheConstants.{MAX_NODES};
 ghost use Rattle.oplog.specs.Limits.{IsConfig};
 ghost use Rattle.oplog.specs.Logs.{Log};
-ghost use Rattle.replica.specs.StoreMeaning.{IsOperation, is_operation, store_meaning};
+ghost use Rattle.oplog.specs.declared.records.Op.TheVariants.{Run};
+ghost use Rattle.replica.specs.StoreMeaning.{IsCall, is_operation, store_meaning};
 ghost use Rattle.verifier.specs.declared.refusal.Mode.TheVariants.{Update, Read};
 ghost use Rattle.schedule.specs.declared.parts.Opening.{Opening as TheOpening};
 ghost use Rattle.node.specs.Following.{Fits, has_next, with_next};
@@ -19,7 +20,7 @@ use crate::steps::{Step, StepAnswer};
 use combiner::{Batch, Desk, Stage};
 use loader::Catalogue;
 use node::{NodeBatch, NodeReplica, Written};
-use oplog::{Hand, LogState, Op};
+use oplog::{Call, Hand, LogState, Op};
 use readpath::{ReadAnswer, answer};
 use replica::{Replica, Replies, find_program_of};
 use std::alloc::{AllocError, Global};
@@ -47,17 +48,17 @@ impl Model for Node {
     ghost view = { λ n. record { replica = n.own.replica; hand = n.own.hand; desk = n.desk; batch = n.batch; reads = n.reads.items } };
 }
 
-// The operation of a program of the catalogue, of this mode, on an argument of its length.
-fn operation(catalogue: &Catalogue, mode: Mode, program: u64, argument: &[u8]) -> Option<Op>
-    ensures operation { MatchOption result
-        (is_operation mode catalogue.now (record { program = program; argument = argument.now }) ≡ false)
-        (λ op. (op ≡ record { program = program; argument = argument.now }) × (is_operation mode catalogue.now op ≡ true)) }
+// The call of a program of the catalogue, of this mode, on an argument of its length.
+fn call_of(catalogue: &Catalogue, mode: Mode, program: u64, argument: &[u8]) -> Option<Call>
+    ensures call { MatchOption result
+        (is_operation mode catalogue.now (Run (record { program = program; argument = argument.now })) ≡ false)
+        (λ call. (call ≡ record { program = program; argument = argument.now }) × (is_operation mode catalogue.now (Run call) ≡ true)) }
 {
     if program >= catalogue.len() as u64 {
         return None;
     }
     find_program_of(catalogue, mode, program as u16, argument).ok()?;
-    Some(Op::new(program as u16, argument))
+    Some(Call::new(program as u16, argument))
 }
 
 // Room for so many reads, none of which is begun.
@@ -222,15 +223,15 @@ impl Node {
     }
 
     // A read is called at a slot, when so many operations are completed.
-    fn read_begin(&mut self, slot: u64, op: Op, seen: u64) -> StepAnswer
+    fn read_begin(&mut self, slot: u64, call: Call, seen: u64) -> StepAnswer
         requires sized { length self.old.reads ≡ length self.old.desk.slots }
-        ensures begun { (m : TheOpening) (g : Log) → g.done ≡ seen → is_operation Read m.catalogue op ≡ true
-            → TakesPart (read_begin m slot op g self.old) g self.old g self.new result }
+        ensures begun { (m : TheOpening) (g : Log) → g.done ≡ seen → is_operation Read m.catalogue (Run call) ≡ true
+            → TakesPart (read_begin m slot call g self.old) g self.old g self.new result }
     {
         if !self.is_idle(slot) {
             return StepAnswer::NotNow;
         }
-        let read = BegunRead { op, seen };
+        let read = BegunRead { call, seen };
         self.reads[slot as usize] = Some(read);
         StepAnswer::Done
     }
@@ -248,15 +249,15 @@ impl Node {
     }
 
     // What the replica answers to a read.
-    fn answer_to(&mut self, catalogue: &Catalogue, op: &Op) -> ReadAnswer
-        requires asks { IsOperation Read catalogue.now op.now }
+    fn answer_to(&mut self, catalogue: &Catalogue, call: &Call) -> ReadAnswer
+        requires asks { IsCall Read catalogue.now call.now }
         requires shapes { shapes_of self.old.replica.maps ≡ catalogue.now.shapes }
         ensures point { result.point ≡ self.old.replica.tail }
-        ensures reply { option_map (λ e. e.reply) (store_meaning.read catalogue.now op.now self.old.replica.maps) ≡ Some result.reply }
+        ensures reply { option_map (λ e. e.reply) (store_meaning.read catalogue.now (Run call.now) self.old.replica.maps) ≡ Some result.reply }
         ensures same { self.new ≡ self.old }
     {
-        match catalogue.program(op.program()) {
-            Some(program) => answer(program, &mut self.own.replica, op.argument()),
+        match catalogue.program(call.program()) {
+            Some(program) => answer(program, &mut self.own.replica, call.argument()),
             None => unreachable!(),
         }
     }
@@ -273,7 +274,7 @@ impl Node {
         if !node::may_answer(read.seen, done, &self.own) {
             return StepAnswer::NotNow;
         }
-        let given = self.answer_to(catalogue, &read.op);
+        let given = self.answer_to(catalogue, &read.call);
         self.reads[slot as usize] = None;
         StepAnswer::ReadBack(given)
     }
@@ -331,8 +332,8 @@ impl Node {
                 program,
                 argument,
                 ..
-            } => match operation(&opening.catalogue, Mode::Update, *program, argument) {
-                Some(op) => self.post(*slot, op),
+            } => match call_of(&opening.catalogue, Mode::Update, *program, argument) {
+                Some(call) => self.post(*slot, Op::Run(call)),
                 None => StepAnswer::NotNow,
             },
             Step::Claim { .. } => self.claim(),
@@ -346,8 +347,8 @@ impl Node {
                 program,
                 argument,
                 ..
-            } => match operation(&opening.catalogue, Mode::Read, *program, argument) {
-                Some(op) => self.read_begin(*slot, op, log.done()),
+            } => match call_of(&opening.catalogue, Mode::Read, *program, argument) {
+                Some(call) => self.read_begin(*slot, call, log.done()),
                 None => StepAnswer::NotNow,
             },
             Step::ReadAnswer { slot, .. } => self.read_answer(

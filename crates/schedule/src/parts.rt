@@ -1,7 +1,7 @@
 // What a store is opened with, and a begun read.
 
 use loader::Catalogue;
-use oplog::{Config, Op};
+use oplog::{Call, Config};
 
 /// What a store is opened with.
 #[derive(Drop)]
@@ -16,7 +16,7 @@ pub struct Opening {
 #[derive(Clone, Copy)]
 pub struct BegunRead {
     /// What it asks.
-    pub op: Op,
+    pub call: Call,
     /// How many operations were completed when it was called.
     pub seen: u64,
 }

@@ -1,6 +1,7 @@
 use Rattle.std.proofs.Common.{◌≡◌, ◌∙◌, ap, true, rules, Some, None}
 use Rattle.std.specs.Prelude.{option_map}
 use Rattle.oplog.specs.History.{ReadEffect}
+use Rattle.oplog.specs.declared.records.Op.TheVariants.{Run}
 use Rattle.replica.specs.StoreMeaning.{store_meaning}
 use Rattle.node.specs.Following.{may_answer}
 use Rattle.schedule.specs.Worlds.{own_of}
@@ -21,6 +22,6 @@ returns c = record {
       let at : read_at c.args.self.now c.args.slot ≡ Some c.in-Some.read = search rules in
       let may : may_answer c.in-Some.read.seen g.done (own_of c.args.self.now) ≡ true = search rules in
       read_taken m g c.args.self.now _ c.args.slot c.in-Some.read c.answer_to-given.result at may c.answer_to-given.ensures.point
-      (ap (λ k. option_map (λ (e : ReadEffect). e.reply) (store_meaning.read k c.in-Some.read.op c.args.self.now.replica.maps)) same ∙ c.answer_to-given.ensures.reply)
+      (ap (λ k. option_map (λ (e : ReadEffect). e.reply) (store_meaning.read k (Run c.in-Some.read.call) c.args.self.now.replica.maps)) same ∙ c.answer_to-given.ensures.reply)
       (ap (λ v. with_read v c.args.slot None) (c.self-2.view_is ∙ c.answer_to-given.ensures.same));
 }
