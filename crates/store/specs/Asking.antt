@@ -4,6 +4,7 @@ use Rattle.ownlock.specs.Seats.{IsSession, SeatView}
 use Rattle.loader.specs.CatalogueView.{CatalogueView}
 use Rattle.verifier.specs.declared.refusal.Mode.TheVariants.{Update}
 use Rattle.oplog.specs.Operations.{Operation}
+use Rattle.oplog.specs.declared.records.Op.TheVariants.{Run}
 use Rattle.combiner.specs.Desks.{BatchView}
 use Rattle.combiner.specs.declared.slots.Reply.{Reply}
 use Rattle.replica.specs.Refusals.{early_refusal}
@@ -26,7 +27,7 @@ StoreSeat = SeatView (Progress CatalogueView) SessionNote Value
 
 -- the operation that the question asks for
 abbrev pub update_of : Question → Operation
-update_of asked = record { program = asked.program; argument = asked.argument.now }
+update_of asked = Run (record { program = asked.program; argument = asked.argument.now })
 
 -- its refusal, where an update of this catalogue is asked for
 abbrev pub update_refusal : CatalogueView → Question → Option StoreRefused

@@ -13,7 +13,7 @@ use crate::steps::{Caller, Question, Shared};
 use crate::values::Value;
 use combiner::{Batch, Reply};
 use crossbeam_utils::Backoff;
-use oplog::Op;
+use oplog::{Call, Op};
 use ownlock::Seat;
 use replica::{StoreRefused, find_program_of};
 use std::marker::Brand;
@@ -49,7 +49,8 @@ pub(crate) fn post_only<R: Wait>(
 {
     let Question { program, argument } = asked;
     find_program_of(shared.catalogue, Mode::Update, program, argument)?;
-    post(rt, shared, seat, caller, Op::new(program, argument));
+    let call = Call::new(program, argument);
+    post(rt, shared, seat, caller, Op::Run(call));
     Ok(())
 }
 

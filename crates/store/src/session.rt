@@ -3,6 +3,7 @@
 ghost use Rattle.std.specs.Prelude.{◌≡◌, [], ◌∷◌, None, Some, Err};
 ghost use Rattle.verifier.specs.declared.refusal.Mode.TheVariants.{Update, Read};
 ghost use Rattle.accounts.specs.Accounts.{Extends, IsWellFormed};
+ghost use Rattle.oplog.specs.declared.records.Op.TheVariants.{Run};
 ghost use Rattle.replica.specs.StoreMeaning.{store_meaning};
 ghost use Rattle.replica.specs.declared.refusals.StoreRefused.{StoreRefused};
 ghost use Rattle.replica.specs.Refusals.{early_refusal};
@@ -99,7 +100,7 @@ impl Session {
         ensures early { (r : StoreRefused) → early_refusal store.now.catalogue Update program argument.now ≡ Some r → (result ≡ Err r)
             × (self.new ≡ self.old) }
         ensures answered { early_refusal store.now.catalogue Update program argument.now ≡ None
-            → TellsUpdate self.old self.new (record { program = program; argument = argument.now }) result }
+            → TellsUpdate self.old self.new (Run (record { program = program; argument = argument.now })) result }
     {
         let shared = store.shared();
         let asked = Question { program, argument };
@@ -130,7 +131,7 @@ impl Session {
             × (self.new ≡ self.old) }
         ensures begun { early_refusal store.now.catalogue Read program argument.now ≡ None → BeginsWithin self.old self.new result }
         ensures answered { early_refusal store.now.catalogue Read program argument.now ≡ None
-            → TellsRead self.old self.new (record { program = program; argument = argument.now }) result }
+            → TellsRead self.old self.new (Run (record { program = program; argument = argument.now })) result }
     {
         let Session { seat, caller, .. } = self;
         find_program_of(store.catalogue(), Mode::Read, program, argument)?;

@@ -6,6 +6,7 @@ ghost use Rattle.verifier.specs.declared.refusal.Mode.TheVariants.{Read};
 ghost use Rattle.ownlock.specs.Seats.{IsSession};
 ghost use Rattle.oplog.specs.Limits.{IsWindow};
 ghost use Rattle.oplog.specs.Logs.{Log as LogView, left_of, room_in};
+ghost use Rattle.oplog.specs.declared.records.Op.TheVariants.{Run};
 ghost use Rattle.combiner.specs.Desks.{BatchView};
 ghost use Rattle.node.specs.Following.{may_rebase, rebased};
 ghost use Rattle.replica.specs.StoreMeaning.{store_meaning};
@@ -210,7 +211,7 @@ fn answer_there(node: &mut NodeReplica, catalogue: &Catalogue, question: Questio
     requires shapes { shapes_of node.old.replica.maps ≡ catalogue.now.shapes }
     requires asked { early_refusal catalogue.now Read question.program question.argument.now ≡ None }
     ensures point { result.point ≡ node.old.replica.tail }
-    ensures reply { RepliesThere catalogue.now (record { program = question.entry.program; argument = question.entry.argument.now }) node.old result.reply }
+    ensures reply { RepliesThere catalogue.now (Run (record { program = question.entry.program; argument = question.entry.argument.now })) node.old result.reply }
     ensures same { node.new ≡ node.old }
 {
     let Some(accepted) = catalogue.program(question.program) else {
@@ -233,9 +234,9 @@ pub(crate) fn query<R: Wait>(
     requires asked { early_refusal shared.catalogue.now Read question.program question.argument.now ≡ None }
     ensures same { seat.new.shelf ≡ seat.old.shelf }
     ensures read { (k : SessionKnown) → IsSession seat.old k → (after : SessionKnown) × IsSession seat.new after
-        × IsReadBy k after (record { program = question.entry.program; argument = question.entry.argument.now }) result }
+        × IsReadBy k after (Run (record { program = question.entry.program; argument = question.entry.argument.now })) result }
     ensures goes { (k after : SessionKnown) → IsSession seat.old k → IsSession seat.new after
-        → ReadsBy k after (record { program = question.entry.program; argument = question.entry.argument.now }) result }
+        → ReadsBy k after (Run (record { program = question.entry.program; argument = question.entry.argument.now })) result }
 {
     let Shared {
         shelf,

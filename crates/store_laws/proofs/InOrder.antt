@@ -4,7 +4,8 @@ use Rattle.std.proofs.Common.{ap, sym, subst, ◌∙◌}
 use Rattle.std.specs.Option.{option_and_then}
 use Rattle.loader.specs.CatalogueView.{CatalogueView}
 use Rattle.oplog.specs.History.{ReadEffect}
-use Rattle.oplog.specs.Operations.{Operation}
+use Rattle.oplog.specs.Calls.{Call}
+use Rattle.oplog.specs.declared.records.Op.TheVariants.{Run}
 use Rattle.combiner.specs.Desks.{BatchView, DeskView}
 use Rattle.readpath.specs.declared.reading.ReadAnswer.{ReadAnswer}
 use Rattle.replica.specs.StoreMeaning.{store_meaning}
@@ -54,7 +55,7 @@ replied_with : (o : Option ReadEffect) (F : ℕ → Part) (reply : ℕ) → opti
 replied_with (Some e) F reply is = ap (option_map F) is
 replied_with None F reply is = ap (option_map F) is
 
-module _ (m : Opening) (n s : ℕ) (reads : List (Option BegunRead)) (k after : SessionKnown) (op : Operation) (answer : ReadAnswer) (c : ReadsBy k after op answer) (d : DeskView) (same : m.catalogue ≡ k.progress.catalogue) where
+module _ (m : Opening) (n s : ℕ) (reads : List (Option BegunRead)) (k after : SessionKnown) (call : Call) (answer : ReadAnswer) (c : ReadsBy k after (Run call) answer) (d : DeskView) (same : m.catalogue ≡ k.progress.catalogue) where
   abbrev t : Seen
   t = sees after.progress c.back c.left Absent d
 
@@ -68,23 +69,23 @@ module _ (m : Opening) (n s : ℕ) (reads : List (Option BegunRead)) (k after : 
   told_reply x = told (record { point = c.left.replica.tail; reply = x })
 
   abbrev given : BegunRead → Option Part
-  given read = cond (may_answer read.seen after.progress.completed c.left) (option_map (λ e. told_reply e.reply) (store_meaning.read m.catalogue read.op c.left.replica.maps)) None
+  given read = cond (may_answer read.seen after.progress.completed c.left) (option_map (λ e. told_reply e.reply) (store_meaning.read m.catalogue (Run read.call) c.left.replica.maps)) None
 
-  replies : option_map (λ e. told_reply e.reply) (store_meaning.read m.catalogue op c.left.replica.maps) ≡ Some (told_reply answer.reply)
-  replies = replied_with (store_meaning.read m.catalogue op c.left.replica.maps) told_reply answer.reply
-      (ap (λ z. option_map (λ e. e.reply) (store_meaning.read z op c.left.replica.maps)) same ∙ c.reply)
+  replies : option_map (λ e. told_reply e.reply) (store_meaning.read m.catalogue (Run call) c.left.replica.maps) ≡ Some (told_reply answer.reply)
+  replies = replied_with (store_meaning.read m.catalogue (Run call) c.left.replica.maps) told_reply answer.reply
+      (ap (λ z. option_map (λ e. e.reply) (store_meaning.read z (Run call) c.left.replica.maps)) same ∙ c.reply)
 
-  answered_there : read_at last s ≡ Some (record { op = op; seen = c.seen }) → part_of m (Answers n s) t.log last ≡ Some (told answer)
+  answered_there : read_at last s ≡ Some (record { call = call; seen = c.seen }) → part_of m (Answers n s) t.log last ≡ Some (told answer)
   answered_there begun =
       ap (option_and_then given) begun
-      ∙ (ap (λ q. (let p : Option Part = cond q (option_map (λ e. told_reply e.reply) (store_meaning.read m.catalogue op c.left.replica.maps)) None in p)) c.may
+      ∙ (ap (λ q. (let p : Option Part = cond q (option_map (λ e. told_reply e.reply) (store_meaning.read m.catalogue (Run call) c.left.replica.maps)) None in p)) c.may
       ∙ (replies ∙ ap (λ z. Some (told (record { point = z; reply = answer.reply }))) (sym c.point)))
 
-  reads_in_order_of : ReadsInOrder m n s reads k after op answer c d
+  reads_in_order_of : ReadsInOrder m n s reads k after call answer c d
   reads_in_order_of = record {
     steps = seen_in_order m n reads (under m.catalogue k.progress.catalogue same (c.goes d));
     answered = answered_there;
   }
 
-pub reads_in_order : (m : Opening) (n s : ℕ) (reads : List (Option BegunRead)) (k after : SessionKnown) (op : Operation) (answer : ReadAnswer) (c : ReadsBy k after op answer) (d : DeskView) → m.catalogue ≡ k.progress.catalogue → ReadsInOrder m n s reads k after op answer c d
-reads_in_order m n s reads k after op answer c d same = reads_in_order_of m n s reads k after op answer c d same
+pub reads_in_order : (m : Opening) (n s : ℕ) (reads : List (Option BegunRead)) (k after : SessionKnown) (call : Call) (answer : ReadAnswer) (c : ReadsBy k after (Run call) answer) (d : DeskView) → m.catalogue ≡ k.progress.catalogue → ReadsInOrder m n s reads k after call answer c d
+reads_in_order m n s reads k after call answer c d same = reads_in_order_of m n s reads k after call answer c d same

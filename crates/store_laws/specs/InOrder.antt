@@ -1,7 +1,8 @@
 -- Whole calls in the words of the schedule: which of its steps they take, in which order.
 use Rattle.std.specs.Prelude.{◌≡◌, ℕ, List, [], ◌∷◌, map, Option, Some, None}
 use Rattle.oplog.specs.Logs.{Log}
-use Rattle.oplog.specs.Operations.{Operation}
+use Rattle.oplog.specs.Calls.{Call}
+use Rattle.oplog.specs.declared.records.Op.TheVariants.{Run}
 use Rattle.combiner.specs.Desks.{BatchView, DeskView, replied}
 use Rattle.readpath.specs.declared.reading.ReadAnswer.{ReadAnswer}
 use Rattle.node.specs.Answering.{answered_batch}
@@ -53,7 +54,7 @@ abbrev pub IsAnsweredThere : Opening → (n s : ℕ) → Log → NodeView → Re
 IsAnsweredThere m n s g node answer = part_of m (Answers n s) g node ≡ Some (with_call_or_back (Back (session_at node s) (ReadBack answer)) g (with_read node s None))
 
 -- a read that was begun at the slot s, with the completed tail as the call loaded it: the steps, and then the schedule's own answer
-pub record ReadsInOrder (m : Opening) (n s : ℕ) (reads : List (Option BegunRead)) (k after : SessionKnown) (op : Operation) (answer : ReadAnswer) (c : ReadsBy k after op answer) (d : DeskView) : Type 0 where
+pub record ReadsInOrder (m : Opening) (n s : ℕ) (reads : List (Option BegunRead)) (k after : SessionKnown) (call : Call) (answer : ReadAnswer) (c : ReadsBy k after (Run call) answer) (d : DeskView) : Type 0 where
   pub steps : SeenInOrder m n reads (sees c.from c.log c.own Absent d) (read_steps c.low c.next c.later) (sees after.progress c.back c.left Absent d)
   pub answered : (let t = sees after.progress c.back c.left Absent d in
-      read_at (node_of t reads) s ≡ Some (record { op = op; seen = c.seen }) → IsAnsweredThere m n s t.log (node_of t reads) answer)
+      read_at (node_of t reads) s ≡ Some (record { call = call; seen = c.seen }) → IsAnsweredThere m n s t.log (node_of t reads) answer)

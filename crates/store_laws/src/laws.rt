@@ -7,7 +7,8 @@ ghost use Rattle.ownlock.specs.Invariant.{LockInvariant};
 ghost use Rattle.accounts.specs.declared.sessions.Progress.{Progress};
 ghost use Rattle.accounts.specs.declared.sessions.SessionNote.{SessionNote};
 ghost use Rattle.combiner.specs.Desks.{BatchView, DeskView};
-ghost use Rattle.oplog.specs.Operations.{Operation};
+ghost use Rattle.oplog.specs.Calls.{Call};
+ghost use Rattle.oplog.specs.declared.records.Op.TheVariants.{Run};
 ghost use Rattle.readpath.specs.declared.reading.ReadAnswer.{ReadAnswer};
 ghost use Rattle.schedule.specs.declared.parts.BegunRead.{BegunRead};
 ghost use Rattle.schedule.specs.declared.parts.Opening.{Opening};
@@ -37,6 +38,6 @@ pub fn between_steps()
 pub fn whole_calls_are_steps()
     ensures combine { (m : Opening) (n : ℕ) (reads : List (Option BegunRead)) (k after : SessionKnown) (b answered : BatchView)
         (c : CombinesBy k after b answered) → m.catalogue ≡ k.progress.catalogue → CombinesInOrder m n reads k after b answered c }
-    ensures read { (m : Opening) (n s : ℕ) (reads : List (Option BegunRead)) (k after : SessionKnown) (op : Operation) (answer : ReadAnswer)
-        (c : ReadsBy k after op answer) (d : DeskView) → m.catalogue ≡ k.progress.catalogue → ReadsInOrder m n s reads k after op answer c d }
+    ensures read { (m : Opening) (n s : ℕ) (reads : List (Option BegunRead)) (k after : SessionKnown) (call : Call) (answer : ReadAnswer)
+        (c : ReadsBy k after (Run call) answer) (d : DeskView) → m.catalogue ≡ k.progress.catalogue → ReadsInOrder m n s reads k after call answer c d }
 {}

@@ -5,6 +5,7 @@ use Rattle.store.specs.Standing.{Agrees, IsFree}
 use Rattle.store.specs.Sessions.{RepliesThere}
 use Rattle.store.specs.Whole.{ReadsBy}
 use Rattle.oplog.specs.Operations.{Operation}
+use Rattle.oplog.specs.declared.records.Op.TheVariants.{Run}
 use Rattle.store.proofs.Taken.{free_on, may_take_replica, took_replica}
 use Rattle.store.proofs.Finished.{holds_on, may_put_replica, back, is_read, later_catalogue, far_enough}
 use Rattle.store.proofs.Stretches.{reads_by}
@@ -80,7 +81,7 @@ returns-clause-read g c k is =
     let f = back r.0 w (holds_on t.0 r.0 w r.2.goes b.holds) c.reach.new.seat.sessions r.1 n (subst (Agrees r.0.progress) stays r.2.agrees) (subst (λ z. z.replica.tail ≤ length r.0.progress.history) stays r.2.within) _ held p.0 p.1.0 p.1.1 in (
       _,
       p.2,
-      is_read (1 + c.args.caller.node) k t.0 r.0 _ d.0 w v c.done-done.result (record { program = c.args.question.program; argument = c.args.question.argument.now }) c.args.shared.catalogue.now c.answer_there-answer.result d.1.1.0.0 d.2 b up f
+      is_read (1 + c.args.caller.node) k t.0 r.0 _ d.0 w v c.done-done.result (Run (record { program = c.args.question.program; argument = c.args.question.argument.now })) c.args.shared.catalogue.now c.answer_there-answer.result d.1.1.0.0 d.2 b up f
           (later_catalogue (1 + c.args.caller.node) k t.0 r.0 d.0 w v c.done-done.result c.args.shared.catalogue.now d.1.1.0.0 b up same) c.answer_there-answer.ensures.point c.answer_there-answer.ensures.reply,
     )
 
@@ -91,7 +92,7 @@ returns-clause-goes g c k after is now =
     let e = one_known c.args.seat.now i.0 k i.1 is in
     let free = subst (λ z. IsFree c.args.caller z) e i.2 in
     let same = subst (λ z. z.progress.catalogue ≡ c.args.shared.catalogue.now) e i.3.catalogue_is in
-    let op : Operation = record { program = c.args.question.program; argument = c.args.question.argument.now } in
+    let op : Operation = Run (record { program = c.args.question.program; argument = c.args.question.argument.now }) in
     let d = c.done-done.ensures.read k is in
     let t = c.take-held.ensures.taken _ d.3 in
     let b = took_replica _ t.0 c.args.caller w (free_on c.args.caller k (having_read k d.0 c.done-done.result) refl free.held d.1.1.0.0 free) t.1 in

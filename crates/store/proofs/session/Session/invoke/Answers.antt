@@ -1,6 +1,7 @@
 use Rattle.std.proofs.Common.{rules, sym, ap, ◌∙◌, subst, refl}
 use Rattle.verifier.specs.declared.refusal.Mode.TheVariants.{Update}
 use Rattle.oplog.specs.Operations.{Operation}
+use Rattle.oplog.specs.declared.records.Op.TheVariants.{Run}
 use Rattle.replica.specs.Refusals.{early_refusal}
 use Rattle.store.specs.Sessions.{SessionView, TellsUpdate, session_view}
 use Rattle.store.proofs.Invoked.{has_asked, has_grown, invoked, is_idle, not_refused, same_session, seen_as, stays_well, still_of, tells_update}
@@ -9,7 +10,7 @@ use Rattle.store.proofs.session.Session.invoke.Goals as goal
 pub invariant_of-self-2 : goal.invariant_of-self-2
 invariant_of-self-2 g c =
     let k = c.self.invariant.known in
-    let op : Operation = record { program = c.args.program; argument = c.args.argument.now } in
+    let op : Operation = Run (record { program = c.args.program; argument = c.args.argument.now }) in
     let none = not_refused (early_refusal c.shared-shared.result.catalogue.now Update c.args.program c.args.argument.now) c.post_only.result c.in_ok-post_only.field-0 (λ r e. (c.post_only.ensures.refused r e).0) c.in_ok-post_only.was in
     let p = (c.post_only.ensures.posted none).1 k c.self.invariant.is in
     let was = sym c.self.view_is ∙ seen_as c.self.inside.seat k c.self.invariant.is in
@@ -22,7 +23,7 @@ invariant_of-self-2 g c =
 pub returns : goal.returns
 returns g c =
     let k = c.self.invariant.known in
-    let op : Operation = record { program = c.args.program; argument = c.args.argument.now } in
+    let op : Operation = Run (record { program = c.args.program; argument = c.args.argument.now }) in
     let none = not_refused (early_refusal c.shared-shared.result.catalogue.now Update c.args.program c.args.argument.now) c.post_only.result c.in_ok-post_only.field-0 (λ r e. (c.post_only.ensures.refused r e).0) c.in_ok-post_only.was in
     let p = (c.post_only.ensures.posted none).1 k c.self.invariant.is in
     let was = sym c.self.view_is ∙ seen_as c.self.inside.seat k c.self.invariant.is in
