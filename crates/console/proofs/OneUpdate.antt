@@ -9,22 +9,24 @@ use Rattle.machine.specs.declared.running.Outcome.{Outcome}
 use Rattle.verifier.specs.declared.refusal.Mode.TheVariants.{Update}
 use Rattle.loader.specs.CatalogueView.{CatalogueView}
 use Rattle.oplog.specs.declared.configuration.TheConstants.{MAX_LIMIT}
+use Rattle.oplog.specs.Calls.{Call}
 use Rattle.oplog.specs.Operations.{Operation}
+use Rattle.oplog.specs.declared.records.Op.TheVariants.{Run}
 use Rattle.oplog.specs.declared.records.Record.{Record}
 use Rattle.oplog.specs.Logs.{Log, tail_of, left_of}
 use Rattle.oplog.specs.History.{Effect, History, left_by, after}
 use Rattle.replica.specs.StoreMeaning.{is_operation, store_meaning, AreUpdates}
 use Rattle.replica.specs.Views.{ReplicaView, RepliesView}
 use Rattle.replica.specs.Replaying.{IsAnswered, KeepsOutcomes}
-use Rattle.replica.proofs.Tested.{tests_true}
+use Rattle.replica.proofs.Tested.{tests_call}
 use Rattle.node.specs.declared.following.NodeReplica.{NodeReplica}
 use Rattle.node.specs.Following.{IsNext, room_for, grown, copied, replies_for, replayed, told}
 use Rattle.console.specs.declared.single_node.SingleNode.{SingleNode}
 use Rattle.console.specs.Running.{IsCallOf, IsUpdated}
 
 -- a call of an update program is an update
-pub is_update : (c : CatalogueView) (op : Operation) → IsCallOf c op Update → AreBytes op.argument → is_operation Update c op ≡ true
-is_update c op call bytes = tests_true Update c op (record { program = call.program; named = call.named; mode_is = call.allowed; length_is = call.length; bytes = bytes })
+pub is_update : (c : CatalogueView) (call : Call) → IsCallOf c call Update → AreBytes call.argument → is_operation Update c (Run call) ≡ true
+is_update c call is bytes = tests_call Update c call (record { program = is.program; named = is.named; mode_is = is.allowed; length_is = is.length; bytes = bytes })
 
 only_one : (c : CatalogueView) (r : Record) → is_operation Update c r.op ≡ true → AreUpdates c (r ∷ [])
 only_one c r is zero s e = subst (λ x. is_operation Update c x.op ≡ true) (same_Some r s e) is

@@ -8,7 +8,9 @@ use Rattle.machine.specs.Effects.{effect, effect_of}
 use Rattle.machine.specs.declared.running.Outcome.{Outcome}
 use Rattle.loader.specs.CatalogueView.{CatalogueView}
 use Rattle.oplog.specs.declared.configuration.TheConstants.{MAX_LIMIT}
+use Rattle.oplog.specs.Calls.{Call}
 use Rattle.oplog.specs.Operations.{Operation}
+use Rattle.oplog.specs.declared.records.Op.TheVariants.{Run}
 use Rattle.oplog.specs.Logs.{tail_of}
 use Rattle.oplog.specs.History.{Effect, reply_at, read_reply_at}
 use Rattle.replica.specs.StoreMeaning.{program_at, store_meaning}
@@ -69,13 +71,13 @@ module _ (c : CatalogueView) (at : Replayed) (op : Operation) (index reply : ℕ
         rw (there, none) (record { told = refl; goes_on = λ on. absurd (false≢true on) })
 
     -- a read
-    pub queried : (p : Checked) (o : Outcome) → program_at c op.program ≡ Some p → effect p.program old.node.own.replica.maps op.argument ≡ Some (effect_of o.steps o.reply old.node.own.replica.maps)
+    pub queried : (call : Call) (p : Checked) (o : Outcome) → op ≡ Run call → program_at c call.program ≡ Some p → effect p.program old.node.own.replica.maps call.argument ≡ Some (effect_of o.steps o.reply old.node.own.replica.maps)
         → new.node ≡ old.node → new.reads ≡ next_count old.reads → new.ended ≡ old.ended
         → IsCompared c (read_agrees c at.history op index reply) (record at { reads = next_count at.reads }) (eqb o.reply reply) new
-    queried p o named ran node reads ended =
+    queried call p o is_call named ran node reads ended =
         let there = on_index in
         let told_here : read_reply_at store_meaning c at.history (length at.history) op ≡ Some o.reply =
-        ap (λ (x : Maps). option_map (λ e. e.reply) (store_meaning.read c op x)) (here c at.history old.node has.placed) ∙ rw (named, ran) refl in
+        ap (λ (x : Maps). option_map (λ e. e.reply) (store_meaning.read c op x)) (here c at.history old.node has.placed) ∙ rw (is_call, named, ran) refl in
         let agrees : read_agrees c at.history op index reply ≡ eqb o.reply reply = rw there (ap (is_reply reply) told_here) in
         record {
           told = sym agrees;

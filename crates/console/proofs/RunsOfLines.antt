@@ -24,11 +24,12 @@ use Rattle.loader.proofs.Passed.{passes_stay}
 use Rattle.loader.proofs.Steps.{is_catalogue, nothing_partial}
 use Rattle.oplog.specs.declared.configuration.TheConstants.{MAX_LIMIT}
 use Rattle.oplog.specs.declared.records.Record.{Record}
-use Rattle.oplog.specs.Operations.{Operation}
+use Rattle.oplog.specs.Calls.{Call as TheCall}
+use Rattle.oplog.specs.declared.records.Op.TheVariants.{Run}
 use Rattle.oplog.specs.History.{Effect, History, left_by, after, maps_after, effect_at, read_at}
 use Rattle.replica.specs.StoreMeaning.{program_at, is_operation, AreUpdates, store_meaning}
 use Rattle.replica.specs.HistoryLaws.{HasEffects}
-use Rattle.replica.proofs.Tested.{tests_true}
+use Rattle.replica.proofs.Tested.{tests_call}
 use Rattle.replica.proofs.Histories.{have_effects}
 use Rattle.console.specs.Answer.{Answer}
 use Rattle.console.specs.Script.{ProgramCall, Meaning, Comment, Call, named_call, call_meaning, line_meaning}
@@ -89,23 +90,23 @@ pushed c (x ∷ h) r updates is (suc k) s e = pushed c h r (λ i t f. updates (s
 
 module _ (c : CatalogueView) (is_whole : IsCatalogue c) (h : History) (updates : AreUpdates c h) (k : ℕ) (argument : List ℕ) (bytes : AreBytes argument) (program : Checked) (named : program_at c k ≡ Some program)
     (fits : length argument ≡ program.arg_len) where
-  abbrev op : Operation
-  op = record { program = k; argument = argument }
+  abbrev one : TheCall
+  one = record { program = k; argument = argument }
 
   has_effects : HasEffects c h
   has_effects = have_effects c is_whole h updates
 
-  is_of : (mode : Mode) → program.mode ≡ mode → is_operation mode c op ≡ true
-  is_of mode m = tests_true mode c op (record { program = program; named = named; mode_is = m; length_is = fits; bytes = bytes })
+  is_of : (mode : Mode) → program.mode ≡ mode → is_operation mode c (Run one) ≡ true
+  is_of mode m = tests_call mode c one (record { program = program; named = named; mode_is = m; length_is = fits; bytes = bytes })
 
   same_program : (other : Checked) → program_at c k ≡ Some other → program ≡ other
   same_program other e = let same : Some program ≡ Some other = sym named ∙ e in cc
 
-  update_turn : program.mode ≡ Update → length h < MAX_LIMIT → IsUpdateTurn c h op (record { text = update_line (length h) (effect_at store_meaning c h (length h) op); history = with_operation h op })
+  update_turn : program.mode ≡ Update → length h < MAX_LIMIT → IsUpdateTurn c h one (record { text = update_line (length h) (effect_at store_meaning c h (length h) (Run one)); history = with_operation h (Run one) })
   update_turn mode room =
-      let u = has_effects.updates (length h) op (is_of Update mode) in
+      let u = has_effects.updates (length h) one (is_of Update mode) in
       let run = u.0 in
-      let r : Record = record { author = 0; seq = length h; op = op } in
+      let r : Record = record { author = 0; seq = length h; op = Run one } in
       record {
         run =
             record {
@@ -121,13 +122,13 @@ module _ (c : CatalogueView) (is_whole : IsCatalogue c) (h : History) (updates :
         text = ap (update_line (length h)) u.1;
         next = refl;
         left =
-            whole c (with_operation h op) ∙ after_append store_meaning c (opening_maps c.shapes) h (r ∷ []) ∙ ap (λ (m : Maps). after store_meaning c m (r ∷ [])) (sym (whole c h))
+            whole c (with_operation h (Run one)) ∙ after_append store_meaning c (opening_maps c.shapes) h (r ∷ []) ∙ ap (λ (m : Maps). after store_meaning c m (r ∷ [])) (sym (whole c h))
             ∙ ap (λ (e : Option (Effect Maps)). left_by e (maps_after store_meaning c h (length h))) u.1;
       }
 
-  read_turn : program.mode ≡ Read → IsReadTurn c h op (record { text = read_line (length h) (read_at store_meaning c h (length h) op); history = h })
+  read_turn : program.mode ≡ Read → IsReadTurn c h one (record { text = read_line (length h) (read_at store_meaning c h (length h) (Run one)); history = h })
   read_turn mode =
-      let u = has_effects.reads (length h) op (is_of Read mode) in
+      let u = has_effects.reads (length h) one (is_of Read mode) in
       let run = u.0 in
       record {
         run =
@@ -146,8 +147,8 @@ module _ (c : CatalogueView) (is_whole : IsCatalogue c) (h : History) (updates :
       }
 
   -- the history that a turn leaves has updates alone
-  grown : program.mode ≡ Update → AreUpdates c (with_operation h op)
-  grown mode = pushed c h (record { author = 0; seq = length h; op = op }) updates (is_of Update mode)
+  grown : program.mode ≡ Update → AreUpdates c (with_operation h (Run one))
+  grown mode = pushed c h (record { author = 0; seq = length h; op = Run one }) updates (is_of Update mode)
 
 refused_turn : (h : History) (number : ℕ) → IsRefusedTurn h (refused h number)
 refused_turn h number = record { number = number; text = refl; same = refl }
@@ -163,24 +164,24 @@ module _ (c : CatalogueView) (is_whole : IsCatalogue c) (h : History) (updates :
   stops number = (inl (refused_turn h number), updates)
 
   module _ (k : ℕ) (numbered_so : number_named c.programs call.name ≡ Some k) where
-    abbrev op_of : Operation
-    op_of = record { program = k; argument = call.argument }
+    abbrev called_so : TheCall
+    called_so = record { program = k; argument = call.argument }
 
-    goes_with : (program : Checked) (mode : Mode) → program_at c k ≡ Some program → length call.argument ≡ program.arg_len → program.mode ≡ mode → Goes c h call (performed c h op_of mode)
+    goes_with : (program : Checked) (mode : Mode) → program_at c k ≡ Some program → length call.argument ≡ program.arg_len → program.mode ≡ mode → Goes c h call (performed c h (Run called_so) mode)
     goes_with program Read named fits is = (inr (k, numbered_so, inr (read_turn c is_whole h updates k call.argument bytes program named fits is)), updates)
     goes_with program Update named fits is = by_room (ltb (length h) MAX_LIMIT) refl
       where
         by_room : (b : Bool) → ltb (length h) MAX_LIMIT ≡ b
-            → Goes c h call (cond b (record { text = update_line (length h) (effect_at store_meaning c h (length h) op_of); history = with_operation h op_of }) (refused h 4))
+            → Goes c h call (cond b (record { text = update_line (length h) (effect_at store_meaning c h (length h) (Run called_so)); history = with_operation h (Run called_so) }) (refused h 4))
         by_room true room =
             (inr (k, numbered_so, inl (update_turn c is_whole h updates k call.argument bytes program named fits is (ltb-true _ _ room))), grown c is_whole h updates k call.argument bytes program named fits is)
         by_room false room = stops 4
 
-    by_program : (o : Option Checked) → program_at c k ≡ o → Goes c h call (performed_by c h op_of o)
+    by_program : (o : Option Checked) → program_at c k ≡ o → Goes c h call (performed_by c h called_so o)
     by_program None e = stops 1
     by_program (Some program) e = by_length (eqb (length call.argument) program.arg_len) refl
       where
-        by_length : (b : Bool) → eqb (length call.argument) program.arg_len ≡ b → Goes c h call (cond b (performed c h op_of program.mode) (refused h 2))
+        by_length : (b : Bool) → eqb (length call.argument) program.arg_len ≡ b → Goes c h call (cond b (performed c h (Run called_so) program.mode) (refused h 2))
         by_length true fits = goes_with program program.mode e (eqb-true _ _ fits) refl
         by_length false fits = stops 2
 

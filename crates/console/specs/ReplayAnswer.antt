@@ -7,6 +7,7 @@ use Rattle.text.specs.Lines.{lines_of, next_line}
 use Rattle.loader.specs.CatalogueView.{CatalogueView, number_named}
 use Rattle.loader.specs.Loading.{Outcome}
 use Rattle.oplog.specs.Operations.{Operation}
+use Rattle.oplog.specs.declared.records.Op.TheVariants.{Run}
 use Rattle.oplog.specs.declared.configuration.TheConstants.{MAX_LIMIT}
 use Rattle.oplog.specs.History.{History, reply_at, read_reply_at}
 use Rattle.replica.specs.StoreMeaning.{program_at, store_meaning, is_mode}
@@ -54,7 +55,7 @@ may_call mode argument (Some p) = is_mode p.mode mode && (length argument == p.a
 -- the operation that is called: of a program that the catalogue has, of that mode, with an argument of its length
 abbrev pub operation_of : CatalogueView → Mode → ProgramCall → Option Operation
 operation_of c mode call =
-    option_and_then (λ k. if may_call mode call.argument (program_at c k) then Some (record { program = k; argument = call.argument }) else None)
+    option_and_then (λ k. if may_call mode call.argument (program_at c k) then Some (Run (record { program = k; argument = call.argument })) else None)
     (number_named c.programs call.name)
 
 abbrev pub is_reply : ℕ → Option ℕ → Bool

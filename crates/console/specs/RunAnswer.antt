@@ -7,7 +7,9 @@ use Rattle.verifier.specs.Accepted.{Checked}
 use Rattle.text.specs.Lines.{lines_of, next_line}
 use Rattle.loader.specs.CatalogueView.{CatalogueView, number_named}
 use Rattle.loader.specs.Loading.{Outcome}
+use Rattle.oplog.specs.Calls.{Call as TheCall}
 use Rattle.oplog.specs.Operations.{Operation}
+use Rattle.oplog.specs.declared.records.Op.TheVariants.{Run}
 use Rattle.oplog.specs.declared.configuration.TheConstants.{MAX_LIMIT}
 use Rattle.oplog.specs.History.{Effect, ReadEffect, History, effect_at, read_at}
 use Rattle.replica.specs.StoreMeaning.{program_at, store_meaning}
@@ -71,9 +73,9 @@ performed c history op Update =
 performed c history op Read = record { text = read_line (length history) (read_at store_meaning c history (length history) op); history = history }
 
 -- by the program of the call
-abbrev pub performed_by : CatalogueView → History → Operation → Option Checked → Turn
-performed_by c history op None = refused history 1
-performed_by c history op (Some program) = if length op.argument == program.arg_len then performed c history op program.mode else refused history 2
+abbrev pub performed_by : CatalogueView → History → TheCall → Option Checked → Turn
+performed_by c history call None = refused history 1
+performed_by c history call (Some program) = if length call.argument == program.arg_len then performed c history (Run call) program.mode else refused history 2
 
 -- by the number of its name
 abbrev pub numbered : CatalogueView → History → List ℕ → Option ℕ → Turn

@@ -10,7 +10,8 @@ use Rattle.loader.specs.CatalogueView.{CatalogueView, number_named}
 use Rattle.loader.specs.ProgramFiles.{Files}
 use Rattle.loader.specs.Loading.{loaded}
 use Rattle.oplog.specs.declared.configuration.TheConstants.{MAX_LIMIT}
-use Rattle.oplog.specs.Operations.{Operation}
+use Rattle.oplog.specs.Calls.{Call as TheCall}
+use Rattle.oplog.specs.declared.records.Op.TheVariants.{Run}
 use Rattle.oplog.specs.History.{History, maps_after}
 use Rattle.replica.specs.StoreMeaning.{program_at, store_meaning}
 use Rattle.console.specs.declared.status.Verdict.TheVariants as verdicts
@@ -18,27 +19,27 @@ use Rattle.console.specs.Answer.{Answer}
 use Rattle.console.specs.Script.{ProgramCall, Comment, Call, line_meaning}
 use Rattle.console.specs.RunAnswer.{Turn, update_text, read_text, refused_text, with_operation, behind, bad_line, ran}
 
--- the operation's program, of this mode, runs on the maps after the whole history
-pub record CallRuns (c : CatalogueView) (h : History) (op : Operation) (mode : Mode) : Type 0 where
+-- the call's program, of this mode, runs on the maps after the whole history
+pub record CallRuns (c : CatalogueView) (h : History) (call : TheCall) (mode : Mode) : Type 0 where
   pub program : Checked
-  pub named : program_at c op.program ≡ Some program
+  pub named : program_at c call.program ≡ Some program
   pub mode_is : program.mode ≡ mode
   pub steps : ℕ
   pub reply : ℕ
   pub left : Maps
-  pub runs : Runs program.program (maps_after store_meaning c h (length h)) op.argument steps reply left
+  pub runs : Runs program.program (maps_after store_meaning c h (length h)) call.argument steps reply left
 
 -- an update wrote its index in the history and what its run answers; the history goes on with it, and with the maps that it leaves
-pub record IsUpdateTurn (c : CatalogueView) (h : History) (op : Operation) (turn : Turn) : Type 0 where
-  pub run : CallRuns c h op Update
+pub record IsUpdateTurn (c : CatalogueView) (h : History) (call : TheCall) (turn : Turn) : Type 0 where
+  pub run : CallRuns c h call Update
   pub room : length h < MAX_LIMIT
   pub text : turn.text ≡ update_text (length h) run.reply run.steps
-  pub next : turn.history ≡ with_operation h op
+  pub next : turn.history ≡ with_operation h (Run call)
   pub left : maps_after store_meaning c turn.history (length turn.history) ≡ run.left
 
 -- a read wrote the number of updates before it and what its run answers, and the history stays
-pub record IsReadTurn (c : CatalogueView) (h : History) (op : Operation) (turn : Turn) : Type 0 where
-  pub run : CallRuns c h op Read
+pub record IsReadTurn (c : CatalogueView) (h : History) (call : TheCall) (turn : Turn) : Type 0 where
+  pub run : CallRuns c h call Read
   pub text : turn.text ≡ read_text (length h) run.reply run.steps
   pub same : turn.history ≡ h
   pub left : run.left ≡ maps_after store_meaning c h (length h)

@@ -7,6 +7,7 @@ use Rattle.verifier.specs.Accepted.{Checked}
 use Rattle.machine.specs.declared.running.Outcome.{Outcome}
 use Rattle.loader.specs.CatalogueView.{CatalogueView}
 use Rattle.oplog.specs.declared.configuration.TheConstants.{MAX_LIMIT}
+use Rattle.oplog.specs.Calls.{Call}
 use Rattle.oplog.specs.Operations.{Operation}
 use Rattle.oplog.specs.Logs.{tail_of}
 use Rattle.oplog.specs.History.{Effect, History, after}
@@ -28,12 +29,12 @@ pub record Follows (c : CatalogueView) (h : History) (n : SingleNode) : Type 0 w
   pub count : tail_of n.log ≡ length h
   pub maps : n.own.replica.maps ≡ after store_meaning c (opening_maps c.shapes) h
 
--- an operation of a program of this mode, with as many bytes as its argument has
-pub record IsCallOf (c : CatalogueView) (op : Operation) (mode : Mode) : Type 0 where
+-- a call of a program of this mode, with as many bytes as its argument has
+pub record IsCallOf (c : CatalogueView) (call : Call) (mode : Mode) : Type 0 where
   pub program : Checked
-  pub named : program_at c op.program ≡ Some program
+  pub named : program_at c call.program ≡ Some program
   pub allowed : program.mode ≡ mode
-  pub length : length op.argument ≡ program.arg_len
+  pub length : length call.argument ≡ program.arg_len
 
 -- the node applied one more operation, and answered this
 pub record IsUpdated (c : CatalogueView) (op : Operation) (old new : SingleNode) (o : Outcome) : Type 0 where

@@ -4,7 +4,8 @@ use Rattle.std.specs.Prelude.{ℕ, suc, Bool, ◌&&◌, List, [], ◌∷◌, ◌
 use Rattle.text.specs.Lines.{lines_of, next_line}
 use Rattle.loader.specs.CatalogueView.{CatalogueView, number_named}
 use Rattle.loader.specs.Loading.{Outcome}
-use Rattle.oplog.specs.Operations.{Operation}
+use Rattle.oplog.specs.Calls.{Call}
+use Rattle.oplog.specs.declared.records.Op.TheVariants.{Run}
 use Rattle.oplog.specs.Logs.{Log, tail_of}
 use Rattle.oplog.specs.declared.configuration.Config.{Config}
 use Rattle.oplog.specs.declared.configuration.TheConstants.{MAX_NODES, MAX_NODE_SLOTS, MIN_WINDOW, MAX_WINDOW, MAX_LIMIT}
@@ -52,9 +53,9 @@ end_text w = log_text w.log ++ nodes_text 0 w.nodes
 
 -- ---- one line
 
--- the operation that a line calls; no catalogue has a program of the number that stands for an unknown name
-abbrev pub operation_at : CatalogueView → CallAt → Operation
-operation_at c at = record { program = unwrap_or (number_named c.programs at.call.name) 65535; argument = at.call.argument }
+-- the call that a line makes; no catalogue has a program of the number that stands for an unknown name
+abbrev pub call_at : CatalogueView → CallAt → Call
+call_at c at = record { program = unwrap_or (number_named c.programs at.call.name) 65535; argument = at.call.argument }
 
 abbrev pub node_of : StepMeaning → ℕ
 node_of Comment = 0
@@ -73,8 +74,8 @@ node_of (Rebase n) = n
 -- what the line's step makes of the log and of its node; none where it may not be taken
 abbrev pub part_of : Opening → StepMeaning → Log → NodeView → Option Part
 part_of m Comment g node = None
-part_of m (Post at) g node = steps.post m at.slot (operation_at m.catalogue at) g node
-part_of m (ReadBegin at) g node = steps.read_begin m at.slot (operation_at m.catalogue at) g node
+part_of m (Post at) g node = steps.post m at.slot (Run (call_at m.catalogue at)) g node
+part_of m (ReadBegin at) g node = steps.read_begin m at.slot (call_at m.catalogue at) g node
 part_of m (Collect at) g node = steps.collect at.slot g node
 part_of m (ReadAnswer at) g node = steps.read_answer m at.slot g node
 part_of m (Claim n) g node = steps.claim g node

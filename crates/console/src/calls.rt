@@ -2,6 +2,7 @@
 
 ghost use Rattle.std.specs.Prelude.{◌≡◌, ◌≤◌, Some, length, IfOk, OnOk};
 ghost use Rattle.maps.specs.declared.shapes.TheConstants.{MAX_ARG_LEN};
+ghost use Rattle.oplog.specs.declared.records.Op.TheVariants.{Run};
 ghost use Rattle.oplog.specs.History.{History};
 ghost use Rattle.replica.specs.StoreMeaning.{program_at};
 ghost use Rattle.console.specs.RunAnswer.{performed, numbered, called, line_turn};
@@ -39,7 +40,7 @@ fn perform(
     ensures steady { IsSteady catalogue.now node.new }
     ensures taken { (h : History) → Follows catalogue.now h node.old
         → OnOk result (IsTaken catalogue.now
-        (performed catalogue.now h (record { program = numbered.entry.number; argument = argument.now }) numbered.entry.program.now.mode)
+        (performed catalogue.now h (Run (record { program = numbered.entry.number; argument = argument.now })) numbered.entry.program.now.mode)
         node.new out.old.items out.new.items) }
 {
     let Numbered { number, program } = numbered;

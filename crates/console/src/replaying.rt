@@ -8,6 +8,7 @@ ghost use Rattle.text.specs.Lines.{lines_of};
 ghost use Rattle.console.specs.ReplayAnswer.{Replayed, operation_of, update_agrees, read_agrees, with_update, answered_outcome, ended_outcome, line_outcome, transcript_answer};
 ghost use Rattle.console.specs.ReplayAnswer.{nothing_replayed, next_count};
 ghost use Rattle.oplog.specs.Operations.{Operation as TheOperation};
+ghost use Rattle.oplog.specs.declared.records.Op.TheVariants.{Run};
 ghost use Rattle.console.specs.Replaying.{HasReplayed, IsCompared, LineReplayed, compared_verdict, ended_answer, ended_verdict};
 ghost use Rattle.console.specs.Running.{IsSteady, IsCallOf};
 ghost use Rattle.console.specs.ScriptShown.{call_of, answered_of};
@@ -62,7 +63,7 @@ impl ReplayEnd {
 
 // The program that a call names, where it has this mode and the argument has its length.
 fn find<'a>(catalogue: &'a Catalogue, mode: Mode, call: &ProgramCall) -> Option<Numbered<'a>>
-    ensures found { option_map (λ n. record { program = n.number; argument = call.now.argument.items }) result
+    ensures found { option_map (λ n. Run (record { program = n.number; argument = call.now.argument.items })) result
         ≡ operation_of catalogue.now mode (call_of call.now) }
     ensures fits { IfSome result (λ n. IsCallOf catalogue.now (record { program = n.number; argument = call.now.argument.items }) mode) }
     ensures program { IfSome result (λ n. program_at catalogue.now n.number ≡ Some n.program.now) }
@@ -104,7 +105,7 @@ impl Replaying {
         requires call { IsCallOf catalogue.now (record { program = number; argument = call.now.call.argument.items }) Update }
         requires fits { length call.now.call.argument.items ≤ MAX_ARG_LEN }
         ensures steady { IsSteady catalogue.now self.new.node }
-        ensures compared { (at : Replayed) (op : TheOperation) → op ≡ record { program = number; argument = call.now.call.argument.items }
+        ensures compared { (at : Replayed) (op : TheOperation) → op ≡ Run (record { program = number; argument = call.now.call.argument.items })
             → HasReplayed catalogue.now at self.old
             → IsCompared catalogue.now (update_agrees catalogue.now at.history op call.now.index call.now.reply) (with_update at op) result self.new }
     {
@@ -128,7 +129,7 @@ impl Replaying {
         requires length { length call.now.call.argument.items ≡ found.program.now.arg_len }
         requires mode { (found.program.now.mode ≡ Read) × (found.program.now.shapes ≡ catalogue.now.shapes) }
         ensures steady { IsSteady catalogue.now self.new.node }
-        ensures compared { (at : Replayed) (op : TheOperation) → op ≡ record { program = found.entry.number; argument = call.now.call.argument.items }
+        ensures compared { (at : Replayed) (op : TheOperation) → op ≡ Run (record { program = found.entry.number; argument = call.now.call.argument.items })
             → HasReplayed catalogue.now at self.old
             → IsCompared catalogue.now (read_agrees catalogue.now at.history op call.now.index call.now.reply)
             (record at { reads = next_count at.reads }) result self.new }

@@ -5,13 +5,14 @@ ghost use Rattle.verifier.specs.declared.refusal.Mode.TheVariants.{Update, Read}
 ghost use Rattle.maps.specs.Maps.{shapes_of};
 ghost use Rattle.machine.specs.Effects.{effect, effect_of};
 ghost use Rattle.oplog.specs.Logs.{tail_of, room_in};
+ghost use Rattle.oplog.specs.declared.records.Op.TheVariants.{Run};
 ghost use Rattle.maps.specs.declared.shapes.TheConstants.{MAX_ARG_LEN};
 ghost use Rattle.console.specs.Running.{IsSteady, Follows, IsCallOf, IsUpdated, HasEnded};
 
 use loader::Catalogue;
 use machine::Outcome;
 use node::{NodeReplica, append, finish, reclaim, replay};
-use oplog::{Hand, LogState, MAX_LIMIT, MAX_WINDOW, Op, Record};
+use oplog::{Call, Hand, LogState, MAX_LIMIT, MAX_WINDOW, Op, Record};
 use replica::Replica;
 use std::alloc::{AllocError, Global};
 use verifier::Accepted;
@@ -68,7 +69,7 @@ impl SingleNode {
         requires call { IsCallOf catalogue.now (record { program = program; argument = argument.now }) Update }
         requires fits { length argument.now ≤ MAX_ARG_LEN }
         ensures steady { IsSteady catalogue.now self.new }
-        ensures updated { IfSome result (λ o. IsUpdated catalogue.now (record { program = program; argument = argument.now }) self.old self.new o) }
+        ensures updated { IfSome result (λ o. IsUpdated catalogue.now (Run (record { program = program; argument = argument.now })) self.old self.new o) }
         ensures ended { IfNone result (HasEnded self.old self.new) }
     {
         self.make_room(catalogue);
@@ -79,7 +80,7 @@ impl SingleNode {
         let record = Record {
             author: 0,
             seq,
-            op: Op::new(program, argument),
+            op: Op::Run(Call::new(program, argument)),
         };
         let mut replies = append(&mut self.log, &mut self.own, &[record]);
         replay(&mut self.own, catalogue, &mut replies);

@@ -12,6 +12,7 @@ use Rattle.maps.specs.Maps.{Maps}
 use Rattle.machine.specs.Effects.{effect, effect_of}
 use Rattle.machine.specs.MapExamples.{bump, peek, with_values}
 use Rattle.oplog.specs.Operations.{Operation}
+use Rattle.oplog.specs.declared.records.Op.TheVariants.{Run}
 use Rattle.oplog.specs.History.{History, maps_after, left_by}
 use Rattle.replica.specs.StoreMeaning.{store_meaning, as_update, as_read}
 use Rattle.console.specs.Script.{named_call, call_meaning, line_meaning}
@@ -21,7 +22,7 @@ use Rattle.example_answers.proofs.Opening.{opening, opens, none_opens, counts, n
 
 -- the history after so many calls of bump
 abbrev bump_of : List ℕ → Operation
-bump_of argument = record { program = 0; argument = argument }
+bump_of argument = Run (record { program = 0; argument = argument })
 
 abbrev pub once : History
 once = with_operation [] (bump_of first)

@@ -13,6 +13,7 @@ use Rattle.ownlock.specs.Seats.{At, ShelfId}
 use Rattle.loader.specs.CatalogueView.{CatalogueView}
 use Rattle.oplog.specs.declared.configuration.Config.{Config}
 use Rattle.oplog.specs.Operations.{Operation}
+use Rattle.oplog.specs.declared.records.Op.TheVariants.{Run}
 use Rattle.oplog.specs.declared.records.Record.{Record}
 use Rattle.replica.specs.StoreMeaning.{store_meaning}
 use Rattle.accounts.specs.declared.sessions.Progress.{Progress}
@@ -204,7 +205,7 @@ module _ (old new : SessionView) (t : Told) (op : Operation) (asks : Asks (calle
   }
 
 abbrev pub with_argument : ℕ → List ℕ → Operation
-with_argument program argument = record { program = program; argument = argument }
+with_argument program argument = Run (record { program = program; argument = argument })
 
 pub same_call : (x y : ProgramCall) (l : Option Meaning) → l ≡ Some (Call x) → Some (Call y) ≡ l → x ≡ y
 same_call x y l is read = let both : Some (Call x) ≡ Some (Call y) = sym is ∙ sym read in cc

@@ -1,14 +1,19 @@
 //! Desks: one request a slot, one combiner at a time, and each answer at its own slot.
 
 use combiner::{Batch, Desk, DeskRefused, Reply};
-use oplog::Op;
+use oplog::{Call, Op};
+
+// The run of the fourth program.
+fn fourth_program(argument: &[u8; 1]) -> Op {
+    Op::Run(Call::new(3, argument))
+}
 
 #[test]
 fn one_request_a_slot(rt: HostRuntime) {
     let mut desk = Desk::new(0, 2);
-    let first = desk.post(0, Op::new(3, &[1]));
+    let first = desk.post(0, fourth_program(&[1]));
     assert!(&rt; first == Ok(()));
-    let second = desk.post(0, Op::new(3, &[2]));
+    let second = desk.post(0, fourth_program(&[2]));
     assert!(&rt; second == Err(DeskRefused::SlotBusy));
 }
 
@@ -24,7 +29,7 @@ fn nothing_to_claim(rt: HostRuntime) {
 #[test]
 fn one_combiner_at_a_time(rt: HostRuntime) {
     let mut desk = Desk::new(1, 2);
-    assert!(&rt; desk.post(1, Op::new(3, &[1])).is_ok());
+    assert!(&rt; desk.post(1, fourth_program(&[1])).is_ok());
     let mut batch = Batch::new();
     assert!(&rt; desk.claim(&mut batch).is_ok());
     assert!(&rt; desk.claimed());

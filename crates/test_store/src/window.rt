@@ -3,7 +3,7 @@
 ghost use Rattle.std.specs.Prelude.{◌≡◌, ◌≤◌};
 
 use maps::{MapSet, Shape, shapes_ok};
-use oplog::{Appended, Config, CopyAnswer, Ended, Hand, LogState, Op, OpenError, Record};
+use oplog::{Appended, Call, Config, CopyAnswer, Ended, Hand, LogState, Op, OpenError, Record};
 use std::test::Fail;
 
 const SHAPES: [Shape; 1] = [Shape::Array {
@@ -15,7 +15,7 @@ fn third_program(author: u16, seq: u64) -> Record {
     Record {
         author,
         seq,
-        op: Op::new(2, &[7, 0, 0, 255]),
+        op: Op::Run(Call::new(2, &[7, 0, 0, 255])),
     }
 }
 
@@ -44,8 +44,14 @@ fn copies_records(rt: HostRuntime) {
     assert!(&rt; log.copy_from(1, &mut hand) == CopyAnswer::Copied);
     assert_eq!(rt; (hand.begin(), hand.len()), (1, 1));
     let copied = hand.record(0);
-    assert_eq!(rt; (copied.author, copied.seq, copied.op.program()), (0, 0, 2));
-    assert!(&rt; copied.op.argument() == [7, 0, 0, 255].as_slice());
+    assert_eq!(rt; (copied.author, copied.seq), (0, 0));
+    match &copied.op {
+        Op::Run(call) => {
+            assert_eq!(rt; call.program(), 2);
+            assert!(&rt; call.argument() == [7, 0, 0, 255].as_slice());
+        }
+        Op::Install(_) => assert!(&rt; false),
+    }
 }
 
 // The first record is dropped; what lies below the base is copied no more.

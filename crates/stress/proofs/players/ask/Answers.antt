@@ -3,6 +3,7 @@ use Rattle.verifier.specs.declared.refusal.Mode.{Mode}
 use Rattle.console.specs.Script.{ProgramCall}
 use Rattle.console.specs.ScriptShown.{call_of, meaning_of}
 use Rattle.oplog.specs.Operations.{Operation}
+use Rattle.oplog.specs.declared.records.Op.TheVariants.{Run}
 use Rattle.replica.specs.Refusals.{early_refusal}
 use Rattle.store.specs.Sessions.{TellsUpdate, TellsRead}
 use Rattle.stress.specs.declared.lines.Told.{Told}
@@ -21,7 +22,7 @@ returns-clause-told g c =
     let read = ap (λ m. Some (meaning_of m)) (sym c.in-Some-Call.field-0-is) ∙ c.in-Some-Call.ensures in
     let value = c.as_slice-argument.ensures.value in
     let argument = c.as_slice-argument.result.now in
-    let op : Operation = record { program = call.program; argument = argument } in
+    let op : Operation = Run (record { program = call.program; argument = argument }) in
     let asks : Asks (called call) op = (said, sym read, ap (with_argument call.program) value) in
     let bytes : ready.said.argument ≡ argument = ap (λ (x : ProgramCall). x.argument) (same_call ready.said said _ ready.is read) ∙ sym value in
     let early = λ (mode : Mode) (is : call.mode ≡ mode). subst (λ (p : Mode × List ℕ). early_refusal c.args.store.now.catalogue p.0 call.program p.1 ≡ None) (λ i. (is i, bytes i)) ready.ready in
