@@ -1,4 +1,6 @@
 -- What a line that was read says, without where its text lies. Clauses of private functions alone cite this.
+use Rattle.std.specs.Prelude.{ℕ}
+use Rattle.oplog.specs.Operations.{Operation}
 use Rattle.console.specs.declared.script.ProgramCall.{ProgramCall as TheCall}
 use Rattle.console.specs.declared.script.ScriptLine.{ScriptLine}
 use Rattle.console.specs.declared.script.ScriptLine.TheVariants as lines
@@ -17,6 +19,10 @@ use Rattle.console.specs.Transcript.{TranscriptMeaning, AnsweredCall}
 
 abbrev pub call_of : TheCall → ProgramCall
 call_of c = record { name = c.name.now; argument = c.argument.items }
+
+-- the operation of a call, by the number of its program
+abbrev pub numbered_operation : ℕ → TheCall → Operation
+numbered_operation number c = record { program = number; argument = c.argument.items }
 
 abbrev pub meaning_of : ScriptLine → Meaning
 meaning_of lines.Comment = Comment
