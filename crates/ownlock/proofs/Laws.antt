@@ -1,5 +1,5 @@
 -- What the invariant says between two steps.
-use Rattle.std.proofs.Common.{◌≡◌, ◌≢◌, ℕ, ◌<◌, List, length, get_or, sym, refl, ap, ◌∙◌, subst, inl, inr, Option, Some}
+use Rattle.std.proofs.Common.{◌≡◌, ◌≢◌, ℕ, ◌<◌, List, get_or, sym, refl, ap, ◌∙◌, subst, inl, inr, Option, Some}
 use mathlib.Core.Logic.{dite}
 use mathlib.Core.Option as kernel
 use mathlib.Core.Option.{some-injective, some-ne-none}

@@ -1,4 +1,4 @@
-use Rattle.std.proofs.Common.{arith, ◌≡◌, ◌∷◌, [], ◌++◌, sym, ap, ◌∙◌, None, length}
+use Rattle.std.proofs.Common.{arith, ◌∷◌, ◌++◌, sym, ap, ◌∙◌, None, length}
 use Rattle.ownlock.specs.Spreading.{spread}
 use Rattle.std.specs.Vec.Iter.{into_iter_items}
 use Rattle.ownlock.proofs.Spread.{spread_first, gathered_more, gathered_all, passed, nothing_left, long_more}

@@ -1,4 +1,4 @@
-use Rattle.std.proofs.Common.{◌≡◌, ◌<◌, false, ℕ, Option, length, slice_index_or, vec_capacity}
+use Rattle.std.proofs.Common.{◌≡◌, ◌<◌, false, ℕ, length, slice_index_or, vec_capacity}
 use Rattle.std.specs.Mem.Slots.{slots_items, slots_filled, slots_len}
 use Rattle.std.specs.Mem.Slots.Ownership.{Filled}
 use Rattle.ownlock.specs.Words.{slot_of}

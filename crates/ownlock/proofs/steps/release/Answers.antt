@@ -1,5 +1,4 @@
-use Rattle.std.proofs.Common.{◌∷◌, rules, ap, ◌∙◌, map, Some, None}
-use Rattle.atomic_table.specs.Table.{rest}
+use Rattle.std.proofs.Common.{rules, ap, map, None}
 use Rattle.ownlock.specs.Seats.{without}
 use Rattle.ownlock.specs.Invariant.{emptied}
 use Rattle.ownlock.proofs.Frees.{fronts, frees, put_out, none_left, put_in, freed_with}

@@ -1,5 +1,4 @@
-use Rattle.std.proofs.Common.{◌∷◌, rules, ap, sym, ◌∙◌, Some}
-use Rattle.atomic_table.specs.Table.{rest}
+use Rattle.std.proofs.Common.{rules, Some}
 use Rattle.ownlock.proofs.Tries.{tries, taken_out, slot_out, was_there}
 use Rattle.ownlock.proofs.steps.try_once.Goals as goal
 
