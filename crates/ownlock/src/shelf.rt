@@ -150,6 +150,15 @@ impl<V: Shelved> Shelf<V> {
         release::<V, M>(&self.table.shared, &mut seat.pass, place, value);
     }
 
+    /// What the word of a place is just now: a look that changes nothing, and of which nothing is promised. It moves when the place is
+    /// taken and when it is put back, so that who waits for what is done there need not take a place to see whether that has begun or
+    /// ended.
+    pub fn glance(&self, place: usize) -> u64
+        requires { place < self.now.places }
+    {
+        self.table.shared.peek(word_of(place))
+    }
+
     /// The completed tail, which the session has read then. It waits for nobody, and the session may hold any places: what it took
     /// from there still agrees.
     pub fn done(&self, seat: &mut Seat<V>) -> u64
