@@ -1,0 +1,4 @@
+pub mod Digits
+pub mod FirstWords
+pub mod ValueSteps
+pub mod EncodedLines

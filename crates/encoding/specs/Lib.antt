@@ -1,0 +1,7 @@
+-- What a text of calls says, and where it is refused.
+pub mod Words
+pub mod Values
+pub mod Faults
+pub mod Encoded
+-- The steps between reading and writing.
+pub mod Shown
