@@ -1,5 +1,5 @@
 -- The script that a text of calls says, as a function of the text.
-use Rattle.std.specs.Prelude.{ℕ, ◌+◌, ◌-◌, nat_lt, List, [], ◌∷◌, ◌++◌, length, codes, Option, Some, None, Result, Ok, Err, if◌then◌else◌}
+use Rattle.std.specs.Prelude.{◌≡◌, ℕ, ◌+◌, ◌-◌, nat_lt, List, [], ◌∷◌, ◌++◌, length, codes, Option, Some, None, Result, Ok, Err, MatchResult, if◌then◌else◌}
 use Rattle.hex.specs.Hex.{encode_lower}
 use Rattle.text.specs.declared.lines.LineKind.{LineKind}
 use Rattle.text.specs.declared.lines.LineKind.TheVariants as line_kinds
@@ -49,6 +49,10 @@ placed column so_far bytes = if nat_lt ARGUMENT_BYTES (length so_far + length by
 -- a value behind the bytes of an argument
 unfoldable pub added : ℕ → List ℕ → List ℕ → Result (List ℕ) LineFault
 added column so_far word = value_of column word >>= placed column so_far
+
+-- this is what was answered; where it is an argument, the argument that was lent has become that
+abbrev pub LeavesArgument : {T : Type 0} → Result (List ℕ) LineFault → Result T LineFault → List ℕ → Type 0
+LeavesArgument read answer argument = MatchResult answer (λ _. read ≡ Ok argument) (λ e. read ≡ Err e)
 
 -- ---- lines
 

@@ -1,9 +1,9 @@
 // The arguments that the values of a line say.
 
-ghost use Rattle.std.specs.Prelude.{◌≡◌, ◌≤◌, ◌+◌, ◌*◌, [], length, Ok, Err, IfOk, MatchResult};
+ghost use Rattle.std.specs.Prelude.{◌≡◌, ◌≤◌, ◌+◌, ◌*◌, [], length, IfOk};
 ghost use Rattle.encoding.specs.Words.{words_of};
 ghost use Rattle.encoding.specs.Shown.{result_map, shown_parts};
-ghost use Rattle.encoding.specs.Encoded.{parts_of, value_of, placed, added, argument_from};
+ghost use Rattle.encoding.specs.Encoded.{parts_of, value_of, placed, added, LeavesArgument, argument_from};
 
 use crate::faults::{LineFault, Wanted};
 use crate::kinds::{Kind, kind_named};
@@ -49,7 +49,7 @@ fn value(column: usize, word: &[u8]) -> Result<ArrayVec<u8, 512>, LineFault>
 
 // Puts bytes behind those of an argument, where it has room.
 fn place(argument: &mut ArrayVec<u8, 64>, column: usize, bytes: &[u8]) -> Result<(), LineFault>
-    ensures { MatchResult result (λ _. placed column argument.old.items bytes.now ≡ Ok argument.new.items) (λ e. placed column argument.old.items bytes.now ≡ Err e) }
+    ensures { LeavesArgument (placed column argument.old.items bytes.now) result argument.new.items }
 {
     match argument.try_extend_from_slice(bytes) {
         Ok(()) => Ok(()),
@@ -65,7 +65,7 @@ fn place(argument: &mut ArrayVec<u8, 64>, column: usize, bytes: &[u8]) -> Result
 fn add_value(argument: &mut ArrayVec<u8, 64>, column: usize, word: &[u8]) -> Result<(), LineFault>
     requires column { column ≤ 2 * LINE_BYTES }
     requires short { length word.now ≤ LINE_BYTES }
-    ensures { MatchResult result (λ _. added column argument.old.items word.now ≡ Ok argument.new.items) (λ e. added column argument.old.items word.now ≡ Err e) }
+    ensures { LeavesArgument (added column argument.old.items word.now) result argument.new.items }
 {
     match value(column, word) {
         Ok(bytes) => place(argument, column, &bytes),
