@@ -3,5 +3,7 @@ pub mod Words
 pub mod Values
 pub mod Faults
 pub mod Encoded
+-- Laws: what numbers and their bytes are to one another.
+pub mod Laws
 -- The steps between reading and writing.
 pub mod Shown

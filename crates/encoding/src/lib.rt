@@ -7,6 +7,7 @@
 mod arguments;
 mod faults;
 mod kinds;
+mod laws;
 mod lines;
 mod numbers;
 mod values;
@@ -15,4 +16,5 @@ mod words;
 pub use arguments::ARGUMENT_BYTES;
 pub use faults::{EncodeError, EncodeRefusal, LineFault, Wanted};
 pub use kinds::Kind;
+pub use laws::{limits, numbers_are_read_back};
 pub use lines::encode;
