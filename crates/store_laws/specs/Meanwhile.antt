@@ -1,5 +1,5 @@
 -- What holds of a store between any two atomic steps of its sessions' threads.
-use Rattle.std.specs.Prelude.{◌≡◌, ◌≢◌, ℕ, ◌+◌, ◌*◌, ◌<◌, List, map, length, slice_index, Option, Some}
+use Rattle.std.specs.Prelude.{◌≡◌, ◌≢◌, ℕ, ◌*◌, ◌<◌, List, map, length, slice_index, Option, Some}
 use mathlib.Core.Option as kernel
 use Rattle.atomic_table.specs.Table.{State}
 use Rattle.loader.specs.CatalogueView.{CatalogueView}
