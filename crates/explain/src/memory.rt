@@ -40,8 +40,6 @@ pub(crate) struct Gap {
     // How many of all can be read.
     readable: usize,
     is_pointer: bool,
-    // Whether written bytes stand on both sides: the padding of a struct.
-    is_inside: bool,
     // The slot at which another edge brings them.
     parted: Option<usize>,
 }
@@ -80,11 +78,9 @@ fn gap_of(frame: &Frame, access: Access) -> Option<Gap> {
     let end = begin.saturating_add(access.bytes.clamp(0, 512) as usize);
     let (mut first, mut last) = (None, begin);
     let mut readable = 0usize;
-    let mut is_inside = false;
     for byte in begin..end {
         if is_marked(frame, byte) {
             readable = readable.saturating_add(1);
-            is_inside = is_inside || (first.is_some() && readable > 1);
         } else if first.is_none() {
             first = Some(byte);
             last = byte;
@@ -101,7 +97,6 @@ fn gap_of(frame: &Frame, access: Access) -> Option<Gap> {
         },
         readable,
         is_pointer: is_of_pointer(frame, first),
-        is_inside,
         parted: None,
     })
 }
@@ -123,6 +118,13 @@ impl Gap {
     // What a way to it lacks.
     pub(crate) fn lack(self) -> Lack {
         Lack::Byte(stack_byte(self.missing.first))
+    }
+
+    // Whether some bytes of a key or a value were left out, as the padding of a struct in C is.
+    fn is_padding(self) -> bool {
+        matches!(self.access.what, Use::Key(_) | Use::Value(_))
+            && self.readable > 0
+            && self.missing.last.saturating_sub(self.missing.first) < 7
     }
 
     // It, on a way.
@@ -166,14 +168,13 @@ impl Gap {
 
     // Adds what to do about it.
     fn put_fix(self, out: &mut String) -> Result<(), AllocError> {
-        let is_call = matches!(self.access.what, Use::Key(_) | Use::Value(_));
         match self.parted {
             _ if self.is_pointer => write!(
                 out,
                 "Load a pointer by the 8 bytes into which it was stored; keys and values are numbers."
             ),
             Some(_) => write!(out, "Write it before the ways part."),
-            None if is_call && self.is_inside => write!(
+            None if self.is_padding() => write!(
                 out,
                 "Write it too. In C that is the padding of a struct: clear all of it first (`__builtin_memset(&x, 0, sizeof x)`), or order the fields so that none is left."
             ),

@@ -284,7 +284,7 @@ impl OperationCause {
                 region,
             } => write!(
                 out,
-                "{} is {}, and would be moved to {to}: it stays in {region}.",
+                "{} is {}, and would be moved to {to}, where it may go from {region}.",
                 Register(register),
                 Known(kind)
             ),
