@@ -3,7 +3,7 @@
 _nrbpf() {
     local word=${COMP_WORDS[COMP_CWORD]} before=${COMP_WORDS[COMP_CWORD - 1]} words
     if [ "$COMP_CWORD" -eq 1 ]; then
-        words='check asm dis run replay schedule stress help -h --help -V --version'
+        words='check asm dis encode run replay schedule stress help -h --help -V --version'
         COMPREPLY=($(compgen -W "$words" -- "$word"))
         return
     fi
@@ -14,11 +14,12 @@ _nrbpf() {
         check) words='-h --help' ;;
         asm) words='-o --output -h --help' ;;
         dis) words='-h --help' ;;
+        encode) words='-h --help' ;;
         run) words='-h --help' ;;
         replay) words='-h --help' ;;
         schedule) words='--nodes --slots --window --limit -h --help' ;;
         stress) words='--nodes --slots --window --limit -h --help' ;;
-        help) words='check asm dis run replay schedule stress' ;;
+        help) words='check asm dis encode run replay schedule stress' ;;
         *) words= ;;
     esac
     case $word in

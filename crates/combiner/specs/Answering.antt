@@ -6,11 +6,15 @@ use Rattle.combiner.specs.declared.slots.Stage.{Stage}
 use Rattle.combiner.specs.declared.slots.Stage.TheVariants.{Claimed}
 use Rattle.combiner.specs.declared.slots.Slot.{Slot}
 use Rattle.combiner.specs.Slots.{answered_slot}
-use Rattle.combiner.specs.Desks.{DeskView}
+use Rattle.combiner.specs.Desks.{DeskView, BatchView}
 
 -- the k-th answer
 abbrev pub answer_no : ℕ → List (Option Reply) → Option Reply
 answer_no k answers = option_and_then (λ answer. answer) (slice_get answers k)
+
+-- the slot with the batch's k-th answer, if it is claimed
+abbrev pub answered_by : BatchView → ℕ → Slot → Slot
+answered_by b k x = answered_slot (answer_no k b.answers) x
 
 -- how many answers a slot of this stage takes
 abbrev pub uses : Stage → ℕ

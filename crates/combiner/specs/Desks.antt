@@ -1,5 +1,5 @@
 -- A desk, a batch, and what post, claim, reply and collect make of them.
-use Rattle.std.specs.Prelude.{◌≡◌, ℕ, suc, ◌*◌, ◌<◌, ◌==◌, Bool, List, [], ◌∷◌, length, map, replicate, Option, Some, None, slice_get, slice_set, if◌then◌else◌}
+use Rattle.std.specs.Prelude.{◌≡◌, ℕ, suc, ◌*◌, ◌<◌, ◌==◌, Bool, List, [], ◌∷◌, length, map, replicate, Option, Some, None, slice_get, slice_set, if◌then◌else◌, MatchOption}
 use Rattle.std.specs.Option.{option_and_then, option_map}
 use Rattle.std.specs.List.{list_any}
 use Rattle.oplog.specs.Operations.{Operation}
@@ -72,9 +72,13 @@ claimed_from a (x ∷ xs) = if is_claimed x.stage then a ∷ claimed_from (suc a
 abbrev pub IsBatchOf : DeskView → BatchView → Type 0
 IsBatchOf d b = map (λ r. r.author) b.records ≡ claimed_from (first_author d) d.slots
 
+-- the k-th request of the batch has its answer
+abbrev pub HasAnswer : BatchView → ℕ → Type 0
+HasAnswer b k = (reply : Reply) × (slice_get b.answers k ≡ Some (Some reply))
+
 -- each request of the batch has its answer
 abbrev pub IsAnswered : BatchView → Type 0
-IsAnswered b = (k : ℕ) → k < length b.records → (reply : Reply) × (slice_get b.answers k ≡ Some (Some reply))
+IsAnswered b = (k : ℕ) → k < length b.records → HasAnswer b k
 
 -- the answer to session a's request, if the batch has one
 abbrev pub answer_for : ℕ → List Record → List (Option Reply) → Option Reply
@@ -106,3 +110,7 @@ pub record Collection : Type 0 where
 abbrev pub collected : ℕ → DeskView → Option Collection
 collected s d =
     option_and_then (λ x. option_map (λ reply. record { reply = reply; desk = with_slot d s (slot Empty (counted reply x.count)) }) (answer_in x.stage)) (slice_get d.slots s)
+
+-- this is the answer that waits in slot s, and the desk once it is collected; where none waits, none is taken, and the desk is as it was
+abbrev pub TakesAnswer : ℕ → DeskView → DeskView → Option Reply → Type 0
+TakesAnswer s old new answer = MatchOption answer ((collected s old ≡ None) × (new ≡ old)) (λ reply. collected s old ≡ Some (record { reply = reply; desk = new }))

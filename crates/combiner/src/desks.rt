@@ -1,14 +1,13 @@
 // The desk of a node.
 
-ghost use Rattle.std.specs.Prelude.{◌≡◌, suc, ◌+◌, ◌<◌, ◌≤◌, ◌^◌, true, length, slice_get, Some, None, OnOk, OnErr, MatchResult, MatchOption};
+ghost use Rattle.std.specs.Prelude.{◌≡◌, suc, ◌+◌, ◌<◌, ◌≤◌, ◌^◌, true, length, slice_get, Some, None, OnOk, OnErr, MatchResult};
 ghost use Rattle.oplog.specs.declared.configuration.TheConstants.{MAX_NODES, MAX_NODE_SLOTS};
 ghost use Rattle.combiner.specs.declared.slots.Slot.{Slot as TheSlot};
 ghost use Rattle.combiner.specs.declared.slots.DeskRefused.TheVariants.{SlotBusy};
-ghost use Rattle.combiner.specs.declared.slots.Reply.{Reply as TheReply};
-ghost use Rattle.combiner.specs.Slots.{claimed_slot, is_claimed, answered_slot};
+ghost use Rattle.combiner.specs.Slots.{claimed_slot, is_claimed};
 ghost use Rattle.combiner.specs.Claiming.{ClaimsSlot};
-ghost use Rattle.combiner.specs.Desks.{opened_desk, first_author, with_slot, posted, has_combiner, has_request, claim_refusal, batch_of, claimed, IsBatchOf, IsAnswered, replied, collected};
-ghost use Rattle.combiner.specs.Answering.{answer_no, uses};
+ghost use Rattle.combiner.specs.Desks.{opened_desk, first_author, with_slot, posted, has_combiner, has_request, claim_refusal, batch_of, claimed, IsBatchOf, HasAnswer, IsAnswered, replied, TakesAnswer};
+ghost use Rattle.combiner.specs.Answering.{answered_by, uses};
 
 use crate::batches::Batch;
 use crate::slots::{DeskRefused, Reply, Slot, Stage};
@@ -196,10 +195,8 @@ impl Desk {
     fn answer_slot(&mut self, slot: usize, batch: &Batch, next: usize) -> usize
         requires slot { slot < length self.old.slots }
         requires few { next ≤ MAX_NODE_SLOTS }
-        requires answer { (x : TheSlot) → slice_get self.old.slots slot ≡ Some x → is_claimed x.stage ≡ true → (reply : TheReply)
-            × (slice_get batch.now.answers next ≡ Some (Some reply)) }
-        ensures desk { (x : TheSlot) → slice_get self.old.slots slot ≡ Some x
-            → self.new ≡ with_slot self.old slot (answered_slot (answer_no next batch.now.answers) x) }
+        requires answer { (x : TheSlot) → slice_get self.old.slots slot ≡ Some x → is_claimed x.stage ≡ true → HasAnswer batch.now next }
+        ensures desk { (x : TheSlot) → slice_get self.old.slots slot ≡ Some x → self.new ≡ with_slot self.old slot (answered_by batch.now next x) }
         ensures next { (x : TheSlot) → slice_get self.old.slots slot ≡ Some x → result ≡ next + uses x.stage }
     {
         let here = self.at(slot);
@@ -218,9 +215,7 @@ impl Desk {
     pub fn collect(&mut self, slot: usize) -> Option<Reply>
         requires slot { slot < length self.old.slots }
         requires countable { (x : TheSlot) → slice_get self.old.slots slot ≡ Some x → suc x.count < 2 ^ 64 }
-        ensures collected { MatchOption result
-            ((collected slot self.old ≡ None) × (self.new ≡ self.old))
-            (λ reply. collected slot self.old ≡ Some (record { reply = reply; desk = self.new })) }
+        ensures collected { TakesAnswer slot self.old self.new result }
     {
         let here = self.at(slot);
         let Stage::Answered(reply) = here.stage else {

@@ -7,6 +7,8 @@ use Rattle.console.specs.Files.{is_text}
 use Rattle.console.specs.Answer.{Answer, not_text}
 use Rattle.asm.specs.Assembled.{assembled}
 use Rattle.text.specs.Digits.{spaced_bytes}
+use Rattle.encoding.specs.Encoded.{encoded_text}
+use Rattle.console.specs.EncodeAnswer.{encoded_answer, encode_answer}
 use Rattle.console.specs.AsmAnswer.{assembled_answer, asm_answer, bytes_answer, dis_answer}
 use Rattle.console.specs.InputFaults.{FailsAs}
 use Rattle.console.specs.Input.{TextIs}
@@ -22,6 +24,10 @@ asm_of_text m = refl
 pub dis_of_text : IsOfText (λ m. bytes_answer (spaced_bytes m)) dis_answer
 unfolding dis_answer
 dis_of_text m = refl
+
+pub encode_of_text : IsOfText (λ m. encoded_answer (encoded_text m)) encode_answer
+unfolding encode_answer
+encode_of_text m = refl
 
 module _ (answers whole : List ℕ → Answer) (of_text : IsOfText answers whole) where
   fault : (e : InputFault) (m : List ℕ) → FailsAs e (is_text m ≡ false) → FailsAs e (whole m ≡ not_text)

@@ -1,11 +1,13 @@
--- What was read of a manifest, its files and another text. Clauses of private functions alone cite this.
-use Rattle.std.specs.Prelude.{◌≡◌, ℕ, true, List, string_bytes}
+-- What was read of a manifest, its files and another text.
+use Rattle.std.specs.Prelude.{◌≡◌, ℕ, true, false, List, Result, MatchResult, string_bytes}
 use Rattle.loader.specs.NamedFiles.{named_in}
 use Rattle.loader.specs.ProgramFiles.{Files}
 use Rattle.loader.specs.Loading.{loaded}
 use Rattle.console.specs.declared.catalogues.Loaded.{Loaded}
+use Rattle.console.specs.declared.input.InputFault.{InputFault}
 use Rattle.console.specs.declared.inputs.Inputs.{Inputs}
 use Rattle.console.specs.Files.{Contents, present}
+use Rattle.console.specs.InputFaults.{FailsAs}
 use Rattle.console.specs.Inputs.{all_texts}
 use Rattle.console.specs.Loaded.{LoadedIs}
 
@@ -14,6 +16,10 @@ pub record AreInputs (manifest : List ℕ) (folder : Contents) (text : List ℕ)
   pub texts : all_texts manifest folder text ≡ true
   pub catalogue : LoadedIs (loaded manifest (present folder (named_in manifest))) i.loaded
   pub same : string_bytes i.text ≡ text
+
+-- all of them were read; or memory ran out, or a read failed, or one of them is no text
+abbrev pub AreRead : Result Inputs InputFault → List ℕ → Contents → List ℕ → Type 0
+AreRead r manifest folder text = MatchResult r (AreInputs manifest folder text) (λ e. FailsAs e (all_texts manifest folder text ≡ false))
 
 -- some manifest was loaded with some files
 abbrev pub IsOfSome : Loaded → Type 0

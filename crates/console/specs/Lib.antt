@@ -12,8 +12,10 @@ pub mod Answer
 pub mod Inputs
 pub mod RunAnswer
 pub mod AsmAnswer
+pub mod EncodeAnswer
 pub mod ReplayAnswer
 pub mod ScheduleAnswer
+pub mod Known
 pub mod Report
 pub mod Transfer
 -- Laws: each line that a run writes for a call is a run of its program.

@@ -1,18 +1,23 @@
 -- What is kept while a transcript is replayed. Clauses of private functions alone cite this.
 use Rattle.std.specs.Prelude.{◌≡◌, ℕ, Bool, true, false, List}
+use Rattle.verifier.specs.declared.refusal.Mode.{Mode}
+use Rattle.verifier.specs.declared.refusal.Mode.TheVariants.{Update, Read}
 use Rattle.loader.specs.CatalogueView.{CatalogueView}
+use Rattle.oplog.specs.Operations.{Operation}
 use Rattle.oplog.specs.Logs.{tail_of}
+use Rattle.oplog.specs.History.{History}
 use Rattle.console.specs.declared.replaying.Replaying.{Replaying}
 use Rattle.console.specs.declared.replaying.LineVerdict.{LineVerdict}
 use Rattle.console.specs.declared.replaying.LineVerdict.TheVariants as lines
 use Rattle.console.specs.declared.replaying.ReplayEnd.{ReplayEnd}
 use Rattle.console.specs.declared.replaying.ReplayEnd.TheVariants as ends
+use Rattle.console.specs.declared.transcripts.AnsweredCall.{AnsweredCall}
 use Rattle.console.specs.declared.status.Verdict.{Verdict}
 use Rattle.console.specs.declared.status.Verdict.TheVariants as verdicts
 use Rattle.console.specs.Running.{Follows}
 use Rattle.console.specs.Answer.{Answer}
 use Rattle.console.specs.RunAnswer.{bad_line_text}
-use Rattle.console.specs.ReplayAnswer.{Replayed, LineOutcome, Bad, Differs, Agrees, good_text, differs_text}
+use Rattle.console.specs.ReplayAnswer.{Replayed, LineOutcome, Bad, Differs, Agrees, good_text, differs_text, update_agrees, read_agrees, with_update, next_count}
 
 -- so much was replayed
 pub record HasReplayed (c : CatalogueView) (at : Replayed) (r : Replaying) : Type 0 where
@@ -25,12 +30,29 @@ pub record IsCompared (c : CatalogueView) (agrees : Bool) (next : Replayed) (ans
   pub told : answer ≡ agrees
   pub goes_on : agrees ≡ true → HasReplayed c next r
 
+-- whether a call of this mode has this index and this reply in a history, and what is replayed where it has
+abbrev pub call_agrees : CatalogueView → Mode → History → Operation → ℕ → ℕ → Bool
+call_agrees c Update h op index reply = update_agrees c h op index reply
+call_agrees c Read h op index reply = read_agrees c h op index reply
+
+abbrev pub with_call : Mode → Replayed → Operation → Replayed
+with_call Update at op = with_update at op
+with_call Read at op = record at { reads = next_count at.reads }
+
+-- after whatever was replayed before: whether this operation has the index and the reply that its call tells, and what is replayed then
+abbrev pub Compares : CatalogueView → Mode → Operation → AnsweredCall → Replaying → Bool → Replaying → Type 0
+Compares c mode op call old answer new = (at : Replayed) → HasReplayed c at old → IsCompared c (call_agrees c mode at.history op call.index call.reply) (with_call mode at op) answer new
+
 -- what a line does was told, and where it agrees so much is replayed
 abbrev pub LineReplayed : CatalogueView → LineOutcome → LineVerdict → Replaying → Type 0
 LineReplayed c Bad lines.Bad r = Unit {0}
 LineReplayed c Differs lines.Differs r = Unit {0}
 LineReplayed c (Agrees next) lines.Agrees r = HasReplayed c next r
 LineReplayed c outcome answer r = ⊥
+
+-- after whatever was replayed before: what this line does, and what is replayed then
+abbrev pub ReplaysLine : CatalogueView → (Replayed → LineOutcome) → Replaying → LineVerdict → Replaying → Type 0
+ReplaysLine c outcome old answer new = (at : Replayed) → HasReplayed c at old → LineReplayed c (outcome at) answer new
 
 abbrev pub compared_verdict : Bool → LineVerdict
 compared_verdict true = lines.Agrees

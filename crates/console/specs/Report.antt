@@ -14,13 +14,17 @@ use Rattle.console.specs.Status.{status_of}
 use Rattle.console.specs.Answer.{Answer, not_text}
 
 -- the answer is written and its verdict is the status; or memory ran out, or a read or a write failed
-abbrev pub Reports : Option (List ℕ) → Option (List ℕ) → Status → Answer → Type 0
-Reports old new statuses.Good a = (a.verdict ≡ verdicts.Good) × Appends old new a.text
-Reports old new statuses.Refused a = (a.verdict ≡ verdicts.Refused) × Appends old new a.text
-Reports old new statuses.Differs a = (a.verdict ≡ verdicts.Differs) × Appends old new a.text
-Reports old new statuses.NoMemory a = Appends old new no_memory_line
-Reports old new statuses.CannotRead a = Keeps old new
-Reports old new statuses.CannotWrite a = AppendsBeginning old new a.text ⊎ AppendsBeginning old new no_memory_line
+abbrev pub ReportsBytes : Option (List ℕ) → Option (List ℕ) → Status → Answer → Type 0
+ReportsBytes old new statuses.Good a = (a.verdict ≡ verdicts.Good) × Appends old new a.text
+ReportsBytes old new statuses.Refused a = (a.verdict ≡ verdicts.Refused) × Appends old new a.text
+ReportsBytes old new statuses.Differs a = (a.verdict ≡ verdicts.Differs) × Appends old new a.text
+ReportsBytes old new statuses.NoMemory a = Appends old new no_memory_line
+ReportsBytes old new statuses.CannotRead a = Keeps old new
+ReportsBytes old new statuses.CannotWrite a = AppendsBeginning old new a.text ⊎ AppendsBeginning old new no_memory_line
+
+-- the same to a writer, by what is known of its contents
+abbrev pub Reports : {W : Type 0} → (W → Option (List ℕ)) → W → W → Status → Answer → Type 0
+Reports contents old new status a = ReportsBytes (contents old) (contents new) status a
 
 -- a command says that a read failed only where the first is so, and that a write failed only where the second is
 abbrev pub Failed : Status → Type 0 → Type 0 → Type 0
@@ -33,8 +37,8 @@ Failed statuses.CannotWrite read write = write
 
 -- the same for some answer of these, whatever was read: nothing new is written after a failed read, and after a failed
 -- write a beginning of that answer or of the line that no memory is left
-abbrev pub ReportsSome : (Answer → Type 0) → Option (List ℕ) → Option (List ℕ) → Status → Type 0
-ReportsSome IsOne old new status = (a : Answer) × IsOne a × Reports old new status a
+abbrev pub ReportsSome : {W : Type 0} → (Answer → Type 0) → (W → Option (List ℕ)) → W → W → Status → Type 0
+ReportsSome IsOne contents old new status = (a : Answer) × IsOne a × Reports contents old new status a
 
 -- the text was written and this is the status, or the write broke off
 abbrev pub Sends : Option (List ℕ) → Option (List ℕ) → Status → List ℕ → Status → Type 0

@@ -1,5 +1,5 @@
 -- What is kept while a script is run. Clauses of private functions alone cite this.
-use Rattle.std.specs.Prelude.{◌≡◌, ℕ, ◌+◌, ◌<◌, Bool, true, false, List, ◌++◌, length, Option, Some, None}
+use Rattle.std.specs.Prelude.{◌≡◌, ℕ, ◌+◌, ◌<◌, Bool, true, false, List, ◌++◌, length, Option, Some, None, Result, IfOk, OnOk}
 use Rattle.maps.specs.Maps.{Maps, shapes_of}
 use Rattle.maps.specs.MapSets.{opening_maps}
 use Rattle.verifier.specs.declared.refusal.Mode.{Mode}
@@ -9,11 +9,15 @@ use Rattle.loader.specs.CatalogueView.{CatalogueView}
 use Rattle.oplog.specs.declared.configuration.TheConstants.{MAX_LIMIT}
 use Rattle.oplog.specs.Calls.{Call}
 use Rattle.oplog.specs.Operations.{Operation}
+use Rattle.oplog.specs.declared.records.Op.TheVariants.{Run}
 use Rattle.oplog.specs.Logs.{tail_of}
 use Rattle.oplog.specs.History.{Effect, History, after}
 use Rattle.replica.specs.StoreMeaning.{program_at, outcome_of, store_meaning}
+use Rattle.console.specs.declared.calls.Numbered.{Numbered}
 use Rattle.console.specs.declared.single_node.SingleNode.{SingleNode}
-use Rattle.console.specs.RunAnswer.{Turn}
+use Rattle.console.specs.declared.status.Verdict.{Verdict}
+use Rattle.console.specs.Answer.{Answer}
+use Rattle.console.specs.RunAnswer.{Turn, performed, line_turn, behind}
 
 -- the whole history is completed, and the replica has applied it
 pub record IsSteady (c : CatalogueView) (n : SingleNode) : Type 0 where
@@ -56,7 +60,23 @@ pub record IsTaken (c : CatalogueView) (turn : Turn) (n : SingleNode) (old new :
   pub written : new ≡ old ++ turn.text
   pub placed : Follows c turn.history n
 
+-- what a program of this number does on an argument
+abbrev pub numbered_turn : CatalogueView → History → Numbered → List ℕ → Turn
+numbered_turn c h n argument = performed c h (Run (record { program = n.number; argument = argument })) n.program.now.mode
+
+-- from any history that the node has behind it, its turn is taken, unless memory runs out
+abbrev pub TakesTurn : {A E : Type 0} → CatalogueView → (History → Turn) → SingleNode → SingleNode → List ℕ → List ℕ → Result A E → Type 0
+TakesTurn c turn node after old new r = (h : History) → Follows c h node → OnOk r (IsTaken c (turn h) after old new)
+
 -- what a line does was done, and the line is good; or it is bad
 abbrev pub LineTaken : CatalogueView → Option Turn → Bool → SingleNode → List ℕ → List ℕ → Type 0
 LineTaken c None good n old new = (good ≡ false) × (new ≡ old)
 LineTaken c (Some turn) good n old new = (good ≡ true) × IsTaken c turn n old new
+
+-- the same from any history that the node has behind it, unless memory runs out
+abbrev pub TakesLine : {E : Type 0} → CatalogueView → List ℕ → SingleNode → SingleNode → List ℕ → List ℕ → Result Bool E → Type 0
+TakesLine c line node after old new r = (h : History) → Follows c h node → IfOk r (λ good. LineTaken c (line_turn c h line) good after old new)
+
+-- this answer stands behind what was written, and its verdict is told, unless memory runs out
+abbrev pub AnswersBehind : {E : Type 0} → List ℕ → List ℕ → Result Verdict E → Answer → Type 0
+AnswersBehind old new r a = IfOk r (λ verdict. record { text = new; verdict = verdict } ≡ behind old a)

@@ -1,4 +1,8 @@
 -- What a line that was read says, without where its text lies. Clauses of private functions alone cite this.
+use Rattle.std.specs.Prelude.{ℕ}
+use Rattle.oplog.specs.Calls.{Call as NumberedCall}
+use Rattle.oplog.specs.Operations.{Operation}
+use Rattle.oplog.specs.declared.records.Op.TheVariants.{Run}
 use Rattle.console.specs.declared.script.ProgramCall.{ProgramCall as TheCall}
 use Rattle.console.specs.declared.script.ScriptLine.{ScriptLine}
 use Rattle.console.specs.declared.script.ScriptLine.TheVariants as lines
@@ -17,6 +21,13 @@ use Rattle.console.specs.Transcript.{TranscriptMeaning, AnsweredCall}
 
 abbrev pub call_of : TheCall → ProgramCall
 call_of c = record { name = c.name.now; argument = c.argument.items }
+
+-- the call of a program by its number, and the run of that as an operation
+abbrev pub numbered_call : ℕ → TheCall → NumberedCall
+numbered_call number c = record { program = number; argument = c.argument.items }
+
+abbrev pub numbered_operation : ℕ → TheCall → Operation
+numbered_operation number c = Run (numbered_call number c)
 
 abbrev pub meaning_of : ScriptLine → Meaning
 meaning_of lines.Comment = Comment

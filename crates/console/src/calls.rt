@@ -1,12 +1,10 @@
 // What a line of a script does.
 
-ghost use Rattle.std.specs.Prelude.{◌≡◌, ◌≤◌, Some, length, IfOk, OnOk};
+ghost use Rattle.std.specs.Prelude.{◌≡◌, ◌≤◌, Some, length};
 ghost use Rattle.maps.specs.declared.shapes.TheConstants.{MAX_ARG_LEN};
-ghost use Rattle.oplog.specs.declared.records.Op.TheVariants.{Run};
-ghost use Rattle.oplog.specs.History.{History};
 ghost use Rattle.replica.specs.StoreMeaning.{program_at};
-ghost use Rattle.console.specs.RunAnswer.{performed, numbered, called, line_turn};
-ghost use Rattle.console.specs.Running.{IsSteady, Follows, IsTaken, LineTaken};
+ghost use Rattle.console.specs.RunAnswer.{numbered, called};
+ghost use Rattle.console.specs.Running.{IsSteady, TakesTurn, TakesLine, numbered_turn};
 ghost use Rattle.console.specs.ScriptShown.{call_of};
 
 use crate::run_texts::{put_read, put_refused, put_update};
@@ -38,10 +36,7 @@ fn perform(
     requires fits { length argument.now ≤ MAX_ARG_LEN }
     requires shapes { numbered.program.now.shapes ≡ catalogue.now.shapes }
     ensures steady { IsSteady catalogue.now node.new }
-    ensures taken { (h : History) → Follows catalogue.now h node.old
-        → OnOk result (IsTaken catalogue.now
-        (performed catalogue.now h (Run (record { program = numbered.entry.number; argument = argument.now })) numbered.entry.program.now.mode)
-        node.new out.old.items out.new.items) }
+    ensures taken { TakesTurn catalogue.now (λ h. numbered_turn catalogue.now h numbered.entry argument.now) node.old node.new out.old.items out.new.items result }
 {
     let Numbered { number, program } = numbered;
     let index = node.tail();
@@ -67,8 +62,7 @@ fn run_numbered(
 ) -> Result<(), AllocError>
     requires steady { IsSteady catalogue.now node.old }
     ensures steady { IsSteady catalogue.now node.new }
-    ensures taken { (h : History) → Follows catalogue.now h node.old
-        → OnOk result (IsTaken catalogue.now (numbered catalogue.now h argument.now number) node.new out.old.items out.new.items) }
+    ensures taken { TakesTurn catalogue.now (λ h. numbered catalogue.now h argument.now number) node.old node.new out.old.items out.new.items result }
 {
     let Some(number) = number else {
         return put_refused(out, StoreRefused::UnknownProgram);
@@ -89,8 +83,7 @@ fn run_call(
 ) -> Result<(), AllocError>
     requires steady { IsSteady catalogue.now node.old }
     ensures steady { IsSteady catalogue.now node.new }
-    ensures taken { (h : History) → Follows catalogue.now h node.old
-        → OnOk result (IsTaken catalogue.now (called catalogue.now h (call_of call.now)) node.new out.old.items out.new.items) }
+    ensures taken { TakesTurn catalogue.now (λ h. called catalogue.now h (call_of call.now)) node.old node.new out.old.items out.new.items result }
 {
     run_numbered(
         node,
@@ -111,8 +104,7 @@ pub(crate) fn take_line(
 ) -> Result<bool, AllocError>
     requires steady { IsSteady catalogue.now node.old }
     ensures steady { IsSteady catalogue.now node.new }
-    ensures taken { (h : History) → Follows catalogue.now h node.old
-        → IfOk result (λ good. LineTaken catalogue.now (line_turn catalogue.now h line.now) good node.new out.old.items out.new.items) }
+    ensures taken { TakesLine catalogue.now line.now node.old node.new out.old.items out.new.items result }
 {
     match read_line(line) {
         None => Ok(false),

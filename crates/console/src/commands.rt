@@ -6,6 +6,7 @@ mod disassembling;
 mod replaying;
 mod running;
 mod scheduling;
+mod scripting;
 
 pub use assembling::{asm_reply, assemble};
 pub use checking::{check, check_reply};
@@ -13,3 +14,4 @@ pub use disassembling::{dis_reply, disassemble};
 pub use replaying::{replay, replay_reply};
 pub use running::{run, run_reply};
 pub use scheduling::{Setup, schedule, schedule_reply, sizes_refused};
+pub use scripting::{encode, encode_reply};

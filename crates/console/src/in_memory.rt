@@ -3,6 +3,7 @@
 ghost use Rattle.std.specs.Prelude.{◌≡◌, IfOk};
 ghost use Rattle.console.specs.Answer.{check_answer};
 ghost use Rattle.console.specs.AsmAnswer.{asm_answer, dis_answer};
+ghost use Rattle.console.specs.EncodeAnswer.{encode_answer};
 ghost use Rattle.console.specs.RunAnswer.{run_answer};
 ghost use Rattle.console.specs.ReplayAnswer.{replay_answer};
 ghost use Rattle.console.specs.ScheduleAnswer.{schedule_answer};
@@ -11,7 +12,7 @@ ghost use Rattle.console.specs.Memory.{found_file, Never, SettlesAs};
 ghost use Rattle.console.specs.Report.{answer_of};
 
 use crate::commands::{
-    Setup, asm_reply, check_reply, dis_reply, replay_reply, run_reply, schedule_reply,
+    Setup, asm_reply, check_reply, dis_reply, encode_reply, replay_reply, run_reply, schedule_reply,
 };
 use crate::input::InputFault;
 use crate::memory::{Held, HeldFiles};
@@ -61,6 +62,14 @@ pub fn disassemble(alloc: Global, program: &[u8]) -> Result<Reply, AllocError>
     ensures { IfOk result (λ r. answer_of r ≡ dis_answer program.now) }
 {
     let prepared = dis_reply(alloc, &mut Held(program));
+    settled(alloc, prepared)
+}
+
+/// What `encode` answers to a text of calls.
+pub fn encode(alloc: Global, calls: &[u8]) -> Result<Reply, AllocError>
+    ensures { IfOk result (λ r. answer_of r ≡ encode_answer calls.now) }
+{
+    let prepared = encode_reply(alloc, &mut Held(calls));
     settled(alloc, prepared)
 }
 

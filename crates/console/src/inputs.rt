@@ -1,10 +1,10 @@
 // What a command reads beside a manifest and its files.
 
-ghost use Rattle.std.specs.Prelude.{◌≡◌, ◌⊎◌, false, IfOk, MatchResult};
+ghost use Rattle.std.specs.Prelude.{◌⊎◌, IfOk};
 ghost use Rattle.console.specs.Files.{SomeFile};
-ghost use Rattle.console.specs.InputFaults.{FailsAs, IfCannotRead};
-ghost use Rattle.console.specs.Inputs.{IfTextsKnown, all_texts};
-ghost use Rattle.console.specs.Gathering.{AreInputs, IsOfSome};
+ghost use Rattle.console.specs.InputFaults.{IfCannotRead};
+ghost use Rattle.console.specs.Inputs.{IfTextsKnown};
+ghost use Rattle.console.specs.Gathering.{AreRead, IsOfSome};
 
 use crate::catalogues::{Loaded, load};
 use crate::folder::Folder;
@@ -32,8 +32,7 @@ pub fn read_inputs<F: Folder, R: Source, S: Source>(
     manifest: &mut R,
     text: &mut S,
 ) -> Result<Inputs, InputFault>
-    ensures known { IfTextsKnown (R.remaining manifest.old) (F.holds folder.now) (S.remaining text.old) (λ m h s.
-        MatchResult result (AreInputs m h s) (λ e. FailsAs e (all_texts m h s ≡ false))) }
+    ensures known { IfTextsKnown (R.remaining manifest.old) (F.holds folder.now) (S.remaining text.old) (AreRead result) }
     ensures failed { IfCannotRead result (R.has_failed manifest.new ⊎ SomeFile F.File.has_failed ⊎ S.has_failed text.new) }
     ensures some { IfOk result (λ i. IsOfSome i.loaded) }
 {

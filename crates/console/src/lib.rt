@@ -5,6 +5,7 @@ mod asm_texts;
 mod calls;
 mod catalogues;
 mod commands;
+mod encode_texts;
 mod folder;
 pub mod in_memory;
 mod input;
@@ -25,7 +26,7 @@ mod texts;
 mod transcripts;
 mod transfer;
 
-pub use commands::{Setup, assemble, check, disassemble, replay, run, schedule};
+pub use commands::{Setup, assemble, check, disassemble, encode, replay, run, schedule};
 pub use folder::Folder;
 pub use laws::run_lines_are_runs;
 pub use memory::{Held, HeldFiles, Page};
@@ -33,7 +34,9 @@ pub use status::Status;
 pub use transfer::{CannotWrite, ReadFault, Sink, Source};
 
 // What each command has to write, without a writer.
-pub use commands::{asm_reply, check_reply, dis_reply, replay_reply, run_reply, schedule_reply};
+pub use commands::{
+    asm_reply, check_reply, dis_reply, encode_reply, replay_reply, run_reply, schedule_reply,
+};
 
 // What an engine in a crate of its own is put together from, as `stress` is.
 pub use catalogues::Loaded;

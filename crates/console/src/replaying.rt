@@ -5,13 +5,10 @@ ghost use Rattle.verifier.specs.declared.refusal.Mode.TheVariants.{Update, Read}
 ghost use Rattle.maps.specs.declared.shapes.TheConstants.{MAX_ARG_LEN};
 ghost use Rattle.replica.specs.StoreMeaning.{program_at};
 ghost use Rattle.text.specs.Lines.{lines_of};
-ghost use Rattle.console.specs.ReplayAnswer.{Replayed, operation_of, update_agrees, read_agrees, with_update, answered_outcome, ended_outcome, line_outcome, transcript_answer};
-ghost use Rattle.console.specs.ReplayAnswer.{nothing_replayed, next_count};
-ghost use Rattle.oplog.specs.Operations.{Operation as TheOperation};
-ghost use Rattle.oplog.specs.declared.records.Op.TheVariants.{Run};
-ghost use Rattle.console.specs.Replaying.{HasReplayed, IsCompared, LineReplayed, compared_verdict, ended_answer, ended_verdict};
+ghost use Rattle.console.specs.ReplayAnswer.{operation_of, answered_outcome, ended_outcome, line_outcome, nothing_replayed, transcript_answer};
+ghost use Rattle.console.specs.Replaying.{HasReplayed, Compares, ReplaysLine, compared_verdict, ended_answer, ended_verdict};
 ghost use Rattle.console.specs.Running.{IsSteady, IsCallOf};
-ghost use Rattle.console.specs.ScriptShown.{call_of, answered_of};
+ghost use Rattle.console.specs.ScriptShown.{call_of, answered_of, numbered_call, numbered_operation};
 
 use crate::calls::Numbered;
 use crate::script::ProgramCall;
@@ -63,9 +60,8 @@ impl ReplayEnd {
 
 // The program that a call names, where it has this mode and the argument has its length.
 fn find<'a>(catalogue: &'a Catalogue, mode: Mode, call: &ProgramCall) -> Option<Numbered<'a>>
-    ensures found { option_map (λ n. Run (record { program = n.number; argument = call.now.argument.items })) result
-        ≡ operation_of catalogue.now mode (call_of call.now) }
-    ensures fits { IfSome result (λ n. IsCallOf catalogue.now (record { program = n.number; argument = call.now.argument.items }) mode) }
+    ensures found { option_map (λ n. numbered_operation n.number call.now) result ≡ operation_of catalogue.now mode (call_of call.now) }
+    ensures fits { IfSome result (λ n. IsCallOf catalogue.now (numbered_call n.number call.now) mode) }
     ensures program { IfSome result (λ n. program_at catalogue.now n.number ≡ Some n.program.now) }
     ensures length { IfSome result (λ n. (length call.now.argument.items ≡ n.program.now.arg_len) × (length call.now.argument.items ≤ MAX_ARG_LEN)) }
     ensures mode { IfSome result (λ n. (n.program.now.mode ≡ mode) × (n.program.now.shapes ≡ catalogue.now.shapes)) }
@@ -102,12 +98,10 @@ impl Replaying {
     // Whether an update has this index and this reply.
     fn update(&mut self, catalogue: &Catalogue, number: u16, call: &AnsweredCall) -> bool
         requires steady { IsSteady catalogue.now self.old.node }
-        requires call { IsCallOf catalogue.now (record { program = number; argument = call.now.call.argument.items }) Update }
+        requires call { IsCallOf catalogue.now (numbered_call number call.now.call) Update }
         requires fits { length call.now.call.argument.items ≤ MAX_ARG_LEN }
         ensures steady { IsSteady catalogue.now self.new.node }
-        ensures compared { (at : Replayed) (op : TheOperation) → op ≡ Run (record { program = number; argument = call.now.call.argument.items })
-            → HasReplayed catalogue.now at self.old
-            → IsCompared catalogue.now (update_agrees catalogue.now at.history op call.now.index call.now.reply) (with_update at op) result self.new }
+        ensures compared { Compares catalogue.now Update (numbered_operation number call.now.call) call.now self.old result self.new }
     {
         if call.index != self.node.tail() {
             return false;
@@ -124,15 +118,12 @@ impl Replaying {
     // Whether a read has this point and this reply.
     fn read(&mut self, catalogue: &Catalogue, found: Numbered<'_>, call: &AnsweredCall) -> bool
         requires steady { IsSteady catalogue.now self.old.node }
-        requires call { IsCallOf catalogue.now (record { program = found.number; argument = call.now.call.argument.items }) Read }
+        requires call { IsCallOf catalogue.now (numbered_call found.number call.now.call) Read }
         requires program { program_at catalogue.now found.number ≡ Some found.program.now }
         requires length { length call.now.call.argument.items ≡ found.program.now.arg_len }
         requires mode { (found.program.now.mode ≡ Read) × (found.program.now.shapes ≡ catalogue.now.shapes) }
         ensures steady { IsSteady catalogue.now self.new.node }
-        ensures compared { (at : Replayed) (op : TheOperation) → op ≡ Run (record { program = found.entry.number; argument = call.now.call.argument.items })
-            → HasReplayed catalogue.now at self.old
-            → IsCompared catalogue.now (read_agrees catalogue.now at.history op call.now.index call.now.reply)
-            (record at { reads = next_count at.reads }) result self.new }
+        ensures compared { Compares catalogue.now Read (numbered_operation found.entry.number call.now.call) call.now self.old result self.new }
     {
         if call.index != self.node.tail() {
             return false;
@@ -148,8 +139,7 @@ impl Replaying {
     fn answered(&mut self, catalogue: &Catalogue, call: &AnsweredCall) -> LineVerdict
         requires steady { IsSteady catalogue.now self.old.node }
         ensures steady { IsSteady catalogue.now self.new.node }
-        ensures replayed { (at : Replayed) → HasReplayed catalogue.now at self.old
-            → LineReplayed catalogue.now (answered_outcome catalogue.now at (answered_of call.now)) result self.new }
+        ensures replayed { ReplaysLine catalogue.now (λ at. answered_outcome catalogue.now at (answered_of call.now)) self.old result self.new }
     {
         let Some(found) = find(catalogue, call.mode, &call.call) else {
             return LineVerdict::Bad;
@@ -164,8 +154,7 @@ impl Replaying {
     fn after_end(&mut self, catalogue: &Catalogue, call: &ProgramCall) -> LineVerdict
         requires steady { IsSteady catalogue.now self.old.node }
         ensures steady { IsSteady catalogue.now self.new.node }
-        ensures replayed { (at : Replayed) → HasReplayed catalogue.now at self.old
-            → LineReplayed catalogue.now (ended_outcome catalogue.now at (call_of call.now)) result self.new }
+        ensures replayed { ReplaysLine catalogue.now (λ at. ended_outcome catalogue.now at (call_of call.now)) self.old result self.new }
     {
         match find(catalogue, Mode::Update, call) {
             Some(_) => {
@@ -181,8 +170,7 @@ impl Replaying {
     pub(crate) fn take_line(&mut self, catalogue: &Catalogue, line: &str) -> LineVerdict
         requires steady { IsSteady catalogue.now self.old.node }
         ensures steady { IsSteady catalogue.now self.new.node }
-        ensures replayed { (at : Replayed) → HasReplayed catalogue.now at self.old
-            → LineReplayed catalogue.now (line_outcome catalogue.now at line.now) result self.new }
+        ensures replayed { ReplaysLine catalogue.now (λ at. line_outcome catalogue.now at line.now) self.old result self.new }
     {
         match read_transcript_line(line) {
             None => LineVerdict::Bad,

@@ -7,7 +7,7 @@ use Rattle.console.specs.declared.memory.Page.{Page}
 use Rattle.console.specs.Memory.{Never}
 use Rattle.console.specs.Files.{SomeFile}
 use Rattle.console.specs.Answer.{Answer}
-use Rattle.console.specs.Report.{Failed, Reports}
+use Rattle.console.specs.Report.{Failed, ReportsBytes}
 use Rattle.example_answers.specs.Pages.{IsOnPage}
 
 pub no_file : {X : Type 0} → (Never ⊎ SomeFile {X = X} (λ _. Never)) → Never
@@ -21,7 +21,7 @@ no_input (inr (inr never)) = never
 
 -- of an answer that says that all is well, where no read fails
 pub on_page : (Read : Type 0) → (Read → Never) → (status : Status) (page : Page) (a good : Answer) → a ≡ good → good.verdict ≡ verdicts.Good
-    → Reports (Some []) (Some page.text.items) status a → Failed status Read (page.is_full ≡ true) → IsOnPage good.text status page
+    → ReportsBytes (Some []) (Some page.text.items) status a → Failed status Read (page.is_full ≡ true) → IsOnPage good.text status page
 on_page Read never statuses.Good page a good is well wrote failed = wrote.1 ∙ ap (λ (x : Answer). x.text) is
 on_page Read never statuses.NoMemory page a good is well wrote failed = wrote
 on_page Read never statuses.CannotWrite page a good is well wrote failed = failed

@@ -141,13 +141,17 @@ program_from at is_half [] = Ok []
 program_from at true (f ∷ rest) = program_from (at + 1) false rest
 program_from at false (f ∷ rest) = in_order at (front (f ∷ rest)) (program_from (at + 1) (is_wide f) rest)
 
+-- the program in the slots of the bytes, or the first refusal there
+abbrev pub program_in : List ℕ → Result (List Form) DecodeRefusal
+program_in bytes = program_from 0 false (slots_in bytes)
+
 abbrev pub unless_refused : Option DecodeFault → Result (List Form) DecodeRefusal → Result (List Form) DecodeRefusal
 unless_refused (Some why) read = Err (record { slot = 0; why = why })
 unless_refused None read = read
 
 -- the program that the bytes spell, or the first refusal
 unfoldable pub decoded : List ℕ → Result (List Form) DecodeRefusal
-decoded bytes = unless_refused (length_fault (length bytes)) (program_from 0 false (slots_in bytes))
+decoded bytes = unless_refused (length_fault (length bytes)) (program_in bytes)
 
 -- the error is the refusal that this reading gives, or memory ran out
 abbrev pub DecodeFails : DecodeError → Result (List Form) DecodeRefusal → Type 0

@@ -1,10 +1,10 @@
 // Programs out of bytes, whole.
 
-ghost use Rattle.std.specs.Prelude.{◌≡◌, ℕ, ◌*◌, ◌%◌, ◌≤◌, [], List, false, Ok, Err, length, vec_capacity, IfOk, IfErr, MatchResult};
+ghost use Rattle.std.specs.Prelude.{◌≡◌, ℕ, ◌*◌, ◌%◌, ◌≤◌, [], List, Ok, Err, length, vec_capacity, IfOk, IfErr, MatchResult};
 ghost use Rattle.insn.specs.declared.instruction.Form.{Form};
 ghost use Rattle.insn.specs.declared.decoding.DecodeError.TheVariants.{NoMemory, Refused};
-ghost use Rattle.insn.specs.Refusal.{slots_in, length_fault, fault_number, Decodes, IsOnly, IsFirst};
-ghost use Rattle.insn.specs.Decoded.{decoded, program_from, DecodeFails, ReadsWhatIsSpelled, ReadsWhatIsRefused};
+ghost use Rattle.insn.specs.Refusal.{length_fault, fault_number, Decodes, IsOnly, IsFirst};
+ghost use Rattle.insn.specs.Decoded.{decoded, program_in, DecodeFails, ReadsWhatIsSpelled, ReadsWhatIsRefused};
 
 use crate::instruction::{Insn, MAX_SLOTS};
 use crate::reading::instruction;
@@ -188,8 +188,8 @@ fn read_slots(bytes: &[u8], program: &mut Vec<Insn>) -> Result<(), DecodeRefusal
     requires empty { program.old.items ≡ [] }
     requires room { length bytes.now ≤ 8 * vec_capacity program.old }
     ensures reading { MatchResult result
-        (λ _. program_from 0 false (slots_in bytes.now) ≡ Ok program.new.items)
-        (λ e. program_from 0 false (slots_in bytes.now) ≡ Err e) }
+        (λ _. program_in bytes.now ≡ Ok program.new.items)
+        (λ e. program_in bytes.now ≡ Err e) }
     ensures room { vec_capacity program.new ≡ vec_capacity program.old }
 {
     let mut slot = 0;

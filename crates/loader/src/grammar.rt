@@ -9,12 +9,16 @@ use maps::{MAX_ARG_LEN, MAX_ENTRIES, MAX_KEY_BYTES, MAX_VALUE_BYTES, Shape};
 use text::{LineKind, is_name, kind_of, number_within, split_at_space};
 use verifier::Mode;
 
-// A program: its name, mode, argument length and file.
+/// What a line says of a program.
 #[derive(Clone, Copy)]
-pub(crate) struct ProgramLine<'a> {
+pub struct ProgramLine<'a> {
+    /// Its name.
     pub name: &'a str,
+    /// Whether it may change maps.
     pub mode: Mode,
+    /// How many bytes its argument has.
     pub arg_len: u8,
+    /// The file in which its bytes stand.
     pub file: &'a str,
 }
 
@@ -26,11 +30,14 @@ pub(crate) enum FirstWord {
     Other,
 }
 
-// What a line means.
+/// What a line of a manifest means, by itself.
 #[derive(Clone, Copy)]
-pub(crate) enum Line<'a> {
+pub enum Line<'a> {
+    /// It is empty, or begins with `#`.
     Comment,
+    /// A map.
     Map(Shape),
+    /// A program.
     Program(ProgramLine<'a>),
 }
 
@@ -151,9 +158,9 @@ fn words_line(text: &str) -> Option<Line<'_>>
     }
 }
 
-// What a line means; `None` where it is bad.
+/// What a line of a manifest means, whatever stands before it; `None` where it is bad.
 #[tactic(auto, unfolding(crate::specs::Grammar::line_meaning))]
-pub(crate) fn read_line(line: &str) -> Option<Line<'_>>
+pub fn read_line(line: &str) -> Option<Line<'_>>
     ensures meaning { option_map meaning_of result ≡ line_meaning line.now }
     ensures fits { IfSome result LineFits }
 {

@@ -101,6 +101,10 @@ write_block c m w = change_at (λ s. record { shape = s.shape; keys = s.keys; by
 abbrev pub put_value : Maps → ℕ → List ℕ → List ℕ → Maps
 put_value maps m key value = change_at (λ (s : MapState). record { shape = s.shape; entries = finite_map.insert s.entries key value }) maps m
 
+-- so many bytes, written over the value of an entry, become the value of its key
+abbrev pub PutsValue : Contents → Entry → ℕ → Type 0
+PutsValue c e size = (key w : List ℕ) → key_of c e ≡ Some key → length w ≡ size → maps_of (write_value c e w) ≡ put_value (maps_of c) e.map key w
+
 -- where the bytes of one entry's value are written over in the block of map m, the key of the entry has that value
 abbrev pub PutsOneValue : Contents → ℕ → List ℕ → Type 0
 PutsOneValue c m block =

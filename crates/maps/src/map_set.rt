@@ -8,7 +8,7 @@ ghost use Rattle.maps.specs.Shapes.{key_size, value_size, entry_count, block_siz
 ghost use Rattle.maps.specs.Blocks.{contents, IsTable};
 ghost use Rattle.maps.specs.declared.shapes.MapError.TheVariants.{NoMemory, Refused};
 ghost use Rattle.maps.specs.Maps.{HasShapes, value_at};
-ghost use Rattle.maps.specs.MapSets.{maps_of, stored_shapes, key_of, value_of, block_of, HoldsValues, write_value, write_block, PutsOneValue, opened, opening_maps, PutsWritten, put_value, take_key, HasRoom, IsFull};
+ghost use Rattle.maps.specs.MapSets.{maps_of, stored_shapes, key_of, value_of, block_of, HoldsValues, write_value, write_block, PutsValue, PutsOneValue, opened, opening_maps, PutsWritten, put_value, take_key, HasRoom, IsFull};
 
 use crate::entry::{Entry, Inserted};
 use crate::shapes::{MapError, Shape, shapes_ok};
@@ -105,8 +105,7 @@ impl MapSet {
 
         // Bytes as many as the value has become the value of the entry's key. Every other key of every map keeps its
         // value, and each place its key.
-        ensures written { (key w : List ℕ) → key_of self.old entry ≡ Some key → length w ≡ length result.now
-            → maps_of (write_value self.old entry w) ≡ put_value (maps_of self.old) entry.map key w }
+        ensures written { PutsValue self.old entry (length result.now) }
         ensures places { (w : List ℕ) (other : Entry) → key_of (write_value self.old entry w) other ≡ key_of self.old other }
         ensures shapes { (w : List ℕ) → stored_shapes (write_value self.old entry w) ≡ stored_shapes self.old }
     {

@@ -17,6 +17,10 @@ answers_from index (outcome ∷ outcomes) (r ∷ rs) = option_map (λ o. Placed 
 abbrev pub answered_batch : RepliesView → BatchView → BatchView
 answered_batch kept b = record b { answers = answers_from kept.first kept.outcomes b.records }
 
+-- this outcome was kept of the k-th request
+abbrev pub HasOutcome : RepliesView → ℕ → Outcome → Type 0
+HasOutcome kept k o = slice_get kept.outcomes k ≡ Some (Some o)
+
 -- each request of the batch that has an index has its outcome
 abbrev pub HaveRun : RepliesView → BatchView → Type 0
-HaveRun kept b = (k : ℕ) → k < length kept.outcomes → k < length b.records → (o : Outcome) × (slice_get kept.outcomes k ≡ Some (Some o))
+HaveRun kept b = (k : ℕ) → k < length kept.outcomes → k < length b.records → (o : Outcome) × HasOutcome kept k o

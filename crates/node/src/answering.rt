@@ -1,9 +1,9 @@
 // The answers to a batch that is in the log.
 
-ghost use Rattle.std.specs.Prelude.{◌≡◌, ℕ, ◌+◌, ◌<◌, ◌≤◌, ◌^◌, length, Some, slice_get};
+ghost use Rattle.std.specs.Prelude.{◌≡◌, ℕ, ◌+◌, ◌<◌, ◌≤◌, ◌^◌, length};
 ghost use Rattle.machine.specs.declared.running.Outcome.{Outcome as TheOutcome};
 ghost use Rattle.combiner.specs.declared.slots.Reply.TheVariants.{Placed, Ended};
-ghost use Rattle.node.specs.Answering.{answered_batch, HaveRun};
+ghost use Rattle.node.specs.Answering.{answered_batch, HasOutcome, HaveRun};
 
 use combiner::{Batch, Reply};
 use replica::Replies;
@@ -23,10 +23,9 @@ pub fn answer_batch(batch: &mut Batch, replies: &Replies)
 
 // The answer to the k-th request.
 fn answer_of(replies: &Replies, k: usize) -> Reply
-    requires run { k < length replies.now.outcomes → (o : TheOutcome) × (slice_get replies.now.outcomes k ≡ Some (Some o)) }
+    requires run { k < length replies.now.outcomes → (o : TheOutcome) × HasOutcome replies.now k o }
     requires short { replies.now.first + length replies.now.outcomes < 2 ^ 64 }
-    ensures placed { (o : TheOutcome) → k < length replies.now.outcomes → slice_get replies.now.outcomes k ≡ Some (Some o)
-        → result ≡ Placed (replies.now.first + k) o.reply }
+    ensures placed { (o : TheOutcome) → k < length replies.now.outcomes → HasOutcome replies.now k o → result ≡ Placed (replies.now.first + k) o.reply }
     ensures ended { length replies.now.outcomes ≤ k → result ≡ Ended }
 {
     if k >= replies.len() {

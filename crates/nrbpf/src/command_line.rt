@@ -18,6 +18,8 @@ pub enum Task<'a> {
     AssembleInto(&'a str),
     /// Disassemble a program file.
     Disassemble,
+    /// Write the script of a text of calls.
+    Encode,
     /// Run a script.
     Run,
     /// Replay a transcript.
@@ -46,8 +48,8 @@ impl Call<'_> {
     }
 }
 
-// What a command is: its help, whether it takes the sizes of a store, a file to write and a manifest, and the name and the help of the
-// file that it reads besides.
+// What a command is: its help, whether it takes the sizes of a store, a file to write and a manifest, the name and the help of the file
+// that it reads besides, and whether standard input stands for that where it is left out.
 #[derive(Clone, Copy)]
 struct Row<'a> {
     name: &'a str,
@@ -57,6 +59,7 @@ struct Row<'a> {
     has_output: bool,
     has_manifest: bool,
     file: Option<(&'a str, &'a str)>,
+    may_lack_file: bool,
 }
 
 // The sizes of a store that options set, each with what it is by default and its help.
@@ -78,6 +81,14 @@ fn path<'a>(alloc: Global, id: &'a str, name: &'a str, help: &'a str) -> Arg<'a>
     Arg::new(alloc, id)
         .value_name(name)
         .required(true)
+        .help(help)
+}
+
+// A path that is standard input where it is left out.
+fn path_or_input<'a>(alloc: Global, id: &'a str, name: &'a str, help: &'a str) -> Arg<'a> {
+    Arg::new(alloc, id)
+        .value_name(name)
+        .default_value(DASH)
         .help(help)
 }
 
@@ -121,6 +132,9 @@ fn list_arguments<'a>(
         )?;
     }
     match row.file {
+        Some((name, help)) if row.may_lack_file => {
+            append(arguments, path_or_input(alloc, "FILE", name, help))
+        }
         Some((name, help)) => append(arguments, path(alloc, "FILE", name, help)),
         None => Ok(()),
     }
@@ -161,6 +175,7 @@ fn program_rows<'a>() -> [Row<'a>; 3] {
             has_output: false,
             has_manifest: true,
             file: None,
+            may_lack_file: false,
         },
         Row {
             name: "asm",
@@ -170,6 +185,7 @@ fn program_rows<'a>() -> [Row<'a>; 3] {
             has_output: true,
             has_manifest: false,
             file: Some(("FILE", help::SOURCE)),
+            may_lack_file: false,
         },
         Row {
             name: "dis",
@@ -179,8 +195,23 @@ fn program_rows<'a>() -> [Row<'a>; 3] {
             has_output: false,
             has_manifest: false,
             file: Some(("FILE", help::PROGRAM)),
+            may_lack_file: false,
         },
     ]
+}
+
+// The commands that write scripts.
+fn script_rows<'a>() -> [Row<'a>; 1] {
+    [Row {
+        name: "encode",
+        about: help::ENCODE,
+        after: help::AFTER_ENCODE,
+        is_sized: false,
+        has_output: false,
+        has_manifest: false,
+        file: Some(("FILE", help::CALLS)),
+        may_lack_file: true,
+    }]
 }
 
 // The commands that run a store.
@@ -194,6 +225,7 @@ fn store_rows<'a>() -> [Row<'a>; 4] {
             has_output: false,
             has_manifest: true,
             file: Some(("SCRIPT", help::SCRIPT)),
+            may_lack_file: false,
         },
         Row {
             name: "replay",
@@ -203,6 +235,7 @@ fn store_rows<'a>() -> [Row<'a>; 4] {
             has_output: false,
             has_manifest: true,
             file: Some(("TRANSCRIPT", help::TRANSCRIPT)),
+            may_lack_file: false,
         },
         Row {
             name: "schedule",
@@ -212,6 +245,7 @@ fn store_rows<'a>() -> [Row<'a>; 4] {
             has_output: false,
             has_manifest: true,
             file: Some(("STEPS", help::STEPS)),
+            may_lack_file: false,
         },
         Row {
             name: "stress",
@@ -221,6 +255,7 @@ fn store_rows<'a>() -> [Row<'a>; 4] {
             has_output: false,
             has_manifest: true,
             file: Some(("SCRIPT", help::SCRIPT)),
+            may_lack_file: false,
         },
     ]
 }
@@ -228,6 +263,7 @@ fn store_rows<'a>() -> [Row<'a>; 4] {
 // Appends the commands.
 fn list_commands<'a>(alloc: Global, commands: &mut Vec<Command<'a>>) -> Result<(), AllocError> {
     list_rows(alloc, &program_rows(), commands)?;
+    list_rows(alloc, &script_rows(), commands)?;
     list_rows(alloc, &store_rows(), commands)
 }
 
@@ -266,6 +302,7 @@ fn task_of<'a>(name: &str, matches: &ArgMatches<'a>) -> Option<Task<'a>> {
         "check" => Task::Check,
         "asm" => assembling(matches),
         "dis" => Task::Disassemble,
+        "encode" => Task::Encode,
         "run" => Task::Run,
         "replay" => Task::Replay,
         "schedule" => Task::Schedule(config_of(matches)?),

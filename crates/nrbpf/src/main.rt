@@ -10,7 +10,7 @@ mod sizes;
 use command_line::{Call, Task};
 use console::{Folder, Setup, Status, assemble, check, disassemble, replay, run, schedule};
 use disk::{Disk, LateFile};
-use output::{Output, assemble_into};
+use output::{Output, assemble_into, encode_or_say};
 use sizes::say_sizes;
 use std::io::{self, Eprint, Input, Print, Read, Write};
 use std::process::ExitCode;
@@ -34,6 +34,7 @@ fn perform<R: Files + AllocGlobal + Eprint + Threads + Wait + Sync, F: Folder, I
         Task::Assemble => assemble(alloc, file, writer),
         Task::AssembleInto(path) => assemble_into(rt, path, file, writer),
         Task::Disassemble => disassemble(alloc, file, writer),
+        Task::Encode => encode_or_say(rt, file, writer),
         Task::Run => run(alloc, folder, manifest, file, writer),
         Task::Replay => replay(alloc, folder, manifest, file, writer),
         Task::Schedule(config) => {

@@ -1,7 +1,7 @@
 // Where a command writes.
 
 use crate::disk::say;
-use console::{InputFault, Reply, Sink, Source, Status, Verdict, asm_reply, report};
+use console::{InputFault, Reply, Sink, Source, Status, Verdict, asm_reply, encode_reply, report};
 use std::alloc::{AllocError, Global};
 use std::io::{Eprint, ErrorKind, Write};
 use std::rt::Files;
@@ -107,6 +107,33 @@ pub fn assemble_into<R: Files + AllocGlobal + Eprint, I: Source, W: Sink>(
             Ok(part) => save(rt, path, part.as_str(), &text),
             Err(_) => report(writer, Err(InputFault::NoMemory)),
         },
+        other => report(writer, other),
+    }
+}
+
+// Says a text on standard error.
+fn say_text<R: Eprint>(rt: &R, text: Vec<u8>) {
+    if let Ok(text) = String::from_utf8(text) {
+        let _ = eprint!(rt; "{text}");
+    }
+}
+
+/// Writes the script of a text of calls. A refusal is said on standard error, so that no script holds it.
+pub fn encode_or_say<R: AllocGlobal + Eprint, I: Source, W: Sink>(
+    rt: &R,
+    calls: &mut I,
+    writer: &mut W,
+) -> Status {
+    match encode_reply(rt.alloc(), calls) {
+        Ok(
+            Reply {
+                text,
+                verdict: Verdict::Refused,
+            },
+        ) => {
+            say_text(rt, text);
+            Status::Refused
+        }
         other => report(writer, other),
     }
 }

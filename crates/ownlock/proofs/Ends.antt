@@ -1,5 +1,5 @@
 -- The shelf at the end.
-use Rattle.std.proofs.Common.{◌≡◌, ◌≢◌, ℕ, zero, suc, ◌<◌, ◌≤◌, eqb, true, false, List, [], ◌∷◌, map, length, get_or, sym, refl, ap, ◌∙◌, subst, arith, ne_eqb, true≢false, ◌||◌, Option, Some}
+use Rattle.std.proofs.Common.{◌≡◌, ◌≢◌, ℕ, zero, suc, ◌<◌, ◌≤◌, eqb, true, false, List, [], ◌∷◌, map, length, get_or, sym, refl, ap, ◌∙◌, subst, arith, ne_eqb, true≢false, ◌||◌, ◌+◌, Option, Some, None}
 use mathlib.Core.Logic.{dite}
 use mathlib.Core.Option as kernel
 use mathlib.Core.Option.{some-injective, some-ne-none}
@@ -9,7 +9,8 @@ use Rattle.std.proofs.lemmas.Map.Steps.{length-le_from_distinct_below}
 use Rattle.atomic_table.specs.Table.{State, Final, Seen}
 use Rattle.ownlock.specs.declared.known.Known.{Known}
 use Rattle.ownlock.specs.Rules.{Rules}
-use Rattle.ownlock.specs.Words.{word_of}
+use Rattle.ownlock.specs.Words.{word_of, slot_of}
+use Rattle.ownlock.specs.Spreading.{HasGaps, StandsIn}
 use Rattle.ownlock.specs.Seats.{At, Opened, HoldsNone}
 use Rattle.ownlock.specs.Knowledge.{AllAgree, Closes}
 use Rattle.ownlock.specs.Invariant.{LockInvariant, HeldBySome}
@@ -91,8 +92,14 @@ module _ {P N V : Type 0} (R : Rules P N V) (opened : Opened P) where
       q small in
       let k = map_at _ v t.0 q t.1 in (t.0, k.0, k.1, k.2)
 
-  pub closes : (words : List ℕ) (slots : List (Option V)) (id : ℕ) (v : List K) → length v ≡ opened.sessions → HoldsNone v → Final (Seen (LockInvariant R opened) id v) words slots → Closes R opened.sessions v slots
-  closes words slots id v long idle (s, (r, at), same_words, same_count, homes) = (r.progress, r.notes, r.accounts, r.counted, (λ i k e. let fit = (r.each id i v k at e).0 in (fit.possible.0.0, fit.possible.1)), agree, (λ q small. present s r id v at long q small))
+  -- the slots between hold nothing at the end
+  pub ends_gaps : (words : List ℕ) (slots : List (Option V)) (id places : ℕ) (v : List K) → length slots ≡ slot_of places → Final (Seen (LockInvariant R opened) id v) words slots → HasGaps None places slots
+  ends_gaps words slots id places v wide (s, (r, at), same_words, same_count, homes) p a below low high =
+      let placed = r.placed in homes (slot_of p + a) None (r.gaps p a (omega (arith, wide, same_count, placed, below)) low high)
+
+  pub closes : (words : List ℕ) (slots values : List (Option V)) (id : ℕ) (v : List K) → length slots ≡ slot_of (length values) → StandsIn values slots
+      → length v ≡ opened.sessions → HoldsNone v → Final (Seen (LockInvariant R opened) id v) words slots → Closes R opened.sessions v values
+  closes words slots values id v wide stands long idle (s, (r, at), same_words, same_count, homes) = (r.progress, r.notes, r.accounts, r.counted, (λ i k e. let fit = (r.each id i v k at e).0 in (fit.possible.0.0, fit.possible.1)), agree, (λ q small. present s r id v at long q small))
     where
       no_one : (p : ℕ) → HeldBySome R p s.views → ⊥
       no_one p (j, w, i, m, a, u, at_j, at_i, at_a, is) =
@@ -103,7 +110,10 @@ module _ {P N V : Type 0} (R : Rules P N V) (opened : Opened P) where
           let none : At a u [] = subst (λ z. At a u z) (idle i m mine) at_a in
           some-ne-none u (sym none)
 
-      agree : AllAgree R r.progress r.notes slots
+      inside : (p : ℕ) → p < length values → p < opened.places
+      inside p below = let placed = r.placed in omega (arith, wide, same_count, placed, below)
+
+      agree : AllAgree R r.progress r.notes values
       agree p below = dite (ℕ_discrete (get_or s.words (word_of p) 0) 0)
-          (λ free. let t = r.free p (subst (λ z. p < z) (sym same_count) below) free in (t.0, homes p (Some t.0) t.1, t.2))
-          (λ busy. absurd (no_one p (r.busy p (subst (λ z. p < z) (sym same_count) below) busy)))
+          (λ free. let t = r.free p (inside p below) free in (t.0, stands p (Some t.0) below (homes (slot_of p) (Some t.0) t.1), t.2))
+          (λ busy. absurd (no_one p (r.busy p (inside p below) busy)))

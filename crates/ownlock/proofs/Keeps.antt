@@ -1,5 +1,5 @@
 -- Each step of a shelf keeps its rule.
-use Rattle.std.proofs.Common.{◌≡◌, ◌≢◌, ℕ, zero, suc, ◌<◌, ◌≤◌, List, [], ◌∷◌, length, length-set, get_or, get_or-set_other, set, sym, refl, ap, ◌∙◌, subst, ⊎_elim, arith, Option, Some}
+use Rattle.std.proofs.Common.{◌≡◌, ◌≢◌, ℕ, zero, suc, ◌+◌, ◌<◌, ◌≤◌, List, [], ◌∷◌, length, get_or, get_or-set_other, set, sym, refl, ap, ◌∙◌, subst, ⊎_elim, arith, Option, Some}
 use mathlib.Core.Logic.{dite}
 use mathlib.Core.Option as kernel
 use mathlib.Core.Option.{some-injective, some-ne-none}
@@ -10,9 +10,10 @@ use Rattle.atomic_table.specs.Table.{State, Me, keeps, stepped}
 use Rattle.atomic_table.proofs.Lists.{at_set, set_here, set_else, set_again}
 use Rattle.ownlock.specs.declared.known.Known.{Known}
 use Rattle.ownlock.specs.Rules.{Rules, Laws, leader}
-use Rattle.ownlock.specs.Words.{word_of}
+use Rattle.ownlock.specs.Words.{word_of, slot_of}
 use Rattle.ownlock.specs.Seats.{At, Opened}
 use Rattle.ownlock.specs.Invariant.{SessionInvariant, HeldBySome, LockInvariant, StepsAs}
+use Rattle.ownlock.proofs.Spread.{one_slot}
 
 module _ {A : Type 0} where
   pub at_below : (l : List A) (i : ℕ) (a : A) → At i a l → i < length l
@@ -58,16 +59,16 @@ module _ {P N V : Type 0} (R : Rules P N V) (laws : Laws R) (opened : Opened P) 
     pub others : (q : ℕ) (y : V) → q ≢ p → R.AgreesWith q r.progress r.notes y → R.AgreesWith q progress notes y
     pub noted : (i : ℕ) (n : N) → i ≢ k.session → At i n r.notes → At i n notes
     pub counted : length notes ≡ opened.sessions
-    pub homes_else : (q : ℕ) → q ≢ p → get_elem? homes q ≡ get_elem? s.homes q
+    pub homes_else : (i : ℕ) → i ≢ slot_of p → get_elem? homes i ≡ get_elem? s.homes i
     pub homes_long : length homes ≡ length s.homes
     pub words_else : (q : ℕ) → q ≢ p → get_or words (word_of q) 0 ≡ get_or s.words (word_of q) 0
-    pub tail_here : get_or words (word_of (length homes)) 0 ≡ R.completed progress
+    pub tail_here : get_or words (word_of opened.places) 0 ≡ R.completed progress
     pub words_long : length words ≡ length s.words
     pub holder_else : (q : ℕ) → q ≢ p → holder q ≡ r.holder q
     pub not_theirs : (j i : ℕ) (v : List K) (m : K) (a : ℕ) (u : ℕ × V) → j ≢ id → At j v s.views → At i m v → At a u m.held → u.0 ≢ p
     pub mine : SessionInvariant R progress notes homes holder k'
-    pub free_here : p < length homes → get_or words (word_of p) 0 ≡ 0 → (x : V) × At p (kernel.some (Some x)) homes × R.AgreesWith p progress notes x
-    pub busy_here : p < length homes → get_or words (word_of p) 0 ≢ 0 → (a : ℕ) × (u : ℕ × V) × At a u k'.held × (u.0 ≡ p)
+    pub free_here : p < opened.places → get_or words (word_of p) 0 ≡ 0 → (x : V) × At (slot_of p) (kernel.some (Some x)) homes × R.AgreesWith p progress notes x
+    pub busy_here : p < opened.places → get_or words (word_of p) 0 ≢ 0 → (a : ℕ) × (u : ℕ × V) × At a u k'.held × (u.0 ≡ p)
     pub held_else : (a : ℕ) (u : ℕ × V) → At a u k.held → u.0 ≢ p → (b : ℕ) × At b u k'.held
 
   module _ (s : St) (r : LockInvariant R opened s) (id p : ℕ) (k k' : K) (progress : P) (notes : List N) (words : List ℕ) (homes : Homes) (holder : ℕ → ℕ) (g : Goes s r id p k k' progress notes words homes holder) where
@@ -94,7 +95,7 @@ module _ {P N V : Type 0} (R : Rules P N V) (laws : Laws R) (opened : Opened P) 
           );
           allowed = fit.allowed;
           apart = fit.apart;
-          out = λ a u at_a. let ne = g.not_theirs j i v m a u other at_j at_i at_a in let was = fit.out a u at_a in (g.holder_else u.0 ne ∙ was.0, g.homes_else u.0 ne ∙ was.1);
+          out = λ a u at_a. let ne = g.not_theirs j i v m a u other at_j at_i at_a in let was = fit.out a u at_a in (g.holder_else u.0 ne ∙ was.0, g.homes_else (slot_of u.0) (λ e. ne (one_slot u.0 p e)) ∙ was.1);
         }
 
     each_after : (j i : ℕ) (v : List K) (m : K) → At j v after → At i m v → SessionInvariant R progress notes homes holder m × (r.owner m.session ≡ j)
@@ -114,10 +115,10 @@ module _ {P N V : Type 0} (R : Rules P N V) (laws : Laws R) (opened : Opened P) 
         (λ (t : (j ≢ id) × At j v s.views). r.distinct j a b v x y t.1 at_a at_b e)
         (at_set s.views id j (k' ∷ []) v at_j)
 
-    free_after : (q : ℕ) → q < length homes → get_or words (word_of q) 0 ≡ 0 → (x : V) × At q (kernel.some (Some x)) homes × R.AgreesWith q progress notes x
+    free_after : (q : ℕ) → q < opened.places → get_or words (word_of q) 0 ≡ 0 → (x : V) × At (slot_of q) (kernel.some (Some x)) homes × R.AgreesWith q progress notes x
     free_after q below is = dite (ℕ_discrete q p)
-        (λ e. subst (λ z. (x : V) × At z (kernel.some (Some x)) homes × R.AgreesWith z progress notes x) (sym e) (g.free_here (subst (λ z. z < length homes) e below) (subst (λ z. get_or words (word_of z) 0 ≡ 0) e is)))
-        (λ ne. let was = r.free q (subst (λ z. q < z) g.homes_long below) (sym (g.words_else q ne) ∙ is) in (was.0, g.homes_else q ne ∙ was.1, g.others q was.0 ne was.2))
+        (λ e. subst (λ z. (x : V) × At (slot_of z) (kernel.some (Some x)) homes × R.AgreesWith z progress notes x) (sym e) (g.free_here (subst (λ z. z < opened.places) e below) (subst (λ z. get_or words (word_of z) 0 ≡ 0) e is)))
+        (λ ne. let was = r.free q below (sym (g.words_else q ne) ∙ is) in (was.0, g.homes_else (slot_of q) (λ e. ne (one_slot q p e)) ∙ was.1, g.others q was.0 ne was.2))
 
     still_held : (q : ℕ) → q ≢ p → HeldBySome R q s.views → HeldBySome R q after
     still_held q ne (j, v, i, m, a, u, at_j, at_i, at_a, is) = dite (ℕ_discrete j id)
@@ -129,10 +130,10 @@ module _ {P N V : Type 0} (R : Rules P N V) (laws : Laws R) (opened : Opened P) 
         (id, k' ∷ [], 0, k', kept.0, u, mine_at, refl, kept.1, is))
         (λ other. (j, v, i, m, a, u, set_else s.views id j (k' ∷ []) other ∙ at_j, at_i, at_a, is))
 
-    busy_after : (q : ℕ) → q < length homes → get_or words (word_of q) 0 ≢ 0 → HeldBySome R q after
+    busy_after : (q : ℕ) → q < opened.places → get_or words (word_of q) 0 ≢ 0 → HeldBySome R q after
     busy_after q below is = dite (ℕ_discrete q p)
-        (λ e. let mine = g.busy_here (subst (λ z. z < length homes) e below) (λ h. is (ap (λ z. get_or words (word_of z) 0) e ∙ h)) in (id, k' ∷ [], 0, k', mine.0, mine.1, mine_at, refl, mine.2, mine.3 ∙ sym e))
-        (λ ne. still_held q ne (r.busy q (subst (λ z. q < z) g.homes_long below) (λ h. is (g.words_else q ne ∙ h))))
+        (λ e. let mine = g.busy_here (subst (λ z. z < opened.places) e below) (λ h. is (ap (λ z. get_or words (word_of z) 0) e ∙ h)) in (id, k' ∷ [], 0, k', mine.0, mine.1, mine_at, refl, mine.2, mine.3 ∙ sym e))
+        (λ ne. still_held q ne (r.busy q below (λ h. is (g.words_else q ne ∙ h))))
 
     pub goes : LockInvariant R opened record { words = words; homes = homes; views = after }
     goes = record {
@@ -144,8 +145,9 @@ module _ {P N V : Type 0} (R : Rules P N V) (laws : Laws R) (opened : Opened P) 
       placed = g.homes_long ∙ r.placed;
       accounts = g.accounts;
       counted = g.counted;
-      wide = g.words_long ∙ (r.wide ∙ ap (λ n. word_of (suc n)) (sym g.homes_long));
+      wide = g.words_long ∙ r.wide;
       tail = g.tail_here;
+      gaps = λ q a below low high. g.homes_else (slot_of q + a) (λ e. omega (arith, e, low, high)) ∙ r.gaps q a below low high;
       free = free_after;
       busy = busy_after;
       each = each_after;
@@ -165,7 +167,7 @@ module _ {P N V : Type 0} (R : Rules P N V) (laws : Laws R) (opened : Opened P) 
       other (sym known.1 ∙ (ap r.owner same ∙ (r.each id 0 (k ∷ []) k at refl).1))
 
   -- the word of a place, or that of the completed tail, is there
-  pub word_there : (s : St) (r : LockInvariant R opened s) (p : ℕ) → p ≤ length s.homes → word_of p < length s.words
+  pub word_there : (s : St) (r : LockInvariant R opened s) (p : ℕ) → p ≤ opened.places → word_of p < length s.words
   word_there s r p below = let long = r.wide in omega (arith, long, below)
 
   -- the words of two places are two
@@ -173,10 +175,15 @@ module _ {P N V : Type 0} (R : Rules P N V) (laws : Laws R) (opened : Opened P) 
   word_else words p q n ne = get_or-set_other words (word_of p) (word_of q) n 0 (λ e. ne (omega (arith, e)))
 
   -- a step at a place leaves the word of the completed tail as it is
-  pub tail_else : (s : St) (r : LockInvariant R opened s) (p n : ℕ) (h : kernel.Option (Option V)) → p < length s.homes
-      → get_or (set s.words (word_of p) n) (word_of (length (set s.homes p h))) 0 ≡ R.completed r.progress
-  tail_else s r p n h below =
-      ap (λ z. get_or (set s.words (word_of p) n) (word_of z) 0) (length-set s.homes p h) ∙ (word_else s.words p (length s.homes) n (λ e. omega (arith, e, below)) ∙ r.tail)
+  pub tail_else : (s : St) (r : LockInvariant R opened s) (p n : ℕ) → p < opened.places → get_or (set s.words (word_of p) n) (word_of opened.places) 0 ≡ R.completed r.progress
+  tail_else s r p n below = word_else s.words p opened.places n (λ e. omega (arith, e, below)) ∙ r.tail
+
+  -- a place whose slot the table has is one of those that the shelf was opened with, and its slot is there
+  pub place_there : (s : St) (r : LockInvariant R opened s) (slots p : ℕ) → length s.homes ≡ slots → slot_of p < slots → p < opened.places
+  place_there s r slots p long below = let placed = r.placed in omega (arith, long, below, placed)
+
+  pub slot_there : (s : St) (r : LockInvariant R opened s) (p : ℕ) → p < opened.places → slot_of p < length s.homes
+  slot_there s r p below = let placed = r.placed in omega (arith, below, placed)
 
   -- a step that changes nothing
   pub unmoved : (s : St) (r : LockInvariant R opened s) (id w : ℕ) (k : K) (c : List (ℕ × Option V)) → At id (k ∷ []) s.views → LockInvariant R opened (stepped s w (get_or s.words w 0) id c (k ∷ []) keeps)

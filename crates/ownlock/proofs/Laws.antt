@@ -1,5 +1,5 @@
 -- What the invariant says between two steps.
-use Rattle.std.proofs.Common.{◌≡◌, ◌≢◌, ℕ, ◌<◌, List, length, get_or, sym, refl, ap, ◌∙◌, subst, inl, inr, Option, Some}
+use Rattle.std.proofs.Common.{◌≡◌, ◌≢◌, ℕ, ◌<◌, List, get_or, sym, refl, ap, ◌∙◌, subst, inl, inr, Option, Some}
 use mathlib.Core.Logic.{dite}
 use mathlib.Core.Option as kernel
 use mathlib.Core.Option.{some-injective, some-ne-none}
@@ -7,7 +7,7 @@ use native.Mathlib.Decide.{ℕ_discrete}
 use Rattle.atomic_table.specs.Table.{State}
 use Rattle.ownlock.specs.declared.known.Known.{Known}
 use Rattle.ownlock.specs.Rules.{Rules, leader}
-use Rattle.ownlock.specs.Words.{word_of}
+use Rattle.ownlock.specs.Words.{word_of, slot_of}
 use Rattle.ownlock.specs.Seats.{At, Opened}
 use Rattle.ownlock.specs.Invariant.{LockInvariant, HeldBySome}
 use Rattle.ownlock.specs.Between.{Between, Holds, IsHome, IsHeld, IsHomeOrHeld}
@@ -18,7 +18,7 @@ module _ {P N V : Type 0} (R : Rules P N V) (opened : Opened P) (s : State (Opti
   K = Known P N V
 
   -- what is held is out, and agrees as it was taken
-  out : (j i a : ℕ) (k : K) (p : ℕ) (x : V) → Holds s j i a k p x → At p kernel.none s.homes
+  out : (j i a : ℕ) (k : K) (p : ℕ) (x : V) → Holds s j i a k p x → At (slot_of p) kernel.none s.homes
   out j i a k p x (v, at_j, at_i, at_a) = ((r.each j i v k at_j at_i).0.out a (p, x) at_a).1
 
   agrees : (j i a : ℕ) (k : K) (p : ℕ) (x : V) → Holds s j i a k p x → R.AgreesWith p r.progress r.notes x
@@ -40,15 +40,15 @@ module _ {P N V : Type 0} (R : Rules P N V) (opened : Opened P) (s : State (Opti
   not_both : (p : ℕ) (o : Option V) → At p (kernel.some o) s.homes → At p kernel.none s.homes → ⊥
   not_both p o e f = some-ne-none o (some-injective _ _ (sym e ∙ f))
 
-  free : (p : ℕ) → p < length s.homes → get_or s.words (word_of p) 0 ≡ 0 → IsHome R s r.progress r.notes p
-  free p below is = let t = r.free p below is in (is, t, (λ j i a k x h. not_both p (Some t.0) t.1 (out j i a k p x h)))
+  free : (p : ℕ) → p < opened.places → get_or s.words (word_of p) 0 ≡ 0 → IsHome R s r.progress r.notes p
+  free p below is = let t = r.free p below is in (is, t, (λ j i a k x h. not_both (slot_of p) (Some t.0) t.1 (out j i a k p x h)))
 
   held : (p : ℕ) → get_or s.words (word_of p) 0 ≢ 0 → HeldBySome R p s.views → IsHeld R s r.progress r.notes p
   held p busy (j, v, i, k, a, u, at_j, at_i, at_a, is) =
       let h : Holds s j i a k p u.1 = (v, at_j, at_i, subst (λ q. At a (q, u.1) k.held) is at_a) in
       (busy, out j i a k p u.1 h, (j, i, a, k, u.1, h, (λ j' i' a' k' x' h'. once j i a k p u.1 j' i' a' k' x' h h'), agrees j i a k p u.1 h))
 
-  either_way : (p : ℕ) → p < length s.homes → IsHomeOrHeld R s r.progress r.notes p
+  either_way : (p : ℕ) → p < opened.places → IsHomeOrHeld R s r.progress r.notes p
   either_way p below = dite (ℕ_discrete (get_or s.words (word_of p) 0) 0) (λ is. inl (free p below is)) (λ busy. inr (held p busy (r.busy p below busy)))
 
   pub between : Between R s opened

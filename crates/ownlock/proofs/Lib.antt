@@ -1,3 +1,4 @@
+pub mod Spread
 pub mod Without
 pub mod Fronts
 pub mod Keeps

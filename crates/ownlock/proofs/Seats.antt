@@ -1,5 +1,5 @@
 -- The first seat, and how seats are split and joined.
-use Rattle.std.proofs.Common.{◌≡◌, ◌≢◌, ℕ, zero, suc, ◌+◌, ◌<◌, eqb, ◌⊎◌, List, [], ◌∷◌, ◌++◌, map, length, append-nil, get_or, set, replicate, sym, refl, ap, ◌∙◌, subst, ⊎_elim, inl, inr, arith, eq-eqb, ne_eqb, Option, Some}
+use Rattle.std.proofs.Common.{◌≡◌, ◌≢◌, ℕ, zero, suc, ◌+◌, ◌<◌, eqb, ◌⊎◌, List, [], ◌∷◌, ◌++◌, map, length, append-nil, get_or, set, replicate, sym, refl, ap, ◌∙◌, subst, ⊎_elim, inl, inr, arith, eq-eqb, ne_eqb, Option, Some, None}
 use mathlib.Core.Logic.{dite}
 use mathlib.Core.Option as kernel
 use mathlib.Core.Option.{some-injective, some-ne-none}
@@ -10,10 +10,12 @@ use Rattle.atomic_table.specs.Table.{State, Me, opening, Splits, Joins}
 use Rattle.atomic_table.proofs.Lists.{at_set, set_here, set_else, at_longer, at_last, at_map}
 use Rattle.ownlock.specs.declared.known.Known.{Known}
 use Rattle.ownlock.specs.Rules.{Rules, Laws}
-use Rattle.ownlock.specs.Words.{word_of}
+use Rattle.ownlock.specs.Words.{word_of, slot_of}
+use Rattle.ownlock.specs.Spreading.{spread}
 use Rattle.ownlock.specs.Seats.{At, Opened, opened_with, SeatView, IsSession, all_sessions, HoldsNone}
 use Rattle.ownlock.specs.Knowledge.{AllAgree}
 use Rattle.ownlock.specs.Invariant.{SessionInvariant, HeldBySome, LockInvariant, first_of, others_of, out_of, emptied, StepsAs}
+use Rattle.ownlock.proofs.Spread.{long_spread, at_spread, none_between}
 use Rattle.ownlock.proofs.Keeps.{at_below, at_only, at_one}
 
 module _ {A : Type 0} where
@@ -111,27 +113,28 @@ module _ {P N V : Type 0} (R : Rules P N V) (laws : Laws R) where
   all_sessions_at progress n (x ∷ xs) (suc i) k e = let t = all_sessions_at progress (suc n) xs i k e in let number = t.0 in (omega arith, t.1, t.2, t.3)
 
   -- the shelf at the start
-  pub opens : (progress : P) (notes : List N) (slots : List (Option V)) (words : List ℕ) → words ≡ blanks (word_of (length slots + 1)) → R.completed progress ≡ 0 → R.Accounts progress notes → AllAgree R progress notes slots → (places : ℕ) → length slots ≡ places
-      → LockInvariant R (opened_with progress places notes) (opening words slots (all_sessions progress 0 notes))
-  opens progress notes slots words blank none whole agree places count = record {
+  pub opens : (progress : P) (notes : List N) (values : List (Option V)) (words : List ℕ) → words ≡ blanks (word_of (length values + 1)) → R.completed progress ≡ 0 → R.Accounts progress notes → AllAgree R progress notes values → (places : ℕ) → length values ≡ places
+      → LockInvariant R (opened_with progress places notes) (opening words (spread values) (all_sessions progress 0 notes))
+  opens progress notes values words blank none whole agree places count = record {
     progress = progress;
     notes = notes;
     grown = laws.extends_self progress;
-    placed = length_map slots ∙ count;
+    placed = length_map (spread values) ∙ (long_spread values ∙ ap slot_of count);
     owner = λ _. 0;
     holder = λ _. 0;
     accounts = whole;
     counted = refl;
-    wide = ap length blank ∙ omega (arith, length_replicate (word_of (length slots + 1)), length_map slots);
-    tail = zero_at (word_of (length (map kernel.some slots))) ∙ sym none;
-    free = λ p below _. let t = agree p (omega (arith, length_map slots, below)) in (t.0, at_map kernel.some slots p (Some t.0) t.1, t.2);
+    wide = ap length blank ∙ omega (arith, length_replicate (word_of (length values + 1)), count);
+    tail = zero_at (word_of places) ∙ sym none;
+    gaps = λ p a below low high. at_map kernel.some (spread values) (slot_of p + a) None (none_between values p a (omega (arith, below, count)) low high);
+    free = λ p below _. let t = agree p (omega (arith, below, count)) in (t.0, at_map kernel.some (spread values) (slot_of p) (Some t.0) (at_spread values p (Some t.0) t.1), t.2);
     busy = λ p below ne. absurd (ne (zero_at (word_of p)));
     each = holds_of;
     distinct = apart;
   }
     where
       zero_at : (p : ℕ) → get_or words p 0 ≡ 0
-      zero_at p = ap (λ l. get_or l p 0) blank ∙ zeros (word_of (length slots + 1)) p
+      zero_at p = ap (λ l. get_or l p 0) blank ∙ zeros (word_of (length values + 1)) p
 
       length_replicate : (n : ℕ) → length (blanks n) ≡ n
       length_replicate zero = refl
@@ -144,7 +147,7 @@ module _ {P N V : Type 0} (R : Rules P N V) (laws : Laws R) where
       none_held : (k : K) → k.held ≡ [] → (a : ℕ) (u : ℕ × V) → At a u k.held → ⊥
       none_held k e a u h = some-ne-none u (sym h ∙ ap (λ l. get_elem? l a) e)
 
-      holds_of : (j i : ℕ) (v : List K) (k : K) → At j v (all_sessions progress 0 notes ∷ []) → At i k v → SessionInvariant R progress notes (map kernel.some slots) (λ _. 0) k × (0 ≡ j)
+      holds_of : (j i : ℕ) (v : List K) (k : K) → At j v (all_sessions progress 0 notes ∷ []) → At i k v → SessionInvariant R progress notes (map kernel.some (spread values)) (λ _. 0) k × (0 ≡ j)
       holds_of j i v k at_j at_i =
           let only = at_only (all_sessions progress 0 notes) v j at_j in
           let t = all_sessions_at progress 0 notes i k (subst (λ z. At i k z) (sym only.1) at_i) in
@@ -184,6 +187,7 @@ module _ {P N V : Type 0} (R : Rules P N V) (laws : Laws R) where
       counted = r.counted;
       wide = r.wide;
       tail = r.tail;
+      gaps = r.gaps;
       free = r.free;
       busy = λ p below ne. held p (r.busy p below ne);
       each = each;
@@ -268,6 +272,7 @@ module _ {P N V : Type 0} (R : Rules P N V) (laws : Laws R) where
       counted = r.counted;
       wide = r.wide;
       tail = r.tail;
+      gaps = r.gaps;
       free = r.free;
       busy = λ p below ne. held p (r.busy p below ne);
       each = each;

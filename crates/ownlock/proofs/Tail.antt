@@ -4,7 +4,7 @@ use mathlib.Core.Option as kernel
 use Rattle.atomic_table.specs.Table.{State, Me, keeps, step, stepped, Allows}
 use Rattle.ownlock.specs.declared.known.Known.{Known}
 use Rattle.ownlock.specs.Rules.{Rules, Laws}
-use Rattle.ownlock.specs.Words.{word_of}
+use Rattle.ownlock.specs.Words.{word_of, slot_of}
 use Rattle.ownlock.specs.Seats.{At, Opened, with_progress, having_read}
 use Rattle.ownlock.specs.Knowledge.{Later, Possible}
 use Rattle.ownlock.specs.Invariant.{SessionInvariant, LockInvariant, done_read, done_raised}
@@ -34,10 +34,10 @@ module _ {P N V : Type 0} (R : Rules P N V) (laws : Laws R) (opened : Opened P) 
     seen = mine_of R laws opened s r id k at
 
     abbrev last : ℕ
-    last = length s.homes
+    last = opened.places
 
-    not_last : (q : ℕ) → At q kernel.none s.homes → q ≢ last
-    not_last q e is = let below = at_below s.homes q kernel.none e in omega (arith, below, is)
+    not_last : (q : ℕ) → At (slot_of q) kernel.none s.homes → q ≢ last
+    not_last q e is = let below = at_below s.homes (slot_of q) kernel.none e in let placed = r.placed in omega (arith, below, is, placed)
 
     moves_tail : Goes R laws opened s r id last k later progress r.notes (set s.words (word_of last) n) s.homes r.holder
     moves_tail = record {
@@ -49,7 +49,7 @@ module _ {P N V : Type 0} (R : Rules P N V) (laws : Laws R) (opened : Opened P) 
       others = λ q y _ h. agrees q y h;
       noted = λ i m _ h. h;
       counted = r.counted;
-      homes_else = λ q _. refl;
+      homes_else = λ i _. refl;
       homes_long = refl;
       words_else = λ q ne. word_else R laws opened s.words last q n ne;
       tail_here = get_or-set_same s.words (word_of last) n 0 (word_there R laws opened s r last (omega arith)) ∙ sym completed;
@@ -86,43 +86,49 @@ module _ {P N V : Type 0} (R : Rules P N V) (laws : Laws R) (opened : Opened P) 
   only_one : (k k2 : K) → (k ∷ []) ≡ (k2 ∷ []) → k ≡ k2
   only_one k k2 e = ap (λ l. get_or l 0 k) e
 
-  reads_at : (slots id : ℕ) (k : K) (c : List (ℕ × Option V))
-      → Allows (LockInvariant R opened) slots id (me k c) (word_of slots) (λ n. n) (done_read R (step slots (word_of slots) 0 0 kernel.none) (me k c))
-  reads_at slots id k c s r long at _ =
-      let tail : get_or s.words (word_of slots) 0 ≡ R.completed r.progress = ap (λ z. get_or s.words (word_of z) 0) (sym long) ∙ r.tail in (
-        having_read k r.progress (get_or s.words (word_of slots) 0) ∷ [],
+  -- the table has the slots of as many places as the shelf was opened with
+  all_places : (s : St) (r : LockInvariant R opened s) (slots places : ℕ) → slots ≡ slot_of places → length s.homes ≡ slots → places ≡ opened.places
+  all_places s r slots places wide long = let placed = r.placed in omega (arith, wide, long, placed)
+
+  reads_at : (slots places id : ℕ) (k : K) (c : List (ℕ × Option V)) → slots ≡ slot_of places
+      → Allows (LockInvariant R opened) slots id (me k c) (word_of places) (λ n. n) (done_read R (step slots (word_of places) 0 0 kernel.none) (me k c))
+  reads_at slots places id k c wide s r long at _ =
+      let same = all_places s r slots places wide long in
+      let tail : get_or s.words (word_of places) 0 ≡ R.completed r.progress = ap (λ z. get_or s.words (word_of z) 0) same ∙ r.tail in (
+        having_read k r.progress (get_or s.words (word_of places) 0) ∷ [],
         keeps,
         tt,
-        subst (λ z. LockInvariant R opened (stepped s (word_of z) (get_or s.words (word_of slots) 0) id c (having_read k r.progress (get_or s.words (word_of slots) 0) ∷ []) keeps)) long
-            (tail_stands s r id k at r.progress (get_or s.words (word_of slots) 0) (laws.extends_self r.progress) (laws.same_self r.progress) r.accounts (λ q y h. h) (sym tail) (k.tails_read ++ get_or s.words (word_of slots) 0 ∷ []) c),
-        λ k2 sits. subst (λ (z : K). (progress : P) × ((notes : List N) × Possible R z progress notes) × (get_or s.words (word_of slots) 0 ≡ R.completed progress) × (me (having_read k r.progress (get_or s.words (word_of slots) 0)) c ≡ me (having_read z progress (get_or s.words (word_of slots) 0)) c)) (only_one k k2 sits)
+        subst (λ z. LockInvariant R opened (stepped s (word_of z) (get_or s.words (word_of places) 0) id c (having_read k r.progress (get_or s.words (word_of places) 0) ∷ []) keeps)) (sym same)
+            (tail_stands s r id k at r.progress (get_or s.words (word_of places) 0) (laws.extends_self r.progress) (laws.same_self r.progress) r.accounts (λ q y h. h) (sym tail) (k.tails_read ++ get_or s.words (word_of places) 0 ∷ []) c),
+        λ k2 sits. subst (λ (z : K). (progress : P) × ((notes : List N) × Possible R z progress notes) × (get_or s.words (word_of places) 0 ≡ R.completed progress) × (me (having_read k r.progress (get_or s.words (word_of places) 0)) c ≡ me (having_read z progress (get_or s.words (word_of places) 0)) c)) (only_one k k2 sits)
             (r.progress, (r.notes, now s r id k at), tail, refl),
       )
 
-  raises_at : (slots id n : ℕ) (k : K) (c : List (ℕ × Option V)) → R.Reaches k.progress n
-      → Allows (LockInvariant R opened) slots id (me k c) (word_of slots) (λ m. max m n) (done_raised R (step slots (word_of slots) n 0 kernel.none) (me k c))
-  raises_at slots id n k c reaches s r long at _ =
-      let tail : get_or s.words (word_of slots) 0 ≡ R.completed r.progress = ap (λ z. get_or s.words (word_of z) 0) (sym long) ∙ r.tail in
+  raises_at : (slots places id n : ℕ) (k : K) (c : List (ℕ × Option V)) → slots ≡ slot_of places → R.Reaches k.progress n
+      → Allows (LockInvariant R opened) slots id (me k c) (word_of places) (λ m. max m n) (done_raised R (step slots (word_of places) n 0 kernel.none) (me k c))
+  raises_at slots places id n k c wide reaches s r long at _ =
+      let same = all_places s r slots places wide long in
+      let tail : get_or s.words (word_of places) 0 ≡ R.completed r.progress = ap (λ z. get_or s.words (word_of z) 0) same ∙ r.tail in
       let progress : P = R.raised r.progress n in
-      let up : R.completed progress ≡ max (get_or s.words (word_of slots) 0) n = laws.raised_completed r.progress n ∙ ap (λ z. max z n) (sym tail) in
+      let up : R.completed progress ≡ max (get_or s.words (word_of places) 0) n = laws.raised_completed r.progress n ∙ ap (λ z. max z n) (sym tail) in
       let known = now s r id k at in
       let may : R.Reaches r.progress n = laws.reaches_on k.progress r.progress n known.0.0 reaches in (
         with_progress k progress ∷ [],
         keeps,
         tt,
-        subst (λ z. LockInvariant R opened (stepped s (word_of z) (max (get_or s.words (word_of slots) 0) n) id c (with_progress k progress ∷ []) keeps)) long
-            (tail_stands s r id k at progress (max (get_or s.words (word_of slots) 0) n) (laws.raised_extends r.progress n) (laws.raised_same r.progress n) (laws.raised_account r.progress n r.notes may r.accounts)
+        subst (λ z. LockInvariant R opened (stepped s (word_of z) (max (get_or s.words (word_of places) 0) n) id c (with_progress k progress ∷ []) keeps)) (sym same)
+            (tail_stands s r id k at progress (max (get_or s.words (word_of places) 0) n) (laws.raised_extends r.progress n) (laws.raised_same r.progress n) (laws.raised_account r.progress n r.notes may r.accounts)
             (λ q y h. laws.raised_agrees q y r.progress n r.notes may r.accounts h) up k.tails_read c),
         λ k2 sits. subst (λ (z : K). (before : P) × Later R z before × ((notes : List N) × Possible R z (R.raised before n) notes) × (me (with_progress k progress) c ≡ me (with_progress z (R.raised before n)) c)) (only_one k k2 sits)
             (r.progress, known.0, (r.notes, now_raised k r.progress r.notes n may known), refl),
       )
 
   -- the completed tail is read
-  pub reads : (slots id word : ℕ) (m : M) (k : K) → word ≡ word_of slots → m.0 ≡ k ∷ [] → Allows (LockInvariant R opened) slots id m word (λ n. n) (done_read R (step slots word 0 0 kernel.none) m)
-  reads slots id word m k is sits =
-      subst (λ (z : ℕ × List K). Allows (LockInvariant R opened) slots id (z.1, m.1) z.0 (λ n. n) (done_read R (step slots z.0 0 0 kernel.none) (z.1, m.1))) (λ i. (sym is i, sym sits i)) (reads_at slots id k m.1)
+  pub reads : (slots places id word : ℕ) (m : M) (k : K) → slots ≡ slot_of places → word ≡ word_of places → m.0 ≡ k ∷ [] → Allows (LockInvariant R opened) slots id m word (λ n. n) (done_read R (step slots word 0 0 kernel.none) m)
+  reads slots places id word m k wide is sits =
+      subst (λ (z : ℕ × List K). Allows (LockInvariant R opened) slots id (z.1, m.1) z.0 (λ n. n) (done_read R (step slots z.0 0 0 kernel.none) (z.1, m.1))) (λ i. (sym is i, sym sits i)) (reads_at slots places id k m.1 wide)
 
   -- the completed tail is raised
-  pub raises : (slots id word n : ℕ) (m : M) (k : K) → word ≡ word_of slots → m.0 ≡ k ∷ [] → R.Reaches k.progress n → Allows (LockInvariant R opened) slots id m word (λ o. max o n) (done_raised R (step slots word n 0 kernel.none) m)
-  raises slots id word n m k is sits reaches =
-      subst (λ (z : ℕ × List K). Allows (LockInvariant R opened) slots id (z.1, m.1) z.0 (λ o. max o n) (done_raised R (step slots z.0 n 0 kernel.none) (z.1, m.1))) (λ i. (sym is i, sym sits i)) (raises_at slots id n k m.1 reaches)
+  pub raises : (slots places id word n : ℕ) (m : M) (k : K) → slots ≡ slot_of places → word ≡ word_of places → m.0 ≡ k ∷ [] → R.Reaches k.progress n → Allows (LockInvariant R opened) slots id m word (λ o. max o n) (done_raised R (step slots word n 0 kernel.none) m)
+  raises slots places id word n m k wide is sits reaches =
+      subst (λ (z : ℕ × List K). Allows (LockInvariant R opened) slots id (z.1, m.1) z.0 (λ o. max o n) (done_raised R (step slots z.0 n 0 kernel.none) (z.1, m.1))) (λ i. (sym is i, sym sits i)) (raises_at slots places id n k m.1 wide reaches)

@@ -1,5 +1,5 @@
 -- A try keeps the invariant, and what it tells.
-use Rattle.std.proofs.Common.{◌≡◌, ◌≢◌, ℕ, zero, suc, ◌<◌, eqb, List, [], ◌∷◌, map, length, get_or, set, sym, refl, ap, ◌∙◌, subst, arith, length-set, get_or-set_same, eq-eqb, ne_eqb, Option, Some, None}
+use Rattle.std.proofs.Common.{◌≡◌, ◌≢◌, ℕ, zero, suc, ◌<◌, eqb, List, [], ◌∷◌, map, get_or, set, sym, refl, ap, ◌∙◌, subst, arith, length-set, get_or-set_same, eq-eqb, ne_eqb, Option, Some, None}
 use mathlib.Core.Option as kernel
 use mathlib.Core.Option.{some-injective, some-ne-none}
 use lib.ListN.{get_elem?}
@@ -9,11 +9,12 @@ use Rattle.atomic_table.specs.Table.{State, Me, Act, keeps, takes, step, stepped
 use Rattle.atomic_table.proofs.Lists.{set_here, set_else, exchanged}
 use Rattle.ownlock.specs.declared.known.Known.{Known}
 use Rattle.ownlock.specs.Rules.{Rules, Laws}
-use Rattle.ownlock.specs.Words.{word_of}
+use Rattle.ownlock.specs.Words.{word_of, slot_of}
 use Rattle.ownlock.specs.Seats.{At, Opened, place_of, holding}
 use Rattle.ownlock.specs.Knowledge.{HeldAgree, Possible, Acquired, MayTake}
 use Rattle.ownlock.specs.Invariant.{emptied, SessionInvariant, LockInvariant, StepsAs, tried}
-use Rattle.ownlock.proofs.Keeps.{one_session, one_place, Goes, goes, mine_of, word_there, word_else, tail_else, unmoved}
+use Rattle.ownlock.proofs.Spread.{one_slot}
+use Rattle.ownlock.proofs.Keeps.{one_session, one_place, Goes, goes, mine_of, word_there, word_else, tail_else, place_there, slot_there, unmoved}
 
 module _ {P N V : Type 0} (R : Rules P N V) (laws : Laws R) (opened : Opened P) where
   abbrev K : Type 0
@@ -28,8 +29,8 @@ module _ {P N V : Type 0} (R : Rules P N V) (laws : Laws R) (opened : Opened P) 
   abbrev Homes : Type 0
   Homes = List (kernel.Option (Option V))
 
-  module _ (s : St) (r : LockInvariant R opened s) (id p : ℕ) (k : K) (at : At id (k ∷ []) s.views) (below : p < length s.homes) (may : MayTake R p k)
-      (x : V) (home : At p (kernel.some (Some x)) s.homes) (agrees : R.AgreesWith p r.progress r.notes x) where
+  module _ (s : St) (r : LockInvariant R opened s) (id p : ℕ) (k : K) (at : At id (k ∷ []) s.views) (below : p < opened.places) (may : MayTake R p k)
+      (x : V) (home : At (slot_of p) (kernel.some (Some x)) s.homes) (agrees : R.AgreesWith p r.progress r.notes x) where
     abbrev taker : K
     taker = holding k r.progress p x
 
@@ -39,7 +40,7 @@ module _ {P N V : Type 0} (R : Rules P N V) (laws : Laws R) (opened : Opened P) 
     holds_else : (q : ℕ) → q ≢ p → now_holds q ≡ r.holder q
     holds_else q ne = ap (λ b. either b k.session (r.holder q)) (ne_eqb q p ne)
 
-    not_out : get_elem? s.homes p ≡ kernel.some kernel.none → ⊥
+    not_out : get_elem? s.homes (slot_of p) ≡ kernel.some kernel.none → ⊥
     not_out e = some-ne-none (Some x) (some-injective _ _ (sym home ∙ e))
 
     take_agrees : HeldAgree R r.progress r.notes taker.held
@@ -52,21 +53,21 @@ module _ {P N V : Type 0} (R : Rules P N V) (laws : Laws R) (opened : Opened P) 
     take_apart (suc a) zero u w e f is = absurd (may.0 a u e (is ∙ sym (ap (λ (z : ℕ × V). z.0) (some-injective (p, x) w f))))
     take_apart (suc a) (suc b) u w e f is = ap suc ((mine_of R laws opened s r id k at).apart a b u w e f is)
 
-    take_out : (a : ℕ) (u : ℕ × V) → At a u taker.held → (now_holds u.0 ≡ k.session) × At u.0 kernel.none (set s.homes p kernel.none)
-    take_out zero u e = subst (λ q. (now_holds q ≡ k.session) × At q kernel.none (set s.homes p kernel.none)) (ap (λ (z : ℕ × V). z.0) (some-injective (p, x) u e))
-        (ap (λ b. either b k.session (r.holder p)) (eq-eqb p p refl), set_here s.homes p kernel.none below)
-    take_out (suc a) u e = let ne = may.0 a u e in let was = (mine_of R laws opened s r id k at).out a u e in (holds_else u.0 ne ∙ was.0, set_else s.homes p u.0 kernel.none ne ∙ was.1)
+    take_out : (a : ℕ) (u : ℕ × V) → At a u taker.held → (now_holds u.0 ≡ k.session) × At (slot_of u.0) kernel.none (set s.homes (slot_of p) kernel.none)
+    take_out zero u e = subst (λ q. (now_holds q ≡ k.session) × At (slot_of q) kernel.none (set s.homes (slot_of p) kernel.none)) (ap (λ (z : ℕ × V). z.0) (some-injective (p, x) u e))
+        (ap (λ b. either b k.session (r.holder p)) (eq-eqb p p refl), set_here s.homes (slot_of p) kernel.none (slot_there R laws opened s r p below))
+    take_out (suc a) u e = let ne = may.0 a u e in let was = (mine_of R laws opened s r id k at).out a u e in (holds_else u.0 ne ∙ was.0, set_else s.homes (slot_of p) (slot_of u.0) kernel.none (λ f. ne (one_slot u.0 p f)) ∙ was.1)
 
     after_take : Possible R taker r.progress r.notes
     after_take = ((laws.extends_self r.progress, λ a u _ _. laws.same_self r.progress), (mine_of R laws opened s r id k at).possible.1, r.accounts, take_agrees)
 
-    take_fits : SessionInvariant R r.progress r.notes (set s.homes p kernel.none) now_holds taker
+    take_fits : SessionInvariant R r.progress r.notes (set s.homes (slot_of p) kernel.none) now_holds taker
     take_fits = record { possible = after_take; allowed = laws.allows_on k.progress r.progress k.session (map place_of taker.held) (mine_of R laws opened s r id k at).possible.0.0 may.1; apart = take_apart; out = take_out }
 
     word_set : (n : ℕ) → get_or (set s.words (word_of p) n) (word_of p) 0 ≡ n
     word_set n = get_or-set_same s.words (word_of p) n 0 (word_there R laws opened s r p (omega (arith, below)))
 
-    takes_it : Goes R laws opened s r id p k taker r.progress r.notes (set s.words (word_of p) 1) (set s.homes p kernel.none) now_holds
+    takes_it : Goes R laws opened s r id p k taker r.progress r.notes (set s.words (word_of p) 1) (set s.homes (slot_of p) kernel.none) now_holds
     takes_it = record {
       here = at;
       session = refl;
@@ -76,45 +77,45 @@ module _ {P N V : Type 0} (R : Rules P N V) (laws : Laws R) (opened : Opened P) 
       others = λ q y _ h. h;
       noted = λ i n _ h. h;
       counted = r.counted;
-      homes_else = λ q ne. set_else s.homes p q kernel.none ne;
-      homes_long = length-set s.homes p kernel.none;
+      homes_else = λ i ne. set_else s.homes (slot_of p) i kernel.none ne;
+      homes_long = length-set s.homes (slot_of p) kernel.none;
       words_else = λ q ne. word_else R laws opened s.words p q 1 ne;
-      tail_here = tail_else R laws opened s r p 1 kernel.none below;
+      tail_here = tail_else R laws opened s r p 1 below;
       words_long = length-set s.words (word_of p) 1;
       holder_else = holds_else;
-      not_theirs = λ j i v m a u other at_j at_i at_a e. not_out (subst (λ z. At z kernel.none s.homes) e ((r.each j i v m at_j at_i).0.out a u at_a).1);
+      not_theirs = λ j i v m a u other at_j at_i at_a e. not_out (subst (λ z. At (slot_of z) kernel.none s.homes) e ((r.each j i v m at_j at_i).0.out a u at_a).1);
       mine = take_fits;
       free_here = λ _ e. let one = word_set 1 in absurd (omega (arith, one, e));
       busy_here = λ _ _. (0, (p, x), refl, refl);
       held_else = λ a u e _. (suc a, e);
     }
 
-    takes_stand : LockInvariant R opened (stepped s (word_of p) 1 id (map emptied k.held) (taker ∷ []) (takes p (Some x)))
-    takes_stand = goes R laws opened s r id p k taker r.progress r.notes (set s.words (word_of p) 1) (set s.homes p kernel.none) now_holds takes_it
+    takes_stand : LockInvariant R opened (stepped s (word_of p) 1 id (map emptied k.held) (taker ∷ []) (takes (slot_of p) (Some x)))
+    takes_stand = goes R laws opened s r id p k taker r.progress r.notes (set s.words (word_of p) 1) (set s.homes (slot_of p) kernel.none) now_holds takes_it
 
   abbrev me : K → List (ℕ × Option V) → M
   me k c = (k ∷ [], c)
 
   -- what a try tells the session k
   abbrev Told : ℕ → M → ℕ → M → K → Type 0
-  Told p m n m' k = (n ≢ 0 → m' ≡ m) × (n ≡ 0 → (w : K) × (x : V) × Acquired R p k w x × (m' ≡ me w ((p, Some x) ∷ m.1)))
+  Told p m n m' k = (n ≢ 0 → m' ≡ m) × (n ≡ 0 → (w : K) × (x : V) × Acquired R p k w x × (m' ≡ me w ((slot_of p, Some x) ∷ m.1)))
 
-  tries_at : (slots id p : ℕ) (k : K) → p < slots → MayTake R p k
+  tries_at : (slots id p : ℕ) (k : K) → slot_of p < slots → MayTake R p k
       → Allows (LockInvariant R opened) slots id (k ∷ [], map emptied k.held) (word_of p) (λ n. either (eqb n 0) 1 n) (tried R (step slots (word_of p) 0 1 kernel.none) (k ∷ [], map emptied k.held))
   tries_at slots id p k below may s r long at _ =
       exchanged (get_or s.words (word_of p) 0) 0 1
       (λ n. (w : List K) × (a : Act (Option V)) × Valid s.homes (map emptied k.held) a × LockInvariant R opened (stepped s (word_of p) n id (map emptied k.held) w a)
       × tried R (step slots (word_of p) 0 1 kernel.none) (k ∷ [], map emptied k.held) (get_or s.words (word_of p) 0) (w, carried_after (map emptied k.held) a))
       (λ hit.
-      let inside : p < length s.homes = subst (λ z. p < z) (sym long) below in
+      let inside = place_there R laws opened s r slots p long below in
       let t = r.free p inside hit in
       let after : K = taker s r id p k at inside may t.0 t.1 t.2 in (
         after ∷ [],
-        takes p (Some t.0),
+        takes (slot_of p) (Some t.0),
         t.1,
         takes_stand s r id p k at inside may t.0 t.1 t.2,
         λ k2 p2 sits same. subst
-            (λ (z : ℕ × K). Told z.0 (me k (map emptied k.held)) (get_or s.words (word_of p) 0) (me after ((p, Some t.0) ∷ map emptied k.held)) z.1)
+            (λ (z : ℕ × K). Told z.0 (me k (map emptied k.held)) (get_or s.words (word_of p) 0) (me after ((slot_of p, Some t.0) ∷ map emptied k.held)) z.1)
             (λ i. (one_place p p2 same i, one_session (k ∷ [], map emptied k.held) k k2 refl sits i)) (
               (λ ne. absurd (ne hit)),
               (λ _. (after, t.0, (r.progress, refl, (mine_of R laws opened s r id k at).possible.0, (r.notes, after_take s r id p k at inside may t.0 t.1 t.2)), refl)),
@@ -123,22 +124,27 @@ module _ {P N V : Type 0} (R : Rules P N V) (laws : Laws R) (opened : Opened P) 
       (λ miss. (k ∷ [], keeps, tt, unmoved R laws opened s r id (word_of p) k (map emptied k.held) at, λ k2 p2 sits same. ((λ _. refl), (λ hit. absurd (miss hit)))))
 
   -- a try at the place p
-  pub tries : (slots id p word : ℕ) (m : M) (k : K) → word ≡ word_of p → StepsAs m k → p < slots → MayTake R p k
+  pub tries : (slots id p word : ℕ) (m : M) (k : K) → word ≡ word_of p → StepsAs m k → slot_of p < slots → MayTake R p k
       → Allows (LockInvariant R opened) slots id m word (λ n. either (eqb n 0) 1 n) (tried R (step slots word 0 1 kernel.none) m)
   tries slots id p word m k is sits below may =
       subst (λ (z : ℕ × M). Allows (LockInvariant R opened) slots id z.1 z.0 (λ n. either (eqb n 0) 1 n) (tried R (step slots z.0 0 1 kernel.none) z.1)) (λ i. (sym is i, sym sits i)) (tries_at slots id p k below may)
 
 module _ {P N V : Type 0} (R : Rules P N V) where
   -- what the seat has, once the value is out of its slot
-  pub taken_out : (m m1 m2 : Me (Option V) (List (Known P N V))) (k w : Known P N V) (p : ℕ) (x v : V) (found : Option V) → StepsAs m k → Acquired R p k w x → m1 ≡ (w ∷ [], (p, Some x) ∷ m.1) → m1.1 ≡ (p, found) ∷ rest m1.1 → m2 ≡ (m1.0, (p, None) ∷ rest m1.1) → found ≡ Some v
+  pub taken_out : (m m1 m2 : Me (Option V) (List (Known P N V))) (k w : Known P N V) (p slot : ℕ) (x v : V) (found : Option V) → slot ≡ slot_of p → StepsAs m k → Acquired R p k w x → m1 ≡ (w ∷ [], (slot_of p, Some x) ∷ m.1) → m1.1 ≡ (slot, found) ∷ rest m1.1 → m2 ≡ (m1.0, (slot, None) ∷ rest m1.1) → found ≡ Some v
       → (after : Known P N V) × Acquired R p k after v × StepsAs m2 after
-  taken_out m m1 m2 k w p x v found sits won is1 top is2 out =
-      let same : x ≡ v = ap (λ (l : List (ℕ × Option V)). unwrap_or (get_or l 0 (p, found)).1 x) (sym (ap (λ (z : Me (Option V) (List (Known P N V))). z.1) is1) ∙ top) ∙ ap (λ o. unwrap_or o x) out in
-      let held : map emptied w.held ≡ (p, None) ∷ m.1 = ap (λ (z : Known P N V). map emptied z.held) won.1 ∙ ap (λ (z : Me (Option V) (List (Known P N V))). (p, None) ∷ z.1) (sym sits) in
+  taken_out m m1 m2 k w p slot x v found place sits won is1 top is2 out =
+      let same : x ≡ v = ap (λ (l : List (ℕ × Option V)). unwrap_or (get_or l 0 (slot, found)).1 x) (sym (ap (λ (z : Me (Option V) (List (Known P N V))). z.1) is1) ∙ top) ∙ ap (λ o. unwrap_or o x) out in
+      let held : map emptied w.held ≡ (slot_of p, None) ∷ m.1 = ap (λ (z : Known P N V). map emptied z.held) won.1 ∙ ap (λ (z : Me (Option V) (List (Known P N V))). (slot_of p, None) ∷ z.1) (sym sits) in
       let view : m1.0 ≡ w ∷ [] = ap (λ (z : Me (Option V) (List (Known P N V))). z.0) is1 in
-      let left : (p, None) ∷ rest m1.1 ≡ map emptied w.held = ap (λ (z : Me (Option V) (List (Known P N V))). (p, None) ∷ rest z.1) is1 ∙ sym held in
-      (w, subst (λ z. Acquired R p k w z) same won, is2 ∙ (λ i. (view i, left i)))
+      let left : (slot_of p, None) ∷ rest m1.1 ≡ map emptied w.held = ap (λ (z : Me (Option V) (List (Known P N V))). (slot_of p, None) ∷ rest z.1) is1 ∙ sym held in
+      let out_of_place : m2 ≡ (m1.0, (slot_of p, None) ∷ rest m1.1) = is2 ∙ ap (λ q. (m1.0, (q, None) ∷ rest m1.1)) place in
+      (w, subst (λ z. Acquired R p k w z) same won, out_of_place ∙ (λ i. (view i, left i)))
+
+  -- the slot of the place is the first of those that are out
+  pub slot_out : (m m1 : Me (Option V) (List (Known P N V))) (w : Known P N V) (p slot : ℕ) (x : V) → slot ≡ slot_of p → m1 ≡ (w ∷ [], (slot_of p, Some x) ∷ m.1) → m1.1 ≡ (slot, Some x) ∷ rest m1.1
+  slot_out m m1 w p slot x place is = ap (λ z. z.1) is ∙ (ap (λ q. (q, Some x) ∷ m.1) (sym place) ∙ ap (λ (z : Me (Option V) (List (Known P N V))). (slot, Some x) ∷ rest z.1) (sym is))
 
   -- what was in the slot is what the try found
-  pub was_there : (m m1 : Me (Option V) (List (Known P N V))) (w : Known P N V) (p : ℕ) (x : V) (found : Option V) → m1 ≡ (w ∷ [], (p, Some x) ∷ m.1) → m1.1 ≡ (p, found) ∷ rest m1.1 → found ≡ Some x
-  was_there m m1 w p x found is top = ap (λ (l : List (ℕ × Option V)). (get_or l 0 (p, found)).1) (sym top ∙ ap (λ (z : Me (Option V) (List (Known P N V))). z.1) is)
+  pub was_there : (m m1 : Me (Option V) (List (Known P N V))) (w : Known P N V) (p slot : ℕ) (x : V) (found : Option V) → m1 ≡ (w ∷ [], (slot_of p, Some x) ∷ m.1) → m1.1 ≡ (slot, found) ∷ rest m1.1 → found ≡ Some x
+  was_there m m1 w p slot x found is top = ap (λ (l : List (ℕ × Option V)). (get_or l 0 (slot, found)).1) (sym top ∙ ap (λ (z : Me (Option V) (List (Known P N V))). z.1) is)

@@ -4,7 +4,7 @@ use mathlib.Core.Option as kernel
 use Rattle.atomic_table.specs.Table.{State}
 use Rattle.ownlock.specs.declared.known.Known.{Known}
 use Rattle.ownlock.specs.Rules.{Rules, leader}
-use Rattle.ownlock.specs.Words.{word_of, completed_word}
+use Rattle.ownlock.specs.Words.{word_of, completed_word, slot_of}
 use Rattle.ownlock.specs.Seats.{At, View, Opened, place_of}
 
 module _ {P N V : Type 0} (s : State (Option V) (View P N V)) where
@@ -23,11 +23,11 @@ module _ {P N V : Type 0} (s : State (Option V) (View P N V)) where
 module _ {P N V : Type 0} (R : Rules P N V) (s : State (Option V) (View P N V)) (progress : P) (notes : List N) where
   -- the word is 0, the value is on the shelf and agrees, and nobody holds the place
   abbrev pub IsHome : ℕ → Type 0
-  IsHome p = (slice_index s.words (word_of p) ≡ 0) × ((x : V) × At p (kernel.some (Some x)) s.homes × R.AgreesWith p progress notes x) × HeldByNobody s p
+  IsHome p = (slice_index s.words (word_of p) ≡ 0) × ((x : V) × At (slot_of p) (kernel.some (Some x)) s.homes × R.AgreesWith p progress notes x) × HeldByNobody s p
 
   -- the word is not 0, nothing is on the shelf, and one session of one seat holds the place; the value that it took agrees
   abbrev pub IsHeld : ℕ → Type 0
-  IsHeld p = (slice_index s.words (word_of p) ≢ 0) × At p kernel.none s.homes × ((j i a : ℕ) × (k : Known P N V) × (x : V) × Holds s j i a k p x × HeldOnce s j i a p × R.AgreesWith p progress notes x)
+  IsHeld p = (slice_index s.words (word_of p) ≢ 0) × At (slot_of p) kernel.none s.homes × ((j i a : ℕ) × (k : Known P N V) × (x : V) × Holds s j i a k p x × HeldOnce s j i a p × R.AgreesWith p progress notes x)
 
   abbrev pub IsHomeOrHeld : ℕ → Type 0
   IsHomeOrHeld p = IsHome p ⊎ IsHeld p
@@ -37,8 +37,8 @@ module _ {P N V : Type 0} (R : Rules P N V) (s : State (Option V) (View P N V)) 
   IsKnown k = R.Extends k.progress progress × At k.session k.note notes × R.Allows k.progress k.session (map place_of k.held)
 
   -- the word behind those of the places is the progress's completed tail
-  abbrev pub IsCompletedTail : Type 0
-  IsCompletedTail = slice_index s.words (completed_word (length s.homes)) ≡ R.completed progress
+  abbrev pub IsCompletedTail : ℕ → Type 0
+  IsCompletedTail places = slice_index s.words (completed_word places) ≡ R.completed progress
 
   -- while a session holds the leader, the history is the one that it knows
   abbrev pub HistoryStandsStill : Type 0
@@ -49,8 +49,8 @@ module _ {P N V : Type 0} (R : Rules P N V) (s : State (Option V) (View P N V)) 
 abbrev pub Between : {P N V : Type 0} → Rules P N V → State (Option V) (View P N V) → Opened P → Type 0
 Between {P} {N} {V} R s opened =
     (progress : P) × (notes : List N) × R.Accounts progress notes
-    × R.Extends opened.progress progress × (length s.homes ≡ opened.places) × (length notes ≡ opened.sessions)
-    × ((p : ℕ) → p < length s.homes → IsHomeOrHeld R s progress notes p)
+    × R.Extends opened.progress progress × (length s.homes ≡ slot_of opened.places) × (length notes ≡ opened.sessions)
+    × ((p : ℕ) → p < opened.places → IsHomeOrHeld R s progress notes p)
     × ((j i : ℕ) (v : View P N V) (k : Known P N V) → At j v s.views → At i k v → IsKnown R s progress notes k)
-    × IsCompletedTail R s progress notes
+    × IsCompletedTail R s progress notes opened.places
     × HistoryStandsStill R s progress notes

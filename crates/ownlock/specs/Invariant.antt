@@ -5,13 +5,14 @@ use mathlib.Core.Option as kernel
 use Rattle.atomic_table.specs.Table.{State, Me, Step, rest}
 use Rattle.ownlock.specs.declared.known.Known.{Known}
 use Rattle.ownlock.specs.Rules.{Rules}
-use Rattle.ownlock.specs.Words.{word_of, completed_word}
+use Rattle.ownlock.specs.Words.{word_of, completed_word, slot_of}
+use Rattle.ownlock.specs.Spreading.{HasGaps}
 use Rattle.ownlock.specs.Seats.{At, View, Opened, place_of, without, left_with, with_progress, having_read}
 use Rattle.ownlock.specs.Knowledge.{Later, Possible, Acquired, MayFind}
 
 -- the slot of a place that is held has no value
 abbrev pub emptied : {V : Type 0} → ℕ × V → ℕ × Option V
-emptied u = (u.0, None)
+emptied u = (slot_of u.0, None)
 
 module _ {P N V : Type 0} where
   -- the seat of the table is the one session k, and the slots of the places that k holds are out with it
@@ -38,7 +39,7 @@ module _ {P N V : Type 0} (R : Rules P N V) where
     pub possible : Possible R k progress notes
     pub allowed : R.Allows k.progress k.session (map place_of k.held)
     pub apart : (a b : ℕ) (u w : ℕ × V) → At a u k.held → At b w k.held → u.0 ≡ w.0 → a ≡ b
-    pub out : (a : ℕ) (u : ℕ × V) → At a u k.held → (holder u.0 ≡ k.session) × At u.0 kernel.none homes
+    pub out : (a : ℕ) (u : ℕ × V) → At a u k.held → (holder u.0 ≡ k.session) × At (slot_of u.0) kernel.none homes
 
   -- some session of some seat holds the place
   abbrev pub HeldBySome : ℕ → List (View P N V) → Type 0
@@ -48,18 +49,20 @@ module _ {P N V : Type 0} (R : Rules P N V) where
     -- the progress of all sessions, and the note of each
     pub progress : P
     pub notes : List N
-    -- it has grown from the one that the shelf was opened with, and the shelf has the places that it was opened with
+    -- it has grown from the one that the shelf was opened with, and the shelf has the slots of the places that it was opened with
     pub grown : R.Extends opened.progress progress
-    pub placed : length s.homes ≡ opened.places
+    pub placed : length s.homes ≡ slot_of opened.places
     -- which seat has which session, and which session holds which place
     pub owner : ℕ → ℕ
     pub holder : ℕ → ℕ
     pub accounts : R.Accounts progress notes
     pub counted : length notes ≡ opened.sessions
-    pub wide : length s.words ≡ word_of (suc (length s.homes))
-    pub tail : slice_index s.words (completed_word (length s.homes)) ≡ R.completed progress
-    pub free : (p : ℕ) → p < length s.homes → slice_index s.words (word_of p) ≡ 0 → (x : V) × At p (kernel.some (Some x)) s.homes × R.AgreesWith p progress notes x
-    pub busy : (p : ℕ) → p < length s.homes → slice_index s.words (word_of p) ≢ 0 → HeldBySome p s.views
+    pub wide : length s.words ≡ word_of (suc opened.places)
+    pub tail : slice_index s.words (completed_word opened.places) ≡ R.completed progress
+    -- the slots between those of the places hold nothing
+    pub gaps : HasGaps (kernel.some None) opened.places s.homes
+    pub free : (p : ℕ) → p < opened.places → slice_index s.words (word_of p) ≡ 0 → (x : V) × At (slot_of p) (kernel.some (Some x)) s.homes × R.AgreesWith p progress notes x
+    pub busy : (p : ℕ) → p < opened.places → slice_index s.words (word_of p) ≢ 0 → HeldBySome p s.views
     pub each : (j i : ℕ) (v : View P N V) (k : Known P N V) → At j v s.views → At i k v → SessionInvariant progress notes s.homes holder k × (owner k.session ≡ j)
     pub distinct : (j a b : ℕ) (v : View P N V) (k m : Known P N V) → At j v s.views → At a k v → At b m v → k.session ≡ m.session → a ≡ b
 
@@ -73,11 +76,11 @@ module _ {P N V : Type 0} (R : Rules P N V) where
 
   -- a try at a place: where the word was 0, the seat has the value, and knows a progress that it agrees with
   abbrev pub tried : Step (Option V) → Me (Option V) (View P N V) → ℕ → Me (Option V) (View P N V) → Type 0
-  tried st m r m' = (k : Known P N V) (p : ℕ) → StepsAs m k → st.word ≡ word_of p → (r ≢ 0 → m' ≡ m) × (r ≡ 0 → (after : Known P N V) × (x : V) × Acquired R p k after x × (m' ≡ (after ∷ [], (p, Some x) ∷ m.1)))
+  tried st m r m' = (k : Known P N V) (p : ℕ) → StepsAs m k → st.word ≡ word_of p → (r ≢ 0 → m' ≡ m) × (r ≡ 0 → (after : Known P N V) × (x : V) × Acquired R p k after x × (m' ≡ (after ∷ [], (slot_of p, Some x) ∷ m.1)))
 
   -- a look at the word of a place that the seat itself holds finds it taken, and the slot of that place is then the first of those that are out
   abbrev pub fronted : Step (Option V) → Me (Option V) (View P N V) → ℕ → Me (Option V) (View P N V) → Type 0
-  fronted st m r m' = (k : Known P N V) (p : ℕ) → StepsAs m k → st.word ≡ word_of p → m' ≡ (k ∷ [], (p, None) ∷ map emptied (without p k.held))
+  fronted st m r m' = (k : Known P N V) (p : ℕ) → StepsAs m k → st.word ≡ word_of p → m' ≡ (k ∷ [], (slot_of p, None) ∷ map emptied (without p k.held))
 
   -- the word of a held place goes to 0
   abbrev pub freed : (P → P) → (N → N) → Step (Option V) → Me (Option V) (View P N V) → ℕ → Me (Option V) (View P N V) → Type 0

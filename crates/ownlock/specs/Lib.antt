@@ -4,6 +4,7 @@ pub mod Seats
 pub mod Knowledge
 pub mod Held
 pub mod Between
--- Where the words stand, and the invariant over words, slots and seats. `Between` says of it what a reader may rely on.
+-- Where the words and the slots stand, and the invariant over words, slots and seats. `Between` says of it what a reader may rely on.
 pub mod Words
+pub mod Spreading
 pub mod Invariant

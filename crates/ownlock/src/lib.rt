@@ -12,6 +12,7 @@ mod rule;
 mod seat;
 mod shelf;
 mod shelved;
+mod spreading;
 mod steps;
 mod words;
 

@@ -1,6 +1,5 @@
 // The shelf, and its calls.
-ghost use Rattle.std.specs.Prelude.{◌≡◌, ◌<◌, ◌≤◌, [], ◌++◌, length, replicate, vec_capacity, IfOk, IfErr};
-ghost use Rattle.std.specs.Mem.Slots.{slots_items, slots_len, IsFull};
+ghost use Rattle.std.specs.Prelude.{◌≡◌, ◌<◌, ◌++◌, length, replicate, IfOk, IfErr};
 ghost use Rattle.ownlock.specs.declared.known.Known.{Known};
 ghost use Rattle.ownlock.specs.Seats.{IsSession, IsSplit, HasSession, all_sessions, HoldsNone};
 ghost use Rattle.ownlock.specs.Knowledge.{MayTake, MayPut, Takes, Puts, Reads, Raises, AllAgree, Closes};
@@ -11,9 +10,10 @@ use crate::error::{NotOpened, OpenError};
 use crate::rule::{JoinViews, LockRule, RaiseDone, ReadDone, SplitFirst, View};
 use crate::seat::Seat;
 use crate::shelved::Shelved;
+use crate::spreading::{gather, slot_of, spread, unload};
 use crate::steps::{acquire, release};
 use crate::words::{word_count, word_of};
-use atomic_table::{Closed, Refused, Table};
+use atomic_table::{Refused, Table};
 use std::alloc::{AllocError, Global};
 use std::marker::Model;
 use std::sync::Wait;
@@ -25,6 +25,7 @@ pub const LEADER: usize = 0;
 #[derive(Drop)]
 pub struct Shelf<V: Shelved> {
     table: Table<Option<V>, View<V>, <V as Shelved>::Setup, LockRule<V>, Global>,
+    places: usize,
     room: Vec<Option<V>>,
 }
 
@@ -35,11 +36,12 @@ impl<V: Shelved> Model for Shelf<V> {
 
     ghost Value = { ShelfView V.Setup };
 
-    ghost view = { λ a. record { id = a.table.shared.table_id; places = a.table.shared.table_id.slots; setup = a.table.shared.key } };
+    ghost view = { λ a. record { id = a.table.shared.table_id; places = a.places; setup = a.table.shared.key } };
 
-    // Each place and the completed tail have a line of words, there is a place for the leader, and there is room for all values at the end.
-    ghost invariant = { λ a. HasLines a.table.shared.table_id × (0 < a.table.shared.table_id.slots)
-        × (a.room.items ≡ []) × (a.table.shared.table_id.slots ≤ vec_capacity a.room) };
+    // Each place and the completed tail have a line of words, each place has four slots, there is a place for the leader, and there is room
+    // for all values at the end.
+    ghost invariant = { λ a. HasLines a.places a.table.shared.table_id × (0 < a.places)
+        × (a.room.items ≡ []) × (a.places ≤ vec_capacity a.room) };
 }
 
 /// The value of a place that a session holds. It has no `Drop`, so it ends in `put`.
@@ -61,19 +63,6 @@ fn not_opened<V>(values: Vec<Option<V>>) -> NotOpened<V>
         error: OpenError::NoMemory,
         values,
     }
-}
-
-// The values of a closed table, in the order of their places.
-fn unload<V>(mut closed: Closed<Option<V>, Global>, mut room: Vec<Option<V>>) -> Vec<Option<V>>
-    requires full { IsFull closed.slots }
-    requires room { (room.items ≡ []) × (slots_len closed.slots ≤ vec_capacity room) }
-    ensures { result.items ≡ slots_items closed.slots }
-{
-    for place in 0..closed.slot_count() {
-        room.push_reserved(closed.take(place));
-    }
-    closed.free();
-    room
 }
 
 impl<V: Shelved> Shelf<V> {
@@ -106,12 +95,20 @@ impl<V: Shelved> Shelf<V> {
         let Ok(room) = Vec::with_capacity(alloc, places) else {
             return Err(not_opened(values));
         };
-        match Table::new(alloc, words.as_slice(), values, setup) {
-            Ok((table, pass)) => Ok((Shelf { table, room }, Seat { pass })),
-            Err(Refused { slots }) => {
-                room.destroy_empty();
-                Err(not_opened(slots))
-            }
+        let Ok(slots) = Vec::with_capacity(alloc, slot_of(places)) else {
+            room.destroy_empty();
+            return Err(not_opened(values));
+        };
+        match Table::new(alloc, words.as_slice(), spread(values, slots), setup) {
+            Ok((table, pass)) => Ok((
+                Shelf {
+                    table,
+                    places,
+                    room,
+                },
+                Seat { pass },
+            )),
+            Err(Refused { slots }) => Err(not_opened(gather(slots, room))),
         }
     }
 
@@ -153,6 +150,15 @@ impl<V: Shelved> Shelf<V> {
         release::<V, M>(&self.table.shared, &mut seat.pass, place, value);
     }
 
+    /// What the word of a place is just now: a look that changes nothing, and of which nothing is promised. It moves when the place is
+    /// taken and when it is put back, so that who waits for what is done there need not take a place to see whether that has begun or
+    /// ended.
+    pub fn glance(&self, place: usize) -> u64
+        requires { place < self.now.places }
+    {
+        self.table.shared.peek(word_of(place))
+    }
+
     /// The completed tail, which the session has read then. It waits for nobody, and the session may hold any places: what it took
     /// from there still agrees.
     pub fn done(&self, seat: &mut Seat<V>) -> u64
@@ -161,7 +167,7 @@ impl<V: Shelved> Shelf<V> {
         ensures same { seat.new.shelf ≡ seat.old.shelf }
         ensures read { Reads V.rules seat.old result seat.new }
     {
-        let word = word_of(self.table.slot_count());
+        let word = word_of(self.places);
         self.table.shared.load::<ReadDone>(&mut seat.pass, word)
     }
 
@@ -173,7 +179,7 @@ impl<V: Shelved> Shelf<V> {
         ensures same { seat.new.shelf ≡ seat.old.shelf }
         ensures raised { Raises V.rules seat.old n seat.new }
     {
-        let word = word_of(self.table.slot_count());
+        let word = word_of(self.places);
         self.table
             .shared
             .fetch_max::<RaiseDone>(&mut seat.pass, word, n);
@@ -200,7 +206,11 @@ impl<V: Shelved> Shelf<V> {
         ensures places { length result.items ≡ self.places }
         ensures values { Closes V.rules (length (V.first_notes self.setup)) seat.sessions result.items }
     {
-        let Shelf { table, room } = self;
-        unload(table.close_with(seat.into_pass()), room)
+        let Shelf {
+            table,
+            places,
+            room,
+        } = self;
+        unload(table.close_with(seat.into_pass()), room, places)
     }
 }

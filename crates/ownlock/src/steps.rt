@@ -1,7 +1,7 @@
 // The atomic steps of the lock: a failed try, a won try, the value taken, the value put, the word freed, the completed tail read,
 // the completed tail raised.
-ghost use Rattle.std.specs.Prelude.{◌≡◌, ◌<◌, Some, None};
-ghost use Rattle.ownlock.specs.Words.{HasLines};
+ghost use Rattle.std.specs.Prelude.{◌≡◌, Some, None};
+ghost use Rattle.ownlock.specs.Words.{HasPlace};
 ghost use Rattle.ownlock.specs.declared.known.Known.{Known};
 ghost use Rattle.ownlock.specs.Knowledge.{MayTake, MayPut};
 ghost use Rattle.ownlock.specs.Invariant.{StepsAs, StepsTaking, StepsPutting};
@@ -9,6 +9,7 @@ ghost use Rattle.ownlock.specs.Invariant.{StepsAs, StepsTaking, StepsPutting};
 use crate::change::Change;
 use crate::rule::{Free, OwnRetry, Pass, Steps, Try};
 use crate::shelved::Shelved;
+use crate::spreading::slot_of;
 use crate::words::word_of;
 use crossbeam_utils::Backoff;
 use std::sync::Wait;
@@ -16,7 +17,7 @@ use std::sync::Wait;
 // Takes the value out of its slot if the place's word was 0.
 fn try_once<V: Shelved>(steps: &Steps<V>, pass: &mut Pass<V>, place: usize) -> Option<V>
     requires own { pass.old.table_id ≡ steps.now.table_id }
-    requires there { (place < steps.now.table_id.slots) × HasLines steps.now.table_id }
+    requires there { HasPlace steps.now.table_id place }
     requires may { (k : Known V.Progress V.SessionNote V) × StepsAs pass.old.me k × MayTake V.rules place k }
     ensures same { pass.new.table_id ≡ pass.old.table_id }
     ensures failed { result ≡ None → pass.new.me ≡ pass.old.me }
@@ -25,14 +26,14 @@ fn try_once<V: Shelved>(steps: &Steps<V>, pass: &mut Pass<V>, place: usize) -> O
     if steps.compare_exchange::<Try>(pass, word_of(place), 0, 1) != 0 {
         return None;
     }
-    let found = steps.exchange(pass, place, None);
+    let found = steps.exchange(pass, slot_of(place), None);
     let Some(value) = found else { unreachable!() };
     Some(value)
 }
 
 // Looks at the place's word until it is 0. Nothing is known then: somebody may take the place at once.
 fn wait_for<V: Shelved, R: Wait>(rt: &R, steps: &Steps<V>, place: usize)
-    requires { (place < steps.now.table_id.slots) × HasLines steps.now.table_id }
+    requires { HasPlace steps.now.table_id place }
 {
     let word = word_of(place);
     let backoff = Backoff::new();
@@ -52,7 +53,7 @@ pub(crate) fn acquire<V: Shelved, R: Wait>(
     place: usize,
 ) -> V
     requires own { pass.old.table_id ≡ steps.now.table_id }
-    requires there { (place < steps.now.table_id.slots) × HasLines steps.now.table_id }
+    requires there { HasPlace steps.now.table_id place }
     requires may { (k : Known V.Progress V.SessionNote V) × StepsAs pass.old.me k × MayTake V.rules place k }
     ensures same { pass.new.table_id ≡ pass.old.table_id }
     ensures taken { StepsTaking V.rules pass.old.me place result pass.new.me }
@@ -75,14 +76,14 @@ pub(crate) fn release<V: Shelved, M: Change<V::Progress, V::SessionNote>>(
     value: V,
 )
     requires own { pass.old.table_id ≡ steps.now.table_id }
-    requires there { (place < steps.now.table_id.slots) × HasLines steps.now.table_id }
+    requires there { HasPlace steps.now.table_id place }
     requires may { (k : Known V.Progress V.SessionNote V) × StepsAs pass.old.me k × MayPut V.rules M.progress M.note k place value }
     ensures same { pass.new.table_id ≡ pass.old.table_id }
     ensures put { StepsPutting V.rules M.progress M.note pass.old.me place pass.new.me }
 {
     let word = word_of(place);
     let _ = steps.load::<OwnRetry>(pass, word);
-    let emptied = steps.exchange(pass, place, Some(value));
+    let emptied = steps.exchange(pass, slot_of(place), Some(value));
     let None = emptied else { unreachable!() };
     steps.store::<Free<M>>(pass, word, 0);
 }

@@ -2,11 +2,9 @@
 
 ghost use Rattle.std.specs.Prelude.{◌≡◌, ℕ, ◌+◌, ◌<◌, ◌≤◌, ◌↔◌, ◌⊎◌, IsTrue, true, slice_index_or, length};
 ghost use Rattle.std.specs.Int.{bit_at};
-ghost use Rattle.regkind.specs.declared.frames.Kind.{Kind};
 ghost use Rattle.regkind.specs.declared.frames.Kind.TheVariants.{Unreadable};
 ghost use Rattle.regkind.specs.declared.frames.Cell.TheVariants.{Marks};
-ghost use Rattle.regkind.specs.declared.frames.Cell as cells;
-ghost use Rattle.regkind.specs.Frames.{Covers, CoversKind, CoversCell, IsFrame, IsCell, kind, cell, marks_of, is_pointer, mark, all_marked, with_kind, with_cell, with_marks, entry_frame};
+ghost use Rattle.regkind.specs.Frames.{Covers, CoversKind, CoversCell, IsCommonKind, IsCommonCell, IsFrame, IsCell, kind, cell, marks_of, is_pointer, mark, all_marked, with_kind, with_cell, with_marks, entry_frame};
 ghost use Rattle.regkind.specs.Frames as frames;
 
 use std::marker::Model;
@@ -174,9 +172,8 @@ pub fn join(x: &Frame, y: &Frame) -> Frame
 
 fn common_kinds(x: &[Kind; 11], y: &[Kind; 11]) -> [Kind; 11]
     ensures len { length result ≡ 11 }
-    ensures meet { (r : ℕ) → r < 11 → (a : Kind)
-        → CoversKind a (slice_index_or result r Unreadable)
-        ↔ (CoversKind a (slice_index_or x.now r Unreadable) × CoversKind a (slice_index_or y.now r Unreadable)) }
+    ensures meet { (r : ℕ) → r < 11 →
+        IsCommonKind (slice_index_or result r Unreadable) (slice_index_or x.now r Unreadable) (slice_index_or y.now r Unreadable) }
 {
     let mut both = [Kind::Unreadable; 11];
     for r in 0..11 {
@@ -188,9 +185,8 @@ fn common_kinds(x: &[Kind; 11], y: &[Kind; 11]) -> [Kind; 11]
 fn common_cells(x: &[Cell; 64], y: &[Cell; 64]) -> [Cell; 64]
     ensures len { length result ≡ 64 }
     ensures cells { (c : ℕ) → IsCell (slice_index_or x.now c (Marks 0)) → IsCell (slice_index_or result c (Marks 0)) }
-    ensures meet { (c : ℕ) → c < 64 → (a : cells.Cell)
-        → CoversCell a (slice_index_or result c (Marks 0))
-        ↔ (CoversCell a (slice_index_or x.now c (Marks 0)) × CoversCell a (slice_index_or y.now c (Marks 0))) }
+    ensures meet { (c : ℕ) → c < 64 →
+        IsCommonCell (slice_index_or result c (Marks 0)) (slice_index_or x.now c (Marks 0)) (slice_index_or y.now c (Marks 0)) }
 {
     let mut both = [Cell::Marks(0); 64];
     for c in 0..64 {
@@ -202,7 +198,7 @@ fn common_cells(x: &[Cell; 64], y: &[Cell; 64]) -> [Cell; 64]
 // The pointer that both have, or the marks of both.
 fn common_cell(x: Cell, y: Cell) -> Cell
     ensures is { IsCell x → IsCell result }
-    ensures meet { (a : cells.Cell) → CoversCell a result ↔ (CoversCell a x × CoversCell a y) }
+    ensures meet { IsCommonCell result x y }
 {
     match (x, y) {
         (Cell::Marks(a), Cell::Marks(b)) => Cell::Marks(a & b),
@@ -213,7 +209,7 @@ fn common_cell(x: Cell, y: Cell) -> Cell
 
 // The kind itself, where the two are equal.
 fn common(x: Kind, y: Kind) -> Kind
-    ensures { (a : Kind) → CoversKind a result ↔ (CoversKind a x × CoversKind a y) }
+    ensures { IsCommonKind result x y }
 {
     if x == y { x } else { Kind::Unreadable }
 }

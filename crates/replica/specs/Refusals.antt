@@ -1,5 +1,5 @@
 -- Which calls on a store are refused before anything is done.
-use Rattle.std.specs.Prelude.{ℕ, List, length, Option, Some, None, ◌==◌, if◌then◌else◌}
+use Rattle.std.specs.Prelude.{◌≡◌, ℕ, List, length, Option, Some, None, ◌==◌, if◌then◌else◌, Result, MatchResult}
 use Rattle.verifier.specs.declared.refusal.Mode.{Mode}
 use Rattle.verifier.specs.declared.refusal.Mode.TheVariants.{Update, Read}
 use Rattle.verifier.specs.Accepted.{Checked}
@@ -38,3 +38,7 @@ length_refusal argument (Some program) = if length argument == program.arg_len t
 
 abbrev pub call_refusal : CatalogueView → ℕ → List ℕ → Option StoreRefused
 call_refusal c program argument = length_refusal argument (program_at c program)
+
+-- what is answered is this refusal, or that there is none
+abbrev pub IsRefusedAs : {A : Type 0} → Option StoreRefused → Result A StoreRefused → Type 0
+IsRefusedAs refusal answer = MatchResult answer (λ _. refusal ≡ None) (λ e. refusal ≡ Some e)

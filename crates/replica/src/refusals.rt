@@ -1,9 +1,9 @@
 // Which calls on a store are refused, and why.
 
-ghost use Rattle.std.specs.Prelude.{◌≡◌, ◌≤◌, length, Some, None, IfOk, MatchResult};
+ghost use Rattle.std.specs.Prelude.{◌≡◌, ◌≤◌, length, Some, IfOk};
 ghost use Rattle.maps.specs.declared.shapes.TheConstants.{MAX_ARG_LEN};
 ghost use Rattle.replica.specs.StoreMeaning.{program_at};
-ghost use Rattle.replica.specs.Refusals.{store_fault_number, call_refusal, early_refusal};
+ghost use Rattle.replica.specs.Refusals.{store_fault_number, call_refusal, early_refusal, IsRefusedAs};
 
 use loader::Catalogue;
 use std::fmt;
@@ -54,9 +54,7 @@ pub fn find_program<'a>(
     ensures found { IfOk result (λ p. program_at catalogue.now program ≡ Some p.now) }
     ensures length { IfOk result (λ p. (length argument.now ≡ p.now.arg_len) × (length argument.now ≤ MAX_ARG_LEN)) }
     ensures shapes { IfOk result (λ p. p.now.shapes ≡ catalogue.now.shapes) }
-    ensures refusal { MatchResult result
-        (λ _. call_refusal catalogue.now program argument.now ≡ None)
-        (λ e. call_refusal catalogue.now program argument.now ≡ Some e) }
+    ensures refusal { IsRefusedAs (call_refusal catalogue.now program argument.now) result }
 {
     let Some(accepted) = catalogue.program(program) else {
         return Err(StoreRefused::UnknownProgram);
@@ -82,9 +80,7 @@ pub fn find_program_of<'a>(
     ensures length { IfOk result (λ p. (length argument.now ≡ p.now.arg_len) × (length argument.now ≤ MAX_ARG_LEN)) }
     ensures shapes { IfOk result (λ p. p.now.shapes ≡ catalogue.now.shapes) }
     ensures mode { IfOk result (λ p. p.now.mode ≡ mode) }
-    ensures refusal { MatchResult result
-        (λ _. early_refusal catalogue.now mode program argument.now ≡ None)
-        (λ e. early_refusal catalogue.now mode program argument.now ≡ Some e) }
+    ensures refusal { IsRefusedAs (early_refusal catalogue.now mode program argument.now) result }
 {
     let accepted = find_program(catalogue, program, argument)?;
     match (mode, accepted.mode()) {

@@ -1,10 +1,14 @@
 -- What a call that takes a step does.
-use Rattle.std.specs.Prelude.{◌≡◌, ℕ, List, [], ◌∷◌, Option, Some, None}
-use Rattle.loader.specs.CatalogueView.{IsCatalogue}
+use Rattle.std.specs.Prelude.{◌≡◌, ℕ, true, false, List, [], ◌∷◌, Option, Some, None, MatchOption}
+use Rattle.verifier.specs.declared.refusal.Mode.{Mode}
+use Rattle.loader.specs.CatalogueView.{CatalogueView, IsCatalogue}
+use Rattle.oplog.specs.Calls.{Call as ProgramCall}
+use Rattle.oplog.specs.Operations.{Operation}
+use Rattle.oplog.specs.declared.records.Op.TheVariants.{Run}
 use Rattle.oplog.specs.History.{History}
 use Rattle.oplog.specs.Limits.{IsConfig}
 use Rattle.oplog.specs.Logs.{Log}
-use Rattle.replica.specs.StoreMeaning.{AreUpdates}
+use Rattle.replica.specs.StoreMeaning.{is_operation, AreUpdates}
 use Rattle.schedule.specs.declared.parts.Opening.{Opening}
 use Rattle.schedule.specs.declared.steps.Step.{Step}
 use Rattle.schedule.specs.declared.steps.StepAnswer.{StepAnswer}
@@ -38,6 +42,18 @@ answer_of (Some (Back x (ReadBack answer))) = answers.ReadBack answer
 abbrev pub TakesPart : Option Part → Log → NodeView → Log → NodeView → StepAnswer → Type 0
 TakesPart None g node g' node' answer = (answer ≡ answers.NotNow) × (g' ≡ g) × (node' ≡ node)
 TakesPart (Some p) g node g' node' answer = (answer ≡ answer_of p.event) × (g' ≡ p.log) × (node' ≡ p.node)
+
+-- so it is of a step that leaves the log as it was
+abbrev pub TakesOwnPart : (Log → NodeView → Option Part) → Log → NodeView → NodeView → StepAnswer → Type 0
+TakesOwnPart step g node node' answer = TakesPart (step g node) g node g node' answer
+
+-- the operation is one of the store's catalogue, of this mode
+abbrev pub MayCall : Opening → Mode → Operation → Type 0
+MayCall m mode op = is_operation mode m.catalogue op ≡ true
+
+-- the call, if its program is one of the catalogue, of this mode
+abbrev pub GivesCall : Mode → CatalogueView → ProgramCall → Option ProgramCall → Type 0
+GivesCall mode c asked given = MatchOption given (is_operation mode c (Run asked) ≡ false) (λ call. (call ≡ asked) × (is_operation mode c (Run call) ≡ true))
 
 -- where the step may not be taken, NotNow and no change; else what it makes of the store
 abbrev pub Takes : Option Took → WorldState → WorldState → StepAnswer → Type 0

@@ -1,19 +1,19 @@
 // A node, and its part of each step.
 
-ghost use Rattle.std.specs.Prelude.{◌≡◌, ◌↔◌, IsTrue, ◌+◌, ◌≤◌, ◌<◌, ◌^◌, true, false, length, Some, None, MatchOption, IfOk, replicate, slice_get, option_map, ◌≢◌};
+ghost use Rattle.std.specs.Prelude.{◌≡◌, ◌↔◌, IsTrue, ◌+◌, ◌≤◌, ◌<◌, ◌^◌, true, false, length, Some, None, IfOk, replicate, slice_get, option_map, ◌≢◌};
 ghost use Rattle.maps.specs.Maps.{shapes_of};
 ghost use Rattle.oplog.specs.declared.configuration.TheConstants.{MAX_NODES};
 ghost use Rattle.oplog.specs.Limits.{IsConfig};
 ghost use Rattle.oplog.specs.Logs.{Log};
 ghost use Rattle.oplog.specs.declared.records.Op.TheVariants.{Run};
-ghost use Rattle.replica.specs.StoreMeaning.{IsCall, is_operation, store_meaning};
+ghost use Rattle.replica.specs.StoreMeaning.{IsCall, store_meaning};
 ghost use Rattle.verifier.specs.declared.refusal.Mode.TheVariants.{Update, Read};
 ghost use Rattle.schedule.specs.declared.parts.Opening.{Opening as TheOpening};
 ghost use Rattle.node.specs.Following.{Fits, has_next, with_next};
 ghost use Rattle.node.specs.Steps.{Appends, Replays, Finishes, Reclaims, Rebases, Replies as TheReplies, may_append_batch};
 ghost use Rattle.schedule.specs.Worlds.{opened_node, own_of};
 ghost use Rattle.schedule.specs.Steps.{is_idle, part_of, inner, post, claim, collect, read_at, read_begin, read_answer};
-ghost use Rattle.schedule.specs.Taking.{IsOfStore, TakesPart};
+ghost use Rattle.schedule.specs.Taking.{IsOfStore, TakesPart, TakesOwnPart, MayCall, GivesCall};
 
 use crate::parts::{BegunRead, Opening};
 use crate::steps::{Step, StepAnswer};
@@ -50,9 +50,7 @@ impl Model for Node {
 
 // The call of a program of the catalogue, of this mode, on an argument of its length.
 fn call_of(catalogue: &Catalogue, mode: Mode, program: u64, argument: &[u8]) -> Option<Call>
-    ensures call { MatchOption result
-        (is_operation mode catalogue.now (Run (record { program = program; argument = argument.now })) ≡ false)
-        (λ call. (call ≡ record { program = program; argument = argument.now }) × (is_operation mode catalogue.now (Run call) ≡ true)) }
+    ensures call { GivesCall mode catalogue.now (record { program = program; argument = argument.now }) result }
 {
     if program >= catalogue.len() as u64 {
         return None;
@@ -116,8 +114,7 @@ impl Node {
     // An update is called at a slot.
     fn post(&mut self, slot: u64, op: Op) -> StepAnswer
         requires sized { length self.old.reads ≡ length self.old.desk.slots }
-        ensures posted { (m : TheOpening) (g : Log) → is_operation Update m.catalogue op ≡ true
-            → TakesPart (post m slot op g self.old) g self.old g self.new result }
+        ensures posted { (m : TheOpening) (g : Log) → MayCall m Update op → TakesOwnPart (post m slot op) g self.old self.new result }
     {
         if !self.is_idle(slot) {
             return StepAnswer::NotNow;
@@ -131,7 +128,7 @@ impl Node {
     // A combiner claims the posted requests.
     fn claim(&mut self) -> StepAnswer
         requires own { (m : TheOpening) × (g : Log) × IsOfStore m g self.old }
-        ensures claimed { (g : Log) → TakesPart (claim g self.old) g self.old g self.new result }
+        ensures claimed { (g : Log) → TakesOwnPart claim g self.old self.new result }
     {
         if !matches!(self.batch, NodeBatch::Absent) {
             return StepAnswer::NotNow;
@@ -211,7 +208,7 @@ impl Node {
     // The session of a slot takes its answer.
     fn collect(&mut self, slot: u64) -> StepAnswer
         requires own { (m : TheOpening) × (g : Log) × IsOfStore m g self.old }
-        ensures collected { (g : Log) → TakesPart (collect slot g self.old) g self.old g self.new result }
+        ensures collected { (g : Log) → TakesOwnPart (collect slot) g self.old self.new result }
     {
         if slot >= self.reads.len() as u64 {
             return StepAnswer::NotNow;
@@ -225,8 +222,7 @@ impl Node {
     // A read is called at a slot, when so many operations are completed.
     fn read_begin(&mut self, slot: u64, call: Call, seen: u64) -> StepAnswer
         requires sized { length self.old.reads ≡ length self.old.desk.slots }
-        ensures begun { (m : TheOpening) (g : Log) → g.done ≡ seen → is_operation Read m.catalogue (Run call) ≡ true
-            → TakesPart (read_begin m slot call g self.old) g self.old g self.new result }
+        ensures begun { (m : TheOpening) (g : Log) → g.done ≡ seen → MayCall m Read (Run call) → TakesOwnPart (read_begin m slot call) g self.old self.new result }
     {
         if !self.is_idle(slot) {
             return StepAnswer::NotNow;
@@ -265,8 +261,7 @@ impl Node {
     // The read that was begun at a slot is answered, when so many operations are completed.
     fn read_answer(&mut self, catalogue: &Catalogue, slot: u64, done: u64) -> StepAnswer
         requires own { (m : TheOpening) × (g : Log) × (m.catalogue ≡ catalogue.now) × IsOfStore m g self.old }
-        ensures answered { (m : TheOpening) (g : Log) → m.catalogue ≡ catalogue.now → g.done ≡ done
-            → TakesPart (read_answer m slot g self.old) g self.old g self.new result }
+        ensures answered { (m : TheOpening) (g : Log) → m.catalogue ≡ catalogue.now → g.done ≡ done → TakesOwnPart (read_answer m slot) g self.old self.new result }
     {
         let Some(read) = self.begun(slot) else {
             return StepAnswer::NotNow;

@@ -1,33 +1,27 @@
 -- The seat of a session that asks for an update: what it has to be, and what it becomes, from the post to the answer.
 use Rattle.std.specs.Prelude.{◌≡◌, Option, None}
-use Rattle.ownlock.specs.Seats.{IsSession, SeatView}
+use Rattle.ownlock.specs.Seats.{IsSession}
 use Rattle.loader.specs.CatalogueView.{CatalogueView}
 use Rattle.verifier.specs.declared.refusal.Mode.TheVariants.{Update}
 use Rattle.oplog.specs.Operations.{Operation}
-use Rattle.oplog.specs.declared.records.Op.TheVariants.{Run}
 use Rattle.combiner.specs.Desks.{BatchView}
 use Rattle.combiner.specs.declared.slots.Reply.{Reply}
 use Rattle.replica.specs.Refusals.{early_refusal}
 use Rattle.replica.specs.declared.refusals.StoreRefused.{StoreRefused}
 use Rattle.accounts.specs.declared.sessions.Pending.{Pending}
-use Rattle.accounts.specs.declared.sessions.Progress.{Progress}
-use Rattle.accounts.specs.declared.sessions.SessionNote.{SessionNote}
 use Rattle.store.specs.declared.desks.Turn.{Turn}
 use Rattle.store.specs.declared.steps.Caller.{Caller}
 use Rattle.store.specs.declared.steps.Question.{Question}
 use Rattle.store.specs.declared.steps.Shared.{Shared}
-use Rattle.store.specs.declared.values.Value.{Value}
 use Rattle.store.specs.AtDesk.{HasAsked}
 use Rattle.store.specs.Requests.{HasPosted, HasTurned, HasCompleted}
-use Rattle.store.specs.Standing.{SessionKnown, IsFree, IsOnShelf}
-
--- a seat of a store's sessions
-abbrev StoreSeat : Type 0
-StoreSeat = SeatView (Progress CatalogueView) SessionNote Value
+use Rattle.store.specs.Standing.{SessionKnown, StoreSeat, IsFree}
+use Rattle.store.specs.Knowing.{IsOn, Learns}
+use Rattle.store.specs.Sessions.{op_of}
 
 -- the operation that the question asks for
 abbrev pub update_of : Question → Operation
-update_of asked = Run (record { program = asked.program; argument = asked.argument.now })
+update_of asked = op_of asked.program asked.argument.now
 
 -- its refusal, where an update of this catalogue is asked for
 abbrev pub update_refusal : CatalogueView → Question → Option StoreRefused
@@ -37,17 +31,17 @@ update_refusal c asked = early_refusal c Update asked.program asked.argument.now
 
 -- the seat is one session of this store, that of the caller's slot, which holds nothing and waits for no answer
 abbrev pub AwaitsNothing : StoreSeat → Caller → Shared → Type 0
-AwaitsNothing s caller shared = (k : SessionKnown) × IsSession s k × IsFree caller k × (k.note.pending ≡ None) × IsOnShelf shared.shelf.now.places shared.nodes shared.catalogue.now k
+AwaitsNothing s caller shared = (k : SessionKnown) × IsSession s k × IsFree caller k × (k.note.pending ≡ None) × IsOn shared k
 
 -- the same, but the session waits for the answer to a request, and combines for nobody
 abbrev pub AwaitsAnswer : StoreSeat → Caller → Shared → Type 0
-AwaitsAnswer s caller shared = (k : SessionKnown) × (o : Pending) × IsSession s k × IsFree caller k × HasAsked k o × IsOnShelf shared.shelf.now.places shared.nodes shared.catalogue.now k
+AwaitsAnswer s caller shared = (k : SessionKnown) × (o : Pending) × IsSession s k × IsFree caller k × HasAsked k o × IsOn shared k
 
 -- ---- what its session has done
 
 -- the session of the seat has posted the operation
 abbrev pub SessionPosts : (old new : StoreSeat) → Operation → Type 0
-SessionPosts old new op = (k : SessionKnown) → IsSession old k → (after : SessionKnown) × IsSession new after × HasPosted k after op
+SessionPosts old new op = Learns old new (λ k after. HasPosted k after op)
 
 -- it has had its turn, whichever request it waits for
 abbrev pub SessionTurns : (old new : StoreSeat) → BatchView → Turn → Type 0

@@ -1,9 +1,10 @@
 -- A session and a store as their users see them, and what a call answers.
-use Rattle.std.specs.Prelude.{◌≡◌, ℕ, zero, suc, ◌≤◌, List, [], ◌∷◌, ◌++◌, length, Some, None, option_map, Result, MatchResult}
-use Rattle.ownlock.specs.Seats.{IsSession, SeatView, ShelfId}
+use Rattle.std.specs.Prelude.{◌≡◌, ℕ, zero, suc, ◌+◌, ◌≤◌, List, [], ◌∷◌, ◌++◌, length, Some, None, option_map, Result, MatchResult}
+use Rattle.ownlock.specs.Seats.{IsSession, ShelfId}
 use Rattle.loader.specs.CatalogueView.{CatalogueView}
 use Rattle.oplog.specs.declared.configuration.Config.{Config}
 use Rattle.oplog.specs.Operations.{Operation}
+use Rattle.oplog.specs.declared.records.Op.TheVariants.{Run}
 use Rattle.readpath.specs.declared.reading.ReadAnswer.{ReadAnswer}
 use Rattle.replica.specs.StoreMeaning.{store_meaning}
 use Rattle.accounts.specs.declared.sessions.Progress.{Progress}
@@ -18,8 +19,7 @@ use Rattle.replica.specs.declared.refusals.StoreRefused.{StoreRefused}
 use Rattle.replica.specs.declared.refusals.StoreRefused.TheVariants.{Ended as TheEnd}
 use Rattle.store.specs.declared.steps.Caller.{Caller}
 use Rattle.node.specs.declared.following.NodeReplica.{NodeReplica}
-use Rattle.store.specs.declared.values.Value.{Value}
-use Rattle.store.specs.Standing.{SessionKnown, IsFree}
+use Rattle.store.specs.Standing.{SessionKnown, StoreSeat, IsFree, IsThere}
 
 -- which shelf a store has, and what it was opened with
 pub record StoreView : Type 0 where
@@ -49,7 +49,7 @@ abbrev pub first_in : List SessionKnown → SessionKnown
 first_in [] = nobody
 first_in (k ∷ ks) = k
 
-abbrev pub session_view : SeatView (Progress CatalogueView) SessionNote Value → SessionView
+abbrev pub session_view : StoreSeat → SessionView
 session_view s = let k = first_in s.sessions in record { shelf = s.shelf; session = k.session; progress = k.progress; note = k.note; tails_read = k.tails_read }
 
 -- what the session a knows at first, and the session
@@ -68,8 +68,12 @@ fresh_sessions shelf config c a (suc n) = fresh_session shelf config c a ∷ fre
 abbrev pub known_of : SessionView → SessionKnown
 known_of s = record { session = s.session; progress = s.progress; note = s.note; held = []; tails_read = s.tails_read }
 
+-- the seat is one session of this store, that of the caller's slot, which holds nothing
+abbrev pub IsThereIn : StoreView → StoreSeat → Caller → Type 0
+IsThereIn store s caller = IsThere s caller (1 + store.config.nodes + store.config.nodes) store.config.nodes store.catalogue
+
 -- between its calls the session of that slot holds nothing, waits for nothing, and combines for nobody
-pub record IsIdle (s : SeatView (Progress CatalogueView) SessionNote Value) (caller : Caller) : Type 0 where
+pub record IsIdle (s : StoreSeat) (caller : Caller) : Type 0 where
   pub known : SessionKnown
   pub is : IsSession s known
   pub free : IsFree caller known
@@ -79,6 +83,10 @@ pub record IsIdle (s : SeatView (Progress CatalogueView) SessionNote Value) (cal
   pub well_formed : IsWellFormed store_meaning known.progress
   -- each answered update has its index in the history
   pub within : length known.note.answered ≤ length known.progress.history
+
+-- the run of this program on this argument, as an operation
+abbrev pub op_of : ℕ → List ℕ → Operation
+op_of program argument = Run (record { program = program; argument = argument })
 
 -- the operation as a request of this session
 abbrev pub request_of : Progress CatalogueView → Operation → Pending

@@ -29,6 +29,10 @@ use Rattle.store.specs.Shelving.{IsSized, HasLogSizes, HasReplicaSizes, log_valu
 abbrev pub SessionKnown : Type 0
 SessionKnown = Known (Progress CatalogueView) SessionNote Value
 
+-- a seat of its sessions
+abbrev pub StoreSeat : Type 0
+StoreSeat = SeatView (Progress CatalogueView) SessionNote Value
+
 -- some notes, of which the session's own is one, go with the progress that it knows
 pub record Stands (k : SessionKnown) : Type 0 where
   pub notes : List SessionNote
@@ -93,7 +97,7 @@ pub record IsOnShelf (places nodes : ℕ) (c : CatalogueView) (k : SessionKnown)
   pub catalogue_is : k.progress.catalogue ≡ c
 
 -- the seat is one session, that of the caller's slot, which holds nothing
-abbrev pub IsThere : SeatView (Progress CatalogueView) SessionNote Value → Caller → (places nodes : ℕ) → CatalogueView → Type 0
+abbrev pub IsThere : StoreSeat → Caller → (places nodes : ℕ) → CatalogueView → Type 0
 IsThere s caller places nodes c = (k : SessionKnown) × IsSession s k × IsFree caller k × IsOnShelf places nodes c k
 
 -- ---- what its calls leave

@@ -82,6 +82,10 @@ pub record ReplaysBy (k after : SessionKnown) (g : LogView) (n m : NodeReplica) 
   pub goes : (b : BatchView) (d : DeskView) → Goes k.progress.catalogue (sees k.progress g n (InLog (record { batch = b; replies = old })) d) (replay_steps more ahead)
       (sees after.progress log m (InLog (record { batch = b; replies = new })) d)
 
+-- whatever log agrees with what the session knew
+abbrev pub ReplaysAnywhere : (k after : SessionKnown) → (n m : NodeReplica) → (old new : RepliesView) → Type 0
+ReplaysAnywhere k after n m old new = (g : LogView) → IsLogOf k.progress g → ReplaysBy k after g n m old new
+
 -- it has handed over the answers of the batch
 pub record HandsOver (k after : SessionKnown) (g : LogView) (n : NodeReplica) (b : BatchView) (kept : RepliesView) : Type 0 where
   pub log : LogView
@@ -89,6 +93,10 @@ pub record HandsOver (k after : SessionKnown) (g : LogView) (n : NodeReplica) (b
   pub desk : DeskView
   pub goes : Goes k.progress.catalogue (sees k.progress g n (InLog (record { batch = b; replies = kept })) desk) (Replies ∷ [])
       (sees after.progress log n Absent (replied (answered_batch kept b) desk))
+
+-- whatever log and replica agree with what the session knew
+abbrev pub HandsOverAnywhere : (k after : SessionKnown) → BatchView → RepliesView → Type 0
+HandsOverAnywhere k after b kept = (g : LogView) (n : NodeReplica) → IsLogOf k.progress g → Agrees k.progress n → HandsOver k after g n b kept
 
 -- it has brought the replica up to the log, if that lacked something
 pub record FollowsBy (k after : SessionKnown) (n m : NodeReplica) : Type 0 where

@@ -1,14 +1,12 @@
 // What a session does with the requests of its node that it claimed.
 
 ghost use Rattle.std.specs.Prelude.{◌≡◌};
-ghost use Rattle.node.specs.declared.following.NodeReplica.{NodeReplica};
 ghost use Rattle.node.specs.Answering.{answered_batch};
-ghost use Rattle.oplog.specs.Logs.{Log as LogView};
-ghost use Rattle.ownlock.specs.Seats.{IsSession};
 ghost use Rattle.store.specs.AtDesk.{IsReady};
 ghost use Rattle.store.specs.Combining.{HasClaimed, HasCombined};
-ghost use Rattle.store.specs.Standing.{SessionKnown, Stands, Agrees, IsFree, IsLogOf, IsOnShelf};
-ghost use Rattle.store.specs.Whole.{CombinesBy, HandsOver};
+ghost use Rattle.store.specs.Knowing.{IsOn, Knows, Learns, Relates};
+ghost use Rattle.store.specs.Standing.{Stands, IsFree};
+ghost use Rattle.store.specs.Whole.{CombinesBy, HandsOverAnywhere};
 
 use crate::desks;
 use crate::steps::{Caller, Shared, append_and_copy, replay_and_raise};
@@ -29,11 +27,10 @@ pub(crate) fn combine<R: Wait>(
     batch: &mut Batch,
 )
     requires own { seat.old.shelf ≡ shared.shelf.now.id }
-    requires claimed { (k : SessionKnown) × IsSession seat.old k × IsFree caller k × HasClaimed k batch.old
-        × IsOnShelf shared.shelf.now.places shared.nodes shared.catalogue.now k }
+    requires claimed { Knows seat.old (λ k. IsFree caller k × HasClaimed k batch.old × IsOn shared k) }
     ensures same { seat.new.shelf ≡ seat.old.shelf }
-    ensures combined { (k : SessionKnown) → IsSession seat.old k → (after : SessionKnown) × IsSession seat.new after × HasCombined k after }
-    ensures goes { (k after : SessionKnown) → IsSession seat.old k → IsSession seat.new after → CombinesBy k after batch.old batch.new }
+    ensures combined { Learns seat.old seat.new HasCombined }
+    ensures goes { Relates seat.old seat.new (λ k after. CombinesBy k after batch.old batch.new) }
 {
     let Shared {
         shelf,
@@ -59,13 +56,11 @@ fn hand_over<R: Wait>(
     replies: &Replies,
 )
     requires own { seat.old.shelf ≡ shared.shelf.now.id }
-    requires ready { (k : SessionKnown) × IsSession seat.old k × IsFree caller k × IsReady k batch.old replies.now
-        × IsOnShelf shared.shelf.now.places shared.nodes shared.catalogue.now k × Stands k }
+    requires ready { Knows seat.old (λ k. IsFree caller k × IsReady k batch.old replies.now × IsOn shared k × Stands k) }
     ensures same { seat.new.shelf ≡ seat.old.shelf }
-    ensures combined { (k : SessionKnown) → IsSession seat.old k → (after : SessionKnown) × IsSession seat.new after × HasCombined k after }
+    ensures combined { Learns seat.old seat.new HasCombined }
     ensures answered { batch.new ≡ answered_batch replies.now batch.old }
-    ensures handed { (k after : SessionKnown) (log : LogView) (node : NodeReplica) → IsSession seat.old k → IsSession seat.new after
-        → IsLogOf k.progress log → Agrees k.progress node → HandsOver k after log node batch.old replies.now }
+    ensures handed { Relates seat.old seat.new (λ k after. HandsOverAnywhere k after batch.old replies.now) }
 {
     let mut held = shared.shelf.take(rt, seat, 1 + shared.nodes + caller.node);
     desks::reply(held.value.desk_mut(), batch, replies);

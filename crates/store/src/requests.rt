@@ -1,6 +1,6 @@
 // What a session does at its node's desk with an update of its own, from its post to its answer.
 
-ghost use Rattle.std.specs.Prelude.{◌≡◌, None, Some, true, Err, IsOk};
+ghost use Rattle.std.specs.Prelude.{◌≡◌, ◌<◌, None, Some, true, Err, IsOk};
 ghost use Rattle.verifier.specs.declared.refusal.Mode.TheVariants.{Update};
 ghost use Rattle.replica.specs.StoreMeaning.{is_operation};
 ghost use Rattle.replica.specs.declared.refusals.StoreRefused.{StoreRefused as TheRefusal};
@@ -14,7 +14,7 @@ use crate::values::Value;
 use combiner::{Batch, Reply};
 use crossbeam_utils::Backoff;
 use oplog::{Call, Op};
-use ownlock::Seat;
+use ownlock::{Seat, Shelf};
 use replica::{StoreRefused, find_program_of};
 use std::marker::Brand;
 use std::sync::Wait;
@@ -74,8 +74,28 @@ fn turn<R: Wait>(
     turn
 }
 
+// How often a session that waits looks between two turns at its desk. The pauses between its looks grow, and the last of so many yields
+// the processor, which the one that combines may want.
+const LOOKS: usize = 8;
+
+// Waits until a place was taken or put back, and no longer than so many looks: its word may move between two of them, or not again.
+// The look at the word leaves its cache line with the one that combines, where a turn at the desk would take that of the desk.
+fn watch(shelf: &Shelf<Value>, place: usize)
+    requires { place < shelf.now.places }
+{
+    let seen = shelf.glance(place);
+    let backoff = Backoff::new();
+    for _ in 0..LOOKS {
+        backoff.snooze();
+        if shelf.glance(place) != seen {
+            return;
+        }
+    }
+}
+
 // Waits for the answer to the request that the caller has posted, and collects it. Where nobody combines the requests of its
-// node, the caller does, and has them in the batch meanwhile.
+// node, the caller does, and has them in the batch meanwhile; else it watches the place of its node's replica, which the one that combines
+// puts back before it hands the answers over.
 pub(crate) fn complete<R: Wait>(
     rt: &R,
     shared: Shared<'_>,
@@ -88,12 +108,11 @@ pub(crate) fn complete<R: Wait>(
     ensures same { seat.new.shelf ≡ seat.old.shelf }
     ensures completed { SessionCompletes seat.old seat.new result }
 {
-    let backoff = Backoff::new();
     for _ in rt.forever() {
         match turn(rt, shared, seat, caller, batch) {
             Turn::Collects(reply) => return reply,
             Turn::Combines => combine(rt, shared, seat, caller, batch),
-            Turn::Waits => backoff.snooze(),
+            Turn::Waits => watch(shared.shelf, 1 + caller.node),
         }
     }
     unreachable!()

@@ -3,12 +3,11 @@
 ghost use Rattle.std.specs.Prelude.{◌≡◌, [], ◌∷◌, None, Some, Err};
 ghost use Rattle.verifier.specs.declared.refusal.Mode.TheVariants.{Update, Read};
 ghost use Rattle.accounts.specs.Accounts.{Extends, IsWellFormed};
-ghost use Rattle.oplog.specs.declared.records.Op.TheVariants.{Run};
 ghost use Rattle.replica.specs.StoreMeaning.{store_meaning};
 ghost use Rattle.replica.specs.declared.refusals.StoreRefused.{StoreRefused};
 ghost use Rattle.replica.specs.Refusals.{early_refusal};
 ghost use Rattle.store.specs.Requests.{said};
-ghost use Rattle.store.specs.Sessions.{IsOf, IsIdle, TellsUpdate, TellsRead, BeginsWithin, known_of, session_view};
+ghost use Rattle.store.specs.Sessions.{IsOf, IsIdle, TellsUpdate, TellsRead, BeginsWithin, known_of, op_of, session_view};
 
 use crate::answers::Answer;
 use crate::requests::{complete, post_only};
@@ -100,7 +99,7 @@ impl Session {
         ensures early { (r : StoreRefused) → early_refusal store.now.catalogue Update program argument.now ≡ Some r → (result ≡ Err r)
             × (self.new ≡ self.old) }
         ensures answered { early_refusal store.now.catalogue Update program argument.now ≡ None
-            → TellsUpdate self.old self.new (Run (record { program = program; argument = argument.now })) result }
+            → TellsUpdate self.old self.new (op_of program argument.now) result }
     {
         let shared = store.shared();
         let asked = Question { program, argument };
@@ -131,7 +130,7 @@ impl Session {
             × (self.new ≡ self.old) }
         ensures begun { early_refusal store.now.catalogue Read program argument.now ≡ None → BeginsWithin self.old self.new result }
         ensures answered { early_refusal store.now.catalogue Read program argument.now ≡ None
-            → TellsRead self.old self.new (Run (record { program = program; argument = argument.now })) result }
+            → TellsRead self.old self.new (op_of program argument.now) result }
     {
         let Session { seat, caller, .. } = self;
         find_program_of(store.catalogue(), Mode::Read, program, argument)?;

@@ -3,19 +3,16 @@
 ghost use Rattle.std.specs.Prelude.{◌≡◌, ◌↔◌, ◌<◌, ◌≤◌, true, false, min, length, None, IsTrue};
 ghost use Rattle.maps.specs.Maps.{shapes_of};
 ghost use Rattle.verifier.specs.declared.refusal.Mode.TheVariants.{Read};
-ghost use Rattle.ownlock.specs.Seats.{IsSession};
 ghost use Rattle.oplog.specs.Limits.{IsWindow};
-ghost use Rattle.oplog.specs.Logs.{Log as LogView, left_of, room_in};
-ghost use Rattle.oplog.specs.declared.records.Op.TheVariants.{Run};
+ghost use Rattle.oplog.specs.Logs.{left_of, room_in};
 ghost use Rattle.combiner.specs.Desks.{BatchView};
 ghost use Rattle.node.specs.Following.{may_rebase, rebased};
-ghost use Rattle.replica.specs.StoreMeaning.{store_meaning};
-ghost use Rattle.accounts.specs.Accounts.{IsWellFormed};
 ghost use Rattle.accounts.specs.Moves.{unplaced};
 ghost use Rattle.replica.specs.Refusals.{early_refusal};
-ghost use Rattle.store.specs.Sessions.{IsReadBy, RepliesThere};
-ghost use Rattle.store.specs.Standing.{SessionKnown, Stands, IsLogOf, Follows, Agrees, HoldsLog, HoldsReplica, IsFree, IsOnShelf, HasOthers, HasRaised, HasPlace, HasAppended, HasReplayed, HasReached};
-ghost use Rattle.store.specs.Whole.{MakesRoom, AppendsBy, ReplaysBy, FollowsBy, ReadsBy};
+ghost use Rattle.store.specs.Sessions.{IsReadBy, RepliesThere, op_of};
+ghost use Rattle.store.specs.Knowing.{HasLog, HasReplica, IsOn, Knows, Learns, Relates};
+ghost use Rattle.store.specs.Standing.{Stands, IsFree, HasOthers, HasRaised, HasPlace, HasAppended, HasReplayed, HasReached};
+ghost use Rattle.store.specs.Whole.{MakesRoom, AppendsBy, ReplaysAnywhere, FollowsBy, ReadsBy};
 
 use crate::values::Value;
 use loader::Catalogue;
@@ -52,9 +49,9 @@ pub(crate) struct Question<'a> {
 // Raises the completed tail to this one, which the history has reached. The session may hold the log meanwhile.
 fn raise_to(shelf: &Shelf<Value>, seat: &mut Seat<Value>, tail: u64)
     requires own { seat.old.shelf ≡ shelf.now.id }
-    requires known { (k : SessionKnown) × IsSession seat.old k × (tail ≤ length k.progress.history) }
+    requires known { Knows seat.old (λ k. tail ≤ length k.progress.history) }
     ensures same { seat.new.shelf ≡ seat.old.shelf }
-    ensures raised { (k : SessionKnown) → IsSession seat.old k → (after : SessionKnown) × IsSession seat.new after × HasRaised k after tail }
+    ensures raised { Learns seat.old seat.new (λ k after. HasRaised k after tail) }
 {
     shelf.raise(seat, tail);
 }
@@ -89,12 +86,10 @@ fn make_room(
 )
     requires own { seat.old.shelf ≡ shared.shelf.now.id }
     requires few { want ≤ 16 }
-    requires holds { (k : SessionKnown) × IsSession seat.old k × HoldsLog k × IsLogOf k.progress log.old × Follows k.progress node.old
-        × IsWellFormed store_meaning k.progress × (k.progress.catalogue ≡ shared.catalogue.now) }
+    requires holds { Knows seat.old (λ k. HasLog k log.old node.old shared.catalogue.now) }
     ensures same { seat.new.shelf ≡ seat.old.shelf }
-    ensures room { (k : SessionKnown) → IsSession seat.old k → (after : SessionKnown) × IsSession seat.new after
-        × HasPlace k after want log.old log.new node.new }
-    ensures goes { (k after : SessionKnown) → IsSession seat.old k → IsSession seat.new after → MakesRoom k after log.old log.new node.old node.new }
+    ensures room { Learns seat.old seat.new (λ k after. HasPlace k after want log.old log.new node.new) }
+    ensures goes { Relates seat.old seat.new (λ k after. MakesRoom k after log.old log.new node.old node.new) }
 {
     let Shared {
         shelf,
@@ -121,13 +116,11 @@ pub(crate) fn append_and_copy<R: Wait>(
     requires own { seat.old.shelf ≡ shared.shelf.now.id }
     requires there { 0 < shared.shelf.now.places }
     requires few { length records.now ≤ 16 }
-    requires holds { (k : SessionKnown) × (w : Value) × IsSession seat.old k × HoldsReplica k w × Agrees k.progress node.old × Stands k
-        × (k.note.batch ≡ unplaced records.now) × (k.progress.catalogue ≡ shared.catalogue.now) }
+    requires holds { Knows seat.old (λ k. HasReplica k node.old shared.catalogue.now × (k.note.batch ≡ unplaced records.now)) }
     ensures same { seat.new.shelf ≡ seat.old.shelf }
-    ensures appended { (k : SessionKnown) → IsSession seat.old k → (after : SessionKnown) × IsSession seat.new after
-        × HasAppended k after records.now result node.new }
-    ensures goes { (k after : SessionKnown) (batch : BatchView) → IsSession seat.old k → IsSession seat.new after → batch.records ≡ records.now
-        → AppendsBy k after batch node.old node.new result }
+    ensures appended { Learns seat.old seat.new (λ k after. HasAppended k after records.now result node.new) }
+    ensures goes { Relates seat.old seat.new (λ k after. (batch : BatchView) → batch.records ≡ records.now
+        → AppendsBy k after batch node.old node.new result) }
 {
     let mut held = shared.shelf.take(rt, seat, LEADER);
     let log = held.value.log_mut();
@@ -146,12 +139,10 @@ pub(crate) fn replay_and_raise(
     replies: &mut Replies,
 )
     requires own { seat.old.shelf ≡ shelf.now.id }
-    requires known { (k : SessionKnown) × IsSession seat.old k × HasOthers k.progress node.old × Stands k × (k.progress.catalogue ≡ catalogue.now) }
+    requires known { Knows seat.old (λ k. HasOthers k.progress node.old × Stands k × (k.progress.catalogue ≡ catalogue.now)) }
     ensures same { seat.new.shelf ≡ seat.old.shelf }
-    ensures replayed { (k : SessionKnown) → IsSession seat.old k → (after : SessionKnown) × IsSession seat.new after
-        × HasReplayed k after node.old node.new replies.old replies.new }
-    ensures goes { (k after : SessionKnown) (log : LogView) → IsSession seat.old k → IsSession seat.new after → IsLogOf k.progress log
-        → ReplaysBy k after log node.old node.new replies.old replies.new }
+    ensures replayed { Learns seat.old seat.new (λ k after. HasReplayed k after node.old node.new replies.old replies.new) }
+    ensures goes { Relates seat.old seat.new (λ k after. ReplaysAnywhere k after node.old node.new replies.old replies.new) }
 {
     replay(node, catalogue, replies);
     let replayed = node.replica.tail();
@@ -168,12 +159,10 @@ fn follow_and_raise<R: Wait>(
 )
     requires own { seat.old.shelf ≡ shelf.now.id }
     requires there { 0 < shelf.now.places }
-    requires holds { (k : SessionKnown) × (w : Value) × IsSession seat.old k × HoldsReplica k w × Agrees k.progress node.old × Stands k
-        × (k.progress.catalogue ≡ catalogue.now) }
+    requires holds { Knows seat.old (λ k. HasReplica k node.old catalogue.now) }
     ensures same { seat.new.shelf ≡ seat.old.shelf }
-    ensures reached { (k : SessionKnown) → IsSession seat.old k → (after : SessionKnown) × IsSession seat.new after
-        × HasReached k after k.progress.completed node.new }
-    ensures goes { (k after : SessionKnown) → IsSession seat.old k → IsSession seat.new after → FollowsBy k after node.old node.new }
+    ensures reached { Learns seat.old seat.new (λ k after. HasReached k after k.progress.completed node.new) }
+    ensures goes { Relates seat.old seat.new (λ k after. FollowsBy k after node.old node.new) }
 {
     let held = shelf.take(rt, seat, LEADER);
     let log = held.value.log();
@@ -194,11 +183,10 @@ fn reach<R: Wait>(
 )
     requires own { seat.old.shelf ≡ shared.shelf.now.id }
     requires there { 0 < shared.shelf.now.places }
-    requires holds { (k : SessionKnown) × (w : Value) × IsSession seat.old k × HoldsReplica k w × Agrees k.progress node.old × Stands k
-        × (k.progress.catalogue ≡ shared.catalogue.now) × (done ≤ k.progress.completed) }
+    requires holds { Knows seat.old (λ k. HasReplica k node.old shared.catalogue.now × (done ≤ k.progress.completed)) }
     ensures same { seat.new.shelf ≡ seat.old.shelf }
-    ensures reached { (k : SessionKnown) → IsSession seat.old k → (after : SessionKnown) × IsSession seat.new after × HasReached k after done node.new }
-    ensures goes { (k after : SessionKnown) → IsSession seat.old k → IsSession seat.new after → FollowsBy k after node.old node.new }
+    ensures reached { Learns seat.old seat.new (λ k after. HasReached k after done node.new) }
+    ensures goes { Relates seat.old seat.new (λ k after. FollowsBy k after node.old node.new) }
 {
     if ready(&node.replica, done) {
         return;
@@ -211,7 +199,7 @@ fn answer_there(node: &mut NodeReplica, catalogue: &Catalogue, question: Questio
     requires shapes { shapes_of node.old.replica.maps ≡ catalogue.now.shapes }
     requires asked { early_refusal catalogue.now Read question.program question.argument.now ≡ None }
     ensures point { result.point ≡ node.old.replica.tail }
-    ensures reply { RepliesThere catalogue.now (Run (record { program = question.entry.program; argument = question.entry.argument.now })) node.old result.reply }
+    ensures reply { RepliesThere catalogue.now (op_of question.entry.program question.entry.argument.now) node.old result.reply }
     ensures same { node.new ≡ node.old }
 {
     let Some(accepted) = catalogue.program(question.program) else {
@@ -229,14 +217,11 @@ pub(crate) fn query<R: Wait>(
     question: Question<'_>,
 ) -> ReadAnswer
     requires own { seat.old.shelf ≡ shared.shelf.now.id }
-    requires idle { (k : SessionKnown) × IsSession seat.old k × IsFree caller k
-        × IsOnShelf shared.shelf.now.places shared.nodes shared.catalogue.now k }
+    requires idle { Knows seat.old (λ k. IsFree caller k × IsOn shared k) }
     requires asked { early_refusal shared.catalogue.now Read question.program question.argument.now ≡ None }
     ensures same { seat.new.shelf ≡ seat.old.shelf }
-    ensures read { (k : SessionKnown) → IsSession seat.old k → (after : SessionKnown) × IsSession seat.new after
-        × IsReadBy k after (Run (record { program = question.entry.program; argument = question.entry.argument.now })) result }
-    ensures goes { (k after : SessionKnown) → IsSession seat.old k → IsSession seat.new after
-        → ReadsBy k after (Run (record { program = question.entry.program; argument = question.entry.argument.now })) result }
+    ensures read { Learns seat.old seat.new (λ k after. IsReadBy k after (op_of question.entry.program question.entry.argument.now) result) }
+    ensures goes { Relates seat.old seat.new (λ k after. ReadsBy k after (op_of question.entry.program question.entry.argument.now) result) }
 {
     let Shared {
         shelf,

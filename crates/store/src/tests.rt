@@ -5,7 +5,7 @@ ghost use Rattle.std.specs.Prelude.{◌≡◌, ◌+◌, ◌*◌, ◌<◌, ◌≤
 ghost use Rattle.verifier.specs.declared.refusal.Mode.TheVariants.{Read, Update};
 ghost use Rattle.store.specs.Opening.{AreOf};
 ghost use Rattle.replica.specs.Refusals.{early_refusal};
-ghost use Rattle.store.specs.Sessions.{IsOf};
+ghost use Rattle.store.specs.Sessions.{IsOf, IsThereIn};
 ghost use Rattle.store.specs.Standing.{IsThere};
 
 use crate::answers::Answer;
@@ -184,8 +184,9 @@ fn read_beside<R: Wait + Threads + Sync>(
         rt,
         move || {},
         move ||
-            requires { (other.shelf ≡ shared.shelf.now.id) × IsThere other caller shared.shelf.now.places shared.nodes shared.catalogue.now
-                × (early_refusal shared.catalogue.now Read 1 ZERO ≡ None) }
+            requires own { other.shelf ≡ shared.shelf.now.id }
+            requires there { IsThere other caller shared.shelf.now.places shared.nodes shared.catalogue.now }
+            requires asked { early_refusal shared.catalogue.now Read 1 ZERO ≡ None }
         { ready_read(rt, shared, other, caller) },
     );
     shared.shelf.put::<Brand>(&mut one, log);
@@ -293,10 +294,8 @@ fn beside_held<R: Wait + Threads + Sync>(
 ) -> (Calls, (bool, bool))
     requires own { IsOf store.now beside.old }
     requires shelf { (pair.holding.seat.shelf ≡ store.now.id) × (pair.watching.seat.shelf ≡ store.now.id) }
-    requires holding { IsThere pair.holding.seat pair.holding.caller (1 + store.now.config.nodes + store.now.config.nodes) store.now.config.nodes
-        store.now.catalogue }
-    requires watching { IsThere pair.watching.seat pair.watching.caller (1 + store.now.config.nodes + store.now.config.nodes) store.now.config.nodes
-        store.now.catalogue }
+    requires holding { IsThereIn store.now pair.holding.seat pair.holding.caller }
+    requires watching { IsThereIn store.now pair.watching.seat pair.watching.caller }
 {
     let shared = store.shared();
     thread::join(
@@ -305,9 +304,9 @@ fn beside_held<R: Wait + Threads + Sync>(
             requires { IsOf store.now beside.now }
         { update_and_read(rt, store, beside, flags) },
         move ||
-            requires { ((pair.holding.seat.shelf ≡ shared.shelf.now.id) × (pair.watching.seat.shelf ≡ shared.shelf.now.id))
-                × IsThere pair.holding.seat pair.holding.caller shared.shelf.now.places shared.nodes shared.catalogue.now
-                × IsThere pair.watching.seat pair.watching.caller shared.shelf.now.places shared.nodes shared.catalogue.now }
+            requires own { (pair.holding.seat.shelf ≡ shared.shelf.now.id) × (pair.watching.seat.shelf ≡ shared.shelf.now.id) }
+            requires holding { IsThere pair.holding.seat pair.holding.caller shared.shelf.now.places shared.nodes shared.catalogue.now }
+            requires watching { IsThere pair.watching.seat pair.watching.caller shared.shelf.now.places shared.nodes shared.catalogue.now }
         { hold(rt, shared, pair, flags) },
     )
 }
@@ -322,10 +321,8 @@ fn two_nodes<R: Wait + Threads + Sync>(
 ) -> Told
     requires own { IsOf store.now asking.old × IsOf store.now beside.old }
     requires shelf { (pair.holding.seat.shelf ≡ store.now.id) × (pair.watching.seat.shelf ≡ store.now.id) }
-    requires holding { IsThere pair.holding.seat pair.holding.caller (1 + store.now.config.nodes + store.now.config.nodes) store.now.config.nodes
-        store.now.catalogue }
-    requires watching { IsThere pair.watching.seat pair.watching.caller (1 + store.now.config.nodes + store.now.config.nodes) store.now.config.nodes
-        store.now.catalogue }
+    requires holding { IsThereIn store.now pair.holding.seat pair.holding.caller }
+    requires watching { IsThereIn store.now pair.watching.seat pair.watching.caller }
 {
     let flags = Flags {
         held: AtomicBool::new(false),
@@ -339,11 +336,10 @@ fn two_nodes<R: Wait + Threads + Sync>(
             requires { IsOf store.now asking.now }
         { update(rt, store, asking, flags) },
         move ||
-            requires { (IsOf store.now beside.now × (pair.holding.seat.shelf ≡ store.now.id) × (pair.watching.seat.shelf ≡ store.now.id))
-                × IsThere pair.holding.seat pair.holding.caller (1 + store.now.config.nodes + store.now.config.nodes) store.now.config.nodes
-                store.now.catalogue
-                × IsThere pair.watching.seat pair.watching.caller (1 + store.now.config.nodes + store.now.config.nodes) store.now.config.nodes
-                store.now.catalogue }
+            requires own { IsOf store.now beside.now }
+            requires shelf { (pair.holding.seat.shelf ≡ store.now.id) × (pair.watching.seat.shelf ≡ store.now.id) }
+            requires holding { IsThereIn store.now pair.holding.seat pair.holding.caller }
+            requires watching { IsThereIn store.now pair.watching.seat pair.watching.caller }
         { beside_held(rt, store, beside, pair, flags) },
     );
     Told {
@@ -357,8 +353,7 @@ fn two_nodes<R: Wait + Threads + Sync>(
 fn own_of(store: &Store, session: Session) -> Own
     requires own { IsOf store.now session }
     ensures shelf { result.seat.shelf ≡ store.now.id }
-    ensures there { IsThere result.seat result.caller (1 + store.now.config.nodes + store.now.config.nodes) store.now.config.nodes
-        store.now.catalogue }
+    ensures there { IsThereIn store.now result.seat result.caller }
 {
     let _shared = store.shared();
     let (seat, caller) = session.into_parts();

@@ -6,22 +6,20 @@ use Rattle.loader.specs.CatalogueView.{CatalogueView}
 use Rattle.oplog.specs.History.{ReadEffect}
 use Rattle.oplog.specs.Calls.{Call}
 use Rattle.oplog.specs.declared.records.Op.TheVariants.{Run}
-use Rattle.combiner.specs.Desks.{BatchView, DeskView}
+use Rattle.combiner.specs.Desks.{DeskView}
 use Rattle.readpath.specs.declared.reading.ReadAnswer.{ReadAnswer}
 use Rattle.replica.specs.StoreMeaning.{store_meaning}
 use Rattle.node.specs.Following.{may_answer}
 use Rattle.node.specs.Seen.{Goes, Ends as GoesEnds, Does as GoesDoes, Meets as GoesMeets}
 use Rattle.node.specs.Steps.{NodeStep, Appends, Replays, Finishes, Reclaims, Rebases, Replies, Seen, may, next}
-use Rattle.node.specs.declared.parts.NodeBatch.TheVariants.{Absent}
 use Rattle.schedule.specs.declared.parts.BegunRead.{BegunRead}
 use Rattle.schedule.specs.declared.parts.Opening.{Opening}
 use Rattle.schedule.specs.Steps.{Part, inner, part_of, put_seen, read_at, session_at, with_call_or_back, with_read}
 use Rattle.schedule.specs.declared.steps.Step.TheVariants.{ReadAnswer as Answers}
 use Rattle.schedule.specs.Trace.{Back, ReadBack}
 use Rattle.schedule.specs.Worlds.{NodeView}
-use Rattle.store.specs.Standing.{SessionKnown}
-use Rattle.store.specs.Whole.{CombinesBy, ReadsBy, sees}
-use Rattle.store_laws.specs.InOrder.{CombinesInOrder, Ends, Takes, Meets, ReadsInOrder, SeenInOrder, node_of, step_of}
+use Rattle.store.specs.Whole.{ReadsBy}
+use Rattle.store_laws.specs.InOrder.{CombinesInOrder, Ends, Takes, Meets, ReadsInOrder, SeenInOrder, WholeCombine, WholeRead, node_of, read_to, step_of}
 
 -- the part of a step that may be taken
 module _ (m : Opening) (n : ℕ) (reads : List (Option BegunRead)) where
@@ -47,17 +45,26 @@ module _ (m : Opening) (n : ℕ) (reads : List (Option BegunRead)) where
 under : {s t : Seen} {xs : List NodeStep} (c d : CatalogueView) → c ≡ d → Goes d s xs t → Goes c s xs t
 under {s} {t} {xs} c d e goes = subst (λ z. Goes z s xs t) (sym e) goes
 
-pub combines_in_order : (m : Opening) (n : ℕ) (reads : List (Option BegunRead)) (k after : SessionKnown) (b answered : BatchView) (c : CombinesBy k after b answered) → m.catalogue ≡ k.progress.catalogue → CombinesInOrder m n reads k after b answered c
-combines_in_order m n reads k after b answered c same = seen_in_order m n reads (under m.catalogue k.progress.catalogue same c.goes)
+pub combines_in_order : (m : Opening) (n : ℕ) (reads : List (Option BegunRead)) (w : WholeCombine m) → CombinesInOrder m n reads w
+combines_in_order m n reads w = seen_in_order m n reads (under m.catalogue w.k.progress.catalogue w.same w.by.goes)
 
 -- the effect that replies that is answered with it
 replied_with : (o : Option ReadEffect) (F : ℕ → Part) (reply : ℕ) → option_map (λ e. e.reply) o ≡ Some reply → option_map (λ e. F e.reply) o ≡ Some (F reply)
 replied_with (Some e) F reply is = ap (option_map F) is
 replied_with None F reply is = ap (option_map F) is
 
-module _ (m : Opening) (n s : ℕ) (reads : List (Option BegunRead)) (k after : SessionKnown) (call : Call) (answer : ReadAnswer) (c : ReadsBy k after (Run call) answer) (d : DeskView) (same : m.catalogue ≡ k.progress.catalogue) where
+module _ (m : Opening) (n s : ℕ) (reads : List (Option BegunRead)) (w : WholeRead m) (d : DeskView) where
+  abbrev call : Call
+  call = w.call
+
+  abbrev answer : ReadAnswer
+  answer = w.answer
+
+  abbrev c : ReadsBy w.k w.after (Run call) answer
+  c = w.by
+
   abbrev t : Seen
-  t = sees after.progress c.back c.left Absent d
+  t = read_to w d
 
   abbrev last : NodeView
   last = node_of t reads
@@ -69,11 +76,11 @@ module _ (m : Opening) (n s : ℕ) (reads : List (Option BegunRead)) (k after : 
   told_reply x = told (record { point = c.left.replica.tail; reply = x })
 
   abbrev given : BegunRead → Option Part
-  given read = cond (may_answer read.seen after.progress.completed c.left) (option_map (λ e. told_reply e.reply) (store_meaning.read m.catalogue (Run read.call) c.left.replica.maps)) None
+  given read = cond (may_answer read.seen w.after.progress.completed c.left) (option_map (λ e. told_reply e.reply) (store_meaning.read m.catalogue (Run read.call) c.left.replica.maps)) None
 
   replies : option_map (λ e. told_reply e.reply) (store_meaning.read m.catalogue (Run call) c.left.replica.maps) ≡ Some (told_reply answer.reply)
   replies = replied_with (store_meaning.read m.catalogue (Run call) c.left.replica.maps) told_reply answer.reply
-      (ap (λ z. option_map (λ e. e.reply) (store_meaning.read z (Run call) c.left.replica.maps)) same ∙ c.reply)
+      (ap (λ z. option_map (λ e. e.reply) (store_meaning.read z (Run call) c.left.replica.maps)) w.same ∙ c.reply)
 
   answered_there : read_at last s ≡ Some (record { call = call; seen = c.seen }) → part_of m (Answers n s) t.log last ≡ Some (told answer)
   answered_there begun =
@@ -81,11 +88,8 @@ module _ (m : Opening) (n s : ℕ) (reads : List (Option BegunRead)) (k after : 
       ∙ (ap (λ q. (let p : Option Part = cond q (option_map (λ e. told_reply e.reply) (store_meaning.read m.catalogue (Run call) c.left.replica.maps)) None in p)) c.may
       ∙ (replies ∙ ap (λ z. Some (told (record { point = z; reply = answer.reply }))) (sym c.point)))
 
-  reads_in_order_of : ReadsInOrder m n s reads k after call answer c d
-  reads_in_order_of = record {
-    steps = seen_in_order m n reads (under m.catalogue k.progress.catalogue same (c.goes d));
+  pub reads_in_order : ReadsInOrder m n s reads w d
+  reads_in_order = record {
+    steps = seen_in_order m n reads (under m.catalogue w.k.progress.catalogue w.same (c.goes d));
     answered = answered_there;
   }
-
-pub reads_in_order : (m : Opening) (n s : ℕ) (reads : List (Option BegunRead)) (k after : SessionKnown) (call : Call) (answer : ReadAnswer) (c : ReadsBy k after (Run call) answer) (d : DeskView) → m.catalogue ≡ k.progress.catalogue → ReadsInOrder m n s reads k after call answer c d
-reads_in_order m n s reads k after call answer c d same = reads_in_order_of m n s reads k after call answer c d same

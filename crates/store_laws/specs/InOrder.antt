@@ -43,18 +43,45 @@ pub data InOrder (m : Opening) : Log → NodeView → List Step → Log → Node
 abbrev pub SeenInOrder : Opening → ℕ → List (Option BegunRead) → Seen → List NodeStep → Seen → Type 0
 SeenInOrder m n reads s steps t = InOrder m s.log (node_of s reads) (map (step_of n) steps) t.log (node_of t reads)
 
--- a combine of the batch b
-abbrev pub CombinesInOrder : Opening → ℕ → List (Option BegunRead) → (k after : SessionKnown) → (b answered : BatchView) → CombinesBy k after b answered → Type 0
-CombinesInOrder m n reads k after b answered c =
-    SeenInOrder m n reads (sees c.from c.log c.own (Held b) c.desk) (combine_steps c.low c.full c.next c.later c.more c.ahead)
-    (sees after.progress c.back c.left Absent (replied (answered_batch c.kept b) c.desk))
+-- a whole combine on a store with the catalogue of this opening, as store promises it: what its session knew, and knows after it; its batch
+-- as it was claimed, and as it was answered
+pub record WholeCombine (m : Opening) : Type 0 where
+  pub k : SessionKnown
+  pub same : m.catalogue ≡ k.progress.catalogue
+  pub after : SessionKnown
+  pub batch : BatchView
+  pub answered : BatchView
+  pub by : CombinesBy k after batch answered
+
+-- its steps
+abbrev pub CombinesInOrder : (m : Opening) → ℕ → List (Option BegunRead) → WholeCombine m → Type 0
+CombinesInOrder m n reads w = let c = w.by in
+    SeenInOrder m n reads (sees c.from c.log c.own (Held w.batch) c.desk) (combine_steps c.low c.full c.next c.later c.more c.ahead)
+    (sees w.after.progress c.back c.left Absent (replied (answered_batch c.kept w.batch) c.desk))
 
 -- the read of the slot s is answered so on that log and node
 abbrev pub IsAnsweredThere : Opening → (n s : ℕ) → Log → NodeView → ReadAnswer → Type 0
 IsAnsweredThere m n s g node answer = part_of m (Answers n s) g node ≡ Some (with_call_or_back (Back (session_at node s) (ReadBack answer)) g (with_read node s None))
 
--- a read that was begun at the slot s, with the completed tail as the call loaded it: the steps, and then the schedule's own answer
-pub record ReadsInOrder (m : Opening) (n s : ℕ) (reads : List (Option BegunRead)) (k after : SessionKnown) (call : Call) (answer : ReadAnswer) (c : ReadsBy k after (Run call) answer) (d : DeskView) : Type 0 where
-  pub steps : SeenInOrder m n reads (sees c.from c.log c.own Absent d) (read_steps c.low c.next c.later) (sees after.progress c.back c.left Absent d)
-  pub answered : (let t = sees after.progress c.back c.left Absent d in
-      read_at (node_of t reads) s ≡ Some (record { call = call; seen = c.seen }) → IsAnsweredThere m n s t.log (node_of t reads) answer)
+-- a whole read on a store with the catalogue of this opening, as store promises it: what its session knew, and knows after it; the call, and
+-- its answer
+pub record WholeRead (m : Opening) : Type 0 where
+  pub k : SessionKnown
+  pub same : m.catalogue ≡ k.progress.catalogue
+  pub after : SessionKnown
+  pub call : Call
+  pub answer : ReadAnswer
+  pub by : ReadsBy k after (Run call) answer
+
+-- what is seen where it begins, and where it answers, at this desk
+abbrev pub read_from : {m : Opening} → WholeRead m → DeskView → Seen
+read_from w d = let c = w.by in sees c.from c.log c.own Absent d
+
+abbrev pub read_to : {m : Opening} → WholeRead m → DeskView → Seen
+read_to w d = let c = w.by in sees w.after.progress c.back c.left Absent d
+
+-- its steps, and then the schedule's own answer to a read that was begun at the slot s, with the completed tail as the call loaded it
+pub record ReadsInOrder (m : Opening) (n s : ℕ) (reads : List (Option BegunRead)) (w : WholeRead m) (d : DeskView) : Type 0 where
+  pub steps : SeenInOrder m n reads (read_from w d) (read_steps w.by.low w.by.next w.by.later) (read_to w d)
+  pub answered : (let t = read_to w d in
+      read_at (node_of t reads) s ≡ Some (record { call = w.call; seen = w.by.seen }) → IsAnsweredThere m n s t.log (node_of t reads) w.answer)

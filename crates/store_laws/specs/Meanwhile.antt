@@ -1,10 +1,10 @@
 -- What holds of a store between any two atomic steps of its sessions' threads.
-use Rattle.std.specs.Prelude.{◌≡◌, ◌≢◌, ℕ, ◌+◌, ◌*◌, ◌<◌, List, map, length, slice_index, Option, Some}
+use Rattle.std.specs.Prelude.{◌≡◌, ◌≢◌, ℕ, ◌*◌, ◌<◌, List, map, length, slice_index, Option, Some}
 use mathlib.Core.Option as kernel
 use Rattle.atomic_table.specs.Table.{State}
 use Rattle.loader.specs.CatalogueView.{CatalogueView}
 use Rattle.ownlock.specs.declared.known.Known.{Known}
-use Rattle.ownlock.specs.Words.{word_of, completed_word}
+use Rattle.ownlock.specs.Words.{word_of, completed_word, slot_of}
 use Rattle.ownlock.specs.Seats.{At, View, place_of}
 use Rattle.ownlock.specs.Between.{Holds, HeldByNobody, HeldOnce}
 use Rattle.replica.specs.StoreMeaning.{store_meaning}
@@ -15,7 +15,7 @@ use Rattle.accounts.specs.Agreement.{AgreesWith, log_place}
 use Rattle.accounts.specs.Moves.{MayHold}
 use Rattle.store.specs.declared.values.Setup.{Setup}
 use Rattle.store.specs.declared.values.Value.{Value}
-use Rattle.store.specs.Shelving.{view_of, IsSized}
+use Rattle.store.specs.Shelving.{view_of, IsSized, places_of}
 
 -- what one session knows: the progress that it saw last, its note, and the places that it holds, each with its value as it was taken
 abbrev pub StoreKnown : Type 0
@@ -32,8 +32,8 @@ IsValueAt p l ns v = AgreesWith store_meaning p l ns (view_of v) × IsSized l.co
 
 -- a store that was opened with this configuration and this catalogue is in this state
 pub record Meanwhile (opening : Setup) (s : StoreState) : Type 0 where
-  -- the log has one place, and each node one for its replica and one for its desk
-  pub places : length s.homes ≡ 1 + opening.config.nodes + opening.config.nodes
+  -- the log has one place, and each node one for its replica and one for its desk, and the table has the slots of so many places
+  pub places : length s.homes ≡ slot_of (places_of opening.config)
   -- the configuration and the catalogue of the opening, the history and its completed tail
   pub progress : Progress CatalogueView
   pub config : progress.config ≡ opening.config
@@ -48,12 +48,12 @@ pub record Meanwhile (opening : Setup) (s : StoreState) : Type 0 where
   pub noted : (j i : ℕ) (v : List StoreKnown) (k : StoreKnown) → At j v s.views → At i k v → At k.session k.note notes
   pub holds : (j i : ℕ) (v : List StoreKnown) (k : StoreKnown) → At j v s.views → At i k v → MayHold k.progress k.session (map place_of k.held)
   -- a place whose word is 0 is free: its value is on the shelf and agrees, and nobody holds it
-  pub free : (p : ℕ) → p < length s.homes → slice_index s.words (word_of p) ≡ 0
-      → ((x : Value) × At p (kernel.some (Some x)) s.homes × IsValueAt p progress notes x) × HeldByNobody s p
+  pub free : (p : ℕ) → p < places_of opening.config → slice_index s.words (word_of p) ≡ 0
+      → ((x : Value) × At (slot_of p) (kernel.some (Some x)) s.homes × IsValueAt p progress notes x) × HeldByNobody s p
   -- any other is held by one session alone, and the value as that took it agrees
-  pub held : (p : ℕ) → p < length s.homes → slice_index s.words (word_of p) ≢ 0
-      → At p kernel.none s.homes × ((j i a : ℕ) × (k : StoreKnown) × (x : Value) × Holds s j i a k p x × HeldOnce s j i a p × IsValueAt p progress notes x)
+  pub held : (p : ℕ) → p < places_of opening.config → slice_index s.words (word_of p) ≢ 0
+      → At (slot_of p) kernel.none s.homes × ((j i a : ℕ) × (k : StoreKnown) × (x : Value) × Holds s j i a k p x × HeldOnce s j i a p × IsValueAt p progress notes x)
   -- the word behind those of the places is the completed tail
-  pub completed : slice_index s.words (completed_word (length s.homes)) ≡ progress.completed
+  pub completed : slice_index s.words (completed_word (places_of opening.config)) ≡ progress.completed
   -- while a session holds the log, the history is the one that it knows
   pub still : (j i a : ℕ) (k : StoreKnown) (x : Value) → Holds s j i a k log_place x → k.progress.history ≡ progress.history

@@ -1,24 +1,13 @@
 // The laws.
-ghost use Rattle.std.specs.Prelude.{◌≡◌, ℕ, List, Option};
-ghost use Rattle.atomic_table.specs.Table.{State};
-ghost use Rattle.loader.specs.CatalogueView.{CatalogueView};
-ghost use Rattle.ownlock.specs.Seats.{View};
+ghost use Rattle.std.specs.Prelude.{ℕ, List, Option};
 ghost use Rattle.ownlock.specs.Invariant.{LockInvariant};
-ghost use Rattle.accounts.specs.declared.sessions.Progress.{Progress};
-ghost use Rattle.accounts.specs.declared.sessions.SessionNote.{SessionNote};
-ghost use Rattle.combiner.specs.Desks.{BatchView, DeskView};
-ghost use Rattle.oplog.specs.Calls.{Call};
-ghost use Rattle.oplog.specs.declared.records.Op.TheVariants.{Run};
-ghost use Rattle.readpath.specs.declared.reading.ReadAnswer.{ReadAnswer};
+ghost use Rattle.combiner.specs.Desks.{DeskView};
 ghost use Rattle.schedule.specs.declared.parts.BegunRead.{BegunRead};
 ghost use Rattle.schedule.specs.declared.parts.Opening.{Opening};
-ghost use Rattle.store.specs.Standing.{SessionKnown};
-ghost use Rattle.store.specs.Whole.{CombinesBy, ReadsBy};
-ghost use Rattle.store_laws.specs.InOrder.{CombinesInOrder, ReadsInOrder};
+ghost use Rattle.store_laws.specs.InOrder.{CombinesInOrder, ReadsInOrder, WholeCombine, WholeRead};
 ghost use Rattle.store.specs.declared.values.Setup.{Setup};
-ghost use Rattle.store.specs.declared.values.Value.{Value};
 ghost use Rattle.store.specs.Shelving.{store_rules, store_opening};
-ghost use Rattle.store_laws.specs.Meanwhile.{Meanwhile};
+ghost use Rattle.store_laws.specs.Meanwhile.{Meanwhile, StoreState};
 
 /// Between any two atomic steps of a store's threads one history, with its completed tail, has grown from what every session knows, and
 /// has the configuration and the catalogue that the store was opened with; the sessions' notes and it account for one another; the log
@@ -26,8 +15,7 @@ ghost use Rattle.store_laws.specs.Meanwhile.{Meanwhile};
 /// or held by one session; and a session holds nothing, its node's desk, its node's replica, the log, or these last two. The rule of the
 /// table below the shelf, which each atomic step keeps, says so of any opening: of any number of nodes and slots.
 pub fn between_steps()
-    ensures { (opening : Setup) (s : State (Option Value) (View (Progress CatalogueView) SessionNote Value))
-        → LockInvariant store_rules (store_opening opening) s → Meanwhile opening s }
+    ensures { (opening : Setup) (s : StoreState) → LockInvariant store_rules (store_opening opening) s → Meanwhile opening s }
 {}
 
 /// A whole combine, as `store` promises it, is a list of the schedule's steps of its node: it may rebase, it makes room if it must (replay,
@@ -36,8 +24,6 @@ pub fn between_steps()
 /// with what the call answers. Each step may be taken when it is, on the log as it is seen together with the completed tail. Between
 /// two steps others may append, complete and reclaim.
 pub fn whole_calls_are_steps()
-    ensures combine { (m : Opening) (n : ℕ) (reads : List (Option BegunRead)) (k after : SessionKnown) (b answered : BatchView)
-        (c : CombinesBy k after b answered) → m.catalogue ≡ k.progress.catalogue → CombinesInOrder m n reads k after b answered c }
-    ensures read { (m : Opening) (n s : ℕ) (reads : List (Option BegunRead)) (k after : SessionKnown) (call : Call) (answer : ReadAnswer)
-        (c : ReadsBy k after (Run call) answer) (d : DeskView) → m.catalogue ≡ k.progress.catalogue → ReadsInOrder m n s reads k after call answer c d }
+    ensures combine { (m : Opening) (n : ℕ) (reads : List (Option BegunRead)) (w : WholeCombine m) → CombinesInOrder m n reads w }
+    ensures read { (m : Opening) (n s : ℕ) (reads : List (Option BegunRead)) (w : WholeRead m) (d : DeskView) → ReadsInOrder m n s reads w d }
 {}

@@ -25,32 +25,32 @@ use Rattle.stress.specs.StressAnswer.{IsStressed, ByTexts, IsStressAnswer, IsSom
 
 -- ---- an answer, or the line that no memory is left
 
-module _ (IsOne : Answer → Type 0) (old new : Option (List ℕ)) (got : Status) where
-  one_sent : (a : Answer) → IsOne a → Sends old new got a.text (status_of a.verdict) → ReportsOne IsOne old new got
-  one_sent a one (inr broke) = subst (ReportsOne IsOne old new) (sym broke.0) (inl (a, one, broke.1))
+module _ {W : Type 0} (IsOne : Answer → Type 0) (contents : W → Option (List ℕ)) (old new : W) (got : Status) where
+  one_sent : (a : Answer) → IsOne a → Sends (contents old) (contents new) got a.text (status_of a.verdict) → ReportsOne IsOne contents old new got
+  one_sent a one (inr broke) = subst (ReportsOne IsOne contents old new) (sym broke.0) (inl (a, one, broke.1))
   one_sent a one (inl whole) = by a.verdict refl
     where
-      by : (v : Verdict) → a.verdict ≡ v → ReportsOne IsOne old new got
-      by verdicts.Good is = let e = whole.0 ∙ ap status_of is in subst (ReportsOne IsOne old new) (sym e) (a, one, ap status_of (sym is), whole.1)
-      by verdicts.Refused is = let e = whole.0 ∙ ap status_of is in subst (ReportsOne IsOne old new) (sym e) (a, one, ap status_of (sym is), whole.1)
-      by verdicts.Differs is = let e = whole.0 ∙ ap status_of is in subst (ReportsOne IsOne old new) (sym e) (a, one, ap status_of (sym is), whole.1)
+      by : (v : Verdict) → a.verdict ≡ v → ReportsOne IsOne contents old new got
+      by verdicts.Good is = let e = whole.0 ∙ ap status_of is in subst (ReportsOne IsOne contents old new) (sym e) (a, one, ap status_of (sym is), whole.1)
+      by verdicts.Refused is = let e = whole.0 ∙ ap status_of is in subst (ReportsOne IsOne contents old new) (sym e) (a, one, ap status_of (sym is), whole.1)
+      by verdicts.Differs is = let e = whole.0 ∙ ap status_of is in subst (ReportsOne IsOne contents old new) (sym e) (a, one, ap status_of (sym is), whole.1)
 
-  no_memory_sent : Sends old new got no_memory_line statuses.NoMemory → ReportsOne IsOne old new got
-  no_memory_sent (inl whole) = subst (ReportsOne IsOne old new) (sym whole.0) whole.1
-  no_memory_sent (inr broke) = subst (ReportsOne IsOne old new) (sym broke.0) (inr broke.1)
+  no_memory_sent : Sends (contents old) (contents new) got no_memory_line statuses.NoMemory → ReportsOne IsOne contents old new got
+  no_memory_sent (inl whole) = subst (ReportsOne IsOne contents old new) (sym whole.0) whole.1
+  no_memory_sent (inr broke) = subst (ReportsOne IsOne contents old new) (sym broke.0) (inr broke.1)
 
-  pub reports_one : (P : Type 0) → (P → IsOne not_text) → (prepared : Result Reply InputFault) → Writes old new got prepared → MatchResult prepared (λ x. IsOne (answer_of x)) (λ e. FailsAs e P)
-      → ReportsOne IsOne old new got
+  pub reports_one : (P : Type 0) → (P → IsOne not_text) → (prepared : Result Reply InputFault) → Writes (contents old) (contents new) got prepared → MatchResult prepared (λ x. IsOne (answer_of x)) (λ e. FailsAs e P)
+      → ReportsOne IsOne contents old new got
   reports_one P bad (Ok x) wrote known = one_sent (answer_of x) known wrote
   reports_one P bad (Err faults.NotText) wrote known = one_sent not_text (bad known) wrote
   reports_one P bad (Err faults.NoMemory) wrote known = no_memory_sent wrote
-  reports_one P bad (Err faults.CannotRead) wrote known = subst (ReportsOne IsOne old new) (sym wrote.0) wrote.1
+  reports_one P bad (Err faults.CannotRead) wrote known = subst (ReportsOne IsOne contents old new) (sym wrote.0) wrote.1
 
-  pub reports_some : IsOne not_text → (prepared : Result Reply InputFault) → Writes old new got prepared → IfOk prepared (λ x. IsOne (answer_of x)) → ReportsOne IsOne old new got
+  pub reports_some : IsOne not_text → (prepared : Result Reply InputFault) → Writes (contents old) (contents new) got prepared → IfOk prepared (λ x. IsOne (answer_of x)) → ReportsOne IsOne contents old new got
   reports_some bad (Ok x) wrote known = one_sent (answer_of x) known wrote
   reports_some bad (Err faults.NotText) wrote known = one_sent not_text bad wrote
   reports_some bad (Err faults.NoMemory) wrote known = no_memory_sent wrote
-  reports_some bad (Err faults.CannotRead) wrote known = subst (ReportsOne IsOne old new) (sym wrote.0) wrote.1
+  reports_some bad (Err faults.CannotRead) wrote known = subst (ReportsOne IsOne contents old new) (sym wrote.0) wrote.1
 
 module _ (config : Config) where
   pub refused : (m : List ℕ) (h : Contents) (s : List ℕ) → all_texts m h s ≡ false → IsStressAnswer config m h s not_text

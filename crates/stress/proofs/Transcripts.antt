@@ -12,7 +12,7 @@ use Rattle.stress.specs.declared.calls.ScriptCall.{ScriptCall}
 use Rattle.stress.specs.declared.lines.Told.{Told}
 use Rattle.stress.specs.Calls.{Called}
 use Rattle.stress.specs.Dealt.{dealt_to}
-use Rattle.stress.specs.Lines.{ToldCall, suits, AreOrdered, transcript_text}
+use Rattle.stress.specs.Lines.{ToldCall, suits, IsTextOf}
 use Rattle.stress.specs.OneHistory.{IsOfOneHistory}
 use Rattle.stress.specs.Shown.{called, said_of, told_call, calls_told, to_be_told, told_of}
 use Rattle.stress.specs.StressAnswer.{calls_of, session_count, IsTranscript}
@@ -47,7 +47,7 @@ twice [] = refl
 twice (c ∷ cs) = ap (λ rest. Some (called c) ∷ rest) (twice cs)
 
 pub transcript_of : (config : Config) (c : CatalogueView) → IsConfig config → (script : List ScriptCall) (told : List Told) (text : List ℕ) → calls_told told ≡ dealt_to (session_count config) (to_be_told script)
-    → ((lines : List ToldCall) × IsPermutation (map told_of told) lines × AreOrdered lines × (text ≡ transcript_text lines))
+    → IsTextOf (map told_of told) text
     → IsOfOneHistory c config.limit (map told_of told) → IsTranscript config c (map called script) (record { text = text; verdict = verdicts.Good })
 transcript_of config c sizes script told text dealt written one =
     let calls = map called script in

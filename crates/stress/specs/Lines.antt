@@ -1,7 +1,7 @@
 -- The lines of a transcript.
-use Rattle.std.specs.Prelude.{ℕ, ◌+◌, ◌*◌, ◌^◌, Bool, true, false, List, ◌++◌, codes, decimal}
+use Rattle.std.specs.Prelude.{◌≡◌, ℕ, ◌+◌, ◌*◌, ◌^◌, Bool, true, false, List, ◌++◌, codes, decimal}
 use Rattle.std.specs.List.{flat_map}
-use Rattle.std.specs.List.Sorted.{IsNonDecreasingBy}
+use Rattle.std.specs.List.Sorted.{IsNonDecreasingBy, IsPermutation}
 use Rattle.verifier.specs.declared.refusal.Mode.{Mode}
 use Rattle.verifier.specs.declared.refusal.Mode.TheVariants.{Update, Read}
 use Rattle.stress.specs.Calls.{Called}
@@ -50,3 +50,7 @@ told_text t = said_text t.call t.said
 
 abbrev pub transcript_text : List ToldCall → List ℕ
 transcript_text told = flat_map told_text told
+
+-- the lines of these calls, each once, in their order
+abbrev pub IsTextOf : List ToldCall → List ℕ → Type 0
+IsTextOf told text = (lines : List ToldCall) × IsPermutation told lines × AreOrdered lines × (text ≡ transcript_text lines)

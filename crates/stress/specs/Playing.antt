@@ -1,5 +1,5 @@
 -- What is kept while sessions make their calls. Clauses of private functions alone cite this.
-use Rattle.std.specs.Prelude.{◌≡◌, ◌⊎◌, ℕ, ◌-◌, ◌<◌, List, [], ◌∷◌, ◌++◌, map, length, slice_index_or, Option, Some, None, IfOk}
+use Rattle.std.specs.Prelude.{◌≡◌, ◌⊎◌, ℕ, ◌-◌, ◌<◌, List, [], ◌∷◌, ◌++◌, map, length, slice_index_or, Option, Some, None, Result, IfOk, Vec}
 use Rattle.std.specs.List.{All}
 use Rattle.loader.specs.CatalogueView.{CatalogueView}
 use Rattle.console.specs.Script.{ProgramCall, Call, line_meaning}
@@ -11,8 +11,9 @@ use Rattle.stress.specs.declared.calls.LineCall.TheVariants as lines
 use Rattle.stress.specs.declared.calls.ScriptCalls.{ScriptCalls}
 use Rattle.stress.specs.declared.calls.ScriptCalls.TheVariants as reads
 use Rattle.stress.specs.declared.players.Player.{Player}
+use Rattle.stress.specs.declared.players.Playground.{Playground}
 use Rattle.stress.specs.Calls.{Called}
-use Rattle.stress.specs.Dealt.{dealt}
+use Rattle.stress.specs.Dealt.{dealt, dealt_to}
 use Rattle.accounts.specs.declared.sessions.Progress.{Progress}
 use Rattle.accounts.specs.declared.sessions.AnsweredUpdate.{AnsweredUpdate}
 use Rattle.accounts.specs.Accounts.{Extends}
@@ -23,7 +24,7 @@ use Rattle.stress.specs.declared.lines.Said.{Said}
 use Rattle.stress.specs.declared.lines.Said.TheVariants as told
 use Rattle.stress.specs.Lines.{ToldCall}
 use Rattle.stress.specs.OneHistory.{IsSo, lines_at}
-use Rattle.stress.specs.Shown.{calls_told, told_of}
+use Rattle.stress.specs.Shown.{TellsCalls, to_be_told, told_of}
 
 -- no session of a store of this catalogue is refused this call before it is made
 pub record IsReady (c : CatalogueView) (call : ScriptCall) : Type 0 where
@@ -52,6 +53,10 @@ IsPlaying store p = IsOf store p.session
 abbrev pub AreNumbered : List SessionView → Type 0
 AreNumbered sessions = (k : ℕ) (d : SessionView) → k < length sessions → (slice_index_or sessions k d).session ≡ k
 
+-- the calls that the session of this number makes, as they are to be told
+abbrev pub calls_for : {G : Type 0} → Playground G → ℕ → List (Option Called)
+calls_for shared number = dealt shared.sessions number (to_be_told shared.calls.now)
+
 -- these players have the last of n sessions, the last one first
 abbrev pub AreLast : ℕ → List Player → Type 0
 AreLast n players = (k : ℕ) (d : Player) → k < length players → (slice_index_or players k d).session.session ≡ n - 1 - k
@@ -59,7 +64,12 @@ AreLast n players = (k : ℕ) (d : Player) → k < length players → (slice_ind
 -- the players were told the calls that are dealt to n sessions, the last session's player the first
 abbrev pub TellTheirs : ℕ → List (Option Called) → List Player → Type 0
 TellTheirs n calls players =
-    (k : ℕ) (d : Player) → k < length players → IfOk (slice_index_or players k d).told (λ v. calls_told v.items ≡ dealt n (n - 1 - k) calls)
+    (k : ℕ) (d : Player) → k < length players → TellsCalls (slice_index_or players k d).told (dealt n (n - 1 - k) calls)
+
+-- where these players were told the calls that are dealt to their sessions, all of them are told, the first session's first
+abbrev pub TellsAll : {X E : Type 0} → List Player → Result (Vec Told X) E → Type 0
+TellsAll players told =
+    (calls : List (Option Called)) → TellTheirs (length players) calls players → TellsCalls told (dealt_to (length players) calls)
 
 -- ---- what the sessions were told, in the history that they know
 

@@ -1,5 +1,5 @@
 -- What the calls of a script and the answers to them are, without where their texts lie. Clauses of private functions alone cite this.
-use Rattle.std.specs.Prelude.{◌≡◌, ℕ, List, [], ◌∷◌, map, Option, Some, None, Result, Ok, Err, if◌then◌else◌}
+use Rattle.std.specs.Prelude.{◌≡◌, ℕ, List, [], ◌∷◌, map, Option, Some, None, Result, Ok, Err, IfOk, Vec, if◌then◌else◌}
 use Rattle.stress.specs.declared.calls.ScriptCall.{ScriptCall}
 use Rattle.stress.specs.declared.calls.ScriptCalls.{ScriptCalls}
 use Rattle.stress.specs.declared.calls.LineCall.{LineCall}
@@ -42,6 +42,10 @@ told_call t = if suits t.call.now.mode (said_of t.said) then Some (called t.call
 
 abbrev pub calls_told : List Told → List (Option Called)
 calls_told told = map told_call told
+
+-- these calls were told, unless memory ran out
+abbrev pub TellsCalls : {X E : Type 0} → Result (Vec Told X) E → List (Option Called) → Type 0
+TellsCalls told calls = IfOk told (λ v. calls_told v.items ≡ calls)
 
 -- the calls of a script, as they are to be told
 abbrev pub to_be_told : List ScriptCall → List (Option Called)

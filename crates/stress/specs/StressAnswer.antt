@@ -1,5 +1,5 @@
 -- What `stress` may answer and write. Which of the transcripts it is depends on how the threads run.
-use Rattle.std.specs.Prelude.{◌≡◌, ◌⊎◌, ℕ, ◌*◌, Bool, true, false, List, map, Option, Result, Ok, Err}
+use Rattle.std.specs.Prelude.{◌≡◌, ◌⊎◌, ℕ, ◌*◌, Bool, true, false, List, map, Option, Result, Ok, Err, MatchResult}
 use Rattle.std.specs.List.{All}
 use Rattle.std.specs.List.Sorted.{IsPermutation}
 use Rattle.std.specs.Io.KnownBytes.{Appends, Keeps}
@@ -13,13 +13,18 @@ use Rattle.console.specs.declared.status.Status.{Status}
 use Rattle.console.specs.declared.status.Status.TheVariants as statuses
 use Rattle.console.specs.declared.status.Verdict.TheVariants as verdicts
 use Rattle.console.specs.Files.{Contents, present}
-use Rattle.console.specs.Inputs.{all_texts}
+use Rattle.console.specs.declared.input.InputFault.{InputFault}
+use Rattle.console.specs.declared.reporting.Reply.{Reply}
+use Rattle.console.specs.InputFaults.{FailsAs}
+use Rattle.console.specs.Inputs.{all_texts, IfTextsKnown}
 use Rattle.console.specs.Status.{status_of}
 use Rattle.console.specs.Texts.{no_memory_line}
 use Rattle.console.specs.Transfer.{AppendsBeginning}
 use Rattle.console.specs.Answer.{Answer, not_text, refusal_answer}
+use Rattle.console.specs.Report.{answer_of}
 use Rattle.console.specs.RunAnswer.{bad_line}
 use Rattle.console.specs.ScheduleAnswer.{are_sizes, sizes_refused}
+use Rattle.stress.specs.declared.engine.Trial.{Trial}
 use Rattle.stress.specs.Calls.{Called, script_calls}
 use Rattle.stress.specs.Dealt.{dealt_to}
 use Rattle.stress.specs.Lines.{ToldCall, suits, AreOrdered, transcript_text}
@@ -84,10 +89,25 @@ abbrev pub IsSomeStressAnswer : Config → Answer → Type 0
 IsSomeStressAnswer config a =
     (a ≡ not_text) ⊎ ((manifest : List ℕ) × (files : Files) × (script : List ℕ) × IsStressed config (loaded manifest files) script a)
 
--- what a command did that may give any of these answers, from its status: it wrote one, whose verdict is the status, or the beginning of
--- one; or memory ran out, or a read failed
-abbrev pub ReportsOne : (Answer → Type 0) → Option (List ℕ) → Option (List ℕ) → Status → Type 0
-ReportsOne IsOne old new statuses.NoMemory = Appends old new no_memory_line
-ReportsOne IsOne old new statuses.CannotRead = Keeps old new
-ReportsOne IsOne old new statuses.CannotWrite = ((a : Answer) × IsOne a × AppendsBeginning old new a.text) ⊎ AppendsBeginning old new no_memory_line
-ReportsOne IsOne old new status = (a : Answer) × IsOne a × (status ≡ status_of a.verdict) × Appends old new a.text
+-- where the bytes of the manifest, of the trial's files and of the script are known, this is so of the trial's sizes and of these
+abbrev pub IfTrialKnown : {F G : Type 0} → (F → Option Contents) → Trial F G → Option (List ℕ) → Option (List ℕ)
+    → (Config → List ℕ → Contents → List ℕ → Type 0) → Type 0
+IfTrialKnown holds trial manifest script P = IfTextsKnown manifest (holds trial.folder.now) script (P trial.config)
+
+-- what `stress` may answer is prepared; or memory ran out, or a read failed, or what was read is no text
+abbrev pub PreparesOne : Result Reply InputFault → Config → List ℕ → Contents → List ℕ → Type 0
+PreparesOne prepared config manifest folder script =
+    MatchResult prepared (λ r. IsStressAnswer config manifest folder script (answer_of r)) (λ e. FailsAs e (all_texts manifest folder script ≡ false))
+
+-- what a command did that may give any of these answers, from its status, to a writer, by what is known of its contents: it wrote one,
+-- whose verdict is the status, or the beginning of one; or memory ran out, or a read failed
+abbrev pub ReportsOne : {W : Type 0} → (Answer → Type 0) → (W → Option (List ℕ)) → W → W → Status → Type 0
+ReportsOne IsOne contents old new statuses.NoMemory = Appends (contents old) (contents new) no_memory_line
+ReportsOne IsOne contents old new statuses.CannotRead = Keeps (contents old) (contents new)
+ReportsOne IsOne contents old new statuses.CannotWrite =
+    ((a : Answer) × IsOne a × AppendsBeginning (contents old) (contents new) a.text) ⊎ AppendsBeginning (contents old) (contents new) no_memory_line
+ReportsOne IsOne contents old new status = (a : Answer) × IsOne a × (status ≡ status_of a.verdict) × Appends (contents old) (contents new) a.text
+
+-- the same of what `stress` may answer
+abbrev pub ReportsStress : {W : Type 0} → (W → Option (List ℕ)) → W → W → Status → Config → List ℕ → Contents → List ℕ → Type 0
+ReportsStress contents old new status config manifest folder script = ReportsOne (IsStressAnswer config manifest folder script) contents old new status

@@ -1,14 +1,13 @@
 // The command `stress`.
 
-ghost use Rattle.std.specs.Prelude.{◌≡◌, ◌⊎◌, All, map, IfOk, MatchResult, false};
+ghost use Rattle.std.specs.Prelude.{◌⊎◌, All, map, IfOk};
 ghost use Rattle.oplog.specs.Limits.{IsConfig};
 ghost use Rattle.loader.specs.Loading.{Outcome};
 ghost use Rattle.console.specs.Files.{SomeFile};
 ghost use Rattle.console.specs.Report.{answer_of, Failed};
-ghost use Rattle.console.specs.InputFaults.{FailsAs, IfCannotRead};
-ghost use Rattle.console.specs.Inputs.{IfTextsKnown, all_texts};
+ghost use Rattle.console.specs.InputFaults.{IfCannotRead};
 ghost use Rattle.console.specs.Loaded.{LoadedIs};
-ghost use Rattle.stress.specs.StressAnswer.{IsTranscript, IsCatalogueAnswer, IsStressed, IsStressAnswer, IsSomeStressAnswer, ReportsOne};
+ghost use Rattle.stress.specs.StressAnswer.{IsTranscript, IsCatalogueAnswer, IsStressed, IsSomeStressAnswer, IfTrialKnown, PreparesOne, ReportsOne, ReportsStress};
 ghost use Rattle.stress.specs.Shown.{called};
 ghost use Rattle.stress.specs.Playing.{IsReady};
 
@@ -97,8 +96,7 @@ fn prepare<R: Threads + Wait + Sync, F: Folder, G: Gate + Sync, M: Source, S: So
     manifest: &mut M,
     script: &mut S,
 ) -> Result<Reply, InputFault>
-    ensures known { IfTextsKnown (M.remaining manifest.old) (F.holds trial.now.folder.now) (S.remaining script.old) (λ m h s.
-        MatchResult result (λ r. IsStressAnswer trial.now.config m h s (answer_of r)) (λ e. FailsAs e (all_texts m h s ≡ false))) }
+    ensures known { IfTrialKnown F.holds trial.now (M.remaining manifest.old) (S.remaining script.old) (PreparesOne result) }
     ensures failed { IfCannotRead result (M.has_failed manifest.new ⊎ SomeFile F.File.has_failed ⊎ S.has_failed script.new) }
     ensures some { IfOk result (λ r. IsSomeStressAnswer trial.now.config (answer_of r)) }
 {
@@ -122,12 +120,11 @@ pub fn stress<R: Threads + Wait + Sync, F: Folder, G: Gate + Sync, M: Source, S:
     writer: &mut W,
 ) -> Status
     // Where the readers and the folder tell their bytes, those calls are made.
-    ensures written { IfTextsKnown (M.remaining manifest.old) (F.holds trial.now.folder.now) (S.remaining script.old) (λ m h s.
-        ReportsOne (IsStressAnswer trial.now.config m h s) (W.contents writer.old) (W.contents writer.new) result) }
+    ensures written { IfTrialKnown F.holds trial.now (M.remaining manifest.old) (S.remaining script.old) (ReportsStress W.contents writer.old writer.new result) }
     // It says that a read or a write failed only after one did.
     ensures failed { Failed result (M.has_failed manifest.new ⊎ SomeFile F.File.has_failed ⊎ S.has_failed script.new) (W.has_failed writer.new) }
     // Whatever they give, or where they fail.
-    ensures ended { ReportsOne (IsSomeStressAnswer trial.now.config) (W.contents writer.old) (W.contents writer.new) result }
+    ensures ended { ReportsOne (IsSomeStressAnswer trial.now.config) W.contents writer.old writer.new result }
 {
     let prepared = prepare(rt, trial, manifest, script);
     report(writer, prepared)

@@ -1,8 +1,7 @@
 // The lines of the transcript.
 
-ghost use Rattle.std.specs.Prelude.{◌≡◌, ◌++◌, List, map, OnOk, IfOk};
-ghost use Rattle.std.specs.List.Sorted.{IsPermutation};
-ghost use Rattle.stress.specs.Lines.{ToldCall, AreOrdered, rank, answered_text, told_text, transcript_text};
+ghost use Rattle.std.specs.Prelude.{◌≡◌, ◌++◌, map, OnOk, IfOk};
+ghost use Rattle.stress.specs.Lines.{IsTextOf, rank, answered_text, told_text};
 ghost use Rattle.stress.specs.Shown.{called, said_of, told_of};
 
 use crate::calls::ScriptCall;
@@ -72,8 +71,7 @@ fn put_told(out: &mut Vec<u8>, told: &Told) -> Result<(), AllocError>
 
 // The transcript: the calls in the order of their indexes, those of one index in the order in which they come.
 pub(crate) fn transcript(alloc: Global, mut told: Vec<Told<'_>>) -> Result<Vec<u8>, AllocError>
-    ensures { IfOk result (λ text. (lines : List ToldCall) × IsPermutation (map told_of told.entry.items) lines × AreOrdered lines
-        × (text.items ≡ transcript_text lines)) }
+    ensures { IfOk result (λ text. IsTextOf (map told_of told.entry.items) text.items) }
 {
     told.sort_by_key(|t| rank(t.said))?;
     let mut out = Vec::new(alloc);

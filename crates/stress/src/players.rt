@@ -2,9 +2,8 @@
 
 ghost use Rattle.std.specs.Prelude.{◌≡◌, ◌<◌, [], All, IfOk, drop, Some};
 ghost use Rattle.store.specs.Sessions.{IsOf};
-ghost use Rattle.stress.specs.Dealt.{dealt};
-ghost use Rattle.stress.specs.Shown.{called, told_call, calls_told, to_be_told};
-ghost use Rattle.stress.specs.Playing.{IsReady, IsAsked, IsTold, IsToldPlayer};
+ghost use Rattle.stress.specs.Shown.{TellsCalls, called, told_call};
+ghost use Rattle.stress.specs.Playing.{IsReady, IsAsked, IsTold, IsToldPlayer, calls_for};
 
 use crate::calls::ScriptCall;
 use crate::gate::Gate;
@@ -82,7 +81,7 @@ fn ask_all<'a, R: Wait, G: Gate>(
     requires ready { All (IsReady ground.now.store.now.catalogue) ground.now.calls.now }
     requires some { 0 < ground.now.sessions }
     ensures own { IsOf ground.now.store.now session.new }
-    ensures calls { IfOk result (λ v. calls_told v.items ≡ dealt ground.now.sessions number (to_be_told ground.now.calls.now)) }
+    ensures calls { TellsCalls result (calls_for ground.now number) }
     ensures told { IfOk result (λ v. IsTold session.new v.items) }
     ensures number { session.new.session ≡ session.old.session }
 {
@@ -108,7 +107,7 @@ pub(crate) fn play<'a, R: Wait, G: Gate>(
     requires ready { All (IsReady ground.now.store.now.catalogue) ground.now.calls.now }
     requires some { 0 < ground.now.sessions }
     ensures own { IsOf ground.now.store.now player.new.session }
-    ensures calls { IfOk player.new.told (λ v. calls_told v.items ≡ dealt ground.now.sessions number (to_be_told ground.now.calls.now)) }
+    ensures calls { TellsCalls player.new.told (calls_for ground.now number) }
     ensures told { IsToldPlayer player.new }
     ensures number { player.new.session.session ≡ player.old.session.session }
 {

@@ -1,15 +1,15 @@
 // One store for all threads: it is opened, each session makes its calls on a thread of its own, and it is closed.
 
-ghost use Rattle.std.specs.Prelude.{◌≡◌, ◌+◌, ◌-◌, ◌*◌, ◌≤◌, ◌<◌, ◌++◌, List, [], length, Option, All, map, IfOk, MatchResult, vec_capacity};
+ghost use Rattle.std.specs.Prelude.{◌≡◌, ◌-◌, ◌*◌, ◌≤◌, ◌<◌, ◌++◌, List, [], length, Option, All, map, IfOk, MatchResult, vec_capacity};
 ghost use Rattle.oplog.specs.Limits.{IsConfig};
 ghost use Rattle.store.specs.Opening.{ClosedView, IsClosed};
 ghost use Rattle.store.specs.Sessions.{IsOf, StoreView};
 ghost use Rattle.stress.specs.Calls.{Called};
-ghost use Rattle.stress.specs.Dealt.{dealt, dealt_to};
+ghost use Rattle.stress.specs.Dealt.{dealt_to};
 ghost use Rattle.stress.specs.OneHistory.{IsOfOneHistory};
-ghost use Rattle.stress.specs.Shown.{calls_told, to_be_told, told_of};
+ghost use Rattle.stress.specs.Shown.{TellsCalls, to_be_told, told_of};
 ghost use Rattle.stress.specs.StressAnswer.{session_count};
-ghost use Rattle.stress.specs.Playing.{IsReady, AreIn, AreLast, AreNew, AreNumbered, AreTold, IsNew, IsNewPlayer, IsPlaying, IsToldPlayer, TellTheirs};
+ghost use Rattle.stress.specs.Playing.{IsReady, AreIn, AreLast, AreNew, AreNumbered, AreTold, IsNew, IsNewPlayer, IsPlaying, IsToldPlayer, TellTheirs, TellsAll, calls_for};
 
 use crate::calls::ScriptCall;
 use crate::engine::Trial;
@@ -75,8 +75,7 @@ fn joined<'a>(
     told: Result<Vec<Told<'a>>, AllocError>,
     more: Result<Vec<Told<'a>>, AllocError>,
 ) -> Result<Vec<Told<'a>>, AllocError>
-    ensures told { (a b : List (Option Called)) → IfOk told.entry (λ v. calls_told v.items ≡ a) → IfOk more.entry (λ v. calls_told v.items ≡ b)
-        → IfOk result (λ v. calls_told v.items ≡ a ++ b) }
+    ensures told { (a b : List (Option Called)) → TellsCalls told.entry a → TellsCalls more.entry b → TellsCalls result (a ++ b) }
     ensures all { IfOk result (λ v. MatchResult told.entry (λ a. MatchResult more.entry (λ b. v.items ≡ a.items ++ b.items) (λ _. ⊥)) (λ _. ⊥)) }
 {
     let mut told = told?;
@@ -96,8 +95,7 @@ fn leave<'a>(
     ensures gone { players.new.items ≡ [] }
     ensures count { length sessions.new.items ≡ length players.old.items }
     ensures own { (store : StoreView) → All (IsPlaying store) players.old.items → All (IsOf store) sessions.new.items }
-    ensures told { (calls : List (Option Called)) → TellTheirs (length players.old.items) calls players.old.items
-        → IfOk result (λ v. calls_told v.items ≡ dealt_to (length players.old.items) calls) }
+    ensures told { TellsAll players.old.items result }
     ensures known { All IsToldPlayer players.old.items → IfOk result (λ v. AreTold sessions.new.items v.items) }
     ensures numbers { AreLast (length players.old.items) players.old.items → AreNumbered sessions.new.items }
 {
@@ -131,12 +129,14 @@ fn play_together<'a, R: Threads + Wait + Sync, G: Gate + Sync>(
         players,
         ground.sessions,
         &|index: usize, player: &mut Player|
-            requires { IsNew ground.now.store.now player.now.session × All (IsReady ground.now.store.now.catalogue) ground.now.calls.now
-                × (index < ground.now.sessions) × (player.now.session.session ≡ ground.now.sessions - 1 - index) }
-            ensures { IsOf ground.entry.now.store.now player.exit.now.session
-                × IfOk player.exit.now.told (λ v. calls_told v.items
-                ≡ dealt ground.entry.now.sessions (ground.entry.now.sessions - 1 - index) (to_be_told ground.entry.now.calls.now))
-                × IsToldPlayer player.exit.now × (player.exit.now.session.session ≡ ground.entry.now.sessions - 1 - index) }
+            requires new { IsNew ground.now.store.now player.now.session }
+            requires ready { All (IsReady ground.now.store.now.catalogue) ground.now.calls.now }
+            requires some { index < ground.now.sessions }
+            requires number { player.now.session.session ≡ ground.now.sessions - 1 - index }
+            ensures own { IsOf ground.entry.now.store.now player.exit.now.session }
+            ensures calls { TellsCalls player.exit.now.told (calls_for ground.entry.now (ground.entry.now.sessions - 1 - index)) }
+            ensures told { IsToldPlayer player.exit.now }
+            ensures number { player.exit.now.session.session ≡ ground.entry.now.sessions - 1 - index }
         { play(rt, ground, ground.sessions - 1 - index, player) },
     );
 }
@@ -153,7 +153,7 @@ fn play_all<'a, R: Threads + Wait + Sync, G: Gate + Sync>(
     requires ready { All (IsReady ground.now.store.now.catalogue) ground.now.calls.now }
     requires room { (players.items ≡ []) × (ground.now.sessions ≤ vec_capacity players) }
     ensures back { AreIn ground.now.store.now ground.now.sessions sessions.new.items }
-    ensures told { IfOk result (λ v. calls_told v.items ≡ dealt_to ground.now.sessions (to_be_told ground.now.calls.now)) }
+    ensures told { TellsCalls result (dealt_to ground.now.sessions (to_be_told ground.now.calls.now)) }
     ensures known { IfOk result (λ v. AreTold sessions.new.items v.items) }
     ensures numbers { AreNumbered sessions.new.items }
 {
@@ -173,7 +173,7 @@ pub(crate) fn tell_all<'a, R: Threads + Wait + Sync, F, G: Gate + Sync>(
 ) -> Result<Vec<Told<'a>>, AllocError>
     requires config { IsConfig trial.now.config }
     requires ready { All (IsReady catalogue) calls.now }
-    ensures told { IfOk result (λ v. calls_told v.items ≡ dealt_to (session_count trial.now.config) (to_be_told calls.now)) }
+    ensures told { TellsCalls result (dealt_to (session_count trial.now.config) (to_be_told calls.now)) }
     ensures one { IfOk result (λ v. IsOfOneHistory catalogue trial.now.config.limit (map told_of v.items)) }
 {
     let (alloc, config) = (trial.alloc, trial.config);

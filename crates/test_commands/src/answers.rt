@@ -1,7 +1,7 @@
 // What a command answers.
 
 use crate::files::Offered;
-use console::{Setup, assemble, check, disassemble, replay, run, schedule};
+use console::{Setup, assemble, check, disassemble, encode, replay, run, schedule};
 use oplog::Config;
 use std::alloc::Global;
 use std::sync::Wait;
@@ -96,6 +96,7 @@ pub fn answer_to<R: Threads + Wait + Sync>(
         }
         "asm" => assemble(alloc, &mut text, &mut out),
         "dis" => disassemble(alloc, &mut text, &mut out),
+        "encode" => encode(alloc, &mut text, &mut out),
         _ => {
             let config = sizes(command.strip_prefix("schedule:")?)?;
             let mut steps = folder.other;

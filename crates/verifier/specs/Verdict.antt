@@ -1,5 +1,5 @@
 -- The verdict on a program, computed: the refusal that names the first rule that is broken, or none.
-use Rattle.std.specs.Prelude.{ℕ, zero, suc, List, Option, Some, None}
+use Rattle.std.specs.Prelude.{◌≡◌, ℕ, zero, suc, List, Option, Some, None, Result, MatchResult}
 use Rattle.std.specs.Option.{option_map}
 use Rattle.insn.specs.declared.instruction.Form.{Form}
 use Rattle.insn.specs.Layout.{size, instruction_at}
@@ -8,9 +8,10 @@ use Rattle.flow.specs.declared.rules.Broken.{Broken}
 use Rattle.flow.specs.Faults.{structure_fault}
 use Rattle.verifier.specs.declared.refusal.VerifyFault.{VerifyFault}
 use Rattle.verifier.specs.declared.refusal.Refused.{Refused}
+use Rattle.verifier.specs.declared.refusal.VerifyError.{VerifyError}
 use Rattle.verifier.specs.Signature.{Signature}
 use Rattle.verifier.specs.Rules.{first_broken}
-use Rattle.verifier.specs.Typing.{structure_reason}
+use Rattle.verifier.specs.Typing.{structure_reason, IfRefused}
 use Rattle.verifier.specs.Joined.{joined_frame}
 
 -- the refusal of a rule at a slot
@@ -40,3 +41,13 @@ after_structure None other = other
 -- the verdict on a program
 unfoldable pub verdict : List Form → Signature → Option Refused
 verdict p l = after_structure (structure_fault p) (lowest_refusal p l (size p))
+
+-- ---- answers
+
+-- what is answered is this verdict: the refusal, or that there is none
+abbrev pub IsVerdict : {A : Type 0} → Option Refused → Result A Refused → Type 0
+IsVerdict computed answer = MatchResult answer (λ _. computed ≡ None) (λ e. computed ≡ Some e)
+
+-- so it is, unless there is no memory left
+abbrev pub IsVerdictOrNoMemory : {A : Type 0} → Option Refused → Result A VerifyError → Type 0
+IsVerdictOrNoMemory computed answer = MatchResult answer (λ _. computed ≡ None) (IfRefused (λ e. computed ≡ Some e))

@@ -1,18 +1,23 @@
 // What the verifier knows before each instruction, also of a program that is refused.
 
-ghost use Rattle.std.specs.Prelude.{◌≡◌, ◌≤◌, IfOk};
+ghost use Rattle.std.specs.Prelude.{◌≡◌, ◌≤◌, ◌↔◌, None, IfOk, IfSome, IsSome};
 ghost use Rattle.insn.specs.Layout.{size};
 ghost use Rattle.flow.specs.Structure.{HasGoodSize};
 ghost use Rattle.maps.specs.Shapes.{AreShapesOk};
 ghost use Rattle.verifier.specs.Signature.{signature, IsSignatureOk};
 ghost use Rattle.verifier.specs.Known.{AreKnown};
+ghost use Rattle.verifier.specs.Rules.{first_broken};
+ghost use Rattle.verifier.specs.FrameAfter.{frame_after};
 ghost use Rattle.verifier.specs.Verdict.{lowest_refusal, verdict};
 
+use crate::context::Context;
+use crate::frames_after::advance;
 use crate::refusal::{Mode, Refused};
+use crate::rules::broken_rule;
 use crate::signature::Signature;
 use crate::verification::{check_structure, sweep};
 use flow::good_size;
-use insn::Insn;
+use insn::{Edge, Insn};
 use maps::{MAX_ARG_LEN, Shape};
 use regkind::Frame;
 use std::alloc::{AllocError, Global};
@@ -82,6 +87,35 @@ fn explain_kinds(alloc: Global, program: &[Insn], l: &Signature) -> Result<Expla
                 refused: kinds,
                 kinds,
             })
+        }
+    }
+}
+
+/// What goes along an edge of an instruction, of the frame before it. Nothing does where it breaks a rule of kinds there.
+pub fn frame_on_edge(
+    insn: &Insn,
+    before: &Frame,
+    shapes: &[Shape],
+    arg_len: usize,
+    mode: Mode,
+    edge: Edge,
+) -> Option<Frame>
+    requires shapes { AreShapesOk shapes.now }
+    requires argument { arg_len ≤ MAX_ARG_LEN }
+    ensures along { IfSome result (λ f. f ≡ frame_after insn.now before.now edge) }
+    ensures goes { IsSome result ↔ (first_broken (signature shapes.now arg_len mode) insn.now before.now ≡ None) }
+{
+    let l = Signature::new(shapes, arg_len, mode);
+    let on = Context {
+        signature: &l,
+        frame: before,
+    };
+    match broken_rule(&on, insn.form()) {
+        Some(_) => None,
+        None => {
+            let mut after = *before;
+            advance(&mut after, &l, insn.form(), edge);
+            Some(after)
         }
     }
 }

@@ -19,7 +19,7 @@ mod verification;
 mod visiting;
 
 pub use accepted::Accepted;
-pub use explaining::{Explained, explain};
+pub use explaining::{Explained, explain, frame_on_edge};
 pub use laws::{
     no_refusal_where_typable, refusal_is_first_broken, refused_is_untypable,
     structure_keeps_its_numbers,

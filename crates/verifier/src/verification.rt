@@ -12,7 +12,7 @@ ghost use Rattle.verifier.specs.Accepted.{checked};
 ghost use Rattle.verifier.specs.Signature.{Signature, signature, IsSignatureOk};
 ghost use Rattle.verifier.specs.Typing.{IsTypable, Refuses, RefusedByStructure, RefusedByKinds, structure_reason, IsNoMemory, IfRefused};
 ghost use Rattle.verifier.specs.Pass.{IsTypedBy};
-ghost use Rattle.verifier.specs.Verdict.{lowest_refusal, verdict};
+ghost use Rattle.verifier.specs.Verdict.{lowest_refusal, verdict, IsVerdict, IsVerdictOrNoMemory};
 ghost use Rattle.verifier.specs.Known.{AreKnown};
 
 use crate::accepted::Accepted;
@@ -49,9 +49,7 @@ pub fn verify(
     // A refusal names the first rule that is broken.
     ensures refused { IfErr result (IfRefused (Refuses program.items (signature shapes.now arg_len mode))) }
     // The answer is the computed verdict.
-    ensures reading { MatchResult result
-        (λ _. verdict program.items (signature shapes.now arg_len mode) ≡ None)
-        (IfRefused (λ e. verdict program.items (signature shapes.now arg_len mode) ≡ Some e)) }
+    ensures reading { IsVerdictOrNoMemory (verdict program.items (signature shapes.now arg_len mode)) result }
 {
     let l = Signature::new(shapes, arg_len, mode);
     check_structure(&program)?;
@@ -78,9 +76,7 @@ pub fn verify_into(
     ensures same { OnErr result (room.new ≡ room.old) }
     ensures typable { OnOk result (IsTypable program.now (signature shapes.now arg_len mode)) }
     ensures refused { IfErr result (Refuses program.now (signature shapes.now arg_len mode)) }
-    ensures reading { MatchResult result
-        (λ _. verdict program.now (signature shapes.now arg_len mode) ≡ None)
-        (λ e. verdict program.now (signature shapes.now arg_len mode) ≡ Some e) }
+    ensures reading { IsVerdict (verdict program.now (signature shapes.now arg_len mode)) result }
 {
     let l = Signature::new(shapes, arg_len, mode);
     check_structure(program)?;

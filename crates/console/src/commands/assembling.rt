@@ -48,12 +48,11 @@ pub fn asm_reply<R: Source>(alloc: Global, source: &mut R) -> Result<Reply, Inpu
 /// nothing is written.
 pub fn assemble<R: Source, W: Sink>(alloc: Global, source: &mut R, writer: &mut W) -> Status
     // Where the reader tells its bytes, those are assembled.
-    ensures written { IfSome (R.remaining source.old) (λ s.
-        Reports (W.contents writer.old) (W.contents writer.new) result (asm_answer s)) }
+    ensures written { IfSome (R.remaining source.old) (λ s. Reports W.contents writer.old writer.new result (asm_answer s)) }
     // It says that a read or a write failed only after one did.
     ensures failed { Failed result (R.has_failed source.new) (W.has_failed writer.new) }
     // Whatever it gives, or where it fails.
-    ensures ended { ReportsSome IsAsmAnswer (W.contents writer.old) (W.contents writer.new) result }
+    ensures ended { ReportsSome IsAsmAnswer W.contents writer.old writer.new result }
 {
     report(writer, asm_reply(alloc, source))
 }

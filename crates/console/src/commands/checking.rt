@@ -2,9 +2,9 @@
 
 ghost use Rattle.std.specs.Prelude.{◌≡◌, ◌⊎◌, IfOk};
 ghost use Rattle.loader.specs.Loading.{loaded};
-ghost use Rattle.console.specs.Answer.{loaded_answer, check_answer, IsCheckAnswer};
+ghost use Rattle.console.specs.Answer.{loaded_answer, IsCheckAnswer};
 ghost use Rattle.console.specs.Files.{SomeFile};
-ghost use Rattle.console.specs.Inputs.{IfFilesKnown};
+ghost use Rattle.console.specs.Known.{IfCheckKnown};
 ghost use Rattle.console.specs.Report.{answer_of, Failed, Prepares, Reports, ReportsSome};
 ghost use Rattle.console.specs.InputFaults.{IfCannotRead};
 ghost use Rattle.console.specs.Input.{owned_files};
@@ -41,7 +41,7 @@ pub fn check_reply<F: Folder, R: Source>(
     folder: &F,
     manifest: &mut R,
 ) -> Result<Reply, InputFault>
-    ensures known { IfFilesKnown (R.remaining manifest.old) (F.holds folder.now) (λ m h. Prepares result (check_answer m h)) }
+    ensures known { IfCheckKnown (R.remaining manifest.old) (F.holds folder.now) (Prepares result) }
     ensures failed { IfCannotRead result (R.has_failed manifest.new ⊎ SomeFile F.File.has_failed) }
     ensures some { IfOk result (λ r. IsCheckAnswer (answer_of r)) }
 {
@@ -61,12 +61,11 @@ pub fn check<F: Folder, R: Source, W: Sink>(
     writer: &mut W,
 ) -> Status
     // Where the reader and the folder tell their bytes, those are checked.
-    ensures written { IfFilesKnown (R.remaining manifest.old) (F.holds folder.now) (λ m h.
-        Reports (W.contents writer.old) (W.contents writer.new) result (check_answer m h)) }
+    ensures written { IfCheckKnown (R.remaining manifest.old) (F.holds folder.now) (Reports W.contents writer.old writer.new result) }
     // It says that a read or a write failed only after one did.
     ensures failed { Failed result (R.has_failed manifest.new ⊎ SomeFile F.File.has_failed) (W.has_failed writer.new) }
     // Whatever they give, or where they fail.
-    ensures ended { ReportsSome IsCheckAnswer (W.contents writer.old) (W.contents writer.new) result }
+    ensures ended { ReportsSome IsCheckAnswer W.contents writer.old writer.new result }
 {
     report(writer, check_reply(alloc, folder, manifest))
 }

@@ -63,12 +63,11 @@ pub fn dis_reply<R: Source>(alloc: Global, program: &mut R) -> Result<Reply, Inp
 /// written.
 pub fn disassemble<R: Source, W: Sink>(alloc: Global, program: &mut R, writer: &mut W) -> Status
     // Where the reader tells its bytes, those are disassembled.
-    ensures written { IfSome (R.remaining program.old) (λ s.
-        Reports (W.contents writer.old) (W.contents writer.new) result (dis_answer s)) }
+    ensures written { IfSome (R.remaining program.old) (λ s. Reports W.contents writer.old writer.new result (dis_answer s)) }
     // It says that a read or a write failed only after one did.
     ensures failed { Failed result (R.has_failed program.new) (W.has_failed writer.new) }
     // Whatever it gives, or where it fails.
-    ensures ended { ReportsSome IsDisAnswer (W.contents writer.old) (W.contents writer.new) result }
+    ensures ended { ReportsSome IsDisAnswer W.contents writer.old writer.new result }
 {
     report(writer, dis_reply(alloc, program))
 }

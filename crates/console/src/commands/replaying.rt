@@ -3,9 +3,9 @@
 ghost use Rattle.std.specs.Prelude.{◌≡◌, ◌⊎◌, IfOk};
 ghost use Rattle.loader.specs.Loading.{Outcome};
 ghost use Rattle.text.specs.Lines.{lines_of};
-ghost use Rattle.console.specs.ReplayAnswer.{transcript_answer, nothing_replayed, replayed, replay_answer, IsReplayAnswer};
+ghost use Rattle.console.specs.ReplayAnswer.{transcript_answer, nothing_replayed, replayed, IsReplayAnswer};
 ghost use Rattle.console.specs.Files.{SomeFile};
-ghost use Rattle.console.specs.Inputs.{IfTextsKnown};
+ghost use Rattle.console.specs.Known.{IfReplayKnown};
 ghost use Rattle.console.specs.Report.{answer_of, Failed, Prepares, Reports, ReportsSome};
 ghost use Rattle.console.specs.InputFaults.{IfCannotRead};
 ghost use Rattle.console.specs.Loaded.{LoadedIs};
@@ -63,8 +63,7 @@ pub fn replay_reply<F: Folder, R: Source, S: Source>(
     manifest: &mut R,
     transcript: &mut S,
 ) -> Result<Reply, InputFault>
-    ensures known { IfTextsKnown (R.remaining manifest.old) (F.holds folder.now) (S.remaining transcript.old) (λ m h s.
-        Prepares result (replay_answer m h s)) }
+    ensures known { IfReplayKnown (R.remaining manifest.old) (F.holds folder.now) (S.remaining transcript.old) (Prepares result) }
     ensures failed { IfCannotRead result (R.has_failed manifest.new ⊎ SomeFile F.File.has_failed ⊎ S.has_failed transcript.new) }
     ensures some { IfOk result (λ r. IsReplayAnswer (answer_of r)) }
 {
@@ -88,12 +87,11 @@ pub fn replay<F: Folder, R: Source, S: Source, W: Sink>(
     writer: &mut W,
 ) -> Status
     // Where the readers and the folder tell their bytes, those are replayed.
-    ensures written { IfTextsKnown (R.remaining manifest.old) (F.holds folder.now) (S.remaining transcript.old) (λ m h s.
-        Reports (W.contents writer.old) (W.contents writer.new) result (replay_answer m h s)) }
+    ensures written { IfReplayKnown (R.remaining manifest.old) (F.holds folder.now) (S.remaining transcript.old) (Reports W.contents writer.old writer.new result) }
     // It says that a read or a write failed only after one did.
     ensures failed { Failed result (R.has_failed manifest.new ⊎ SomeFile F.File.has_failed ⊎ S.has_failed transcript.new) (W.has_failed writer.new) }
     // Whatever they give, or where they fail.
-    ensures ended { ReportsSome IsReplayAnswer (W.contents writer.old) (W.contents writer.new) result }
+    ensures ended { ReportsSome IsReplayAnswer W.contents writer.old writer.new result }
 {
     report(writer, replay_reply(alloc, folder, manifest, transcript))
 }

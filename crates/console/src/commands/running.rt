@@ -2,13 +2,13 @@
 
 ghost use Rattle.std.specs.Prelude.{◌≡◌, ◌⊎◌, [], IfOk};
 ghost use Rattle.loader.specs.Loading.{Outcome};
-ghost use Rattle.console.specs.RunAnswer.{behind, script_answer, ran, run_answer, IsRunAnswer};
+ghost use Rattle.console.specs.RunAnswer.{script_answer, ran, IsRunAnswer};
 ghost use Rattle.console.specs.Files.{SomeFile};
-ghost use Rattle.console.specs.Inputs.{IfTextsKnown};
+ghost use Rattle.console.specs.Known.{IfRunKnown};
 ghost use Rattle.console.specs.Report.{answer_of, Failed, Prepares, Reports, ReportsSome};
 ghost use Rattle.console.specs.InputFaults.{IfCannotRead};
 ghost use Rattle.console.specs.Loaded.{LoadedIs};
-ghost use Rattle.console.specs.Running.{IsSteady, Follows};
+ghost use Rattle.console.specs.Running.{IsSteady, Follows, AnswersBehind};
 
 use crate::calls::take_line;
 use crate::catalogues::Loaded;
@@ -33,7 +33,7 @@ fn take_lines(
 ) -> Result<Verdict, AllocError>
     requires steady { IsSteady catalogue.now node.old }
     requires nothing { Follows catalogue.now [] node.old }
-    ensures { IfOk result (λ verdict. record { text = out.new.items; verdict = verdict } ≡ behind out.old.items (script_answer catalogue.now script.now)) }
+    ensures { AnswersBehind out.old.items out.new.items result (script_answer catalogue.now script.now) }
 {
     let mut lines = NumberedLines::new(script);
     while let Some((number, line)) = lines.take_line() {
@@ -73,8 +73,7 @@ pub fn run_reply<F: Folder, R: Source, S: Source>(
     manifest: &mut R,
     script: &mut S,
 ) -> Result<Reply, InputFault>
-    ensures known { IfTextsKnown (R.remaining manifest.old) (F.holds folder.now) (S.remaining script.old) (λ m h s.
-        Prepares result (run_answer m h s)) }
+    ensures known { IfRunKnown (R.remaining manifest.old) (F.holds folder.now) (S.remaining script.old) (Prepares result) }
     ensures failed { IfCannotRead result (R.has_failed manifest.new ⊎ SomeFile F.File.has_failed ⊎ S.has_failed script.new) }
     ensures some { IfOk result (λ r. IsRunAnswer (answer_of r)) }
 {
@@ -98,12 +97,11 @@ pub fn run<F: Folder, R: Source, S: Source, W: Sink>(
     writer: &mut W,
 ) -> Status
     // Where the readers and the folder tell their bytes, those are run.
-    ensures written { IfTextsKnown (R.remaining manifest.old) (F.holds folder.now) (S.remaining script.old) (λ m h s.
-        Reports (W.contents writer.old) (W.contents writer.new) result (run_answer m h s)) }
+    ensures written { IfRunKnown (R.remaining manifest.old) (F.holds folder.now) (S.remaining script.old) (Reports W.contents writer.old writer.new result) }
     // It says that a read or a write failed only after one did.
     ensures failed { Failed result (R.has_failed manifest.new ⊎ SomeFile F.File.has_failed ⊎ S.has_failed script.new) (W.has_failed writer.new) }
     // Whatever they give, or where they fail.
-    ensures ended { ReportsSome IsRunAnswer (W.contents writer.old) (W.contents writer.new) result }
+    ensures ended { ReportsSome IsRunAnswer W.contents writer.old writer.new result }
 {
     report(writer, run_reply(alloc, folder, manifest, script))
 }

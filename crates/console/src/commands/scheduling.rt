@@ -3,13 +3,13 @@
 ghost use Rattle.std.specs.Prelude.{◌≡◌, ◌⊎◌, length, IfOk};
 ghost use Rattle.loader.specs.Loading.{Outcome};
 ghost use Rattle.text.specs.Lines.{lines_of};
-ghost use Rattle.console.specs.ScheduleAnswer.{sizes_refused, steps_answer, catalogue_answer, scheduled, schedule_answer, IsScheduleAnswer};
+ghost use Rattle.console.specs.ScheduleAnswer.{sizes_refused, steps_answer, catalogue_answer, scheduled, IsScheduleAnswer};
 ghost use Rattle.console.specs.Files.{SomeFile};
-ghost use Rattle.console.specs.Inputs.{IfTextsKnown};
+ghost use Rattle.console.specs.Known.{IfScheduleKnown};
 ghost use Rattle.console.specs.Report.{answer_of, Failed, Prepares, Reports, ReportsSome};
 ghost use Rattle.console.specs.InputFaults.{IfCannotRead};
 ghost use Rattle.console.specs.Loaded.{LoadedIs};
-ghost use Rattle.console.specs.RunAnswer.{behind};
+ghost use Rattle.console.specs.Running.{AnswersBehind};
 
 use crate::catalogues::Loaded;
 use crate::folder::Folder;
@@ -46,8 +46,7 @@ fn take_lines(
     out: &mut Vec<u8>,
 ) -> Result<Verdict, AllocError>
     requires { length world.old.world.nodes ≡ nodes }
-    ensures { IfOk result (λ verdict. record { text = out.new.items; verdict = verdict }
-        ≡ behind out.old.items (steps_answer world.old.opening 1 world.old.world (lines_of steps.now))) }
+    ensures { AnswersBehind out.old.items out.new.items result (steps_answer world.old.opening 1 world.old.world (lines_of steps.now)) }
 {
     let mut lines = NumberedLines::new(steps);
     while let Some((number, line)) = lines.take_line() {
@@ -113,8 +112,7 @@ pub fn schedule_reply<F: Folder, R: Source, S: Source>(
     manifest: &mut R,
     steps: &mut S,
 ) -> Result<Reply, InputFault>
-    ensures known { IfTextsKnown (R.remaining manifest.old) (F.holds setup.entry.folder.now) (S.remaining steps.old) (λ m h s.
-        Prepares result (schedule_answer setup.entry.config m h s)) }
+    ensures known { IfScheduleKnown F.holds setup.entry (R.remaining manifest.old) (S.remaining steps.old) (Prepares result) }
     ensures failed { IfCannotRead result (R.has_failed manifest.new ⊎ SomeFile F.File.has_failed ⊎ S.has_failed steps.new) }
     ensures some { IfOk result (λ r. IsScheduleAnswer setup.entry.config (answer_of r)) }
 {
@@ -136,12 +134,11 @@ pub fn schedule<F: Folder, R: Source, S: Source, W: Sink>(
     writer: &mut W,
 ) -> Status
     // Where the readers and the folder tell their bytes, those steps are taken.
-    ensures written { IfTextsKnown (R.remaining manifest.old) (F.holds setup.entry.folder.now) (S.remaining steps.old) (λ m h s.
-        Reports (W.contents writer.old) (W.contents writer.new) result (schedule_answer setup.entry.config m h s)) }
+    ensures written { IfScheduleKnown F.holds setup.entry (R.remaining manifest.old) (S.remaining steps.old) (Reports W.contents writer.old writer.new result) }
     // It says that a read or a write failed only after one did.
     ensures failed { Failed result (R.has_failed manifest.new ⊎ SomeFile F.File.has_failed ⊎ S.has_failed steps.new) (W.has_failed writer.new) }
     // Whatever they give, or where they fail.
-    ensures ended { ReportsSome (IsScheduleAnswer setup.entry.config) (W.contents writer.old) (W.contents writer.new) result }
+    ensures ended { ReportsSome (IsScheduleAnswer setup.entry.config) W.contents writer.old writer.new result }
 {
     report(writer, schedule_reply(alloc, setup, manifest, steps))
 }

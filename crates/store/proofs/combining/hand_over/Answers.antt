@@ -13,7 +13,7 @@ use Rattle.store.proofs.combining.hand_over.Goals as goal
 pub take-held-requires-clause-may : goal.take-held-requires-clause-may
 take-held-requires-clause-may g c =
     let i = c.requires.ready in
-    (i.0, i.1, may_take_its_desk i.0 c.args.caller (1 + c.args.shared.nodes + c.args.caller.node) i.2 (ap (λ n. 1 + n + c.args.caller.node) (sym i.4.nodes_are)))
+    (i.0, i.1, may_take_its_desk i.0 c.args.caller (1 + c.args.shared.nodes + c.args.caller.node) i.2.0 (ap (λ n. 1 + n + c.args.caller.node) (sym i.2.2.nodes_are)))
 
 pub desk_mut-requires : goal.desk_mut-requires
 desk_mut-requires g c =
@@ -21,7 +21,7 @@ desk_mut-requires g c =
     let v = c.take-held.result.value in
     let place = 1 + c.args.shared.nodes + c.args.caller.node in
     let t = c.take-held.ensures.taken i.0 i.1 in
-    let b = took_desk i.0 t.0 c.args.caller place v i.2 (ap (λ n. 1 + n + c.args.caller.node) (sym i.4.nodes_are)) t.1 in
+    let b = took_desk i.0 t.0 c.args.caller place v i.2.0 (ap (λ n. 1 + n + c.args.caller.node) (sym i.2.2.nodes_are)) t.1 in
     record { desk = is_desk c.args.caller i.0 t.0 place v b }
 
 pub reply-requires : goal.reply-requires
@@ -30,8 +30,8 @@ reply-requires g c =
     let v = c.take-held.result.value in
     let place = 1 + c.args.shared.nodes + c.args.caller.node in
     let t = c.take-held.ensures.taken i.0 i.1 in
-    let b = took_desk i.0 t.0 c.args.caller place v i.2 (ap (λ n. 1 + n + c.args.caller.node) (sym i.4.nodes_are)) t.1 in
-    record { own = (t.0, c.args.caller.slot, is_at c.args.caller i.0 t.0 place v b c.desk_mut.result.now c.desk_mut.ensures.desk, ready_on i.0 t.0 c.args.batch.now c.args.replies.now b.here.notes b.note b.extends i.5 b.here.accounts i.3) }
+    let b = took_desk i.0 t.0 c.args.caller place v i.2.0 (ap (λ n. 1 + n + c.args.caller.node) (sym i.2.2.nodes_are)) t.1 in
+    record { own = (t.0, c.args.caller.slot, is_at c.args.caller i.0 t.0 place v b c.desk_mut.result.now c.desk_mut.ensures.desk, ready_on i.0 t.0 c.args.batch.now c.args.replies.now b.here.notes b.note b.extends i.2.3 b.here.accounts i.2.1) }
 
 pub put-requires-clause-may : goal.put-requires-clause-may
 put-requires-clause-may g c =
@@ -41,8 +41,8 @@ put-requires-clause-may g c =
     let y = c.reply.new.desk in
     let place = 1 + c.args.shared.nodes + c.args.caller.node in
     let t = c.take-held.ensures.taken i.0 i.1 in
-    let b = took_desk i.0 t.0 c.args.caller place v i.2 (ap (λ n. 1 + n + c.args.caller.node) (sym i.4.nodes_are)) t.1 in
-    let ready = ready_on i.0 t.0 c.args.batch.now c.args.replies.now b.here.notes b.note b.extends i.5 b.here.accounts i.3 in
+    let b = took_desk i.0 t.0 c.args.caller place v i.2.0 (ap (λ n. 1 + n + c.args.caller.node) (sym i.2.2.nodes_are)) t.1 in
+    let ready = ready_on i.0 t.0 c.args.batch.now c.args.replies.now b.here.notes b.note b.extends i.2.3 b.here.accounts i.2.1 in
     let same = same_desk c.args.caller i.0 t.0 place v b x c.desk_mut.ensures.desk in
     let puts = puts_replied c.args.caller i.0 t.0 place v c.args.batch.now c.args.replies.now b ready c.reply.new.batch x y same c.reply.ensures.answered c.reply.ensures.replied (with_desk v y) (desk_put v x y c.desk_mut.ensures.desk) c.take-held.new.seat.sessions t.2 _ c.take-held.ensures.same.1 in
     (t.0, t.2, puts.may)
@@ -51,33 +51,33 @@ pub returns-clause-combined : goal.returns-clause-combined
 returns-clause-combined g c k is =
     let i = c.requires.ready in
     let e = one_known c.args.seat.now i.0 k i.1 is in
-    let free = subst (λ z. IsFree c.args.caller z) e i.2 in
-    let on = subst (λ z. IsOnShelf c.args.shared.shelf.now.places c.args.shared.nodes c.args.shared.catalogue.now z) e i.4 in
+    let free = subst (λ z. IsFree c.args.caller z) e i.2.0 in
+    let on = subst (λ z. IsOnShelf c.args.shared.shelf.now.places c.args.shared.nodes c.args.shared.catalogue.now z) e i.2.2 in
     let v = c.take-held.result.value in
     let x = c.desk_mut.result.now in
     let y = c.reply.new.desk in
     let place = 1 + c.args.shared.nodes + c.args.caller.node in
     let t = c.take-held.ensures.taken k is in
     let b = took_desk k t.0 c.args.caller place v free (ap (λ n. 1 + n + c.args.caller.node) (sym on.nodes_are)) t.1 in
-    let ready = ready_on k t.0 c.args.batch.now c.args.replies.now b.here.notes b.note b.extends (subst (λ z. Stands z) e i.5) b.here.accounts (subst (λ z. IsReady z c.args.batch.now c.args.replies.now) e i.3) in
+    let ready = ready_on k t.0 c.args.batch.now c.args.replies.now b.here.notes b.note b.extends (subst (λ z. Stands z) e i.2.3) b.here.accounts (subst (λ z. IsReady z c.args.batch.now c.args.replies.now) e i.2.1) in
     let same = same_desk c.args.caller k t.0 place v b x c.desk_mut.ensures.desk in
     let puts = puts_replied c.args.caller k t.0 place v c.args.batch.now c.args.replies.now b ready c.reply.new.batch x y same c.reply.ensures.answered c.reply.ensures.replied (with_desk v y) (desk_put v x y c.desk_mut.ensures.desk) c.take-held.new.seat.sessions t.2 c.take-held.result.place c.take-held.ensures.same.1 in
     let p = c.put.ensures.put t.0 t.2 in
     (_, p.2, handed k t.0 _ b.note (puts.back p.0 p.1.0 p.1.1))
 
 pub returns-clause-handed : goal.returns-clause-handed
-returns-clause-handed g c k after log node is now log_is agrees =
+returns-clause-handed g c k after is now log node log_is agrees =
     let i = c.requires.ready in
     let e = one_known c.args.seat.now i.0 k i.1 is in
-    let free = subst (λ z. IsFree c.args.caller z) e i.2 in
-    let on = subst (λ z. IsOnShelf c.args.shared.shelf.now.places c.args.shared.nodes c.args.shared.catalogue.now z) e i.4 in
+    let free = subst (λ z. IsFree c.args.caller z) e i.2.0 in
+    let on = subst (λ z. IsOnShelf c.args.shared.shelf.now.places c.args.shared.nodes c.args.shared.catalogue.now z) e i.2.2 in
     let v = c.take-held.result.value in
     let x = c.desk_mut.result.now in
     let y = c.reply.new.desk in
     let place = 1 + c.args.shared.nodes + c.args.caller.node in
     let t = c.take-held.ensures.taken k is in
     let b = took_desk k t.0 c.args.caller place v free (ap (λ n. 1 + n + c.args.caller.node) (sym on.nodes_are)) t.1 in
-    let ready = ready_on k t.0 c.args.batch.now c.args.replies.now b.here.notes b.note b.extends (subst (λ z. Stands z) e i.5) b.here.accounts (subst (λ z. IsReady z c.args.batch.now c.args.replies.now) e i.3) in
+    let ready = ready_on k t.0 c.args.batch.now c.args.replies.now b.here.notes b.note b.extends (subst (λ z. Stands z) e i.2.3) b.here.accounts (subst (λ z. IsReady z c.args.batch.now c.args.replies.now) e i.2.1) in
     let same = same_desk c.args.caller k t.0 place v b x c.desk_mut.ensures.desk in
     let puts = puts_replied c.args.caller k t.0 place v c.args.batch.now c.args.replies.now b ready c.reply.new.batch x y same c.reply.ensures.answered c.reply.ensures.replied (with_desk v y) (desk_put v x y c.desk_mut.ensures.desk) c.take-held.new.seat.sessions t.2 c.take-held.result.place c.take-held.ensures.same.1 in
     let p = c.put.ensures.put t.0 t.2 in

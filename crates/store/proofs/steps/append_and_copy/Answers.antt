@@ -12,15 +12,15 @@ use Rattle.store.proofs.steps.append_and_copy.Goals as goal
 pub take-held-requires-clause-may : goal.take-held-requires-clause-may
 take-held-requires-clause-may g c =
     let i = c.requires.holds in
-    (i.0, i.2, may_take_log i.0 i.1 i.3)
+    (i.0, i.1, may_take_log i.0 i.2.0.value i.2.0.holds)
 
 pub log_mut-log-requires : goal.log_mut-log-requires
 log_mut-log-requires g c =
     let i = c.requires.holds in
     let n = c.args.node.now in
     let x = c.take-held.result.value in
-    let t = c.take-held.ensures.taken i.0 i.2 in
-    let b = took_log i.0 t.0 n x (follows_agreed i.0.progress n (well_formed i.0.progress i.5.notes i.5.accounts) i.4) t.1 in
+    let t = c.take-held.ensures.taken i.0 i.1 in
+    let b = took_log i.0 t.0 n x (follows_agreed i.0.progress n (well_formed i.0.progress i.2.0.stands.notes i.2.0.stands.accounts) i.2.0.agrees) t.1 in
     record { log = b.some }
 
 pub make_room-requires-clause-holds : goal.make_room-requires-clause-holds
@@ -28,21 +28,21 @@ make_room-requires-clause-holds g c =
     let i = c.requires.holds in
     let n = c.args.node.now in
     let x = c.take-held.result.value in
-    let t = c.take-held.ensures.taken i.0 i.2 in
-    let b = took_log i.0 t.0 n x (follows_agreed i.0.progress n (well_formed i.0.progress i.5.notes i.5.accounts) i.4) t.1 in
-    (t.0, t.2, holds_log i.0 t.0 n x b, b.log c.log_mut-log.result.now c.log_mut-log.ensures.log, b.follows, b.well, sym b.extends.catalogue ∙ i.7)
+    let t = c.take-held.ensures.taken i.0 i.1 in
+    let b = took_log i.0 t.0 n x (follows_agreed i.0.progress n (well_formed i.0.progress i.2.0.stands.notes i.2.0.stands.accounts) i.2.0.agrees) t.1 in
+    (t.0, t.2, record { holds = holds_log i.0 t.0 n x b; log = b.log c.log_mut-log.result.now c.log_mut-log.ensures.log; follows = b.follows; well = b.well; catalogue = sym b.extends.catalogue ∙ i.2.0.catalogue })
 
 pub append-replies-requires-clause-may : goal.append-replies-requires-clause-may
 append-replies-requires-clause-may g c =
     let i = c.requires.holds in
-    let t = c.take-held.ensures.taken i.0 i.2 in
+    let t = c.take-held.ensures.taken i.0 i.1 in
     let m = c.make_room.ensures.room t.0 t.2 in
     may t.0 m.0 c.log_mut-log.result.now c.make_room.new.log c.make_room.new.node c.args.records.now m.2
 
 pub append-replies-requires-clause-fits : goal.append-replies-requires-clause-fits
 append-replies-requires-clause-fits g c =
     let i = c.requires.holds in
-    let t = c.take-held.ensures.taken i.0 i.2 in
+    let t = c.take-held.ensures.taken i.0 i.1 in
     let m = c.make_room.ensures.room t.0 t.2 in
     fits m.0.progress c.make_room.new.log c.make_room.new.node m.2.log m.2.follows
 
@@ -51,13 +51,13 @@ put-requires-clause-may g c =
     let i = c.requires.holds in
     let n = c.args.node.now in
     let x = c.take-held.result.value in
-    let t = c.take-held.ensures.taken i.0 i.2 in
-    let b = took_log i.0 t.0 n x (follows_agreed i.0.progress n (well_formed i.0.progress i.5.notes i.5.accounts) i.4) t.1 in
+    let t = c.take-held.ensures.taken i.0 i.1 in
+    let b = took_log i.0 t.0 n x (follows_agreed i.0.progress n (well_formed i.0.progress i.2.0.stands.notes i.2.0.stands.accounts) i.2.0.agrees) t.1 in
     let m = c.make_room.ensures.room t.0 t.2 in
     let a = c.append-replies.ensures in (
       m.0,
       m.1,
-      put_appended i.0 t.0 m.0 n c.log_mut-log.result.now c.make_room.new.log c.make_room.new.node c.append-replies.new.node c.args.records.now c.append-replies.result i.6 c.make_room.new.seat.sessions m.1 x c.log_mut-log.ensures.log b m.2 c.append-replies.new.log
+      put_appended i.0 t.0 m.0 n c.log_mut-log.result.now c.make_room.new.log c.make_room.new.node c.append-replies.new.node c.args.records.now c.append-replies.result i.2.1 c.make_room.new.seat.sessions m.1 x c.log_mut-log.ensures.log b m.2 c.append-replies.new.log
           (a.log, a.node, a.replies, a.within) _ c.take-held.ensures.same.1,
     )
 
@@ -66,10 +66,10 @@ returns-clause-appended g c k is =
     let i = c.requires.holds in
     let n = c.args.node.now in
     let x = c.take-held.result.value in
-    let e = one_known c.args.seat.now i.0 k i.2 is in
-    let agrees = subst (λ z. Agrees z.progress n) e i.4 in
-    let stands = subst (λ z. Stands z) e i.5 in
-    let noted = subst (λ z. z.note.batch ≡ unplaced c.args.records.now) e i.6 in
+    let e = one_known c.args.seat.now i.0 k i.1 is in
+    let agrees = subst (λ z. Agrees z.progress n) e i.2.0.agrees in
+    let stands = subst (λ z. Stands z) e i.2.0.stands in
+    let noted = subst (λ z. z.note.batch ≡ unplaced c.args.records.now) e i.2.1 in
     let t = c.take-held.ensures.taken k is in
     let b = took_log k t.0 n x (follows_agreed k.progress n (well_formed k.progress stands.notes stands.accounts) agrees) t.1 in
     let m = c.make_room.ensures.room t.0 t.2 in
@@ -82,15 +82,15 @@ returns-clause-appended g c k is =
     )
 
 pub returns-clause-goes : goal.returns-clause-goes
-returns-clause-goes g c k after batch is now same =
+returns-clause-goes g c k after is now batch same =
     let i = c.requires.holds in
     let n = c.args.node.now in
     let x = c.take-held.result.value in
     let h = c.log_mut-log.result.now in
-    let e = one_known c.args.seat.now i.0 k i.2 is in
-    let agrees = subst (λ z. Agrees z.progress n) e i.4 in
-    let stands = subst (λ z. Stands z) e i.5 in
-    let noted = subst (λ z. z.note.batch ≡ unplaced c.args.records.now) e i.6 in
+    let e = one_known c.args.seat.now i.0 k i.1 is in
+    let agrees = subst (λ z. Agrees z.progress n) e i.2.0.agrees in
+    let stands = subst (λ z. Stands z) e i.2.0.stands in
+    let noted = subst (λ z. z.note.batch ≡ unplaced c.args.records.now) e i.2.1 in
     let t = c.take-held.ensures.taken k is in
     let b = took_log k t.0 n x (follows_agreed k.progress n (well_formed k.progress stands.notes stands.accounts) agrees) t.1 in
     let m = c.make_room.ensures.room t.0 t.2 in

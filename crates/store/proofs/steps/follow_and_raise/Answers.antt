@@ -15,15 +15,15 @@ use Rattle.store.proofs.steps.follow_and_raise.Goals as goal
 pub take-held-requires-clause-may : goal.take-held-requires-clause-may
 take-held-requires-clause-may g c =
     let i = c.requires.holds in
-    (i.0, i.2, may_take_log i.0 i.1 i.3)
+    (i.0, i.1, may_take_log i.0 i.2.value i.2.holds)
 
 pub log-log-requires : goal.log-log-requires
 log-log-requires g c =
     let i = c.requires.holds in
     let n = c.args.node.now in
     let x = c.take-held.result.value in
-    let t = c.take-held.ensures.taken i.0 i.2 in
-    let b = took_log i.0 t.0 n x (follows_agreed i.0.progress n (well_formed i.0.progress i.5.notes i.5.accounts) i.4) t.1 in
+    let t = c.take-held.ensures.taken i.0 i.1 in
+    let b = took_log i.0 t.0 n x (follows_agreed i.0.progress n (well_formed i.0.progress i.2.stands.notes i.2.stands.accounts) i.2.agrees) t.1 in
     record { log = b.some }
 
 pub rebase_if_behind-requires : goal.rebase_if_behind-requires
@@ -31,8 +31,8 @@ rebase_if_behind-requires g c =
     let i = c.requires.holds in
     let n = c.args.node.now in
     let x = c.take-held.result.value in
-    let t = c.take-held.ensures.taken i.0 i.2 in
-    let b = took_log i.0 t.0 n x (follows_agreed i.0.progress n (well_formed i.0.progress i.5.notes i.5.accounts) i.4) t.1 in
+    let t = c.take-held.ensures.taken i.0 i.1 in
+    let b = took_log i.0 t.0 n x (follows_agreed i.0.progress n (well_formed i.0.progress i.2.stands.notes i.2.stands.accounts) i.2.agrees) t.1 in
     let is = b.log c.log-log.result.now c.log-log.ensures.log in
     record { shapes = is.sizes.2 ∙ sym b.follows.shapes }
 
@@ -42,8 +42,8 @@ follow-requires-clause-above g c =
     let n = c.args.node.now in
     let x = c.take-held.result.value in
     let h = c.log-log.result.now in
-    let t = c.take-held.ensures.taken i.0 i.2 in
-    let b = took_log i.0 t.0 n x (follows_agreed i.0.progress n (well_formed i.0.progress i.5.notes i.5.accounts) i.4) t.1 in
+    let t = c.take-held.ensures.taken i.0 i.1 in
+    let b = took_log i.0 t.0 n x (follows_agreed i.0.progress n (well_formed i.0.progress i.2.stands.notes i.2.stands.accounts) i.2.agrees) t.1 in
     let is = b.log h c.log-log.ensures.log in
     let u = kept_up t.0.progress h n is b.follows c.rebase_if_behind.new.node c.rebase_if_behind.ensures.behind c.rebase_if_behind.ensures.above in
     above t.0.progress h c.rebase_if_behind.new.node is u.0 u.1
@@ -54,8 +54,8 @@ follow-requires-clause-fits g c =
     let n = c.args.node.now in
     let x = c.take-held.result.value in
     let h = c.log-log.result.now in
-    let t = c.take-held.ensures.taken i.0 i.2 in
-    let b = took_log i.0 t.0 n x (follows_agreed i.0.progress n (well_formed i.0.progress i.5.notes i.5.accounts) i.4) t.1 in
+    let t = c.take-held.ensures.taken i.0 i.1 in
+    let b = took_log i.0 t.0 n x (follows_agreed i.0.progress n (well_formed i.0.progress i.2.stands.notes i.2.stands.accounts) i.2.agrees) t.1 in
     let is = b.log h c.log-log.ensures.log in
     let u = kept_up t.0.progress h n is b.follows c.rebase_if_behind.new.node c.rebase_if_behind.ensures.behind c.rebase_if_behind.ensures.above in
     fits t.0.progress h c.rebase_if_behind.new.node is u.0
@@ -66,11 +66,11 @@ follow-requires-clause-shapes g c =
     let n = c.args.node.now in
     let x = c.take-held.result.value in
     let h = c.log-log.result.now in
-    let t = c.take-held.ensures.taken i.0 i.2 in
-    let b = took_log i.0 t.0 n x (follows_agreed i.0.progress n (well_formed i.0.progress i.5.notes i.5.accounts) i.4) t.1 in
+    let t = c.take-held.ensures.taken i.0 i.1 in
+    let b = took_log i.0 t.0 n x (follows_agreed i.0.progress n (well_formed i.0.progress i.2.stands.notes i.2.stands.accounts) i.2.agrees) t.1 in
     let is = b.log h c.log-log.ensures.log in
     let u = kept_up t.0.progress h n is b.follows c.rebase_if_behind.new.node c.rebase_if_behind.ensures.behind c.rebase_if_behind.ensures.above in
-    u.0.shapes ∙ ap (λ d. d.shapes) (log_catalogue i.0 t.0 n x b c.args.catalogue.now i.6)
+    u.0.shapes ∙ ap (λ d. d.shapes) (log_catalogue i.0 t.0 n x b c.args.catalogue.now i.2.catalogue)
 
 pub follow-requires-clause-updates : goal.follow-requires-clause-updates
 follow-requires-clause-updates g c =
@@ -79,19 +79,19 @@ follow-requires-clause-updates g c =
     let x = c.take-held.result.value in
     let h = c.log-log.result.now in
     let y = c.rebase_if_behind.new.node in
-    let t = c.take-held.ensures.taken i.0 i.2 in
-    let b = took_log i.0 t.0 n x (follows_agreed i.0.progress n (well_formed i.0.progress i.5.notes i.5.accounts) i.4) t.1 in
+    let t = c.take-held.ensures.taken i.0 i.1 in
+    let b = took_log i.0 t.0 n x (follows_agreed i.0.progress n (well_formed i.0.progress i.2.stands.notes i.2.stands.accounts) i.2.agrees) t.1 in
     let is = b.log h c.log-log.ensures.log in
     let u = kept_up t.0.progress h n is b.follows y c.rebase_if_behind.ensures.behind c.rebase_if_behind.ensures.above in
-    subst (λ d. AreUpdates d (records_from h y.replica.tail)) (log_catalogue i.0 t.0 n x b c.args.catalogue.now i.6) (updates t.0.progress h y is u.0 u.1 b.well)
+    subst (λ d. AreUpdates d (records_from h y.replica.tail)) (log_catalogue i.0 t.0 n x b c.args.catalogue.now i.2.catalogue) (updates t.0.progress h y is u.0 u.1 b.well)
 
 pub put-requires-clause-may : goal.put-requires-clause-may
 put-requires-clause-may g c =
     let i = c.requires.holds in
     let n = c.args.node.now in
     let x = c.take-held.result.value in
-    let t = c.take-held.ensures.taken i.0 i.2 in
-    let b = took_log i.0 t.0 n x (follows_agreed i.0.progress n (well_formed i.0.progress i.5.notes i.5.accounts) i.4) t.1 in
+    let t = c.take-held.ensures.taken i.0 i.1 in
+    let b = took_log i.0 t.0 n x (follows_agreed i.0.progress n (well_formed i.0.progress i.2.stands.notes i.2.stands.accounts) i.2.agrees) t.1 in
     (t.0, t.2, same_put i.0 t.0 n x b c.take-held.new.seat.sessions t.2 _ c.take-held.ensures.same.1)
 
 pub raise_to-requires-clause-known : goal.raise_to-requires-clause-known
@@ -101,11 +101,11 @@ raise_to-requires-clause-known g c =
     let x = c.take-held.result.value in
     let h = c.log-log.result.now in
     let y = c.rebase_if_behind.new.node in
-    let t = c.take-held.ensures.taken i.0 i.2 in
-    let b = took_log i.0 t.0 n x (follows_agreed i.0.progress n (well_formed i.0.progress i.5.notes i.5.accounts) i.4) t.1 in
+    let t = c.take-held.ensures.taken i.0 i.1 in
+    let b = took_log i.0 t.0 n x (follows_agreed i.0.progress n (well_formed i.0.progress i.2.stands.notes i.2.stands.accounts) i.2.agrees) t.1 in
     let is = b.log h c.log-log.ensures.log in
     let u = kept_up t.0.progress h n is b.follows y c.rebase_if_behind.ensures.behind c.rebase_if_behind.ensures.above in
-    let same = sym (log_catalogue i.0 t.0 n x b c.args.catalogue.now i.6) in
+    let same = sym (log_catalogue i.0 t.0 n x b c.args.catalogue.now i.2.catalogue) in
     let all = followed_all t.0.progress h y c.follow.new.node is u.0 u.1 (c.follow.ensures.node ∙ ap (λ d. replayed d (copied h y)) same) c.follow.ensures.shapes in
     let p = c.put.ensures.put t.0 t.2 in
     let s = same_back i.0 t.0 n x b c.take-held.new.seat.sessions t.2 _ c.take-held.ensures.same.1 p.0 p.1.0 p.1.1 in
@@ -121,10 +121,10 @@ returns-clause-reached g c k is =
     let h = c.log-log.result.now in
     let y = c.rebase_if_behind.new.node in
     let v = c.follow.new.node in
-    let e = one_known c.args.seat.now i.0 k i.2 is in
-    let stands = subst (λ z. Stands z) e i.5 in
-    let agrees = subst (λ z. Agrees z.progress n) e i.4 in
-    let catalogue = subst (λ z. z.progress.catalogue ≡ c.args.catalogue.now) e i.6 in
+    let e = one_known c.args.seat.now i.0 k i.1 is in
+    let stands = subst (λ z. Stands z) e i.2.stands in
+    let agrees = subst (λ z. Agrees z.progress n) e i.2.agrees in
+    let catalogue = subst (λ z. z.progress.catalogue ≡ c.args.catalogue.now) e i.2.catalogue in
     let t = c.take-held.ensures.taken k is in
     let b = took_log k t.0 n x (follows_agreed k.progress n (well_formed k.progress stands.notes stands.accounts) agrees) t.1 in
     let log_is = b.log h c.log-log.ensures.log in
@@ -145,10 +145,10 @@ returns-clause-goes g c k after is now =
     let h = c.log-log.result.now in
     let y = c.rebase_if_behind.new.node in
     let v = c.follow.new.node in
-    let e = one_known c.args.seat.now i.0 k i.2 is in
-    let stands = subst (λ z. Stands z) e i.5 in
-    let agrees = subst (λ z. Agrees z.progress n) e i.4 in
-    let catalogue = subst (λ z. z.progress.catalogue ≡ c.args.catalogue.now) e i.6 in
+    let e = one_known c.args.seat.now i.0 k i.1 is in
+    let stands = subst (λ z. Stands z) e i.2.stands in
+    let agrees = subst (λ z. Agrees z.progress n) e i.2.agrees in
+    let catalogue = subst (λ z. z.progress.catalogue ≡ c.args.catalogue.now) e i.2.catalogue in
     let t = c.take-held.ensures.taken k is in
     let b = took_log k t.0 n x (follows_agreed k.progress n (well_formed k.progress stands.notes stands.accounts) agrees) t.1 in
     let log_is = b.log h c.log-log.ensures.log in

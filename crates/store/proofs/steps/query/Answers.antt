@@ -2,10 +2,8 @@ use Rattle.std.proofs.Common.{sym, ap, refl, subst, ◌+◌, ◌∙◌, ◌≡�
 use Rattle.ownlock.specs.Seats.{having_read}
 use Rattle.ownlock.proofs.Seats.{one_known}
 use Rattle.store.specs.Standing.{Agrees, IsFree}
-use Rattle.store.specs.Sessions.{RepliesThere}
+use Rattle.store.specs.Sessions.{RepliesThere, op_of}
 use Rattle.store.specs.Whole.{ReadsBy}
-use Rattle.oplog.specs.Operations.{Operation}
-use Rattle.oplog.specs.declared.records.Op.TheVariants.{Run}
 use Rattle.store.proofs.Taken.{free_on, may_take_replica, took_replica}
 use Rattle.store.proofs.Finished.{holds_on, may_put_replica, back, is_read, later_catalogue, far_enough}
 use Rattle.store.proofs.Stretches.{reads_by}
@@ -15,7 +13,7 @@ pub take-held-requires-clause-may : goal.take-held-requires-clause-may
 take-held-requires-clause-may g c =
     let i = c.requires.idle in
     let d = c.done-done.ensures.read i.0 i.1 in
-    (_, d.3, may_take_replica _ c.args.caller (free_on c.args.caller i.0 (having_read i.0 d.0 c.done-done.result) refl i.2.held d.1.1.0.0 i.2))
+    (_, d.3, may_take_replica _ c.args.caller (free_on c.args.caller i.0 (having_read i.0 d.0 c.done-done.result) refl i.2.0.held d.1.1.0.0 i.2.0))
 
 pub replica_mut-node-requires : goal.replica_mut-node-requires
 replica_mut-node-requires g c =
@@ -23,7 +21,7 @@ replica_mut-node-requires g c =
     let w = c.take-held.result.value in
     let d = c.done-done.ensures.read i.0 i.1 in
     let t = c.take-held.ensures.taken _ d.3 in
-    let b = took_replica _ t.0 c.args.caller w (free_on c.args.caller i.0 (having_read i.0 d.0 c.done-done.result) refl i.2.held d.1.1.0.0 i.2) t.1 in
+    let b = took_replica _ t.0 c.args.caller w (free_on c.args.caller i.0 (having_read i.0 d.0 c.done-done.result) refl i.2.0.held d.1.1.0.0 i.2.0) t.1 in
     record { replica = b.holds.replica }
 
 pub reach-requires-clause-holds : goal.reach-requires-clause-holds
@@ -32,10 +30,10 @@ reach-requires-clause-holds g c =
     let w = c.take-held.result.value in
     let d = c.done-done.ensures.read i.0 i.1 in
     let t = c.take-held.ensures.taken _ d.3 in
-    let b = took_replica _ t.0 c.args.caller w (free_on c.args.caller i.0 (having_read i.0 d.0 c.done-done.result) refl i.2.held d.1.1.0.0 i.2) t.1 in
+    let b = took_replica _ t.0 c.args.caller w (free_on c.args.caller i.0 (having_read i.0 d.0 c.done-done.result) refl i.2.0.held d.1.1.0.0 i.2.0) t.1 in
     let same = d.2 in
     let up = b.extends.completed in
-    (t.0, w, t.2, b.holds, b.agrees c.replica_mut-node.result.now c.replica_mut-node.ensures.replica, b.stands, sym b.extends.catalogue ∙ (sym d.1.1.0.0.catalogue ∙ i.3.catalogue_is), omega (arith, same, up))
+    (t.0, t.2, (record { value = w; holds = b.holds; agrees = b.agrees c.replica_mut-node.result.now c.replica_mut-node.ensures.replica; stands = b.stands; catalogue = sym b.extends.catalogue ∙ (sym d.1.1.0.0.catalogue ∙ i.2.1.catalogue_is) }, omega (arith, same, up)))
 
 pub answer_there-answer-requires-clause-shapes : goal.answer_there-answer-requires-clause-shapes
 answer_there-answer-requires-clause-shapes g c =
@@ -43,9 +41,9 @@ answer_there-answer-requires-clause-shapes g c =
     let w = c.take-held.result.value in
     let d = c.done-done.ensures.read i.0 i.1 in
     let t = c.take-held.ensures.taken _ d.3 in
-    let b = took_replica _ t.0 c.args.caller w (free_on c.args.caller i.0 (having_read i.0 d.0 c.done-done.result) refl i.2.held d.1.1.0.0 i.2) t.1 in
+    let b = took_replica _ t.0 c.args.caller w (free_on c.args.caller i.0 (having_read i.0 d.0 c.done-done.result) refl i.2.0.held d.1.1.0.0 i.2.0) t.1 in
     let r = c.reach.ensures.reached t.0 t.2 in
-    let same = later_catalogue (1 + c.args.caller.node) i.0 t.0 r.0 d.0 w c.reach.new.node c.done-done.result c.args.shared.catalogue.now d.1.1.0.0 b r.2 i.3.catalogue_is in
+    let same = later_catalogue (1 + c.args.caller.node) i.0 t.0 r.0 d.0 w c.reach.new.node c.done-done.result c.args.shared.catalogue.now d.1.1.0.0 b r.2 i.2.1.catalogue_is in
     r.2.agrees.1.0 ∙ ap (λ z. z.shapes) same
 
 pub put-requires-clause-may : goal.put-requires-clause-may
@@ -56,7 +54,7 @@ put-requires-clause-may g c =
     let stays = sym c.answer_there-answer.ensures.same in
     let d = c.done-done.ensures.read i.0 i.1 in
     let t = c.take-held.ensures.taken _ d.3 in
-    let b = took_replica _ t.0 c.args.caller w (free_on c.args.caller i.0 (having_read i.0 d.0 c.done-done.result) refl i.2.held d.1.1.0.0 i.2) t.1 in
+    let b = took_replica _ t.0 c.args.caller w (free_on c.args.caller i.0 (having_read i.0 d.0 c.done-done.result) refl i.2.0.held d.1.1.0.0 i.2.0) t.1 in
     let r = c.reach.ensures.reached t.0 t.2 in
     let held = r.2.goes.held ∙ (b.held ∙ ap (λ z. (z, w) ∷ []) (sym c.take-held.ensures.same.1)) in
     (r.0, r.1, may_put_replica r.0 w (holds_on t.0 r.0 w r.2.goes b.holds) c.reach.new.seat.sessions r.1 n (subst (Agrees r.0.progress) stays r.2.agrees) (subst (λ z. z.replica.tail ≤ length r.0.progress.history) stays r.2.within) _ held)
@@ -66,8 +64,8 @@ returns-clause-read g c k is =
     let i = c.requires.idle in
     let w = c.take-held.result.value in
     let e = one_known c.args.seat.now i.0 k i.1 is in
-    let free = subst (λ z. IsFree c.args.caller z) e i.2 in
-    let same = subst (λ z. z.progress.catalogue ≡ c.args.shared.catalogue.now) e i.3.catalogue_is in
+    let free = subst (λ z. IsFree c.args.caller z) e i.2.0 in
+    let same = subst (λ z. z.progress.catalogue ≡ c.args.shared.catalogue.now) e i.2.1.catalogue_is in
     let d = c.done-done.ensures.read k is in
     let t = c.take-held.ensures.taken _ d.3 in
     let b = took_replica _ t.0 c.args.caller w (free_on c.args.caller k (having_read k d.0 c.done-done.result) refl free.held d.1.1.0.0 free) t.1 in
@@ -81,7 +79,7 @@ returns-clause-read g c k is =
     let f = back r.0 w (holds_on t.0 r.0 w r.2.goes b.holds) c.reach.new.seat.sessions r.1 n (subst (Agrees r.0.progress) stays r.2.agrees) (subst (λ z. z.replica.tail ≤ length r.0.progress.history) stays r.2.within) _ held p.0 p.1.0 p.1.1 in (
       _,
       p.2,
-      is_read (1 + c.args.caller.node) k t.0 r.0 _ d.0 w v c.done-done.result (Run (record { program = c.args.question.program; argument = c.args.question.argument.now })) c.args.shared.catalogue.now c.answer_there-answer.result d.1.1.0.0 d.2 b up f
+      is_read (1 + c.args.caller.node) k t.0 r.0 _ d.0 w v c.done-done.result (op_of c.args.question.program c.args.question.argument.now) c.args.shared.catalogue.now c.answer_there-answer.result d.1.1.0.0 d.2 b up f
           (later_catalogue (1 + c.args.caller.node) k t.0 r.0 d.0 w v c.done-done.result c.args.shared.catalogue.now d.1.1.0.0 b up same) c.answer_there-answer.ensures.point c.answer_there-answer.ensures.reply,
     )
 
@@ -90,9 +88,9 @@ returns-clause-goes g c k after is now =
     let i = c.requires.idle in
     let w = c.take-held.result.value in
     let e = one_known c.args.seat.now i.0 k i.1 is in
-    let free = subst (λ z. IsFree c.args.caller z) e i.2 in
-    let same = subst (λ z. z.progress.catalogue ≡ c.args.shared.catalogue.now) e i.3.catalogue_is in
-    let op : Operation = Run (record { program = c.args.question.program; argument = c.args.question.argument.now }) in
+    let free = subst (λ z. IsFree c.args.caller z) e i.2.0 in
+    let same = subst (λ z. z.progress.catalogue ≡ c.args.shared.catalogue.now) e i.2.1.catalogue_is in
+    let op = op_of c.args.question.program c.args.question.argument.now in
     let d = c.done-done.ensures.read k is in
     let t = c.take-held.ensures.taken _ d.3 in
     let b = took_replica _ t.0 c.args.caller w (free_on c.args.caller k (having_read k d.0 c.done-done.result) refl free.held d.1.1.0.0 free) t.1 in

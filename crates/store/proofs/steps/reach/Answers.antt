@@ -7,24 +7,24 @@ use Rattle.store.proofs.Stretches.{follows_none}
 use Rattle.store.proofs.steps.reach.Goals as goal
 
 pub follow_and_raise-requires-clause-holds : goal.follow_and_raise-requires-clause-holds
-follow_and_raise-requires-clause-holds g c = let i = c.requires.holds in (i.0, i.1, i.2, i.3, i.4, i.5, i.6)
+follow_and_raise-requires-clause-holds g c = let i = c.requires.holds in (i.0, i.1, i.2.0)
 
 pub returns-then-ready-clause-reached : goal.returns-then-ready-clause-reached
 returns-then-ready-clause-reached g c k is =
     let i = c.requires.holds in
-    let e = one_known c.args.seat.now i.0 k i.2 is in
+    let e = one_known c.args.seat.now i.0 k i.1 is in
     let far = c.ready.ensures.reached.0 c.if-ready.true in
-    (k, is, is_there k c.args.node.now c.args.done (subst (λ z. Agrees z.progress c.args.node.now) e i.4) (subst (λ z. Stands z) e i.5) (omega (arith, far)))
+    (k, is, is_there k c.args.node.now c.args.done (subst (λ z. Agrees z.progress c.args.node.now) e i.2.0.agrees) (subst (λ z. Stands z) e i.2.0.stands) (omega (arith, far)))
 
 pub returns-clause-reached : goal.returns-clause-reached
 returns-clause-reached g c k is =
     let i = c.requires.holds in
-    let e = one_known c.args.seat.now i.0 k i.2 is in
+    let e = one_known c.args.seat.now i.0 k i.1 is in
     let r = c.follow_and_raise.ensures.reached k is in
-    (r.0, r.1, far_enough k r.0 c.follow_and_raise.new.node c.args.done k.progress.completed (subst (λ z. c.args.done ≤ z.progress.completed) e i.7) r.2)
+    (r.0, r.1, far_enough k r.0 c.follow_and_raise.new.node c.args.done k.progress.completed (subst (λ z. c.args.done ≤ z.progress.completed) e i.2.1) r.2)
 
 pub returns-then-ready-clause-goes : goal.returns-then-ready-clause-goes
 returns-then-ready-clause-goes g c k after is now =
     let i = c.requires.holds in
-    let e = one_known c.args.seat.now i.0 k i.2 is in
-    subst (λ z. FollowsBy k z c.args.node.now c.args.node.now) (one_known c.args.seat.now k after is now) (follows_none k c.args.node.now (subst (λ z. Agrees z.progress c.args.node.now) e i.4) (subst (λ z. Stands z) e i.5))
+    let e = one_known c.args.seat.now i.0 k i.1 is in
+    subst (λ z. FollowsBy k z c.args.node.now c.args.node.now) (one_known c.args.seat.now k after is now) (follows_none k c.args.node.now (subst (λ z. Agrees z.progress c.args.node.now) e i.2.0.agrees) (subst (λ z. Stands z) e i.2.0.stands))

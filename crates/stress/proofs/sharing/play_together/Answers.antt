@@ -1,17 +1,16 @@
 use Rattle.std.proofs.Common.{◌≡◌, ◌<◌, ◌-◌, sym, subst}
-use Rattle.std.specs.Prelude.{IfOk}
 use Rattle.store.specs.Sessions.{IsOf}
-use Rattle.stress.specs.Dealt.{dealt}
-use Rattle.stress.specs.Shown.{calls_told, to_be_told}
-use Rattle.stress.specs.Playing.{IsNew, IsToldPlayer}
+use Rattle.stress.specs.Shown.{TellsCalls}
+use Rattle.stress.specs.Playing.{IsNew, IsToldPlayer, calls_for}
 use Rattle.stress.proofs.sharing.play_together.Goals as goal
 
 pub for_each_mut-requires-clause-accepts : goal.for_each_mut-requires-clause-accepts
 for_each_mut-requires-clause-accepts g c κs within i p below same = (
   subst (λ q. IsNew c.args.ground.now.store.now q.session) (sym same) (c.requires.playing i p.now below),
-  c.requires.ready,
-  subst (λ n. i < n) c.requires.all below,
-  subst (λ q. q.session.session ≡ c.args.ground.now.sessions - 1 - i) (sym same) (c.requires.numbers i p.now below),
+  (
+    c.requires.ready,
+    (subst (λ n. i < n) c.requires.all below, subst (λ q. q.session.session ≡ c.args.ground.now.sessions - 1 - i) (sym same) (c.requires.numbers i p.now below)),
+  ),
 )
 
 pub returns : goal.returns
@@ -21,11 +20,11 @@ returns g c = record {
       subst (λ q. IsOf c.args.ground.now.store.now q.session) did.left did.call.0;
   told = λ k d below.
       let did = (c.for_each_mut.ensures k d (subst (λ n. k < n) c.for_each_mut.auto.s below)).1 in
-      subst (λ q. IfOk q.told (λ v. calls_told v.items ≡ dealt c.args.ground.now.sessions (c.args.ground.now.sessions - 1 - k) (to_be_told c.args.ground.now.calls.now))) did.left did.call.1;
+      subst (λ q. TellsCalls q.told (calls_for c.args.ground.now (c.args.ground.now.sessions - 1 - k))) did.left did.call.1.0;
   known = λ k d below.
       let did = (c.for_each_mut.ensures k d (subst (λ n. k < n) c.for_each_mut.auto.s below)).1 in
-      subst IsToldPlayer did.left did.call.2;
+      subst IsToldPlayer did.left did.call.1.1.0;
   numbers = λ k d below.
       let did = (c.for_each_mut.ensures k d (subst (λ n. k < n) c.for_each_mut.auto.s below)).1 in
-      subst (λ q. q.session.session ≡ c.args.ground.now.sessions - 1 - k) did.left did.call.3;
+      subst (λ q. q.session.session ≡ c.args.ground.now.sessions - 1 - k) did.left did.call.1.1.1;
 }
