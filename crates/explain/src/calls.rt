@@ -158,7 +158,11 @@ impl CallCause {
             ),
             CallCause::ConstantElsewhere { .. } => write!(
                 out,
-                "Put it into a local variable, so that it stands in the stack."
+                "Store it in the stack, and give its address; in C put it into a local variable."
+            ),
+            CallCause::NoAddress { bytes, .. } if bytes > 8 => write!(
+                out,
+                "Store all {bytes} bytes in the stack, and give their address."
             ),
             CallCause::NoAddress { register, .. } => write!(
                 out,
@@ -182,11 +186,11 @@ impl CallCause {
             ),
             CallCause::UnknownHelper { .. } => write!(
                 out,
-                "Call 1, 2 or 3. In C: `static inline` before the functions that the program calls."
+                "Call 1, 2 or 3; what else is wanted, as the time, comes in the argument. In C: `static inline` before the functions that the program calls."
             ),
             CallCause::UnknownMap { .. } => write!(
                 out,
-                "Take one of those, or give the manifest one more map line."
+                "Take one that is there, counted from 0, or give the manifest one more map line."
             ),
         }
     }

@@ -123,11 +123,20 @@ fn put_opcode(out: &mut String, opcode: u8) -> Result<(), AllocError> {
     }
 }
 
+// The offset of a slot.
+fn offset_of(word: [u8; 8]) -> i16 {
+    i16::from_le_bytes([word[2], word[3]])
+}
+
+// The imm of a slot.
+fn imm_of(word: [u8; 8]) -> i32 {
+    i32::from_le_bytes([word[4], word[5], word[6], word[7]])
+}
+
 // Adds what is wrong with the value of a field.
 fn put_value(out: &mut String, word: [u8; 8]) -> Result<(), AllocError> {
     let [opcode, registers, ..] = word;
-    let offset = i16::from_le_bytes([word[2], word[3]]);
-    let imm = i32::from_le_bytes([word[4], word[5], word[6], word[7]]);
+    let (offset, imm) = (offset_of(word), imm_of(word));
     match (opcode, registers >> 4) {
         (0x85, 1) => write!(
             out,
@@ -161,9 +170,8 @@ pub(crate) fn put_no_program(
     match refusal.why {
         DecodeFault::NotWholeSlots => write!(
             out,
-            "{} bytes are {} slots of 8 and {} over. To do: look for a lost digit or a cut line.",
+            "The file has {} bytes, and slots have 8: {} are over. To do: look for a lost byte or a cut line.",
             bytes.len(),
-            bytes.len() / 8,
             bytes.len() % 8
         ),
         DecodeFault::Empty => write!(
@@ -183,15 +191,17 @@ pub(crate) fn put_no_program(
         DecodeFault::UndefinedValue => put_value(out, word),
         DecodeFault::UnusedFieldSet => write!(
             out,
-            "A field that opcode {opcode:02x} doesn't use is not zero: dst {dst}, src {src}, then offset and imm. To do: clear it."
+            "A field that opcode {opcode:02x} doesn't use is not zero: dst {dst}, src {src}, offset {}, imm {}. To do: clear it.",
+            offset_of(word),
+            imm_of(word)
         ),
         DecodeFault::CutOff => write!(
             out,
-            "Opcode 18 takes two slots, and the second is not there. To do: add it."
+            "The file ends within opcode 18, which takes two slots. To do: look for lines that were cut off."
         ),
         DecodeFault::BadSecondHalf => write!(
             out,
-            "In the second slot of opcode 18 something else than next_imm is not zero, or that too where a map is named. To do: clear it."
+            "The slot behind opcode 18 is its second half: all but next_imm is zero there, and that too where a map is named. To do: clear it, or add the second half, if it was lost."
         ),
     }
 }

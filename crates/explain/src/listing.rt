@@ -40,7 +40,9 @@ fn put_sources(out: &mut String, study: &Study<'_>, slot: usize) -> Result<(), A
         write!(out, " and {} more", jumps.len() - NAMED)?;
     }
     if let Some(above) = study.above(slot) {
-        write!(out, "{} {above}", if jumps.is_empty() { "" } else { "," })?;
+        if study.frame_at(above).is_some() {
+            write!(out, "{} {above}", if jumps.is_empty() { "" } else { "," })?;
+        }
     }
     write!(out, ": ")
 }

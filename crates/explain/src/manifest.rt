@@ -141,7 +141,7 @@ impl<'a> Explanation<'a> {
             return Ok(out);
         };
         let Some(bytes) = spaced_hex(alloc, text)? else {
-            let mut out = fault(alloc, number, 2)?;
+            let mut out = file_fault(alloc, number, 2, line)?;
             put_bad_hex(alloc, &mut out, text)?;
             out.push_str("\n")?;
             return Ok(out);
@@ -150,7 +150,9 @@ impl<'a> Explanation<'a> {
             Ok(program) => self.judged(alloc, number, line, &program),
             Err(DecodeError::NoMemory) => Err(AllocError),
             Err(DecodeError::Refused(refusal)) => {
-                let mut out = fault(alloc, number, 3)?;
+                let mut out = file_fault(alloc, number, 3, line)?;
+                writeln!(out, "D{} at slot {}.", refusal.why.number(), refusal.slot)?;
+                out.push_str("      ")?;
                 put_no_program(&mut out, &bytes, refusal)?;
                 out.push_str("\n")?;
                 Ok(out)
@@ -271,6 +273,17 @@ impl<'a> Explanation<'a> {
 // The head of what is said of a line that is refused under this number.
 fn fault(alloc: Global, line: u32, number: u8) -> Result<String, AllocError> {
     format!(in alloc; "\nline {line}: C{number}\n      ")
+}
+
+// The same where it is the program of the line.
+fn file_fault(
+    alloc: Global,
+    number: u32,
+    fault: u8,
+    line: ProgramLine<'_>,
+) -> Result<String, AllocError> {
+    let ProgramLine { name, file, .. } = line;
+    format!(in alloc; "\nline {number}: C{fault}, program {name}, {file}\n      ")
 }
 
 // Adds why there are too many maps, or too large ones.

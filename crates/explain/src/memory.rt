@@ -42,6 +42,8 @@ pub(crate) struct Gap {
     is_pointer: bool,
     // The slot at which another edge brings them.
     parted: Option<usize>,
+    // The slot of the instruction that ended a pointer there.
+    ended: Option<usize>,
 }
 
 // A pointer that may be null.
@@ -98,7 +100,29 @@ fn gap_of(frame: &Frame, access: Access) -> Option<Gap> {
         readable,
         is_pointer: is_of_pointer(frame, first),
         parted: None,
+        ended: None,
     })
+}
+
+// Whether a byte of the stack is a part of a pointer, in a frame if there is one.
+fn has_pointer(frame: Option<&Frame>, byte: usize) -> bool {
+    match frame {
+        Some(frame) => is_of_pointer(frame, byte),
+        None => false,
+    }
+}
+
+// The last instruction of a way that ended a pointer at a byte of the stack.
+fn ended_pointer(study: &Study<'_>, way: &Way, byte: usize) -> Option<usize> {
+    let mut found = None;
+    for step in &way.steps {
+        let had_pointer = has_pointer(study.frame_at(step.from), byte);
+        let after = study.along(*step);
+        if had_pointer && !has_pointer(after.as_ref(), byte) {
+            found = Some(step.from);
+        }
+    }
+    found
 }
 
 // The bytes of the stack that the instruction at a slot wants and that can't be read.
@@ -128,9 +152,10 @@ impl Gap {
     }
 
     // It, on a way.
-    pub(crate) fn on(self, way: &Way) -> MemoryCause {
+    pub(crate) fn on(self, study: &Study<'_>, way: &Way) -> MemoryCause {
         MemoryCause::Unwritten(Gap {
             parted: way.parted,
+            ended: ended_pointer(study, way, stack_byte(self.missing.first)),
             ..self
         })
     }
@@ -156,13 +181,17 @@ impl Gap {
                 self.readable, self.access.at
             )?,
         }
-        match (self.is_pointer, self.parted) {
-            (true, _) => write!(out, "stack {missing} is a part of a pointer."),
-            (false, Some(at)) => write!(
+        match (self.ended, self.parted) {
+            _ if self.is_pointer => write!(out, "stack {missing} is a part of a pointer."),
+            (Some(at), _) => write!(
+                out,
+                "stack {missing} had a pointer, which ended at slot {at}."
+            ),
+            (None, Some(at)) => write!(
                 out,
                 "stack {missing} isn't written on this way, as it is on another to slot {at}."
             ),
-            (false, None) => write!(out, "stack {missing} isn't written."),
+            (None, None) => write!(out, "stack {missing} isn't written."),
         }
     }
 
@@ -173,10 +202,14 @@ impl Gap {
                 out,
                 "Load a pointer by the 8 bytes into which it was stored; keys and values are numbers."
             ),
+            _ if self.ended.is_some() => write!(
+                out,
+                "Look its key up again, or store it elsewhere: an update or a delete ends the stored pointers to values of its map, and a byte stored over a pointer ends it."
+            ),
             Some(_) => write!(out, "Write it before the ways part."),
             None if self.is_padding() => write!(
                 out,
-                "Write it too. In C that is the padding of a struct: clear all of it first (`__builtin_memset(&x, 0, sizeof x)`), or order the fields so that none is left."
+                "Write it too. In C it is often the padding of a struct: clear all of it first (`__builtin_memset(&x, 0, sizeof x)`), or order the fields so that none is left."
             ),
             None => write!(out, "Write it first."),
         }
@@ -228,17 +261,21 @@ impl Outside {
     // Adds what to do about it.
     fn put_fix(self, out: &mut String) -> Result<(), AllocError> {
         let needed = self.access.last().saturating_add(1);
+        let other = match self.access.what {
+            Use::Load | Use::Store => "take fewer bytes",
+            Use::Key(_) | Use::Value(_) => "give another address",
+        };
         match self.access.kind {
             Kind::Arg(_) if self.access.at >= 0 && needed <= 64 => write!(
                 out,
-                "Raise ARGLEN to {needed} in the manifest, and give as many bytes in each call; or read less."
+                "Raise ARGLEN to {needed} in the manifest, and give as many bytes in each call; or {other}."
             ),
             Kind::Value(map, _) if self.access.at >= 0 && needed <= 256 => write!(
                 out,
-                "Raise VALUE of map {map} to {needed} in the manifest, or take fewer bytes."
+                "Raise VALUE of map {map} to {needed} in the manifest, or {other}."
             ),
             Kind::Stack(_) => write!(out, "Stay between r10 - 512 and r10."),
-            _ => write!(out, "Stay inside."),
+            _ => write!(out, "Stay within the bytes that are there."),
         }
     }
 }
@@ -356,7 +393,7 @@ impl MemoryCause {
             ),
             MemoryCause::PointerInValue { .. } => write!(
                 out,
-                "Store its key, and look it up again."
+                "Store its key, and look it up again; or store what it points to."
             ),
             MemoryCause::PointerBetweenCells { .. } => write!(
                 out,

@@ -4,6 +4,7 @@ use crate::accesses::{offset_of, region_of};
 use crate::study::Study;
 use crate::ways::Way;
 use crate::words::{Known, Range, Register};
+use helpers::Helper;
 use insn::{Condition, Form, Operation, Source, distance};
 use regkind::Kind;
 use std::alloc::AllocError;
@@ -24,6 +25,11 @@ pub(crate) enum OperationCause {
     },
     ThroughNumber {
         register: u8,
+    },
+    // A lookup's answer, where it was null.
+    ThroughNull {
+        register: u8,
+        at: usize,
     },
     ThroughMap {
         register: u8,
@@ -89,6 +95,9 @@ fn through(study: &Study<'_>, way: &Way, slot: usize, register: u8) -> Operation
     match study.form_at(at) {
         Some(Form::Imm64 { .. }) => OperationCause::ThroughConstant { register, at },
         Some(Form::Load { .. }) => OperationCause::ThroughLoaded { register, at },
+        Some(Form::Call { id }) if matches!(Helper::numbered(id), Some(Helper::Lookup)) => {
+            OperationCause::ThroughNull { register, at }
+        }
         _ => OperationCause::ThroughNumber { register },
     }
 }
@@ -226,6 +235,11 @@ impl OperationCause {
                 "{} is a number, and no pointer.",
                 Register(register)
             ),
+            OperationCause::ThroughNull { register, at } => write!(
+                out,
+                "{} is null here: it is the answer of the lookup at slot {at}, and a test led this way where that is null.",
+                Register(register)
+            ),
             OperationCause::ThroughMap { register, map } => write!(
                 out,
                 "{} is map {map} itself, and not a value of it.",
@@ -250,7 +264,7 @@ impl OperationCause {
             ),
             OperationCause::CutPointer { register, kind } => write!(
                 out,
-                "{} is {}, and 32 bits of a pointer are none.",
+                "{} is {}, and 32 bits of a pointer are no pointer.",
                 Register(register),
                 Known(kind)
             ),
@@ -319,6 +333,10 @@ impl OperationCause {
                 out,
                 "Go through a pointer: the argument, the stack, or a value that was looked up."
             ),
+            OperationCause::ThroughNull { .. } => write!(
+                out,
+                "Turn the test round: `jeq` for `jne`, or `jne` for `jeq`."
+            ),
             OperationCause::ThroughMap { .. } => write!(
                 out,
                 "Call lookup (`call 1`) with the map in r1 and a key's address in r2, and test what it answers."
@@ -332,13 +350,16 @@ impl OperationCause {
                 "Test it first: `jeq {}, 0, ..`.",
                 Register(register)
             ),
-            OperationCause::MovedMap { .. } => write!(out, "Look a value up first, and move that."),
+            OperationCause::MovedMap { .. } => write!(
+                out,
+                "Leave it out: the key chooses the value, and what the lookup answers can be moved within it."
+            ),
             OperationCause::CutPointer { .. } => write!(out, "Copy it by `mov64`."),
             OperationCause::NeverNull { .. } => write!(out, "Leave the test out."),
             OperationCause::NarrowTest { .. } => write!(out, "Write `jeq` or `jne`, without 32."),
             OperationCause::ComparedPointer { .. } => write!(
                 out,
-                "The answer of a lookup can be compared with 0, and nothing else."
+                "Compare numbers, as the keys or what is loaded; of pointers only a lookup's answer is compared, and with 0 alone."
             ),
             OperationCause::PointerBits { .. } => write!(
                 out,

@@ -94,7 +94,7 @@ fn unwritten(alloc: Global, study: &Study<'_>, slot: usize) -> Result<Account, A
         });
     };
     let way = way_to(alloc, study, slot, gap.lack())?;
-    let cause = Cause::Memory(gap.on(&way));
+    let cause = Cause::Memory(gap.on(study, &way));
     Ok(Account { way, cause })
 }
 

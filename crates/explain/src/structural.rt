@@ -204,7 +204,7 @@ impl StructureCause {
             StructureCause::TooLong => write!(out, "Split the operation into several programs."),
             StructureCause::CallAtTheEnd | StructureCause::NothingFollows => write!(
                 out,
-                "End with `exit`, and before it put a number into r0."
+                "End with `exit`; the reply is r0, in which a number has to stand."
             ),
             StructureCause::NullCase { used } => write!(
                 out,
@@ -214,7 +214,10 @@ impl StructureCause {
                 out,
                 "Put each program into a file of its own; in C write `static inline` before a function that the program calls."
             ),
-            StructureCause::Unreached { .. } => write!(out, "Jump to it, or remove it."),
+            StructureCause::Unreached { .. } => write!(
+                out,
+                "Jump to slot {slot}, or remove what stands there."
+            ),
         }
     }
 }

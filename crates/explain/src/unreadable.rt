@@ -4,7 +4,7 @@ use crate::operands::{reads, written};
 use crate::study::{Step, Study, kind_in};
 use crate::ways::{Lack, Way, way_to};
 use crate::words::{Known, Register};
-use insn::Form;
+use insn::{Edge, Form};
 use regkind::Kind;
 use std::alloc::{AllocError, Global};
 use std::fmt::Write;
@@ -34,11 +34,15 @@ pub(crate) enum UnreadableCause {
         at: usize,
     },
     NeverSet,
+    // A call wants it.
+    NotGiven,
 }
 
 // What an edge brings.
 #[derive(Clone, Copy)]
 pub(crate) struct Brought {
+    // What leads along it, and its slot.
+    by: &'static str,
     from: usize,
     kind: Kind,
 }
@@ -71,9 +75,19 @@ fn edge_brings(study: &Study<'_>, step: Step, register: u8) -> Brought {
         None => Kind::Unreadable,
     };
     Brought {
+        by: if step.edge == Edge::Jump {
+            "the jump at slot"
+        } else {
+            "slot"
+        },
         from: step.from,
         kind,
     }
+}
+
+// Whether it is what a lookup answered, untested.
+fn may_be_null(kind: Kind) -> bool {
+    matches!(kind, Kind::ValueOrNull(_))
 }
 
 // Two edges that bring different things to a slot.
@@ -145,11 +159,13 @@ impl UnreadableCause {
         if let Some(cause) = lost(study, way, register) {
             return Ok(cause);
         }
-        let is_exit = study.form_at(way.end) == Some(Form::Exit);
-        Ok(match way.parted {
-            _ if is_exit && !is_written(study, way, register) => UnreadableCause::NoReply,
-            Some(at) => UnreadableCause::NotSetHere { at },
-            None => UnreadableCause::NeverSet,
+        Ok(match (way.parted, study.form_at(way.end)) {
+            (Some(at), _) => UnreadableCause::NotSetHere { at },
+            (None, Some(Form::Exit)) if !is_written(study, way, register) => {
+                UnreadableCause::NoReply
+            }
+            (None, Some(Form::Call { .. })) => UnreadableCause::NotGiven,
+            (None, _) => UnreadableCause::NeverSet,
         })
     }
 
@@ -173,15 +189,15 @@ impl UnreadableCause {
                 let (first, second) = (Known(one.kind), Known(other.kind));
                 write!(
                     out,
-                    "{name} is {first} from slot {} and {second} from slot {}, so nothing is known of it where they meet, at slot {at}.",
-                    one.from, other.from
+                    "After {} {} {name} is {first}; after {} {} it is {second}. So nothing is known of it where they meet, at slot {at}.",
+                    one.by, one.from, other.by, other.from
                 )
             }
             UnreadableCause::NotSetHere { at } => write!(
                 out,
                 "On this way nothing sets {name}; on another to slot {at} something does."
             ),
-            UnreadableCause::NeverSet => write!(
+            UnreadableCause::NeverSet | UnreadableCause::NotGiven => write!(
                 out,
                 "Nothing on the way sets {name}: at the entry r1 (the argument) and r10 (the stack's end) alone can be read."
             ),
@@ -204,6 +220,10 @@ impl UnreadableCause {
                 out,
                 "Look the key up again behind that call."
             ),
+            UnreadableCause::Differs { one, other, .. }
+                if may_be_null(one.kind) || may_be_null(other.kind) => {
+                write!(out, "Test {name} for null before the ways part.")
+            }
             UnreadableCause::Differs { .. } => write!(
                 out,
                 "Do on each way what uses {name}, or make it the same on both."
@@ -213,6 +233,10 @@ impl UnreadableCause {
                 "Set {name} before the ways part. In C: a variable without a first value."
             ),
             UnreadableCause::NeverSet => write!(out, "Set {name} first."),
+            UnreadableCause::NotGiven => write!(
+                out,
+                "Set {name} first: a call takes a map in r1, the address of a key in r2, and an update that of a value in r3 and flags in r4 (0 for any key)."
+            ),
         }
     }
 }
