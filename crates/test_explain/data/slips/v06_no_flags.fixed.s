@@ -1,0 +1,9 @@
+; map hash 4 8 16
+; program put update 12 v06_no_flags.hex
+mov64 r2, r1
+mov64 r3, r1
+add64 r3, 4
+ldmap r1, 0
+mov64 r4, 0
+call 2
+exit

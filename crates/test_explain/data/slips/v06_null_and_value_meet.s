@@ -1,0 +1,8 @@
+; map array 8 16
+; program peek read 4 v06_null_and_value_meet.hex
+mov64 r2, r1
+ldmap r1, 0
+call 1
+jeq r0, 0, missing
+missing:
+exit

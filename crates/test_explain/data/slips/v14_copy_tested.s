@@ -1,0 +1,12 @@
+; map array 8 16
+; program peek read 4 v14_copy_tested.hex
+mov64 r2, r1
+ldmap r1, 0
+call 1
+mov64 r6, r0
+jeq r6, 0, missing
+ldxdw r0, [r0+0]
+exit
+missing:
+mov64 r0, -1
+exit

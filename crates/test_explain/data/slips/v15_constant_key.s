@@ -1,0 +1,9 @@
+; map array 8 16
+; program third read 0 v15_constant_key.hex
+lddw r2, 2
+ldmap r1, 0
+call 1
+jeq r0, 0, missing
+ldxdw r0, [r0+0]
+missing:
+exit

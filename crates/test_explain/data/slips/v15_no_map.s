@@ -1,0 +1,8 @@
+; map array 8 16
+; program peek read 4 v15_no_map.hex
+mov64 r2, r1
+call 1
+jeq r0, 0, missing
+ldxdw r0, [r0+0]
+missing:
+exit

@@ -1,0 +1,9 @@
+; map array 8 16
+; program peek read 4 v16_counted_from_zero.hex
+mov64 r2, r1
+ldmap r1, 0
+call 0
+jeq r0, 0, missing
+ldxdw r0, [r0+0]
+missing:
+exit

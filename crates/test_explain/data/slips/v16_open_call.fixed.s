@@ -1,0 +1,6 @@
+; map array 8 16
+; program mixed read 4 v16_open_call.hex
+ldxw r1, [r1+0]
+mov64 r0, r1
+mul64 r0, 31
+exit
