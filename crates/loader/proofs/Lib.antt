@@ -10,3 +10,4 @@ pub mod Passed
 pub mod Offered
 pub mod Outcomes
 pub mod Named
+pub mod Installing

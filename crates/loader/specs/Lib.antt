@@ -6,6 +6,8 @@ pub mod CatalogueView
 pub mod ProgramFiles
 pub mod Offers
 pub mod Refusal
+-- Programs that are installed while a store runs.
+pub mod Installed
 -- The same as functions, line by line, which laws tie to those: the crates above cite them.
 pub mod Loading
 pub mod Spelling

@@ -1,6 +1,7 @@
 // What the definitions of a manifest say, in other words.
 
 ghost use Rattle.std.specs.Prelude.{◌≡◌};
+ghost use Rattle.loader.specs.declared.installed.TheConstants.{MAX_PLACES};
 ghost use Rattle.loader.specs.declared.loading.TheConstants.{MAX_PROGRAMS};
 ghost use Rattle.loader.specs.declared.paths.TheConstants.{PATH_BYTES};
 ghost use Rattle.loader.specs.Spelling.{EachLineIsItsSpelling};
@@ -10,6 +11,7 @@ ghost use Rattle.loader.specs.NamedFiles.{NamesAreFiles, NoOtherFile};
 /// The limits that the definitions cite, as numbers.
 pub fn limits()
     ensures programs_of_a_catalogue { MAX_PROGRAMS ≡ 256 }
+    ensures programs_behind_a_catalogue { MAX_PLACES ≡ 16 }
     ensures bytes_of_a_path { PATH_BYTES ≡ 255 }
 {}
 

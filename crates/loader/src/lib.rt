@@ -1,9 +1,10 @@
-//! Manifests: which maps a store has, and which programs it offers.
+//! Manifests: which maps a store has, and which programs it offers; and the programs that are installed behind these.
 #![tactic(auto)]
 
 mod catalogue;
 mod file_names;
 mod grammar;
+mod installed;
 mod laws;
 mod loading;
 mod numbering;
@@ -14,6 +15,7 @@ mod refusals;
 pub use catalogue::Catalogue;
 pub use file_names::named_files;
 pub use grammar::{Line, ProgramLine, read_line};
+pub use installed::{InstallRefusal, Installed, MAX_PLACES};
 pub use laws::{
     each_line_is_its_spelling, limits, loaded_is_offered, names_are_files, refused_is_first_bad,
 };

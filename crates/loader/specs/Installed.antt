@@ -1,0 +1,77 @@
+-- Programs that are installed while a store runs, and what bytes are installed as.
+use Rattle.std.specs.Prelude.{◌≡◌, ℕ, ◌≤◌, List, [], ◌∷◌, ◌++◌, length, take, Option, Some, None, Result, Ok, Err, IsOk, MatchResult}
+use Rattle.std.specs.List.{All}
+use Rattle.insn.specs.declared.instruction.Form.{Form}
+use Rattle.insn.specs.declared.decoding.DecodeRefusal.{DecodeRefusal}
+use Rattle.insn.specs.declared.decoding.TheConstants.{MAX_INSTALLED_SLOTS}
+use Rattle.insn.specs.Decoded.{decoded}
+use Rattle.insn.specs.Layout.{size}
+use Rattle.maps.specs.declared.shapes.Shape.{Shape}
+use Rattle.maps.specs.Shapes.{AreShapesOk}
+use Rattle.verifier.specs.declared.refusal.Mode.{Mode}
+use Rattle.verifier.specs.declared.refusal.Refused.{Refused}
+use Rattle.verifier.specs.Signature.{signature}
+use Rattle.verifier.specs.Accepted.{Checked, checked, IsAccepted}
+use Rattle.verifier.specs.Verdict.{verdict}
+use Rattle.loader.specs.declared.installed.InstallRefusal.{InstallRefusal}
+use Rattle.loader.specs.declared.installed.InstallRefusal.TheVariants.{Decode, Verify}
+use Rattle.loader.specs.declared.installed.TheConstants.{MAX_PLACES}
+
+-- programs that were installed behind a catalogue's, in order, for maps of these shapes, and how many there may be
+pub record InstalledView : Type 0 where
+  pub shapes : List Shape
+  pub places : ℕ
+  pub programs : List Checked
+
+-- none yet
+abbrev pub no_programs : List Shape → ℕ → InstalledView
+no_programs shapes places = record { shapes = shapes; places = places; programs = [] }
+
+-- one more behind the others
+abbrev pub with_installed : InstalledView → Checked → InstalledView
+with_installed v c = record v { programs = v.programs ++ c ∷ [] }
+
+-- a program of few slots
+abbrev pub IsShort : Checked → Type 0
+IsShort c = size c.program ≤ MAX_INSTALLED_SLOTS
+
+-- a store may have these maps; each program was accepted, for these maps, and is short; there are no more than there may be
+pub record IsInstalled (v : InstalledView) : Type 0 where
+  pub shapes : AreShapesOk v.shapes
+  pub accepted : All (λ c. c.shapes ≡ v.shapes) v.programs
+  pub checked : All IsAccepted v.programs
+  pub short : All IsShort v.programs
+  pub few : length v.programs ≤ v.places
+  pub limit : v.places ≤ MAX_PLACES
+
+-- ---- what bytes are installed as
+
+-- a program, unless the verdict on it is a refusal
+abbrev pub unless_unsafe : Checked → Option Refused → Result Checked InstallRefusal
+unless_unsafe c None = Ok c
+unless_unsafe c (Some e) = Err (Verify e)
+
+-- what was read, as a program that is accepted for these maps, this mode and an argument of this length
+abbrev pub accepted_program : List Shape → Mode → ℕ → Result (List Form) DecodeRefusal → Result Checked InstallRefusal
+accepted_program shapes mode arg_len (Ok p) = unless_unsafe (checked p shapes arg_len mode) (verdict p (signature shapes arg_len mode))
+accepted_program shapes mode arg_len (Err e) = Err (Decode e)
+
+-- the program that bytes spell, if it is accepted for these maps, this mode and an argument of this length; else the first thing that
+-- keeps it from that
+abbrev pub installed_program : List Shape → Mode → ℕ → List ℕ → Result Checked InstallRefusal
+installed_program shapes mode arg_len bytes = accepted_program shapes mode arg_len (decoded bytes)
+
+-- what is answered is this reading: that there is such a program, or the refusal
+abbrev pub IsInstallAnswer : {A : Type 0} → Result Checked InstallRefusal → Result A InstallRefusal → Type 0
+IsInstallAnswer read answer = MatchResult answer (λ _. IsOk read) (λ e. read ≡ Err e)
+
+-- an accepted program stands behind the others, and a refusal leaves them
+abbrev pub after_install : Result Checked InstallRefusal → InstalledView → InstalledView
+after_install (Ok c) v = with_installed v c
+after_install (Err e) v = v
+
+-- ---- the type's model alone cites what follows
+
+-- the programs of the first rooms
+abbrev pub first_rooms : List Shape → List Checked → ℕ → InstalledView
+first_rooms shapes rooms count = record { shapes = shapes; places = length rooms; programs = take count rooms }

@@ -1,0 +1,181 @@
+// Programs that are installed while a store runs.
+
+ghost use Rattle.std.specs.Prelude.{◌≡◌, ◌<◌, ◌≤◌, ◌*◌, length, option_map, replicate, slice_get, take, IfOk, IfSome};
+ghost use Rattle.std.specs.List.{All};
+ghost use Rattle.insn.specs.declared.decoding.TheConstants.{MAX_INSTALLED_SLOTS};
+ghost use Rattle.maps.specs.Shapes.{AreShapesOk};
+ghost use Rattle.maps.specs.declared.shapes.TheConstants.{MAX_ARG_LEN};
+ghost use Rattle.verifier.specs.Accepted.{empty_room};
+ghost use Rattle.loader.specs.Installed.{IsInstallAnswer, IsInstalled, IsShort, after_install, installed_program, no_programs};
+
+use insn::{DecodeRefusal, Insn, MAX_INSTALLED_SLOTS, decode_into};
+use maps::{MAX_ARG_LEN, Shape};
+use std::alloc::{AllocError, Global};
+use std::marker::Model;
+use thiserror::Error;
+use verifier::{Accepted, Mode, Refused, Scratch, verify_into};
+
+/// The most programs that may be installed behind a catalogue's.
+pub const MAX_PLACES: usize = 16;
+
+/// Why bytes can't be installed as a program.
+#[derive(Clone, Copy, Debug, Error)]
+pub enum InstallRefusal {
+    /// They are no program.
+    #[error("{0}")]
+    Decode(DecodeRefusal),
+    /// The program is not safe for these maps, this argument length and this mode.
+    #[error("{0}")]
+    Verify(Refused),
+}
+
+/// Programs that were installed behind a catalogue's, in order, for maps of given shapes. Each is accepted for these maps, and of
+/// at most [`MAX_INSTALLED_SLOTS`] slots. The room of all that there may be is taken when it is opened; no later call takes memory.
+#[derive(Drop)]
+pub struct Installed {
+    shapes: Vec<Shape>,
+    // A room for each place; the first `count` of them hold the programs.
+    rooms: Vec<Accepted>,
+    count: usize,
+    // What the last bytes were read as.
+    decoded: Vec<Insn>,
+    scratch: Scratch,
+}
+
+impl Model for Installed {
+    ghost use Rattle.std.specs.Prelude.{◌≤◌, length, vec_capacity};
+    ghost use Rattle.insn.specs.declared.decoding.TheConstants.{MAX_INSTALLED_SLOTS};
+    ghost use Rattle.loader.specs.Installed.{InstalledView, IsInstalled, first_rooms};
+
+    ghost Value = { InstalledView };
+
+    ghost view = { λ a. first_rooms a.shapes.items a.rooms.items a.count };
+
+    ghost invariant = { λ a. IsInstalled (first_rooms a.shapes.items a.rooms.items a.count)
+        × (a.count ≤ length a.rooms.items)
+        × (MAX_INSTALLED_SLOTS ≤ vec_capacity a.decoded) };
+}
+
+impl Installed {
+    /// Takes room for so many programs for maps of these shapes. None is installed yet.
+    ///
+    /// # Errors
+    ///
+    /// The system has no memory left.
+    pub fn open(alloc: Global, shapes: &[Shape], places: usize) -> Result<Installed, AllocError>
+        requires shapes { AreShapesOk shapes.now }
+        requires places { places ≤ MAX_PLACES }
+        ensures none { IfOk result (λ a. a ≡ no_programs shapes.now places) }
+    {
+        Ok(Installed {
+            shapes: Vec::from_slice(alloc, shapes)?,
+            rooms: open_rooms(alloc, shapes, places)?,
+            count: 0,
+            decoded: Vec::with_capacity(alloc, MAX_INSTALLED_SLOTS)?,
+            scratch: Scratch::open(alloc)?,
+        })
+    }
+
+    /// How many programs were installed.
+    pub fn len(&self) -> usize
+        ensures count { result ≡ length self.now.programs }
+        ensures few { result ≤ self.now.places }
+    {
+        self.count
+    }
+
+    /// How many there may be.
+    pub fn places(&self) -> usize
+        ensures places { result ≡ self.now.places }
+        ensures limit { result ≤ MAX_PLACES }
+        ensures whole { IsInstalled self.now }
+    {
+        self.rooms.len()
+    }
+
+    /// The program that was installed as number `k`, from 0.
+    pub fn program(&self, k: usize) -> Option<&Accepted>
+        ensures program { option_map (λ a. a.now) result ≡ slice_get self.now.programs k }
+        ensures accepted { IfSome result (λ a. a.now.shapes ≡ self.now.shapes) }
+    {
+        if k < self.count {
+            Some(&self.rooms[k])
+        } else {
+            None
+        }
+    }
+
+    /// None is installed any more.
+    pub fn clear(&mut self)
+        ensures none { self.new ≡ no_programs self.old.shapes self.old.places }
+    {
+        self.count = 0;
+    }
+
+    /// Installs the program that the bytes spell behind the others, if it is accepted for these maps, this mode and an argument of this
+    /// length. Else all stays as it was.
+    ///
+    /// # Errors
+    ///
+    /// The first thing that keeps the bytes from being such a program.
+    pub fn install(
+        &mut self,
+        mode: Mode,
+        arg_len: usize,
+        bytes: &[u8],
+    ) -> Result<(), InstallRefusal>
+        requires free { length self.old.programs < self.old.places }
+        requires few { length bytes.now ≤ 8 * MAX_INSTALLED_SLOTS }
+        requires argument { arg_len ≤ MAX_ARG_LEN }
+        ensures reading { IsInstallAnswer (installed_program self.old.shapes mode arg_len bytes.now) result }
+        ensures programs { self.new ≡ after_install (installed_program self.old.shapes mode arg_len bytes.now) self.old }
+    {
+        decode_into(bytes, &mut self.decoded).map_err(InstallRefusal::Decode)?;
+        let room = &mut self.rooms[self.count];
+        verify_into(
+            &self.decoded,
+            &self.shapes,
+            arg_len,
+            mode,
+            &mut self.scratch,
+            room,
+        )
+        .map_err(InstallRefusal::Verify)?;
+        self.count += 1;
+        Ok(())
+    }
+
+    /// Becomes the same list as another one for as many programs and for the same maps.
+    pub fn copy_from(&mut self, from: &Installed)
+        requires shapes { self.old.shapes ≡ from.now.shapes }
+        requires places { self.old.places ≡ from.now.places }
+        ensures copied { self.new ≡ from.now }
+    {
+        copy_rooms(&from.rooms[..from.count], &mut self.rooms);
+        self.count = from.count;
+    }
+}
+
+// So many rooms, in each of which there is room for a program.
+fn open_rooms(alloc: Global, shapes: &[Shape], places: usize) -> Result<Vec<Accepted>, AllocError>
+    requires shapes { AreShapesOk shapes.now }
+    ensures rooms { IfOk result (λ rooms. rooms.items ≡ replicate places (empty_room shapes.now)) }
+{
+    let mut rooms = Vec::with_capacity(alloc, places)?;
+    for _place in 0..places {
+        rooms.push_reserved(Accepted::room(alloc, shapes)?);
+    }
+    Ok(rooms)
+}
+
+// The first rooms get these programs.
+fn copy_rooms(from: &[Accepted], rooms: &mut Vec<Accepted>)
+    requires short { All IsShort from.now }
+    requires room { length from.now ≤ length rooms.old.items }
+    ensures copied { take (length from.now) rooms.new.items ≡ from.now }
+    ensures count { length rooms.new.items ≡ length rooms.old.items }
+{
+    for (k, program) in from.iter().enumerate() {
+        rooms[k].copy_from(program);
+    }
+}
