@@ -1,12 +1,12 @@
-//! Writes what each refusal says. The texts that it must write stand beside this program.
+//! Writes what each refusal says, and how programs are installed. The texts that it must write stand beside this program.
 #![tactic(auto)]
 
 use flow::{Broken, StructureRule};
-use insn::{DecodeError, DecodeFault, DecodeRefusal};
-use loader::{LoadError, LoadFault, LoadRefusal};
-use maps::{MapError, ShapeFault};
+use insn::{DecodeError, DecodeFault, DecodeRefusal, MAX_INSTALLED_SLOTS};
+use loader::{Installed, LoadError, LoadFault, LoadRefusal};
+use maps::{MapError, Shape, ShapeFault, shapes_ok};
 use std::io;
-use verifier::{Refused, VerifyError, VerifyFault};
+use verifier::{Mode, Refused, VerifyError, VerifyFault};
 
 const DECODER: [DecodeFault; 9] = [
     DecodeFault::NotWholeSlots,
@@ -55,6 +55,58 @@ const SHAPES: [ShapeFault; 3] = [
     ShapeFault::TooManyBytes,
 ];
 
+const MAPS: [Shape; 1] = [Shape::Array {
+    value: 8,
+    entries: 1,
+}];
+
+// r0 = 7, exit.
+const SEVEN: [u8; 16] = [0xb7, 0, 0, 0, 7, 0, 0, 0, 0x95, 0, 0, 0, 0, 0, 0, 0];
+
+// r0 = 7, and the first half of a wide instruction.
+const CUT_OFF: [u8; 16] = [0xb7, 0, 0, 0, 7, 0, 0, 0, 0x18, 0, 0, 0, 0, 0, 0, 0];
+
+// Looks the key 0 up, and reads what was found before it is tested for null: the read is at slot 6.
+const UNCHECKED: [u8; 64] = [
+    0x62, 0x0a, 0xfc, 0xff, 0, 0, 0, 0, // *(u32 *)(r10 - 4) = 0
+    0xbf, 0xa2, 0, 0, 0, 0, 0, 0, // r2 = r10
+    0x07, 0x02, 0, 0, 0xfc, 0xff, 0xff, 0xff, // r2 += -4
+    0x18, 0x51, 0, 0, 0, 0, 0, 0, // r1 = map 0
+    0, 0, 0, 0, 0, 0, 0, 0, //
+    0x85, 0, 0, 0, 1, 0, 0, 0, // call lookup
+    0x79, 0, 0, 0, 0, 0, 0, 0, // r0 = *(u64 *)(r0 + 0)
+    0x95, 0, 0, 0, 0, 0, 0, 0, // exit
+];
+
+// Installs a program that takes no argument, and says how.
+fn install(rt: &HostRuntime, installed: &mut Installed, bytes: &[u8]) -> io::Result<()> {
+    if installed.len() >= installed.places() || bytes.len() > 8 * MAX_INSTALLED_SLOTS {
+        return Ok(());
+    }
+    let number = installed.len();
+    match installed.install(Mode::Read, 0, bytes) {
+        Ok(()) => match installed.program(number) {
+            Some(program) => println!(rt; "installed {number}, of {} slots", program.slots()),
+            None => Ok(()),
+        },
+        Err(e) => println!(rt; "{e}"),
+    }
+}
+
+// Installs two programs for one map, and between them two that are refused.
+fn install_each(rt: &HostRuntime) -> io::Result<()> {
+    if shapes_ok(&MAPS).is_err() {
+        return Ok(());
+    }
+    let Ok(mut installed) = Installed::open(rt.alloc(), &MAPS, 2) else {
+        return Ok(());
+    };
+    install(rt, &mut installed, &SEVEN)?;
+    install(rt, &mut installed, &CUT_OFF)?;
+    install(rt, &mut installed, &UNCHECKED)?;
+    install(rt, &mut installed, &SEVEN)
+}
+
 fn main(rt: HostRuntime) -> io::Result<()> {
     for why in DECODER {
         println!(rt; "{}", DecodeError::Refused(DecodeRefusal { slot: 3, why }))?;
@@ -72,5 +124,6 @@ fn main(rt: HostRuntime) -> io::Result<()> {
     println!(rt; "{}", LoadError::Refused(LoadRefusal { line: 2, why }))?;
     println!(rt; "{}", DecodeError::NoMemory)?;
     println!(rt; "{}", VerifyError::NoMemory)?;
-    println!(rt; "{}", MapError::NoMemory)
+    println!(rt; "{}", MapError::NoMemory)?;
+    install_each(&rt)
 }
