@@ -3,6 +3,7 @@ pub mod Found
 pub mod Gathers
 pub mod Answers
 pub mod Reported
+pub mod Explanations
 pub mod ProgramLines
 pub mod RunLines
 pub mod InputTexts

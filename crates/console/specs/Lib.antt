@@ -17,6 +17,7 @@ pub mod ReplayAnswer
 pub mod ScheduleAnswer
 pub mod Known
 pub mod Report
+pub mod Explanation
 pub mod Transfer
 -- Laws: each line that a run writes for a call is a run of its program.
 pub mod RunLines

@@ -3,6 +3,7 @@
 mod assembling;
 mod checking;
 mod disassembling;
+mod explaining;
 mod replaying;
 mod running;
 mod scheduling;
@@ -11,6 +12,7 @@ mod scripting;
 pub use assembling::{asm_reply, assemble};
 pub use checking::{check, check_reply};
 pub use disassembling::{dis_reply, disassemble};
+pub use explaining::{explain, explain_reply};
 pub use replaying::{replay, replay_reply};
 pub use running::{run, run_reply};
 pub use scheduling::{Setup, schedule, schedule_reply, sizes_refused};

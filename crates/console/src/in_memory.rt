@@ -4,6 +4,7 @@ ghost use Rattle.std.specs.Prelude.{◌≡◌, IfOk};
 ghost use Rattle.console.specs.Answer.{check_answer};
 ghost use Rattle.console.specs.AsmAnswer.{asm_answer, dis_answer};
 ghost use Rattle.console.specs.EncodeAnswer.{encode_answer};
+ghost use Rattle.console.specs.Explanation.{IsExplanation};
 ghost use Rattle.console.specs.RunAnswer.{run_answer};
 ghost use Rattle.console.specs.ReplayAnswer.{replay_answer};
 ghost use Rattle.console.specs.ScheduleAnswer.{schedule_answer};
@@ -12,7 +13,8 @@ ghost use Rattle.console.specs.Memory.{found_file, Never, SettlesAs};
 ghost use Rattle.console.specs.Report.{answer_of};
 
 use crate::commands::{
-    Setup, asm_reply, check_reply, dis_reply, encode_reply, replay_reply, run_reply, schedule_reply,
+    Setup, asm_reply, check_reply, dis_reply, encode_reply, explain_reply, replay_reply, run_reply,
+    schedule_reply,
 };
 use crate::input::InputFault;
 use crate::memory::{Held, HeldFiles};
@@ -46,6 +48,19 @@ pub fn check(alloc: Global, files: &[(&str, &[u8])], manifest: &[u8]) -> Result<
     ensures { IfOk result (λ r. answer_of r ≡ check_answer manifest.now (found_file files.now)) }
 {
     let prepared = check_reply(alloc, &HeldFiles(files), &mut Held(manifest));
+    settled(alloc, prepared)
+}
+
+/// What `explain` answers to a manifest, with these files, of the program of this name alone, if one is named.
+pub fn explain(
+    alloc: Global,
+    files: &[(&str, &[u8])],
+    manifest: &[u8],
+    name: Option<&str>,
+) -> Result<Reply, AllocError>
+    ensures { IfOk result (λ r. IsExplanation (check_answer manifest.now (found_file files.now)) (answer_of r)) }
+{
+    let prepared = explain_reply(alloc, &HeldFiles(files), &mut Held(manifest), name);
     settled(alloc, prepared)
 }
 

@@ -19,7 +19,7 @@ use crate::transfer::{Sink, Source};
 use std::alloc::{AllocError, Global};
 
 // What a manifest and its files get.
-fn loaded_reply(
+pub(crate) fn loaded_reply(
     alloc: Global,
     manifest: &str,
     files: &[(&str, String)],
