@@ -16,6 +16,7 @@ counter = record {
   shapes = Array 8 16 ∷ [];
   programs = record { name = codes "bump"; checked = checked bump (Array 8 16 ∷ []) 4 Update }
       ∷ record { name = codes "peek"; checked = checked peek (Array 8 16 ∷ []) 4 Read } ∷ [];
+  places = 0;
 }
 
 -- the key of counter 0, and one that no counter has

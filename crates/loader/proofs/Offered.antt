@@ -9,7 +9,7 @@ use Rattle.maps.specs.declared.shapes.Shape.{Shape}
 use Rattle.maps.specs.declared.shapes.TheConstants.{MAX_MAPS, MAX_TOTAL_BYTES}
 use Rattle.maps.specs.Shapes.{room_of}
 use Rattle.loader.specs.Grammar.{ProgramLine, Meaning, Comment, Map, Program, line_meaning}
-use Rattle.loader.specs.CatalogueView.{Entry, CatalogueView, names_of}
+use Rattle.loader.specs.CatalogueView.{Entry, CatalogueView, names_of, with_places}
 use Rattle.loader.specs.ProgramFiles.{Files, entry_for}
 use Rattle.loader.specs.Loading.{are_few, is_taken, with_map, with_entry, with_program, after_meaning, after_line, nothing_yet}
 use Rattle.loader.specs.Offers.{says_something, Offers}
@@ -34,14 +34,14 @@ unfolding IsDistinct
 apart [] y ys h = refl
 apart (x ∷ xs) y ys h = rw (front_all (λ n. bytes_eq x n ≡ false) xs y ys h.0, apart xs y ys h.1) refl
 
-map_step : (v : CatalogueView) (s : Shape) → v.programs ≡ [] → are_few (v.shapes ++ s ∷ []) ≡ true → with_map v s ≡ Ok (record { shapes = v.shapes ++ s ∷ []; programs = v.programs })
+map_step : (v : CatalogueView) (s : Shape) → v.programs ≡ [] → are_few (v.shapes ++ s ∷ []) ≡ true → with_map v s ≡ Ok (record v { shapes = v.shapes ++ s ∷ [] })
 unfolding with_map
 map_step v s none few =
     let off : ltb 0 (length v.programs) ≡ false = le-ltb 0 (length v.programs) (omega (arith, ap length none)) in
     rw (off, few) refl
 
 program_step : (fs : Files) (v : CatalogueView) (p : ProgramLine) (e : Entry) → entry_for fs v.shapes p ≡ Ok e → 0 < length v.shapes → is_taken v.programs p.name ≡ false → length v.programs < MAX_PROGRAMS
-    → with_program fs v p ≡ Ok (record { shapes = v.shapes; programs = v.programs ++ e ∷ [] })
+    → with_program fs v p ≡ Ok (record v { programs = v.programs ++ e ∷ [] })
 unfolding with_program with_entry
 program_step fs v p e read some new few =
     let on : eqb (length v.shapes) 0 ≡ false = ne_eqb _ _ (λ z. absurd (omega (arith, z, some))) in
@@ -61,12 +61,15 @@ pub record Left (fs : Files) (v c : CatalogueView) (ms : List Meaning) (maps : L
   pub all : c.programs ≡ v.programs ++ es
   pub maps_first : 0 < length v.programs → maps ≡ []
   pub some_map : 0 < length ps → 0 < length c.shapes
+  pub places : v.places ≡ c.places
 
 pub done : (fs : Files) (v c : CatalogueView) (maps : List Shape) (ps : List ProgramLine) (es : List Entry) → Left fs v c [] maps ps es → v ≡ c
 done fs v c (s ∷ ss) ps es k = absurd (let e = k.in_order in cc)
 done fs v c [] (p ∷ ps) es k = absurd (let e = k.in_order in cc)
 done fs v c [] [] (x ∷ es) k = absurd (let e = k.checked in cc)
-done fs v c [] [] [] k = ap₂ (λ a b. record { shapes = a; programs = b }) (sym (k.shapes ∙ append-nil v.shapes)) (sym (k.all ∙ append-nil v.programs))
+done fs v c [] [] [] k =
+    ap₂ (λ a b. record { shapes = a; programs = b; places = v.places }) (sym (k.shapes ∙ append-nil v.shapes)) (sym (k.all ∙ append-nil v.programs))
+    ∙ ap (with_places c) k.places
 
 -- a line's step, and what is then left
 pub record Steps (fs : Files) (v c : CatalogueView) (m : Meaning) (ms : List Meaning) : Type 0 where
@@ -96,7 +99,7 @@ map_next fs v c s t ms ss ps es b k =
     let shapes : c.shapes ≡ (v.shapes ++ s ∷ []) ++ ss = k.shapes ∙ ap (λ x. v.shapes ++ x ∷ ss) (sym same) ∙ sym (append_assoc v.shapes (s ∷ []) ss) in
     let few : are_few (v.shapes ++ s ∷ []) ≡ true = fewer (v.shapes ++ s ∷ []) ss (subst (λ x. are_few x ≡ true) shapes b.few_maps) in
     record {
-      next = record { shapes = v.shapes ++ s ∷ []; programs = v.programs };
+      next = record v { shapes = v.shapes ++ s ∷ [] };
       step = map_step v s none few;
       maps = ss;
       programs = ps;
@@ -109,6 +112,7 @@ map_next fs v c s t ms ss ps es b k =
             all = k.all;
             maps_first = λ lt. absurd (omega (arith, lt, ap length none));
             some_map = k.some_map;
+            places = k.places;
           };
     }
 
@@ -129,7 +133,7 @@ program_next fs v c p q e ms ps es b k =
     let some : 0 < length v.shapes = subst (λ x. 0 < length x) shapes (k.some_map (omega arith)) in
     let count : length c.programs ≡ length v.programs + length (e ∷ es) = ap length k.all ∙ length-append v.programs (e ∷ es) in
     record {
-      next = record { shapes = v.shapes; programs = v.programs ++ e ∷ [] };
+      next = record v { programs = v.programs ++ e ∷ [] };
       step = program_step fs v p e read some (subst (λ n. list_any (λ m. bytes_eq m n) (names_of v.programs) ≡ false) named new) (omega (arith, count, b.few));
       maps = [];
       programs = ps;
@@ -142,6 +146,7 @@ program_next fs v c p q e ms ps es b k =
             all = all;
             maps_first = λ _. refl;
             some_map = λ _. subst (λ x. 0 < length x) (sym shapes) some;
+            places = k.places;
           };
     }
 
@@ -161,6 +166,7 @@ next fs v c Comment ms maps ps es b k =
             all = k.all;
             maps_first = k.maps_first;
             some_map = k.some_map;
+            places = k.places;
           };
     }
 next fs v c (Map s) ms [] [] es b k = absurd (let e = k.in_order in cc)
@@ -197,5 +203,6 @@ offers_to fs ls c o =
       all = refl;
       maps_first = λ lt. absurd (omega (arith, lt));
       some_map = o.some_map;
+      places = sym o.no_places;
     } in
     passes fs ls o.meanings nothing_yet c c.shapes o.programs c.programs o.each b left

@@ -68,7 +68,7 @@ adds_comment fs l ls v w c is same k =
       some_map = k.some_map;
     }
 
-adds_map : (fs : Files) (l : List ℕ) (ls : List (List ℕ)) (v w c : CatalogueView) (s : Shape) → line_meaning l ≡ Some (Map s) → v.programs ≡ [] → record { shapes = v.shapes ++ s ∷ []; programs = v.programs } ≡ w → Adds fs ls w c → Adds fs (l ∷ ls) v c
+adds_map : (fs : Files) (l : List ℕ) (ls : List (List ℕ)) (v w c : CatalogueView) (s : Shape) → line_meaning l ≡ Some (Map s) → v.programs ≡ [] → record v { shapes = v.shapes ++ s ∷ [] } ≡ w → Adds fs ls w c → Adds fs (l ∷ ls) v c
 adds_map fs l ls v w c s is none same k =
     record {
       meanings = Map s ∷ k.meanings;
@@ -135,4 +135,5 @@ offers_from fs ls c p =
       few_maps = s.few_maps;
       distinct = s.distinct;
       few_programs = s.few;
+      no_places = s.no_places;
     }

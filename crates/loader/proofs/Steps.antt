@@ -56,7 +56,7 @@ no_programs : {X : Type 0} (ps : List X) → ltb 0 (length ps) ≡ false → ps 
 no_programs ps e = nil_from_length ps (omega (arith, ltb-false 0 (length ps) e))
 
 pub after_map : (v : CatalogueView) (s : Shape) (w : CatalogueView) → with_map v s ≡ Ok w
-    → (v.programs ≡ []) × (are_few (v.shapes ++ s ∷ []) ≡ true) × (record { shapes = v.shapes ++ s ∷ []; programs = v.programs } ≡ w)
+    → (v.programs ≡ []) × (are_few (v.shapes ++ s ∷ []) ≡ true) × (record v { shapes = v.shapes ++ s ∷ [] } ≡ w)
 unfolding with_map
 after_map v s w e =
     let first = unless (ltb 0 (length v.programs)) faults.BadLine _ w e in
@@ -69,7 +69,7 @@ pub record IsAfterProgram (fs : Files) (v : CatalogueView) (p : ProgramLine) (w 
   pub some_map : eqb (length v.shapes) 0 ≡ false
   pub new : is_taken v.programs p.name ≡ false
   pub few : length v.programs < MAX_PROGRAMS
-  pub same : record { shapes = v.shapes; programs = v.programs ++ entry ∷ [] } ≡ w
+  pub same : record v { programs = v.programs ++ entry ∷ [] } ≡ w
 
 pub after_program : (fs : Files) (v : CatalogueView) (p : ProgramLine) (w : CatalogueView) → with_program fs v p ≡ Ok w → IsAfterProgram fs v p w
 unfolding with_program with_entry
@@ -83,7 +83,7 @@ after_program fs v p w e =
 none_at_all : {X : Type 0} (P : X → Type 0) → All P []
 none_at_all P k d lt = absurd (omega (arith, lt))
 
-with_one_map : (v : CatalogueView) (s : Shape) → IsPartial v → IsShapeOk s → v.programs ≡ [] → are_few (v.shapes ++ s ∷ []) ≡ true → IsPartial (record { shapes = v.shapes ++ s ∷ []; programs = v.programs })
+with_one_map : (v : CatalogueView) (s : Shape) → IsPartial v → IsShapeOk s → v.programs ≡ [] → are_few (v.shapes ++ s ∷ []) ≡ true → IsPartial (record v { shapes = v.shapes ++ s ∷ [] })
 with_one_map v s so_far within none few =
     record {
       within = All-push IsShapeOk v.shapes s so_far.within within;
@@ -92,9 +92,10 @@ with_one_map v s so_far within none few =
       checked = subst AreAccepted (sym none) (none_at_all (λ e. IsAccepted e.checked));
       distinct = so_far.distinct;
       few = so_far.few;
+      no_places = so_far.no_places;
     }
 
-with_one_program : (fs : Files) (v : CatalogueView) (p : ProgramLine) (w : CatalogueView) → IsPartial v → p.arg_len ≤ MAX_ARG_LEN → (a : IsAfterProgram fs v p w) → IsPartial (record { shapes = v.shapes; programs = v.programs ++ a.entry ∷ [] })
+with_one_program : (fs : Files) (v : CatalogueView) (p : ProgramLine) (w : CatalogueView) → IsPartial v → p.arg_len ≤ MAX_ARG_LEN → (a : IsAfterProgram fs v p w) → IsPartial (record v { programs = v.programs ++ a.entry ∷ [] })
 with_one_program fs v p w so_far fits a =
     let is = entry_from fs v.shapes p a.entry a.read in
     let some : 0 < length v.shapes = omega (arith, eqb-false _ _ a.some_map) in
@@ -108,6 +109,7 @@ with_one_program fs v p w so_far fits a =
       checked = All-push (λ e. IsAccepted e.checked) v.programs a.entry so_far.checked (entry_accepted fs v.shapes p a.entry good fits is);
       distinct = subst (IsDistinct bytes_eq) (sym names) (distinct_push (names_of v.programs) a.entry.name so_far.distinct new);
       few = omega (arith, length_push v.programs a.entry, a.few);
+      no_places = so_far.no_places;
     }
 
 inside_ok : (v w : CatalogueView) → same_result (Ok v) (Ok w) → v ≡ w
@@ -136,8 +138,9 @@ is_catalogue v so_far some =
       checked = so_far.checked;
       distinct = so_far.distinct;
       few = so_far.few;
+      few_places = omega (arith, so_far.no_places);
     }
 
-pub nothing_partial : IsPartial (record { shapes = []; programs = [] })
+pub nothing_partial : IsPartial (record { shapes = []; programs = []; places = 0 })
 unfolding IsDistinct
-nothing_partial = record { within = none_at_all IsShapeOk; few_maps = refl; accepted = none_at_all (λ e. e.checked.shapes ≡ []); checked = none_at_all (λ e. IsAccepted e.checked); distinct = tt; few = omega arith }
+nothing_partial = record { within = none_at_all IsShapeOk; few_maps = refl; accepted = none_at_all (λ e. e.checked.shapes ≡ []); checked = none_at_all (λ e. IsAccepted e.checked); distinct = tt; few = omega arith; no_places = refl }

@@ -21,7 +21,7 @@ are_few shapes = nat_le (length shapes) MAX_MAPS && nat_le (sum_by room_of shape
 unfoldable pub with_map : CatalogueView → Shape → Result CatalogueView LoadFault
 with_map so_far shape =
     if nat_lt 0 (length so_far.programs) then Err faults.BadLine
-    else if are_few (so_far.shapes ++ shape ∷ []) then Ok (record { shapes = so_far.shapes ++ shape ∷ []; programs = so_far.programs })
+    else if are_few (so_far.shapes ++ shape ∷ []) then Ok (record so_far { shapes = so_far.shapes ++ shape ∷ [] })
     else Err faults.TooMany
 
 abbrev pub is_taken : List Entry → List ℕ → Bool
@@ -31,7 +31,7 @@ is_taken entries name = list_any (λ n. bytes_eq n name) (names_of entries)
 unfoldable pub with_entry : CatalogueView → Entry → Result CatalogueView LoadFault
 with_entry so_far entry =
     if nat_lt (length so_far.programs) MAX_PROGRAMS
-    then Ok (record { shapes = so_far.shapes; programs = so_far.programs ++ entry ∷ [] })
+    then Ok (record so_far { programs = so_far.programs ++ entry ∷ [] })
     else Err faults.TooMany
 
 -- with one more program: C1 before any map or where its name is taken
@@ -68,7 +68,7 @@ after_lines files n so_far (l ∷ ls) =
     either (λ why. Err (record { line = n; why = why })) (λ after. after_lines files (next_line n) after ls) (after_line files so_far l)
 
 abbrev pub nothing_yet : CatalogueView
-nothing_yet = record { shapes = []; programs = [] }
+nothing_yet = record { shapes = []; programs = []; places = 0 }
 
 -- the catalogue that a manifest says
 unfoldable pub loaded : List ℕ → Files → Outcome

@@ -36,7 +36,7 @@ pub record IsEntryFor (files : Files) (shapes : List Shape) (line : ProgramLine)
   pub checked_for : e.checked ≡ checked e.checked.program shapes line.arg_len line.mode
   pub typable : IsTypable e.checked.program (signature shapes line.arg_len line.mode)
 
--- these lines are the catalogue's maps and then its programs, beside comments and empty lines
+-- these lines are the catalogue's maps and then its programs, beside comments and empty lines; it has no places
 pub record Offers (files : Files) (lines : List (List ℕ)) (c : CatalogueView) : Type 0 where
   pub meanings : List Meaning
   pub each : map line_meaning lines ≡ map Some meanings
@@ -47,6 +47,7 @@ pub record Offers (files : Files) (lines : List (List ℕ)) (c : CatalogueView) 
   pub few_maps : are_few c.shapes ≡ true
   pub distinct : IsDistinct bytes_eq (names_of c.programs)
   pub few_programs : length c.programs ≤ MAX_PROGRAMS
+  pub no_places : c.places ≡ 0
 
 -- a manifest offers a catalogue of at least one map
 abbrev pub IsOffered : List ℕ → Files → CatalogueView → Type 0

@@ -9,9 +9,9 @@ use Rattle.loader.specs.Loading.{are_few}
 
 -- the catalogue that they make
 abbrev pub view_of : PartialCatalogue → CatalogueView
-view_of s = record { shapes = s.shapes.items; programs = s.programs.items }
+view_of s = record { shapes = s.shapes.items; programs = s.programs.items; places = 0 }
 
--- a catalogue, but for its first map
+-- a catalogue without places, but for its first map
 pub record IsPartial (c : CatalogueView) : Type 0 where
   pub within : All IsShapeOk c.shapes
   pub few_maps : are_few c.shapes ≡ true
@@ -19,3 +19,4 @@ pub record IsPartial (c : CatalogueView) : Type 0 where
   pub checked : AreAccepted c.programs
   pub distinct : IsDistinct bytes_eq (names_of c.programs)
   pub few : length c.programs ≤ MAX_PROGRAMS
+  pub no_places : c.places ≡ 0

@@ -2,9 +2,10 @@
 
 ghost use Rattle.std.specs.Prelude.{◌≡◌, ◌≤◌, length, option_map, slice_get, IfSome};
 ghost use Rattle.maps.specs.Shapes.{AreShapesOk};
-ghost use Rattle.loader.specs.CatalogueView.{IsCatalogue, number_named};
+ghost use Rattle.loader.specs.CatalogueView.{IsCatalogue, number_named, with_places};
 ghost use Rattle.loader.specs.Numbering.{IsNumbering};
 
+use crate::installed::MAX_PLACES;
 use crate::loading::MAX_PROGRAMS;
 use arrayvec::ArrayString;
 use maps::Shape;
@@ -49,12 +50,14 @@ impl NamedProgram {
 }
 
 /// The maps of a store, and the accepted programs that it offers, numbered from 0 in the
-/// manifest's order. Names are distinct, and there are at most 256 programs.
+/// manifest's order. Names are distinct, and there are at most 256 programs. Behind them a number of places stands for programs
+/// that may be installed while the store runs.
 #[derive(Drop)]
 pub struct Catalogue {
     shapes: Vec<Shape>,
     programs: Vec<NamedProgram>,
     numbers: BTreeMap<String, u16>,
+    places: usize,
 }
 
 impl Model for Catalogue {
@@ -63,26 +66,28 @@ impl Model for Catalogue {
 
     ghost Value = { CatalogueView };
 
-    ghost view = { λ c. record { shapes = c.shapes.items; programs = c.programs.items } };
+    ghost view = { λ c. record { shapes = c.shapes.items; programs = c.programs.items; places = c.places } };
 
-    ghost invariant = { λ c. IsCatalogue (record { shapes = c.shapes.items; programs = c.programs.items }) × IsNumbering c.numbers c.programs.items };
+    ghost invariant = { λ c. IsCatalogue (record { shapes = c.shapes.items; programs = c.programs.items; places = c.places })
+        × IsNumbering c.numbers c.programs.items };
 }
 
 impl Catalogue {
-    // A catalogue of these maps and programs, with the programs' numbers by their names.
+    // A catalogue of these maps and programs, with the programs' numbers by their names, and without places.
     pub(crate) fn new(
         shapes: Vec<Shape>,
         programs: Vec<NamedProgram>,
         numbers: BTreeMap<String, u16>,
     ) -> Catalogue
-        requires catalogue { IsCatalogue (record { shapes = shapes.items; programs = programs.items }) }
+        requires catalogue { IsCatalogue (record { shapes = shapes.items; programs = programs.items; places = 0 }) }
         requires numbers { IsNumbering numbers programs.items }
-        ensures { result ≡ record { shapes = shapes.items; programs = programs.items } }
+        ensures { result ≡ record { shapes = shapes.items; programs = programs.items; places = 0 } }
     {
         Catalogue {
             shapes,
             programs,
             numbers,
+            places: 0,
         }
     }
 
@@ -92,6 +97,23 @@ impl Catalogue {
         ensures few { result ≤ MAX_PROGRAMS }
     {
         self.programs.len()
+    }
+
+    /// How many programs may be installed behind these: a manifest has none.
+    pub fn places(&self) -> usize
+        ensures places { result ≡ self.now.places }
+        ensures few { result ≤ MAX_PLACES }
+    {
+        self.places
+    }
+
+    /// The same catalogue, behind whose programs so many may be installed.
+    pub fn with_places(mut self, places: usize) -> Catalogue
+        requires few { places ≤ MAX_PLACES }
+        ensures places { result ≡ with_places self places }
+    {
+        self.places = places;
+        self
     }
 
     /// The number of the program of this name, which is found in a sorted map.
