@@ -1,12 +1,10 @@
 // Why a call, or a map's number, is refused: V15 and V16.
 
+use crate::sentences::{Sentence, Word, of_one, of_three, of_two, plain};
 use crate::study::Study;
 use crate::ways::Way;
-use crate::words::{Known, Register};
 use insn::Form;
 use regkind::Kind;
-use std::alloc::AllocError;
-use std::fmt::Write;
 
 // Why a call is refused.
 #[derive(Clone, Copy)]
@@ -91,106 +89,96 @@ pub(crate) fn unknown(study: &Study<'_>, slot: usize) -> Option<CallCause> {
 }
 
 impl CallCause {
-    // Adds why it is refused.
-    pub(crate) fn put_what(self, out: &mut String) -> Result<(), AllocError> {
+    // Why it is refused.
+    pub(crate) fn what(self) -> Sentence<'static> {
         match self {
-            CallCause::UnresolvedMap { at } => write!(
-                out,
-                "r1 is the number of slot {at}, and no map: a reference that the compiler left there was not resolved."
+            CallCause::UnresolvedMap { at } => of_one(
+                "r1 is the number of slot {}, and no map: a reference that the compiler left there was not resolved.",
+                Word::Count(at),
             ),
-            CallCause::NoMap { kind } => write!(
-                out,
+            CallCause::NoMap { kind } => of_one(
                 "r1 is {}, and a call wants a map there.",
-                Known(kind)
+                Word::Known(kind),
             ),
-            CallCause::ConstantElsewhere { register, at } => write!(
-                out,
-                "{} is the number of slot {at}, and no address: a constant that the compiler put elsewhere isn't there.",
-                Register(register)
+            CallCause::ConstantElsewhere { register, at } => of_two(
+                "{} is the number of slot {}, and no address: a constant that the compiler put elsewhere isn't there.",
+                Word::Register(register),
+                Word::Count(at),
             ),
-            CallCause::NoAddress { register, bytes } => write!(
-                out,
-                "{} is a number, and the call wants the address of {bytes} bytes there.",
-                Register(register)
+            CallCause::NoAddress { register, bytes } => of_two(
+                "{} is a number, and the call wants the address of {} bytes there.",
+                Word::Register(register),
+                Word::Count(bytes),
             ),
-            CallCause::MaybeNull { register } => write!(out, "{} may be null.", Register(register)),
-            CallCause::NoMemory { register, kind } => write!(
-                out,
+            CallCause::MaybeNull { register } => of_one(
+                "{} may be null.",
+                Word::Register(register),
+            ),
+            CallCause::NoMemory { register, kind } => of_two(
                 "{} is {}, and the call wants an address there.",
-                Register(register),
-                Known(kind)
+                Word::Register(register),
+                Word::Known(kind),
             ),
-            CallCause::FlagsPointer { kind } => write!(
-                out,
+            CallCause::FlagsPointer { kind } => of_one(
                 "r4 is {}, and the call wants flags there.",
-                Known(kind)
+                Word::Known(kind),
             ),
-            CallCause::UnknownHelper { id: -1 } => write!(
-                out,
-                "Helper -1 isn't there: the compiler left a call open."
+            CallCause::UnknownHelper { id: -1 } => plain(
+                "Helper -1 isn't there: the compiler left a call open.",
             ),
-            CallCause::UnknownHelper { id } => write!(
-                out,
-                "Helper {id} isn't there: they are 1 (lookup), 2 (update) and 3 (delete)."
+            CallCause::UnknownHelper { id } => of_one(
+                "Helper {} isn't there: they are 1 (lookup), 2 (update) and 3 (delete).",
+                Word::Number(i64::from(id)),
             ),
-            CallCause::UnknownMap { index, maps: 1 } => write!(
-                out,
-                "Map {index} isn't there: the manifest has map 0."
+            CallCause::UnknownMap { index, maps: 1 } => of_one(
+                "Map {} isn't there: the manifest has map 0.",
+                Word::Number(i64::from(index)),
             ),
-            CallCause::UnknownMap { index, maps } => write!(
-                out,
-                "Map {index} isn't there: the manifest has maps 0 to {}.",
-                maps.saturating_sub(1)
+            CallCause::UnknownMap { index, maps } => of_two(
+                "Map {} isn't there: the manifest has maps 0 to {}.",
+                Word::Number(i64::from(index)),
+                Word::Count(maps.saturating_sub(1)),
             ),
         }
     }
 
-    // Adds what to do about it.
-    pub(crate) fn put_fix(self, out: &mut String) -> Result<(), AllocError> {
+    // What to do about it.
+    pub(crate) fn fix(self) -> Sentence<'static> {
         match self {
-            CallCause::UnresolvedMap { .. } => write!(
-                out,
-                "In C write `MAP(n)`: there is no loader for libbpf's map structs. In assembler text: `ldmap r1, n`."
+            CallCause::UnresolvedMap { .. } => plain(
+                "In C write `MAP(n)`: there is no loader for libbpf's map structs. In assembler text: `ldmap r1, n`.",
             ),
-            CallCause::NoMap { .. } => write!(
-                out,
-                "Put `ldmap r1, n` before the call, with the number of the map."
+            CallCause::NoMap { .. } => plain(
+                "Put `ldmap r1, n` before the call, with the number of the map.",
             ),
-            CallCause::ConstantElsewhere { .. } => write!(
-                out,
-                "Store it in the stack, and give its address; in C put it into a local variable."
+            CallCause::ConstantElsewhere { .. } => plain(
+                "Store it in the stack, and give its address; in C put it into a local variable.",
             ),
-            CallCause::NoAddress { bytes, .. } if bytes > 8 => write!(
-                out,
-                "Store all {bytes} bytes in the stack, and give their address."
+            CallCause::NoAddress { bytes, .. } if bytes > 8 => of_one(
+                "Store all {} bytes in the stack, and give their address.",
+                Word::Count(bytes),
             ),
-            CallCause::NoAddress { register, .. } => write!(
-                out,
+            CallCause::NoAddress { register, .. } => of_three(
                 "Store it in the stack, and give its address: `stxdw [r10-8], {}`, `mov64 {}, r10`, `add64 {}, -8`.",
-                Register(register),
-                Register(register),
-                Register(register)
+                Word::Register(register),
+                Word::Register(register),
+                Word::Register(register),
             ),
-            CallCause::MaybeNull { register } => write!(
-                out,
+            CallCause::MaybeNull { register } => of_one(
                 "Test it first: `jeq {}, 0, ..`.",
-                Register(register)
+                Word::Register(register),
             ),
-            CallCause::NoMemory { .. } => write!(
-                out,
-                "Give an address in the stack, the argument or a value."
+            CallCause::NoMemory { .. } => plain(
+                "Give an address in the stack, the argument or a value.",
             ),
-            CallCause::FlagsPointer { .. } => write!(
-                out,
-                "Put a number there: 0 for any key, 1 for a new one only, 2 for one that is there only."
+            CallCause::FlagsPointer { .. } => plain(
+                "Put a number there: 0 for any key, 1 for a new one only, 2 for one that is there only.",
             ),
-            CallCause::UnknownHelper { .. } => write!(
-                out,
-                "Call 1, 2 or 3; what else is wanted, as the time, comes in the argument. In C: `static inline` before the functions that the program calls."
+            CallCause::UnknownHelper { .. } => plain(
+                "Call 1, 2 or 3; what else is wanted, as the time, comes in the argument. In C: `static inline` before the functions that the program calls.",
             ),
-            CallCause::UnknownMap { .. } => write!(
-                out,
-                "Take one that is there, counted from 0, or give the manifest one more map line."
+            CallCause::UnknownMap { .. } => plain(
+                "Take one that is there, counted from 0, or give the manifest one more map line.",
             ),
         }
     }

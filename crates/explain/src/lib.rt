@@ -13,6 +13,7 @@ mod memory;
 mod operands;
 mod operations;
 mod refusals;
+mod sentences;
 mod stack_words;
 mod structural;
 mod study;

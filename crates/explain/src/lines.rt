@@ -1,8 +1,8 @@
 // Why a line is none of a manifest, in words.
 
+use crate::sentences::{Sentence, Word, of_four, of_one, of_two, plain};
 use maps::{MAX_ARG_LEN, MAX_ENTRIES, MAX_KEY_BYTES, MAX_VALUE_BYTES};
 use std::alloc::{AllocError, Global};
-use std::fmt::Write;
 use text::{LINE_BYTES, is_name, number, number_within};
 
 // A number in a line: its name, its text, and its limits.
@@ -153,45 +153,52 @@ impl<'a> LineCause<'a> {
         Ok(of_words(&words))
     }
 
-    // Adds it.
-    pub(crate) fn put(self, out: &mut String) -> Result<(), AllocError> {
+    // It, in words.
+    pub(crate) fn sentence(self) -> Sentence<'a> {
         match self {
-            LineCause::TooLong { bytes } => write!(
-                out,
-                "The line has {bytes} bytes, of at most {LINE_BYTES}. Break a comment into several lines."
+            LineCause::TooLong { bytes } => of_two(
+                "The line has {} bytes, of at most {}. Break a comment into several lines.",
+                Word::Count(bytes),
+                Word::Count(LINE_BYTES),
             ),
-            LineCause::Blank { what, column } => write!(
-                out,
-                "There is {what} in column {column}: fields are separated by one space, and nothing follows the last."
+            LineCause::Blank { what, column } => of_two(
+                "There is {} in column {}: fields are separated by one space, and nothing follows the last.",
+                Word::Text(what),
+                Word::Count(column),
             ),
-            LineCause::UnknownWord { word } => write!(
-                out,
-                "A line begins with `map`, `program` or `#`, and not with `{word}`."
+            LineCause::UnknownWord { word } => of_one(
+                "A line begins with `map`, `program` or `#`, and not with `{}`.",
+                Word::Text(word),
             ),
-            LineCause::UnknownKind { word } => write!(
-                out,
-                "A map is an `array` or a `hash`, and no `{word}`."
+            LineCause::UnknownKind { word } => of_one(
+                "A map is an `array` or a `hash`, and no `{}`.",
+                Word::Text(word),
             ),
-            LineCause::Fields { form } => write!(
-                out,
-                "The line has more or fewer fields than `{form}`."
+            LineCause::Fields { form } => of_one(
+                "The line has more or fewer fields than `{}`.",
+                Word::Text(form),
             ),
-            LineCause::NoNumber(field) => write!(
-                out,
+            LineCause::NoNumber(field) => of_two(
                 "{} is no number: `{}`. Numbers are decimal, without sign and leading zeros, and below 2^64.",
-                field.name, field.text
+                Word::Text(field.name),
+                Word::Text(field.text),
             ),
-            LineCause::OutOfLimits(field) => write!(
-                out,
+            LineCause::OutOfLimits(field) => of_four(
                 "{} is {}, and goes from {} to {}.",
-                field.name, field.text, field.low, field.high
+                Word::Text(field.name),
+                Word::Text(field.text),
+                Word::Field(field.low),
+                Word::Field(field.high),
             ),
-            LineCause::NoName { name } => write!(
-                out,
-                "`{name}` is no name: 1 to 32 of a-z, 0-9, _ and -, the first a letter."
+            LineCause::NoName { name } => of_one(
+                "`{}` is no name: 1 to 32 of a-z, 0-9, _ and -, the first a letter.",
+                Word::Text(name),
             ),
-            LineCause::NoMode { mode } => write!(out, "`{mode}` is no mode: `update` or `read`."),
-            LineCause::NoPath => write!(out, "FILE is 1 to 255 printable characters of ASCII."),
+            LineCause::NoMode { mode } => of_one(
+                "`{}` is no mode: `update` or `read`.",
+                Word::Text(mode),
+            ),
+            LineCause::NoPath => plain("FILE is 1 to 255 printable characters of ASCII."),
         }
     }
 }

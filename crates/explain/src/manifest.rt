@@ -1,6 +1,6 @@
 // A manifest, line by line: what is known of each program, and what is wrong with each other line that is bad.
 
-use crate::files::{put_bad_hex, put_no_program};
+use crate::files::{bad_hex, no_program};
 use crate::lines::LineCause;
 use crate::listing::explain_program;
 use crate::subject::Subject;
@@ -70,7 +70,7 @@ impl<'a> Explanation<'a> {
         }
         let mut out = fault(alloc, number, 1)?;
         if let Some(cause) = LineCause::of(alloc, line)? {
-            cause.put(&mut out)?;
+            write!(out, "{}", cause.sentence())?;
         }
         out.push_str("\n")?;
         Ok(out)
@@ -142,8 +142,7 @@ impl<'a> Explanation<'a> {
         };
         let Some(bytes) = spaced_hex(alloc, text)? else {
             let mut out = file_fault(alloc, number, 2, line)?;
-            put_bad_hex(alloc, &mut out, text)?;
-            out.push_str("\n")?;
+            writeln!(out, "{}", bad_hex(alloc, text))?;
             return Ok(out);
         };
         match decode(alloc, &bytes) {
@@ -152,9 +151,7 @@ impl<'a> Explanation<'a> {
             Err(DecodeError::Refused(refusal)) => {
                 let mut out = file_fault(alloc, number, 3, line)?;
                 writeln!(out, "D{} at slot {}.", refusal.why.number(), refusal.slot)?;
-                out.push_str("      ")?;
-                put_no_program(&mut out, &bytes, refusal)?;
-                out.push_str("\n")?;
+                writeln!(out, "      {}", no_program(&bytes, refusal))?;
                 Ok(out)
             }
         }

@@ -2,14 +2,13 @@
 
 use crate::accesses::{Access, Region, Use, accesses, region_of};
 use crate::operands::tested;
+use crate::sentences::{Sentence, Word, of_four, of_one, of_three, of_two, plain, small};
 use crate::stack_words::{from_end, is_marked, is_of_pointer};
 use crate::study::Study;
 use crate::ways::{Lack, Way};
-use crate::words::{Bytes, Known, Range, Register};
+use crate::words::Range;
 use insn::Form;
 use regkind::{Frame, Kind};
-use std::alloc::AllocError;
-use std::fmt::Write;
 
 // Why an access is refused.
 #[derive(Clone, Copy)]
@@ -160,65 +159,97 @@ impl Gap {
         })
     }
 
-    // Adds which bytes can't be read.
-    fn put_what(self, out: &mut String) -> Result<(), AllocError> {
-        let missing = self.missing;
-        let count = Bytes(usize::try_from(self.access.bytes).unwrap_or(0));
+    // How many bytes of all can be read.
+    fn head(self) -> Sentence<'static> {
+        let (readable, at) = (Word::Count(self.readable), Word::Number(self.access.at));
+        let count = Word::Bytes(usize::try_from(self.access.bytes).unwrap_or(0));
         match self.access.what {
-            Use::Key(map) => write!(
-                out,
-                "{} of the {count} of map {map}'s key at stack {} can be read: ",
-                self.readable, self.access.at
-            )?,
-            Use::Value(map) => write!(
-                out,
-                "{} of the {count} of map {map}'s value at stack {} can be read: ",
-                self.readable, self.access.at
-            )?,
-            Use::Load | Use::Store => write!(
-                out,
-                "{} of the {count} at stack {} can be read: ",
-                self.readable, self.access.at
-            )?,
-        }
-        match (self.ended, self.parted) {
-            _ if self.is_pointer => write!(out, "stack {missing} is a part of a pointer."),
-            (Some(at), _) => write!(
-                out,
-                "stack {missing} had a pointer, which ended at slot {at}."
+            Use::Key(map) => of_four(
+                "{} of the {} of map {}'s key at stack {} can be read: ",
+                readable,
+                count,
+                small(map),
+                at,
             ),
-            (None, Some(at)) => write!(
-                out,
-                "stack {missing} isn't written on this way, as it is on another to slot {at}."
+            Use::Value(map) => of_four(
+                "{} of the {} of map {}'s value at stack {} can be read: ",
+                readable,
+                count,
+                small(map),
+                at,
             ),
-            (None, None) => write!(out, "stack {missing} isn't written."),
+            Use::Load | Use::Store => of_three(
+                "{} of the {} at stack {} can be read: ",
+                readable,
+                count,
+                at,
+            ),
         }
     }
 
-    // Adds what to do about it.
-    fn put_fix(self, out: &mut String) -> Result<(), AllocError> {
-        match self.parted {
-            _ if self.is_pointer => write!(
-                out,
-                "Load a pointer by the 8 bytes into which it was stored; keys and values are numbers."
+    // Which bytes can't be read.
+    fn what(self) -> Sentence<'static> {
+        let missing = Word::Range(self.missing);
+        match (self.ended, self.parted) {
+            _ if self.is_pointer => of_one("stack {} is a part of a pointer.", missing),
+            (Some(at), _) => of_two(
+                "stack {} had a pointer, which ended at slot {}.",
+                missing,
+                Word::Count(at),
             ),
-            _ if self.ended.is_some() => write!(
-                out,
-                "Look its key up again, or store it elsewhere: an update or a delete ends the stored pointers to values of its map, and a byte stored over a pointer ends it."
+            (None, Some(at)) => of_two(
+                "stack {} isn't written on this way, as it is on another to slot {}.",
+                missing,
+                Word::Count(at),
             ),
-            Some(_) => write!(out, "Write it before the ways part."),
-            None if self.is_padding() => write!(
-                out,
-                "Write it too. In C it is often the padding of a struct: clear all of it first (`__builtin_memset(&x, 0, sizeof x)`), or order the fields so that none is left."
-            ),
-            None => write!(out, "Write it first."),
+            (None, None) => of_one("stack {} isn't written.", missing),
         }
+    }
+
+    // What to do about it.
+    fn fix(self) -> Sentence<'static> {
+        plain(match self.parted {
+            _ if self.is_pointer =>
+                "Load a pointer by the 8 bytes into which it was stored; keys and values are numbers.",
+            _ if self.ended.is_some() =>
+                "Look its key up again, or store it elsewhere: an update or a delete ends the stored pointers to values of its map, and a byte stored over a pointer ends it.",
+            Some(_) => "Write it before the ways part.",
+            None if self.is_padding() =>
+                "Write it too. In C it is often the padding of a struct: clear all of it first (`__builtin_memset(&x, 0, sizeof x)`), or order the fields so that none is left.",
+            None => "Write it first.",
+        })
     }
 }
 
 impl Outside {
-    // Adds what is wanted, and what is there.
-    fn put_what(self, out: &mut String) -> Result<(), AllocError> {
+    // What is asked of the region, and through what.
+    fn head(self) -> Sentence<'static> {
+        let (name, known) = (
+            Word::Register(self.access.register),
+            Word::Known(self.access.kind),
+        );
+        let bytes = Word::Number(self.access.bytes);
+        match self.access.what {
+            Use::Key(map) => of_four(
+                "Map {} has keys of {} bytes, and {} is {}: ",
+                small(map),
+                bytes,
+                name,
+                known,
+            ),
+            Use::Value(map) => of_four(
+                "Map {} has values of {} bytes, and {} is {}: ",
+                small(map),
+                bytes,
+                name,
+                known,
+            ),
+            Use::Load | Use::Store => of_two("{} is {}: ", name, known),
+        }
+    }
+
+    // What is wanted, and what is there.
+    fn what(self) -> Sentence<'static> {
         let wanted = Range {
             first: self.access.at,
             last: self.access.last(),
@@ -227,55 +258,49 @@ impl Outside {
             first: self.region.low,
             last: self.region.high.saturating_sub(1),
         };
-        let (name, known) = (Register(self.access.register), Known(self.access.kind));
-        match self.access.what {
-            Use::Key(map) => write!(
-                out,
-                "Map {map} has keys of {} bytes, and {name} is {known}: ",
-                self.access.bytes
-            )?,
-            Use::Value(map) => write!(
-                out,
-                "Map {map} has values of {} bytes, and {name} is {known}: ",
-                self.access.bytes
-            )?,
-            Use::Load | Use::Store => write!(out, "{name} is {known}: ")?,
-        }
         let region = match self.access.kind {
             Kind::Stack(_) => "stack",
             Kind::Arg(_) => "argument",
             _ => "value",
         };
-        match self.region.high {
-            0 if self.region.low == 0 => write!(
-                out,
-                "bytes {wanted} of the {region} are wanted, and it has none."
-            ),
-            _ => write!(
-                out,
-                "bytes {wanted} of the {region} are wanted, and it has {there}."
-            ),
+        let (wanted, region) = (Word::Range(wanted), Word::Text(region));
+        if self.region.high == 0 && self.region.low == 0 {
+            of_two(
+                "bytes {} of the {} are wanted, and it has none.",
+                wanted,
+                region,
+            )
+        } else {
+            of_three(
+                "bytes {} of the {} are wanted, and it has {}.",
+                wanted,
+                region,
+                Word::Range(there),
+            )
         }
     }
 
-    // Adds what to do about it.
-    fn put_fix(self, out: &mut String) -> Result<(), AllocError> {
+    // What to do about it.
+    fn fix(self) -> Sentence<'static> {
         let needed = self.access.last().saturating_add(1);
-        let other = match self.access.what {
+        let other = Word::Text(match self.access.what {
             Use::Load | Use::Store => "take fewer bytes",
             Use::Key(_) | Use::Value(_) => "give another address",
-        };
+        });
         match self.access.kind {
-            Kind::Arg(_) if self.access.at >= 0 && needed <= 64 => write!(
-                out,
-                "Raise ARGLEN to {needed} in the manifest, and give as many bytes in each call; or {other}."
+            Kind::Arg(_) if self.access.at >= 0 && needed <= 64 => of_two(
+                "Raise ARGLEN to {} in the manifest, and give as many bytes in each call; or {}.",
+                Word::Number(needed),
+                other,
             ),
-            Kind::Value(map, _) if self.access.at >= 0 && needed <= 256 => write!(
-                out,
-                "Raise VALUE of map {map} to {needed} in the manifest, or {other}."
+            Kind::Value(map, _) if self.access.at >= 0 && needed <= 256 => of_three(
+                "Raise VALUE of map {} to {} in the manifest, or {}.",
+                small(map),
+                Word::Number(needed),
+                other,
             ),
-            Kind::Stack(_) => write!(out, "Stay between r10 - 512 and r10."),
-            _ => write!(out, "Stay within the bytes that are there."),
+            Kind::Stack(_) => plain("Stay between r10 - 512 and r10."),
+            _ => plain("Stay within the bytes that are there."),
         }
     }
 }
@@ -300,35 +325,44 @@ pub(crate) fn maybe_null(study: &Study<'_>, way: &Way, register: u8) -> MemoryCa
 }
 
 impl MaybeNull {
-    // Adds what may be null.
-    fn put_what(self, out: &mut String) -> Result<(), AllocError> {
-        let name = Register(self.register);
-        write!(out, "{name} may be null: it is the answer of the lookup")?;
-        if let Some(at) = self.lookup {
-            write!(out, " at slot {at}")?;
-        }
-        match self.copy {
-            Some((other, at)) => write!(
-                out,
-                ", and the test at slot {at} is of {}, which says nothing of {name}.",
-                Register(other)
+    // What may be null.
+    fn head(self) -> Sentence<'static> {
+        let name = Word::Register(self.register);
+        match self.lookup {
+            None => of_one("{} may be null: it is the answer of the lookup", name),
+            Some(at) => of_two(
+                "{} may be null: it is the answer of the lookup at slot {}",
+                name,
+                Word::Count(at),
             ),
-            None => write!(out, ", and nothing on the way tests it."),
         }
     }
 
-    // Adds what to do about it.
-    fn put_fix(self, out: &mut String) -> Result<(), AllocError> {
-        let name = Register(self.register);
+    // Where it is tested, if it is.
+    fn what(self) -> Sentence<'static> {
         match self.copy {
-            Some((other, _)) => write!(
-                out,
-                "Use {} behind its test, or test {name}. In C without optimisation, or where the pointer lives over a call: test the very variable that is used.",
-                Register(other)
+            Some((other, at)) => of_three(
+                ", and the test at slot {} is of {}, which says nothing of {}.",
+                Word::Count(at),
+                Word::Register(other),
+                Word::Register(self.register),
             ),
-            None => write!(
-                out,
-                "Test it first: `jeq {name}, 0, ..` goes past its use where it is null."
+            None => plain(", and nothing on the way tests it."),
+        }
+    }
+
+    // What to do about it.
+    fn fix(self) -> Sentence<'static> {
+        let name = Word::Register(self.register);
+        match self.copy {
+            Some((other, _)) => of_two(
+                "Use {} behind its test, or test {}. In C without optimisation, or where the pointer lives over a call: test the very variable that is used.",
+                Word::Register(other),
+                name,
+            ),
+            None => of_one(
+                "Test it first: `jeq {}, 0, ..` goes past its use where it is null.",
+                name,
             ),
         }
     }
@@ -354,56 +388,58 @@ pub(crate) fn stored_pointer(study: &Study<'_>, slot: usize) -> Option<MemoryCau
 }
 
 impl MemoryCause {
-    // Adds why the access is refused.
-    pub(crate) fn put_what(self, out: &mut String) -> Result<(), AllocError> {
+    // How it is told why the access is refused.
+    pub(crate) fn head(self) -> Sentence<'static> {
         match self {
-            MemoryCause::Outside(outside) => outside.put_what(out),
-            MemoryCause::Unwritten(gap) => gap.put_what(out),
-            MemoryCause::ArgumentWritten { register } => write!(
-                out,
+            MemoryCause::Outside(outside) => outside.head(),
+            MemoryCause::Unwritten(gap) => gap.head(),
+            MemoryCause::MaybeNull(maybe) => maybe.head(),
+            _ => plain(""),
+        }
+    }
+
+    // Why the access is refused.
+    pub(crate) fn what(self) -> Sentence<'static> {
+        match self {
+            MemoryCause::Outside(outside) => outside.what(),
+            MemoryCause::Unwritten(gap) => gap.what(),
+            MemoryCause::ArgumentWritten { register } => of_one(
                 "{} points into the argument, which is read-only.",
-                Register(register)
+                Word::Register(register),
             ),
-            MemoryCause::PointerInValue { register } => write!(
-                out,
+            MemoryCause::PointerInValue { register } => of_one(
                 "{} is a pointer, and a value keeps numbers alone: another program couldn't use it.",
-                Register(register)
+                Word::Register(register),
             ),
-            MemoryCause::PointerBetweenCells { register, at } => write!(
-                out,
-                "{} is a pointer, and stack {at} isn't the first byte of a cell, or not 8 bytes are stored.",
-                Register(register)
+            MemoryCause::PointerBetweenCells { register, at } => of_two(
+                "{} is a pointer, and stack {} isn't the first byte of a cell, or not 8 bytes are stored.",
+                Word::Register(register),
+                Word::Number(at),
             ),
-            MemoryCause::MaybeNull(maybe) => maybe.put_what(out),
-            MemoryCause::ReadMode { line } => write!(
-                out,
-                "Line {line} of the manifest says `read`, and this instruction changes a map."
+            MemoryCause::MaybeNull(maybe) => maybe.what(),
+            MemoryCause::ReadMode { line } => of_one(
+                "Line {} of the manifest says `read`, and this instruction changes a map.",
+                Word::Field(u64::from(line)),
             ),
         }
     }
 
-    // Adds what to do about it.
-    pub(crate) fn put_fix(self, out: &mut String) -> Result<(), AllocError> {
+    // What to do about it.
+    pub(crate) fn fix(self) -> Sentence<'static> {
         match self {
-            MemoryCause::Outside(outside) => outside.put_fix(out),
-            MemoryCause::Unwritten(gap) => gap.put_fix(out),
-            MemoryCause::ArgumentWritten { .. } => write!(
-                out,
-                "Copy it to the stack (`ldxdw`, `stxdw`) and change it there."
+            MemoryCause::Outside(outside) => outside.fix(),
+            MemoryCause::Unwritten(gap) => gap.fix(),
+            MemoryCause::ArgumentWritten { .. } => plain(
+                "Copy it to the stack (`ldxdw`, `stxdw`) and change it there.",
             ),
-            MemoryCause::PointerInValue { .. } => write!(
-                out,
-                "Store its key, and look it up again; or store what it points to."
+            MemoryCause::PointerInValue { .. } => plain(
+                "Store its key, and look it up again; or store what it points to.",
             ),
-            MemoryCause::PointerBetweenCells { .. } => write!(
-                out,
-                "Store its 8 bytes (`stxdw`) at r10 - 8, r10 - 16, .. or r10 - 512, or keep it in r6 to r9."
+            MemoryCause::PointerBetweenCells { .. } => plain(
+                "Store its 8 bytes (`stxdw`) at r10 - 8, r10 - 16, .. or r10 - 512, or keep it in r6 to r9.",
             ),
-            MemoryCause::MaybeNull(maybe) => maybe.put_fix(out),
-            MemoryCause::ReadMode { .. } => write!(
-                out,
-                "Write `update` there, or take the change out."
-            ),
+            MemoryCause::MaybeNull(maybe) => maybe.fix(),
+            MemoryCause::ReadMode { .. } => plain("Write `update` there, or take the change out."),
         }
     }
 }

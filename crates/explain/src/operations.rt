@@ -1,14 +1,13 @@
 // Why an operation is refused: V7 to V9, and V17.
 
 use crate::accesses::{offset_of, region_of};
+use crate::sentences::{Sentence, Word, of_four, of_one, of_three, of_two, plain, small};
 use crate::study::Study;
 use crate::ways::Way;
-use crate::words::{Known, Range, Register};
+use crate::words::Range;
 use helpers::Helper;
 use insn::{Condition, Form, Operation, Source, distance};
 use regkind::Kind;
-use std::alloc::AllocError;
-use std::fmt::Write;
 
 // Why an operation isn't defined on what its operands have.
 #[derive(Clone, Copy)]
@@ -213,167 +212,146 @@ pub(crate) fn pointer_reply(study: &Study<'_>, slot: usize) -> OperationCause {
 }
 
 impl OperationCause {
-    // Adds why it is refused.
-    pub(crate) fn put_what(self, out: &mut String) -> Result<(), AllocError> {
+    // Why it is refused.
+    pub(crate) fn what(self) -> Sentence<'static> {
         match self {
-            OperationCause::StackEndWritten => write!(
-                out,
-                "r10 is the stack's end, and can't be changed."
+            OperationCause::StackEndWritten => plain(
+                "r10 is the stack's end, and can't be changed.",
             ),
-            OperationCause::ThroughConstant { register, at } => write!(
-                out,
-                "The number of slot {at} is used as an address, in {}. Often the compiler left a reference to a global or a constant there, which nothing resolves: a program has the argument, the stack and maps alone.",
-                Register(register)
+            OperationCause::ThroughConstant { register, at } => of_two(
+                "The number of slot {} is used as an address, in {}. Often the compiler left a reference to a global or a constant there, which nothing resolves: a program has the argument, the stack and maps alone.",
+                Word::Count(at),
+                Word::Register(register),
             ),
-            OperationCause::ThroughLoaded { register, at } => write!(
-                out,
-                "{} is the number that was loaded at slot {at}: a pointer doesn't come back as one from a value or an argument.",
-                Register(register)
+            OperationCause::ThroughLoaded { register, at } => of_two(
+                "{} is the number that was loaded at slot {}: a pointer doesn't come back as one from a value or an argument.",
+                Word::Register(register),
+                Word::Count(at),
             ),
-            OperationCause::ThroughNumber { register } => write!(
-                out,
+            OperationCause::ThroughNumber { register } => of_one(
                 "{} is a number, and no pointer.",
-                Register(register)
+                Word::Register(register),
             ),
-            OperationCause::ThroughNull { register, at } => write!(
-                out,
-                "{} is null here: it is the answer of the lookup at slot {at}, and a test led this way where that is null.",
-                Register(register)
+            OperationCause::ThroughNull { register, at } => of_two(
+                "{} is null here: it is the answer of the lookup at slot {}, and a test led this way where that is null.",
+                Word::Register(register),
+                Word::Count(at),
             ),
-            OperationCause::ThroughMap { register, map } => write!(
-                out,
-                "{} is map {map} itself, and not a value of it.",
-                Register(register)
+            OperationCause::ThroughMap { register, map } => of_two(
+                "{} is map {} itself, and not a value of it.",
+                Word::Register(register),
+                small(map),
             ),
-            OperationCause::VariableDistance { pointer, kind, by } => write!(
-                out,
+            OperationCause::VariableDistance { pointer, kind, by } => of_three(
                 "{} is {}, and {} is no constant: distances of pointers are.",
-                Register(pointer),
-                Known(kind),
-                Register(by)
+                Word::Register(pointer),
+                Word::Known(kind),
+                Word::Register(by),
             ),
-            OperationCause::MovedUntested { register, map } => write!(
-                out,
-                "{} is a value of map {map}, or null, and null can't be moved.",
-                Register(register)
+            OperationCause::MovedUntested { register, map } => of_two(
+                "{} is a value of map {}, or null, and null can't be moved.",
+                Word::Register(register),
+                small(map),
             ),
-            OperationCause::MovedMap { register, map } => write!(
-                out,
-                "{} is map {map} itself, which isn't moved.",
-                Register(register)
+            OperationCause::MovedMap { register, map } => of_two(
+                "{} is map {} itself, which isn't moved.",
+                Word::Register(register),
+                small(map),
             ),
-            OperationCause::CutPointer { register, kind } => write!(
-                out,
+            OperationCause::CutPointer { register, kind } => of_two(
                 "{} is {}, and 32 bits of a pointer are no pointer.",
-                Register(register),
-                Known(kind)
+                Word::Register(register),
+                Word::Known(kind),
             ),
-            OperationCause::NeverNull { register, kind } => write!(
-                out,
+            OperationCause::NeverNull { register, kind } => of_two(
                 "{} is {}, which is never null.",
-                Register(register),
-                Known(kind)
+                Word::Register(register),
+                Word::Known(kind),
             ),
-            OperationCause::NarrowTest { register } => write!(
-                out,
+            OperationCause::NarrowTest { register } => of_one(
                 "{} is tested by 32 of its 64 bits.",
-                Register(register)
+                Word::Register(register),
             ),
-            OperationCause::ComparedPointer { register, kind } => write!(
-                out,
+            OperationCause::ComparedPointer { register, kind } => of_two(
                 "{} is {}, and pointers can't be compared.",
-                Register(register),
-                Known(kind)
+                Word::Register(register),
+                Word::Known(kind),
             ),
-            OperationCause::PointerBits { register, kind } => write!(
-                out,
+            OperationCause::PointerBits { register, kind } => of_two(
                 "{} is {}, and a pointer's bits can't be had.",
-                Register(register),
-                Known(kind)
+                Word::Register(register),
+                Word::Known(kind),
             ),
             OperationCause::MovedOut {
                 register,
                 kind,
                 to,
                 region,
-            } => write!(
-                out,
-                "{} is {}, and would be moved to {to}, where it may go from {region}.",
-                Register(register),
-                Known(kind)
+            } => of_four(
+                "{} is {}, and would be moved to {}, where it may go from {}.",
+                Word::Register(register),
+                Word::Known(kind),
+                Word::Number(to),
+                Word::Range(region),
             ),
-            OperationCause::ReplyMayBeNull { map } => write!(
-                out,
-                "The reply in r0 is the answer of a lookup in map {map} itself."
+            OperationCause::ReplyMayBeNull { map } => of_one(
+                "The reply in r0 is the answer of a lookup in map {} itself.",
+                small(map),
             ),
-            OperationCause::PointerReply { kind } => write!(
-                out,
+            OperationCause::PointerReply { kind } => of_one(
                 "The reply in r0 is {}.",
-                Known(kind)
+                Word::Known(kind),
             ),
         }
     }
 
-    // Adds what to do about it.
-    pub(crate) fn put_fix(self, out: &mut String) -> Result<(), AllocError> {
+    // What to do about it.
+    pub(crate) fn fix(self) -> Sentence<'static> {
         match self {
-            OperationCause::StackEndWritten => write!(
-                out,
-                "Move a copy: `mov64 r2, r10`, then `add64 r2, -8`."
+            OperationCause::StackEndWritten => plain(
+                "Move a copy: `mov64 r2, r10`, then `add64 r2, -8`.",
             ),
-            OperationCause::ThroughConstant { .. } => write!(
-                out,
-                "Put the table into a map, or compute it; for a map write `MAP(n)` in C."
+            OperationCause::ThroughConstant { .. } => plain(
+                "Put the table into a map, or compute it; for a map write `MAP(n)` in C.",
             ),
-            OperationCause::ThroughLoaded { .. } => write!(
-                out,
-                "Keep what it points to, or look it up again."
+            OperationCause::ThroughLoaded { .. } => plain(
+                "Keep what it points to, or look it up again.",
             ),
-            OperationCause::ThroughNumber { .. } => write!(
-                out,
-                "Go through a pointer: the argument, the stack, or a value that was looked up."
+            OperationCause::ThroughNumber { .. } => plain(
+                "Go through a pointer: the argument, the stack, or a value that was looked up.",
             ),
-            OperationCause::ThroughNull { .. } => write!(
-                out,
-                "Turn the test round: `jeq` for `jne`, or `jne` for `jeq`."
+            OperationCause::ThroughNull { .. } => plain(
+                "Turn the test round: `jeq` for `jne`, or `jne` for `jeq`.",
             ),
-            OperationCause::ThroughMap { .. } => write!(
-                out,
-                "Call lookup (`call 1`) with the map in r1 and a key's address in r2, and test what it answers."
+            OperationCause::ThroughMap { .. } => plain(
+                "Call lookup (`call 1`) with the map in r1 and a key's address in r2, and test what it answers.",
             ),
-            OperationCause::VariableDistance { .. } => write!(
-                out,
-                "Choose by compares among constant distances, or make the index part of a map's key. Where clang merged several reads into one: read each into a variable of its own before the choice, or put `asm volatile(\"\" ::: \"memory\")` between."
+            OperationCause::VariableDistance { .. } => plain(
+                "Choose by compares among constant distances, or make the index part of a map's key. Where clang merged several reads into one: read each into a variable of its own before the choice, or put `asm volatile(\"\" ::: \"memory\")` between.",
             ),
-            OperationCause::MovedUntested { register, .. } => write!(
-                out,
+            OperationCause::MovedUntested { register, .. } => of_one(
                 "Test it first: `jeq {}, 0, ..`.",
-                Register(register)
+                Word::Register(register),
             ),
-            OperationCause::MovedMap { .. } => write!(
-                out,
-                "Leave it out: the key chooses the value, and what the lookup answers can be moved within it."
+            OperationCause::MovedMap { .. } => plain(
+                "Leave it out: the key chooses the value, and what the lookup answers can be moved within it.",
             ),
-            OperationCause::CutPointer { .. } => write!(out, "Copy it by `mov64`."),
-            OperationCause::NeverNull { .. } => write!(out, "Leave the test out."),
-            OperationCause::NarrowTest { .. } => write!(out, "Write `jeq` or `jne`, without 32."),
-            OperationCause::ComparedPointer { .. } => write!(
-                out,
-                "Compare numbers, as the keys or what is loaded; of pointers only a lookup's answer is compared, and with 0 alone."
+            OperationCause::CutPointer { .. } => plain("Copy it by `mov64`."),
+            OperationCause::NeverNull { .. } => plain("Leave the test out."),
+            OperationCause::NarrowTest { .. } => plain("Write `jeq` or `jne`, without 32."),
+            OperationCause::ComparedPointer { .. } => plain(
+                "Compare numbers, as the keys or what is loaded; of pointers only a lookup's answer is compared, and with 0 alone.",
             ),
-            OperationCause::PointerBits { .. } => write!(
-                out,
-                "Compute with the number to which it points: load that first."
+            OperationCause::PointerBits { .. } => plain(
+                "Compute with the number to which it points: load that first.",
             ),
-            OperationCause::MovedOut { .. } => write!(
-                out,
-                "Move it within, step by step; the end itself is allowed."
+            OperationCause::MovedOut { .. } => plain(
+                "Move it within, step by step; the end itself is allowed.",
             ),
-            OperationCause::ReplyMayBeNull { .. } => write!(
-                out,
-                "Test it, then load the number: `ldxdw r0, [r0+0]`."
+            OperationCause::ReplyMayBeNull { .. } => plain(
+                "Test it, then load the number: `ldxdw r0, [r0+0]`.",
             ),
-            OperationCause::PointerReply { .. } => write!(out, "Put a number into r0."),
+            OperationCause::PointerReply { .. } => plain("Put a number into r0."),
         }
     }
 }

@@ -4,6 +4,7 @@ use crate::accesses::accesses;
 use crate::calls::{CallCause, unknown, wrong_argument};
 use crate::memory::{MemoryCause, gap_at, maybe_null, outside_at, stored_pointer};
 use crate::operations::{OperationCause, moved_out, pointer_reply, undefined};
+use crate::sentences::{Sentence, Word, of_one, plain};
 use crate::structural::StructureCause;
 use crate::study::Study;
 use crate::unreadable::{UnreadableCause, unreadable_at, unreadable_way};
@@ -117,52 +118,63 @@ pub(crate) fn account_of(
 }
 
 impl Cause {
-    // Adds what is wrong at a slot.
-    fn put_what(
-        self,
-        out: &mut String,
-        study: &Study<'_>,
-        refused: Refused,
-    ) -> Result<(), AllocError> {
+    // How it is told what is wrong.
+    fn head(self) -> Sentence<'static> {
         match self {
-            Cause::Structure(cause) => cause.put_what(out, study, refused.slot as usize),
-            Cause::Unreadable(register, cause) => cause.put_what(out, register),
-            Cause::Operation(cause) => cause.put_what(out),
-            Cause::Memory(cause) => cause.put_what(out),
-            Cause::Call(cause) => cause.put_what(out),
-            Cause::Other => write!(out, "{}.", refused.why),
+            Cause::Memory(cause) => cause.head(),
+            _ => plain(""),
         }
     }
 
-    // Adds what to do about it.
-    fn put_fix(self, out: &mut String, refused: Refused) -> Result<(), AllocError> {
+    // What is wrong at a slot.
+    fn what(self, study: &Study<'_>, refused: Refused) -> Sentence<'static> {
         match self {
-            Cause::Structure(cause) => cause.put_fix(out, refused.slot as usize),
-            Cause::Unreadable(register, cause) => cause.put_fix(out, register),
-            Cause::Operation(cause) => cause.put_fix(out),
-            Cause::Memory(cause) => cause.put_fix(out),
-            Cause::Call(cause) => cause.put_fix(out),
-            Cause::Other => write!(out, "REFUSALS has more of it."),
+            Cause::Structure(cause) => cause.what(study, refused.slot as usize),
+            Cause::Unreadable(register, cause) => cause.what(register),
+            Cause::Operation(cause) => cause.what(),
+            Cause::Memory(cause) => cause.what(),
+            Cause::Call(cause) => cause.what(),
+            Cause::Other => of_one("{}.", Word::Fault(refused.why)),
         }
     }
+
+    // What to do about it.
+    fn fix(self, refused: Refused) -> Sentence<'static> {
+        match self {
+            Cause::Structure(cause) => cause.fix(refused.slot as usize),
+            Cause::Unreadable(register, cause) => cause.fix(register),
+            Cause::Operation(cause) => cause.fix(),
+            Cause::Memory(cause) => cause.fix(),
+            Cause::Call(cause) => cause.fix(),
+            Cause::Other => plain("REFUSALS has more of it."),
+        }
+    }
+
+    // Adds what is wrong at a slot, and what to do about it.
+    fn put(self, out: &mut String, study: &Study<'_>, refused: Refused) -> Result<(), AllocError> {
+        let (head, what, fix) = (self.head(), self.what(study, refused), self.fix(refused));
+        write!(out, "{head}{what}\n      To do: {fix}\n")
+    }
+}
+
+// Adds under which number it is refused, and where.
+fn put_number(out: &mut String, refused: Refused) -> Result<(), AllocError> {
+    write!(
+        out,
+        "      V{} at slot {}.",
+        refused.why.number(),
+        refused.slot
+    )
 }
 
 // Adds a refusal by structure.
 fn put_structure(out: &mut String, study: &Study<'_>, refused: Refused) -> Result<(), AllocError> {
-    if let Some(cause) = StructureCause::of(study, refused) {
-        let cause = Cause::Structure(cause);
-        write!(
-            out,
-            "      V{} at slot {}.\n      ",
-            refused.why.number(),
-            refused.slot
-        )?;
-        cause.put_what(out, study, refused)?;
-        out.push_str("\n      To do: ")?;
-        cause.put_fix(out, refused)?;
-        out.push_str("\n")?;
-    }
-    Ok(())
+    let Some(cause) = StructureCause::of(study, refused) else {
+        return Ok(());
+    };
+    put_number(out, refused)?;
+    out.push_str("\n      ")?;
+    Cause::Structure(cause).put(out, study, refused)
 }
 
 // Adds a refusal by kinds, with the way there.
@@ -173,18 +185,11 @@ fn put_kinds(
     refused: Refused,
 ) -> Result<(), AllocError> {
     let account = account_of(alloc, study, refused)?;
-    write!(
-        out,
-        "      V{} at slot {}. The way: ",
-        refused.why.number(),
-        refused.slot
-    )?;
+    put_number(out, refused)?;
+    out.push_str(" The way: ")?;
     account.way.put(out)?;
     out.push_str(".\n      ")?;
-    account.cause.put_what(out, study, refused)?;
-    out.push_str("\n      To do: ")?;
-    account.cause.put_fix(out, refused)?;
-    out.push_str("\n")
+    account.cause.put(out, study, refused)
 }
 
 // Adds why the program is refused, if it is: by its structure first, and by kinds as far as these are known.

@@ -1,11 +1,9 @@
 // Why a program's structure is refused: V1 to V5.
 
 use crate::operands::reads;
+use crate::sentences::{Sentence, Word, of_one, of_two, plain};
 use crate::study::Study;
-use crate::words::Register;
 use insn::Form;
-use std::alloc::AllocError;
-use std::fmt::Write;
 use verifier::{Refused, VerifyFault};
 
 // What is wrong with the structure.
@@ -122,101 +120,93 @@ impl StructureCause {
         }
     }
 
-    // Adds what is wrong.
-    pub(crate) fn put_what(
-        self,
-        out: &mut String,
-        study: &Study<'_>,
-        slot: usize,
-    ) -> Result<(), AllocError> {
+    // What is wrong.
+    pub(crate) fn what(self, study: &Study<'_>, slot: usize) -> Sentence<'static> {
         let slots = study.slots();
         match self {
-            StructureCause::BehindTheLast { target } => write!(
-                out,
-                "The jump leads to slot {target}, just behind the last instruction: a label at the end of the text names none."
+            StructureCause::BehindTheLast { target } => of_one(
+                "The jump leads to slot {}, just behind the last instruction: a label at the end of the text names none.",
+                Word::Number(target),
             ),
-            StructureCause::Outside { target } => write!(
-                out,
-                "The jump leads to slot {target}; the program has slots 0 to {}. A jump is counted in slots from the next instruction, and `lddw` and `ldmap` take two.",
-                slots.saturating_sub(1)
+            StructureCause::Outside { target } => of_two(
+                "The jump leads to slot {}; the program has slots 0 to {}. A jump is counted in slots from the next instruction, and `lddw` and `ldmap` take two.",
+                Word::Number(target),
+                Word::Count(slots.saturating_sub(1)),
             ),
-            StructureCause::Backward { target } => write!(
-                out,
-                "This is a loop: the jump leads back to slot {target}, and programs have none."
+            StructureCause::Backward { target } => of_one(
+                "This is a loop: the jump leads back to slot {}, and programs have none.",
+                Word::Number(target),
             ),
-            StructureCause::SecondHalf { target } => write!(
-                out,
-                "Slot {target} is the second half of the wide instruction at slot {}.",
-                target.saturating_sub(1)
+            StructureCause::SecondHalf { target } => of_two(
+                "Slot {} is the second half of the wide instruction at slot {}.",
+                Word::Number(target),
+                Word::Number(target.saturating_sub(1)),
             ),
-            StructureCause::NoInstruction => write!(out, "The program has no instruction."),
-            StructureCause::TooLong => write!(
-                out,
-                "The program has {slots} slots, of at most 4096."
+            StructureCause::NoInstruction => plain("The program has no instruction."),
+            StructureCause::TooLong => of_one(
+                "The program has {} slots, of at most 4096.",
+                Word::Count(slots),
             ),
-            StructureCause::CallAtTheEnd => write!(
-                out,
-                "Nothing follows the call at slot {slot}. clang ends so behind a function that it believes never returns."
+            StructureCause::CallAtTheEnd => of_one(
+                "Nothing follows the call at slot {}. clang ends so behind a function that it believes never returns.",
+                Word::Count(slot),
             ),
-            StructureCause::NothingFollows => write!(out, "Nothing follows slot {slot}."),
-            StructureCause::NullCase { used } => write!(
-                out,
-                "Nothing leads to slot {slot}, since the answer of a lookup is used at slot {used} without a test for null: this is the case of null."
+            StructureCause::NothingFollows => of_one("Nothing follows slot {}.", Word::Count(slot)),
+            StructureCause::NullCase { used } => of_two(
+                "Nothing leads to slot {}, since the answer of a lookup is used at slot {} without a test for null: this is the case of null.",
+                Word::Count(slot),
+                Word::Count(used),
             ),
-            StructureCause::SecondFunction => write!(
-                out,
-                "A second function begins at slot {slot}: a program is one function."
+            StructureCause::SecondFunction => of_one(
+                "A second function begins at slot {}: a program is one function.",
+                Word::Count(slot),
             ),
-            StructureCause::Unreached { last } if last == slot => write!(
-                out,
-                "Nothing leads to slot {slot}."
+            StructureCause::Unreached { last } if last == slot => of_one(
+                "Nothing leads to slot {}.",
+                Word::Count(slot),
             ),
-            StructureCause::Unreached { last } => write!(
-                out,
-                "Nothing leads to slots {slot} to {last}."
+            StructureCause::Unreached { last } => of_two(
+                "Nothing leads to slots {} to {}.",
+                Word::Count(slot),
+                Word::Count(last),
             ),
         }
     }
 
-    // Adds what to do about it.
-    pub(crate) fn put_fix(self, out: &mut String, slot: usize) -> Result<(), AllocError> {
+    // What to do about it.
+    pub(crate) fn fix(self, slot: usize) -> Sentence<'static> {
         match self {
-            StructureCause::BehindTheLast { .. } => write!(
-                out,
+            StructureCause::BehindTheLast { .. } => of_one(
                 "Put an instruction behind the label: `exit`, with a number in {} before it.",
-                Register(0)
+                Word::Register(0),
             ),
-            StructureCause::Outside { .. } => write!(out, "Jump to an instruction of the program."),
-            StructureCause::Backward { .. } => write!(
-                out,
-                "Write the body as often as it may run (in C `#pragma unroll` and a constant bound), or let the caller call again."
+            StructureCause::Outside { .. } => plain("Jump to an instruction of the program."),
+            StructureCause::Backward { .. } => plain(
+                "Write the body as often as it may run (in C `#pragma unroll` and a constant bound), or let the caller call again.",
             ),
-            StructureCause::SecondHalf { target } => write!(
-                out,
+            StructureCause::SecondHalf { target } => of_two(
                 "Jump to slot {} or {}.",
-                target.saturating_sub(1),
-                target.saturating_add(1)
+                Word::Number(target.saturating_sub(1)),
+                Word::Number(target.saturating_add(1)),
             ),
-            StructureCause::NoInstruction => write!(
-                out,
-                "The shortest program is `mov64 r0, 0` and `exit`."
+            StructureCause::NoInstruction => plain(
+                "The shortest program is `mov64 r0, 0` and `exit`.",
             ),
-            StructureCause::TooLong => write!(out, "Split the operation into several programs."),
-            StructureCause::CallAtTheEnd | StructureCause::NothingFollows => write!(
-                out,
-                "End with `exit`; the reply is r0, in which a number has to stand."
+            StructureCause::TooLong => plain("Split the operation into several programs."),
+            StructureCause::CallAtTheEnd | StructureCause::NothingFollows => plain(
+                "End with `exit`; the reply is r0, in which a number has to stand.",
             ),
-            StructureCause::NullCase { used } => write!(
-                out,
-                "Don't remove slot {slot}: put a test before slot {used} that leads to it."
+            StructureCause::NullCase { used } => of_two(
+                "Don't remove slot {}: put a test before slot {} that leads to it.",
+                Word::Count(slot),
+                Word::Count(used),
             ),
-            StructureCause::SecondFunction => write!(
-                out,
-                "Put each program into a file of its own; in C write `static inline` before a function that the program calls."
+            StructureCause::SecondFunction => plain(
+                "Put each program into a file of its own; in C write `static inline` before a function that the program calls.",
             ),
-            StructureCause::Unreached { .. } => write!(
-                out,
-                "Jump to slot {slot}, or remove what stands there."
+            StructureCause::Unreached { .. } => of_one(
+                "Jump to slot {}, or remove what stands there.",
+                Word::Count(slot),
             ),
         }
     }

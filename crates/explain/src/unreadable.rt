@@ -1,13 +1,12 @@
 // Why a register can't be read: V6.
 
 use crate::operands::{reads, written};
+use crate::sentences::{Sentence, Word, of_eight, of_one, of_three, of_two, plain, small};
 use crate::study::{Step, Study, kind_in};
 use crate::ways::{Lack, Way, way_to};
-use crate::words::{Known, Register};
 use insn::{Edge, Form};
 use regkind::Kind;
 use std::alloc::{AllocError, Global};
-use std::fmt::Write;
 
 // Why nothing is known of a register.
 #[derive(Clone, Copy)]
@@ -169,73 +168,80 @@ impl UnreadableCause {
         })
     }
 
-    // Adds why.
-    pub(crate) fn put_what(self, out: &mut String, register: u8) -> Result<(), AllocError> {
-        let name = Register(register);
+    // Why.
+    pub(crate) fn what(self, register: u8) -> Sentence<'static> {
+        let name = Word::Register(register);
         match self {
-            UnreadableCause::NoReply => write!(
-                out,
-                "The reply is {name}, and nothing on the way puts a number there."
+            UnreadableCause::NoReply => of_one(
+                "The reply is {}, and nothing on the way puts a number there.",
+                name,
             ),
-            UnreadableCause::LostAtCall { at } => write!(
-                out,
-                "{name} was lost at the call at slot {at}: a call takes r1 to r5."
+            UnreadableCause::LostAtCall { at } => of_two(
+                "{} was lost at the call at slot {}: a call takes r1 to r5.",
+                name,
+                Word::Count(at),
             ),
-            UnreadableCause::MapChanged { at, map } => write!(
-                out,
-                "{name} pointed into a value of map {map}, and the call at slot {at} may have moved its values."
+            UnreadableCause::MapChanged { at, map } => of_three(
+                "{} pointed into a value of map {}, and the call at slot {} may have moved its values.",
+                name,
+                small(map),
+                Word::Count(at),
             ),
             UnreadableCause::Differs { at, one, other } => {
-                let (first, second) = (Known(one.kind), Known(other.kind));
-                write!(
-                    out,
-                    "After {} {} {name} is {first}; after {} {} it is {second}. So nothing is known of it where they meet, at slot {at}.",
-                    one.by, one.from, other.by, other.from
+                of_eight(
+                    "After {} {} {} is {}; after {} {} it is {}. So nothing is known of it where they meet, at slot {}.",
+                    [
+                        Word::Text(one.by),
+                        Word::Count(one.from),
+                        name,
+                        Word::Known(one.kind),
+                        Word::Text(other.by),
+                        Word::Count(other.from),
+                        Word::Known(other.kind),
+                        Word::Count(at),
+                    ],
                 )
             }
-            UnreadableCause::NotSetHere { at } => write!(
-                out,
-                "On this way nothing sets {name}; on another to slot {at} something does."
+            UnreadableCause::NotSetHere { at } => of_two(
+                "On this way nothing sets {}; on another to slot {} something does.",
+                name,
+                Word::Count(at),
             ),
-            UnreadableCause::NeverSet | UnreadableCause::NotGiven => write!(
-                out,
-                "Nothing on the way sets {name}: at the entry r1 (the argument) and r10 (the stack's end) alone can be read."
+            UnreadableCause::NeverSet | UnreadableCause::NotGiven => of_one(
+                "Nothing on the way sets {}: at the entry r1 (the argument) and r10 (the stack's end) alone can be read.",
+                name,
             ),
         }
     }
 
-    // Adds what to do about it.
-    pub(crate) fn put_fix(self, out: &mut String, register: u8) -> Result<(), AllocError> {
-        let name = Register(register);
+    // What to do about it.
+    pub(crate) fn fix(self, register: u8) -> Sentence<'static> {
+        let name = Word::Register(register);
         match self {
-            UnreadableCause::NoReply => write!(
-                out,
-                "Put `mov64 r0, 0` before `exit`. In C: a function that returns nothing; let it return a number."
+            UnreadableCause::NoReply => plain(
+                "Put `mov64 r0, 0` before `exit`. In C: a function that returns nothing; let it return a number.",
             ),
-            UnreadableCause::LostAtCall { .. } => write!(
-                out,
-                "Keep it in r6, r7, r8 or r9 before the call."
+            UnreadableCause::LostAtCall { .. } => plain(
+                "Keep it in r6, r7, r8 or r9 before the call.",
             ),
-            UnreadableCause::MapChanged { .. } => write!(
-                out,
-                "Look the key up again behind that call."
-            ),
+            UnreadableCause::MapChanged { .. } => plain("Look the key up again behind that call."),
             UnreadableCause::Differs { one, other, .. }
-                if may_be_null(one.kind) || may_be_null(other.kind) => {
-                write!(out, "Test {name} for null before the ways part.")
-            }
-            UnreadableCause::Differs { .. } => write!(
-                out,
-                "Do on each way what uses {name}, or make it the same on both."
+                if may_be_null(one.kind) || may_be_null(other.kind) => of_one(
+                "Test {} for null before the ways part.",
+                name,
             ),
-            UnreadableCause::NotSetHere { .. } => write!(
-                out,
-                "Set {name} before the ways part. In C: a variable without a first value."
+            UnreadableCause::Differs { .. } => of_one(
+                "Do on each way what uses {}, or make it the same on both.",
+                name,
             ),
-            UnreadableCause::NeverSet => write!(out, "Set {name} first."),
-            UnreadableCause::NotGiven => write!(
-                out,
-                "Set {name} first: a call takes a map in r1, the address of a key in r2, and an update that of a value in r3 and flags in r4 (0 for any key)."
+            UnreadableCause::NotSetHere { .. } => of_one(
+                "Set {} before the ways part. In C: a variable without a first value.",
+                name,
+            ),
+            UnreadableCause::NeverSet => of_one("Set {} first.", name),
+            UnreadableCause::NotGiven => of_one(
+                "Set {} first: a call takes a map in r1, the address of a key in r2, and an update that of a value in r3 and flags in r4 (0 for any key).",
+                name,
             ),
         }
     }
