@@ -12,6 +12,8 @@ use std::alloc::{AllocError, Global};
 pub enum Task<'a> {
     /// Check a manifest.
     Check,
+    /// Explain the programs of a manifest, or the one of this name.
+    Explain(Option<&'a str>),
     /// Assemble a text.
     Assemble,
     /// Assemble a text into the file of this path.
@@ -48,8 +50,8 @@ impl Call<'_> {
     }
 }
 
-// What a command is: its help, whether it takes the sizes of a store, a file to write and a manifest, the name and the help of the file
-// that it reads besides, and whether standard input stands for that where it is left out.
+// What a command is: its help, whether it takes the sizes of a store, a file to write, a manifest and then a program's name, which may be
+// left out, the name and the help of the file that it reads besides, and whether standard input stands for that where it is left out.
 #[derive(Clone, Copy)]
 struct Row<'a> {
     name: &'a str,
@@ -58,6 +60,7 @@ struct Row<'a> {
     is_sized: bool,
     has_output: bool,
     has_manifest: bool,
+    has_name: bool,
     file: Option<(&'a str, &'a str)>,
     may_lack_file: bool,
 }
@@ -111,6 +114,11 @@ fn output<'a>(alloc: Global) -> Arg<'a> {
         .help(help::OUTPUT)
 }
 
+// The name of a program, which may be left out.
+fn name<'a>(alloc: Global) -> Arg<'a> {
+    Arg::new(alloc, "NAME").value_name("NAME").help(help::NAME)
+}
+
 // Appends the arguments of a command.
 fn list_arguments<'a>(
     alloc: Global,
@@ -130,6 +138,9 @@ fn list_arguments<'a>(
             arguments,
             path(alloc, "MANIFEST", "MANIFEST", help::MANIFEST),
         )?;
+    }
+    if row.has_name {
+        append(arguments, name(alloc))?;
     }
     match row.file {
         Some((name, help)) if row.may_lack_file => {
@@ -165,7 +176,7 @@ fn list_rows<'a>(
 }
 
 // The commands that look at programs.
-fn program_rows<'a>() -> [Row<'a>; 3] {
+fn program_rows<'a>() -> [Row<'a>; 4] {
     [
         Row {
             name: "check",
@@ -174,6 +185,18 @@ fn program_rows<'a>() -> [Row<'a>; 3] {
             is_sized: false,
             has_output: false,
             has_manifest: true,
+            has_name: false,
+            file: None,
+            may_lack_file: false,
+        },
+        Row {
+            name: "explain",
+            about: help::EXPLAIN,
+            after: help::AFTER_EXPLAIN,
+            is_sized: false,
+            has_output: false,
+            has_manifest: true,
+            has_name: true,
             file: None,
             may_lack_file: false,
         },
@@ -184,6 +207,7 @@ fn program_rows<'a>() -> [Row<'a>; 3] {
             is_sized: false,
             has_output: true,
             has_manifest: false,
+            has_name: false,
             file: Some(("FILE", help::SOURCE)),
             may_lack_file: false,
         },
@@ -194,6 +218,7 @@ fn program_rows<'a>() -> [Row<'a>; 3] {
             is_sized: false,
             has_output: false,
             has_manifest: false,
+            has_name: false,
             file: Some(("FILE", help::PROGRAM)),
             may_lack_file: false,
         },
@@ -209,6 +234,7 @@ fn script_rows<'a>() -> [Row<'a>; 1] {
         is_sized: false,
         has_output: false,
         has_manifest: false,
+        has_name: false,
         file: Some(("FILE", help::CALLS)),
         may_lack_file: true,
     }]
@@ -224,6 +250,7 @@ fn store_rows<'a>() -> [Row<'a>; 4] {
             is_sized: false,
             has_output: false,
             has_manifest: true,
+            has_name: false,
             file: Some(("SCRIPT", help::SCRIPT)),
             may_lack_file: false,
         },
@@ -234,6 +261,7 @@ fn store_rows<'a>() -> [Row<'a>; 4] {
             is_sized: false,
             has_output: false,
             has_manifest: true,
+            has_name: false,
             file: Some(("TRANSCRIPT", help::TRANSCRIPT)),
             may_lack_file: false,
         },
@@ -244,6 +272,7 @@ fn store_rows<'a>() -> [Row<'a>; 4] {
             is_sized: true,
             has_output: false,
             has_manifest: true,
+            has_name: false,
             file: Some(("STEPS", help::STEPS)),
             may_lack_file: false,
         },
@@ -254,6 +283,7 @@ fn store_rows<'a>() -> [Row<'a>; 4] {
             is_sized: true,
             has_output: false,
             has_manifest: true,
+            has_name: false,
             file: Some(("SCRIPT", help::SCRIPT)),
             may_lack_file: false,
         },
@@ -300,6 +330,7 @@ fn assembling<'a>(matches: &ArgMatches<'a>) -> Task<'a> {
 fn task_of<'a>(name: &str, matches: &ArgMatches<'a>) -> Option<Task<'a>> {
     Some(match name {
         "check" => Task::Check,
+        "explain" => Task::Explain(matches.get_str("NAME")),
         "asm" => assembling(matches),
         "dis" => Task::Disassemble,
         "encode" => Task::Encode,

@@ -58,6 +58,37 @@ Refusals:
 Exit statuses: 0 all is well, 2 wrong words on the command line, 3 refused, 4 `no memory`,
 5 `cannot read` or `cannot write` (on standard error).";
 
+/// What `explain` does, in a line.
+pub const EXPLAIN: &str =
+    "Says what is known of a manifest's programs, and what to do about refusals";
+
+/// What stands behind the arguments of `explain`.
+pub const AFTER_EXPLAIN: &str = "\
+Writes what `nrbpf check` writes, and behind it, for an author:
+
+    of each program       its instructions, a line each: its slot, its text, and what is known before it of registers
+                          and of the stack, all of it where jumps lead to, else what the line above changed
+    of a refused program  the listing up to there, the way that leads there, what broke, and what to do about it
+    of another bad line   what is wrong with it, and what to do about it
+
+All bad lines are told, and not the first alone; behind the bad line of a map no program is judged. Where NAME is
+given, it is the program of that name alone. For the manifest of `nrbpf check --help` it writes:
+
+    five ok 2 2
+
+    program five: line 3, update, argument 0 bytes, five.hex
+       0  mov64 r0, 5              r1 = argument; r10 = stack end
+       1  exit                     r0 = a number
+
+`argument +4` and `stack -8` are pointers to byte 4 of the argument and to the byte 8 below the stack's end, `value
+of map 0` is one to a value, and `value of map 0, or null` the answer of a lookup that is not tested yet.
+
+Exit statuses: as those of `check`: 0 all is well, 2 wrong words on the command line, 3 refused, 4 `no memory`,
+5 `cannot read` or `cannot write` (on standard error).";
+
+/// What the name of a program is.
+pub const NAME: &str = "The name of a program; all, where it is left out";
+
 /// What `asm` does, in a line.
 pub const ASM: &str = "Assembles a program";
 

@@ -8,7 +8,9 @@ mod output;
 mod sizes;
 
 use command_line::{Call, Task};
-use console::{Folder, Setup, Status, assemble, check, disassemble, replay, run, schedule};
+use console::{
+    Folder, Setup, Status, assemble, check, disassemble, explain, replay, run, schedule,
+};
 use disk::{Disk, LateFile};
 use output::{Output, assemble_into, encode_or_say};
 use sizes::say_sizes;
@@ -31,6 +33,7 @@ fn perform<R: Files + AllocGlobal + Eprint + Threads + Wait + Sync, F: Folder, I
     let alloc = rt.alloc();
     match task {
         Task::Check => check(alloc, folder, manifest, writer),
+        Task::Explain(name) => explain(alloc, folder, manifest, name, writer),
         Task::Assemble => assemble(alloc, file, writer),
         Task::AssembleInto(path) => assemble_into(rt, path, file, writer),
         Task::Disassemble => disassemble(alloc, file, writer),

@@ -1,7 +1,7 @@
 // What a command answers.
 
 use crate::files::Offered;
-use console::{Setup, assemble, check, disassemble, encode, replay, run, schedule};
+use console::{Setup, assemble, check, disassemble, encode, explain, replay, run, schedule};
 use oplog::Config;
 use std::alloc::Global;
 use std::sync::Wait;
@@ -63,6 +63,18 @@ fn stressed<R: Threads + Wait + Sync>(
     })
 }
 
+// What `explain` answers, or `explain:NAME` of the program of this name.
+fn explained(alloc: Global, folder: &Offered, command: &str, manifest: &[u8]) -> Answer {
+    let mut text = manifest;
+    let mut out = Vec::new(alloc);
+    let name = command.strip_prefix("explain:");
+    let status = explain(alloc, folder, &mut text, name, &mut out);
+    Answer {
+        status: status.code(),
+        text: out,
+    }
+}
+
 // What a command answers to its text; nothing where there is no such command.
 pub fn answer_to<R: Threads + Wait + Sync>(
     rt: &R,
@@ -73,6 +85,9 @@ pub fn answer_to<R: Threads + Wait + Sync>(
 ) -> Option<Answer> {
     if command.starts_with("stress") {
         return stressed(rt, alloc, folder, command, text);
+    }
+    if command.starts_with("explain") {
+        return Some(explained(alloc, folder, command, text));
     }
     let mut text = text;
     let mut out = Vec::new(alloc);
