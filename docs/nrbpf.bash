@@ -3,7 +3,7 @@
 _nrbpf() {
     local word=${COMP_WORDS[COMP_CWORD]} before=${COMP_WORDS[COMP_CWORD - 1]} words
     if [ "$COMP_CWORD" -eq 1 ]; then
-        words='check asm dis encode run replay schedule stress help -h --help -V --version'
+        words='check explain asm dis encode run replay schedule stress help -h --help -V --version'
         COMPREPLY=($(compgen -W "$words" -- "$word"))
         return
     fi
@@ -12,6 +12,7 @@ _nrbpf() {
     esac
     case ${COMP_WORDS[1]} in
         check) words='-h --help' ;;
+        explain) words='-h --help' ;;
         asm) words='-o --output -h --help' ;;
         dis) words='-h --help' ;;
         encode) words='-h --help' ;;
@@ -19,7 +20,7 @@ _nrbpf() {
         replay) words='-h --help' ;;
         schedule) words='--nodes --slots --window --limit -h --help' ;;
         stress) words='--nodes --slots --window --limit -h --help' ;;
-        help) words='check asm dis encode run replay schedule stress' ;;
+        help) words='check explain asm dis encode run replay schedule stress' ;;
         *) words= ;;
     esac
     case $word in
