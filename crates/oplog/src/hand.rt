@@ -4,7 +4,7 @@ ghost use Rattle.std.specs.Prelude.{◌≡◌, ◌↔◌, ◌<◌, ◌++◌, ◌
 ghost use Rattle.oplog.specs.Limits.{IsWindow};
 ghost use Rattle.oplog.specs.Logs.{opened_hand};
 
-use crate::records::Record;
+use crate::records::{Record, push_copy};
 use std::alloc::{AllocError, Global};
 use std::marker::Model;
 
@@ -89,7 +89,6 @@ impl Hand {
         requires room { length self.old.records < self.old.window }
         ensures pushed { self.new ≡ record self.old { records = self.old.records ++ next.now ∷ [] } }
     {
-        let Record { author, op, seq } = *next;
-        self.records.push_reserved(Record { author, op, seq });
+        push_copy(&mut self.records, next);
     }
 }

@@ -11,7 +11,7 @@ ghost use Rattle.oplog.specs.CopyAnswers.{IfCopied, IfBelow};
 
 use crate::answers::{Appended, CopyAnswer, Ended};
 use crate::hand::Hand;
-use crate::records::Record;
+use crate::records::{Record, push_copy};
 use maps::{MapSet, Shape};
 use std::alloc::{AllocError, Global};
 use std::marker::Model;
@@ -143,7 +143,7 @@ impl LogState {
         let first = self.tail();
         let count = batch.len().min(left);
         for record in &batch[..count] {
-            self.records.push_reserved(*record);
+            push_copy(&mut self.records, record);
         }
         Ok(Appended { first, count })
     }

@@ -1,6 +1,6 @@
 // Operations, and the records of them.
 
-ghost use Rattle.std.specs.Prelude.{◌≡◌, ◌≤◌, length, []};
+ghost use Rattle.std.specs.Prelude.{◌≡◌, ◌<◌, ◌≤◌, ◌++◌, ◌∷◌, length, vec_capacity, []};
 ghost use Rattle.maps.specs.Maps.{AreBytes};
 ghost use Rattle.oplog.specs.declared.records.Op.TheVariants.{Run};
 ghost use Rattle.oplog.specs.Calls.{padded};
@@ -175,6 +175,26 @@ pub struct Record {
     pub op: Op,
     /// The number of the author's earlier records.
     pub seq: u64,
+}
+
+// Puts a copy of a record at the end. Of its operation the bytes of its case alone are copied: a call's are a third of a program's.
+pub(crate) fn push_copy(records: &mut Vec<Record>, next: &Record)
+    requires room { length records.old.items < vec_capacity records.old }
+    ensures pushed { records.new.items ≡ records.old.items ++ next.now ∷ [] }
+    ensures capacity { vec_capacity records.new ≡ vec_capacity records.old }
+{
+    let author = next.author;
+    let seq = next.seq;
+    match &next.op {
+        Op::Run(call) => {
+            let op = Op::Run(*call);
+            records.push_reserved(Record { author, op, seq });
+        }
+        Op::Install(program) => {
+            let op = Op::Install(*program);
+            records.push_reserved(Record { author, op, seq });
+        }
+    }
 }
 
 // The bytes of an argument, and zeros after them.
