@@ -38,6 +38,17 @@ impl Replies {
         }
     }
 
+    /// Keeps the outcomes of `count` other indexes, from `first` on, at most 16, and no longer those of the indexes before. No record there
+    /// was replayed yet. Clears no more than these.
+    pub fn restart(&mut self, first: u64, count: usize)
+        requires few { count ≤ 16 }
+        ensures none { self.new ≡ no_replies first count }
+    {
+        self.first = first;
+        self.count = count;
+        self.outcomes[..count].fill(None);
+    }
+
     /// The first of the indexes.
     pub fn first(&self) -> u64
         ensures first { result ≡ self.now.first }
