@@ -48,14 +48,22 @@ impl Batch {
         self.answers.clear();
     }
 
-    // One more request, by its record's fields. It has no answer yet.
+    // One more request, by its record's fields. It has no answer yet. Of its operation the bytes of its case alone are copied.
     pub(crate) fn push(&mut self, author: u16, op: &Op, seq: u64)
         requires room { length self.old.records < 16 }
         ensures records { self.new.records ≡ self.old.records ++ record { author = author; op = op.now; seq = seq } ∷ [] }
         ensures answers { self.new.answers ≡ self.old.answers ++ None ∷ [] }
     {
-        let op = *op;
-        self.records.push(Record { author, op, seq });
+        match op {
+            Op::Run(call) => {
+                let op = Op::Run(*call);
+                self.records.push(Record { author, op, seq });
+            }
+            Op::Install(program) => {
+                let op = Op::Install(*program);
+                self.records.push(Record { author, op, seq });
+            }
+        }
         self.answers.push(None);
     }
 
