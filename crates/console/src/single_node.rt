@@ -13,7 +13,7 @@ use loader::Catalogue;
 use machine::Outcome;
 use node::{NodeReplica, append, finish, reclaim, replay};
 use oplog::{Call, Hand, LogState, MAX_LIMIT, MAX_WINDOW, Op, Record};
-use replica::Replica;
+use replica::{Replica, Replies};
 use std::alloc::{AllocError, Global};
 use verifier::Accepted;
 
@@ -82,7 +82,8 @@ impl SingleNode {
             seq,
             op: Op::Run(Call::new(program, argument)),
         };
-        let mut replies = append(&mut self.log, &mut self.own, &[record]);
+        let mut replies = Replies::new(0, 0);
+        append(&mut self.log, &mut self.own, &[record], &mut replies);
         replay(&mut self.own, catalogue, &mut replies);
         finish(&mut self.log, &self.own);
         replies.get(0)

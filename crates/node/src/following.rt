@@ -30,14 +30,19 @@ pub fn may_append(log: &LogState, node: &NodeReplica, records: &[Record]) -> boo
 }
 
 /// Appends as many of the records, from the first on, as the history may still have, and copies what the replica lacks into the hand.
-/// The replies that it answers keep the indexes of those that were appended, and no outcome yet.
-pub fn append(log: &mut LogState, node: &mut NodeReplica, records: &[Record]) -> Replies
+/// The replies that are lent keep the indexes of those that were appended then, and no outcome yet.
+pub fn append(
+    log: &mut LogState,
+    node: &mut NodeReplica,
+    records: &[Record],
+    replies: &mut Replies,
+)
     requires may { may_append records.now log.old node.old ≡ true }
     requires fits { Fits log.old node.old }
     requires few { length records.now ≤ 16 }
     ensures log { log.new ≡ grown records.now log.old }
     ensures node { node.new ≡ copied log.new node.old }
-    ensures replies { result ≡ replies_for records.now log.old }
+    ensures replies { replies.new ≡ replies_for records.now log.old }
     ensures within { tail_of log.new ≤ MAX_LIMIT }
 {
     let first = log.tail();
@@ -46,7 +51,7 @@ pub fn append(log: &mut LogState, node: &mut NodeReplica, records: &[Record]) ->
         Err(_) => 0,
     };
     copy(log, node);
-    Replies::new(first, count)
+    replies.restart(first, count);
 }
 
 /// Copies what the replica lacks into the hand. The log has all of it.

@@ -153,7 +153,8 @@ impl Node {
         }
         match mem::replace(&mut self.batch, NodeBatch::Absent) {
             NodeBatch::Held(batch) => {
-                let replies = node::append(log, &mut self.own, batch.records());
+                let mut replies = Replies::new(0, 0);
+                node::append(log, &mut self.own, batch.records(), &mut replies);
                 self.batch = NodeBatch::InLog(Written { batch, replies });
                 StepAnswer::Done
             }

@@ -18,13 +18,14 @@ use std::marker::Brand;
 use std::sync::Wait;
 
 // Combines the requests that the session claimed: appends them, brings the replica of its node up to them, and hands their
-// answers to the slots of its desk.
+// answers to the slots of its desk. The replies are room for what their programs answer.
 pub(crate) fn combine<R: Wait>(
     rt: &R,
     shared: Shared<'_>,
     seat: &mut Seat<Value>,
     caller: Caller,
     batch: &mut Batch,
+    replies: &mut Replies,
 )
     requires own { seat.old.shelf ≡ shared.shelf.now.id }
     requires claimed { Knows seat.old (λ k. IsFree caller k × HasClaimed k batch.old × IsOn shared k) }
@@ -39,10 +40,10 @@ pub(crate) fn combine<R: Wait>(
     } = shared;
     let mut held = shelf.take(rt, seat, 1 + caller.node);
     let node = held.value.replica_mut();
-    let mut replies = append_and_copy(rt, shared, seat, node, batch.records());
-    replay_and_raise(shelf, seat, node, catalogue, &mut replies);
+    append_and_copy(rt, shared, seat, node, batch.records(), replies);
+    replay_and_raise(shelf, seat, node, catalogue, replies);
     shelf.put::<Brand>(seat, held);
-    hand_over(rt, shared, seat, caller, batch, &replies);
+    hand_over(rt, shared, seat, caller, batch, replies);
 }
 
 // Takes the desk of the caller's node, answers the requests of the batch there, by the outcomes that were kept of it, and puts the

@@ -15,7 +15,7 @@ use combiner::{Batch, Reply};
 use crossbeam_utils::Backoff;
 use oplog::{Call, Op};
 use ownlock::{Seat, Shelf};
-use replica::{StoreRefused, find_program_of};
+use replica::{Replies, StoreRefused, find_program_of};
 use std::marker::Brand;
 use std::sync::Wait;
 use verifier::Mode;
@@ -94,7 +94,7 @@ fn watch(shelf: &Shelf<Value>, place: usize)
 }
 
 // Waits for the answer to the request that the caller has posted, and collects it. Where nobody combines the requests of its
-// node, the caller does, and has them in the batch meanwhile; else it watches the place of its node's replica, which the one that combines
+// node, the caller does, and has them in the batch meanwhile, and what their programs answer in the replies; else it watches the place of its node's replica, which the one that combines
 // puts back before it hands the answers over.
 pub(crate) fn complete<R: Wait>(
     rt: &R,
@@ -102,6 +102,7 @@ pub(crate) fn complete<R: Wait>(
     seat: &mut Seat<Value>,
     caller: Caller,
     batch: &mut Batch,
+    replies: &mut Replies,
 ) -> Reply
     requires own { seat.old.shelf ≡ shared.shelf.now.id }
     requires asked { AwaitsAnswer seat.old caller shared }
@@ -111,7 +112,7 @@ pub(crate) fn complete<R: Wait>(
     for _ in rt.forever() {
         match turn(rt, shared, seat, caller, batch) {
             Turn::Collects(reply) => return reply,
-            Turn::Combines => combine(rt, shared, seat, caller, batch),
+            Turn::Combines => combine(rt, shared, seat, caller, batch, replies),
             Turn::Waits => watch(shared.shelf, 1 + caller.node),
         }
     }

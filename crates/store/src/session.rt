@@ -17,7 +17,7 @@ use crate::values::Value;
 use combiner::{Batch, Reply};
 use ownlock::Seat;
 use readpath::ReadAnswer;
-use replica::{StoreRefused, find_program_of};
+use replica::{Replies, StoreRefused, find_program_of};
 use std::marker::Model;
 use std::sync::Wait;
 use verifier::Mode;
@@ -29,6 +29,8 @@ pub struct Session {
     caller: Caller,
     // Room for the requests that it combines.
     batch: Batch,
+    // Room for what their programs answer.
+    replies: Replies,
 }
 
 impl Model for Session {
@@ -61,6 +63,7 @@ impl Session {
             seat,
             caller,
             batch: Batch::new(),
+            replies: Replies::new(0, 0),
         }
     }
 
@@ -74,6 +77,7 @@ impl Session {
             seat,
             caller,
             batch: _batch,
+            replies: _replies,
         } = self;
         (seat, caller)
     }
@@ -104,7 +108,14 @@ impl Session {
         let shared = store.shared();
         let asked = Question { program, argument };
         post_only(rt, shared, &mut self.seat, self.caller, asked)?;
-        let reply = complete(rt, shared, &mut self.seat, self.caller, &mut self.batch);
+        let reply = complete(
+            rt,
+            shared,
+            &mut self.seat,
+            self.caller,
+            &mut self.batch,
+            &mut self.replies,
+        );
         answer_of(reply)
     }
 

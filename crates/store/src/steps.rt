@@ -105,29 +105,29 @@ fn make_room(
 }
 
 // Takes the log, makes room and appends as many of the records as the history may still have, copies what the replica has still
-// to apply into its hand, and puts the log back. The replies that it answers keep the places of those that were appended.
+// to apply into its hand, and puts the log back. The replies that are lent keep the places of those that were appended then.
 pub(crate) fn append_and_copy<R: Wait>(
     rt: &R,
     shared: Shared<'_>,
     seat: &mut Seat<Value>,
     node: &mut NodeReplica,
     records: &[Record],
-) -> Replies
+    replies: &mut Replies,
+)
     requires own { seat.old.shelf ≡ shared.shelf.now.id }
     requires there { 0 < shared.shelf.now.places }
     requires few { length records.now ≤ 16 }
     requires holds { Knows seat.old (λ k. HasReplica k node.old shared.catalogue.now × (k.note.batch ≡ unplaced records.now)) }
     ensures same { seat.new.shelf ≡ seat.old.shelf }
-    ensures appended { Learns seat.old seat.new (λ k after. HasAppended k after records.now result node.new) }
+    ensures appended { Learns seat.old seat.new (λ k after. HasAppended k after records.now replies.new node.new) }
     ensures goes { Relates seat.old seat.new (λ k after. (batch : BatchView) → batch.records ≡ records.now
-        → AppendsBy k after batch node.old node.new result) }
+        → AppendsBy k after batch node.old node.new replies.new) }
 {
     let mut held = shared.shelf.take(rt, seat, LEADER);
     let log = held.value.log_mut();
     make_room(shared, seat, log, node, records.len());
-    let replies = append(log, node, records);
+    append(log, node, records, replies);
     shared.shelf.put::<Brand>(seat, held);
-    replies
 }
 
 // Replays the records in the hand, and raises the completed tail to the replica's.

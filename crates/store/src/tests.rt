@@ -20,7 +20,7 @@ use loader::{Catalogue, load_manifest};
 use oplog::Config;
 use ownlock::{LEADER, Seat};
 use readpath::ReadAnswer;
-use replica::{StoreRefused, find_program_of};
+use replica::{Replies, StoreRefused, find_program_of};
 use std::alloc::Global;
 use std::marker::Brand;
 use std::sync::Wait;
@@ -140,9 +140,17 @@ fn answered_by_other<R: Wait>(
     let answer = other.invoke(rt, store, 0, &ZERO);
     let _ = other.into_parts();
     let mut batch = Batch::new();
+    let mut replies = Replies::new(0, 0);
     (
         answer,
-        complete(rt, store.shared(), &mut seat, caller, &mut batch),
+        complete(
+            rt,
+            store.shared(),
+            &mut seat,
+            caller,
+            &mut batch,
+            &mut replies,
+        ),
     )
 }
 

@@ -32,15 +32,15 @@ make_room-requires-clause-holds g c =
     let b = took_log i.0 t.0 n x (follows_agreed i.0.progress n (well_formed i.0.progress i.2.0.stands.notes i.2.0.stands.accounts) i.2.0.agrees) t.1 in
     (t.0, t.2, record { holds = holds_log i.0 t.0 n x b; log = b.log c.log_mut-log.result.now c.log_mut-log.ensures.log; follows = b.follows; well = b.well; catalogue = sym b.extends.catalogue ∙ i.2.0.catalogue })
 
-pub append-replies-requires-clause-may : goal.append-replies-requires-clause-may
-append-replies-requires-clause-may g c =
+pub append-requires-clause-may : goal.append-requires-clause-may
+append-requires-clause-may g c =
     let i = c.requires.holds in
     let t = c.take-held.ensures.taken i.0 i.1 in
     let m = c.make_room.ensures.room t.0 t.2 in
     may t.0 m.0 c.log_mut-log.result.now c.make_room.new.log c.make_room.new.node c.args.records.now m.2
 
-pub append-replies-requires-clause-fits : goal.append-replies-requires-clause-fits
-append-replies-requires-clause-fits g c =
+pub append-requires-clause-fits : goal.append-requires-clause-fits
+append-requires-clause-fits g c =
     let i = c.requires.holds in
     let t = c.take-held.ensures.taken i.0 i.1 in
     let m = c.make_room.ensures.room t.0 t.2 in
@@ -54,10 +54,10 @@ put-requires-clause-may g c =
     let t = c.take-held.ensures.taken i.0 i.1 in
     let b = took_log i.0 t.0 n x (follows_agreed i.0.progress n (well_formed i.0.progress i.2.0.stands.notes i.2.0.stands.accounts) i.2.0.agrees) t.1 in
     let m = c.make_room.ensures.room t.0 t.2 in
-    let a = c.append-replies.ensures in (
+    let a = c.append.ensures in (
       m.0,
       m.1,
-      put_appended i.0 t.0 m.0 n c.log_mut-log.result.now c.make_room.new.log c.make_room.new.node c.append-replies.new.node c.args.records.now c.append-replies.result i.2.1 c.make_room.new.seat.sessions m.1 x c.log_mut-log.ensures.log b m.2 c.append-replies.new.log
+      put_appended i.0 t.0 m.0 n c.log_mut-log.result.now c.make_room.new.log c.make_room.new.node c.append.new.node c.args.records.now c.append.new.replies i.2.1 c.make_room.new.seat.sessions m.1 x c.log_mut-log.ensures.log b m.2 c.append.new.log
           (a.log, a.node, a.replies, a.within) _ c.take-held.ensures.same.1,
     )
 
@@ -74,10 +74,10 @@ returns-clause-appended g c k is =
     let b = took_log k t.0 n x (follows_agreed k.progress n (well_formed k.progress stands.notes stands.accounts) agrees) t.1 in
     let m = c.make_room.ensures.room t.0 t.2 in
     let p = c.put.ensures.put m.0 m.1 in
-    let a = c.append-replies.ensures in (
+    let a = c.append.ensures in (
       _,
       p.2,
-      back_appended k t.0 m.0 n c.log_mut-log.result.now c.make_room.new.log c.make_room.new.node c.append-replies.new.node c.args.records.now c.append-replies.result noted c.make_room.new.seat.sessions m.1 x c.log_mut-log.ensures.log b m.2 c.append-replies.new.log
+      back_appended k t.0 m.0 n c.log_mut-log.result.now c.make_room.new.log c.make_room.new.node c.append.new.node c.args.records.now c.append.new.replies noted c.make_room.new.seat.sessions m.1 x c.log_mut-log.ensures.log b m.2 c.append.new.log
           (a.log, a.node, a.replies, a.within) _ c.take-held.ensures.same.1 p.0 p.1.0 p.1.1,
     )
 
@@ -95,12 +95,12 @@ returns-clause-goes g c k after is now batch same =
     let b = took_log k t.0 n x (follows_agreed k.progress n (well_formed k.progress stands.notes stands.accounts) agrees) t.1 in
     let m = c.make_room.ensures.room t.0 t.2 in
     let p = c.put.ensures.put m.0 m.1 in
-    let a = c.append-replies.ensures in
-    let f = back_appended k t.0 m.0 n h c.make_room.new.log c.make_room.new.node c.append-replies.new.node c.args.records.now c.append-replies.result noted c.make_room.new.seat.sessions m.1 x c.log_mut-log.ensures.log b m.2 c.append-replies.new.log
+    let a = c.append.ensures in
+    let f = back_appended k t.0 m.0 n h c.make_room.new.log c.make_room.new.node c.append.new.node c.args.records.now c.append.new.replies noted c.make_room.new.seat.sessions m.1 x c.log_mut-log.ensures.log b m.2 c.append.new.log
     (a.log, a.node, a.replies, a.within) _ c.take-held.ensures.same.1 p.0 p.1.0 p.1.1 in
-    let back = back_log k t.0 m.0 n h c.make_room.new.log c.make_room.new.node c.append-replies.new.node c.args.records.now c.append-replies.result noted c.make_room.new.seat.sessions m.1 x c.log_mut-log.ensures.log b m.2 c.append-replies.new.log
+    let back = back_log k t.0 m.0 n h c.make_room.new.log c.make_room.new.node c.append.new.node c.args.records.now c.append.new.replies noted c.make_room.new.seat.sessions m.1 x c.log_mut-log.ensures.log b m.2 c.append.new.log
     (a.log, a.node, a.replies, a.within) _ c.take-held.ensures.same.1 p.0 p.1.0 p.1.1 in
     let room = c.make_room.ensures.goes t.0 m.0 t.2 m.1 in
-    subst (λ z. AppendsBy k z batch n c.append-replies.new.node c.append-replies.result) (one_known c.put.new.seat _ after p.2 now)
-    (appends_by k t.0 m.0 _ h c.make_room.new.log c.append-replies.new.log n c.make_room.new.node c.append-replies.new.node c.args.records.now c.append-replies.result b.extends (b.log h c.log_mut-log.ensures.log) room
+    subst (λ z. AppendsBy k z batch n c.append.new.node c.append.new.replies) (one_known c.put.new.seat _ after p.2 now)
+    (appends_by k t.0 m.0 _ h c.make_room.new.log c.append.new.log n c.make_room.new.node c.append.new.node c.args.records.now c.append.new.replies b.extends (b.log h c.log_mut-log.ensures.log) room
     (may t.0 m.0 h c.make_room.new.log c.make_room.new.node c.args.records.now m.2) a.log a.node a.replies back.0 back.1.completed f.stands.accounts.completed batch same)
