@@ -31,12 +31,7 @@ pub fn may_append(log: &LogState, node: &NodeReplica, records: &[Record]) -> boo
 
 /// Appends as many of the records, from the first on, as the history may still have, and copies what the replica lacks into the hand.
 /// The replies that are lent keep the indexes of those that were appended then, and no outcome yet.
-pub fn append(
-    log: &mut LogState,
-    node: &mut NodeReplica,
-    records: &[Record],
-    replies: &mut Replies,
-)
+pub fn append(log: &mut LogState, node: &mut NodeReplica, records: &[Record], replies: &mut Replies)
     requires may { may_append records.now log.old node.old ≡ true }
     requires fits { Fits log.old node.old }
     requires few { length records.now ≤ 16 }
