@@ -73,7 +73,7 @@ module _ (c : CatalogueView) (g h : Log) (n m : NodeReplica) (r : Record) (log :
         (there.0, same_Some got (Some there.0) (sym found ∙ there.1), subst (λ (x : ReplicaView). IsAnswered c r.op x.maps there.0) same_replica there.2)
 
     pub updated : (old : SingleNode) (last : Log) (p : NodeReplica) (op : Operation) → n ≡ old.own → tail_of g ≡ tail_of old.log → g.limit ≡ MAX_LIMIT → r.op ≡ op → p ≡ replayed c m → last ≡ told p h
-        → IfSome got (λ o. IsUpdated c op old (record { log = last; own = p }) o)
+        → IfSome got (λ o. IsUpdated c op old (record { log = last; own = p; replies = kept }) o)
     updated old last p op replica tail limit same run raised =
         let a = answered in
         let answer = a.2 in
@@ -82,7 +82,7 @@ module _ (c : CatalogueView) (g h : Log) (n m : NodeReplica) (r : Record) (log :
         let maps : p.replica.maps ≡ answer.done.maps =
         ap (λ (x : NodeReplica). x.replica.maps) run ∙ ap (λ (x : History). after store_meaning c m.replica.maps x) holds_one
         ∙ ap (λ (x : ReplicaView). left_by (store_meaning.update c r.op x.maps) x.maps) same_replica ∙ ap (λ (e : Option (Effect Maps)). left_by e n.replica.maps) answer.takes in
-        subst (λ (x : Option Outcome). IfSome x (λ o. IsUpdated c op old (record { log = last; own = p }) o)) (sym a.1)
+        subst (λ (x : Option Outcome). IfSome x (λ o. IsUpdated c op old (record { log = last; own = p; replies = kept }) o)) (sym a.1)
         (record {
           room = omega (arith, left, tail, limit);
           tail = ap (λ (x : Log). tail_of x) raised ∙ one_more ∙ ap (λ k. k + 1) tail;

@@ -17,11 +17,12 @@ use replica::{Replica, Replies};
 use std::alloc::{AllocError, Global};
 use verifier::Accepted;
 
-// The log, and the replica that is fed from it.
+// The log, and the replica that is fed from it, with room for what a program answers.
 #[derive(Drop)]
 pub(crate) struct SingleNode {
     log: LogState,
     own: NodeReplica,
+    replies: Replies,
 }
 
 impl SingleNode {
@@ -34,7 +35,8 @@ impl SingleNode {
         let hand = Hand::open(alloc, MAX_WINDOW)?;
         let replica = Replica::open(alloc, catalogue.shapes())?;
         let own = NodeReplica { replica, hand };
-        Ok(SingleNode { log, own })
+        let replies = Replies::new(0, 0);
+        Ok(SingleNode { log, own, replies })
     }
 
     // How many updates there were.
@@ -82,11 +84,10 @@ impl SingleNode {
             seq,
             op: Op::Run(Call::new(program, argument)),
         };
-        let mut replies = Replies::new(0, 0);
-        append(&mut self.log, &mut self.own, &[record], &mut replies);
-        replay(&mut self.own, catalogue, &mut replies);
+        append(&mut self.log, &mut self.own, &[record], &mut self.replies);
+        replay(&mut self.own, catalogue, &mut self.replies);
         finish(&mut self.log, &self.own);
-        replies.get(0)
+        self.replies.get(0)
     }
 
     // What a read program answers after all updates so far.
