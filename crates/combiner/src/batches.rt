@@ -48,7 +48,7 @@ impl Batch {
         self.answers.clear();
     }
 
-    // One more request, by its record's fields. It has no answer yet. Of its operation the bytes of its case alone are copied.
+    // One more request, by its record's fields. It has no answer yet. The operation is copied by its case.
     pub(crate) fn push(&mut self, author: u16, op: &Op, seq: u64)
         requires room { length self.old.records < 16 }
         ensures records { self.new.records ≡ self.old.records ++ record { author = author; op = op.now; seq = seq } ∷ [] }

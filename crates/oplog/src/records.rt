@@ -177,7 +177,7 @@ pub struct Record {
     pub seq: u64,
 }
 
-// Puts a copy of a record at the end. Of its operation the bytes of its case alone are copied: a call's are a third of a program's.
+// Puts a copy of a record at the end. It is made by the case of its operation: a call has a third of a program's bytes.
 pub(crate) fn push_copy(records: &mut Vec<Record>, next: &Record)
     requires room { length records.old.items < vec_capacity records.old }
     ensures pushed { records.new.items ≡ records.old.items ++ next.now ∷ [] }
