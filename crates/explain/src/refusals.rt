@@ -9,7 +9,6 @@ use crate::structural::StructureCause;
 use crate::study::Study;
 use crate::unreadable::{UnreadableCause, unreadable_at, unreadable_way};
 use crate::ways::{Lack, Way, way_to};
-use insn::Form;
 use std::alloc::{AllocError, Global};
 use std::fmt::Write;
 use verifier::{Refused, VerifyFault};
