@@ -2,11 +2,11 @@
 use Rattle.std.proofs.Common.{replicate, ◌≡◌, ℕ, zero, suc, ◌+◌, ◌*◌, ◌<◌, ◌≤◌, map, length, take, sym, refl, ap, ◌∙◌, subst, arith, length-append}
 use mathlib.Core.Option.{some-injective}
 use Rattle.std.proofs.lemmas.List.{length-replicate}
-use Rattle.oplog.specs.History.{Meaning, maps_after}
+use Rattle.oplog.specs.History.{Meaning, state_after}
 use Rattle.ownlock.specs.Seats.{At}
 use Rattle.accounts.proofs.Lists.{at_none}
 use Rattle.accounts.proofs.Moved.{some_none}
-use Rattle.accounts.proofs.Parts.{maps_front}
+use Rattle.accounts.proofs.Parts.{state_front}
 use Rattle.accounts.proofs.StoreRules.{batch_appends}
 use Rattle.accounts.proofs.Tellings.{log_after}
 use Rattle.oplog.specs.Sessions.{session}
@@ -42,8 +42,8 @@ module _ {C M : Type 0} (E : Meaning C M) where
   pub replica_puts : ReplicaPuts E
   replica_puts known l y low grown a = record {
     tail = let t = a.tail in let up = grown.completed in omega (arith, t, up);
-    maps = a.maps ∙ (ap (λ z. maps_after E z known.history y.tail) grown.catalogue
-        ∙ (sym (maps_front E l.catalogue known.history grown.history.0 y.tail low) ∙ ap (λ h. maps_after E l.catalogue h y.tail) (sym grown.history.1)));
+    state = a.state ∙ (ap (λ z. state_after E z known.history y.tail) grown.catalogue
+        ∙ (sym (state_front E l.catalogue known.history grown.history.0 y.tail low) ∙ ap (λ h. state_after E l.catalogue h y.tail) (sym grown.history.1)));
   }
 
   no_batch : (count c k : ℕ) (t : Claim) → IsInBatch (replicate count fresh_note) c k t → ⊥
@@ -64,8 +64,8 @@ module _ {C M : Type 0} (E : Meaning C M) where
       completed = omega arith;
       limit = omega arith;
     },
-    record { done = omega arith; base = omega arith; base_maps = refl; records = refl },
-    record { tail = omega arith; maps = refl },
+    record { done = omega arith; base = omega arith; base_state = refl; records = refl },
+    record { tail = omega arith; state = refl },
     (λ node fits. record {
       slots = length-replicate config.slots (slot Empty 0);
       combiner = 0;

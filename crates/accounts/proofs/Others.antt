@@ -3,7 +3,7 @@ use Rattle.std.proofs.Common.{append_assoc, ◌≡◌, ◌≢◌, ℕ, ◌<◌, 
 use Rattle.std.proofs.Math.Nat.{le-max_left, max-le}
 use native.Mathlib.Decide.{ℕ_discrete}
 use Rattle.atomic_table.proofs.Lists.{set_again}
-use Rattle.oplog.specs.History.{Meaning, maps_after, reply_at}
+use Rattle.oplog.specs.History.{Meaning, state_after, reply_at}
 use Rattle.oplog.specs.Operations.{Operation}
 use Rattle.oplog.specs.declared.configuration.Config.{Config}
 use Rattle.oplog.specs.declared.records.Record.{Record}
@@ -11,7 +11,7 @@ use Rattle.ownlock.specs.Rules.{Laws, IsPart}
 use Rattle.ownlock.specs.Seats.{At}
 use Rattle.accounts.proofs.Appended.{moves_accounts, was}
 use Rattle.accounts.proofs.Lists.{at_below, at_front, at_joined, at_one, one_node}
-use Rattle.accounts.proofs.Parts.{Alike, alike_on, alike_self, batch_back, batch_else, batch_here, maps_front, note_else, placed_on, reply_front, taken_back}
+use Rattle.accounts.proofs.Parts.{Alike, alike_on, alike_self, batch_back, batch_else, batch_here, state_front, note_else, placed_on, reply_front, taken_back}
 use Rattle.oplog.specs.Sessions.{IsSessionOf, session}
 use Rattle.accounts.specs.Accounts.{Accounts, Extends, HasNoRecord, IsInBatch}
 use Rattle.accounts.specs.Agreement.{AgreesWith, Answers, DeskAgrees, IsClaimedBy, IsUnclaimed, ReplicaAgrees, SlotAgrees, StageAgrees, desk_place, replica_place}
@@ -37,8 +37,8 @@ module _ {C M : Type 0} (E : Meaning C M) where
     pub done : l'.completed ≤ length l'.history
     pub limit : length l'.history ≤ l'.config.limit
 
-  maps_stay : (l l' : Progress C) (more : List Record) → Grown l l' more → (k : ℕ) → k ≤ length l.history → maps_after E l'.catalogue l'.history k ≡ maps_after E l.catalogue l.history k
-  maps_stay l l' more g k le = ap (λ z. maps_after E z l'.history k) g.catalogue ∙ (ap (λ h. maps_after E l.catalogue h k) g.history ∙ maps_front E l.catalogue l.history more k le)
+  state_stays : (l l' : Progress C) (more : List Record) → Grown l l' more → (k : ℕ) → k ≤ length l.history → state_after E l'.catalogue l'.history k ≡ state_after E l.catalogue l.history k
+  state_stays l l' more g k le = ap (λ z. state_after E z l'.history k) g.catalogue ∙ (ap (λ h. state_after E l.catalogue h k) g.history ∙ state_front E l.catalogue l.history more k le)
 
   reply_stays : (l l' : Progress C) (more : List Record) → Grown l l' more → (k : ℕ) (op : Operation) → k ≤ length l.history → reply_at E l'.catalogue l'.history k op ≡ reply_at E l.catalogue l.history k op
   reply_stays l l' more g k op le = ap (λ z. reply_at E z l'.history k op) g.catalogue ∙ (ap (λ h. reply_at E l.catalogue h k op) g.history ∙ reply_front E l.catalogue l.history more k op le)
@@ -46,7 +46,7 @@ module _ {C M : Type 0} (E : Meaning C M) where
   pub replica_stays : (l l' : Progress C) (more : List Record) (x : ReplicaValue M) → l.completed ≤ length l.history → Grown l l' more → ReplicaAgrees E l x → ReplicaAgrees E l' x
   replica_stays l l' more x low g a = record {
     tail = let t = a.tail in let r = g.rises in omega (arith, t, r);
-    maps = a.maps ∙ sym (maps_stay l l' more g x.tail (let t = a.tail in omega (arith, t, low)));
+    state = a.state ∙ sym (state_stays l l' more g x.tail (let t = a.tail in omega (arith, t, low)));
   }
 
   -- what a session keeps, of a desk with that combiner
@@ -228,7 +228,7 @@ module _ {C M : Type 0} (E : Meaning C M) where
   raised_grown l n ns far w = record { config = refl; catalogue = refl; history = sym (append-nil l.history); rises = le-max_left l.completed n; done = max-le w.completed far; limit = w.limit }
 
   pub raised_agrees : (p : ℕ) (x : StoreValue M) (l : Progress C) (n : ℕ) (ns : List SessionNote) → n ≤ length l.history → Accounts E l ns → AgreesWith E p l ns x → AgreesWith E p (raised l n) ns x
-  raised_agrees p (TheLog x) l n ns far w a = (a.0, record { done = (let low = a.1.done in omega (arith, low, le-max_left l.completed n)); base = a.1.base; base_maps = a.1.base_maps; records = a.1.records })
+  raised_agrees p (TheLog x) l n ns far w a = (a.0, record { done = (let low = a.1.done in omega (arith, low, le-max_left l.completed n)); base = a.1.base; base_state = a.1.base_state; records = a.1.records })
   raised_agrees p (TheReplica x) l n ns far w a = (a.0, a.1, a.2, replica_stays l (raised l n) [] x w.completed (raised_grown l n ns far w) a.3)
   raised_agrees p (TheDesk x) l n ns far w a = (
     a.0,

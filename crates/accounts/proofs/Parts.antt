@@ -4,7 +4,7 @@ use Rattle.std.proofs.lemmas.Bool.{cases_lt}
 use mathlib.Core.Option as kernel
 use mathlib.Core.Option.{some-injective}
 use Rattle.atomic_table.proofs.Lists.{at_set, set_here, set_else}
-use Rattle.oplog.specs.History.{Meaning, after, maps_after, reply_at, read_reply_at}
+use Rattle.oplog.specs.History.{Meaning, after, state_after, reply_at, read_reply_at}
 use Rattle.oplog.specs.Operations.{Operation}
 use Rattle.oplog.specs.declared.configuration.Config.{Config}
 use Rattle.oplog.specs.declared.records.Record.{Record}
@@ -22,15 +22,15 @@ use Rattle.combiner.specs.Slots.{requested, requests_from}
 use Rattle.combiner.specs.Desks.{DeskView, first_author}
 
 module _ {C M : Type 0} (E : Meaning C M) where
-  -- more records change nothing of the maps after the first k
-  pub maps_front : (c : C) (h more : List Record) (k : ℕ) → k ≤ length h → maps_after E c (h ++ more) k ≡ maps_after E c h k
-  maps_front c h more k le = ap (λ rs. after E c (E.opening c) rs) (take_front k h more le)
+  -- more records change nothing of the state after the first k
+  pub state_front : (c : C) (h more : List Record) (k : ℕ) → k ≤ length h → state_after E c (h ++ more) k ≡ state_after E c h k
+  state_front c h more k le = ap (λ rs. after E c (E.opening c) rs) (take_front k h more le)
 
   pub reply_front : (c : C) (h more : List Record) (k : ℕ) (op : Operation) → k ≤ length h → reply_at E c (h ++ more) k op ≡ reply_at E c h k op
-  reply_front c h more k op le = ap (λ m. option_map (λ e. e.reply) (E.update c op m)) (maps_front c h more k le)
+  reply_front c h more k op le = ap (λ m. option_map (λ e. e.reply) (E.update c op m)) (state_front c h more k le)
 
   pub read_front : (c : C) (h more : List Record) (k : ℕ) (op : Operation) → k ≤ length h → read_reply_at E c (h ++ more) k op ≡ read_reply_at E c h k op
-  read_front c h more k op le = ap (λ m. option_map (λ e. e.reply) (E.read c op m)) (maps_front c h more k le)
+  read_front c h more k op le = ap (λ m. option_map (λ e. e.reply) (E.read c op m)) (state_front c h more k le)
 
 -- both notes have been answered the same and ask the same
 pub record Alike (n m : SessionNote) : Type 0 where

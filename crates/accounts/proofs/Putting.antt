@@ -185,7 +185,7 @@ module _ {C M V : Type 0} {E : Meaning C M} {R : Rules (Progress C) SessionNote 
         let here = subst (λ z. R.AgreesWith p l ns z) isx h.0 in
         let was = ok.agrees p l ns (TheReplica x) here in
         let grown = ok.extends k.progress l may.0.0 in
-        let now = replayed_agrees E k.progress l y grown low agrees.maps (let t = agrees.tail in let up = grown.completed in omega (arith, t, up)) in (
+        let now = replayed_agrees E k.progress l y grown low agrees.state (let t = agrees.tail in let up = grown.completed in omega (arith, t, up)) in (
           ok.stays p k.session (view v) l k.note ns h.0,
           (subst (λ z. R.AgreesWith p l (set ns k.session k.note) z) (sym isy) (ok.replica p l (set ns k.session k.note) y (was.0, was.1, was.2, now)), keeps l.config l.catalogue h.1),
         ),

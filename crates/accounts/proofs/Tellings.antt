@@ -3,7 +3,7 @@ use Rattle.std.proofs.Common.{◌≡◌, ℕ, zero, suc, ◌+◌, ◌≤◌, Lis
 use Rattle.std.proofs.lemmas.List.{length-drop}
 use Rattle.ownlock.specs.Seats.{At}
 use Rattle.oplog.specs.Operations.{Operation}
-use Rattle.oplog.specs.History.{Meaning, History, after, left_by, maps_after, reply_at, read_reply_at}
+use Rattle.oplog.specs.History.{Meaning, History, after, left_by, state_after, reply_at, read_reply_at}
 use Rattle.accounts.specs.declared.sessions.Progress.{Progress}
 use Rattle.accounts.specs.Values.{LogValue}
 use Rattle.accounts.specs.Accounts.{Extends}
@@ -12,7 +12,7 @@ use Rattle.accounts.specs.Moves.{with_records}
 use Rattle.accounts.specs.StoreRules.{IsLogAfter}
 use Rattle.accounts.specs.Tellings.{TailIs, Replays, ReplayedAgrees, PlacedTells, ReadsTell, EndedTells}
 use Rattle.accounts.proofs.Lists.{at_below, at_front, drop_front}
-use Rattle.accounts.proofs.Parts.{maps_front, reply_front, read_front}
+use Rattle.accounts.proofs.Parts.{state_front, reply_front, read_front}
 use Rattle.accounts.proofs.Kept.{no_next}
 
 module _ {A : Type 0} where
@@ -42,10 +42,10 @@ module _ {C M : Type 0} (E : Meaning C M) where
   pub replays : Replays E
   replays c h t k = sym (ap (λ z. after E c (E.opening c) z) (take_joined t k h) ∙ after_joined c (E.opening c) (take t h) (take k (drop t h)))
 
-  -- the maps after the first records are those of a progress that has grown
-  pub maps_on : (known l : Progress C) (k : ℕ) → Extends known l → k ≤ length known.history → maps_after E known.catalogue known.history k ≡ maps_after E l.catalogue l.history k
-  maps_on known l k grown low = ap (λ z. maps_after E z known.history k) grown.catalogue
-      ∙ (sym (maps_front E l.catalogue known.history grown.history.0 k low) ∙ ap (λ h. maps_after E l.catalogue h k) (sym grown.history.1))
+  -- the state after the first records is that of a progress that has grown
+  pub state_on : (known l : Progress C) (k : ℕ) → Extends known l → k ≤ length known.history → state_after E known.catalogue known.history k ≡ state_after E l.catalogue l.history k
+  state_on known l k grown low = ap (λ z. state_after E z known.history k) grown.catalogue
+      ∙ (sym (state_front E l.catalogue known.history grown.history.0 k low) ∙ ap (λ h. state_after E l.catalogue h k) (sym grown.history.1))
 
   pub reply_on : (known l : Progress C) (k : ℕ) (op : Operation) → Extends known l → k ≤ length known.history → reply_at E known.catalogue known.history k op ≡ reply_at E l.catalogue l.history k op
   reply_on known l k op grown low = ap (λ z. reply_at E z known.history k op) grown.catalogue
@@ -59,7 +59,7 @@ module _ {C M : Type 0} (E : Meaning C M) where
   tail_is l x low a = let long = ap length a.records ∙ length-drop x.base l.history in let base = a.base in let done = a.done in omega (arith, long, base, done, low)
 
   pub replayed_agrees : ReplayedAgrees E
-  replayed_agrees known l y grown low maps tail = record { tail = tail; maps = maps ∙ maps_on known l y.tail grown low }
+  replayed_agrees known l y grown low state tail = record { tail = tail; state = state ∙ state_on known l y.tail grown low }
 
   pub placed_tells : PlacedTells E
   placed_tells known l c seq i reply o grown at is seen done = (
@@ -72,10 +72,10 @@ module _ {C M : Type 0} (E : Meaning C M) where
   )
 
   pub reads_tell : ReadsTell E
-  reads_tell known l begun reply op y grown low maps is first last = (
+  reads_tell known l begun reply op y grown low state is first last = (
     first,
     last,
-    sym (ap (λ m. option_map (λ e. e.reply) (E.read known.catalogue op m)) maps ∙ read_on known l y.tail op grown low) ∙ is,
+    sym (ap (λ m. option_map (λ e. e.reply) (E.read known.catalogue op m)) state ∙ read_on known l y.tail op grown low) ∙ is,
   )
 
   pub ended_tells : EndedTells E
@@ -86,8 +86,8 @@ module _ {C M : Type 0} (E : Meaning C M) where
   log_after known l more y grown same s = record {
     done = let low = s.done in let up = grown.completed in omega (arith, low, up);
     base = s.base;
-    base_maps = s.base_maps ∙ (ap (λ z. maps_after E z known.history y.base) grown.catalogue
-        ∙ (ap (λ h. maps_after E l.catalogue h y.base) same ∙ sym (maps_front E l.catalogue l.history more y.base below)));
+    base_state = s.base_state ∙ (ap (λ z. state_after E z known.history y.base) grown.catalogue
+        ∙ (ap (λ h. state_after E l.catalogue h y.base) same ∙ sym (state_front E l.catalogue l.history more y.base below)));
     records = s.records ∙ (ap (λ h. drop y.base h ++ more) same ∙ sym (drop_front y.base l.history more below));
   }
     where

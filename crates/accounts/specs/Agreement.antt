@@ -4,7 +4,7 @@ use Rattle.ownlock.specs.Rules.{leader}
 use Rattle.ownlock.specs.Seats.{At}
 use Rattle.oplog.specs.Operations.{Operation}
 use Rattle.oplog.specs.declared.configuration.Config.{Config}
-use Rattle.oplog.specs.History.{Meaning, maps_after, reply_at}
+use Rattle.oplog.specs.History.{Meaning, state_after, reply_at}
 use Rattle.accounts.specs.declared.sessions.Progress.{Progress}
 use Rattle.accounts.specs.declared.sessions.Pending.{Pending}
 use Rattle.accounts.specs.declared.sessions.Claim.{Claim}
@@ -62,13 +62,13 @@ module _ {C M : Type 0} (E : Meaning C M) where
   -- a replica has applied no more than what is completed
   pub record ReplicaAgrees (l : Progress C) (x : ReplicaValue M) : Type 0 where
     pub tail : x.tail ≤ l.completed
-    pub maps : x.maps ≡ maps_after E l.catalogue l.history x.tail
+    pub state : x.state ≡ state_after E l.catalogue l.history x.tail
 
   -- the log's own completed tail is one that was read from the lock's word, and the log keeps at least the records from there on
   pub record LogAgrees (l : Progress C) (x : LogValue M) : Type 0 where
     pub done : x.done ≤ l.completed
     pub base : x.base ≤ x.done
-    pub base_maps : x.base_maps ≡ maps_after E l.catalogue l.history x.base
+    pub base_state : x.base_state ≡ state_after E l.catalogue l.history x.base
     pub records : x.records ≡ drop x.base l.history
 
   abbrev pub AgreesWith : ℕ → Progress C → List SessionNote → StoreValue M → Type 0

@@ -22,10 +22,10 @@ first_progress config c = record { config = config; catalogue = c; history = [];
 
 module _ {C M : Type 0} (E : Meaning C M) where
   abbrev pub first_log : C → LogValue M
-  first_log c = record { base = 0; base_maps = E.opening c; records = []; done = 0 }
+  first_log c = record { base = 0; base_state = E.opening c; records = []; done = 0 }
 
   abbrev pub first_replica : C → ReplicaValue M
-  first_replica c = record { tail = 0; maps = E.opening c }
+  first_replica c = record { tail = 0; state = E.opening c }
 
   -- the first k requests of the batch may be appended, and y is the log with them
   pub record LogStep (known : Progress C) (n : SessionNote) (x : LogValue M) (k : ℕ) (y : LogValue M) : Type 0 where

@@ -3,7 +3,7 @@ use Rattle.std.specs.Prelude.{◌≡◌, ℕ, ◌≤◌, List, [], ◌++◌, len
 use Rattle.ownlock.specs.declared.known.Known.{Known}
 use Rattle.ownlock.specs.Rules.{Rules, Laws}
 use Rattle.ownlock.specs.Seats.{At}
-use Rattle.oplog.specs.History.{Meaning, History, maps_after}
+use Rattle.oplog.specs.History.{Meaning, History, state_after}
 use Rattle.accounts.specs.declared.sessions.Progress.{Progress}
 use Rattle.accounts.specs.declared.sessions.SessionNote.{SessionNote}
 use Rattle.combiner.specs.Desks.{DeskView}
@@ -51,5 +51,5 @@ module _ {C M : Type 0} (E : Meaning C M) where
     pub done : y.done ≤ known.completed
     pub base : y.base ≤ y.done
     pub below : y.base ≤ length known.history
-    pub base_maps : y.base_maps ≡ maps_after E known.catalogue known.history y.base
+    pub base_state : y.base_state ≡ state_after E known.catalogue known.history y.base
     pub records : y.records ≡ drop y.base known.history ++ more

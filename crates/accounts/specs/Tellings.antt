@@ -2,7 +2,7 @@
 use Rattle.std.specs.Prelude.{◌≡◌, ℕ, ◌+◌, ◌<◌, ◌≤◌, List, length, take, drop, None, Some, option_map}
 use Rattle.ownlock.specs.Seats.{At}
 use Rattle.oplog.specs.Operations.{Operation}
-use Rattle.oplog.specs.History.{Meaning, History, after, maps_after, reply_at}
+use Rattle.oplog.specs.History.{Meaning, History, after, state_after, reply_at}
 use Rattle.accounts.specs.declared.sessions.Progress.{Progress}
 use Rattle.accounts.specs.declared.sessions.Pending.{Pending}
 use Rattle.accounts.specs.declared.sessions.SessionNote.{SessionNote}
@@ -17,14 +17,14 @@ module _ {C M : Type 0} (E : Meaning C M) where
   abbrev pub TailIs : Type 0
   TailIs = (l : Progress C) (x : LogValue M) → l.completed ≤ length l.history → LogAgrees E l x → x.base + length x.records ≡ length l.history
 
-  -- so many records from the place t on bring the maps after t to those after t and these
+  -- so many records from the place t on bring the state after t to that after t and these
   abbrev pub Replays : Type 0
-  Replays = (c : C) (h : History) (t k : ℕ) → after E c (maps_after E c h t) (take k (drop t h)) ≡ maps_after E c h (t + k)
+  Replays = (c : C) (h : History) (t k : ℕ) → after E c (state_after E c h t) (take k (drop t h)) ≡ state_after E c h (t + k)
 
   -- a replica that was replayed agrees once the completed tail is no less than its own tail, wherever the others are by then
   abbrev pub ReplayedAgrees : Type 0
   ReplayedAgrees =
-      (known l : Progress C) (y : ReplicaValue M) → Extends known l → y.tail ≤ length known.history → y.maps ≡ maps_after E known.catalogue known.history y.tail → y.tail ≤ l.completed → ReplicaAgrees E l y
+      (known l : Progress C) (y : ReplicaValue M) → Extends known l → y.tail ≤ length known.history → y.state ≡ state_after E known.catalogue known.history y.tail → y.tail ≤ l.completed → ReplicaAgrees E l y
 
   -- the record that a session appended and the reply there are what it may say of its answer, once that place is completed
   abbrev pub PlacedTells : Type 0
@@ -32,11 +32,11 @@ module _ {C M : Type 0} (E : Meaning C M) where
       (known l : Progress C) (c seq i reply : ℕ) (o : Pending) → Extends known l → At i (record { author = c; seq = seq; op = o.op }) known.history → reply_at E known.catalogue known.history i o.op ≡ Some reply
       → o.seen ≤ i → i < l.completed → Tells E l c seq o (Placed i reply)
 
-  -- the reply on the maps of a replica that was replayed is what a read may answer, once that far is completed
+  -- the reply on the state of a replica that was replayed is what a read may answer, once that far is completed
   abbrev pub ReadsTell : Type 0
   ReadsTell =
-      (known l : Progress C) (begun reply : ℕ) (op : Operation) (y : ReplicaValue M) → Extends known l → y.tail ≤ length known.history → y.maps ≡ maps_after E known.catalogue known.history y.tail
-      → option_map (λ e. e.reply) (E.read known.catalogue op y.maps) ≡ Some reply → begun ≤ y.tail → y.tail ≤ l.completed → ReadTells E l begun op y.tail reply
+      (known l : Progress C) (begun reply : ℕ) (op : Operation) (y : ReplicaValue M) → Extends known l → y.tail ≤ length known.history → y.state ≡ state_after E known.catalogue known.history y.tail
+      → option_map (λ e. e.reply) (E.read known.catalogue op y.state) ≡ Some reply → begun ≤ y.tail → y.tail ≤ l.completed → ReadTells E l begun op y.tail reply
 
   -- a session that waits for nothing may say that the history has its last record, once all of it is completed
   abbrev pub EndedTells : Type 0

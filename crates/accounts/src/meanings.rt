@@ -1,20 +1,20 @@
 // The laws hold whatever operations do, and whatever type the values of the shelf have.
 
-/// What operations do to maps.
+/// What operations do to a state.
 pub trait Effects {
-    type Maps;
+    type State;
 
     type Catalogue;
 
     ghost use Rattle.oplog.specs.History.{Meaning};
 
-    ghost meaning: { Meaning Self.Catalogue Self.Maps };
+    ghost meaning: { Meaning Self.Catalogue Self.State };
 }
 
-/// What operations do to maps, how values are seen as the log and the replicas of a store, under which rules its sessions take them
+/// What operations do to a state, how values are seen as the log and the replicas of a store, under which rules its sessions take them
 /// and put them back, and what they note then.
 pub trait Viewed {
-    type Maps;
+    type State;
 
     type Catalogue;
 
@@ -28,11 +28,11 @@ pub trait Viewed {
     ghost use Rattle.accounts.specs.Values.{StoreValue};
     ghost use Rattle.accounts.specs.StoreRules.{IsStoreRules, Noting, IsNoting};
 
-    ghost meaning: { Meaning Self.Catalogue Self.Maps };
+    ghost meaning: { Meaning Self.Catalogue Self.State };
 
-    ghost rules: { Rules (Progress Self.Catalogue) SessionNote (StoreValue Self.Maps) };
+    ghost rules: { Rules (Progress Self.Catalogue) SessionNote (StoreValue Self.State) };
 
-    ghost view: { Self.Value → StoreValue Self.Maps };
+    ghost view: { Self.Value → StoreValue Self.State };
 
     // The sizes of the value, as its room and its shapes, are those of the configuration and the catalogue.
     ghost is_sized: { Config → Self.Catalogue → Self.Value → Type 0 };

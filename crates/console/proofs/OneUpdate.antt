@@ -4,7 +4,8 @@ use Rattle.std.specs.Prelude.{IfSome, IfNone}
 use Rattle.std.proofs.lemmas.List.{length-append}
 use Rattle.std.proofs.lemmas.Option.{same_Some}
 use Rattle.std.proofs.Math.Seq.{drop-append_seam}
-use Rattle.maps.specs.Maps.{Maps, AreBytes, shapes_of}
+use Rattle.maps.specs.Maps.{AreBytes}
+use Rattle.loader.specs.StoreState.{StoreState, sizes_of, sizes_for}
 use Rattle.machine.specs.declared.running.Outcome.{Outcome}
 use Rattle.verifier.specs.declared.refusal.Mode.TheVariants.{Update}
 use Rattle.loader.specs.CatalogueView.{CatalogueView}
@@ -50,38 +51,38 @@ module _ (c : CatalogueView) (g h : Log) (n m : NodeReplica) (r : Record) (log :
   same_replica : m.replica ≡ n.replica
   same_replica = ap (λ (x : NodeReplica). x.replica) own
 
-  pub is_next : is_operation Update c r.op ≡ true → shapes_of n.replica.maps ≡ c.shapes → tail_of h ≤ MAX_LIMIT → IsNext c m
-  is_next update shapes within =
+  pub is_next : is_operation Update c r.op ≡ true → sizes_of n.replica.state ≡ sizes_for c → tail_of h ≤ MAX_LIMIT → IsNext c m
+  is_next update sizes within =
       let copied_from = ap (λ (x : NodeReplica). x.hand.begin) own in
       let tail = ap (λ (x : ReplicaView). x.tail) same_replica in
       let count = ap (λ (x : History). length x) holds_one in
       let more = one_more in
       record {
         begins = copied_from ∙ sym tail;
-        shapes = ap (λ (x : ReplicaView). shapes_of x.maps) same_replica ∙ shapes;
+        sizes = ap (λ (x : ReplicaView). sizes_of x.state) same_replica ∙ sizes;
         updates = subst (λ x. AreUpdates c x) (sym holds_one) (only_one c r update);
         short = omega (arith, tail, at, count, more, within);
       }
 
   -- what is kept of its outcome
-  module _ (kept : RepliesView) (got : Option Outcome) (keeps : KeepsOutcomes c m.replica.maps m.replica.tail m.hand.records (replies_for (r ∷ []) g) kept) (found : slice_get kept.outcomes 0 ≡ Some got) where
-    answered : (o : Outcome) × (got ≡ Some o) × IsAnswered c r.op n.replica.maps o
+  module _ (kept : RepliesView) (got : Option Outcome) (keeps : KeepsOutcomes c m.replica.state m.replica.tail m.hand.records (replies_for (r ∷ []) g) kept) (found : slice_get kept.outcomes 0 ≡ Some got) where
+    answered : (o : Outcome) × (got ≡ Some o) × IsAnswered c r.op n.replica.state o
     answered =
         let tail = ap (λ (x : ReplicaView). x.tail) same_replica in
         let has_index : 0 < length (replies_for (r ∷ []) g).outcomes = rw one (lit< tt) in
         let there = keeps.replayed 0 0 r has_index (ap (λ (x : History). slice_get x 0) holds_one) (omega (arith, tail, at)) in
-        (there.0, same_Some got (Some there.0) (sym found ∙ there.1), subst (λ (x : ReplicaView). IsAnswered c r.op x.maps there.0) same_replica there.2)
+        (there.0, same_Some got (Some there.0) (sym found ∙ there.1), subst (λ (x : ReplicaView). IsAnswered c r.op x.state there.0) same_replica there.2)
 
     pub updated : (old : SingleNode) (last : Log) (p : NodeReplica) (op : Operation) → n ≡ old.own → tail_of g ≡ tail_of old.log → g.limit ≡ MAX_LIMIT → r.op ≡ op → p ≡ replayed c m → last ≡ told p h
         → IfSome got (λ o. IsUpdated c op old (record { log = last; own = p; replies = kept }) o)
     updated old last p op replica tail limit same run raised =
         let a = answered in
         let answer = a.2 in
-        let takes : store_meaning.update c op old.own.replica.maps ≡ Some answer.done =
+        let takes : store_meaning.update c op old.own.replica.state ≡ Some answer.done =
         rw (← same, ← replica) answer.takes in
-        let maps : p.replica.maps ≡ answer.done.maps =
-        ap (λ (x : NodeReplica). x.replica.maps) run ∙ ap (λ (x : History). after store_meaning c m.replica.maps x) holds_one
-        ∙ ap (λ (x : ReplicaView). left_by (store_meaning.update c r.op x.maps) x.maps) same_replica ∙ ap (λ (e : Option (Effect Maps)). left_by e n.replica.maps) answer.takes in
+        let state : p.replica.state ≡ answer.done.left =
+        ap (λ (x : NodeReplica). x.replica.state) run ∙ ap (λ (x : History). after store_meaning c m.replica.state x) holds_one
+        ∙ ap (λ (x : ReplicaView). left_by (store_meaning.update c r.op x.state) x.state) same_replica ∙ ap (λ (e : Option (Effect StoreState)). left_by e n.replica.state) answer.takes in
         subst (λ (x : Option Outcome). IfSome x (λ o. IsUpdated c op old (record { log = last; own = p; replies = kept }) o)) (sym a.1)
         (record {
           room = omega (arith, left, tail, limit);
@@ -89,7 +90,7 @@ module _ (c : CatalogueView) (g h : Log) (n m : NodeReplica) (r : Record) (log :
           done = answer.done;
           takes = takes;
           outcome = answer.outcome;
-          maps = maps;
+          state = state;
         })
 
     pub not_ended : (P : Type 0) → IfNone got P

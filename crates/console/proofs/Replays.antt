@@ -2,7 +2,7 @@
 use Rattle.std.proofs.Common.{◌≡◌, ℕ, Bool, true, false, eqb, ltb, length, Option, Some, refl, sym, ap, subst, ◌∙◌, arith}
 use Rattle.std.specs.Prelude.{option_map}
 use Rattle.std.proofs.lemmas.Bool.{ltb-true, eqb-true, false≢true}
-use Rattle.maps.specs.Maps.{Maps}
+use Rattle.loader.specs.StoreState.{StoreState}
 use Rattle.verifier.specs.Accepted.{Checked}
 use Rattle.machine.specs.Effects.{effect, effect_of}
 use Rattle.machine.specs.declared.running.Outcome.{Outcome}
@@ -54,7 +54,7 @@ module _ (c : CatalogueView) (at : Replayed) (op : Operation) (index reply : ℕ
         let room = has_room c at.history old.node has.placed op new.node o u in
         let effect = effect_here c at.history old.node has.placed op new.node o u in
         let replies : is_reply reply (reply_at store_meaning c at.history (length at.history) op) ≡ eqb o.reply reply =
-        ap (λ (e : Option (Effect Maps)). is_reply reply (option_map (λ x. x.reply) e)) effect ∙ ap (λ (x : Outcome). eqb x.reply reply) (sym u.outcome) in
+        ap (λ (e : Option (Effect StoreState)). is_reply reply (option_map (λ x. x.reply) e)) effect ∙ ap (λ (x : Outcome). eqb x.reply reply) (sym u.outcome) in
         let agrees : update_agrees c at.history op index reply ≡ eqb o.reply reply = rw (there, room) replies in
         record {
           told = sym agrees;
@@ -71,13 +71,13 @@ module _ (c : CatalogueView) (at : Replayed) (op : Operation) (index reply : ℕ
         rw (there, none) (record { told = refl; goes_on = λ on. absurd (false≢true on) })
 
     -- a read
-    pub queried : (call : Call) (p : Checked) (o : Outcome) → op ≡ Run call → program_at c call.program ≡ Some p → effect p.program old.node.own.replica.maps call.argument ≡ Some (effect_of o.steps o.reply old.node.own.replica.maps)
+    pub queried : (call : Call) (p : Checked) (o : Outcome) → op ≡ Run call → program_at c call.program ≡ Some p → effect p.program old.node.own.replica.state.maps call.argument ≡ Some (effect_of o.steps o.reply old.node.own.replica.state.maps)
         → new.node ≡ old.node → new.reads ≡ next_count old.reads → new.ended ≡ old.ended
         → IsCompared c (read_agrees c at.history op index reply) (record at { reads = next_count at.reads }) (eqb o.reply reply) new
     queried call p o is_call named ran node reads ended =
         let there = on_index in
         let told_here : read_reply_at store_meaning c at.history (length at.history) op ≡ Some o.reply =
-        ap (λ (x : Maps). option_map (λ e. e.reply) (store_meaning.read c op x)) (here c at.history old.node has.placed) ∙ rw (is_call, named, ran) refl in
+        ap (λ (x : StoreState). option_map (λ e. e.reply) (store_meaning.read c op x)) (here c at.history old.node has.placed) ∙ rw (is_call, named, ran) refl in
         let agrees : read_agrees c at.history op index reply ≡ eqb o.reply reply = rw there (ap (is_reply reply) told_here) in
         record {
           told = sym agrees;

@@ -4,8 +4,8 @@ use Rattle.std.specs.Prelude.{option_map}
 use Rattle.std.proofs.lemmas.Bool.{ltb-true, eqb-true}
 use Rattle.hex.specs.Hex.{decode_of}
 use Rattle.hex.proofs.HexLemmas.{decode_of-ok}
-use Rattle.maps.specs.Maps.{Maps, AreBytes}
-use Rattle.maps.specs.MapSets.{opening_maps}
+use Rattle.maps.specs.Maps.{AreBytes}
+use Rattle.loader.specs.StoreState.{StoreState, sizes_for, opened_state}
 use Rattle.insn.proofs.Slots.{are_bytes}
 use Rattle.verifier.specs.declared.refusal.Mode.{Mode}
 use Rattle.verifier.specs.declared.refusal.Mode.TheVariants.{Update, Read}
@@ -26,7 +26,7 @@ use Rattle.oplog.specs.declared.configuration.TheConstants.{MAX_LIMIT}
 use Rattle.oplog.specs.declared.records.Record.{Record}
 use Rattle.oplog.specs.Calls.{Call as TheCall}
 use Rattle.oplog.specs.declared.records.Op.TheVariants.{Run}
-use Rattle.oplog.specs.History.{Effect, History, left_by, after, maps_after, effect_at, read_at}
+use Rattle.oplog.specs.History.{Effect, History, left_by, after, state_after, effect_at, read_at}
 use Rattle.replica.specs.StoreMeaning.{program_at, is_operation, AreUpdates, store_meaning}
 use Rattle.replica.specs.HistoryLaws.{HasEffects}
 use Rattle.replica.proofs.Tested.{tests_call}
@@ -122,8 +122,9 @@ module _ (c : CatalogueView) (is_whole : IsCatalogue c) (h : History) (updates :
         text = ap (update_line (length h)) u.1;
         next = refl;
         left =
-            whole c (with_operation h (Run one)) ∙ after_append store_meaning c (opening_maps c.shapes) h (r ∷ []) ∙ ap (λ (m : Maps). after store_meaning c m (r ∷ [])) (sym (whole c h))
-            ∙ ap (λ (e : Option (Effect Maps)). left_by e (maps_after store_meaning c h (length h))) u.1;
+            ap (λ (s : StoreState). s.maps)
+            (whole c (with_operation h (Run one)) ∙ after_append store_meaning c (opened_state (sizes_for c)) h (r ∷ []) ∙ ap (λ (s : StoreState). after store_meaning c s (r ∷ [])) (sym (whole c h))
+            ∙ ap (λ (e : Option (Effect StoreState)). left_by e (state_after store_meaning c h (length h))) u.1);
       }
 
   read_turn : program.mode ≡ Read → IsReadTurn c h one (record { text = read_line (length h) (read_at store_meaning c h (length h) (Run one)); history = h })

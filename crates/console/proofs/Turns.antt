@@ -3,8 +3,7 @@ use Rattle.std.proofs.Common.{◌≡◌, ℕ, ◌+◌, true, List, [], ◌∷◌
 use Rattle.std.specs.Prelude.{OnOk}
 use Rattle.std.proofs.lemmas.Bool.{lt-ltb}
 use Rattle.std.proofs.lemmas.List.{length-append, take_all}
-use Rattle.maps.specs.Maps.{Maps}
-use Rattle.maps.specs.MapSets.{opening_maps}
+use Rattle.loader.specs.StoreState.{StoreState, sizes_for, opened_state}
 use Rattle.verifier.specs.declared.refusal.Mode.TheVariants.{Update}
 use Rattle.verifier.specs.Accepted.{Checked}
 use Rattle.machine.specs.declared.running.Outcome.{Outcome}
@@ -12,33 +11,33 @@ use Rattle.loader.specs.CatalogueView.{CatalogueView}
 use Rattle.oplog.specs.declared.configuration.TheConstants.{MAX_LIMIT}
 use Rattle.oplog.specs.Operations.{Operation}
 use Rattle.oplog.specs.Logs.{tail_of}
-use Rattle.oplog.specs.History.{Meaning, Effect, History, left_by, after, maps_after, effect_at}
+use Rattle.oplog.specs.History.{Meaning, Effect, History, left_by, after, state_after, effect_at}
 use Rattle.replica.specs.StoreMeaning.{store_meaning}
 use Rattle.console.specs.declared.single_node.SingleNode.{SingleNode}
 use Rattle.console.specs.RunAnswer.{with_operation, update_line, update_text, performed}
 use Rattle.console.specs.Running.{Follows, IsUpdated, IsTaken}
 
--- the maps after one history and then another
-pub after_append : {C M : Type 0} (E : Meaning C M) (c : C) (maps : M) (h : History) (rs : History) → after E c maps (h ++ rs) ≡ after E c (after E c maps h) rs
-after_append E c maps [] rs = refl
-after_append E c maps (x ∷ h) rs = after_append E c (left_by (E.update c x.op maps) maps) h rs
+-- the state after one history and then another
+pub after_append : {C M : Type 0} (E : Meaning C M) (c : C) (state : M) (h : History) (rs : History) → after E c state (h ++ rs) ≡ after E c (after E c state h) rs
+after_append E c state [] rs = refl
+after_append E c state (x ∷ h) rs = after_append E c (left_by (E.update c x.op state) state) h rs
 
--- the maps after a whole history
-pub whole : (c : CatalogueView) (h : History) → maps_after store_meaning c h (length h) ≡ after store_meaning c (opening_maps c.shapes) h
-whole c h = ap (λ (x : History). after store_meaning c (opening_maps c.shapes) x) (take_all (length h) h (omega arith))
+-- the state after a whole history
+pub whole : (c : CatalogueView) (h : History) → state_after store_meaning c h (length h) ≡ after store_meaning c (opened_state (sizes_for c)) h
+whole c h = ap (λ (x : History). after store_meaning c (opened_state (sizes_for c)) x) (take_all (length h) h (omega arith))
 
 on_ok : {A E : Type 0} (r : Result A E) (P Q : Type 0) → (P → Q) → OnOk r P → OnOk r Q
 on_ok (Ok x) P Q f p = f p
 on_ok (Err e) P Q f p = tt
 
 module _ (c : CatalogueView) (h : History) (n : SingleNode) (follows : Follows c h n) where
-  pub here : maps_after store_meaning c h (length h) ≡ n.own.replica.maps
-  here = whole c h ∙ sym follows.maps
+  pub here : state_after store_meaning c h (length h) ≡ n.own.replica.state
+  here = whole c h ∙ sym follows.state
 
   -- the effect of an update that the node applied, and the history that it then has behind it
   module _ (op : Operation) (m : SingleNode) (o : Outcome) (u : IsUpdated c op n m o) where
     pub effect_here : effect_at store_meaning c h (length h) op ≡ Some u.done
-    effect_here = ap (λ (x : Maps). store_meaning.update c op x) here ∙ u.takes
+    effect_here = ap (λ (x : StoreState). store_meaning.update c op x) here ∙ u.takes
 
     pub has_room : ltb (length h) MAX_LIMIT ≡ true
     has_room =
@@ -51,10 +50,10 @@ module _ (c : CatalogueView) (h : History) (n : SingleNode) (follows : Follows c
         let count = follows.count in
         let grown = u.tail in
         let size : length (with_operation h op) ≡ length h + 1 = length-append h (record { author = 0; seq = length h; op = op } ∷ []) in
-        let left : m.own.replica.maps ≡ after store_meaning c (opening_maps c.shapes) (with_operation h op) =
-        u.maps ∙ sym (ap (λ (e : Option (Effect Maps)). left_by e n.own.replica.maps) u.takes) ∙ ap (λ (x : Maps). after store_meaning c x (record { author = 0; seq = length h; op = op } ∷ [])) follows.maps
-        ∙ sym (after_append store_meaning c (opening_maps c.shapes) h (record { author = 0; seq = length h; op = op } ∷ [])) in
-        record { count = omega (arith, grown, count, size); maps = left }
+        let left : m.own.replica.state ≡ after store_meaning c (opened_state (sizes_for c)) (with_operation h op) =
+        u.state ∙ sym (ap (λ (e : Option (Effect StoreState)). left_by e n.own.replica.state) u.takes) ∙ ap (λ (x : StoreState). after store_meaning c x (record { author = 0; seq = length h; op = op } ∷ [])) follows.state
+        ∙ sym (after_append store_meaning c (opened_state (sizes_for c)) h (record { author = 0; seq = length h; op = op } ∷ [])) in
+        record { count = omega (arith, grown, count, size); state = left }
 
   module _ (op : Operation) (program : Checked) where
     -- an update

@@ -1,6 +1,6 @@
 -- What `run` answers and writes, as a function of the manifest, of the files that are there, and of the script.
 use Rattle.std.specs.Prelude.{ℕ, List, [], ◌∷◌, ◌++◌, length, codes, decimal, Option, Some, None, option_map, Ok, Err, nat_lt, ◌==◌, if◌then◌else◌}
-use Rattle.maps.specs.Maps.{Maps}
+use Rattle.loader.specs.StoreState.{StoreState}
 use Rattle.verifier.specs.declared.refusal.Mode.{Mode}
 use Rattle.verifier.specs.declared.refusal.Mode.TheVariants.{Update, Read}
 use Rattle.verifier.specs.Accepted.{Checked}
@@ -56,7 +56,7 @@ abbrev pub with_operation : History → Operation → History
 with_operation history op = history ++ record { author = 0; seq = length history; op = op } ∷ []
 
 -- the line of an update, and of a read, that has this effect; without one nothing is written (`run_lines_are_runs`: each has one)
-abbrev pub update_line : ℕ → Option (Effect Maps) → List ℕ
+abbrev pub update_line : ℕ → Option (Effect StoreState) → List ℕ
 update_line index (Some e) = update_text index e.reply e.steps
 update_line index None = []
 

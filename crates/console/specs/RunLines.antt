@@ -12,7 +12,7 @@ use Rattle.loader.specs.Loading.{loaded}
 use Rattle.oplog.specs.declared.configuration.TheConstants.{MAX_LIMIT}
 use Rattle.oplog.specs.Calls.{Call as TheCall}
 use Rattle.oplog.specs.declared.records.Op.TheVariants.{Run}
-use Rattle.oplog.specs.History.{History, maps_after}
+use Rattle.oplog.specs.History.{History, state_after}
 use Rattle.replica.specs.StoreMeaning.{program_at, store_meaning}
 use Rattle.console.specs.declared.status.Verdict.TheVariants as verdicts
 use Rattle.console.specs.Answer.{Answer}
@@ -27,7 +27,7 @@ pub record CallRuns (c : CatalogueView) (h : History) (call : TheCall) (mode : M
   pub steps : ℕ
   pub reply : ℕ
   pub left : Maps
-  pub runs : Runs program.program (maps_after store_meaning c h (length h)) call.argument steps reply left
+  pub runs : Runs program.program (state_after store_meaning c h (length h)).maps call.argument steps reply left
 
 -- an update wrote its index in the history and what its run answers; the history goes on with it, and with the maps that it leaves
 pub record IsUpdateTurn (c : CatalogueView) (h : History) (call : TheCall) (turn : Turn) : Type 0 where
@@ -35,14 +35,14 @@ pub record IsUpdateTurn (c : CatalogueView) (h : History) (call : TheCall) (turn
   pub room : length h < MAX_LIMIT
   pub text : turn.text ≡ update_text (length h) run.reply run.steps
   pub next : turn.history ≡ with_operation h (Run call)
-  pub left : maps_after store_meaning c turn.history (length turn.history) ≡ run.left
+  pub left : (state_after store_meaning c turn.history (length turn.history)).maps ≡ run.left
 
 -- a read wrote the number of updates before it and what its run answers, and the history stays
 pub record IsReadTurn (c : CatalogueView) (h : History) (call : TheCall) (turn : Turn) : Type 0 where
   pub run : CallRuns c h call Read
   pub text : turn.text ≡ read_text (length h) run.reply run.steps
   pub same : turn.history ≡ h
-  pub left : run.left ≡ maps_after store_meaning c h (length h)
+  pub left : run.left ≡ (state_after store_meaning c h (length h)).maps
 
 -- a refused call wrote its number, and the history stays
 pub record IsRefusedTurn (h : History) (turn : Turn) : Type 0 where

@@ -1,7 +1,6 @@
 -- What is kept while a script is run. Clauses of private functions alone cite this.
 use Rattle.std.specs.Prelude.{◌≡◌, ℕ, ◌+◌, ◌<◌, Bool, true, false, List, ◌++◌, length, Option, Some, None, Result, IfOk, OnOk}
-use Rattle.maps.specs.Maps.{Maps, shapes_of}
-use Rattle.maps.specs.MapSets.{opening_maps}
+use Rattle.loader.specs.StoreState.{StoreState, sizes_of, sizes_for, opened_state}
 use Rattle.verifier.specs.declared.refusal.Mode.{Mode}
 use Rattle.verifier.specs.Accepted.{Checked}
 use Rattle.machine.specs.declared.running.Outcome.{Outcome}
@@ -23,15 +22,15 @@ use Rattle.console.specs.RunAnswer.{Turn, performed, line_turn, behind}
 pub record IsSteady (c : CatalogueView) (n : SingleNode) : Type 0 where
   pub limit : n.log.limit ≡ MAX_LIMIT
   pub completed : n.log.done ≡ tail_of n.log
-  pub base_shapes : shapes_of n.log.base_maps ≡ c.shapes
+  pub base_sizes : sizes_of n.log.base_state ≡ sizes_for c
   pub window : n.own.hand.window ≡ n.log.window
   pub tail : n.own.replica.tail ≡ tail_of n.log
-  pub shapes : shapes_of n.own.replica.maps ≡ c.shapes
+  pub sizes : sizes_of n.own.replica.state ≡ sizes_for c
 
--- the node has this history behind it: so many updates, and the maps that they leave
+-- the node has this history behind it: so many updates, and the state that they leave
 pub record Follows (c : CatalogueView) (h : History) (n : SingleNode) : Type 0 where
   pub count : tail_of n.log ≡ length h
-  pub maps : n.own.replica.maps ≡ after store_meaning c (opening_maps c.shapes) h
+  pub state : n.own.replica.state ≡ after store_meaning c (opened_state (sizes_for c)) h
 
 -- a call of a program of this mode, with as many bytes as its argument has
 pub record IsCallOf (c : CatalogueView) (call : Call) (mode : Mode) : Type 0 where
@@ -44,10 +43,10 @@ pub record IsCallOf (c : CatalogueView) (call : Call) (mode : Mode) : Type 0 whe
 pub record IsUpdated (c : CatalogueView) (op : Operation) (old new : SingleNode) (o : Outcome) : Type 0 where
   pub room : tail_of old.log < MAX_LIMIT
   pub tail : tail_of new.log ≡ tail_of old.log + 1
-  pub done : Effect Maps
-  pub takes : store_meaning.update c op old.own.replica.maps ≡ Some done
+  pub done : Effect StoreState
+  pub takes : store_meaning.update c op old.own.replica.state ≡ Some done
   pub outcome : o ≡ outcome_of done
-  pub maps : new.own.replica.maps ≡ done.maps
+  pub state : new.own.replica.state ≡ done.left
 
 -- the history has all its operations, and nothing was applied
 pub record HasEnded (old new : SingleNode) : Type 0 where

@@ -31,9 +31,10 @@ impl SingleNode {
         ensures steady { IfOk result (λ n. IsSteady catalogue.now n) }
         ensures empty { IfOk result (λ n. Follows catalogue.now [] n) }
     {
-        let log = LogState::open(alloc, catalogue.shapes(), MAX_WINDOW, MAX_LIMIT)?;
+        let (shapes, places) = (catalogue.shapes(), catalogue.places());
+        let log = LogState::open(alloc, shapes, places, MAX_WINDOW, MAX_LIMIT)?;
         let hand = Hand::open(alloc, MAX_WINDOW)?;
-        let replica = Replica::open(alloc, catalogue.shapes())?;
+        let replica = Replica::open(alloc, shapes, places)?;
         let own = NodeReplica { replica, hand };
         let replies = Replies::new(0, 0);
         Ok(SingleNode { log, own, replies })
@@ -46,7 +47,7 @@ impl SingleNode {
         self.log.tail()
     }
 
-    // Makes the replica's maps the log's base where the log has no room for a record.
+    // Makes the replica's maps and programs the log's base where the log has no room for a record.
     fn make_room(&mut self, catalogue: &Catalogue)
         requires steady { IsSteady catalogue.now self.old }
         ensures steady { IsSteady catalogue.now self.new }
@@ -92,11 +93,11 @@ impl SingleNode {
 
     // What a read program answers after all updates so far.
     pub(crate) fn query(&mut self, program: &Accepted, argument: &[u8]) -> Outcome
-        requires shapes { program.now.shapes ≡ shapes_of self.old.own.replica.maps }
+        requires shapes { program.now.shapes ≡ shapes_of self.old.own.replica.state.maps }
         requires mode { program.now.mode ≡ Read }
         requires length { length argument.now ≡ program.now.arg_len }
-        ensures run { effect program.now.program self.old.own.replica.maps argument.now
-            ≡ Some (effect_of result.steps result.reply self.old.own.replica.maps) }
+        ensures run { effect program.now.program self.old.own.replica.state.maps argument.now
+            ≡ Some (effect_of result.steps result.reply self.old.own.replica.state.maps) }
         ensures same { self.new ≡ self.old }
     {
         self.own.replica.query(program, argument)

@@ -11,3 +11,4 @@ pub mod Offered
 pub mod Outcomes
 pub mod Named
 pub mod Installing
+pub mod States

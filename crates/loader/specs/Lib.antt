@@ -8,6 +8,8 @@ pub mod Offers
 pub mod Refusal
 -- Programs that are installed while a store runs.
 pub mod Installed
+-- What operations change.
+pub mod StoreState
 -- The same as functions, line by line, which laws tie to those: the crates above cite them.
 pub mod Loading
 pub mod Spelling

@@ -1,8 +1,8 @@
 -- The steps of a node's replica on a log: when each may be taken, and what it makes of the two. Where a guard asks what is completed, it is
 -- told how much, since the log itself may know less.
 use Rattle.std.specs.Prelude.{◌≡◌, ℕ, ◌+◌, ◌<◌, ◌≤◌, ◌^◌, Bool, true, false, ◌&&◌, ◌||◌, not, [], ◌∷◌, ◌++◌, length, take, min, max, nat_lt, nat_le, Option, Some, None}
-use Rattle.maps.specs.Maps.{Maps, shapes_of}
 use Rattle.loader.specs.CatalogueView.{CatalogueView}
+use Rattle.loader.specs.StoreState.{StoreState, sizes_of, sizes_for}
 use Rattle.oplog.specs.Logs.{Log, tail_of, left_of, room_in, records_from}
 use Rattle.oplog.specs.History.{Effect, History, after, left_by}
 use Rattle.replica.specs.StoreMeaning.{store_meaning, outcome_of, AreUpdates}
@@ -31,10 +31,10 @@ pub record Fits (g : Log) (n : NodeReplica) : Type 0 where
   pub tail : n.replica.tail ≤ tail_of g
   pub window : n.hand.window ≡ g.window
 
--- the hand has the next records, updates of the catalogue, whose maps the replica has
+-- the hand has the next records, updates of the catalogue, whose sizes the replica has
 pub record IsNext (c : CatalogueView) (n : NodeReplica) : Type 0 where
   pub begins : n.hand.begin ≡ n.replica.tail
-  pub shapes : shapes_of n.replica.maps ≡ c.shapes
+  pub sizes : sizes_of n.replica.state ≡ sizes_for c
   pub updates : AreUpdates c n.hand.records
   pub short : n.replica.tail + length n.hand.records < 2 ^ 64
 
@@ -73,24 +73,24 @@ abbrev pub replayed : CatalogueView → NodeReplica → NodeReplica
 replayed c n =
     let tail = n.replica.tail + length n.hand.records in
     record {
-      replica = record { tail = tail; maps = after store_meaning c n.replica.maps n.hand.records };
+      replica = record { tail = tail; state = after store_meaning c n.replica.state n.hand.records };
       hand = record n.hand { begin = tail; records = [] };
     }
 
 -- an outcome at an index is kept, if there is one
-abbrev pub with_effect : RepliesView → ℕ → Option (Effect Maps) → RepliesView
+abbrev pub with_effect : RepliesView → ℕ → Option (Effect StoreState) → RepliesView
 with_effect kept index (Some e) = with_outcome kept index (outcome_of e)
 with_effect kept index None = kept
 
--- the outcomes of these records, the first of which is run on those maps and has that index
-abbrev pub outcomes_after : CatalogueView → Maps → ℕ → History → RepliesView → RepliesView
-outcomes_after c maps index [] kept = kept
-outcomes_after c maps index (r ∷ rs) kept =
-    outcomes_after c (left_by (store_meaning.update c r.op maps) maps) (index + 1) rs (with_effect kept index (store_meaning.update c r.op maps))
+-- the outcomes of these records, the first of which is run on that state and has that index
+abbrev pub outcomes_after : CatalogueView → StoreState → ℕ → History → RepliesView → RepliesView
+outcomes_after c s index [] kept = kept
+outcomes_after c s index (r ∷ rs) kept =
+    outcomes_after c (left_by (store_meaning.update c r.op s) s) (index + 1) rs (with_effect kept index (store_meaning.update c r.op s))
 
 -- what is kept once the replica has applied the records in its hand
 abbrev pub replies_after : CatalogueView → NodeReplica → RepliesView → RepliesView
-replies_after c n kept = outcomes_after c n.replica.maps n.replica.tail n.hand.records kept
+replies_after c n kept = outcomes_after c n.replica.state n.replica.tail n.hand.records kept
 
 -- ---- finish: the replica is past what is completed, which is then as far; the log is told
 
@@ -106,7 +106,7 @@ abbrev pub may_reclaim : ℕ → Log → NodeReplica → Bool
 may_reclaim done g n = nat_lt g.base n.replica.tail && nat_le n.replica.tail done
 
 abbrev pub reclaimed : NodeReplica → Log → Log
-reclaimed n g = record g { base = n.replica.tail; base_maps = n.replica.maps; records = records_from g n.replica.tail }
+reclaimed n g = record g { base = n.replica.tail; base_state = n.replica.state; records = records_from g n.replica.tail }
 
 -- ---- rebase: the replica is behind the base, and no copied record is left to apply; the base becomes the replica
 
@@ -114,7 +114,7 @@ abbrev pub may_rebase : Log → NodeReplica → Bool
 may_rebase g n = nat_lt n.replica.tail g.base && no_records n.hand.records
 
 abbrev pub rebased : Log → NodeReplica → NodeReplica
-rebased g n = record { replica = record { tail = g.base; maps = g.base_maps }; hand = record n.hand { begin = g.base; records = [] } }
+rebased g n = record { replica = record { tail = g.base; state = g.base_state }; hand = record n.hand { begin = g.base; records = [] } }
 
 -- ---- answers: of a read, where the replica has come to what the read saw completed, and all that it has applied is completed; of a batch in
 -- the log, where no copied record is left to apply, and all that the replica has applied is completed

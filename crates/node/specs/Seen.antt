@@ -15,7 +15,7 @@ with_word done g = record g { done = done }
 abbrev pub moved_on : CatalogueView → History → (base done : ℕ) → Log → Log
 moved_on c adds base done g =
     let records = g.records ++ adds in
-    record g { base = base; base_maps = after store_meaning c g.base_maps (take (base - g.base) records); records = drop (base - g.base) records; done = done }
+    record g { base = base; base_state = after store_meaning c g.base_state (take (base - g.base) records); records = drop (base - g.base) records; done = done }
 
 -- what others do between a thread's steps: they add records, complete more, and move the base; at the desk they claim nothing, and answer
 -- nothing that is claimed. The replica and the batch are the thread's

@@ -1,7 +1,7 @@
 // A node's replica with the records that were copied for it, and its steps on a log.
 
 ghost use Rattle.std.specs.Prelude.{◌≡◌, ◌≤◌, ◌<◌, true, length};
-ghost use Rattle.maps.specs.Maps.{shapes_of};
+ghost use Rattle.loader.specs.StoreState.{sizes_of, sizes_for};
 ghost use Rattle.oplog.specs.declared.configuration.TheConstants.{MAX_LIMIT};
 ghost use Rattle.oplog.specs.Logs.{tail_of, records_from};
 ghost use Rattle.replica.specs.Replaying.{KeepsOutcomes};
@@ -16,7 +16,7 @@ use replica::{Replica, Replies};
 /// A node's replica, and the hand that takes the records which it has still to apply.
 #[derive(Drop)]
 pub struct NodeReplica {
-    /// The maps, and how many operations were applied to them.
+    /// The maps and the installed programs, and how many operations were applied to them.
     pub replica: Replica,
     /// The records that were copied and not applied yet.
     pub hand: Hand,
@@ -74,9 +74,9 @@ pub fn has_next(log: &LogState, node: &NodeReplica) -> bool
 pub fn replay(node: &mut NodeReplica, catalogue: &Catalogue, replies: &mut Replies)
     requires next { IsNext catalogue.now node.old }
     ensures node { node.new ≡ replayed catalogue.now node.old }
-    ensures shapes { shapes_of node.new.replica.maps ≡ shapes_of node.old.replica.maps }
+    ensures sizes { sizes_of node.new.replica.state ≡ sizes_of node.old.replica.state }
     ensures replies { replies.new ≡ replies_after catalogue.now node.old replies.old }
-    ensures kept { KeepsOutcomes catalogue.now node.old.replica.maps node.old.replica.tail node.old.hand.records replies.old replies.new }
+    ensures kept { KeepsOutcomes catalogue.now node.old.replica.state node.old.replica.tail node.old.hand.records replies.old replies.new }
 {
     node.replica.replay(&mut node.hand, catalogue, replies);
 }
@@ -85,10 +85,10 @@ pub fn replay(node: &mut NodeReplica, catalogue: &Catalogue, replies: &mut Repli
 pub fn follow(log: &LogState, node: &mut NodeReplica, catalogue: &Catalogue)
     requires above { is_above log.now node.old ≡ true }
     requires fits { Fits log.now node.old }
-    requires shapes { shapes_of node.old.replica.maps ≡ catalogue.now.shapes }
+    requires sizes { sizes_of node.old.replica.state ≡ sizes_for catalogue.now }
     requires updates { AreUpdates catalogue.now (records_from log.now node.old.replica.tail) }
     ensures node { node.new ≡ replayed catalogue.now (copied log.now node.old) }
-    ensures shapes { shapes_of node.new.replica.maps ≡ shapes_of node.old.replica.maps }
+    ensures sizes { sizes_of node.new.replica.state ≡ sizes_of node.old.replica.state }
     ensures within { tail_of log.now ≤ MAX_LIMIT }
 {
     copy(log, node);
@@ -124,11 +124,12 @@ pub fn may_reclaim(done: u64, log: &LogState, node: &NodeReplica) -> bool
 pub fn reclaim(log: &mut LogState, node: &NodeReplica)
     requires above { log.old.base < node.now.replica.tail }
     requires within { node.now.replica.tail ≤ tail_of log.old }
-    requires shapes { shapes_of node.now.replica.maps ≡ shapes_of log.old.base_maps }
+    requires sizes { sizes_of node.now.replica.state ≡ sizes_of log.old.base_state }
     ensures log { log.new ≡ reclaimed node.now (told node.now log.old) }
 {
     finish(log, node);
-    log.reclaim(node.replica.tail(), node.replica.maps());
+    let replica = &node.replica;
+    log.reclaim(replica.tail(), replica.maps(), replica.programs());
 }
 
 /// Whether the replica is behind the log's base, and its hand is empty.
@@ -141,11 +142,12 @@ pub fn may_rebase(log: &LogState, node: &NodeReplica) -> bool
 /// Makes the log's base the replica, which lies below it.
 pub fn rebase(log: &LogState, node: &mut NodeReplica)
     requires may { may_rebase log.now node.old ≡ true }
-    requires shapes { shapes_of log.now.base_maps ≡ shapes_of node.old.replica.maps }
+    requires sizes { sizes_of log.now.base_state ≡ sizes_of node.old.replica.state }
     ensures node { node.new ≡ rebased log.now node.old }
 {
     let base = log.base();
-    node.replica.rebase(base, log.base_maps());
+    node.replica
+        .rebase(base, log.base_maps(), log.base_programs());
     node.hand.clear(base);
 }
 

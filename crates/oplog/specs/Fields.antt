@@ -3,6 +3,7 @@ use Rattle.std.specs.Prelude.{◌≡◌, ℕ, ◌≤◌, List, length, take}
 use Rattle.std.proofs.Common.{sym, ap, ◌∙◌}
 use Rattle.maps.specs.Maps.{AreBytes}
 use Rattle.maps.specs.MapSets.{maps_of}
+use Rattle.loader.specs.StoreState.{state_of}
 use Rattle.maps.specs.declared.shapes.TheConstants.{MAX_ARG_LEN}
 use Rattle.oplog.specs.declared.records.TheConstants.{MAX_INSTALLED_BYTES}
 use Rattle.oplog.specs.declared.records.Call.TheInside as calls
@@ -56,7 +57,7 @@ fields_of_program o h =
 abbrev pub log_of : logs.Inside → Log
 log_of a = record {
   base = a.base;
-  base_maps = maps_of a.base_maps;
+  base_state = state_of (maps_of a.base_maps) a.base_programs;
   records = a.records.items;
   done = a.done;
   window = a.window;

@@ -1,17 +1,16 @@
 -- The log of operations, and the buffer that its records are copied into, as their users see them.
-use Rattle.std.specs.Prelude.{ℕ, ◌+◌, ◌-◌, ◌≤◌, List, [], length, drop}
-use Rattle.maps.specs.declared.shapes.Shape.{Shape}
-use Rattle.maps.specs.Maps.{Maps, shapes_of, HasShapes}
-use Rattle.maps.specs.MapSets.{opening_maps}
+use Rattle.std.specs.Prelude.{ℕ, ◌+◌, ◌-◌, ◌≤◌, [], length, drop}
+use Rattle.maps.specs.Maps.{shapes_of, HasShapes}
+use Rattle.loader.specs.StoreState.{StoreState, StateSizes, opened_state}
 use Rattle.oplog.specs.History.{History}
 use Rattle.oplog.specs.Limits.{IsWindow, IsLimit}
 
--- a log: the records of the history that are kept, and the maps before the first of them
+-- a log: the records of the history that are kept, and the state before the first of them
 pub record Log : Type 0 where
   -- the index of the first record kept
   pub base : ℕ
-  -- the maps before it
-  pub base_maps : Maps
+  -- the state before it
+  pub base_state : StoreState
   -- the records from there on
   pub records : History
   -- so many operations are completed, as far as the log was told
@@ -39,7 +38,7 @@ left_of g = g.limit - tail_of g
 
 -- what is true of every log
 pub record IsLog (g : Log) : Type 0 where
-  pub shapes : HasShapes (shapes_of g.base_maps) g.base_maps
+  pub shapes : HasShapes (shapes_of g.base_state.maps) g.base_state.maps
   pub reclaimed : g.base ≤ g.done
   pub completed : g.done ≤ tail_of g
   pub kept : length g.records ≤ g.window
@@ -48,9 +47,9 @@ pub record IsLog (g : Log) : Type 0 where
   pub limit : IsLimit g.limit
 
 -- a new log: no record yet
-abbrev pub opened_log : List Shape → ℕ → ℕ → Log
-opened_log shapes window limit =
-    record { base = 0; base_maps = opening_maps shapes; records = []; done = 0; window = window; limit = limit }
+abbrev pub opened_log : StateSizes → ℕ → ℕ → Log
+opened_log sizes window limit =
+    record { base = 0; base_state = opened_state sizes; records = []; done = 0; window = window; limit = limit }
 
 -- a buffer: records, and the index of the first in the history
 pub record HandView : Type 0 where

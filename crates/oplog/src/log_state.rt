@@ -4,6 +4,8 @@ ghost use Rattle.std.specs.Prelude.{◌≡◌, ◌↔◌, ◌<◌, ◌≤◌, �
 ghost use Rattle.maps.specs.Shapes.{AreShapesOk};
 ghost use Rattle.maps.specs.Maps.{HasShapes, shapes_of};
 ghost use Rattle.maps.specs.MapSets.{maps_of};
+ghost use Rattle.loader.specs.declared.installed.TheConstants.{MAX_PLACES};
+ghost use Rattle.loader.specs.StoreState.{installed_in, state_of};
 ghost use Rattle.oplog.specs.declared.configuration.TheConstants.{MAX_LIMIT};
 ghost use Rattle.oplog.specs.Limits.{IsWindow, IsLimit};
 ghost use Rattle.oplog.specs.Logs.{IsLog, tail_of, room_in, left_of, records_from, opened_log};
@@ -12,16 +14,18 @@ ghost use Rattle.oplog.specs.CopyAnswers.{IfCopied, IfBelow};
 use crate::answers::{Appended, CopyAnswer, Ended};
 use crate::hand::Hand;
 use crate::records::{Record, push_copy};
+use loader::Installed;
 use maps::{MapSet, Shape};
 use std::alloc::{AllocError, Global};
 use std::marker::Model;
 
-/// The one history of operations that all replicas are fed from, from its base on, with the maps there, and how far it is
-/// completed. All its room, a window of records and the maps, is taken when it is opened: no later call takes memory.
+/// The one history of operations that all replicas are fed from, from its base on, with the maps and the installed programs there, and how
+/// far it is completed. All its room, a window of records, the maps and the programs, is taken when it is opened: no later call takes memory.
 #[derive(Drop)]
 pub struct LogState {
     base: u64,
     base_maps: MapSet,
+    base_programs: Installed,
     records: Vec<Record>,
     done: u64,
     window: usize,
@@ -30,6 +34,9 @@ pub struct LogState {
 
 impl Model for LogState {
     ghost use Rattle.std.specs.Prelude.{◌≤◌, vec_capacity};
+    ghost use Rattle.std.specs.Prelude.{◌≡◌};
+    ghost use Rattle.maps.specs.Maps.{shapes_of};
+    ghost use Rattle.maps.specs.MapSets.{maps_of};
     ghost use Rattle.oplog.specs.Logs.{Log, IsLog};
     ghost use Rattle.oplog.specs.Codes.{log_code};
 
@@ -41,13 +48,13 @@ impl Model for LogState {
 
     ghost view = { log_of };
 
-    // There is room for a whole window.
-    ghost invariant = { λ a. IsLog (log_of a) × (a.window ≤ vec_capacity a.records) };
+    // There is room for a whole window, and the programs are for the maps.
+    ghost invariant = { λ a. IsLog (log_of a) × (a.window ≤ vec_capacity a.records) × (a.base_programs.shapes ≡ shapes_of (maps_of a.base_maps)) };
 }
 
 impl LogState {
-    /// A log without a record, over maps of these shapes as they are opened. It keeps at most `window` records at once, and
-    /// its history may have `limit`.
+    /// A log without a record, over maps of these shapes as they are opened, with places for so many programs and none installed. It keeps
+    /// at most `window` records at once, and its history may have `limit`.
     ///
     /// # Errors
     ///
@@ -55,21 +62,25 @@ impl LogState {
     pub fn open(
         alloc: Global,
         shapes: &[Shape],
+        places: usize,
         window: usize,
         limit: usize,
     ) -> Result<LogState, AllocError>
         requires shapes { AreShapesOk shapes.now }
+        requires places { places ≤ MAX_PLACES }
         requires window { IsWindow window }
         requires limit { IsLimit limit }
-        ensures opened { IfOk result (λ g. g ≡ opened_log shapes.now window limit) }
+        ensures opened { IfOk result (λ g. g ≡ opened_log (record { shapes = shapes.now; places = places }) window limit) }
     {
         let Ok(base_maps) = MapSet::open(alloc, shapes) else {
             return Err(AllocError);
         };
+        let base_programs = Installed::open(alloc, shapes, places)?;
         let records = Vec::with_capacity(alloc, window)?;
         Ok(LogState {
             base: 0,
             base_maps,
+            base_programs,
             records,
             done: 0,
             window,
@@ -101,10 +112,17 @@ impl LogState {
 
     /// The maps before the first record kept.
     pub fn base_maps(&self) -> &MapSet
-        ensures maps { maps_of result.now ≡ self.now.base_maps }
-        ensures shapes { HasShapes (shapes_of self.now.base_maps) self.now.base_maps }
+        ensures maps { maps_of result.now ≡ self.now.base_state.maps }
+        ensures shapes { HasShapes (shapes_of self.now.base_state.maps) self.now.base_state.maps }
     {
         &self.base_maps
+    }
+
+    /// The programs that were installed before it.
+    pub fn base_programs(&self) -> &Installed
+        ensures programs { result.now ≡ installed_in self.now.base_state }
+    {
+        &self.base_programs
     }
 
     /// The length of the history.
@@ -177,15 +195,19 @@ impl LogState {
         self.done = self.done.max(n);
     }
 
-    /// Makes `at` the base, above the base that was and completed: the maps, those after so many operations, become the base's, and the
-    /// records before are dropped. The maps have the log's shapes. Takes time in proportion to them and to the records that stay.
-    pub fn reclaim(&mut self, at: u64, maps: &MapSet)
+    /// Makes `at` the base, above the base that was and completed: the maps and the installed programs, those after so many operations,
+    /// become the base's, and the records before are dropped. They have the log's sizes. Takes time in proportion to them and to the records
+    /// that stay.
+    pub fn reclaim(&mut self, at: u64, maps: &MapSet, programs: &Installed)
         requires above { self.old.base < at }
         requires completed { at ≤ self.old.done }
-        requires shapes { HasShapes (shapes_of self.old.base_maps) (maps_of maps.now) }
-        ensures base { self.new ≡ record self.old { base = at; base_maps = maps_of maps.now; records = records_from self.old at } }
+        requires shapes { HasShapes (shapes_of self.old.base_state.maps) (maps_of maps.now) }
+        requires programs { programs.now.shapes ≡ shapes_of (maps_of maps.now) }
+        requires places { programs.now.places ≡ self.old.base_state.places }
+        ensures base { self.new ≡ record self.old { base = at; base_state = state_of (maps_of maps.now) programs.now; records = records_from self.old at } }
     {
         self.base_maps.copy_from(maps);
+        self.base_programs.copy_from(programs);
         let dropped = (at - self.base) as usize;
         self.records.copy_within(dropped.., 0);
         self.records.truncate(self.records.len() - dropped);

@@ -26,11 +26,11 @@ pub fn ready(replica: &Replica, done: u64) -> bool
 
 /// The answer of a Read program of the replica's shapes, at the replica's tail. The replica stays.
 pub fn answer(program: &Accepted, replica: &mut Replica, argument: &[u8]) -> ReadAnswer
-    requires shapes { program.now.shapes ≡ shapes_of replica.old.maps }
+    requires shapes { program.now.shapes ≡ shapes_of replica.old.state.maps }
     requires mode { program.now.mode ≡ Read }
     requires length { length argument.now ≡ program.now.arg_len }
     ensures point { result.point ≡ replica.old.tail }
-    ensures reply { option_map (λ e. e.reply) (effect program.now.program replica.old.maps argument.now) ≡ Some result.reply }
+    ensures reply { option_map (λ e. e.reply) (effect program.now.program replica.old.state.maps argument.now) ≡ Some result.reply }
     ensures same { replica.new ≡ replica.old }
 {
     let point = replica.tail();

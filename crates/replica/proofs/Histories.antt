@@ -4,18 +4,18 @@ use Rattle.std.specs.Option.{option_map}
 use Rattle.std.proofs.lemmas.Option.{slice_get_within, get_or_from_slice_get}
 use Rattle.maps.specs.declared.shapes.Shape.{Shape}
 use Rattle.maps.specs.Maps.{Maps, HasShapes}
-use Rattle.maps.specs.MapSets.{opening_maps}
-use Rattle.maps.proofs.OpeningShapes.{opening_shapes}
 use Rattle.verifier.specs.declared.refusal.Mode.{Mode}
 use Rattle.verifier.specs.declared.refusal.Mode.TheVariants.{Update, Read}
 use Rattle.verifier.specs.Accepted.{Checked, IsAccepted, signature_of}
 use Rattle.machine.specs.Effects.{Effect as RunEffect}
 use Rattle.machine.proofs.EffectsOfRuns.{typable_takes_effect}
 use Rattle.loader.specs.CatalogueView.{CatalogueView, IsCatalogue, Entry}
+use Rattle.loader.specs.StoreState.{StoreState, sizes_for, opened_state, IsState}
+use Rattle.loader.proofs.States.{opened_is_state}
 use Rattle.oplog.specs.Calls.{Call}
 use Rattle.oplog.specs.Operations.{Operation}
 use Rattle.oplog.specs.declared.records.Op.TheVariants.{Run, Install}
-use Rattle.oplog.specs.History.{Effect, History, left_by, maps_after, after, effect_at, read_at}
+use Rattle.oplog.specs.History.{Effect, History, left_by, state_after, after, effect_at, read_at}
 use Rattle.replica.specs.StoreMeaning.{program_at, run_of, as_update, as_read, IsCall, is_operation, AreUpdates, store_meaning}
 use Rattle.replica.specs.HistoryLaws.{HasRun, HasEffects}
 use Rattle.replica.proofs.Outcomes.{known_run}
@@ -66,42 +66,46 @@ module _ (c : CatalogueView) (whole : IsCatalogue c) where
         reads = t.reads;
       }
 
-  shapes_next : (op : Operation) (maps : Maps) → is_operation Update c op ≡ true → HasShapes c.shapes maps → HasShapes c.shapes (left_by (store_meaning.update c op maps) maps)
-  shapes_next (Run call) maps update shapes =
-      let t = takes Update call maps (call_tested Update c call update) shapes in
-      subst (λ (o : Option RunEffect). HasShapes c.shapes (left_by (option_map as_update o) maps)) (sym t.done) t.has.shapes
-  shapes_next (Install new) maps update shapes = absurd cc
+  state_next : (op : Operation) (s : StoreState) → is_operation Update c op ≡ true → IsState (sizes_for c) s → IsState (sizes_for c) (left_by (store_meaning.update c op s) s)
+  state_next (Run call) s update is =
+      let t = takes Update call s.maps (call_tested Update c call update) is.maps in
+      subst (λ (o : Option RunEffect). IsState (sizes_for c) (left_by (option_map (as_update s) o) s)) (sym t.done) (record { maps = t.has.shapes; places = is.places; programs = is.programs })
+  state_next (Install new) s update is = absurd cc
 
-  shapes_after : (maps : Maps) (history : History) → AreUpdates c history → HasShapes c.shapes maps → HasShapes c.shapes (after store_meaning c maps history)
-  shapes_after maps [] updates shapes = shapes
-  shapes_after maps (r ∷ rs) updates shapes =
-      shapes_after (left_by (store_meaning.update c r.op maps) maps) rs (λ k s e. updates (suc k) s e) (shapes_next r.op maps (updates 0 r refl) shapes)
+  states_after : (s : StoreState) (history : History) → AreUpdates c history → IsState (sizes_for c) s → IsState (sizes_for c) (after store_meaning c s history)
+  states_after s [] updates is = is
+  states_after s (r ∷ rs) updates is =
+      states_after (left_by (store_meaning.update c r.op s) s) rs (λ k x e. updates (suc k) x e) (state_next r.op s (updates 0 r refl) is)
 
-  shapes_at : (history : History) (k : ℕ) → AreUpdates c history → HasShapes c.shapes (maps_after store_meaning c history k)
-  shapes_at history k updates =
-      shapes_after (opening_maps c.shapes) (take k history) (λ i r e. updates i r (from-take history k i r e)) (opening_shapes c.shapes whole.shapes)
+  state_at : (history : History) (k : ℕ) → AreUpdates c history → IsState (sizes_for c) (state_after store_meaning c history k)
+  state_at history k updates =
+      states_after (opened_state (sizes_for c)) (take k history) (λ i r e. updates i r (from-take history k i r e))
+      (opened_is_state (sizes_for c) whole.shapes whole.few_places)
 
   updates_at : (history : History) (k : ℕ) (call : Call) → AreUpdates c history → is_operation Update c (Run call) ≡ true
-      → (h : HasRun c call (maps_after store_meaning c history k)) × (effect_at store_meaning c history k (Run call) ≡ Some (as_update h.done))
+      → (h : HasRun c call (state_after store_meaning c history k).maps)
+      × (effect_at store_meaning c history k (Run call) ≡ Some (as_update (state_after store_meaning c history k) h.done))
   updates_at history k call updates is =
-      let t = takes Update call (maps_after store_meaning c history k) (call_tested Update c call is) (shapes_at history k updates) in
-      (t.has, ap (option_map as_update) t.done)
+      let s : StoreState = state_after store_meaning c history k in
+      let t = takes Update call s.maps (call_tested Update c call is) (state_at history k updates).maps in
+      (t.has, ap (option_map (as_update s)) t.done)
 
   reads_at : (history : History) (k : ℕ) (call : Call) → AreUpdates c history → is_operation Read c (Run call) ≡ true
-      → (h : HasRun c call (maps_after store_meaning c history k)) × (read_at store_meaning c history k (Run call) ≡ Some (as_read h.done)) × (h.done.maps ≡ maps_after store_meaning c history k)
+      → (h : HasRun c call (state_after store_meaning c history k).maps) × (read_at store_meaning c history k (Run call) ≡ Some (as_read h.done))
+      × (h.done.maps ≡ (state_after store_meaning c history k).maps)
   reads_at history k call updates is =
       let known = call_tested Read c call is in
-      let t = takes Read call (maps_after store_meaning c history k) known (shapes_at history k updates) in
+      let t = takes Read call (state_after store_meaning c history k).maps known (state_at history k updates).maps in
       (t.has, ap (option_map as_read) t.done, t.reads known.mode_is)
 
   pub have_effects : (history : History) → AreUpdates c history → HasEffects c history
   have_effects history updates = record {
-    shapes = λ k. shapes_at history k updates;
+    states = λ k. state_at history k updates;
     updates = λ k call is. updates_at history k call updates is;
     reads = λ k call is. reads_at history k call updates is;
   }
 
   -- each update takes effect
-  pub takes_effect : (history : History) (k : ℕ) (op : Operation) → AreUpdates c history → is_operation Update c op ≡ true → (e : Effect Maps) × (effect_at store_meaning c history k op ≡ Some e)
-  takes_effect history k (Run call) updates is = let u = updates_at history k call updates is in (as_update (u.0).done, u.1)
+  pub takes_effect : (history : History) (k : ℕ) (op : Operation) → AreUpdates c history → is_operation Update c op ≡ true → (e : Effect StoreState) × (effect_at store_meaning c history k op ≡ Some e)
+  takes_effect history k (Run call) updates is = let u = updates_at history k call updates is in (as_update (state_after store_meaning c history k) (u.0).done, u.1)
   takes_effect history k (Install new) updates is = absurd cc

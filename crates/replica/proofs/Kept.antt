@@ -8,8 +8,9 @@ use Rattle.std.proofs.lemmas.Option.{slice_get_within}
 use Rattle.std.proofs.Math.Nat.{eq-or-lt_of_le}
 use Rattle.std.proofs.Math.Seq.{take-set-lt}
 use Rattle.machine.specs.declared.running.Outcome.{Outcome}
-use Rattle.maps.specs.Maps.{Maps}
 use Rattle.loader.specs.CatalogueView.{CatalogueView}
+use Rattle.loader.specs.StoreState.{StoreState}
+use Rattle.maps.specs.Maps.{Maps}
 use Rattle.oplog.specs.declared.records.Record.{Record}
 use Rattle.oplog.specs.History.{History, after, left_by}
 use Rattle.oplog.specs.Operations.{Operation}
@@ -71,8 +72,8 @@ get-take [] (suc n) i lt = refl
 get-take (x ∷ xs) (suc n) zero lt = refl
 get-take (x ∷ xs) (suc n) (suc i) lt = get-take xs n i (omega arith)
 
-pub keeps_none : (c : CatalogueView) (maps : Maps) (begin : ℕ) (m : RepliesView) → KeepsOutcomes c maps begin [] m m
-keeps_none c maps begin m = record {
+pub keeps_none : (c : CatalogueView) (state : StoreState) (begin : ℕ) (m : RepliesView) → KeepsOutcomes c state begin [] m m
+keeps_none c state begin m = record {
   first = refl;
   count = refl;
   replayed = λ k i r lt e at. absurd cc;
@@ -86,15 +87,15 @@ take-take [] (suc n) (suc i) le = refl
 take-take (x ∷ xs) (suc n) (suc i) le = ap (λ (ys : List _). x ∷ ys) (take-take xs n i (omega arith))
 
 -- the k-th record is replayed behind the first k
-module _ (c : CatalogueView) (maps : Maps) (begin : ℕ) (records : History) (old mid : RepliesView) (k : ℕ) (r : Record) (o : Outcome)
-    (so_far : KeepsOutcomes c maps begin (take k records) old mid) (is : slice_get records k ≡ Some r)
-    (outcome : IsAnswered c r.op (after store_meaning c maps (take k records)) o) where
+module _ (c : CatalogueView) (state : StoreState) (begin : ℕ) (records : History) (old mid : RepliesView) (k : ℕ) (r : Record) (o : Outcome)
+    (so_far : KeepsOutcomes c state begin (take k records) old mid) (is : slice_get records k ≡ Some r)
+    (outcome : IsAnswered c r.op (after store_meaning c state (take k records)) o) where
   within : k < length records
   within = slice_get_within records k r is
 
   Answer : ℕ → Record → ℕ → Type 0
   Answer j s i =
-      (p : Outcome) × (slice_get (with_outcome mid (begin + k) o).outcomes j ≡ Some (Some p)) × IsAnswered c s.op (after store_meaning c maps (take i (take (suc k) records))) p
+      (p : Outcome) × (slice_get (with_outcome mid (begin + k) o).outcomes j ≡ Some (Some p)) × IsAnswered c s.op (after store_meaning c state (take i (take (suc k) records))) p
 
   -- the record itself
   last : (j i : ℕ) (s : Record) → j < length old.outcomes → slice_get (take (suc k) records) i ≡ Some s → old.first + j ≡ begin + i → i ≡ k
@@ -107,8 +108,8 @@ module _ (c : CatalogueView) (maps : Maps) (begin : ℕ) (records : History) (ol
       let under : i < suc k = omega arith in
       let same : r ≡ s = (let found : Some r ≡ Some s = sym is ∙ ap (slice_get records) (sym at_k) ∙ sym (get-take records (suc k) i under) ∙ e in cc) in
       let before : take i (take (suc k) records) ≡ take k records = take-take records (suc k) i (omega arith) ∙ ap (λ (n : ℕ). take n records) at_k in
-      let here : IsAnswered c s.op (after store_meaning c maps (take i (take (suc k) records))) o =
-      subst (λ (rs : History). IsAnswered c s.op (after store_meaning c maps rs) o) (sym before) (subst (λ (s : Record). IsAnswered c s.op (after store_meaning c maps (take k records)) o) same outcome) in
+      let here : IsAnswered c s.op (after store_meaning c state (take i (take (suc k) records))) o =
+      subst (λ (rs : History). IsAnswered c s.op (after store_meaning c state rs) o) (sym before) (subst (λ (s : Record). IsAnswered c s.op (after store_meaning c state (take k records)) o) same outcome) in
       (o, at_with mid (begin + k) j o there inside, here)
 
   -- one before it
@@ -123,7 +124,7 @@ module _ (c : CatalogueView) (maps : Maps) (begin : ℕ) (records : History) (ol
       let found : slice_get (take k records) i ≡ Some s = get-take records k i lt_k ∙ sym (get-take records (suc k) i under) ∙ e in
       let was = so_far.replayed j i s lt found at in
       let same : take i (take k records) ≡ take i (take (suc k) records) = take-take records k i le ∙ sym (take-take records (suc k) i le_suc) in
-      (was.0, off_with mid (begin + k) j o away ∙ was.1, subst (λ (rs : History). IsAnswered c s.op (after store_meaning c maps rs) was.0) same was.2)
+      (was.0, off_with mid (begin + k) j o away ∙ was.1, subst (λ (rs : History). IsAnswered c s.op (after store_meaning c state rs) was.0) same was.2)
 
   either : (j i : ℕ) (s : Record) → j < length old.outcomes → slice_get (take (suc k) records) i ≡ Some s → old.first + j ≡ begin + i
       → Answer j s i
@@ -142,7 +143,7 @@ module _ (c : CatalogueView) (maps : Maps) (begin : ℕ) (records : History) (ol
       let before : (old.first + j < begin) ⊎ (begin + length (take k records) ≤ old.first + j) = elim h [ inl l ↦ inl l | inr g ↦ inr (omega arith) ] in
       off_with mid (begin + k) j o away ∙ so_far.others j before
 
-  keeps_suc : KeepsOutcomes c maps begin (take (suc k) records) old (with_outcome mid (begin + k) o)
+  keeps_suc : KeepsOutcomes c state begin (take (suc k) records) old (with_outcome mid (begin + k) o)
   unfolding Answer
   keeps_suc = record {
     first = so_far.first;
@@ -151,28 +152,28 @@ module _ (c : CatalogueView) (maps : Maps) (begin : ℕ) (records : History) (ol
     others = untouched;
   }
 
-  keeps_next : KeepsOutcomes c maps begin (take (k + 1) records) old (with_outcome mid (begin + k) o)
+  keeps_next : KeepsOutcomes c state begin (take (k + 1) records) old (with_outcome mid (begin + k) o)
   keeps_next = rw add-one keeps_suc
 
--- as the loop has it: the record was run on these maps, and its outcome kept at its index
-pub keeps_one_more : (c : CatalogueView) (maps before : Maps) (begin index : ℕ) (records : History) (old mid new : RepliesView) (k : ℕ) (r : Record) (o : Outcome)
-    → KeepsOutcomes c maps begin (take k records) old mid → slice_get records k ≡ Some r → before ≡ after store_meaning c maps (take k records)
+-- as the loop has it: the record was run on this state, and its outcome kept at its index
+pub keeps_one_more : (c : CatalogueView) (state before : StoreState) (begin index : ℕ) (records : History) (old mid new : RepliesView) (k : ℕ) (r : Record) (o : Outcome)
+    → KeepsOutcomes c state begin (take k records) old mid → slice_get records k ≡ Some r → before ≡ after store_meaning c state (take k records)
     → IsAnswered c r.op before o → index ≡ begin → new ≡ with_outcome mid (index + k) o
-    → KeepsOutcomes c maps begin (take (k + 1) records) old new
-keeps_one_more c maps before begin index records old mid new k r o so_far is maps_are outcome there kept =
-    subst (λ (m : RepliesView). KeepsOutcomes c maps begin (take (k + 1) records) old m)
+    → KeepsOutcomes c state begin (take (k + 1) records) old new
+keeps_one_more c state before begin index records old mid new k r o so_far is state_is outcome there kept =
+    subst (λ (m : RepliesView). KeepsOutcomes c state begin (take (k + 1) records) old m)
     (sym (kept ∙ ap (λ (p : ℕ). with_outcome mid (p + k) o) there))
-    (keeps_next c maps begin records old mid k r o so_far is (subst (λ (m : Maps). IsAnswered c r.op m o) maps_are outcome))
+    (keeps_next c state begin records old mid k r o so_far is (subst (λ (m : StoreState). IsAnswered c r.op m o) state_is outcome))
 
 -- ---- what an outcome says
 
-pub is_answered : (c : CatalogueView) (op : Operation) (maps left : Maps) (o : Outcome) → updated c op maps ≡ Some (as_update (effect_of o.steps o.reply left)) → IsAnswered c op maps o
-is_answered c op maps left o takes = record {
-  done = as_update (effect_of o.steps o.reply left);
+pub is_answered : (c : CatalogueView) (op : Operation) (s : StoreState) (left : Maps) (o : Outcome) → updated c op s ≡ Some (as_update s (effect_of o.steps o.reply left)) → IsAnswered c op s o
+is_answered c op s left o takes = record {
+  done = as_update s (effect_of o.steps o.reply left);
   takes = takes;
   outcome = refl;
 }
 
-pub leaves : (c : CatalogueView) (op : Operation) (maps left : Maps) (o : Outcome) → updated c op maps ≡ Some (as_update (effect_of o.steps o.reply left))
-    → left ≡ left_by (store_meaning.update c op maps) maps
-leaves c op maps left o takes = sym (ap (λ e. left_by e maps) takes)
+pub leaves : (c : CatalogueView) (op : Operation) (s : StoreState) (left : Maps) (o : Outcome) → updated c op s ≡ Some (as_update s (effect_of o.steps o.reply left))
+    → (let next : StoreState = record s { maps = left } in next) ≡ left_by (store_meaning.update c op s) s
+leaves c op s left o takes = sym (ap (λ e. left_by e s) takes)

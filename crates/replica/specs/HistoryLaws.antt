@@ -6,10 +6,11 @@ use Rattle.verifier.specs.declared.refusal.Mode.TheVariants.{Update, Read}
 use Rattle.verifier.specs.Accepted.{Checked}
 use Rattle.machine.specs.Effects.{IsRun, Effect as RunEffect}
 use Rattle.loader.specs.CatalogueView.{CatalogueView, IsCatalogue}
+use Rattle.loader.specs.StoreState.{sizes_for, IsState}
 use Rattle.oplog.specs.Calls.{Call}
 use Rattle.oplog.specs.Operations.{Operation}
 use Rattle.oplog.specs.declared.records.Op.TheVariants.{Run}
-use Rattle.oplog.specs.History.{History, maps_after, effect_at, read_at}
+use Rattle.oplog.specs.History.{History, state_after, effect_at, read_at}
 use Rattle.replica.specs.StoreMeaning.{program_at, IsOperation, is_operation, as_update, as_read, AreUpdates, store_meaning}
 
 -- the call's program has a run on these maps, and leaves maps of the catalogue's shapes
@@ -20,14 +21,16 @@ pub record HasRun (c : CatalogueView) (call : Call) (maps : Maps) : Type 0 where
   pub run : IsRun program.program maps call.argument done
   pub shapes : HasShapes c.shapes done.maps
 
--- after every number of operations the maps have the catalogue's shapes, and what the call of an update or a read does there is the run
+-- after every number of operations the state has the catalogue's sizes, and what the call of an update or a read does there is the run
 -- of its program; a read leaves the maps
 pub record HasEffects (c : CatalogueView) (history : History) : Type 0 where
-  pub shapes : (k : ℕ) → HasShapes c.shapes (maps_after store_meaning c history k)
+  pub states : (k : ℕ) → IsState (sizes_for c) (state_after store_meaning c history k)
   pub updates : (k : ℕ) (call : Call) → is_operation Update c (Run call) ≡ true
-      → (h : HasRun c call (maps_after store_meaning c history k)) × (effect_at store_meaning c history k (Run call) ≡ Some (as_update h.done))
+      → (h : HasRun c call (state_after store_meaning c history k).maps)
+      × (effect_at store_meaning c history k (Run call) ≡ Some (as_update (state_after store_meaning c history k) h.done))
   pub reads : (k : ℕ) (call : Call) → is_operation Read c (Run call) ≡ true
-      → (h : HasRun c call (maps_after store_meaning c history k)) × (read_at store_meaning c history k (Run call) ≡ Some (as_read h.done)) × (h.done.maps ≡ maps_after store_meaning c history k)
+      → (h : HasRun c call (state_after store_meaning c history k).maps) × (read_at store_meaning c history k (Run call) ≡ Some (as_read h.done))
+      × (h.done.maps ≡ (state_after store_meaning c history k).maps)
 
 abbrev pub HistoriesHaveEffects : Type 0
 HistoriesHaveEffects = (c : CatalogueView) (history : History) → IsCatalogue c → AreUpdates c history → HasEffects c history

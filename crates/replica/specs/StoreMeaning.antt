@@ -2,13 +2,13 @@
 use Rattle.std.specs.Prelude.{◌≡◌, ℕ, Bool, true, false, ◌&&◌, nat_eq, nat_lt, List, length, Option, Some, None, slice_get, option_map, option_and_then}
 use Rattle.std.specs.List.{list_all}
 use Rattle.maps.specs.Maps.{Maps, AreBytes}
-use Rattle.maps.specs.MapSets.{opening_maps}
 use Rattle.verifier.specs.declared.refusal.Mode.{Mode}
 use Rattle.verifier.specs.declared.refusal.Mode.TheVariants.{Update, Read}
 use Rattle.verifier.specs.Accepted.{Checked}
 use Rattle.machine.specs.Effects.{effect, Effect as RunEffect}
 use Rattle.machine.specs.declared.running.Outcome.{Outcome}
 use Rattle.loader.specs.CatalogueView.{CatalogueView}
+use Rattle.loader.specs.StoreState.{StoreState, sizes_for, opened_state}
 use Rattle.oplog.specs.Calls.{Call}
 use Rattle.oplog.specs.Operations.{Operation}
 use Rattle.oplog.specs.declared.records.Op.TheVariants.{Run, Install}
@@ -23,15 +23,15 @@ program_at c k = option_map (λ e. e.checked) (slice_get c.programs k)
 abbrev pub run_of : CatalogueView → Call → Maps → Option RunEffect
 run_of c call maps = option_and_then (λ p. effect p.program maps call.argument) (program_at c call.program)
 
--- a run as an update, and as a read
-abbrev pub as_update : RunEffect → Effect Maps
-as_update e = record { steps = e.steps; reply = e.reply; maps = e.maps }
+-- a run as an update, which leaves the programs, and as a read
+abbrev pub as_update : StoreState → RunEffect → Effect StoreState
+as_update s e = record { steps = e.steps; reply = e.reply; left = record s { maps = e.maps } }
 
 abbrev pub as_read : RunEffect → ReadEffect
 as_read e = record { steps = e.steps; reply = e.reply }
 
 -- the reply and the steps of an update, as a run answers them
-abbrev pub outcome_of : Effect Maps → Outcome
+abbrev pub outcome_of : Effect StoreState → Outcome
 outcome_of e = record { reply = e.reply; steps = e.steps }
 
 -- ---- which operations there are
@@ -73,18 +73,18 @@ is_operation mode c (Install new) = false
 -- ---- what they mean
 
 -- what an operation does as an update, and as a read: a call is the run of its program, and nothing is installed
-abbrev pub updated : CatalogueView → Operation → Maps → Option (Effect Maps)
-updated c (Run call) maps = option_map as_update (run_of c call maps)
-updated c (Install new) maps = None
+abbrev pub updated : CatalogueView → Operation → StoreState → Option (Effect StoreState)
+updated c (Run call) s = option_map (as_update s) (run_of c call s.maps)
+updated c (Install new) s = None
 
-abbrev pub read_of : CatalogueView → Operation → Maps → Option ReadEffect
-read_of c (Run call) maps = option_map as_read (run_of c call maps)
-read_of c (Install new) maps = None
+abbrev pub read_of : CatalogueView → Operation → StoreState → Option ReadEffect
+read_of c (Run call) s = option_map as_read (run_of c call s.maps)
+read_of c (Install new) s = None
 
--- a store opens with the opening maps of its shapes; its updates are runs of update programs, its reads runs of read programs
-abbrev pub store_meaning : Meaning CatalogueView Maps
+-- a store opens with the opening state of its sizes; its updates are runs of update programs, its reads runs of read programs
+abbrev pub store_meaning : Meaning CatalogueView StoreState
 store_meaning = record {
-  opening = λ c. opening_maps c.shapes;
+  opening = λ c. opened_state (sizes_for c);
   update = updated;
   read = read_of;
   is_update = is_operation Update;

@@ -1,14 +1,14 @@
 -- A replica and the outcomes that are kept, as their users see them.
 use Rattle.std.specs.Prelude.{ℕ, ◌-◌, List, replicate, Option, Some, None, slice_set, nat_le, if◌then◌else◌, refl}
 use Rattle.std.specs.Coded.{Coded, code_by, coded×, coded_ℕ}
-use Rattle.maps.specs.Maps.{Maps}
+use Rattle.loader.specs.StoreState.{StoreState}
 use Rattle.machine.specs.declared.running.Outcome.{Outcome}
-use Rattle.oplog.specs.Codes.{maps_code}
+use Rattle.oplog.specs.Codes.{state_code}
 
--- how many records it has applied, and its maps
+-- how many records it has applied, and its state after them
 pub record ReplicaView : Type 0 where
   pub tail : ℕ
-  pub maps : Maps
+  pub state : StoreState
 
 -- the outcomes of the records at the indexes from first on, one for each index; none where the record there was not replayed
 pub record RepliesView : Type 0 where
@@ -25,4 +25,4 @@ with_outcome kept index outcome =
 
 -- a replica is told apart by its parts
 abbrev pub replica_code : Coded ReplicaView
-replica_code = code_by (ℕ × Maps) (coded× coded_ℕ maps_code) (λ r. (r.tail, r.maps)) (λ p. record { tail = p.0; maps = p.1 }) (λ _. refl)
+replica_code = code_by (ℕ × StoreState) (coded× coded_ℕ state_code) (λ r. (r.tail, r.state)) (λ p. record { tail = p.0; state = p.1 }) (λ _. refl)

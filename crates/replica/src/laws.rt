@@ -2,7 +2,7 @@
 
 ghost use Rattle.replica.specs.HistoryLaws.{HistoriesHaveEffects, OperationsAreTested};
 
-/// In a history of a catalogue's updates the maps keep the catalogue's shapes, and on the maps after each of its beginnings
+/// In a history of a catalogue's updates the state keeps the catalogue's sizes, and after each of its beginnings
 /// each update and each read of the catalogue has an effect, the run of its program to its exit.
 pub fn histories_have_effects()
     ensures effects { HistoriesHaveEffects }

@@ -1,18 +1,20 @@
-// A replica of the maps.
+// A replica of the maps, and of the programs that were installed.
 
-ghost use Rattle.std.specs.Prelude.{◌≡◌, ◌+◌, ◌<◌, ◌^◌, [], length, Some, IfOk};
+ghost use Rattle.std.specs.Prelude.{◌≡◌, ◌+◌, ◌<◌, ◌≤◌, ◌^◌, [], length, Some, IfOk};
 ghost use Rattle.maps.specs.Shapes.{AreShapesOk};
 ghost use Rattle.maps.specs.Maps.{shapes_of, HasShapes};
-ghost use Rattle.maps.specs.MapSets.{maps_of, opening_maps};
+ghost use Rattle.maps.specs.MapSets.{maps_of};
 ghost use Rattle.verifier.specs.declared.refusal.Mode.TheVariants.{Read};
 ghost use Rattle.machine.specs.Effects.{effect, effect_of};
+ghost use Rattle.loader.specs.declared.installed.TheConstants.{MAX_PLACES};
+ghost use Rattle.loader.specs.StoreState.{installed_in, opened_state, sizes_for, sizes_of, state_of};
 ghost use Rattle.oplog.specs.History.{after};
 ghost use Rattle.replica.specs.StoreMeaning.{store_meaning, AreUpdates};
 ghost use Rattle.replica.specs.Replaying.{KeepsOutcomes};
 
 use crate::operations::perform_each;
 use crate::replying::Replies;
-use loader::Catalogue;
+use loader::{Catalogue, Installed};
 use machine::{Outcome, run};
 use maps::{MapSet, Shape};
 use oplog::Hand;
@@ -20,41 +22,51 @@ use std::alloc::{AllocError, Global};
 use std::marker::Model;
 use verifier::Accepted;
 
-/// A node's maps, and how many operations of the history were applied to them.
+/// A node's maps and the programs that were installed there, and how many operations of the history were applied to them.
 #[derive(Drop)]
 pub struct Replica {
     tail: u64,
     maps: MapSet,
+    programs: Installed,
 }
 
 impl Model for Replica {
     ghost use Rattle.maps.specs.Maps.{shapes_of, HasShapes};
     ghost use Rattle.maps.specs.MapSets.{maps_of};
+    ghost use Rattle.std.specs.Prelude.{◌≡◌};
+    ghost use Rattle.loader.specs.StoreState.{state_of};
     ghost use Rattle.replica.specs.Views.{ReplicaView, replica_code};
 
     ghost Value = { ReplicaView };
 
     ghost coded = { replica_code };
 
-    ghost view = { λ r. record { tail = r.tail; maps = maps_of r.maps } };
+    ghost view = { λ r. record { tail = r.tail; state = state_of (maps_of r.maps) r.programs } };
 
-    ghost invariant = { λ r. HasShapes (shapes_of (maps_of r.maps)) (maps_of r.maps) };
+    // The programs are for the maps.
+    ghost invariant = { λ r. HasShapes (shapes_of (maps_of r.maps)) (maps_of r.maps) × (r.programs.shapes ≡ shapes_of (maps_of r.maps)) };
 }
 
 impl Replica {
-    /// The opening maps of these shapes, before any operation.
+    /// The opening maps of these shapes and places for so many programs, before any operation.
     ///
     /// # Errors
     ///
     /// The system has no memory left.
-    pub fn open(alloc: Global, shapes: &[Shape]) -> Result<Replica, AllocError>
+    pub fn open(alloc: Global, shapes: &[Shape], places: usize) -> Result<Replica, AllocError>
         requires shapes { AreShapesOk shapes.now }
-        ensures opened { IfOk result (λ r. r ≡ record { tail = 0; maps = opening_maps shapes.now }) }
+        requires places { places ≤ MAX_PLACES }
+        ensures opened { IfOk result (λ r. r ≡ record { tail = 0; state = opened_state (record { shapes = shapes.now; places = places }) }) }
     {
-        match MapSet::open(alloc, shapes) {
-            Ok(maps) => Ok(Replica { tail: 0, maps }),
-            Err(_) => Err(AllocError),
-        }
+        let Ok(maps) = MapSet::open(alloc, shapes) else {
+            return Err(AllocError);
+        };
+        let programs = Installed::open(alloc, shapes, places)?;
+        Ok(Replica {
+            tail: 0,
+            maps,
+            programs,
+        })
     }
 
     /// How many operations of the history it has applied.
@@ -66,46 +78,56 @@ impl Replica {
 
     /// The maps after them.
     pub fn maps(&self) -> &MapSet
-        ensures maps { maps_of result.now ≡ self.now.maps }
-        ensures shapes { HasShapes (shapes_of self.now.maps) self.now.maps }
+        ensures maps { maps_of result.now ≡ self.now.state.maps }
+        ensures shapes { HasShapes (shapes_of self.now.state.maps) self.now.state.maps }
     {
         &self.maps
     }
 
+    /// The programs that were installed by them.
+    pub fn programs(&self) -> &Installed
+        ensures programs { result.now ≡ installed_in self.now.state }
+    {
+        &self.programs
+    }
+
     /// Applies the records of a hand, which begins at the tail, and keeps what they answer. Their operations are updates of
-    /// the catalogue, whose maps have the replica's shapes. The hand is then empty, and begins at the new tail.
+    /// the catalogue, which has the replica's sizes. The hand is then empty, and begins at the new tail.
     pub fn replay(&mut self, hand: &mut Hand, catalogue: &Catalogue, replies: &mut Replies)
         requires begins { hand.old.begin ≡ self.old.tail }
-        requires shapes { shapes_of self.old.maps ≡ catalogue.now.shapes }
+        requires sizes { sizes_of self.old.state ≡ sizes_for catalogue.now }
         requires allowed { AreUpdates catalogue.now hand.old.records }
         requires fits { self.old.tail + length hand.old.records < 2 ^ 64 }
         ensures tail { self.new.tail ≡ self.old.tail + length hand.old.records }
-        ensures maps { self.new.maps ≡ after store_meaning catalogue.now self.old.maps hand.old.records }
-        ensures shapes { shapes_of self.new.maps ≡ shapes_of self.old.maps }
+        ensures state { self.new.state ≡ after store_meaning catalogue.now self.old.state hand.old.records }
+        ensures sizes { sizes_of self.new.state ≡ sizes_of self.old.state }
         ensures hand { hand.new ≡ record hand.old { begin = self.new.tail; records = [] } }
-        ensures replies { KeepsOutcomes catalogue.now self.old.maps self.old.tail hand.old.records replies.old replies.new }
+        ensures replies { KeepsOutcomes catalogue.now self.old.state self.old.tail hand.old.records replies.old replies.new }
     {
-        perform_each(catalogue, &mut self.maps, hand, replies);
+        perform_each(catalogue, &self.programs, &mut self.maps, hand, replies);
         self.tail += hand.len() as u64;
         hand.clear(self.tail);
     }
 
-    /// Makes the maps those of a base, which are the maps after `index` operations. They have the replica's shapes. Takes time in
-    /// proportion to their room.
-    pub fn rebase(&mut self, index: u64, maps: &MapSet)
-        requires shapes { HasShapes (shapes_of self.old.maps) (maps_of maps.now) }
-        ensures based { self.new ≡ record { tail = index; maps = maps_of maps.now } }
+    /// Makes the maps and the programs those of a base, which are those after `index` operations. They have the replica's sizes. Takes
+    /// time in proportion to their room.
+    pub fn rebase(&mut self, index: u64, maps: &MapSet, programs: &Installed)
+        requires shapes { HasShapes (shapes_of self.old.state.maps) (maps_of maps.now) }
+        requires programs { programs.now.shapes ≡ shapes_of (maps_of maps.now) }
+        requires places { programs.now.places ≡ self.old.state.places }
+        ensures based { self.new ≡ record { tail = index; state = state_of (maps_of maps.now) programs.now } }
     {
         self.maps.copy_from(maps);
+        self.programs.copy_from(programs);
         self.tail = index;
     }
 
     /// Runs a Read program of the replica's shapes on an argument of its length. The replica stays.
     pub fn query(&mut self, program: &Accepted, argument: &[u8]) -> Outcome
-        requires shapes { program.now.shapes ≡ shapes_of self.old.maps }
+        requires shapes { program.now.shapes ≡ shapes_of self.old.state.maps }
         requires mode { program.now.mode ≡ Read }
         requires length { length argument.now ≡ program.now.arg_len }
-        ensures run { effect program.now.program self.old.maps argument.now ≡ Some (effect_of result.steps result.reply self.old.maps) }
+        ensures run { effect program.now.program self.old.state.maps argument.now ≡ Some (effect_of result.steps result.reply self.old.state.maps) }
         ensures same { self.new ≡ self.old }
     {
         run(program, &mut self.maps, argument)

@@ -59,16 +59,16 @@ all_answered b run k lt =
 -- ---- reads
 
 pub read_taken : (m : Opening) (g : Log) (node new : NodeView) (s : ℕ) (read : BegunRead) (given : ReadAnswer) → read_at node s ≡ Some read → may_answer read.seen g.done (own_of node) ≡ true
-    → given.point ≡ node.replica.tail → option_map (λ (e : ReadEffect). e.reply) (store_meaning.read m.catalogue (Run read.call) node.replica.maps) ≡ Some given.reply → new ≡ with_read node s None
+    → given.point ≡ node.replica.tail → option_map (λ (e : ReadEffect). e.reply) (store_meaning.read m.catalogue (Run read.call) node.replica.state) ≡ Some given.reply → new ≡ with_read node s None
     → TakesPart (read_answer m s g node) g node g new (answers.ReadBack given)
 read_taken m g node new s read given at may point reply is =
-    let d = map_gives (λ (e : ReadEffect). e.reply) (store_meaning.read m.catalogue (Run read.call) node.replica.maps) given.reply reply in
+    let d = map_gives (λ (e : ReadEffect). e.reply) (store_meaning.read m.catalogue (Run read.call) node.replica.state) given.reply reply in
     let part : ReadEffect → Part = λ e. with_call_or_back (Back (session_at node s) (ReadBack (record { point = node.replica.tail; reply = e.reply }))) g (with_read node s None) in
     let same : given ≡ (let v : ReadAnswer = record { point = node.replica.tail; reply = (d.0).reply } in v) =
     ap (λ k. (let v : ReadAnswer = record { point = k; reply = given.reply } in v)) point ∙ ap (λ k. (let v : ReadAnswer = record { point = node.replica.tail; reply = k } in v)) (sym d.2) in
     let finds : read_answer m s g node ≡ Some (part d.0) =
-    ap (λ o. option_and_then (λ (r : BegunRead). cond (may_answer r.seen g.done (own_of node)) (option_map part (store_meaning.read m.catalogue (Run r.call) node.replica.maps)) None) o) at
-    ∙ ap (λ c. cond c (option_map part (store_meaning.read m.catalogue (Run read.call) node.replica.maps)) None) may
+    ap (λ o. option_and_then (λ (r : BegunRead). cond (may_answer r.seen g.done (own_of node)) (option_map part (store_meaning.read m.catalogue (Run r.call) node.replica.state)) None) o) at
+    ∙ ap (λ c. cond c (option_map part (store_meaning.read m.catalogue (Run read.call) node.replica.state)) None) may
     ∙ ap (λ o. option_map part o) d.1 in
     subst (λ o. TakesPart o g node g new (answers.ReadBack given)) (sym finds) (ap answers.ReadBack same, refl, is)
 

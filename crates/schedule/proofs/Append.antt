@@ -46,7 +46,7 @@ min_short a b l = omega arith
 replica_grow : (m : Opening) (h rs : History) (replica : ReplicaView) (hand : HandView) → ReplicaStands m h replica hand → ReplicaStands m (h ++ rs) replica hand
 replica_grow m h rs replica hand x = record {
   tail = (let l = x.tail in let e = length-append h rs in omega arith);
-  maps = x.maps ∙ sym (after_more m h rs replica.tail x.tail);
+  state = x.state ∙ sym (after_more m h rs replica.tail x.tail);
   begins = x.begins;
   next = λ j f g. get_more h rs (replica.tail + j) f (x.next j f g);
   window = x.window;
@@ -90,7 +90,7 @@ module _ (m : Opening) (w : WorldView) (h : History) (positions : Positions) (t 
         subst (λ k. slice_get all_of k ≡ Some f) same (get_right h (take (room_for b.records w.log) b.records) i f new))
         (get_append w.log.records (take (room_for b.records w.log) b.records) j f g);
     reclaimed = x.log.reclaimed;
-    maps = x.log.maps ∙ sym (after_more m h (take (room_for b.records w.log) b.records) w.log.base (let a = x.log.reclaimed in let b = x.log.done in omega arith));
+    state = x.log.state ∙ sym (after_more m h (take (room_for b.records w.log) b.records) w.log.base (let a = x.log.reclaimed in let b = x.log.done in omega arith));
     done = (let d = x.log.done in let l = len in omega arith);
     limit = x.log.limit;
     within = (let l = len in let f = fits in omega arith);
@@ -109,7 +109,7 @@ module _ (m : Opening) (w : WorldView) (h : History) (positions : Positions) (t 
       record {
         replica = record {
           tail = r.tail;
-          maps = r.maps;
+          state = r.state;
           begins = refl;
           next = λ j f g. let i : w.log.base + ((node.replica.tail - w.log.base) + j) ≡ node.replica.tail + j = omega arith in
               subst (λ k. slice_get all_of k ≡ Some f) i (log_then.kept ((node.replica.tail - w.log.base) + j) f (sym (get_drop (grown b.records w.log).records (node.replica.tail - w.log.base) j) ∙ g));

@@ -288,13 +288,13 @@ keeps_read_answer m w h positions t n s node p at_n taken x =
     let tests = and_parts (nat_le read.seen node.replica.tail) (nat_le node.replica.tail w.log.done) c.0 in
     let seen = leb-true read.seen node.replica.tail tests.0 in
     let done = leb-true node.replica.tail w.log.done tests.1 in
-    let d = map_gives (λ (f : ReadEffect). with_call_or_back (Back (session_at node s) (ReadBack (record { point = node.replica.tail; reply = f.reply }))) w.log (with_read node s None)) (store_meaning.read m.catalogue (Run read.call) node.replica.maps) p c.1 in
+    let d = map_gives (λ (f : ReadEffect). with_call_or_back (Back (session_at node s) (ReadBack (record { point = node.replica.tail; reply = f.reply }))) w.log (with_read node s None)) (store_meaning.read m.catalogue (Run read.call) node.replica.state) p c.1 in
     let a : Answer = ReadBack (record { point = node.replica.tail; reply = d.0.reply }) in
     let there : (y : Slot) × (slice_get node.desk.slots s ≡ Some y) = get_some node.desk.slots s (let l = get_in node.reads s (Some read) begun in let f = o.desk.reads in let g = o.desk.slots in omega arith) in
     let q = read_waits m w.log.done h positions t (session m.config n s) node.batch (there.0).count (there.0).stage read (o.seats s there.0 (Some read) there.1 begun) in
     let old = q.1 in
     let right : read_reply_at store_meaning m.catalogue h node.replica.tail (Run read.call) ≡ Some d.0.reply =
-    ap (λ maps. option_map (λ (f : ReadEffect). f.reply) (store_meaning.read m.catalogue (Run read.call) maps)) (sym o.replica.maps) ∙ ap (option_map (λ (f : ReadEffect). f.reply)) d.1 in
+    ap (λ state. option_map (λ (f : ReadEffect). f.reply) (store_meaning.read m.catalogue (Run read.call) state)) (sym o.replica.state) ∙ ap (option_map (λ (f : ReadEffect). f.reply)) d.1 in
     let made : Kept m w h positions t n (with_call_or_back (Back (session_at node s) a) w.log (with_read node s None)) =
     same_history m (record { log = w.log; nodes = slice_set w.nodes n (with_read node s None) }) h positions (t ++ Back (session_at node s) a ∷ [])
     (subst (λ z. Stands m (record { log = w.log; nodes = slice_set w.nodes n (with_read node s None) }) h positions (t ++ Back z a ∷ [])) (sym e)

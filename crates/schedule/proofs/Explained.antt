@@ -6,7 +6,7 @@ use Rattle.verifier.specs.declared.refusal.Mode.{Mode}
 use Rattle.verifier.specs.declared.refusal.Mode.TheVariants.{Update}
 use Rattle.oplog.specs.declared.records.Record.{Record}
 use Rattle.oplog.specs.Operations.{Operation}
-use Rattle.oplog.specs.History.{History, after, maps_after, effect_at, reply_at, read_reply_at}
+use Rattle.oplog.specs.History.{History, after, state_after, effect_at, reply_at, read_reply_at}
 use Rattle.combiner.specs.declared.slots.Reply.TheVariants.{Placed, Ended}
 use Rattle.replica.specs.StoreMeaning.{store_meaning, is_operation}
 use Rattle.schedule.specs.Trace.{Answer, Updated, ReadBack, Event, Call, Back, Trace, Positions, IsOpen, IsIdle, StampBefore, stamp, Suits}
@@ -63,17 +63,17 @@ explains_event {m} {h} {positions} {t} e x fine = record {
       (get_snoc t e b (Back y a) g);
 }
 
-pub after_more : (m : Opening) (h es : History) (k : ℕ) → k ≤ length h → maps_after store_meaning m.catalogue (h ++ es) k ≡ maps_after store_meaning m.catalogue h k
+pub after_more : (m : Opening) (h es : History) (k : ℕ) → k ≤ length h → state_after store_meaning m.catalogue (h ++ es) k ≡ state_after store_meaning m.catalogue h k
 after_more m h es k l = ap (λ fs. after store_meaning m.catalogue (store_meaning.opening m.catalogue) fs) (take-append-le k h es l)
 
 pub effect_more : (m : Opening) (h es : History) (k : ℕ) (op : Operation) → k ≤ length h → effect_at store_meaning m.catalogue (h ++ es) k op ≡ effect_at store_meaning m.catalogue h k op
-effect_more m h es k op l = ap (λ maps. store_meaning.update m.catalogue op maps) (after_more m h es k l)
+effect_more m h es k op l = ap (λ state. store_meaning.update m.catalogue op state) (after_more m h es k l)
 
 pub reply_more : (m : Opening) (h es : History) (k : ℕ) (op : Operation) → k ≤ length h → reply_at store_meaning m.catalogue (h ++ es) k op ≡ reply_at store_meaning m.catalogue h k op
-reply_more m h es k op l = ap (λ maps. option_map (λ e. e.reply) (store_meaning.update m.catalogue op maps)) (after_more m h es k l)
+reply_more m h es k op l = ap (λ state. option_map (λ e. e.reply) (store_meaning.update m.catalogue op state)) (after_more m h es k l)
 
 pub read_more : (m : Opening) (h es : History) (k : ℕ) (op : Operation) → k ≤ length h → read_reply_at store_meaning m.catalogue (h ++ es) k op ≡ read_reply_at store_meaning m.catalogue h k op
-read_more m h es k op l = ap (λ maps. option_map (λ e. e.reply) (store_meaning.read m.catalogue op maps)) (after_more m h es k l)
+read_more m h es k op l = ap (λ state. option_map (λ e. e.reply) (store_meaning.read m.catalogue op state)) (after_more m h es k l)
 
 pub explains_entry : {m : Opening} {h : History} {positions : Positions} {t : Trace} (e : Record) (c : ℕ) → Explains m h positions t → is_operation Update m.catalogue e.op ≡ true
     → slice_get t c ≡ Some (Call e.author Update e.op) → ((i : ℕ) → slice_get positions i ≢ Some c) → e.seq ≡ count_of e.author h → length h < m.config.limit

@@ -45,7 +45,7 @@ keeps_finish m w h positions t n node p at_n taken x =
         ends = x.log.ends;
         kept = x.log.kept;
         reclaimed = (let b = x.log.reclaimed in omega arith);
-        maps = x.log.maps;
+        state = x.log.state;
         done = (let l = o.replica.tail in omega arith);
         limit = x.log.limit;
         within = x.log.within;
@@ -76,7 +76,7 @@ keeps_reclaim m w h positions t n node p at_n taken x =
         kept = λ j f g. let i : node.replica.tail + j ≡ w.log.base + ((node.replica.tail - w.log.base) + j) = omega arith in
             subst (λ k. slice_get h k ≡ Some f) (sym i) (x.log.kept ((node.replica.tail - w.log.base) + j) f (sym (get_drop w.log.records (node.replica.tail - w.log.base) j) ∙ g));
         reclaimed = below;
-        maps = o.replica.maps;
+        state = o.replica.state;
         done = x.log.done;
         limit = x.log.limit;
         within = x.log.within;
@@ -124,9 +124,9 @@ keeps_rebase m w h positions t n node p at_n taken x =
       stamps = x.stamps;
       nodes = nodes_put (λ k y. NodeStands m w.log.done h positions t k y) w.nodes n ((put_seen node (next m.catalogue Rebases (seen_of w.log node))).node) (λ k old ne g. x.nodes k old g)
           (record {
-            replica = record { tail = inside; maps = x.log.maps; begins = refl; next = λ j f g. absurd (none-some f g); window = o.replica.window };
+            replica = record { tail = inside; state = x.log.state; begins = refl; next = λ j f g. absurd (none-some f g); window = o.replica.window };
             desk = record { number = o.desk.number; slots = o.desk.slots; reads = o.desk.reads; own = o.desk.own; answers = o.desk.answers };
-            batch = moved m h node.replica node.hand (record { tail = w.log.base; maps = w.log.base_maps }) node.batch (omega arith) empty inside o.batch;
+            batch = moved m h node.replica node.hand (record { tail = w.log.base; state = w.log.base_state }) node.batch (omega arith) empty inside o.batch;
             seats = o.seats;
           });
     }))

@@ -4,7 +4,8 @@ use Rattle.std.specs.Prelude.{slice_get, ◌&&◌, ◌||◌, ◌==◌, cond, if�
 use Rattle.std.specs.List.{list_any}
 use Rattle.std.proofs.lemmas.Option.{none-some}
 use Rattle.std.proofs.lemmas.Bool.{false≢true}
-use Rattle.maps.specs.Maps.{HasShapes, shapes_of}
+use Rattle.loader.specs.StoreState.{IsState, sizes_of, sizes_for}
+use Rattle.loader.proofs.States.{state_sizes}
 use Rattle.verifier.specs.declared.refusal.Mode.TheVariants.{Read}
 use Rattle.loader.specs.CatalogueView.{CatalogueView}
 use Rattle.oplog.specs.declared.configuration.TheConstants.{MAX_LIMIT}
@@ -39,17 +40,17 @@ use Rattle.schedule.proofs.Lists.{get_in, get_some}
 use Rattle.schedule.proofs.Options.{read_is}
 use Rattle.schedule.proofs.Replays.{after_all, runs_next}
 
--- ---- maps
+-- ---- the state
 
-pub node_shapes : {m : Opening} {g : Log} {node : NodeView} → IsOfStore m g node → HasShapes m.catalogue.shapes node.replica.maps
-node_shapes {m} {g} {node} x = subst (λ maps. HasShapes m.catalogue.shapes maps) (sym x.stands.replica.maps) ((have_effects m.catalogue x.catalogue x.history x.updates).shapes node.replica.tail)
+pub node_state : {m : Opening} {g : Log} {node : NodeView} → IsOfStore m g node → IsState (sizes_for m.catalogue) node.replica.state
+node_state {m} {g} {node} x = subst (λ state. IsState (sizes_for m.catalogue) state) (sym x.stands.replica.state) ((have_effects m.catalogue x.catalogue x.history x.updates).states node.replica.tail)
 
-pub base_shapes : {m : Opening} {g : Log} {node : NodeView} → IsOfStore m g node → HasShapes m.catalogue.shapes g.base_maps
-base_shapes {m} {g} {node} x = subst (λ maps. HasShapes m.catalogue.shapes maps) (sym x.log.maps) ((have_effects m.catalogue x.catalogue x.history x.updates).shapes g.base)
+pub base_is_state : {m : Opening} {g : Log} {node : NodeView} → IsOfStore m g node → IsState (sizes_for m.catalogue) g.base_state
+base_is_state {m} {g} {node} x = subst (λ state. IsState (sizes_for m.catalogue) state) (sym x.log.state) ((have_effects m.catalogue x.catalogue x.history x.updates).states g.base)
 
--- the base has the replica's shapes
-pub same_shapes : {m : Opening} {g : Log} {node : NodeView} → IsOfStore m g node → shapes_of g.base_maps ≡ shapes_of node.replica.maps
-same_shapes x = (base_shapes x).same ∙ sym (node_shapes x).same
+-- the base has the replica's sizes
+pub same_sizes : {m : Opening} {g : Log} {node : NodeView} → IsOfStore m g node → sizes_of g.base_state ≡ sizes_of node.replica.state
+same_sizes x = state_sizes (base_is_state x) ∙ sym (state_sizes (node_state x))
 
 -- ---- counts
 
@@ -88,8 +89,8 @@ countable {m} {g} {node} x s y at =
     let short = history_short x in
     omega arith
 
-pub own_shapes : {m : Opening} {g : Log} {node : NodeView} (c : CatalogueView) → m.catalogue ≡ c → IsOfStore m g node → shapes_of node.replica.maps ≡ c.shapes
-own_shapes c same x = (node_shapes x).same ∙ ap (λ k. k.shapes) same
+pub own_sizes : {m : Opening} {g : Log} {node : NodeView} (c : CatalogueView) → m.catalogue ≡ c → IsOfStore m g node → sizes_of node.replica.state ≡ sizes_for c
+own_sizes c same x = state_sizes (node_state x) ∙ ap sizes_for same
 
 -- ---- claiming
 
@@ -127,11 +128,11 @@ pub is_next : {m : Opening} {g : Log} {node : NodeView} (c : CatalogueView) → 
 is_next {m} {g} {node} c same x next =
     let own : NodeReplica = with_next g (own_of node) in
     let runs = runs_next m g x.history x.positions x.trace x.number node next x.log x.stands in
-    let end = (after_all m.catalogue x.history own.hand.records node.replica.tail node.replica.maps runs.0 x.stands.replica.maps x.stands.replica.tail).1 in
+    let end = (after_all m.catalogue x.history own.hand.records node.replica.tail node.replica.state runs.0 x.stands.replica.state x.stands.replica.tail).1 in
     let short = history_short x in
     subst (λ k. IsNext k own) same (record {
       begins = refl;
-      shapes = (node_shapes x).same;
+      sizes = state_sizes (node_state x);
       updates = λ k r at. x.updates (node.replica.tail + k) r (runs.0 k r at);
       short = omega arith;
     })

@@ -3,10 +3,10 @@ use Rattle.std.proofs.Common.{◌≡◌, ◌≢◌, ℕ, zero, suc, ◌+◌, ◌
 use Rattle.std.specs.Prelude.{slice_get, slice_set, ◌⊎◌, ◌&&◌, not, nat_lt, if◌then◌else◌}
 use Rattle.std.proofs.lemmas.Option.{none-some, same_Some}
 use Rattle.std.proofs.lemmas.Bool.{cases_eq, and_parts, or_cases, leb-true, ltb-true}
-use Rattle.maps.specs.Maps.{Maps}
+use Rattle.loader.specs.StoreState.{StoreState}
 use Rattle.loader.specs.CatalogueView.{CatalogueView, IsCatalogue}
 use Rattle.oplog.specs.declared.records.Record.{Record}
-use Rattle.oplog.specs.History.{Effect, Meaning, History, after, maps_after, left_by, effect_at}
+use Rattle.oplog.specs.History.{Effect, Meaning, History, after, state_after, left_by, effect_at}
 use Rattle.oplog.specs.Logs.{Log, HandView, tail_of}
 use Rattle.oplog.specs.Sessions.{session}
 use Rattle.replica.specs.StoreMeaning.{store_meaning, outcome_of, AreUpdates}
@@ -31,19 +31,19 @@ use Rattle.schedule.proofs.Options.{cond_gives, some_is}
 use Rattle.schedule.proofs.Seats.{stage_batch}
 use Rattle.schedule.proofs.Calls.{nodes_put, Kept, same_history}
 
--- ---- the maps
+-- ---- the state
 
-after_suc : {C M : Type 0} (E : Meaning C M) (c : C) (maps : M) (h : History) (k : ℕ) (r : Record) → slice_get h k ≡ Some r
-    → after E c maps (take (suc k) h) ≡ left_by (E.update c r.op (after E c maps (take k h))) (after E c maps (take k h))
-after_suc E c maps [] k r g = absurd (none-some r g)
-after_suc E c maps (x ∷ []) zero r g = ap (λ y. left_by (E.update c y.op maps) maps) (same_Some x r g)
-after_suc E c maps (x ∷ (y ∷ h)) zero r g = ap (λ y. left_by (E.update c y.op maps) maps) (same_Some x r g)
-after_suc E c maps (x ∷ h) (suc k) r g = after_suc E c (left_by (E.update c x.op maps) maps) h k r g
+after_suc : {C M : Type 0} (E : Meaning C M) (c : C) (state : M) (h : History) (k : ℕ) (r : Record) → slice_get h k ≡ Some r
+    → after E c state (take (suc k) h) ≡ left_by (E.update c r.op (after E c state (take k h))) (after E c state (take k h))
+after_suc E c state [] k r g = absurd (none-some r g)
+after_suc E c state (x ∷ []) zero r g = ap (λ y. left_by (E.update c y.op state) state) (same_Some x r g)
+after_suc E c state (x ∷ (y ∷ h)) zero r g = ap (λ y. left_by (E.update c y.op state) state) (same_Some x r g)
+after_suc E c state (x ∷ h) (suc k) r g = after_suc E c (left_by (E.update c x.op state) state) h k r g
 
--- the maps after one operation more
+-- the state after one operation more
 pub after_next : (c : CatalogueView) (h : History) (k : ℕ) (r : Record) → slice_get h k ≡ Some r
-    → maps_after store_meaning c h (k + 1) ≡ left_by (store_meaning.update c r.op (maps_after store_meaning c h k)) (maps_after store_meaning c h k)
-after_next c h k r g = let i : k + 1 ≡ suc k = omega arith in ap (λ j. maps_after store_meaning c h j) i ∙ after_suc store_meaning c (store_meaning.opening c) h k r g
+    → state_after store_meaning c h (k + 1) ≡ left_by (store_meaning.update c r.op (state_after store_meaning c h k)) (state_after store_meaning c h k)
+after_next c h k r g = let i : k + 1 ≡ suc k = omega arith in ap (λ j. state_after store_meaning c h j) i ∙ after_suc store_meaning c (store_meaning.opening c) h k r g
 
 pub first_there : (h rs : History) (r : Record) (tail : ℕ) → ((j : ℕ) (f : Record) → slice_get (r ∷ rs) j ≡ Some f → slice_get h (tail + j) ≡ Some f) → slice_get h tail ≡ Some r
 first_there h rs r tail next = let i : tail + 0 ≡ tail = omega arith in subst (λ k. slice_get h k ≡ Some r) i (next 0 r refl)
@@ -52,32 +52,32 @@ pub later_there : (h rs : History) (r : Record) (tail : ℕ) → ((j : ℕ) (f :
 later_there h rs r tail next j f g = let i : tail + suc j ≡ (tail + 1) + j = omega arith in subst (λ k. slice_get h k ≡ Some f) i (next (suc j) f g)
 
 -- a replica that applies the next records of the history is then at the end of them
-pub after_all : (c : CatalogueView) (h rs : History) (tail : ℕ) (maps : Maps) → ((j : ℕ) (f : Record) → slice_get rs j ≡ Some f → slice_get h (tail + j) ≡ Some f)
-    → maps ≡ maps_after store_meaning c h tail → tail ≤ length h
-    → (after store_meaning c maps rs ≡ maps_after store_meaning c h (tail + length rs)) × (tail + length rs ≤ length h)
-after_all c h [] tail maps next is inside = let i : tail ≡ tail + 0 = omega arith in (is ∙ ap (λ k. maps_after store_meaning c h k) i, omega arith)
-after_all c h (r ∷ rs) tail maps next is inside =
+pub after_all : (c : CatalogueView) (h rs : History) (tail : ℕ) (state : StoreState) → ((j : ℕ) (f : Record) → slice_get rs j ≡ Some f → slice_get h (tail + j) ≡ Some f)
+    → state ≡ state_after store_meaning c h tail → tail ≤ length h
+    → (after store_meaning c state rs ≡ state_after store_meaning c h (tail + length rs)) × (tail + length rs ≤ length h)
+after_all c h [] tail state next is inside = let i : tail ≡ tail + 0 = omega arith in (is ∙ ap (λ k. state_after store_meaning c h k) i, omega arith)
+after_all c h (r ∷ rs) tail state next is inside =
     let there = first_there h rs r tail next in
     let within = get_in h tail r there in
     let step = ap (λ y. left_by (store_meaning.update c r.op y) y) is ∙ sym (after_next c h tail r there) in
-    let more = after_all c h rs (tail + 1) (left_by (store_meaning.update c r.op maps) maps) (later_there h rs r tail next) step (omega arith) in
+    let more = after_all c h rs (tail + 1) (left_by (store_meaning.update c r.op state) state) (later_there h rs r tail next) step (omega arith) in
     let i : (tail + 1) + length rs ≡ tail + suc (length rs) = omega arith in
-    (more.0 ∙ ap (λ k. maps_after store_meaning c h k) i, (let l = more.1 in omega arith))
+    (more.0 ∙ ap (λ k. state_after store_meaning c h k) i, (let l = more.1 in omega arith))
 
 -- ---- the batch
 
-abbrev replica_at : ℕ → Maps → ReplicaView
-replica_at tail maps = record { tail = tail; maps = maps }
+abbrev replica_at : ℕ → StoreState → ReplicaView
+replica_at tail state = record { tail = tail; state = state }
 
 abbrev hand_of : HandView → History → HandView
 hand_of hand rs = record hand { records = rs }
 
 -- the record at the tail is applied, with this effect
-written_next : (m : Opening) (h : History) (tail : ℕ) (maps : Maps) (hand : HandView) (r : Record) (rs : History) (b : Written) (e : Effect Maps) (new : Maps)
+written_next : (m : Opening) (h : History) (tail : ℕ) (state : StoreState) (hand : HandView) (r : Record) (rs : History) (b : Written) (e : Effect StoreState) (new : StoreState)
     → slice_get h tail ≡ Some r → effect_at store_meaning m.catalogue h tail r.op ≡ Some e
-    → WrittenStands m h (replica_at tail maps) (hand_of hand (r ∷ rs)) b
+    → WrittenStands m h (replica_at tail state) (hand_of hand (r ∷ rs)) b
     → WrittenStands m h (replica_at (tail + 1) new) (hand_of hand rs) (record b { replies = with_outcome b.replies tail (outcome_of e) })
-written_next m h tail maps hand r rs b e new there takes x =
+written_next m h tail state hand r rs b e new there takes x =
     let a = x.ahead in
     let same_count = count_with b.replies tail (outcome_of e) in
     record {
@@ -98,12 +98,12 @@ written_next m h tail maps hand r rs b e new there takes x =
     }
 
 -- the records are applied, one by one
-pub written_all : (m : Opening) (h rs : History) (tail : ℕ) (maps : Maps) (hand : HandView) (b : Written) (new : ReplicaView) (left : HandView)
-    → IsCatalogue m.catalogue → AreUpdates m.catalogue h → ((j : ℕ) (f : Record) → slice_get rs j ≡ Some f → slice_get h (tail + j) ≡ Some f) → maps ≡ maps_after store_meaning m.catalogue h tail
+pub written_all : (m : Opening) (h rs : History) (tail : ℕ) (state : StoreState) (hand : HandView) (b : Written) (new : ReplicaView) (left : HandView)
+    → IsCatalogue m.catalogue → AreUpdates m.catalogue h → ((j : ℕ) (f : Record) → slice_get rs j ≡ Some f → slice_get h (tail + j) ≡ Some f) → state ≡ state_after store_meaning m.catalogue h tail
     → new.tail ≡ tail + length rs → left.records ≡ []
-    → WrittenStands m h (replica_at tail maps) (hand_of hand rs) b
-    → WrittenStands m h new left (record b { replies = outcomes_after m.catalogue maps tail rs b.replies })
-written_all m h [] tail maps hand b new left whole updates next is at empty x =
+    → WrittenStands m h (replica_at tail state) (hand_of hand rs) b
+    → WrittenStands m h new left (record b { replies = outcomes_after m.catalogue state tail rs b.replies })
+written_all m h [] tail state hand b new left whole updates next is at empty x =
     let a = x.ahead in
     let nothing : length left.records ≡ 0 = ap length empty in
     record {
@@ -112,16 +112,16 @@ written_all m h [] tail maps hand b new left whole updates next is at empty x =
       known = λ k r l g below. x.known k r l g (omega arith);
       ended = λ short. let f = x.ended short in omega arith;
     }
-written_all m h (r ∷ rs) tail maps hand b new left whole updates next is at empty x =
+written_all m h (r ∷ rs) tail state hand b new left whole updates next is at empty x =
     let there = first_there h rs r tail next in
     let has = takes_effect m.catalogue whole h tail r.op updates (updates tail r there) in
     let takes = has.1 in
     let known = ap (λ y. store_meaning.update m.catalogue r.op y) is ∙ takes in
     let step = ap (λ y. left_by (store_meaning.update m.catalogue r.op y) y) is ∙ sym (after_next m.catalogue h tail r there) in
-    written_all m h rs (tail + 1) (left_by (store_meaning.update m.catalogue r.op maps) maps) hand (record b { replies = with_effect b.replies tail (store_meaning.update m.catalogue r.op maps) }) new left
+    written_all m h rs (tail + 1) (left_by (store_meaning.update m.catalogue r.op state) state) hand (record b { replies = with_effect b.replies tail (store_meaning.update m.catalogue r.op state) }) new left
     whole updates (later_there h rs r tail next) step (omega arith) empty
-    (subst (λ o. WrittenStands m h (replica_at (tail + 1) (left_by (store_meaning.update m.catalogue r.op maps) maps)) (hand_of hand rs) (record b { replies = with_effect b.replies tail o })) (sym known)
-    (written_next m h tail maps hand r rs b _ (left_by (store_meaning.update m.catalogue r.op maps) maps) there takes x))
+    (subst (λ o. WrittenStands m h (replica_at (tail + 1) (left_by (store_meaning.update m.catalogue r.op state) state)) (hand_of hand rs) (record b { replies = with_effect b.replies tail o })) (sym known)
+    (written_next m h tail state hand r rs b _ (left_by (store_meaning.update m.catalogue r.op state) state) there takes x))
 
 kept_records : (c : CatalogueView) (own : NodeReplica) (b : NodeBatch) → batch_in (batch_after c own b) ≡ batch_in b
 kept_records c own Absent = refl
@@ -132,21 +132,21 @@ kept_positions : (c : CatalogueView) (own : NodeReplica) (b : NodeBatch) (k : �
 kept_positions c own Absent k = refl
 kept_positions c own (Held b) k = refl
 kept_positions c own (InLog b) k =
-    ap (λ n. if nat_lt k n then Some (b.replies.first + k) else None) (sym (after_count c own.replica.maps own.replica.tail own.hand.records b.replies))
-    ∙ ap (λ i. if nat_lt k (length (replies_after c own b.replies).outcomes) then Some (i + k) else None) (sym (after_first c own.replica.maps own.replica.tail own.hand.records b.replies))
+    ap (λ n. if nat_lt k n then Some (b.replies.first + k) else None) (sym (after_count c own.replica.state own.replica.tail own.hand.records b.replies))
+    ∙ ap (λ i. if nat_lt k (length (replies_after c own b.replies).outcomes) then Some (i + k) else None) (sym (after_first c own.replica.state own.replica.tail own.hand.records b.replies))
 
 -- what is in the hand comes next
 abbrev pub ComesNext : History → NodeReplica → Type 0
 ComesNext h own = (j : ℕ) (f : Record) → slice_get own.hand.records j ≡ Some f → slice_get h (own.replica.tail + j) ≡ Some f
 
 batch_all : (m : Opening) (h : History) (own : NodeReplica) (b : NodeBatch) (new : ReplicaView) (left : HandView)
-    → IsCatalogue m.catalogue → AreUpdates m.catalogue h → ComesNext h own → own.replica.maps ≡ maps_after store_meaning m.catalogue h own.replica.tail
+    → IsCatalogue m.catalogue → AreUpdates m.catalogue h → ComesNext h own → own.replica.state ≡ state_after store_meaning m.catalogue h own.replica.tail
     → new.tail ≡ own.replica.tail + length own.hand.records → left.records ≡ []
     → BatchStands m h own.replica own.hand b → BatchStands m h new left (batch_after m.catalogue own b)
 batch_all m h own Absent new left whole updates next is at empty x = tt
 batch_all m h own (Held b) new left whole updates next is at empty x = tt
 batch_all m h own (InLog b) new left whole updates next is at empty x =
-    written_all m h own.hand.records own.replica.tail own.replica.maps own.hand b new left whole updates next is at empty x
+    written_all m h own.hand.records own.replica.tail own.replica.state own.hand b new left whole updates next is at empty x
 
 -- a hand has no fewer records
 longer_hand : (m : Opening) (h : History) (replica : ReplicaView) (hand more : HandView) (b : NodeBatch) → length hand.records ≤ length more.records → BatchStands m h replica hand b → BatchStands m h replica more b
@@ -190,7 +190,7 @@ keeps_replay m w h positions t n node p at_n taken x =
     let o = x.nodes n node at_n in
     let own : NodeReplica = with_next w.log (own_of node) in
     let runs = runs_next m w.log h positions t n node c.0 x.log o in
-    let end = after_all m.catalogue h own.hand.records node.replica.tail node.replica.maps runs.0 o.replica.maps o.replica.tail in
+    let end = after_all m.catalogue h own.hand.records node.replica.tail node.replica.state runs.0 o.replica.state o.replica.tail in
     let new : NodeView = (put_seen node (next m.catalogue Replays (seen_of w.log node))).node in
     subst (λ z. Kept m w h positions t n z) (same_Some _ p c.1)
     (same_history m (record { log = w.log; nodes = slice_set w.nodes n new }) h positions t (record {
@@ -202,9 +202,9 @@ keeps_replay m w h positions t n node p at_n taken x =
       stamps = x.stamps;
       nodes = nodes_put (λ k y. NodeStands m w.log.done h positions t k y) w.nodes n new (λ k old ne g. x.nodes k old g)
           (record {
-            replica = record { tail = end.1; maps = end.0; begins = refl; next = λ j f g. absurd (none-some f g); window = o.replica.window };
+            replica = record { tail = end.1; state = end.0; begins = refl; next = λ j f g. absurd (none-some f g); window = o.replica.window };
             desk = same_desk m w n node o.desk;
-            batch = batch_all m h own node.batch new.replica new.hand x.catalogue x.explains.updates runs.0 o.replica.maps refl refl runs.1;
+            batch = batch_all m h own node.batch new.replica new.hand x.catalogue x.explains.updates runs.0 o.replica.state refl refl runs.1;
             seats = λ s y read there begun. stage_batch m w.log.done h positions t (session m.config n s) node.batch new.batch y.count y.stage read
                 (λ k q at is. (
                   subst (λ b. slice_get b.records k ≡ Some q) (sym (kept_records m.catalogue own node.batch)) at,

@@ -17,6 +17,7 @@ use Rattle.schedule.specs.declared.parts.Opening.{Opening}
 use Rattle.schedule.specs.Worlds.{NodeView, WorldView, opened_node, opened_nodes, opened}
 use Rattle.schedule.specs.Steps.{Part, Took, put_part, part_of, node_of, took, world_after, trace_after, world_of, trace_of}
 use Rattle.schedule.specs.Stands.{NodeStands, StageStands, Stands}
+use Rattle.loader.specs.StoreState.{sizes_for}
 use Rattle.loader.specs.CatalogueView.{IsCatalogue}
 use Rattle.oplog.specs.Limits.{IsConfig}
 use Rattle.oplog.specs.Logs.{Log, opened_log}
@@ -89,7 +90,7 @@ none_claimed a (suc n) = none_claimed (suc a) n
 
 node_opened : (m : Opening) (n : ℕ) → NodeStands m 0 [] [] [] n (opened_node m n)
 node_opened m n = record {
-  replica = record { tail = omega arith; maps = refl; begins = refl; next = λ j r g. absurd (none-some r g); window = refl };
+  replica = record { tail = omega arith; state = refl; begins = refl; next = λ j r g. absurd (none-some r g); window = refl };
   desk = record {
     number = refl;
     slots = replicate_length m.config.slots (slot Empty 0);
@@ -125,7 +126,7 @@ opening_stands m whole = record {
     ends = refl;
     kept = λ j r g. absurd (none-some r g);
     reclaimed = omega arith;
-    maps = refl;
+    state = refl;
     done = omega arith;
     limit = refl;
     within = omega arith;
@@ -159,7 +160,7 @@ standing_is_explained m w h positions t x = record {
   explains = x.explains;
   tail = x.log.ends;
   nodes = x.count;
-  replicas = λ n node g. let r = (x.nodes n node g).replica in (r.tail, r.maps);
+  replicas = λ n node g. let r = (x.nodes n node g).replica in (r.tail, r.state);
 }
 
 pub every_schedule : EverySchedule
@@ -176,12 +177,12 @@ nodes_next m first (suc count) =
     ap (opened_nodes m first) i ∙ ap (λ ns. opened_node m first ∷ ns) (nodes_next m (suc first) count ∙ ap (λ k. opened_nodes m (suc first) count ++ opened_node m k ∷ []) j)
 
 -- a log and nodes that are new stand for the empty history
-pub new_stands : (m : Opening) (g : Log) (nodes : List NodeView) → IsCatalogue m.catalogue → g ≡ opened_log m.catalogue.shapes m.config.window m.config.limit → nodes ≡ opened_nodes m 0 m.config.nodes
+pub new_stands : (m : Opening) (g : Log) (nodes : List NodeView) → IsCatalogue m.catalogue → g ≡ opened_log (sizes_for m.catalogue) m.config.window m.config.limit → nodes ≡ opened_nodes m 0 m.config.nodes
     → Stands m (record { log = g; nodes = nodes }) [] [] []
 new_stands m g nodes whole is are =
     subst (λ k. Stands m (record { log = k; nodes = nodes }) [] [] []) (sym is)
-    (subst (λ ns. Stands m (record { log = opened_log m.catalogue.shapes m.config.window m.config.limit; nodes = ns }) [] [] []) (sym are) (opening_stands m whole))
+    (subst (λ ns. Stands m (record { log = opened_log (sizes_for m.catalogue) m.config.window m.config.limit; nodes = ns }) [] [] []) (sym are) (opening_stands m whole))
 
-pub new_is_standing : (m : Opening) (g : Log) (nodes : List NodeView) → IsConfig m.config → IsCatalogue m.catalogue → g ≡ opened_log m.catalogue.shapes m.config.window m.config.limit → nodes ≡ opened_nodes m 0 m.config.nodes
+pub new_is_standing : (m : Opening) (g : Log) (nodes : List NodeView) → IsConfig m.config → IsCatalogue m.catalogue → g ≡ opened_log (sizes_for m.catalogue) m.config.window m.config.limit → nodes ≡ opened_nodes m 0 m.config.nodes
     → IsStanding (store_of m g nodes)
 new_is_standing m g nodes config whole is are = record { config = config; history = []; positions = []; trace = []; stands = new_stands m g nodes whole is are }

@@ -1,7 +1,7 @@
 -- What holds after every list of steps.
 use Rattle.std.specs.Prelude.{◌≡◌, ℕ, ◌≤◌, List, [], ◌++◌, length, Some, slice_get}
 use Rattle.loader.specs.CatalogueView.{IsCatalogue}
-use Rattle.oplog.specs.History.{History, maps_after}
+use Rattle.oplog.specs.History.{History, state_after}
 use Rattle.oplog.specs.Logs.{tail_of}
 use Rattle.replica.specs.StoreMeaning.{store_meaning}
 use Rattle.schedule.specs.declared.steps.Step.{Step}
@@ -22,7 +22,7 @@ pub record IsExplainedBy (m : Opening) (w : WorldView) (h : History) (positions 
   pub tail : tail_of w.log ≡ length h
   pub nodes : length w.nodes ≡ m.config.nodes
   pub replicas : (n : ℕ) (node : NodeView) → slice_get w.nodes n ≡ Some node
-      → (node.replica.tail ≤ length h) × (node.replica.maps ≡ maps_after store_meaning m.catalogue h node.replica.tail)
+      → (node.replica.tail ≤ length h) × (node.replica.state ≡ state_after store_meaning m.catalogue h node.replica.tail)
 
 -- some history explains them
 abbrev pub IsExplained : Opening → WorldView → Trace → Type 0

@@ -1,13 +1,13 @@
 -- What holds of a store, its history and its trace at each moment.
 use Rattle.std.specs.Prelude.{◌≡◌, ◌≢◌, ℕ, ◌+◌, ◌<◌, ◌≤◌, true, [], length, Option, Some, None, slice_get, if◌then◌else◌, nat_lt}
-use Rattle.maps.specs.Maps.{Maps}
+use Rattle.loader.specs.StoreState.{StoreState}
 use Rattle.verifier.specs.declared.refusal.Mode.{Mode}
 use Rattle.verifier.specs.declared.refusal.Mode.TheVariants.{Update, Read}
 use Rattle.loader.specs.CatalogueView.{IsCatalogue}
 use Rattle.oplog.specs.declared.records.Op.TheVariants.{Run}
 use Rattle.oplog.specs.declared.records.Record.{Record}
 use Rattle.oplog.specs.Operations.{Operation}
-use Rattle.oplog.specs.History.{Effect, History, maps_after, effect_at, reply_at}
+use Rattle.oplog.specs.History.{Effect, History, state_after, effect_at, reply_at}
 use Rattle.oplog.specs.Logs.{Log, HandView, tail_of}
 use Rattle.oplog.specs.Sessions.{session, IsSessionOf}
 use Rattle.combiner.specs.declared.slots.Reply.{Reply}
@@ -32,7 +32,7 @@ pub record LogStands (m : Opening) (g : Log) (h : History) : Type 0 where
   pub ends : tail_of g ≡ length h
   pub kept : (j : ℕ) (r : Record) → slice_get g.records j ≡ Some r → slice_get h (g.base + j) ≡ Some r
   pub reclaimed : g.base ≤ g.done
-  pub maps : g.base_maps ≡ maps_after store_meaning m.catalogue h g.base
+  pub state : g.base_state ≡ state_after store_meaning m.catalogue h g.base
   pub done : g.done ≤ length h
   pub limit : g.limit ≡ m.config.limit
   pub within : length h ≤ m.config.limit
@@ -41,7 +41,7 @@ pub record LogStands (m : Opening) (g : Log) (h : History) : Type 0 where
 -- the replica is at its tail, and the records copied for it are those that come next
 pub record ReplicaStands (m : Opening) (h : History) (replica : ReplicaView) (hand : HandView) : Type 0 where
   pub tail : replica.tail ≤ length h
-  pub maps : replica.maps ≡ maps_after store_meaning m.catalogue h replica.tail
+  pub state : replica.state ≡ state_after store_meaning m.catalogue h replica.tail
   pub begins : hand.begin ≡ replica.tail
   pub next : (j : ℕ) (r : Record) → slice_get hand.records j ≡ Some r → slice_get h (replica.tail + j) ≡ Some r
   pub window : hand.window ≡ m.config.window
@@ -65,7 +65,7 @@ pub record WrittenStands (m : Opening) (h : History) (replica : ReplicaView) (ha
   pub placed : (k : ℕ) (r : Record) → k < length b.replies.outcomes → slice_get b.batch.records k ≡ Some r → slice_get h (b.replies.first + k) ≡ Some r
   pub ahead : b.replies.first + length b.replies.outcomes ≤ replica.tail + length hand.records
   pub known : (k : ℕ) (r : Record) → k < length b.replies.outcomes → slice_get b.batch.records k ≡ Some r → b.replies.first + k < replica.tail
-      → (e : Effect Maps) × (effect_at store_meaning m.catalogue h (b.replies.first + k) r.op ≡ Some e) × (slice_get b.replies.outcomes k ≡ Some (Some (outcome_of e)))
+      → (e : Effect StoreState) × (effect_at store_meaning m.catalogue h (b.replies.first + k) r.op ≡ Some e) × (slice_get b.replies.outcomes k ≡ Some (Some (outcome_of e)))
   pub ended : length b.replies.outcomes < length b.batch.records → m.config.limit ≤ replica.tail + length hand.records
 
 -- of a batch that is not in the log nothing is asked here

@@ -103,7 +103,7 @@ read_answer m s g node =
     option_and_then (λ read.
     cond (may_answer read.seen g.done (own_of node))
     (option_map (λ e. with_call_or_back (Back (session_at node s) (ReadBack (record { point = node.replica.tail; reply = e.reply }))) g (with_read node s None))
-    (store_meaning.read m.catalogue (Run read.call) node.replica.maps))
+    (store_meaning.read m.catalogue (Run read.call) node.replica.state))
     None)
     (read_at node s)
 

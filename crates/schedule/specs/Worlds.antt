@@ -1,5 +1,6 @@
 -- A store as one value: its log and its nodes.
 use Rattle.std.specs.Prelude.{ℕ, zero, suc, List, [], ◌∷◌, replicate, Option, None}
+use Rattle.loader.specs.StoreState.{sizes_for}
 use Rattle.oplog.specs.Logs.{Log, HandView, opened_log, opened_hand}
 use Rattle.combiner.specs.Desks.{DeskView, opened_desk}
 use Rattle.replica.specs.StoreMeaning.{store_meaning}
@@ -29,10 +30,10 @@ pub record WorldView : Type 0 where
 
 -- ---- the opening
 
--- a new node of this number: at the opening maps, with nothing copied, nobody at its desk, no batch and no read
+-- a new node of this number: in the opening state, with nothing copied, nobody at its desk, no batch and no read
 abbrev pub opened_node : Opening → ℕ → NodeView
 opened_node m n = record {
-  replica = record { tail = 0; maps = store_meaning.opening m.catalogue };
+  replica = record { tail = 0; state = store_meaning.opening m.catalogue };
   hand = opened_hand m.config.window;
   desk = opened_desk n m.config.slots;
   batch = Absent;
@@ -46,4 +47,4 @@ opened_nodes m n (suc count) = opened_node m n ∷ opened_nodes m (suc n) count
 
 -- a new store: its log is empty, and its nodes are new
 abbrev pub opened : Opening → WorldView
-opened m = record { log = opened_log m.catalogue.shapes m.config.window m.config.limit; nodes = opened_nodes m 0 m.config.nodes }
+opened m = record { log = opened_log (sizes_for m.catalogue) m.config.window m.config.limit; nodes = opened_nodes m 0 m.config.nodes }

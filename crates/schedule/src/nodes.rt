@@ -1,7 +1,7 @@
 // A node, and its part of each step.
 
 ghost use Rattle.std.specs.Prelude.{◌≡◌, ◌↔◌, IsTrue, ◌+◌, ◌≤◌, ◌<◌, ◌^◌, true, false, length, Some, None, IfOk, replicate, slice_get, option_map, ◌≢◌};
-ghost use Rattle.maps.specs.Maps.{shapes_of};
+ghost use Rattle.loader.specs.StoreState.{sizes_of, sizes_for};
 ghost use Rattle.oplog.specs.declared.configuration.TheConstants.{MAX_NODES};
 ghost use Rattle.oplog.specs.Limits.{IsConfig};
 ghost use Rattle.oplog.specs.Logs.{Log};
@@ -83,7 +83,11 @@ impl Node {
         ensures opened { IfOk result (λ node. node ≡ opened_node opening.now number) }
     {
         let slots = opening.config.slots as usize;
-        let replica = Replica::open(alloc, opening.catalogue.shapes())?;
+        let replica = Replica::open(
+            alloc,
+            opening.catalogue.shapes(),
+            opening.catalogue.places(),
+        )?;
         let hand = Hand::open(alloc, opening.config.window as usize)?;
         let reads = no_reads(alloc, slots)?;
         Ok(Node {
@@ -248,9 +252,9 @@ impl Node {
     // What the replica answers to a read.
     fn answer_to(&mut self, catalogue: &Catalogue, call: &Call) -> ReadAnswer
         requires asks { IsCall Read catalogue.now call.now }
-        requires shapes { shapes_of self.old.replica.maps ≡ catalogue.now.shapes }
+        requires sizes { sizes_of self.old.replica.state ≡ sizes_for catalogue.now }
         ensures point { result.point ≡ self.old.replica.tail }
-        ensures reply { option_map (λ e. e.reply) (store_meaning.read catalogue.now (Run call.now) self.old.replica.maps) ≡ Some result.reply }
+        ensures reply { option_map (λ e. e.reply) (store_meaning.read catalogue.now (Run call.now) self.old.replica.state) ≡ Some result.reply }
         ensures same { self.new ≡ self.old }
     {
         match catalogue.program(call.program()) {

@@ -71,8 +71,9 @@ impl World {
         if !config.is_within_limits() {
             return Err(OpenError::OutOfLimits);
         }
+        let (shapes, places) = (catalogue.shapes(), catalogue.places());
         let (window, limit) = (config.window as usize, config.limit as usize);
-        let Ok(log) = LogState::open(alloc, catalogue.shapes(), window, limit) else {
+        let Ok(log) = LogState::open(alloc, shapes, places, window, limit) else {
             return Err(OpenError::NoMemory);
         };
         let opening = Opening { config, catalogue };

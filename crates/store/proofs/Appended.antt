@@ -7,13 +7,13 @@ use Rattle.std.proofs.lemmas.List.{length-replicate, length-take-le}
 use Rattle.std.specs.Prelude.{nat_le}
 use Rattle.std.proofs.Math.Nat.{min-le_left, min-le_right, min-eq_left, min-eq_right}
 use lib.ListN.{get_elem?}
-use Rattle.maps.specs.Maps.{shapes_of}
+use Rattle.loader.specs.StoreState.{sizes_of}
 use Rattle.ownlock.specs.Rules.{leader}
 use Rattle.ownlock.specs.Seats.{At, without}
 use Rattle.ownlock.specs.Knowledge.{Possible}
 use Rattle.loader.specs.CatalogueView.{CatalogueView}
 use Rattle.oplog.specs.declared.configuration.Config.{Config}
-use Rattle.oplog.specs.History.{History, maps_after}
+use Rattle.oplog.specs.History.{History, state_after}
 use Rattle.oplog.specs.declared.configuration.TheConstants.{MAX_LIMIT}
 use Rattle.oplog.specs.Logs.{Log as LogView, left_of, room_in, tail_of}
 use Rattle.replica.specs.StoreMeaning.{store_meaning}
@@ -77,7 +77,7 @@ module _ (k t m : K) (n0 : NodeReplica) (g : Box LogView) (h : LogView) (h2 : Bo
 
   keeps : KeepsSizes IsSized (Log g) (Log h2)
   keeps config c s =
-      (ap (λ (z : LogView). z.window) x.0 ∙ (p.keeps.0 ∙ s.0), ap (λ (z : LogView). z.limit) x.0 ∙ (p.keeps.1 ∙ s.1), ap (λ (z : LogView). shapes_of z.base_maps) x.0 ∙ (p.keeps.2 ∙ s.2))
+      (ap (λ (z : LogView). z.window) x.0 ∙ (p.keeps.0 ∙ s.0), ap (λ (z : LogView). z.limit) x.0 ∙ (p.keeps.1 ∙ s.1), ap (λ (z : LogView). sizes_of z.base_state) x.0 ∙ (p.keeps.2 ∙ s.2))
 
   -- ---- what is appended
 
@@ -116,7 +116,7 @@ module _ (k t m : K) (n0 : NodeReplica) (g : Box LogView) (h : LogView) (h2 : Bo
       done = let same = ap (λ (z : LogView). z.done) x.0 in let low = p.log.agrees.done in omega (arith, same, low);
       base = let same = ap (λ (z : LogView). z.done) x.0 in let here = ap (λ (z : LogView). z.base) x.0 in let low = p.log.agrees.base in omega (arith, same, here, low);
       below = let here = ap (λ (z : LogView). z.base) x.0 in let tail = p.log.tail in omega (arith, here, tail);
-      base_maps = ap (λ (z : LogView). z.base_maps) x.0 ∙ (p.log.agrees.base_maps ∙ ap (λ z. maps_after store_meaning m.progress.catalogue m.progress.history z) (sym (ap (λ (z : LogView). z.base) x.0)));
+      base_state = ap (λ (z : LogView). z.base_state) x.0 ∙ (p.log.agrees.base_state ∙ ap (λ z. state_after store_meaning m.progress.catalogue m.progress.history z) (sym (ap (λ (z : LogView). z.base) x.0)));
       records = ap (λ (z : LogView). z.records) x.0
           ∙ (ap (λ z. z ++ take (min (length rs) (left_of h)) rs) (p.log.agrees.records ∙ ap (λ z. drop z m.progress.history) (sym (ap (λ (z : LogView). z.base) x.0)))
           ∙ ap (λ z. drop h2.value.base m.progress.history ++ z) (ap (λ z. take z rs) (sym count_is) ∙ sym more_is));

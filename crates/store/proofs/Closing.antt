@@ -3,7 +3,7 @@ use Rattle.std.proofs.Common.{◌≡◌, ℕ, zero, suc, ◌+◌, ◌*◌, ◌<�
 use Rattle.std.proofs.lemmas.List.{length-replicate}
 use Rattle.std.specs.Global.{Box}
 use mathlib.Core.Option.{some-injective}
-use Rattle.maps.specs.Maps.{shapes_of}
+use Rattle.loader.specs.StoreState.{sizes_of, sizes_for}
 use Rattle.ownlock.specs.Seats.{At}
 use Rattle.ownlock.specs.Knowledge.{AllAgree, Closes}
 use Rattle.loader.specs.CatalogueView.{CatalogueView}
@@ -39,7 +39,7 @@ L = Progress CatalogueView
 -- ---- what the places have
 
 abbrev ReplicaFits : L → NodeReplica → Type 0
-ReplicaFits l n = ReplicaAgrees store_meaning l (replica_value n.replica) × (shapes_of n.replica.maps ≡ l.catalogue.shapes)
+ReplicaFits l n = ReplicaAgrees store_meaning l (replica_value n.replica) × (sizes_of n.replica.state ≡ sizes_for l.catalogue)
 
 log_at : (l : L) (ns : List SessionNote) (v : Value) → store_rules.AgreesWith 0 l ns v → (g : Box LogView) × (v ≡ Log g) × LogAgrees store_meaning l (log_value g.value) × HasLogSizes l.config l.catalogue g.value
 log_at l ns (Log g) a = (g, refl, (session_laws.agrees 0 l ns (view_of (Log g)) a.0).1, a.1)
@@ -187,7 +187,7 @@ module _ (store : StoreView) (sessions : List SessionView) (view : List SessionK
     log_sizes = subst (λ (z : Config × CatalogueView). HasLogSizes z.0 z.1 p.log.value) (λ i. (config_is i, catalogue_is i)) p.log_sizes;
     nodes = many_seen p.nodes ∙ p.many;
     replica_is = λ i r at. let m = seen_is p.nodes i r at in subst (λ z. ReplicaAgrees store_meaning l (replica_value z)) m.2 (p.fit i m.0 m.1).0;
-    replica_shapes = λ i r at. let m = seen_is p.nodes i r at in ap (λ (z : ReplicaView). shapes_of z.maps) (sym m.2) ∙ ((p.fit i m.0 m.1).1 ∙ ap (λ (z : CatalogueView). z.shapes) catalogue_is);
+    replica_sizes = λ i r at. let m = seen_is p.nodes i r at in ap (λ (z : ReplicaView). sizes_of z.state) (sym m.2) ∙ ((p.fit i m.0 m.1).1 ∙ ap sizes_for catalogue_is);
     answered = λ j s at. (ends store_meaning l a.1 a.2).0 s.session s.note (mine j s at).1 (idle j s at);
     authors = author_of;
   })

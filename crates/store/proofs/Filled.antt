@@ -3,7 +3,7 @@ use Rattle.std.proofs.Common.{◌≡◌, ℕ, zero, suc, ◌+◌, ◌-◌, ◌*�
 use Rattle.std.proofs.lemmas.Bool.{cases_lt}
 use Rattle.ownlock.specs.Seats.{At}
 use Rattle.ownlock.specs.Knowledge.{AllAgree}
-use Rattle.maps.specs.declared.shapes.Shape.{Shape}
+use Rattle.loader.specs.StoreState.{sizes_for}
 use Rattle.loader.specs.CatalogueView.{CatalogueView}
 use Rattle.oplog.specs.declared.configuration.Config.{Config}
 use Rattle.replica.specs.StoreMeaning.{store_meaning}
@@ -47,13 +47,13 @@ grown old values new n v P is g p = subst (λ z. Grown old (n + 1) P z) (sym is)
 
 -- ---- all values
 
-pub shelved : (config : Config) (c : CatalogueView) (shapes : List Shape) → shapes ≡ c.shapes → (none first second third : List (Option Value)) (log : Value) → none ≡ [] → first ≡ none ++ Some log ∷ [] → IsOpenedLog shapes config.window config.limit log
-    → length second ≡ length first + config.nodes → AreKept first second → AreFilled (length first) config.nodes (λ i v. IsOpenedReplica shapes config.window v) second
+pub shelved : (config : Config) (c : CatalogueView) (none first second third : List (Option Value)) (log : Value) → none ≡ [] → first ≡ none ++ Some log ∷ [] → IsOpenedLog (sizes_for c) config.window config.limit log
+    → length second ≡ length first + config.nodes → AreKept first second → AreFilled (length first) config.nodes (λ i v. IsOpenedReplica (sizes_for c) config.window v) second
     → length third ≡ length second + config.nodes → AreKept second third → AreFilled (length second) config.nodes (λ i v. IsOpenedDesk config.slots i v) third → AreShelved config c third
-shelved config c shapes same none first second third log empty is opened long kept replicas longer kept2 desks = record {
+shelved config c none first second third log empty is opened long kept replicas longer kept2 desks = record {
   count = omega (arith, one, long, longer);
-  log = (log, kept2 0 (Some log) (kept 0 (Some log) (subst (λ z. At 0 (Some log) z) (sym alone) refl)), subst (λ z. IsOpenedLog z config.window config.limit log) same opened);
-  replicas = λ i lt. let r = replicas i lt in (r.0, kept2 (1 + i) (Some r.0) (subst (λ n. At (n + i) (Some r.0) second) one r.1), subst (λ z. IsOpenedReplica z config.window r.0) same r.2);
+  log = (log, kept2 0 (Some log) (kept 0 (Some log) (subst (λ z. At 0 (Some log) z) (sym alone) refl)), opened);
+  replicas = λ i lt. let r = replicas i lt in (r.0, kept2 (1 + i) (Some r.0) (subst (λ n. At (n + i) (Some r.0) second) one r.1), r.2);
   desks = λ i lt. let d = desks i lt in (d.0, subst (λ n. At (n + i) (Some d.0) third) two d.1, d.2);
 }
   where

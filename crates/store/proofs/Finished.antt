@@ -186,7 +186,7 @@ far_enough k f n done most low u = let far = u.reached in record { goes = u.goes
 told_read : (l m : L) (n : NodeReplica) (op : Operation) (c : CatalogueView) (begun reply : ℕ) → Extends l m → Agrees l n → n.replica.tail ≤ length l.history → begun ≤ n.replica.tail → RepliesThere c op n reply → l.catalogue ≡ c → ReadTells store_meaning m begun op n.replica.tail reply
 told_read l m n op c begun reply grown a low first is same =
     let t = a.0.tail in let up = grown.completed in
-    reads_tell store_meaning l m begun reply op (replica_value n.replica) grown low a.0.maps (ap (λ z. option_map (λ e. e.reply) (store_meaning.read z op n.replica.maps)) same ∙ is) first (omega (arith, t, up))
+    reads_tell store_meaning l m begun reply op (replica_value n.replica) grown low a.0.state (ap (λ z. option_map (λ e. e.reply) (store_meaning.read z op n.replica.state)) same ∙ is) first (omega (arith, t, up))
 
 pub is_read : (p : ℕ) (k t b f : K) (from : L) (w : Value) (n : NodeReplica) (done : ℕ) (op : Operation) (c : CatalogueView) (answer : ReadAnswer) → Extends k.progress from → done ≡ from.completed → TookReplica p (having_read k from done) t w → HasReached t b done n → Back b f
     → b.progress.catalogue ≡ c → answer.point ≡ n.replica.tail → RepliesThere c op n answer.reply → IsReadBy k f op answer

@@ -1,14 +1,14 @@
 -- A replica that follows the history, the log of a progress, and what the steps on both leave.
 use Rattle.std.proofs.Common.{◌≡◌, suc, ◌+◌, ◌-◌, ◌<◌, ◌≤◌, ◌&&◌, true, false, [], length, drop, refl, sym, ap, ◌∙◌, subst, arith, Some, slice_get, ⊎_elim}
 use Rattle.std.proofs.lemmas.Bool.{cases_lt, le-leb, le-ltb}
-use Rattle.maps.specs.Maps.{shapes_of}
+use Rattle.loader.specs.StoreState.{sizes_of, sizes_for}
 use Rattle.loader.specs.CatalogueView.{CatalogueView}
 use Rattle.oplog.specs.Logs.{Log as LogView, HandView, records_from}
-use Rattle.oplog.specs.History.{maps_after}
+use Rattle.oplog.specs.History.{state_after}
 use Rattle.replica.specs.StoreMeaning.{store_meaning, AreUpdates}
 use Rattle.accounts.specs.declared.sessions.Progress.{Progress}
 use Rattle.accounts.specs.Accounts.{Extends, IsWellFormed}
-use Rattle.accounts.proofs.Tellings.{maps_on}
+use Rattle.accounts.proofs.Tellings.{state_on}
 use Rattle.accounts.proofs.Finish.{grown_long}
 use Rattle.node.specs.declared.following.NodeReplica.{NodeReplica}
 use Rattle.node.specs.Following.{Fits, copied, is_above, may_rebase, no_records, rebased}
@@ -25,8 +25,8 @@ follows_on l m n grown f =
     let low = f.within in let long = grown_long store_meaning l m grown in
     record {
       within = omega (arith, low, long);
-      maps = f.maps ∙ maps_on store_meaning l m n.replica.tail grown f.within;
-      shapes = f.shapes ∙ ap (λ (c : CatalogueView). c.shapes) grown.catalogue;
+      state = f.state ∙ state_on store_meaning l m n.replica.tail grown f.within;
+      sizes = f.sizes ∙ ap sizes_for grown.catalogue;
       window = f.window ∙ ap (λ c. c.window) grown.config;
       begins = f.begins;
       empty = f.empty;
@@ -37,8 +37,8 @@ module _ (l : L) (g : LogView) (n : NodeReplica) (is : IsLogOf l g) (f : Follows
   pub follows_rebased : Follows l (rebased g n)
   follows_rebased = let t = is.tail in record {
     within = omega (arith, t);
-    maps = is.agrees.base_maps;
-    shapes = is.sizes.2;
+    state = is.agrees.base_state;
+    sizes = is.sizes.2;
     window = f.window;
     begins = refl;
     empty = refl;
@@ -67,8 +67,8 @@ module _ (l : L) (g : LogView) (n : NodeReplica) (is : IsLogOf l g) (f : Follows
     pub has_others : length l.history ≤ 1000000 → HasOthers l (copied g n)
     has_others few = record {
       within = f.within;
-      maps = f.maps;
-      shapes = f.shapes;
+      state = f.state;
+      sizes = f.sizes;
       few = few;
       hand = λ i. record { begin = n.replica.tail; records = others i; window = f.window i };
     }
@@ -79,9 +79,9 @@ module _ (l : L) (g : LogView) (n : NodeReplica) (is : IsLogOf l g) (f : Follows
 -- the replica has applied the whole history, and its hand rests
 pub record HasAll (l : L) (n : NodeReplica) : Type 0 where
   pub tail : n.replica.tail ≡ length l.history
-  pub maps : n.replica.maps ≡ maps_after store_meaning l.catalogue l.history n.replica.tail
-  pub shapes : shapes_of n.replica.maps ≡ l.catalogue.shapes
+  pub state : n.replica.state ≡ state_after store_meaning l.catalogue l.history n.replica.tail
+  pub sizes : sizes_of n.replica.state ≡ sizes_for l.catalogue
   pub hand : n.hand ≡ (let rest : HandView = record { begin = n.replica.tail; records = []; window = l.config.window } in rest)
 
 pub all_follows : (l : L) (n : NodeReplica) → HasAll l n → Follows l n
-all_follows l n a = let t = a.tail in record { within = omega (arith, t); maps = a.maps; shapes = a.shapes; window = ap (λ (h : HandView). h.window) a.hand; begins = ap (λ (h : HandView). h.begin) a.hand; empty = ap (λ (h : HandView). h.records) a.hand }
+all_follows l n a = let t = a.tail in record { within = omega (arith, t); state = a.state; sizes = a.sizes; window = ap (λ (h : HandView). h.window) a.hand; begins = ap (λ (h : HandView). h.begin) a.hand; empty = ap (λ (h : HandView). h.records) a.hand }

@@ -1,8 +1,7 @@
 -- What a store opens with agrees.
-use Rattle.std.proofs.Common.{◌≡◌, List, [], ◌∷◌, sym, refl, ap, subst}
-use Rattle.maps.specs.declared.shapes.Shape.{Shape}
-use Rattle.maps.specs.Maps.{shapes_of}
-use Rattle.maps.specs.MapSets.{opening_maps}
+use Rattle.std.proofs.Common.{◌≡◌, sym, refl, ap, subst}
+use Rattle.loader.specs.StoreState.{sizes_of, sizes_for}
+use Rattle.loader.proofs.States.{opened_sizes}
 use Rattle.loader.specs.CatalogueView.{CatalogueView}
 use Rattle.oplog.specs.declared.configuration.Config.{Config}
 use Rattle.replica.specs.StoreMeaning.{store_meaning}
@@ -13,19 +12,15 @@ use Rattle.store.specs.declared.values.Value.{Value}
 use Rattle.store.specs.declared.values.Value.TheVariants.{Log, Replica, Desk}
 use Rattle.store.specs.Shelving.{view_of, IsSized, HasLogSizes, log_value, replica_value, resting_hand, IsOpenedLog, IsOpenedReplica}
 
-shapes_open : (shapes : List Shape) → shapes_of (opening_maps shapes) ≡ shapes
-shapes_open [] = refl
-shapes_open (s ∷ ss) = ap (λ z. s ∷ z) (shapes_open ss)
-
-pub log_opens : (config : Config) (c : CatalogueView) (v : Value) → IsOpenedLog c.shapes config.window config.limit v → (view_of v ≡ TheLog (first_log store_meaning c)) × IsSized config c v
-log_opens config c (Log g) e = (ap (λ z. TheLog (log_value z)) e, subst (λ z. HasLogSizes config c z) (sym e) (refl, refl, shapes_open c.shapes))
+pub log_opens : (config : Config) (c : CatalogueView) (v : Value) → IsOpenedLog (sizes_for c) config.window config.limit v → (view_of v ≡ TheLog (first_log store_meaning c)) × IsSized config c v
+log_opens config c (Log g) e = (ap (λ z. TheLog (log_value z)) e, subst (λ z. HasLogSizes config c z) (sym e) (refl, refl, opened_sizes (sizes_for c)))
 log_opens config c (Replica n) e = absurd e
 log_opens config c (Desk n) e = absurd e
 
-pub replica_opens : (config : Config) (c : CatalogueView) (v : Value) → IsOpenedReplica c.shapes config.window v → (view_of v ≡ TheReplica (first_replica store_meaning c)) × IsSized config c v
+pub replica_opens : (config : Config) (c : CatalogueView) (v : Value) → IsOpenedReplica (sizes_for c) config.window v → (view_of v ≡ TheReplica (first_replica store_meaning c)) × IsSized config c v
 replica_opens config c (Log g) e = absurd e
 replica_opens config c (Desk g) e = absurd e
 replica_opens config c (Replica n) e = (
   ap (λ (z : NodeReplica). TheReplica (replica_value z.replica)) e,
-  subst (λ (z : NodeReplica). (shapes_of z.replica.maps ≡ c.shapes) × (z.hand ≡ resting_hand config z.replica.tail)) (sym e) (shapes_open c.shapes, refl),
+  subst (λ (z : NodeReplica). (sizes_of z.replica.state ≡ sizes_for c) × (z.hand ≡ resting_hand config z.replica.tail)) (sym e) (opened_sizes (sizes_for c), refl),
 )

@@ -2,7 +2,7 @@
 use Rattle.std.proofs.Common.{◌≡◌, true, false, [], sym, refl, ap, ◌∙◌, subst, Some}
 use Rattle.std.specs.Prelude.{IsSome}
 use Rattle.std.proofs.lemmas.Option.{none-some, same_Some}
-use Rattle.maps.specs.Maps.{Maps}
+use Rattle.loader.specs.StoreState.{StoreState}
 use Rattle.loader.specs.CatalogueView.{CatalogueView}
 use Rattle.oplog.specs.declared.configuration.Config.{Config}
 use Rattle.combiner.specs.Desks.{DeskView}
@@ -16,32 +16,32 @@ use Rattle.store.specs.Shelving.{view_of, IsSized, HasReplicaSizes, replica_valu
 
 -- ---- what is seen as a part has that part
 
-abbrev IsLogSeen : StoreValue Maps → Type 0
+abbrev IsLogSeen : StoreValue StoreState → Type 0
 IsLogSeen (TheLog x) = Unit {0}
 IsLogSeen (TheReplica x) = ⊥
 IsLogSeen (TheDesk x) = ⊥
 
-abbrev IsReplicaSeen : StoreValue Maps → Type 0
+abbrev IsReplicaSeen : StoreValue StoreState → Type 0
 IsReplicaSeen (TheReplica x) = Unit {0}
 IsReplicaSeen (TheLog x) = ⊥
 IsReplicaSeen (TheDesk x) = ⊥
 
-abbrev pub IsDeskSeen : StoreValue Maps → Type 0
+abbrev pub IsDeskSeen : StoreValue StoreState → Type 0
 IsDeskSeen (TheDesk x) = Unit {0}
 IsDeskSeen (TheLog x) = ⊥
 IsDeskSeen (TheReplica x) = ⊥
 
-abbrev pub desk_or : DeskView → StoreValue Maps → DeskView
+abbrev pub desk_or : DeskView → StoreValue StoreState → DeskView
 desk_or d (TheDesk x) = x
 desk_or d (TheLog x) = d
 desk_or d (TheReplica x) = d
 
-pub has_log : (x : Value) (v : LogValue Maps) → view_of x ≡ TheLog v → IsSome (log_of x)
+pub has_log : (x : Value) (v : LogValue StoreState) → view_of x ≡ TheLog v → IsSome (log_of x)
 has_log (Log g) v e = refl
 has_log (Replica n) v e = absurd (subst IsLogSeen (sym e) tt)
 has_log (Desk d) v e = absurd (subst IsLogSeen (sym e) tt)
 
-pub has_replica : (w : Value) (v : ReplicaValue Maps) → view_of w ≡ TheReplica v → IsSome (replica_of w)
+pub has_replica : (w : Value) (v : ReplicaValue StoreState) → view_of w ≡ TheReplica v → IsSome (replica_of w)
 has_replica (Replica n) v e = refl
 has_replica (Log g) v e = absurd (subst IsReplicaSeen (sym e) tt)
 has_replica (Desk d) v e = absurd (subst IsReplicaSeen (sym e) tt)
@@ -56,7 +56,7 @@ not_some e = cc
 
 -- ---- a replica
 
-pub replica_seen : (w : Value) → IsSome (replica_of w) → (v : ReplicaValue Maps) × (view_of w ≡ TheReplica v)
+pub replica_seen : (w : Value) → IsSome (replica_of w) → (v : ReplicaValue StoreState) × (view_of w ≡ TheReplica v)
 replica_seen (Replica n) e = (replica_value n.value.replica, refl)
 replica_seen (Log g) e = absurd (not_some e)
 replica_seen (Desk d) e = absurd (not_some e)
@@ -66,7 +66,7 @@ replica_put (Replica m) n e = refl
 replica_put (Log g) n e = absurd (not_some e)
 replica_put (Desk d) n e = absurd (not_some e)
 
--- it keeps the window of its hand, and the shapes of its maps
+-- it keeps the window of its hand, and the sizes of its state
 pub replica_sizes : (config : Config) (c : CatalogueView) (w : Value) (n : NodeReplica) → IsSome (replica_of w) → IsSized config c w → HasReplicaSizes config c n → KeepsSizes IsSized w (with_replica w n)
 replica_sizes config c (Replica m) n e s t d b u =
     (t.0 ∙ (sym s.0 ∙ u.0), t.1 ∙ (λ i. record { begin = n.replica.tail; records = []; window = (sym (ap (λ z. z.window) s.1) ∙ ap (λ z. z.window) u.1) i }))

@@ -1,13 +1,13 @@
 -- A replica applies the records in its hand, and what it has applied is completed.
 use Rattle.std.proofs.Common.{◌≡◌, ℕ, ◌+◌, ◌-◌, ◌≤◌, [], List, length, take, drop, sym, refl, ap, ◌∙◌, subst, arith, Some, slice_get}
 use Rattle.std.proofs.Math.Nat.{le-max_right}
-use Rattle.maps.specs.Maps.{shapes_of}
+use Rattle.loader.specs.StoreState.{sizes_of, sizes_for}
 use Rattle.ownlock.specs.Rules.{leader}
 use Rattle.ownlock.specs.Seats.{At, with_progress}
 use Rattle.ownlock.specs.Knowledge.{Later, Possible}
 use Rattle.loader.specs.CatalogueView.{CatalogueView}
 use Rattle.oplog.specs.Logs.{Log as LogView, HandView}
-use Rattle.oplog.specs.History.{after, maps_after}
+use Rattle.oplog.specs.History.{after, state_after}
 use Rattle.replica.specs.StoreMeaning.{store_meaning}
 use Rattle.replica.specs.Replaying.{IsAnswered, KeepsOutcomes}
 use Rattle.replica.specs.Views.{RepliesView}
@@ -31,15 +31,15 @@ L = Progress CatalogueView
 abbrev K : Type 0
 K = SessionKnown
 
--- the replica has the maps after a beginning of the history, and its hand has all other records
+-- the replica has the state after a beginning of the history, and its hand has all other records
 pub record Rest (l : L) (n : NodeReplica) : Type 0 where
   within : n.replica.tail ≤ length l.history
-  maps : n.replica.maps ≡ maps_after store_meaning l.catalogue l.history n.replica.tail
-  shapes : shapes_of n.replica.maps ≡ l.catalogue.shapes
+  state : n.replica.state ≡ state_after store_meaning l.catalogue l.history n.replica.tail
+  sizes : sizes_of n.replica.state ≡ sizes_for l.catalogue
   hand : n.hand ≡ (let full : HandView = record { begin = n.replica.tail; records = drop n.replica.tail l.history; window = l.config.window } in full)
 
 rest_of : (l : L) (n : NodeReplica) → HasOthers l n → Rest l n
-rest_of l n h = record { within = h.within; maps = h.maps; shapes = h.shapes; hand = h.hand }
+rest_of l n h = record { within = h.within; state = h.state; sizes = h.sizes; hand = h.hand }
 
 module _ (l : L) (n : NodeReplica) (h : Rest l n) where
   abbrev t : ℕ
@@ -51,58 +51,58 @@ module _ (l : L) (n : NodeReplica) (h : Rest l n) where
   all : t + length n.hand.records ≡ length l.history
   all = let long = ap length records in let rest = long_drop t l.history h.within in omega (arith, long, rest)
 
-  -- the maps after the first k of the hand's records are those after so many more operations
-  maps_in : (k : ℕ) → after store_meaning l.catalogue n.replica.maps (take k n.hand.records) ≡ maps_after store_meaning l.catalogue l.history (t + k)
-  maps_in k = ap (λ z. after store_meaning l.catalogue z (take k n.hand.records)) h.maps
-      ∙ (ap (λ z. after store_meaning l.catalogue (maps_after store_meaning l.catalogue l.history t) (take k z)) records ∙ replays store_meaning l.catalogue l.history t k)
+  -- the state after the first k of the hand's records are those after so many more operations
+  state_in : (k : ℕ) → after store_meaning l.catalogue n.replica.state (take k n.hand.records) ≡ state_after store_meaning l.catalogue l.history (t + k)
+  state_in k = ap (λ z. after store_meaning l.catalogue z (take k n.hand.records)) h.state
+      ∙ (ap (λ z. after store_meaning l.catalogue (state_after store_meaning l.catalogue l.history t) (take k z)) records ∙ replays store_meaning l.catalogue l.history t k)
 
-  pub has_all : (shapes_of (replayed l.catalogue n).replica.maps ≡ shapes_of n.replica.maps) → HasAll l (replayed l.catalogue n)
+  pub has_all : (sizes_of (replayed l.catalogue n).replica.state ≡ sizes_of n.replica.state) → HasAll l (replayed l.catalogue n)
   has_all same = record {
     tail = all;
-    maps = ap (λ z. after store_meaning l.catalogue n.replica.maps z) (sym (take_whole n.hand.records)) ∙ maps_in (length n.hand.records);
-    shapes = same ∙ h.shapes;
+    state = ap (λ z. after store_meaning l.catalogue n.replica.state z) (sym (take_whole n.hand.records)) ∙ state_in (length n.hand.records);
+    sizes = same ∙ h.sizes;
     hand = λ i. record { begin = t + length n.hand.records; records = []; window = (ap (λ (z : HandView). z.window) h.hand) i };
   }
 
-  pub keeps : (old new : RepliesView) → KeepsOutcomes l.catalogue n.replica.maps n.replica.tail n.hand.records old new → KeepsOutcomesOf l t old new
+  pub keeps : (old new : RepliesView) → KeepsOutcomes l.catalogue n.replica.state n.replica.tail n.hand.records old new → KeepsOutcomesOf l t old new
   keeps old new r k i s within from at is =
       let split : i ≡ t + (i - t) = omega (arith, from) in
       let one = r.replayed k (i - t) s within (subst (λ z. slice_get z (i - t) ≡ Some s) (sym records) (get_of (drop t l.history) (i - t) s (drop_at t l.history (i - t) s (subst (λ z. At z s l.history) split at)))) (is ∙ split) in
-      (one.0, one.1, subst (λ m. IsAnswered l.catalogue s.op m one.0) (maps_in (i - t) ∙ ap (maps_after store_meaning l.catalogue l.history) (sym split)) one.2)
+      (one.0, one.1, subst (λ m. IsAnswered l.catalogue s.op m one.0) (state_in (i - t) ∙ ap (state_after store_meaning l.catalogue l.history) (sym split)) one.2)
 
 pub is_next : (l : L) (n : NodeReplica) → HasOthers l n → IsWellFormed store_meaning l → IsNext l.catalogue n
 is_next l n h w =
     let rest = rest_of l n h in
     let full = all l n rest in record {
       begins = ap (λ (z : HandView). z.begin) h.hand;
-      shapes = h.shapes;
+      sizes = h.sizes;
       updates = λ k r e.
           w.allowed (n.replica.tail + k) r (at_drop n.replica.tail l.history k r (at_of (drop n.replica.tail l.history) k r (subst (λ z. slice_get z k ≡ Some r) (records l n rest) e)));
       short = let top = h.few in omega (arith, top, full);
     }
 
 -- once they are applied
-pub replayed_all : (l : L) (n m : NodeReplica) → HasOthers l n → m ≡ replayed l.catalogue n → shapes_of m.replica.maps ≡ shapes_of n.replica.maps → HasAll l m
-replayed_all l n m h is same = subst (HasAll l) (sym is) (has_all l n (rest_of l n h) (ap (λ (z : NodeReplica). shapes_of z.replica.maps) (sym is) ∙ same))
+pub replayed_all : (l : L) (n m : NodeReplica) → HasOthers l n → m ≡ replayed l.catalogue n → sizes_of m.replica.state ≡ sizes_of n.replica.state → HasAll l m
+replayed_all l n m h is same = subst (HasAll l) (sym is) (has_all l n (rest_of l n h) (ap (λ (z : NodeReplica). sizes_of z.replica.state) (sym is) ∙ same))
 
 -- what was replayed as far as the known history agrees, once that is completed
 pub all_agrees : (l m : L) (n : NodeReplica) → Extends l m → length l.history ≤ m.completed → HasAll l n → Agrees m n
 all_agrees l m n g done h =
     let t = h.tail in (
-      replayed_agrees store_meaning l m (replica_value n.replica) g (omega (arith, t)) h.maps (omega (arith, t, done)),
-      (h.shapes ∙ ap (λ (c : CatalogueView). c.shapes) g.catalogue, h.hand ∙ (λ i. record { begin = n.replica.tail; records = []; window = (ap (λ c. c.window) g.config) i })),
+      replayed_agrees store_meaning l m (replica_value n.replica) g (omega (arith, t)) h.state (omega (arith, t, done)),
+      (h.sizes ∙ ap sizes_for g.catalogue, h.hand ∙ (λ i. record { begin = n.replica.tail; records = []; window = (ap (λ c. c.window) g.config) i })),
     )
 
 -- a replica with the log beside it, once it has followed that
-pub followed_all : (l : L) (g : LogView) (n m : NodeReplica) → IsLogOf l g → Follows l n → g.base ≤ n.replica.tail → m ≡ replayed l.catalogue (copied g n) → shapes_of m.replica.maps ≡ shapes_of n.replica.maps → HasAll l m
+pub followed_all : (l : L) (g : LogView) (n m : NodeReplica) → IsLogOf l g → Follows l n → g.base ≤ n.replica.tail → m ≡ replayed l.catalogue (copied g n) → sizes_of m.replica.state ≡ sizes_of n.replica.state → HasAll l m
 followed_all l g n m is f low e same =
     let full : Rest l (copied g n) = record {
       within = f.within;
-      maps = f.maps;
-      shapes = f.shapes;
+      state = f.state;
+      sizes = f.sizes;
       hand = λ i. record { begin = n.replica.tail; records = others l g n is f low i; window = f.window i };
     } in
-    subst (HasAll l) (sym e) (has_all l (copied g n) full (ap (λ (z : NodeReplica). shapes_of z.replica.maps) (sym e) ∙ same))
+    subst (HasAll l) (sym e) (has_all l (copied g n) full (ap (λ (z : NodeReplica). sizes_of z.replica.state) (sym e) ∙ same))
 
 -- ---- what is told of the replay and the raise
 
@@ -123,10 +123,10 @@ pub raised_as : (k after : K) (n m : ℕ) → HasRaised k after n → n ≡ m �
 raised_as k after n m up is = subst (HasRaised k after) is up
 
 -- the replica has applied all that the session k knew, and that is completed
-pub has_replayed : (k after : K) (n m : NodeReplica) (c : CatalogueView) (old new : RepliesView) → k.progress.catalogue ≡ c → HasOthers k.progress n → m ≡ replayed c n → shapes_of m.replica.maps ≡ shapes_of n.replica.maps
-    → KeepsOutcomes c n.replica.maps n.replica.tail n.hand.records old new → HasRaised k after m.replica.tail → HasReplayed k after n m old new
-has_replayed k after n m c old new same rest is shapes kept up =
-    let all = replayed_all k.progress n m rest (is ∙ ap (λ z. replayed z n) (sym same)) shapes in
+pub has_replayed : (k after : K) (n m : NodeReplica) (c : CatalogueView) (old new : RepliesView) → k.progress.catalogue ≡ c → HasOthers k.progress n → m ≡ replayed c n → sizes_of m.replica.state ≡ sizes_of n.replica.state
+    → KeepsOutcomes c n.replica.state n.replica.tail n.hand.records old new → HasRaised k after m.replica.tail → HasReplayed k after n m old new
+has_replayed k after n m c old new same rest is sizes kept up =
+    let all = replayed_all k.progress n m rest (is ∙ ap (λ z. replayed z n) (sym same)) sizes in
     let tail = all.tail in
     let done = up.completed in
     let long = grown_long store_meaning k.progress after.progress up.goes.extends in
@@ -138,5 +138,5 @@ has_replayed k after n m c old new same rest is shapes kept up =
       within = omega (arith, tail, long);
       first = kept.first;
       count = kept.count;
-      replies = keeps k.progress n (rest_of k.progress n rest) old new (subst (λ z. KeepsOutcomes z n.replica.maps n.replica.tail n.hand.records old new) (sym same) kept);
+      replies = keeps k.progress n (rest_of k.progress n rest) old new (subst (λ z. KeepsOutcomes z n.replica.state n.replica.tail n.hand.records old new) (sym same) kept);
     }

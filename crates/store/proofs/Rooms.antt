@@ -2,14 +2,14 @@
 use Rattle.std.proofs.Common.{◌≡◌, Bool, true, false, ℕ, ◌-◌, ◌<◌, ◌≤◌, min, [], length, refl, sym, ap, ◌∙◌, arith, ⊎_elim}
 use Rattle.std.proofs.Math.Nat.{le-max_right, max-le, min-le_left}
 use Rattle.std.proofs.lemmas.Bool.{cases_lt}
-use Rattle.maps.specs.Maps.{shapes_of}
+use Rattle.loader.specs.StoreState.{sizes_of, sizes_for}
 use Rattle.loader.specs.CatalogueView.{CatalogueView}
 use Rattle.oplog.specs.Logs.{Log as LogView, tail_of, left_of, room_in}
 use Rattle.replica.specs.StoreMeaning.{store_meaning}
 use Rattle.accounts.specs.declared.sessions.Progress.{Progress}
 use Rattle.accounts.specs.Accounts.{IsWellFormed}
 use Rattle.accounts.specs.Agreement.{LogAgrees}
-use Rattle.accounts.proofs.Tellings.{maps_on}
+use Rattle.accounts.proofs.Tellings.{state_on}
 use Rattle.node.specs.declared.following.NodeReplica.{NodeReplica}
 use Rattle.store.specs.Shelving.{log_value}
 use Rattle.node.specs.Following.{told, reclaimed}
@@ -44,7 +44,7 @@ module _ (k after : K) (g : LogView) (u : NodeReplica) (is : IsLogOf k.progress 
       record {
         done = max-le (omega (arith, low, rise)) (omega (arith, top));
         base = le-max_right g.done u.replica.tail;
-        base_maps = all.maps ∙ maps_on store_meaning k.progress after.progress u.replica.tail up.goes.extends (omega (arith, a));
+        base_state = all.state ∙ state_on store_meaning k.progress after.progress u.replica.tail up.goes.extends (omega (arith, a));
         records = none_left ∙ sym (drop_all u.replica.tail after.progress.history (omega (arith, long, a)));
       }
 
@@ -55,12 +55,12 @@ module _ (k after : K) (g : LogView) (u : NodeReplica) (is : IsLogOf k.progress 
     sizes = (
       is.sizes.0 ∙ ap (λ c. c.window) up.goes.extends.config,
       is.sizes.1 ∙ ap (λ c. c.limit) up.goes.extends.config,
-      all.shapes ∙ ap (λ (c : CatalogueView). c.shapes) up.goes.extends.catalogue,
+      all.sizes ∙ ap sizes_for up.goes.extends.catalogue,
     );
   }
 
-  pub can_reclaim : (g.base < u.replica.tail) × (u.replica.tail ≤ tail_of g) × (shapes_of u.replica.maps ≡ shapes_of g.base_maps)
-  can_reclaim = let t = is.tail in let a = all.tail in (omega (arith, t, a, lacks, wide, few, min-le_left want (left_of g)), omega (arith, t, a), all.shapes ∙ sym is.sizes.2)
+  pub can_reclaim : (g.base < u.replica.tail) × (u.replica.tail ≤ tail_of g) × (sizes_of u.replica.state ≡ sizes_of g.base_state)
+  can_reclaim = let t = is.tail in let a = all.tail in (omega (arith, t, a, lacks, wide, few, min-le_left want (left_of g)), omega (arith, t, a), all.sizes ∙ sym is.sizes.2)
 
   all_fit : (w n : ℕ) → n ≡ 0 → want ≤ w → (left : ℕ) → min want left ≤ w - n
   all_fit w n e wide left = let low = min-le_left want left in omega (arith, e, wide, low)
@@ -72,7 +72,7 @@ module _ (k after : K) (g : LogView) (u : NodeReplica) (is : IsLogOf k.progress 
     well = well_formed after.progress up.stands.notes up.stands.accounts;
     same = sym (up.still holds);
     log = log_of_base;
-    keeps = (refl, refl, all.shapes ∙ sym is.sizes.2);
+    keeps = (refl, refl, all.sizes ∙ sym is.sizes.2);
     follows = follows_on k.progress after.progress u up.goes.extends (all_follows k.progress u all);
     above = omega arith;
     room = all_fit h.window (length h.records) (ap length none_left) (omega (arith, wide, few)) (left_of h);

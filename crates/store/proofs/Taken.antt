@@ -2,7 +2,7 @@
 use Rattle.std.proofs.Common.{◌≡◌, ℕ, zero, suc, ◌+◌, ◌<◌, [], ◌∷◌, map, sym, refl, ap, ◌∙◌, subst, arith, Some}
 use Rattle.std.specs.Prelude.{IsSome}
 use Rattle.std.proofs.lemmas.Option.{none-some, same_Some}
-use Rattle.maps.specs.Maps.{Maps}
+use Rattle.loader.specs.StoreState.{StoreState}
 use Rattle.ownlock.specs.Rules.{leader}
 use Rattle.ownlock.specs.Seats.{At, place_of}
 use Rattle.ownlock.specs.Knowledge.{Acquired, MayTake}
@@ -40,10 +40,10 @@ L = Progress CatalogueView
 
 -- ---- the parts of values that agree
 
-pub agrees_in : (l : L) (w : Value) (x : ReplicaValue Maps) → view_of w ≡ TheReplica x → ReplicaAgrees store_meaning l x → IsSized l.config l.catalogue w → (n : NodeReplica) → replica_of w ≡ Some n → Agrees l n
+pub agrees_in : (l : L) (w : Value) (x : ReplicaValue StoreState) → view_of w ≡ TheReplica x → ReplicaAgrees store_meaning l x → IsSized l.config l.catalogue w → (n : NodeReplica) → replica_of w ≡ Some n → Agrees l n
 agrees_in l (Replica m) x e a s n is = subst (Agrees l) (same_Some m.value n is) (subst (λ z. ReplicaAgrees store_meaning l z) (sym (ap (replica_or x) e)) a, s)
   where
-    replica_or : ReplicaValue Maps → StoreValue Maps → ReplicaValue Maps
+    replica_or : ReplicaValue StoreState → StoreValue StoreState → ReplicaValue StoreState
     replica_or d (TheReplica x) = x
     replica_or d (TheLog x) = d
     replica_or d (TheDesk x) = d
@@ -53,14 +53,14 @@ agrees_in l (Desk g) x e a s n is = absurd (none-some n is)
 pub follows_agreed : (l : L) (n : NodeReplica) → IsWellFormed store_meaning l → Agrees l n → Follows l n
 follows_agreed l n well a =
     let t = a.0.tail in let low = well.completed in
-    record { within = omega (arith, t, low); maps = a.0.maps; shapes = a.1.0; window = ap (λ h. h.window) a.1.1; begins = ap (λ h. h.begin) a.1.1; empty = ap (λ h. h.records) a.1.1 }
+    record { within = omega (arith, t, low); state = a.0.state; sizes = a.1.0; window = ap (λ h. h.window) a.1.1; begins = ap (λ h. h.begin) a.1.1; empty = ap (λ h. h.records) a.1.1 }
 
-pub log_is : (l : L) (x : Value) (v : LogValue Maps) → IsWellFormed store_meaning l → view_of x ≡ TheLog v → LogAgrees store_meaning l v → IsSized l.config l.catalogue x → (g : LogView) → log_of x ≡ Some g → IsLogOf l g
+pub log_is : (l : L) (x : Value) (v : LogValue StoreState) → IsWellFormed store_meaning l → view_of x ≡ TheLog v → LogAgrees store_meaning l v → IsSized l.config l.catalogue x → (g : LogView) → log_of x ≡ Some g → IsLogOf l g
 log_is l (Log h) v well e a s g is =
     let agrees : LogAgrees store_meaning l (log_value h.value) = subst (λ z. LogAgrees store_meaning l z) (sym (ap (log_or v) e)) a in
     subst (IsLogOf l) (same_Some h.value g is) (record { agrees = agrees; tail = tail_is store_meaning l (log_value h.value) well.completed agrees; sizes = s })
   where
-    log_or : LogValue Maps → StoreValue Maps → LogValue Maps
+    log_or : LogValue StoreState → StoreValue StoreState → LogValue StoreState
     log_or d (TheLog x) = x
     log_or d (TheReplica x) = d
     log_or d (TheDesk x) = d

@@ -4,6 +4,7 @@ use Rattle.std.specs.Prelude.{nat_le, nat_lt}
 use Rattle.std.proofs.Math.Nat.{max-eq_left}
 use Rattle.std.proofs.lemmas.Bool.{le-leb, ltb-false}
 use Rattle.std.proofs.lemmas.List.{append-nil, drop-append-le}
+use Rattle.loader.specs.StoreState.{sizes_for}
 use Rattle.loader.specs.CatalogueView.{CatalogueView}
 use Rattle.oplog.specs.History.{History, after}
 use Rattle.oplog.specs.Logs.{Log as LogView, tail_of}
@@ -14,7 +15,7 @@ use Rattle.replica.specs.Views.{RepliesView}
 use Rattle.accounts.specs.declared.sessions.Progress.{Progress}
 use Rattle.accounts.specs.Accounts.{Extends}
 use Rattle.accounts.specs.Moves.{raised}
-use Rattle.accounts.proofs.Tellings.{maps_on}
+use Rattle.accounts.proofs.Tellings.{state_on}
 use Rattle.node.specs.Answering.{answered_batch}
 use Rattle.node.specs.Following.{copied, grown, has_next, is_above, may_append, may_rebase, no_records, rebased, reclaimed, replayed, replies_after, replies_for, to_run, told}
 use Rattle.node.specs.Seen.{Goes, Ends, Does, OthersDo, moved_on}
@@ -40,7 +41,7 @@ no_more b = omega arith
 
 -- records are added, and the base stays
 stays : (c : CatalogueView) (g : LogView) (adds : History) (done : ℕ) → moved_on c adds g.base done g ≡ record g { records = g.records ++ adds; done = done }
-stays c g adds done = ap (λ z. (let rs = g.records ++ adds in let moved : LogView = record g { base_maps = after store_meaning c g.base_maps (take z rs); records = drop z rs; done = done } in moved)) (no_more g.base)
+stays c g adds done = ap (λ z. (let rs = g.records ++ adds in let moved : LogView = record g { base_state = after store_meaning c g.base_state (take z rs); records = drop z rs; done = done } in moved)) (no_more g.base)
 
 module _ (l m : L) (g : LogView) (is : IsLogOf l g) (grows : Extends l m) (low : m.completed ≤ length m.history) where
   base_low : g.base ≤ length l.history
@@ -62,11 +63,11 @@ module _ (l m : L) (g : LogView) (is : IsLogOf l g) (grows : Extends l m) (low :
         agrees = record {
           done = omega (arith, done, rise);
           base = is.agrees.base;
-          base_maps = is.agrees.base_maps ∙ maps_on store_meaning l m g.base grows base_low;
+          base_state = is.agrees.base_state ∙ state_on store_meaning l m g.base grows base_low;
           records = refl;
         };
         tail = later_tail;
-        sizes = (is.sizes.0 ∙ ap (λ (z : Config). z.window) grows.config, is.sizes.1 ∙ ap (λ (z : Config). z.limit) grows.config, is.sizes.2 ∙ ap (λ (z : CatalogueView). z.shapes) grows.catalogue);
+        sizes = (is.sizes.0 ∙ ap (λ (z : Config). z.window) grows.config, is.sizes.1 ∙ ap (λ (z : Config). z.limit) grows.config, is.sizes.2 ∙ ap sizes_for grows.catalogue);
       }
 
   pub others : (c : CatalogueView) (n : NodeReplica) (b : NodeBatch) (d : DeskView) → OthersDo c (sees l g n b d) (sees m (later m g) n b d)
@@ -111,7 +112,7 @@ ran c n rs = replayed c (record n { hand = record n.hand { begin = n.replica.tai
 
 ran_none : (c : CatalogueView) (n : NodeReplica) → n.hand.begin ≡ n.replica.tail → n.hand.records ≡ [] → ran c n [] ≡ n
 ran_none c n begins empty = λ i. record {
-  replica = record { tail = (plus_none n.replica.tail) i; maps = n.replica.maps };
+  replica = record { tail = (plus_none n.replica.tail) i; state = n.replica.state };
   hand = record { begin = (plus_none n.replica.tail ∙ sym begins) i; records = (sym empty) i; window = n.hand.window };
 }
 
@@ -203,18 +204,18 @@ others_complete c l m g n b d rise is low =
 pub agrees_on : (l m : L) (n : NodeReplica) → Extends l m → n.replica.tail ≤ length l.history → Agrees l n → Agrees m n
 agrees_on l m n grown within a =
     let tail = a.0.tail in let rise = grown.completed in (
-      record { tail = omega (arith, tail, rise); maps = a.0.maps ∙ maps_on store_meaning l m n.replica.tail grown within },
-      (a.1.0 ∙ ap (λ (z : CatalogueView). z.shapes) grown.catalogue, a.1.1 ∙ (λ i. record { begin = n.replica.tail; records = []; window = (ap (λ (z : Config). z.window) grown.config) i })),
+      record { tail = omega (arith, tail, rise); state = a.0.state ∙ state_on store_meaning l m n.replica.tail grown within },
+      (a.1.0 ∙ ap sizes_for grown.catalogue, a.1.1 ∙ (λ i. record { begin = n.replica.tail; records = []; window = (ap (λ (z : Config). z.window) grown.config) i })),
     )
 
 -- the log whose base is the replica
 abbrev pub log_from : L → NodeReplica → LogView
-log_from l n = record { base = n.replica.tail; base_maps = n.replica.maps; records = drop n.replica.tail l.history; done = l.completed; window = l.config.window; limit = l.config.limit }
+log_from l n = record { base = n.replica.tail; base_state = n.replica.state; records = drop n.replica.tail l.history; done = l.completed; window = l.config.window; limit = l.config.limit }
 
 pub log_from_is : (l : L) (n : NodeReplica) → l.completed ≤ length l.history → Agrees l n → IsLogOf l (log_from l n)
 log_from_is l n low a =
     let tail = a.0.tail in record {
-      agrees = record { done = omega arith; base = tail; base_maps = a.0.maps; records = refl };
+      agrees = record { done = omega arith; base = tail; base_state = a.0.state; records = refl };
       tail = long_drop n.replica.tail l.history (omega (arith, tail, low));
       sizes = (refl, refl, a.1.0);
     }

@@ -2,7 +2,7 @@
 use Rattle.std.specs.Prelude.{◌≡◌, ℕ, List, [], ◌∷◌, ◌++◌, length, refl, Option, Some, None}
 use Rattle.std.specs.Coded.{Coded, code_by, coded×, coded_list}
 use Rattle.std.specs.Global.{Box}
-use Rattle.maps.specs.Maps.{shapes_of}
+use Rattle.loader.specs.StoreState.{sizes_of, sizes_for}
 use Rattle.ownlock.specs.Seats.{At}
 use Rattle.loader.specs.CatalogueView.{CatalogueView}
 use Rattle.oplog.specs.declared.records.Record.{Record}
@@ -50,7 +50,7 @@ AreLeft values = (g : Box Log) × (ns : List (Box NodeReplica)) × (values ≡ S
 -- and how they are seen
 abbrev pub log_in : List (Option Value) → Log
 log_in (Some (LogPlace g) ∷ vs) = g.value
-log_in _ = opened_log [] 0 0
+log_in _ = opened_log (record { shapes = []; places = 0 }) 0 0
 
 abbrev pub replicas_in : List (Option Value) → List ReplicaView
 replicas_in [] = []
@@ -74,10 +74,10 @@ pub record IsClosed (store : StoreView) (sessions : List SessionView) (closed : 
   pub log_is : LogAgrees store_meaning progress (log_value closed.log)
   pub log_tail : tail_of closed.log ≡ length progress.history
   pub log_sizes : HasLogSizes store.config store.catalogue closed.log
-  -- each node has a replica, which agrees too, and has the store's shapes
+  -- each node has a replica, which agrees too, and has the store's sizes
   pub nodes : length closed.replicas ≡ store.config.nodes
   pub replica_is : (node : ℕ) (r : ReplicaView) → At node r closed.replicas → ReplicaAgrees store_meaning progress (replica_value r)
-  pub replica_shapes : (node : ℕ) (r : ReplicaView) → At node r closed.replicas → shapes_of r.maps ≡ store.catalogue.shapes
+  pub replica_sizes : (node : ℕ) (r : ReplicaView) → At node r closed.replicas → sizes_of r.state ≡ sizes_for store.catalogue
   -- the records of each session are its answered updates in order, and there are no others
   pub answered : (a : ℕ) (s : SessionView) → At a s sessions → records_of s.session progress.history ≡ numbered s.session 0 s.note.answered
   pub authors : (i : ℕ) (r : Record) → At i r progress.history → (a : ℕ) × (s : SessionView) × At a s sessions × (r.author ≡ s.session)

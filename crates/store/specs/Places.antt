@@ -1,5 +1,6 @@
 -- What a shelf with desks is opened with, place by place.
 use Rattle.std.specs.Prelude.{◌≡◌, ℕ, ◌+◌, ◌<◌, List, length, Option, Some}
+use Rattle.loader.specs.StoreState.{sizes_for}
 use Rattle.ownlock.specs.Seats.{At}
 use Rattle.loader.specs.CatalogueView.{CatalogueView}
 use Rattle.oplog.specs.declared.configuration.Config.{Config}
@@ -25,6 +26,6 @@ AreKept old new = (p : ℕ) (a : Option Value) → At p a old → At p a new
 -- the log, then each node's replica, then each node's desk
 pub record AreShelved (config : Config) (c : CatalogueView) (values : List (Option Value)) : Type 0 where
   pub count : length values ≡ 1 + config.nodes + config.nodes
-  pub log : (v : Value) × At 0 (Some v) values × IsOpenedLog c.shapes config.window config.limit v
-  pub replicas : AreFilled 1 config.nodes (λ i v. IsOpenedReplica c.shapes config.window v) values
+  pub log : (v : Value) × At 0 (Some v) values × IsOpenedLog (sizes_for c) config.window config.limit v
+  pub replicas : AreFilled 1 config.nodes (λ i v. IsOpenedReplica (sizes_for c) config.window v) values
   pub desks : AreFilled (1 + config.nodes) config.nodes (λ i v. IsOpenedDesk config.slots i v) values

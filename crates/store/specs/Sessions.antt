@@ -92,9 +92,9 @@ op_of program argument = Run (record { program = program; argument = argument })
 abbrev pub request_of : Progress CatalogueView → Operation → Pending
 request_of known op = record { op = op; seen = length known.history }
 
--- the operation replies this on the node's maps
+-- the operation replies this on the node's state
 abbrev pub RepliesThere : CatalogueView → Operation → NodeReplica → ℕ → Type 0
-RepliesThere c op n reply = option_map (λ e. e.reply) (store_meaning.read c op n.replica.maps) ≡ Some reply
+RepliesThere c op n reply = option_map (λ e. e.reply) (store_meaning.read c op n.replica.state) ≡ Some reply
 
 -- a session's read: within it the completed tail was read, and the answer's point is not below what it was
 pub record IsReadBy (k after : SessionKnown) (op : Operation) (answer : ReadAnswer) : Type 0 where

@@ -2,13 +2,11 @@
 use Rattle.std.specs.Prelude.{◌≡◌, ℕ, ◌+◌, ◌*◌, List, [], length, replicate}
 use Rattle.ownlock.specs.Rules.{Rules}
 use Rattle.ownlock.specs.Seats.{Opened, opened_with}
-use Rattle.maps.specs.Maps.{Maps, shapes_of}
+use Rattle.loader.specs.StoreState.{StoreState, StateSizes, sizes_of, sizes_for, opened_state}
 use Rattle.loader.specs.CatalogueView.{CatalogueView}
 use Rattle.oplog.specs.declared.configuration.Config.{Config}
 use Rattle.oplog.specs.Logs.{Log as LogView, HandView, opened_log, opened_hand}
 use Rattle.replica.specs.Views.{ReplicaView}
-use Rattle.maps.specs.declared.shapes.Shape.{Shape}
-use Rattle.maps.specs.MapSets.{opening_maps}
 use Rattle.replica.specs.StoreMeaning.{store_meaning}
 use Rattle.accounts.specs.declared.sessions.Progress.{Progress}
 use Rattle.accounts.specs.declared.sessions.SessionNote.{SessionNote}
@@ -24,28 +22,28 @@ use Rattle.store.specs.declared.values.Value.{Value}
 use Rattle.store.specs.declared.values.Value.TheVariants.{Log, Replica, Desk}
 
 -- what the rules see of a log, of a replica, and of a value: of a desk all
-abbrev pub log_value : LogView → LogValue Maps
-log_value g = record { base = g.base; base_maps = g.base_maps; records = g.records; done = g.done }
+abbrev pub log_value : LogView → LogValue StoreState
+log_value g = record { base = g.base; base_state = g.base_state; records = g.records; done = g.done }
 
-abbrev pub replica_value : ReplicaView → ReplicaValue Maps
-replica_value r = record { tail = r.tail; maps = r.maps }
+abbrev pub replica_value : ReplicaView → ReplicaValue StoreState
+replica_value r = record { tail = r.tail; state = r.state }
 
-abbrev pub view_of : Value → StoreValue Maps
+abbrev pub view_of : Value → StoreValue StoreState
 view_of (Log g) = TheLog (log_value g.value)
 view_of (Replica n) = TheReplica (replica_value n.value.replica)
 view_of (Desk d) = TheDesk d.value
 
--- the log has the window, the limit and the shapes that the store was opened with
+-- the log has the window, the limit and the sizes that the store was opened with
 abbrev pub HasLogSizes : Config → CatalogueView → LogView → Type 0
-HasLogSizes config c g = (g.window ≡ config.window) × (g.limit ≡ config.limit) × (shapes_of g.base_maps ≡ c.shapes)
+HasLogSizes config c g = (g.window ≡ config.window) × (g.limit ≡ config.limit) × (sizes_of g.base_state ≡ sizes_for c)
 
 -- a hand that has no record, and begins at the tail of its replica
 abbrev pub resting_hand : Config → ℕ → HandView
 resting_hand config tail = record { begin = tail; records = []; window = config.window }
 
--- the replica has the shapes of the catalogue, and its hand, of the configuration's window, is empty
+-- the replica has the sizes of the catalogue, and its hand, of the configuration's window, is empty
 abbrev pub HasReplicaSizes : Config → CatalogueView → NodeReplica → Type 0
-HasReplicaSizes config c n = (shapes_of n.replica.maps ≡ c.shapes) × (n.hand ≡ resting_hand config n.replica.tail)
+HasReplicaSizes config c n = (sizes_of n.replica.state ≡ sizes_for c) × (n.hand ≡ resting_hand config n.replica.tail)
 
 -- the sizes of a value are those of the configuration and the catalogue, and a hand on the shelf is empty
 abbrev pub IsSized : Config → CatalogueView → Value → Type 0
@@ -55,7 +53,7 @@ IsSized config c (Desk d) = length d.value.slots ≡ config.slots
 
 -- what sessions may do that share the desks of their nodes, and what they note but at their desk: of what they append from their batch
 -- the places
-abbrev pub session_rules : Rules (Progress CatalogueView) SessionNote (StoreValue Maps)
+abbrev pub session_rules : Rules (Progress CatalogueView) SessionNote (StoreValue StoreState)
 session_rules = desk_rules store_meaning
 
 abbrev pub session_noting : Noting CatalogueView Value
@@ -83,15 +81,15 @@ abbrev pub store_opening : Setup → Opened (Progress CatalogueView)
 store_opening s = opened_with (opening_progress s) (places_of s.config) (opening_notes s)
 
 -- a new log, and a new replica with its empty hand
-abbrev pub IsOpenedLog : List Shape → ℕ → ℕ → Value → Type 0
-IsOpenedLog shapes window limit (Log g) = g.value ≡ opened_log shapes window limit
-IsOpenedLog shapes window limit (Replica n) = ⊥
-IsOpenedLog shapes window limit (Desk n) = ⊥
+abbrev pub IsOpenedLog : StateSizes → ℕ → ℕ → Value → Type 0
+IsOpenedLog sizes window limit (Log g) = g.value ≡ opened_log sizes window limit
+IsOpenedLog sizes window limit (Replica n) = ⊥
+IsOpenedLog sizes window limit (Desk n) = ⊥
 
-abbrev pub opened_node : List Shape → ℕ → NodeReplica
-opened_node shapes window = record { replica = record { tail = 0; maps = opening_maps shapes }; hand = opened_hand window }
+abbrev pub opened_node : StateSizes → ℕ → NodeReplica
+opened_node sizes window = record { replica = record { tail = 0; state = opened_state sizes }; hand = opened_hand window }
 
-abbrev pub IsOpenedReplica : List Shape → ℕ → Value → Type 0
-IsOpenedReplica shapes window (Log g) = ⊥
-IsOpenedReplica shapes window (Desk g) = ⊥
-IsOpenedReplica shapes window (Replica n) = n.value ≡ opened_node shapes window
+abbrev pub IsOpenedReplica : StateSizes → ℕ → Value → Type 0
+IsOpenedReplica sizes window (Log g) = ⊥
+IsOpenedReplica sizes window (Desk g) = ⊥
+IsOpenedReplica sizes window (Replica n) = n.value ≡ opened_node sizes window

@@ -1,6 +1,6 @@
 -- What a session knows, and what its calls on the shelf make of that.
 use Rattle.std.specs.Prelude.{◌≡◌, ℕ, ◌+◌, ◌<◌, ◌≤◌, min, List, [], ◌∷◌, length, drop, Some, IsSome, slice_get}
-use Rattle.maps.specs.Maps.{shapes_of}
+use Rattle.loader.specs.StoreState.{sizes_of, sizes_for}
 use Rattle.ownlock.specs.declared.known.Known.{Known}
 use Rattle.ownlock.specs.Rules.{leader}
 use Rattle.ownlock.specs.Seats.{At, IsSession, SeatView}
@@ -8,7 +8,7 @@ use Rattle.loader.specs.CatalogueView.{CatalogueView}
 use Rattle.oplog.specs.declared.records.Record.{Record}
 use Rattle.oplog.specs.declared.configuration.TheConstants.{MAX_LIMIT, MAX_NODES}
 use Rattle.oplog.specs.Logs.{Log as LogView, tail_of, left_of, room_in}
-use Rattle.oplog.specs.History.{History, maps_after}
+use Rattle.oplog.specs.History.{History, state_after}
 use Rattle.oplog.specs.Sessions.{IsSessionOf, session}
 use Rattle.machine.specs.declared.running.Outcome.{Outcome}
 use Rattle.replica.specs.StoreMeaning.{store_meaning}
@@ -45,20 +45,20 @@ pub record Stands (k : SessionKnown) : Type 0 where
 abbrev pub Agrees : Progress CatalogueView → NodeReplica → Type 0
 Agrees l n = ReplicaAgrees store_meaning l (replica_value n.replica) × HasReplicaSizes l.config l.catalogue n
 
--- the replica has the maps after a beginning of the history, completed or not, and its hand is empty
+-- the replica has the state after a beginning of the history, completed or not, and its hand is empty
 pub record Follows (l : Progress CatalogueView) (n : NodeReplica) : Type 0 where
   pub within : n.replica.tail ≤ length l.history
-  pub maps : n.replica.maps ≡ maps_after store_meaning l.catalogue l.history n.replica.tail
-  pub shapes : shapes_of n.replica.maps ≡ l.catalogue.shapes
+  pub state : n.replica.state ≡ state_after store_meaning l.catalogue l.history n.replica.tail
+  pub sizes : sizes_of n.replica.state ≡ sizes_for l.catalogue
   pub window : n.hand.window ≡ l.config.window
   pub begins : n.hand.begin ≡ n.replica.tail
   pub empty : n.hand.records ≡ []
 
--- the replica has the maps after a beginning of the history, and its hand has all other records
+-- the replica has the state after a beginning of the history, and its hand has all other records
 pub record HasOthers (l : Progress CatalogueView) (n : NodeReplica) : Type 0 where
   pub within : n.replica.tail ≤ length l.history
-  pub maps : n.replica.maps ≡ maps_after store_meaning l.catalogue l.history n.replica.tail
-  pub shapes : shapes_of n.replica.maps ≡ l.catalogue.shapes
+  pub state : n.replica.state ≡ state_after store_meaning l.catalogue l.history n.replica.tail
+  pub sizes : sizes_of n.replica.state ≡ sizes_for l.catalogue
   pub few : length l.history ≤ MAX_LIMIT
   pub hand : n.hand ≡ record { begin = n.replica.tail; records = drop n.replica.tail l.history; window = l.config.window }
 
@@ -123,7 +123,7 @@ pub record HasRaised (k after : SessionKnown) (n : ℕ) : Type 0 where
 
 -- the second log has the sizes of the first
 abbrev pub KeepsLogSizes : LogView → LogView → Type 0
-KeepsLogSizes g h = (h.window ≡ g.window) × (h.limit ≡ g.limit) × (shapes_of h.base_maps ≡ shapes_of g.base_maps)
+KeepsLogSizes g h = (h.window ≡ g.window) × (h.limit ≡ g.limit) × (sizes_of h.base_state ≡ sizes_of g.base_state)
 
 -- the log h has room for so many records, if the history may have them; it is g with a base that may have risen to the replica's tail
 pub record HasPlace (k after : SessionKnown) (want : ℕ) (g h : LogView) (n : NodeReplica) : Type 0 where
@@ -154,7 +154,7 @@ pub record HasAppended (k after : SessionKnown) (records : History) (kept : Repl
 abbrev pub KeepsOutcomesOf : Progress CatalogueView → ℕ → RepliesView → RepliesView → Type 0
 KeepsOutcomesOf l t old new =
     (k i : ℕ) (r : Record) → k < length old.outcomes → t ≤ i → At i r l.history → old.first + k ≡ i
-    → (o : Outcome) × (slice_get new.outcomes k ≡ Some (Some o)) × IsAnswered l.catalogue r.op (maps_after store_meaning l.catalogue l.history i) o
+    → (o : Outcome) × (slice_get new.outcomes k ≡ Some (Some o)) × IsAnswered l.catalogue r.op (state_after store_meaning l.catalogue l.history i) o
 
 -- the replica has applied the whole history that the session k knew, and all of that is completed
 pub record HasReplayed (k after : SessionKnown) (n m : NodeReplica) (old new : RepliesView) : Type 0 where

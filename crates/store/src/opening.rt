@@ -1,7 +1,7 @@
 // What a shelf with desks is opened with: the log, and then the replica and the desk of each node.
 
 ghost use Rattle.std.specs.Prelude.{◌≡◌, ◌+◌, ◌*◌, ◌<◌, ◌≤◌, [], length, replicate, vec_capacity, IfOk};
-ghost use Rattle.maps.specs.Shapes.{AreShapesOk};
+ghost use Rattle.loader.specs.StoreState.{sizes_for};
 ghost use Rattle.oplog.specs.Limits.{IsConfig, IsWindow};
 ghost use Rattle.oplog.specs.declared.configuration.TheConstants.{MAX_NODES, MAX_NODE_SLOTS};
 ghost use Rattle.ownlock.specs.Knowledge.{AllAgree};
@@ -16,7 +16,6 @@ use crate::steps::Caller;
 use crate::values::{Setup, Value, shelved_log, shelved_replica};
 use combiner::Desk;
 use loader::Catalogue;
-use maps::Shape;
 use oplog::Config;
 use ownlock::{Seat, Shelf};
 use std::alloc::{AllocError, Global};
@@ -34,18 +33,17 @@ fn shelved_desk(alloc: Global, node: u16, slots: usize) -> Result<Value, AllocEr
 fn push_replicas(
     alloc: Global,
     values: &mut Vec<Option<Value>>,
-    shapes: &[Shape],
+    catalogue: &Catalogue,
     window: usize,
     nodes: u16,
 ) -> Result<(), AllocError>
-    requires shapes { AreShapesOk shapes.now }
     requires window { IsWindow window }
     ensures count { IfOk result (λ _. length values.new.items ≡ length values.old.items + nodes) }
     ensures kept { IfOk result (λ _. AreKept values.old.items values.new.items) }
-    ensures replicas { IfOk result (λ _. AreFilled (length values.old.items) nodes (λ i v. IsOpenedReplica shapes.now window v) values.new.items) }
+    ensures replicas { IfOk result (λ _. AreFilled (length values.old.items) nodes (λ i v. IsOpenedReplica (sizes_for catalogue.now) window v) values.new.items) }
 {
     for _node in 0..nodes {
-        values.push(Some(shelved_replica(alloc, shapes, window)?))?;
+        values.push(Some(shelved_replica(alloc, catalogue, window)?))?;
     }
     Ok(())
 }
@@ -80,12 +78,11 @@ pub(crate) fn shelved_places(
     ensures agree { IfOk result (λ v. AllAgree store_rules (first_progress config.now catalogue.now) (replicate (sessions_of config.now) fresh_note) v.items) }
 {
     let window = config.window as usize;
-    let shapes = catalogue.shapes();
     let nodes = config.nodes as u16;
     let mut values = Vec::with_capacity(alloc, 2 * nodes as usize + 1)?;
-    let log = shelved_log(alloc, shapes, window, config.limit as usize)?;
+    let log = shelved_log(alloc, catalogue, window, config.limit as usize)?;
     values.push(Some(log))?;
-    push_replicas(alloc, &mut values, shapes, window, nodes)?;
+    push_replicas(alloc, &mut values, catalogue, window, nodes)?;
     push_desks(alloc, &mut values, nodes, config.slots as usize)?;
     Ok(values)
 }

@@ -1,7 +1,7 @@
 // What a session does on the shelf.
 
 ghost use Rattle.std.specs.Prelude.{◌≡◌, ◌↔◌, ◌<◌, ◌≤◌, true, false, min, length, None, IsTrue};
-ghost use Rattle.maps.specs.Maps.{shapes_of};
+ghost use Rattle.loader.specs.StoreState.{sizes_of, sizes_for};
 ghost use Rattle.verifier.specs.declared.refusal.Mode.TheVariants.{Read};
 ghost use Rattle.oplog.specs.Limits.{IsWindow};
 ghost use Rattle.oplog.specs.Logs.{left_of, room_in};
@@ -58,7 +58,7 @@ fn raise_to(shelf: &Shelf<Value>, seat: &mut Seat<Value>, tail: u64)
 
 // Makes the log's base the replica, where that lies behind it. The hand is empty.
 fn rebase_if_behind(log: &LogState, node: &mut NodeReplica)
-    requires shapes { shapes_of log.now.base_maps ≡ shapes_of node.old.replica.maps }
+    requires sizes { sizes_of log.now.base_state ≡ sizes_of node.old.replica.state }
     ensures behind { may_rebase log.now node.old ≡ true → node.new ≡ rebased log.now node.old }
     ensures above { may_rebase log.now node.old ≡ false → node.new ≡ node.old }
 {
@@ -196,7 +196,7 @@ fn reach<R: Wait>(
 
 // What a read program answers on the node's maps, which it leaves as they were.
 fn answer_there(node: &mut NodeReplica, catalogue: &Catalogue, question: Question<'_>) -> ReadAnswer
-    requires shapes { shapes_of node.old.replica.maps ≡ catalogue.now.shapes }
+    requires sizes { sizes_of node.old.replica.state ≡ sizes_for catalogue.now }
     requires asked { early_refusal catalogue.now Read question.program question.argument.now ≡ None }
     ensures point { result.point ≡ node.old.replica.tail }
     ensures reply { RepliesThere catalogue.now (op_of question.entry.program question.entry.argument.now) node.old result.reply }

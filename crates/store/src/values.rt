@@ -1,14 +1,13 @@
 // The values on a store's shelf: the log, and the replica and the desk of each node.
 
 ghost use Rattle.std.specs.Prelude.{◌≡◌, Some, IsSome, IfOk};
-ghost use Rattle.maps.specs.Shapes.{AreShapesOk};
+ghost use Rattle.loader.specs.StoreState.{sizes_for};
 ghost use Rattle.oplog.specs.Limits.{IsWindow, IsLimit};
 ghost use Rattle.store.specs.Lending.{log_of, replica_of, desk_of};
 ghost use Rattle.store.specs.Shelving.{IsOpenedLog, IsOpenedReplica};
 
 use combiner::Desk;
 use loader::Catalogue;
-use maps::Shape;
 use node::NodeReplica;
 use oplog::{Config, Hand, LogState};
 use ownlock::Shelved;
@@ -111,30 +110,29 @@ impl Shelved for Value {
 // A new log, as a value of the shelf.
 pub(crate) fn shelved_log(
     alloc: Global,
-    shapes: &[Shape],
+    catalogue: &Catalogue,
     window: usize,
     limit: usize,
 ) -> Result<Value, AllocError>
-    requires shapes { AreShapesOk shapes.now }
     requires window { IsWindow window }
     requires limit { IsLimit limit }
-    ensures log { IfOk result (λ v. IsOpenedLog shapes.now window limit v) }
+    ensures log { IfOk result (λ v. IsOpenedLog (sizes_for catalogue.now) window limit v) }
 {
-    let log = LogState::open(alloc, shapes, window, limit)?;
+    let (shapes, places) = (catalogue.shapes(), catalogue.places());
+    let log = LogState::open(alloc, shapes, places, window, limit)?;
     Ok(Value::Log(Box::new(alloc, log)?))
 }
 
 // A new replica with its empty hand, as a value of the shelf.
 pub(crate) fn shelved_replica(
     alloc: Global,
-    shapes: &[Shape],
+    catalogue: &Catalogue,
     window: usize,
 ) -> Result<Value, AllocError>
-    requires shapes { AreShapesOk shapes.now }
     requires window { IsWindow window }
-    ensures replica { IfOk result (λ v. IsOpenedReplica shapes.now window v) }
+    ensures replica { IfOk result (λ v. IsOpenedReplica (sizes_for catalogue.now) window v) }
 {
-    let replica = Replica::open(alloc, shapes)?;
+    let replica = Replica::open(alloc, catalogue.shapes(), catalogue.places())?;
     let hand = Hand::open(alloc, window)?;
     Ok(Value::Replica(Box::new(alloc, NodeReplica { replica, hand })?))
 }

@@ -76,16 +76,16 @@ module _ (m : Opening) (n s : ℕ) (reads : List (Option BegunRead)) (w : WholeR
   told_reply x = told (record { point = c.left.replica.tail; reply = x })
 
   abbrev given : BegunRead → Option Part
-  given read = cond (may_answer read.seen w.after.progress.completed c.left) (option_map (λ e. told_reply e.reply) (store_meaning.read m.catalogue (Run read.call) c.left.replica.maps)) None
+  given read = cond (may_answer read.seen w.after.progress.completed c.left) (option_map (λ e. told_reply e.reply) (store_meaning.read m.catalogue (Run read.call) c.left.replica.state)) None
 
-  replies : option_map (λ e. told_reply e.reply) (store_meaning.read m.catalogue (Run call) c.left.replica.maps) ≡ Some (told_reply answer.reply)
-  replies = replied_with (store_meaning.read m.catalogue (Run call) c.left.replica.maps) told_reply answer.reply
-      (ap (λ z. option_map (λ e. e.reply) (store_meaning.read z (Run call) c.left.replica.maps)) w.same ∙ c.reply)
+  replies : option_map (λ e. told_reply e.reply) (store_meaning.read m.catalogue (Run call) c.left.replica.state) ≡ Some (told_reply answer.reply)
+  replies = replied_with (store_meaning.read m.catalogue (Run call) c.left.replica.state) told_reply answer.reply
+      (ap (λ z. option_map (λ e. e.reply) (store_meaning.read z (Run call) c.left.replica.state)) w.same ∙ c.reply)
 
   answered_there : read_at last s ≡ Some (record { call = call; seen = c.seen }) → part_of m (Answers n s) t.log last ≡ Some (told answer)
   answered_there begun =
       ap (option_and_then given) begun
-      ∙ (ap (λ q. (let p : Option Part = cond q (option_map (λ e. told_reply e.reply) (store_meaning.read m.catalogue (Run call) c.left.replica.maps)) None in p)) c.may
+      ∙ (ap (λ q. (let p : Option Part = cond q (option_map (λ e. told_reply e.reply) (store_meaning.read m.catalogue (Run call) c.left.replica.state)) None in p)) c.may
       ∙ (replies ∙ ap (λ z. Some (told (record { point = z; reply = answer.reply }))) (sym c.point)))
 
   pub reads_in_order : ReadsInOrder m n s reads w d

@@ -11,7 +11,7 @@ const SHAPES: [Shape; 1] = [Shape::Array {
 #[test]
 fn opens(rt: HostRuntime) {
     assert!(&rt; shapes_ok(&SHAPES).is_ok());
-    let replica = Replica::open(rt.alloc(), &SHAPES).expect(&rt, "replica");
+    let replica = Replica::open(rt.alloc(), &SHAPES, 1).expect(&rt, "replica");
     assert_eq!(rt; (replica.tail(), replica.maps().len(0)), (0, 4));
 }
 
@@ -24,8 +24,8 @@ fn nothing_is_replayed_yet(rt: HostRuntime) {
 #[test]
 fn follows_a_base(rt: HostRuntime) {
     assert!(&rt; shapes_ok(&SHAPES).is_ok());
-    let mut behind = Replica::open(rt.alloc(), &SHAPES).expect(&rt, "replica");
-    let other = Replica::open(rt.alloc(), &SHAPES).expect(&rt, "other");
-    behind.rebase(16, other.maps());
+    let mut behind = Replica::open(rt.alloc(), &SHAPES, 1).expect(&rt, "replica");
+    let other = Replica::open(rt.alloc(), &SHAPES, 1).expect(&rt, "other");
+    behind.rebase(16, other.maps(), other.programs());
     assert_eq!(rt; (behind.tail(), behind.maps().len(0)), (16, 4));
 }

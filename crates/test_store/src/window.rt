@@ -2,6 +2,7 @@
 
 ghost use Rattle.std.specs.Prelude.{◌≡◌, ◌≤◌};
 
+use loader::Installed;
 use maps::{MapSet, Shape, shapes_ok};
 use oplog::{Appended, Call, Config, CopyAnswer, Ended, Hand, LogState, Op, OpenError, Record};
 use std::test::Fail;
@@ -22,7 +23,7 @@ fn third_program(author: u16, seq: u64) -> Record {
 #[test]
 fn appends_up_to_the_limit(rt: HostRuntime) {
     assert!(&rt; shapes_ok(&SHAPES).is_ok());
-    let mut log = LogState::open(rt.alloc(), &SHAPES, 16, 3).expect(&rt, "log");
+    let mut log = LogState::open(rt.alloc(), &SHAPES, 1, 16, 3).expect(&rt, "log");
     let batch = [third_program(1, 0), third_program(0, 0)];
     assert!(&rt; log.append(&[]) == Ok(Appended { first: 0, count: 0 }));
     assert!(&rt; log.append(&batch) == Ok(Appended { first: 0, count: 2 }));
@@ -37,7 +38,7 @@ fn appends_up_to_the_limit(rt: HostRuntime) {
 #[test]
 fn copies_records(rt: HostRuntime) {
     assert!(&rt; shapes_ok(&SHAPES).is_ok());
-    let mut log = LogState::open(rt.alloc(), &SHAPES, 16, 3).expect(&rt, "log");
+    let mut log = LogState::open(rt.alloc(), &SHAPES, 1, 16, 3).expect(&rt, "log");
     let mut hand = Hand::open(rt.alloc(), 16).expect(&rt, "hand");
     let batch = [third_program(1, 0), third_program(0, 0)];
     assert!(&rt; log.append(&batch).is_ok());
@@ -54,24 +55,38 @@ fn copies_records(rt: HostRuntime) {
     }
 }
 
-// The first record is dropped; what lies below the base is copied no more.
+// The first record is dropped, and the rest stays.
 #[test]
 fn reclaims(rt: HostRuntime) {
     assert!(&rt; shapes_ok(&SHAPES).is_ok());
-    let mut log = LogState::open(rt.alloc(), &SHAPES, 16, 3).expect(&rt, "log");
+    let mut log = LogState::open(rt.alloc(), &SHAPES, 1, 16, 3).expect(&rt, "log");
     let mut hand = Hand::open(rt.alloc(), 16).expect(&rt, "hand");
     let maps = MapSet::open(rt.alloc(), &SHAPES).expect(&rt, "maps");
+    let programs = Installed::open(rt.alloc(), &SHAPES, 1).expect(&rt, "programs");
     let batch = [third_program(1, 0), third_program(0, 0)];
     assert!(&rt; log.append(&batch).is_ok());
     log.raise_done(2);
     log.raise_done(1);
-    log.reclaim(1, &maps);
-    assert!(&rt; log.copy_from(0, &mut hand) == CopyAnswer::Below(1));
+    log.reclaim(1, &maps, &programs);
     assert!(&rt; log.copy_from(1, &mut hand) == CopyAnswer::Copied);
     assert_eq!(rt;
         (log.base(), log.tail(), log.done(), log.room(), hand.len()),
         (1, 2, 2, 15, 1)
     );
+}
+
+// What lies below the base is copied no more.
+#[test]
+fn copies_nothing_below_the_base(rt: HostRuntime) {
+    assert!(&rt; shapes_ok(&SHAPES).is_ok());
+    let mut log = LogState::open(rt.alloc(), &SHAPES, 1, 16, 3).expect(&rt, "log");
+    let mut hand = Hand::open(rt.alloc(), 16).expect(&rt, "hand");
+    let maps = MapSet::open(rt.alloc(), &SHAPES).expect(&rt, "maps");
+    let programs = Installed::open(rt.alloc(), &SHAPES, 1).expect(&rt, "programs");
+    assert!(&rt; log.append(&[third_program(1, 0)]).is_ok());
+    log.raise_done(1);
+    log.reclaim(1, &maps, &programs);
+    assert!(&rt; log.copy_from(0, &mut hand) == CopyAnswer::Below(1));
 }
 
 // Below and above what a window, a limit, nodes and slots may be.

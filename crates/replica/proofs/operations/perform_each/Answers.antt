@@ -1,19 +1,23 @@
 use Rattle.maps.specs.MapSets.{maps_of}
+use Rattle.loader.specs.StoreState.{StoreState, state_of}
 use Rattle.replica.proofs.Afters.{after_one_more}
 use Rattle.replica.proofs.Kept.{keeps_one_more, is_answered, leaves}
 use Rattle.replica.proofs.operations.perform_each.Goals as goal
 
 pub loop-k-preserved : goal.loop-k-preserved
-loop-k-preserved c = record {
-  shapes = c.perform-outcome.ensures.shapes;
-  maps =
-      after_one_more c.args.catalogue.now (maps_of c.args.maps.now) (maps_of c.loop-k.maps) (maps_of c.perform-outcome.new.maps) c.args.hand.now.records c.loop-k.k
-      c.record-record.result.now c.record-record.ensures.record c.loop-k.invariant.maps
-      (leaves c.args.catalogue.now c.record-record.result.now.op (maps_of c.loop-k.maps) (maps_of c.perform-outcome.new.maps) c.perform-outcome.result c.perform-outcome.ensures.updated);
-  kept =
-      keeps_one_more c.args.catalogue.now (maps_of c.args.maps.now) (maps_of c.loop-k.maps) c.args.hand.now.begin c.begin-first.result c.args.hand.now.records
-      c.args.replies.now c.loop-k.replies c.keep.new.self c.loop-k.k c.record-record.result.now c.perform-outcome.result
-      c.loop-k.invariant.kept c.record-record.ensures.record c.loop-k.invariant.maps
-      (is_answered c.args.catalogue.now c.record-record.result.now.op (maps_of c.loop-k.maps) (maps_of c.perform-outcome.new.maps) c.perform-outcome.result c.perform-outcome.ensures.updated)
-      c.begin-first.ensures.begin c.keep.ensures.kept;
-}
+loop-k-preserved c =
+    let opening : StoreState = state_of (maps_of c.args.maps.now) c.args.programs.now in
+    let before : StoreState = state_of (maps_of c.loop-k.maps) c.args.programs.now in
+    let after : StoreState = state_of (maps_of c.perform-outcome.new.maps) c.args.programs.now in
+    record {
+      shapes = c.perform-outcome.ensures.shapes;
+      state =
+          after_one_more c.args.catalogue.now opening before after c.args.hand.now.records c.loop-k.k c.record-record.result.now c.record-record.ensures.record c.loop-k.invariant.state
+          (leaves c.args.catalogue.now c.record-record.result.now.op before (maps_of c.perform-outcome.new.maps) c.perform-outcome.result c.perform-outcome.ensures.updated);
+      kept =
+          keeps_one_more c.args.catalogue.now opening before c.args.hand.now.begin c.begin-first.result c.args.hand.now.records
+          c.args.replies.now c.loop-k.replies c.keep.new.self c.loop-k.k c.record-record.result.now c.perform-outcome.result
+          c.loop-k.invariant.kept c.record-record.ensures.record c.loop-k.invariant.state
+          (is_answered c.args.catalogue.now c.record-record.result.now.op before (maps_of c.perform-outcome.new.maps) c.perform-outcome.result c.perform-outcome.ensures.updated)
+          c.begin-first.ensures.begin c.keep.ensures.kept;
+    }

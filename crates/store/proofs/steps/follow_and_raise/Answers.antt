@@ -1,4 +1,5 @@
 use Rattle.std.proofs.Common.{◌≡◌, ap, sym, subst, ◌∙◌, arith}
+use Rattle.loader.specs.StoreState.{sizes_for}
 use Rattle.ownlock.proofs.Seats.{one_known}
 use Rattle.node.specs.Following.{replayed, copied}
 use Rattle.replica.specs.StoreMeaning.{AreUpdates}
@@ -34,7 +35,7 @@ rebase_if_behind-requires g c =
     let t = c.take-held.ensures.taken i.0 i.1 in
     let b = took_log i.0 t.0 n x (follows_agreed i.0.progress n (well_formed i.0.progress i.2.stands.notes i.2.stands.accounts) i.2.agrees) t.1 in
     let is = b.log c.log-log.result.now c.log-log.ensures.log in
-    record { shapes = is.sizes.2 ∙ sym b.follows.shapes }
+    record { sizes = is.sizes.2 ∙ sym b.follows.sizes }
 
 pub follow-requires-clause-above : goal.follow-requires-clause-above
 follow-requires-clause-above g c =
@@ -60,8 +61,8 @@ follow-requires-clause-fits g c =
     let u = kept_up t.0.progress h n is b.follows c.rebase_if_behind.new.node c.rebase_if_behind.ensures.behind c.rebase_if_behind.ensures.above in
     fits t.0.progress h c.rebase_if_behind.new.node is u.0
 
-pub follow-requires-clause-shapes : goal.follow-requires-clause-shapes
-follow-requires-clause-shapes g c =
+pub follow-requires-clause-sizes : goal.follow-requires-clause-sizes
+follow-requires-clause-sizes g c =
     let i = c.requires.holds in
     let n = c.args.node.now in
     let x = c.take-held.result.value in
@@ -70,7 +71,7 @@ follow-requires-clause-shapes g c =
     let b = took_log i.0 t.0 n x (follows_agreed i.0.progress n (well_formed i.0.progress i.2.stands.notes i.2.stands.accounts) i.2.agrees) t.1 in
     let is = b.log h c.log-log.ensures.log in
     let u = kept_up t.0.progress h n is b.follows c.rebase_if_behind.new.node c.rebase_if_behind.ensures.behind c.rebase_if_behind.ensures.above in
-    u.0.shapes ∙ ap (λ d. d.shapes) (log_catalogue i.0 t.0 n x b c.args.catalogue.now i.2.catalogue)
+    u.0.sizes ∙ ap sizes_for (log_catalogue i.0 t.0 n x b c.args.catalogue.now i.2.catalogue)
 
 pub follow-requires-clause-updates : goal.follow-requires-clause-updates
 follow-requires-clause-updates g c =
@@ -106,7 +107,7 @@ raise_to-requires-clause-known g c =
     let is = b.log h c.log-log.ensures.log in
     let u = kept_up t.0.progress h n is b.follows y c.rebase_if_behind.ensures.behind c.rebase_if_behind.ensures.above in
     let same = sym (log_catalogue i.0 t.0 n x b c.args.catalogue.now i.2.catalogue) in
-    let all = followed_all t.0.progress h y c.follow.new.node is u.0 u.1 (c.follow.ensures.node ∙ ap (λ d. replayed d (copied h y)) same) c.follow.ensures.shapes in
+    let all = followed_all t.0.progress h y c.follow.new.node is u.0 u.1 (c.follow.ensures.node ∙ ap (λ d. replayed d (copied h y)) same) c.follow.ensures.sizes in
     let p = c.put.ensures.put t.0 t.2 in
     let s = same_back i.0 t.0 n x b c.take-held.new.seat.sessions t.2 _ c.take-held.ensures.same.1 p.0 p.1.0 p.1.1 in
     let low = long_enough i.0 t.0 n x b c.follow.new.node _ i.0 s all in
@@ -130,7 +131,7 @@ returns-clause-reached g c k is =
     let log_is = b.log h c.log-log.ensures.log in
     let u = kept_up t.0.progress h n log_is b.follows y c.rebase_if_behind.ensures.behind c.rebase_if_behind.ensures.above in
     let same = sym (log_catalogue k t.0 n x b c.args.catalogue.now catalogue) in
-    let all = followed_all t.0.progress h y v log_is u.0 u.1 (c.follow.ensures.node ∙ ap (λ d. replayed d (copied h y)) same) c.follow.ensures.shapes in
+    let all = followed_all t.0.progress h y v log_is u.0 u.1 (c.follow.ensures.node ∙ ap (λ d. replayed d (copied h y)) same) c.follow.ensures.sizes in
     let p = c.put.ensures.put t.0 t.2 in
     let s = same_back k t.0 n x b c.take-held.new.seat.sessions t.2 _ c.take-held.ensures.same.1 p.0 p.1.0 p.1.1 in
     let r = c.raise_to.ensures.raised _ p.2 in

@@ -1,4 +1,5 @@
 use Rattle.std.proofs.Common.{ap, subst, sym, ◌∙◌, arith}
+use Rattle.loader.specs.StoreState.{sizes_for}
 use Rattle.ownlock.proofs.Seats.{one_known}
 use Rattle.node.specs.Following.{replayed, copied}
 use Rattle.replica.specs.StoreMeaning.{AreUpdates}
@@ -14,7 +15,7 @@ use Rattle.store.proofs.steps.make_room.Goals as goal
 pub rebase_if_behind-requires : goal.rebase_if_behind-requires
 rebase_if_behind-requires c =
     let i = c.requires.holds in
-    record { shapes = i.2.log.sizes.2 ∙ sym i.2.follows.shapes }
+    record { sizes = i.2.log.sizes.2 ∙ sym i.2.follows.sizes }
 
 pub follow-requires-clause-above : goal.follow-requires-clause-above
 follow-requires-clause-above c =
@@ -28,11 +29,11 @@ follow-requires-clause-fits c =
     let u = kept_up i.0.progress c.args.log.now c.args.node.now i.2.log i.2.follows c.rebase_if_behind.new.node c.rebase_if_behind.ensures.behind c.rebase_if_behind.ensures.above in
     fits i.0.progress c.args.log.now c.rebase_if_behind.new.node i.2.log u.0
 
-pub follow-requires-clause-shapes : goal.follow-requires-clause-shapes
-follow-requires-clause-shapes c =
+pub follow-requires-clause-sizes : goal.follow-requires-clause-sizes
+follow-requires-clause-sizes c =
     let i = c.requires.holds in
     let u = kept_up i.0.progress c.args.log.now c.args.node.now i.2.log i.2.follows c.rebase_if_behind.new.node c.rebase_if_behind.ensures.behind c.rebase_if_behind.ensures.above in
-    u.0.shapes ∙ ap (λ d. d.shapes) i.2.catalogue
+    u.0.sizes ∙ ap sizes_for i.2.catalogue
 
 pub follow-requires-clause-updates : goal.follow-requires-clause-updates
 follow-requires-clause-updates c =
@@ -46,7 +47,7 @@ raise_to-requires-clause-known c =
     let i = c.requires.holds in
     let n = c.rebase_if_behind.new.node in
     let u = kept_up i.0.progress c.args.log.now c.args.node.now i.2.log i.2.follows n c.rebase_if_behind.ensures.behind c.rebase_if_behind.ensures.above in
-    let all = followed_all i.0.progress c.args.log.now n c.follow.new.node i.2.log u.0 u.1 (c.follow.ensures.node ∙ ap (λ d. replayed d (copied c.args.log.now n)) (sym i.2.catalogue)) c.follow.ensures.shapes in
+    let all = followed_all i.0.progress c.args.log.now n c.follow.new.node i.2.log u.0 u.1 (c.follow.ensures.node ∙ ap (λ d. replayed d (copied c.args.log.now n)) (sym i.2.catalogue)) c.follow.ensures.sizes in
     let low = all.tail in
     let here = c.tail.ensures.tail in
     (i.0, i.1, omega (arith, low, here))
@@ -56,12 +57,12 @@ reclaim-requires c =
     let i = c.requires.holds in
     let n = c.rebase_if_behind.new.node in
     let u = kept_up i.0.progress c.args.log.now c.args.node.now i.2.log i.2.follows n c.rebase_if_behind.ensures.behind c.rebase_if_behind.ensures.above in
-    let all = followed_all i.0.progress c.args.log.now n c.follow.new.node i.2.log u.0 u.1 (c.follow.ensures.node ∙ ap (λ d. replayed d (copied c.args.log.now n)) (sym i.2.catalogue)) c.follow.ensures.shapes in
+    let all = followed_all i.0.progress c.args.log.now n c.follow.new.node i.2.log u.0 u.1 (c.follow.ensures.node ∙ ap (λ d. replayed d (copied c.args.log.now n)) (sym i.2.catalogue)) c.follow.ensures.sizes in
     let up = c.raise_to.ensures.raised i.0 i.1 in
     let here = c.tail.ensures.tail in
     let done = raised_as i.0 up.0 _ c.follow.new.node.replica.tail up.2 (omega (arith, here)) in
     let may = can_reclaim i.0 up.0 c.args.log.now c.follow.new.node i.2.log all done i.2.holds c.args.want c.requires.few c.lacks_room.ensures.window.0 (c.lacks_room.ensures.lacks.0 c.if-lacks_room.true) in
-    record { above = may.0; within = may.1; shapes = may.2 }
+    record { above = may.0; within = may.1; sizes = may.2 }
 
 pub returns-then-lacks_room-clause-room : goal.returns-then-lacks_room-clause-room
 returns-then-lacks_room-clause-room c k is =
@@ -70,7 +71,7 @@ returns-then-lacks_room-clause-room c k is =
     let n = c.rebase_if_behind.new.node in
     let e = one_known c.args.seat.now i.0 k i.1 is in
     let u = kept_up i.0.progress g c.args.node.now i.2.log i.2.follows n c.rebase_if_behind.ensures.behind c.rebase_if_behind.ensures.above in
-    let all = followed_all i.0.progress g n c.follow.new.node i.2.log u.0 u.1 (c.follow.ensures.node ∙ ap (λ d. replayed d (copied g n)) (sym i.2.catalogue)) c.follow.ensures.shapes in
+    let all = followed_all i.0.progress g n c.follow.new.node i.2.log u.0 u.1 (c.follow.ensures.node ∙ ap (λ d. replayed d (copied g n)) (sym i.2.catalogue)) c.follow.ensures.sizes in
     let up = c.raise_to.ensures.raised i.0 i.1 in
     let here = c.tail.ensures.tail in
     let done = raised_as i.0 up.0 _ c.follow.new.node.replica.tail up.2 (omega (arith, here)) in
@@ -94,7 +95,7 @@ returns-then-lacks_room-clause-goes c k after is now =
     let e = one_known c.args.seat.now i.0 k i.1 is in
     let u = kept_up i.0.progress g c.args.node.now i.2.log i.2.follows n c.rebase_if_behind.ensures.behind c.rebase_if_behind.ensures.above in
     let ran = c.follow.ensures.node ∙ ap (λ d. replayed d (copied g n)) (sym i.2.catalogue) in
-    let all = followed_all i.0.progress g n c.follow.new.node i.2.log u.0 u.1 ran c.follow.ensures.shapes in
+    let all = followed_all i.0.progress g n c.follow.new.node i.2.log u.0 u.1 ran c.follow.ensures.sizes in
     let up = c.raise_to.ensures.raised i.0 i.1 in
     let here = c.tail.ensures.tail in
     let done = raised_as i.0 up.0 _ c.follow.new.node.replica.tail up.2 (omega (arith, here)) in

@@ -16,7 +16,7 @@ replay-requires c =
 pub raise_to-requires-clause-known : goal.raise_to-requires-clause-known
 raise_to-requires-clause-known c =
     let i = c.requires.known in
-    let all = replayed_all i.0.progress c.args.node.now c.replay.new.node i.2.0 (c.replay.ensures.node ∙ ap (λ z. replayed z c.args.node.now) (sym i.2.2)) c.replay.ensures.shapes in
+    let all = replayed_all i.0.progress c.args.node.now c.replay.new.node i.2.0 (c.replay.ensures.node ∙ ap (λ z. replayed z c.args.node.now) (sym i.2.2)) c.replay.ensures.sizes in
     let tail = all.tail in
     let here = c.tail-replayed.ensures.tail in
     (i.0, i.1, omega (arith, tail, here))
@@ -30,7 +30,7 @@ returns-clause-replayed c k is =
     let rest = subst (λ z. HasOthers z.progress c.args.node.now) e i.2.0 in
     let same = subst (λ z. z.progress.catalogue ≡ c.args.catalogue.now) e i.2.2 in
     let up = raised_as k r.0 _ c.replay.new.node.replica.tail r.2 (omega (arith, here)) in
-    (r.0, r.1, has_replayed k r.0 c.args.node.now c.replay.new.node c.args.catalogue.now c.args.replies.now c.replay.new.replies same rest c.replay.ensures.node c.replay.ensures.shapes c.replay.ensures.kept up)
+    (r.0, r.1, has_replayed k r.0 c.args.node.now c.replay.new.node c.args.catalogue.now c.args.replies.now c.replay.new.replies same rest c.replay.ensures.node c.replay.ensures.sizes c.replay.ensures.kept up)
 
 pub returns-clause-goes : goal.returns-clause-goes
 returns-clause-goes c k after is now log log_is =

@@ -7,7 +7,7 @@ pub replay-requires : goal.replay-requires
 replay-requires c = record {
   next = is_next c.args.catalogue.now c.make_room.new.self.log c.append.new.log c.make_room.new.self.own c.append.new.node (record { author = 0; seq = c.tail-seq.result; op = Run c.new.result })
       c.append.ensures.log c.append.ensures.node (λ none. c.if-left-eq0.false (c.left.ensures.left ∙ none)) c.make_room.ensures.steady.tail
-      (is_update c.args.catalogue.now c.new.result (rw (← c.new.ensures.call) at c.requires.call) c.new.ensures.bytes) c.make_room.ensures.steady.shapes c.append.ensures.within;
+      (is_update c.args.catalogue.now c.new.result (rw (← c.new.ensures.call) at c.requires.call) c.new.ensures.bytes) c.make_room.ensures.steady.sizes c.append.ensures.within;
 }
 
 pub returns-clause-updated : goal.returns-clause-updated

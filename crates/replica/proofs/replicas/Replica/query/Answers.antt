@@ -6,5 +6,5 @@ use Rattle.replica.proofs.replicas.Replica.query.Goals as goal
 
 pub returns-clause-run : goal.returns-clause-run
 returns-clause-run c =
-    queried c.args.program.now.program (maps_of c.self.inside.maps) c.args.self.now.maps (maps_of c.run.new.maps) c.args.argument.now c.run.result.steps c.run.result.reply
-    (ap (λ (v : ReplicaView). v.maps) c.self.view_is) (c.run.ensures.reads c.requires.mode) c.run.ensures.runs c.run.ensures.few
+    queried c.args.program.now.program (maps_of c.self.inside.maps) c.args.self.now.state.maps (maps_of c.run.new.maps) c.args.argument.now c.run.result.steps c.run.result.reply
+    (ap (λ (v : ReplicaView). v.state.maps) c.self.view_is) (c.run.ensures.reads c.requires.mode) c.run.ensures.runs c.run.ensures.few

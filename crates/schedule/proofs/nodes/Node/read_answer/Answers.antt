@@ -6,15 +6,15 @@ use Rattle.replica.specs.StoreMeaning.{store_meaning}
 use Rattle.node.specs.Following.{may_answer}
 use Rattle.schedule.specs.Worlds.{own_of}
 use Rattle.schedule.specs.Steps.{read_at, with_read}
-use Rattle.schedule.proofs.Owned.{own_shapes, read_asked}
+use Rattle.schedule.proofs.Owned.{own_sizes, read_asked}
 use Rattle.schedule.proofs.Answers.{read_taken}
 use Rattle.schedule.proofs.nodes.Node.read_answer.Goals as goal
 
 pub answer_to-given-requires-clause-asks : goal.answer_to-given-requires-clause-asks
 answer_to-given-requires-clause-asks c = read_asked c.args.catalogue.now c.requires.own.2 c.requires.own.3 c.args.slot c.in-Some.read (search rules)
 
-pub answer_to-given-requires-clause-shapes : goal.answer_to-given-requires-clause-shapes
-answer_to-given-requires-clause-shapes c = own_shapes c.args.catalogue.now c.requires.own.2 c.requires.own.3
+pub answer_to-given-requires-clause-sizes : goal.answer_to-given-requires-clause-sizes
+answer_to-given-requires-clause-sizes c = own_sizes c.args.catalogue.now c.requires.own.2 c.requires.own.3
 
 pub returns : goal.returns
 returns c = record {
@@ -22,6 +22,6 @@ returns c = record {
       let at : read_at c.args.self.now c.args.slot ≡ Some c.in-Some.read = search rules in
       let may : may_answer c.in-Some.read.seen g.done (own_of c.args.self.now) ≡ true = search rules in
       read_taken m g c.args.self.now _ c.args.slot c.in-Some.read c.answer_to-given.result at may c.answer_to-given.ensures.point
-      (ap (λ k. option_map (λ (e : ReadEffect). e.reply) (store_meaning.read k (Run c.in-Some.read.call) c.args.self.now.replica.maps)) same ∙ c.answer_to-given.ensures.reply)
+      (ap (λ k. option_map (λ (e : ReadEffect). e.reply) (store_meaning.read k (Run c.in-Some.read.call) c.args.self.now.replica.state)) same ∙ c.answer_to-given.ensures.reply)
       (ap (λ v. with_read v c.args.slot None) (c.self-2.view_is ∙ c.answer_to-given.ensures.same));
 }

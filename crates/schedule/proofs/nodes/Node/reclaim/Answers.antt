@@ -1,7 +1,7 @@
 use Rattle.std.proofs.Common.{sym, subst}
 use Rattle.schedule.specs.Taking.{IsOfStore}
-use Rattle.schedule.proofs.Owned.{same_shapes}
+use Rattle.schedule.proofs.Owned.{same_sizes}
 use Rattle.schedule.proofs.nodes.Node.reclaim.Goals as goal
 
-pub reclaim-requires-clause-shapes : goal.reclaim-requires-clause-shapes
-reclaim-requires-clause-shapes c = sym (same_shapes (subst (λ v. IsOfStore c.requires.own.0 c.args.log.now v) (sym c.self.view_is) c.requires.own.1))
+pub reclaim-requires-clause-sizes : goal.reclaim-requires-clause-sizes
+reclaim-requires-clause-sizes c = sym (same_sizes (subst (λ v. IsOfStore c.requires.own.0 c.args.log.now v) (sym c.self.view_is) c.requires.own.1))
