@@ -195,6 +195,7 @@ fn run<R: Threads + Wait + Sync + Input + Print>(rt: &R, alloc: Global, sizes: &
         slots: sizes.slots,
         window: sizes.window,
         limit: MAX_LIMIT as u32,
+        spare: 0,
     };
     let Ok((store, mut sessions)) = Store::open(alloc, config, catalogue) else {
         return false;

@@ -19,7 +19,7 @@ use Rattle.oplog.specs.History.{Effect, History, left_by, after}
 use Rattle.replica.specs.StoreMeaning.{is_operation, store_meaning, AreUpdates}
 use Rattle.replica.specs.Views.{ReplicaView, RepliesView}
 use Rattle.replica.specs.Replaying.{IsAnswered, KeepsOutcomes}
-use Rattle.replica.proofs.Tested.{tests_call}
+use Rattle.replica.proofs.Tested.{tests_offered}
 use Rattle.node.specs.declared.following.NodeReplica.{NodeReplica}
 use Rattle.node.specs.Following.{IsNext, room_for, grown, copied, replies_for, replayed, told}
 use Rattle.console.specs.declared.single_node.SingleNode.{SingleNode}
@@ -27,7 +27,7 @@ use Rattle.console.specs.Running.{IsCallOf, IsUpdated}
 
 -- a call of an update program is an update
 pub is_update : (c : CatalogueView) (call : Call) → IsCallOf c call Update → AreBytes call.argument → is_operation Update c (Run call) ≡ true
-is_update c call is bytes = tests_call Update c call (record { program = is.program; named = is.named; mode_is = is.allowed; length_is = is.length; bytes = bytes })
+is_update c call is bytes = tests_offered Update c call (record { program = is.program; named = is.named; mode_is = is.allowed; length_is = is.length; bytes = bytes })
 
 only_one : (c : CatalogueView) (r : Record) → is_operation Update c r.op ≡ true → AreUpdates c (r ∷ [])
 only_one c r is zero s e = subst (λ x. is_operation Update c x.op ≡ true) (same_Some r s e) is

@@ -3,8 +3,8 @@ use Rattle.std.proofs.Common.{◌≡◌, ℕ, Bool, true, false, eqb, ltb, lengt
 use Rattle.std.specs.Prelude.{option_map}
 use Rattle.std.proofs.lemmas.Bool.{ltb-true, eqb-true, false≢true}
 use Rattle.loader.specs.StoreState.{StoreState}
-use Rattle.verifier.specs.Accepted.{Checked}
-use Rattle.machine.specs.Effects.{effect, effect_of}
+use Rattle.verifier.specs.declared.refusal.Mode.TheVariants.{Read}
+use Rattle.machine.specs.Effects.{effect_of}
 use Rattle.machine.specs.declared.running.Outcome.{Outcome}
 use Rattle.loader.specs.CatalogueView.{CatalogueView}
 use Rattle.oplog.specs.declared.configuration.TheConstants.{MAX_LIMIT}
@@ -13,7 +13,7 @@ use Rattle.oplog.specs.Operations.{Operation}
 use Rattle.oplog.specs.declared.records.Op.TheVariants.{Run}
 use Rattle.oplog.specs.Logs.{tail_of}
 use Rattle.oplog.specs.History.{Effect, reply_at, read_reply_at}
-use Rattle.replica.specs.StoreMeaning.{program_at, store_meaning}
+use Rattle.replica.specs.StoreMeaning.{run_of, store_meaning}
 use Rattle.console.specs.declared.replaying.Replaying.{Replaying}
 use Rattle.console.specs.Running.{Follows, IsUpdated, HasEnded}
 use Rattle.console.specs.ReplayAnswer.{Replayed, update_agrees, read_agrees, with_update, is_reply, next_count}
@@ -71,13 +71,13 @@ module _ (c : CatalogueView) (at : Replayed) (op : Operation) (index reply : ℕ
         rw (there, none) (record { told = refl; goes_on = λ on. absurd (false≢true on) })
 
     -- a read
-    pub queried : (call : Call) (p : Checked) (o : Outcome) → op ≡ Run call → program_at c call.program ≡ Some p → effect p.program old.node.own.replica.state.maps call.argument ≡ Some (effect_of o.steps o.reply old.node.own.replica.state.maps)
+    pub queried : (call : Call) (o : Outcome) → op ≡ Run call → run_of Read c call old.node.own.replica.state ≡ Some (effect_of o.steps o.reply old.node.own.replica.state.maps)
         → new.node ≡ old.node → new.reads ≡ next_count old.reads → new.ended ≡ old.ended
         → IsCompared c (read_agrees c at.history op index reply) (record at { reads = next_count at.reads }) (eqb o.reply reply) new
-    queried call p o is_call named ran node reads ended =
+    queried call o is_call ran node reads ended =
         let there = on_index in
         let told_here : read_reply_at store_meaning c at.history (length at.history) op ≡ Some o.reply =
-        ap (λ (x : StoreState). option_map (λ e. e.reply) (store_meaning.read c op x)) (here c at.history old.node has.placed) ∙ rw (is_call, named, ran) refl in
+        ap (λ (x : StoreState). option_map (λ e. e.reply) (store_meaning.read c op x)) (here c at.history old.node has.placed) ∙ rw (is_call, ran) refl in
         let agrees : read_agrees c at.history op index reply ≡ eqb o.reply reply = rw there (ap (is_reply reply) told_here) in
         record {
           told = sym agrees;

@@ -1,7 +1,9 @@
 -- Each line that a run writes for a call is a run of its program.
 use Rattle.std.proofs.Common.{◌≡◌, ◌⊎◌, inl, inr, ℕ, zero, suc, ◌<◌, Bool, true, false, cond, eqb, ltb, List, [], ◌∷◌, ◌++◌, length, Option, Some, None, Result, Ok, Err, refl, sym, ap, subst, ◌∙◌}
 use Rattle.std.specs.Prelude.{option_map}
-use Rattle.std.proofs.lemmas.Bool.{ltb-true, eqb-true}
+use Rattle.std.specs.Prelude.{◌-◌, slice_get, if◌then◌else◌}
+use Rattle.std.proofs.lemmas.Bool.{ltb-true, lt-ltb, eqb-true, false≢true}
+use Rattle.machine.specs.Effects.{Effect as RunEffect}
 use Rattle.hex.specs.Hex.{decode_of}
 use Rattle.hex.proofs.HexLemmas.{decode_of-ok}
 use Rattle.maps.specs.Maps.{AreBytes}
@@ -27,14 +29,14 @@ use Rattle.oplog.specs.declared.records.Record.{Record}
 use Rattle.oplog.specs.Calls.{Call as TheCall}
 use Rattle.oplog.specs.declared.records.Op.TheVariants.{Run}
 use Rattle.oplog.specs.History.{Effect, History, left_by, after, state_after, effect_at, read_at}
-use Rattle.replica.specs.StoreMeaning.{program_at, is_operation, AreUpdates, store_meaning}
-use Rattle.replica.specs.HistoryLaws.{HasEffects}
-use Rattle.replica.proofs.Tested.{tests_call}
+use Rattle.replica.specs.StoreMeaning.{program_at, program_in, is_operation, AreUpdates, store_meaning}
+use Rattle.replica.specs.HistoryLaws.{HasRun, IsEffectOf, HasEffects}
+use Rattle.replica.proofs.Tested.{tests_offered, suits_so, offered_below}
 use Rattle.replica.proofs.Histories.{have_effects}
 use Rattle.console.specs.Answer.{Answer}
 use Rattle.console.specs.Script.{ProgramCall, Meaning, Comment, Call, named_call, call_meaning, line_meaning}
-use Rattle.console.specs.RunAnswer.{Turn, refused, with_operation, update_line, read_line, performed, performed_by, numbered, called, taken, line_turn, behind, bad_line, by_turn, lines_answer, ran}
-use Rattle.console.specs.RunLines.{IsUpdateTurn, IsReadTurn, IsRefusedTurn, CallTurn, LineTurn, ScriptRuns, RunLinesAreRuns}
+use Rattle.console.specs.RunAnswer.{Turn, refused, with_operation, update_text, read_text, update_line, read_line, performed, performed_by, numbered, called, taken, line_turn, behind, bad_line, by_turn, lines_answer, ran}
+use Rattle.console.specs.RunLines.{CallRuns, IsUpdateTurn, IsReadTurn, IsRefusedTurn, CallTurn, LineTurn, ScriptRuns, RunLinesAreRuns}
 use Rattle.console.proofs.Turns.{after_append, whole}
 
 -- ---- the bytes of a call
@@ -97,54 +99,59 @@ module _ (c : CatalogueView) (is_whole : IsCatalogue c) (h : History) (updates :
   has_effects = have_effects c is_whole h updates
 
   is_of : (mode : Mode) → program.mode ≡ mode → is_operation mode c (Run one) ≡ true
-  is_of mode m = tests_call mode c one (record { program = program; named = named; mode_is = m; length_is = fits; bytes = bytes })
+  is_of mode m = tests_offered mode c one (record { program = program; named = named; mode_is = m; length_is = fits; bytes = bytes })
 
-  same_program : (other : Checked) → program_at c k ≡ Some other → program ≡ other
-  same_program other e = let same : Some program ≡ Some other = sym named ∙ e in cc
+  -- the program is that of its number in each state, and what the call does is its run
+  named_in : (s : StoreState) → program_in c s k ≡ Some program
+  named_in s = ap (λ b. if b then program_at c k else slice_get s.programs (k - length c.programs)) (lt-ltb k (length c.programs) (offered_below c k program named)) ∙ named
+
+  same_program : (s : StoreState) (other : Checked) → program_in c s k ≡ Some other → program ≡ other
+  same_program s other e = let same : Some program ≡ Some other = sym (named_in s) ∙ e in cc
+
+  its_run : (mode : Mode) (s : StoreState) (e : RunEffect) → program.mode ≡ mode → IsEffectOf mode c one s e → (r : HasRun mode c one s) × (e ≡ r.done)
+  its_run mode s e m (inl run) = run
+  its_run mode s e m (inr none) = absurd (false≢true (sym (none.0 program (named_in s)) ∙ suits_so mode argument program m fits))
+
+  -- the run that stands behind a turn
+  abbrev call_runs : (mode : Mode) → program.mode ≡ mode → (r : HasRun mode c one (state_after store_meaning c h (length h))) → CallRuns c h one mode
+  call_runs mode m r =
+      let same = same_program (state_after store_meaning c h (length h)) r.program r.named in
+      record {
+        program = r.program;
+        named = named ∙ ap Some same;
+        mode_is = subst (λ p. p.mode ≡ mode) same m;
+        steps = r.done.steps;
+        reply = r.done.reply;
+        left = r.done.maps;
+        runs = r.run.runs;
+      }
 
   update_turn : program.mode ≡ Update → length h < MAX_LIMIT → IsUpdateTurn c h one (record { text = update_line (length h) (effect_at store_meaning c h (length h) (Run one)); history = with_operation h (Run one) })
   update_turn mode room =
       let u = has_effects.updates (length h) one (is_of Update mode) in
-      let run = u.0 in
+      let run = its_run Update (state_after store_meaning c h (length h)) u.0 mode u.1 in
       let r : Record = record { author = 0; seq = length h; op = Run one } in
       record {
-        run =
-            record {
-              program = run.program;
-              named = run.named;
-              mode_is = subst (λ p. p.mode ≡ Update) (same_program run.program run.named) mode;
-              steps = run.done.steps;
-              reply = run.done.reply;
-              left = run.done.maps;
-              runs = run.run.runs;
-            };
+        run = call_runs Update mode run.0;
         room = room;
-        text = ap (update_line (length h)) u.1;
+        text = ap (update_line (length h)) u.2 ∙ ap (λ (e : RunEffect). update_text (length h) e.reply e.steps) run.1;
         next = refl;
         left =
             ap (λ (s : StoreState). s.maps)
             (whole c (with_operation h (Run one)) ∙ after_append store_meaning c (opened_state (sizes_for c)) h (r ∷ []) ∙ ap (λ (s : StoreState). after store_meaning c s (r ∷ [])) (sym (whole c h))
-            ∙ ap (λ (e : Option (Effect StoreState)). left_by e (state_after store_meaning c h (length h))) u.1);
+            ∙ ap (λ (e : Option (Effect StoreState)). left_by e (state_after store_meaning c h (length h))) u.2)
+            ∙ ap (λ (e : RunEffect). e.maps) run.1;
       }
 
   read_turn : program.mode ≡ Read → IsReadTurn c h one (record { text = read_line (length h) (read_at store_meaning c h (length h) (Run one)); history = h })
   read_turn mode =
       let u = has_effects.reads (length h) one (is_of Read mode) in
-      let run = u.0 in
+      let run = its_run Read (state_after store_meaning c h (length h)) u.0 mode u.1 in
       record {
-        run =
-            record {
-              program = run.program;
-              named = run.named;
-              mode_is = subst (λ p. p.mode ≡ Read) (same_program run.program run.named) mode;
-              steps = run.done.steps;
-              reply = run.done.reply;
-              left = run.done.maps;
-              runs = run.run.runs;
-            };
-        text = ap (read_line (length h)) u.1;
+        run = call_runs Read mode run.0;
+        text = ap (read_line (length h)) u.2 ∙ ap (λ (e : RunEffect). read_text (length h) e.reply e.steps) run.1;
         same = refl;
-        left = u.2;
+        left = sym (ap (λ (e : RunEffect). e.maps) run.1) ∙ u.3;
       }
 
   -- the history that a turn leaves has updates alone

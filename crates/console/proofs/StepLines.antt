@@ -5,6 +5,7 @@ use Rattle.std.proofs.lemmas.Bool.{false≢true, and_parts, leb-true, le-leb}
 use Rattle.std.proofs.lemmas.List.{length-set}
 use Rattle.text.specs.Lines.{next_line}
 use Rattle.oplog.specs.declared.configuration.Config.{Config}
+use Rattle.loader.specs.declared.installed.TheConstants.{MAX_PLACES}
 use Rattle.oplog.specs.declared.configuration.TheConstants.{MAX_NODES, MAX_NODE_SLOTS, MIN_WINDOW, MAX_WINDOW, MAX_LIMIT}
 use Rattle.oplog.specs.Limits.{IsConfig}
 use Rattle.schedule.specs.declared.parts.Opening.{Opening}
@@ -116,7 +117,8 @@ sizes_good c is =
     let w' = le-leb c.window MAX_WINDOW is.window.1 in
     let l = le-leb 1 c.limit is.limit.0 in
     let l' = le-leb c.limit MAX_LIMIT is.limit.1 in
-    rw (n, n', s, s', w, w', l, l') refl
+    let p = le-leb c.spare MAX_PLACES is.spare in
+    rw (n, n', s, s', w, w', l, l', p) refl
 
 pub sizes_from : (c : Config) → are_sizes c ≡ true → IsConfig c
 sizes_from c e =
@@ -126,12 +128,14 @@ sizes_from c e =
     let s = and_parts _ _ b.0 in
     let d = and_parts _ _ b.1 in
     let w = and_parts _ _ d.0 in
-    let l = and_parts _ _ d.1 in
+    let f = and_parts _ _ d.1 in
+    let l = and_parts _ _ f.0 in
     record {
       nodes = (leb-true _ _ n.0, leb-true _ _ n.1);
       slots = (leb-true _ _ s.0, leb-true _ _ s.1);
       window = (leb-true _ _ w.0, leb-true _ _ w.1);
       limit = (leb-true _ _ l.0, leb-true _ _ l.1);
+      spare = leb-true _ _ f.1;
     }
 
 pub sizes_bad : (c : Config) → (IsConfig c → ⊥) → are_sizes c ≡ false

@@ -2,12 +2,13 @@
 -- the steps.
 use Rattle.std.specs.Prelude.{ℕ, suc, Bool, ◌&&◌, List, [], ◌∷◌, ◌++◌, codes, decimal, Option, Some, None, option_map, option_and_then, unwrap_or, slice_get, Ok, Err, nat_le, if◌then◌else◌}
 use Rattle.text.specs.Lines.{lines_of, next_line}
-use Rattle.loader.specs.CatalogueView.{CatalogueView, number_named}
+use Rattle.loader.specs.CatalogueView.{CatalogueView, number_named, with_places}
 use Rattle.loader.specs.Loading.{Outcome}
 use Rattle.oplog.specs.Calls.{Call}
 use Rattle.oplog.specs.declared.records.Op.TheVariants.{Run}
 use Rattle.oplog.specs.Logs.{Log, tail_of}
 use Rattle.oplog.specs.declared.configuration.Config.{Config}
+use Rattle.loader.specs.declared.installed.TheConstants.{MAX_PLACES}
 use Rattle.oplog.specs.declared.configuration.TheConstants.{MAX_NODES, MAX_NODE_SLOTS, MIN_WINDOW, MAX_WINDOW, MAX_LIMIT}
 use Rattle.combiner.specs.declared.slots.Reply.TheVariants.{Placed, Ended}
 use Rattle.node.specs.Steps.{Appends, Replays, Finishes, Reclaims, Rebases, Replies}
@@ -118,16 +119,16 @@ steps_answer m n w (l ∷ ls) = by_step_turn (bad_line n) (λ turn. behind turn.
 abbrev pub are_sizes : Config → Bool
 are_sizes c =
     (nat_le 1 c.nodes && nat_le c.nodes MAX_NODES) && ((nat_le 1 c.slots && nat_le c.slots MAX_NODE_SLOTS)
-    && ((nat_le MIN_WINDOW c.window && nat_le c.window MAX_WINDOW) && (nat_le 1 c.limit && nat_le c.limit MAX_LIMIT)))
+    && ((nat_le MIN_WINDOW c.window && nat_le c.window MAX_WINDOW) && ((nat_le 1 c.limit && nat_le c.limit MAX_LIMIT) && nat_le c.spare MAX_PLACES)))
 
 -- O1: a size is out of its limits
 abbrev pub sizes_refused : Answer
 sizes_refused = record { text = codes "refused O1\n"; verdict = verdicts.Refused }
 
--- what a catalogue answers to a list of steps, in a store of these sizes
+-- what a catalogue answers to a list of steps, in a store of these sizes, which has so many places behind its programs
 abbrev pub catalogue_answer : Config → CatalogueView → List ℕ → Answer
 catalogue_answer config c text =
-    let opening : Opening = record { config = config; catalogue = c } in
+    let opening : Opening = record { config = config; catalogue = with_places c config.spare } in
     if are_sizes config then steps_answer opening 1 (opened opening) (lines_of text) else sizes_refused
 
 -- a refused manifest writes only its refusal, sizes out of their limits only theirs

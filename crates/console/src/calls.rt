@@ -42,7 +42,7 @@ fn perform(
     let index = node.tail();
     match program.mode() {
         Mode::Read => {
-            let outcome = node.query(program, argument);
+            let outcome = node.query(catalogue, number, argument);
             put_read(out, index, outcome)
         }
         Mode::Update => match node.submit(catalogue, number, argument) {

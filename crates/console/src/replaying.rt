@@ -130,7 +130,7 @@ impl Replaying {
         }
         let outcome = self
             .node
-            .query(found.program, call.call.argument.as_slice());
+            .query(catalogue, found.number, call.call.argument.as_slice());
         self.reads = self.reads.saturating_add(1);
         outcome.reply == call.reply
     }

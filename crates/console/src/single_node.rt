@@ -2,11 +2,11 @@
 
 ghost use Rattle.std.specs.Prelude.{◌≡◌, ◌≤◌, ◌<◌, [], length, Some, IfOk, IfSome, IfNone};
 ghost use Rattle.verifier.specs.declared.refusal.Mode.TheVariants.{Update, Read};
-ghost use Rattle.maps.specs.Maps.{shapes_of};
-ghost use Rattle.machine.specs.Effects.{effect, effect_of};
+ghost use Rattle.machine.specs.Effects.{effect_of};
 ghost use Rattle.oplog.specs.Logs.{tail_of, room_in};
 ghost use Rattle.oplog.specs.declared.records.Op.TheVariants.{Run};
 ghost use Rattle.maps.specs.declared.shapes.TheConstants.{MAX_ARG_LEN};
+ghost use Rattle.replica.specs.StoreMeaning.{run_of};
 ghost use Rattle.console.specs.Running.{IsSteady, Follows, IsCallOf, IsUpdated, HasEnded};
 
 use loader::Catalogue;
@@ -15,7 +15,6 @@ use node::{NodeReplica, append, finish, reclaim, replay};
 use oplog::{Call, Hand, LogState, MAX_LIMIT, MAX_WINDOW, Op, Record};
 use replica::{Replica, Replies};
 use std::alloc::{AllocError, Global};
-use verifier::Accepted;
 
 // The log, and the replica that is fed from it, with room for what a program answers.
 #[derive(Drop)]
@@ -91,15 +90,13 @@ impl SingleNode {
         self.replies.get(0)
     }
 
-    // What a read program answers after all updates so far.
-    pub(crate) fn query(&mut self, program: &Accepted, argument: &[u8]) -> Outcome
-        requires shapes { program.now.shapes ≡ shapes_of self.old.own.replica.state.maps }
-        requires mode { program.now.mode ≡ Read }
-        requires length { length argument.now ≡ program.now.arg_len }
-        ensures run { effect program.now.program self.old.own.replica.state.maps argument.now
+    // What the program of a number answers as a read after all updates so far.
+    pub(crate) fn query(&mut self, catalogue: &Catalogue, program: u16, argument: &[u8]) -> Outcome
+        requires steady { IsSteady catalogue.now self.old }
+        ensures run { run_of Read catalogue.now (record { program = program; argument = argument.now }) self.old.own.replica.state
             ≡ Some (effect_of result.steps result.reply self.old.own.replica.state.maps) }
         ensures same { self.new ≡ self.old }
     {
-        self.own.replica.query(program, argument)
+        self.own.replica.query(catalogue, program, argument)
     }
 }

@@ -82,6 +82,7 @@ fn counted<R: Wait>(rt: &R, alloc: Global) -> Option<(Told, u64)> {
         slots: 1,
         window: 16,
         limit: 1000,
+        spare: 0,
     };
     let (store, mut sessions) = Store::open(alloc, config, catalogue).ok()?;
     let Some(mut session) = sessions.pop() else {

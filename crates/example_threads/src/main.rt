@@ -40,6 +40,7 @@ const SIZES: Config = Config {
     slots: 2,
     window: 64,
     limit: 1_000_000,
+    spare: 0,
 };
 
 // The programs of the store, by their numbers in the catalogue.

@@ -315,6 +315,7 @@ fn config_of(matches: &ArgMatches) -> Option<Config> {
         slots: matches.get_one("slots")?,
         window: matches.get_one("window")?,
         limit: matches.get_one("limit")?,
+        spare: 0,
     })
 }
 

@@ -1,5 +1,6 @@
 -- The sizes that a store may have.
 use Rattle.std.specs.Prelude.{ℕ, ◌≤◌}
+use Rattle.loader.specs.declared.installed.TheConstants.{MAX_PLACES}
 use Rattle.oplog.specs.declared.configuration.Config.{Config}
 use Rattle.oplog.specs.declared.configuration.OpenError.{OpenError}
 use Rattle.oplog.specs.declared.configuration.OpenError.TheVariants.{OutOfLimits, NoMemory}
@@ -19,6 +20,7 @@ pub record IsConfig (c : Config) : Type 0 where
   pub slots : (1 ≤ c.slots) × (c.slots ≤ MAX_NODE_SLOTS)
   pub window : IsWindow c.window
   pub limit : IsLimit c.limit
+  pub spare : c.spare ≤ MAX_PLACES
 
 -- the number that a refusal shows after its letter O
 abbrev pub open_fault_number : OpenError → ℕ

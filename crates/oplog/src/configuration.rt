@@ -3,6 +3,8 @@
 ghost use Rattle.std.specs.Prelude.{◌≡◌, ◌↔◌, IsTrue};
 ghost use Rattle.oplog.specs.Limits.{open_fault_number, IsConfig};
 
+use crate::records::MAX_INSTALLED_BYTES;
+use loader::MAX_PLACES;
 use std::fmt;
 use thiserror::Error;
 
@@ -28,6 +30,7 @@ pub fn limits()
     ensures smallest_window { MIN_WINDOW ≡ 16 }
     ensures largest_window { MAX_WINDOW ≡ 4096 }
     ensures records_of_a_history { MAX_LIMIT ≡ 1000000 }
+    ensures bytes_of_a_new_program { MAX_INSTALLED_BYTES ≡ 192 }
 {}
 
 /// The sizes of a store.
@@ -41,6 +44,8 @@ pub struct Config {
     pub window: u32,
     /// Records that the history may have in all, 1 to [`MAX_LIMIT`].
     pub limit: u32,
+    /// Programs that may be installed behind the catalogue's, 0 to [`MAX_PLACES`].
+    pub spare: u32,
 }
 
 impl Config {
@@ -49,10 +54,12 @@ impl Config {
         ensures limits { IsTrue result ↔ IsConfig self.now }
     {
         let (window, limit) = (self.window as usize, self.limit as usize);
+        let spare = self.spare as usize;
         (1..=MAX_NODES).contains(&self.nodes)
             && (1..=MAX_NODE_SLOTS).contains(&self.slots)
             && (MIN_WINDOW..=MAX_WINDOW).contains(&window)
             && (1..=MAX_LIMIT).contains(&limit)
+            && spare <= MAX_PLACES
     }
 }
 

@@ -1,12 +1,12 @@
 // When a read may answer, and what it answers.
 
-ghost use Rattle.std.specs.Prelude.{◌≡◌, ◌↔◌, ◌≤◌, IsTrue, length, Some, option_map};
-ghost use Rattle.maps.specs.Maps.{shapes_of};
-ghost use Rattle.verifier.specs.declared.refusal.Mode.TheVariants.{Read};
-ghost use Rattle.machine.specs.Effects.{effect};
+ghost use Rattle.std.specs.Prelude.{◌≡◌, ◌↔◌, ◌≤◌, IsTrue, Some, option_map};
+ghost use Rattle.loader.specs.StoreState.{sizes_for, sizes_of};
+ghost use Rattle.oplog.specs.declared.records.Op.TheVariants.{Run};
+ghost use Rattle.replica.specs.StoreMeaning.{read_of};
 
+use loader::Catalogue;
 use replica::Replica;
-use verifier::Accepted;
 
 /// What a read answers.
 #[derive(Clone, Copy, Debug, PartialEq, Eq)]
@@ -24,17 +24,21 @@ pub fn ready(replica: &Replica, done: u64) -> bool
     done <= replica.tail()
 }
 
-/// The answer of a Read program of the replica's shapes, at the replica's tail. The replica stays.
-pub fn answer(program: &Accepted, replica: &mut Replica, argument: &[u8]) -> ReadAnswer
-    requires shapes { program.now.shapes ≡ shapes_of replica.old.state.maps }
-    requires mode { program.now.mode ≡ Read }
-    requires length { length argument.now ≡ program.now.arg_len }
+/// The answer of the program of a number, as a read, at the replica's tail: one of the catalogue, which has the replica's sizes, or one that
+/// was installed. The replica stays.
+pub fn answer(
+    catalogue: &Catalogue,
+    replica: &mut Replica,
+    program: u16,
+    argument: &[u8],
+) -> ReadAnswer
+    requires sizes { sizes_of replica.old.state ≡ sizes_for catalogue.now }
     ensures point { result.point ≡ replica.old.tail }
-    ensures reply { option_map (λ e. e.reply) (effect program.now.program replica.old.state.maps argument.now) ≡ Some result.reply }
+    ensures reply { option_map (λ e. e.reply) (read_of catalogue.now (Run (record { program = program; argument = argument.now })) replica.old.state) ≡ Some result.reply }
     ensures same { replica.new ≡ replica.old }
 {
     let point = replica.tail();
-    let outcome = replica.query(program, argument);
+    let outcome = replica.query(catalogue, program, argument);
     ReadAnswer {
         point,
         reply: outcome.reply,

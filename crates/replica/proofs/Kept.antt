@@ -10,12 +10,10 @@ use Rattle.std.proofs.Math.Seq.{take-set-lt}
 use Rattle.machine.specs.declared.running.Outcome.{Outcome}
 use Rattle.loader.specs.CatalogueView.{CatalogueView}
 use Rattle.loader.specs.StoreState.{StoreState}
-use Rattle.maps.specs.Maps.{Maps}
 use Rattle.oplog.specs.declared.records.Record.{Record}
 use Rattle.oplog.specs.History.{History, after, left_by}
 use Rattle.oplog.specs.Operations.{Operation}
-use Rattle.machine.specs.Effects.{effect_of}
-use Rattle.replica.specs.StoreMeaning.{as_update, updated, store_meaning}
+use Rattle.replica.specs.StoreMeaning.{answered, updated, store_meaning}
 use Rattle.replica.specs.Views.{RepliesView, with_outcome}
 use Rattle.replica.specs.Replaying.{IsAnswered, KeepsOutcomes}
 
@@ -167,13 +165,8 @@ keeps_one_more c state before begin index records old mid new k r o so_far is st
 
 -- ---- what an outcome says
 
-pub is_answered : (c : CatalogueView) (op : Operation) (s : StoreState) (left : Maps) (o : Outcome) → updated c op s ≡ Some (as_update s (effect_of o.steps o.reply left)) → IsAnswered c op s o
-is_answered c op s left o takes = record {
-  done = as_update s (effect_of o.steps o.reply left);
-  takes = takes;
-  outcome = refl;
-}
+pub is_answered : (c : CatalogueView) (op : Operation) (s left : StoreState) (o : Outcome) → updated c op s ≡ Some (answered o left) → IsAnswered c op s o
+is_answered c op s left o takes = record { done = answered o left; takes = takes; outcome = refl }
 
-pub leaves : (c : CatalogueView) (op : Operation) (s : StoreState) (left : Maps) (o : Outcome) → updated c op s ≡ Some (as_update s (effect_of o.steps o.reply left))
-    → (let next : StoreState = record s { maps = left } in next) ≡ left_by (store_meaning.update c op s) s
+pub leaves : (c : CatalogueView) (op : Operation) (s left : StoreState) (o : Outcome) → updated c op s ≡ Some (answered o left) → left ≡ left_by (store_meaning.update c op s) s
 leaves c op s left o takes = sym (ap (λ e. left_by e s) takes)

@@ -1,12 +1,19 @@
 -- Which calls on a store are refused before anything is done.
-use Rattle.std.specs.Prelude.{◌≡◌, ℕ, List, length, Option, Some, None, ◌==◌, if◌then◌else◌, Result, MatchResult}
+use Rattle.std.specs.Prelude.{◌≡◌, ℕ, ◌+◌, List, length, Option, Some, None, ◌==◌, ◌&&◌, nat_lt, nat_le, if◌then◌else◌, Result, Ok, Err, MatchResult}
+use Rattle.maps.specs.declared.shapes.Shape.{Shape}
+use Rattle.maps.specs.declared.shapes.TheConstants.{MAX_ARG_LEN}
 use Rattle.verifier.specs.declared.refusal.Mode.{Mode}
 use Rattle.verifier.specs.declared.refusal.Mode.TheVariants.{Update, Read}
 use Rattle.verifier.specs.Accepted.{Checked}
 use Rattle.loader.specs.CatalogueView.{CatalogueView}
+use Rattle.loader.specs.Installed.{installed_program}
+use Rattle.loader.specs.declared.installed.InstallRefusal.{InstallRefusal}
+use Rattle.loader.specs.declared.installed.InstallRefusal.TheVariants.{Decode, Verify}
+use Rattle.oplog.specs.Calls.{NewProgram}
+use Rattle.oplog.specs.declared.records.TheConstants.{MAX_INSTALLED_BYTES}
 use Rattle.replica.specs.StoreMeaning.{program_at}
 use Rattle.replica.specs.declared.refusals.StoreRefused.{StoreRefused}
-use Rattle.replica.specs.declared.refusals.StoreRefused.TheVariants.{UnknownProgram, ArgumentLength, WrongMode, Ended}
+use Rattle.replica.specs.declared.refusals.StoreRefused.TheVariants.{UnknownProgram, ArgumentLength, WrongMode, Ended, TooLarge, NotDecoded, NotAccepted}
 
 -- the number that a refusal shows after its letter S
 abbrev pub store_fault_number : StoreRefused → ℕ
@@ -14,6 +21,11 @@ store_fault_number UnknownProgram = 1
 store_fault_number ArgumentLength = 2
 store_fault_number WrongMode = 3
 store_fault_number Ended = 4
+store_fault_number TooLarge = 6
+store_fault_number (NotDecoded e) = 7
+store_fault_number (NotAccepted e) = 8
+
+-- ---- calls
 
 -- the refusal of a program of the second mode, where one of the first is asked for
 abbrev pub mode_refusal : Mode → Mode → Option StoreRefused
@@ -26,18 +38,42 @@ abbrev pub program_refusal : Mode → List ℕ → Option Checked → Option Sto
 program_refusal mode argument None = Some UnknownProgram
 program_refusal mode argument (Some program) = if length argument == program.arg_len then mode_refusal mode program.mode else Some ArgumentLength
 
--- the refusal of a program by its number and of an argument, where a program of this mode is asked for: unknown, else of another
+-- the refusal of a program of the catalogue and of an argument, where a program of this mode is asked for: unknown, else of another
 -- length, else of another mode
-abbrev pub early_refusal : CatalogueView → Mode → ℕ → List ℕ → Option StoreRefused
-early_refusal c mode program argument = program_refusal mode argument (program_at c program)
+abbrev pub offered_refusal : CatalogueView → Mode → ℕ → List ℕ → Option StoreRefused
+offered_refusal c mode program argument = program_refusal mode argument (program_at c program)
 
--- the same where a program of either mode will do: unknown, else of another length
+-- of an argument for a place, whatever will be installed there
+abbrev pub place_refusal : List ℕ → Option StoreRefused
+place_refusal argument = if nat_le (length argument) MAX_ARG_LEN then None else Some ArgumentLength
+
+-- the refusal of a call: of a program of the catalogue, or of a place behind these, or of a number behind the places
+abbrev pub early_refusal : CatalogueView → Mode → ℕ → List ℕ → Option StoreRefused
+early_refusal c mode program argument =
+    if nat_lt program (length c.programs) then offered_refusal c mode program argument
+    else if nat_lt program (length c.programs + c.places) then place_refusal argument else Some UnknownProgram
+
+-- that of a program of the catalogue where one of either mode will do: unknown, else of another length
 abbrev pub length_refusal : List ℕ → Option Checked → Option StoreRefused
 length_refusal argument None = Some UnknownProgram
 length_refusal argument (Some program) = if length argument == program.arg_len then None else Some ArgumentLength
 
 abbrev pub call_refusal : CatalogueView → ℕ → List ℕ → Option StoreRefused
 call_refusal c program argument = length_refusal argument (program_at c program)
+
+-- ---- programs to be installed
+
+-- of bytes, by what they were read as
+abbrev pub reading_refusal : Result Checked InstallRefusal → Option StoreRefused
+reading_refusal (Ok p) = None
+reading_refusal (Err (Decode e)) = Some (NotDecoded e)
+reading_refusal (Err (Verify e)) = Some (NotAccepted e)
+
+-- the refusal of a program that is to be installed for these maps: too large, else no program, else not safe
+abbrev pub install_refusal : List Shape → NewProgram → Option StoreRefused
+install_refusal shapes new =
+    if nat_le (length new.bytes) MAX_INSTALLED_BYTES && nat_le new.arg_len MAX_ARG_LEN
+    then reading_refusal (installed_program shapes new.mode new.arg_len new.bytes) else Some TooLarge
 
 -- what is answered is this refusal, or that there is none
 abbrev pub IsRefusedAs : {A : Type 0} → Option StoreRefused → Result A StoreRefused → Type 0

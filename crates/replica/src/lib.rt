@@ -8,6 +8,7 @@ mod replicas;
 mod replying;
 
 pub use laws::{histories_have_effects, operations_are_tested};
-pub use refusals::{StoreRefused, find_program, find_program_of};
+pub use operations::{NO_PLACE, NO_PROGRAM, replies};
+pub use refusals::{StoreRefused, check_call, check_install, find_program, find_program_of};
 pub use replicas::Replica;
 pub use replying::Replies;

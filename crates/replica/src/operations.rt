@@ -1,65 +1,153 @@
-// Operations of the history, run on a node's maps.
+// Operations of the history, run on a node's maps and programs.
 
-ghost use Rattle.std.specs.Prelude.{◌≡◌, ◌+◌, ◌<◌, ◌^◌, length, true, Some};
-ghost use Rattle.maps.specs.Maps.{HasShapes};
+ghost use Rattle.std.specs.Prelude.{◌≡◌, ◌+◌, ◌<◌, ◌^◌, List, IfSome, length, true, Some, option_map};
+ghost use Rattle.maps.specs.declared.shapes.Shape.{Shape};
+ghost use Rattle.maps.specs.Maps.{Maps, HasShapes};
 ghost use Rattle.maps.specs.MapSets.{maps_of};
-ghost use Rattle.verifier.specs.declared.refusal.Mode.TheVariants.{Update};
+ghost use Rattle.verifier.specs.declared.refusal.Mode.TheVariants.{Update, Read};
 ghost use Rattle.machine.specs.Effects.{effect_of};
 ghost use Rattle.loader.specs.StoreState.{state_of};
+ghost use Rattle.oplog.specs.declared.records.Op.TheVariants.{Install};
 ghost use Rattle.oplog.specs.History.{after};
-ghost use Rattle.replica.specs.StoreMeaning.{store_meaning, run_of, as_update, updated, is_call, is_operation, AreUpdates};
+ghost use Rattle.replica.specs.StoreMeaning.{store_meaning, no_program, no_place, is_mode, suits, program_among, run_in, answered, updated, is_operation, AreUpdates};
 ghost use Rattle.replica.specs.Replaying.{KeepsOutcomes};
 
 use crate::replying::Replies;
 use loader::{Catalogue, Installed};
 use machine::{Outcome, run};
 use maps::MapSet;
-use oplog::{Call, Hand, Op};
+use oplog::{Hand, NewProgram, Op};
+use verifier::{Accepted, Mode};
 
-// Runs the program of a call.
-fn run_call(catalogue: &Catalogue, maps: &mut MapSet, call: &Call) -> Outcome
-    requires shapes { HasShapes catalogue.now.shapes (maps_of maps.old) }
-    requires update { is_call Update catalogue.now call.now ≡ true }
-    ensures run { run_of catalogue.now call.now (maps_of maps.old) ≡ Some (effect_of result.steps result.reply (maps_of maps.new)) }
-    ensures shapes { HasShapes catalogue.now.shapes (maps_of maps.new) }
+/// What a call replies where no program of its number suits it: -22, as 64 bits.
+pub const NO_PROGRAM: u64 = 18_446_744_073_709_551_594;
+
+/// What an install replies where no place is free: -7, as 64 bits.
+pub const NO_PLACE: u64 = 18_446_744_073_709_551_609;
+
+/// The replies of operations that do nothing, as numbers.
+pub fn replies()
+    ensures no_program { NO_PROGRAM ≡ no_program }
+    ensures no_place { NO_PLACE ≡ no_place }
+{}
+
+fn is_mode(mode: Mode, other: Mode) -> bool
+    ensures { result ≡ is_mode mode other }
 {
-    match catalogue.program(call.program()) {
-        Some(program) => run(program, maps, call.argument()),
-        None => unreachable!(),
+    match (mode, other) {
+        (Mode::Update, Mode::Update) | (Mode::Read, Mode::Read) => true,
+        (Mode::Update, Mode::Read) | (Mode::Read, Mode::Update) => false,
+    }
+}
+
+// Whether a program has this mode, and its argument this length.
+fn does_suit(program: &Accepted, mode: Mode, argument: &[u8]) -> bool
+    ensures { result ≡ suits mode argument.now program.now }
+{
+    is_mode(program.mode(), mode) && argument.len() == program.arg_len()
+}
+
+// The program of a number: one of the catalogue's, or behind them one that was installed.
+pub(crate) fn program_of<'a>(
+    catalogue: &'a Catalogue,
+    programs: &'a Installed,
+    number: u16,
+) -> Option<&'a Accepted>
+    requires shapes { programs.now.shapes ≡ catalogue.now.shapes }
+    ensures program { option_map (λ p. p.now) result ≡ program_among catalogue.now programs.now.programs number }
+    ensures shapes { IfSome result (λ p. p.now.shapes ≡ catalogue.now.shapes) }
+{
+    let offered = catalogue.len();
+    if (number as usize) < offered {
+        catalogue.program(number)
+    } else {
+        programs.program(number as usize - offered)
+    }
+}
+
+// Runs a program that suits; else nothing is done, and the reply says so.
+pub(crate) fn run_suitable(
+    program: Option<&Accepted>,
+    mode: Mode,
+    maps: &mut MapSet,
+    argument: &[u8],
+) -> Outcome
+    requires shapes { IfSome program (λ p. HasShapes p.now.shapes (maps_of maps.old)) }
+    ensures run { run_in mode argument.now (maps_of maps.old) (option_map (λ p. p.now) program.entry)
+        ≡ Some (effect_of result.steps result.reply (maps_of maps.new)) }
+    ensures shapes { (shapes : List Shape) → HasShapes shapes (maps_of maps.old) → HasShapes shapes (maps_of maps.new) }
+    ensures reads { mode ≡ Read → maps_of maps.new ≡ maps_of maps.old }
+{
+    if let Some(accepted) = program {
+        if does_suit(accepted, mode, argument) {
+            return run(accepted, maps, argument);
+        }
+    }
+    Outcome {
+        reply: NO_PROGRAM,
+        steps: 0,
+    }
+}
+
+// Installs a program that was found to be one, where a place is free.
+fn install(catalogue: &Catalogue, programs: &mut Installed, new: &NewProgram) -> Outcome
+    requires shapes { programs.old.shapes ≡ catalogue.now.shapes }
+    requires update { is_operation Update catalogue.now (Install new.now) ≡ true }
+    ensures updated { (maps : Maps) → updated catalogue.now (Install new.now) (state_of maps programs.old) ≡ Some (answered result (state_of maps programs.new)) }
+    ensures sizes { (programs.new.shapes ≡ programs.old.shapes) × (programs.new.places ≡ programs.old.places) }
+{
+    let place = programs.len();
+    if place < programs.places() {
+        match programs.install(new.mode(), new.arg_len(), new.bytes()) {
+            Ok(()) => Outcome {
+                reply: (catalogue.len() + place) as u64,
+                steps: 0,
+            },
+            Err(_) => unreachable!(),
+        }
+    } else {
+        Outcome {
+            reply: NO_PLACE,
+            steps: 0,
+        }
     }
 }
 
 // Performs one operation.
-fn perform(catalogue: &Catalogue, programs: &Installed, maps: &mut MapSet, op: &Op) -> Outcome
+fn perform(catalogue: &Catalogue, programs: &mut Installed, maps: &mut MapSet, op: &Op) -> Outcome
     requires shapes { HasShapes catalogue.now.shapes (maps_of maps.old) }
+    requires programs { programs.old.shapes ≡ catalogue.now.shapes }
     requires update { is_operation Update catalogue.now op.now ≡ true }
-    ensures updated { updated catalogue.now op.now (state_of (maps_of maps.old) programs.now)
-        ≡ Some (as_update (state_of (maps_of maps.old) programs.now) (effect_of result.steps result.reply (maps_of maps.new))) }
+    ensures updated { updated catalogue.now op.now (state_of (maps_of maps.old) programs.old)
+        ≡ Some (answered result (state_of (maps_of maps.new) programs.new)) }
     ensures shapes { HasShapes catalogue.now.shapes (maps_of maps.new) }
+    ensures sizes { (programs.new.shapes ≡ programs.old.shapes) × (programs.new.places ≡ programs.old.places) }
 {
     match op {
-        Op::Run(call) => run_call(catalogue, maps, call),
-        Op::Install(_) => {
-            let _programs = programs;
-            unreachable!()
+        Op::Run(call) => {
+            let program = program_of(catalogue, programs, call.program());
+            run_suitable(program, Mode::Update, maps, call.argument())
         }
+        Op::Install(new) => install(catalogue, programs, new),
     }
 }
 
 // Performs the operations of the records in a hand, one after the other, and keeps what they answer.
 pub(crate) fn perform_each(
     catalogue: &Catalogue,
-    programs: &Installed,
+    programs: &mut Installed,
     maps: &mut MapSet,
     hand: &Hand,
     replies: &mut Replies,
 )
     requires shapes { HasShapes catalogue.now.shapes (maps_of maps.old) }
+    requires programs { programs.old.shapes ≡ catalogue.now.shapes }
     requires allowed { AreUpdates catalogue.now hand.now.records }
     requires fits { hand.now.begin + length hand.now.records < 2 ^ 64 }
-    ensures state { state_of (maps_of maps.new) programs.now ≡ after store_meaning catalogue.now (state_of (maps_of maps.old) programs.now) hand.now.records }
+    ensures state { state_of (maps_of maps.new) programs.new ≡ after store_meaning catalogue.now (state_of (maps_of maps.old) programs.old) hand.now.records }
     ensures shapes { HasShapes catalogue.now.shapes (maps_of maps.new) }
-    ensures kept { KeepsOutcomes catalogue.now (state_of (maps_of maps.old) programs.now) hand.now.begin hand.now.records replies.old replies.new }
+    ensures sizes { (programs.new.shapes ≡ programs.old.shapes) × (programs.new.places ≡ programs.old.places) }
+    ensures kept { KeepsOutcomes catalogue.now (state_of (maps_of maps.old) programs.old) hand.now.begin hand.now.records replies.old replies.new }
 {
     let first = hand.begin();
     for k in 0..hand.len() {

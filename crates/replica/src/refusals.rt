@@ -1,19 +1,23 @@
 // Which calls on a store are refused, and why.
 
-ghost use Rattle.std.specs.Prelude.{◌≡◌, ◌≤◌, length, Some, IfOk};
+ghost use Rattle.std.specs.Prelude.{◌≡◌, ◌<◌, ◌≤◌, [], length, Some, IfOk};
 ghost use Rattle.maps.specs.declared.shapes.TheConstants.{MAX_ARG_LEN};
+ghost use Rattle.oplog.specs.declared.records.TheConstants.{MAX_INSTALLED_BYTES};
 ghost use Rattle.replica.specs.StoreMeaning.{program_at};
-ghost use Rattle.replica.specs.Refusals.{store_fault_number, call_refusal, early_refusal, IsRefusedAs};
+ghost use Rattle.replica.specs.Refusals.{store_fault_number, call_refusal, offered_refusal, early_refusal, install_refusal, IsRefusedAs};
 
-use loader::Catalogue;
+use insn::DecodeRefusal;
+use loader::{Catalogue, InstallRefusal, Installed};
+use maps::MAX_ARG_LEN;
+use oplog::MAX_INSTALLED_BYTES;
 use std::fmt;
 use thiserror::Error;
-use verifier::{Accepted, Mode};
+use verifier::{Accepted, Mode, Refused};
 
 /// Why a call on a store is refused.
 #[derive(Clone, Copy, Debug, PartialEq, Eq, Error)]
 pub enum StoreRefused {
-    /// S1: the catalogue has no program of this number.
+    /// S1: there is neither a program of this number nor a place for one.
     #[error("S1: unknown program")]
     UnknownProgram,
     /// S2: the argument isn't as long as the program's.
@@ -25,10 +29,19 @@ pub enum StoreRefused {
     /// S4: the history has all its records. The request has none.
     #[error("S4: the history has all its records")]
     Ended,
+    /// S6: a program to be installed has more than [`MAX_INSTALLED_BYTES`], or an argument of more than [`MAX_ARG_LEN`].
+    #[error("S6: the program or its argument is too large")]
+    TooLarge,
+    /// S7: the bytes to be installed are no program.
+    #[error("S7: {0}")]
+    NotDecoded(DecodeRefusal),
+    /// S8: the program to be installed is not safe for the maps, its argument's length and its mode.
+    #[error("S8: {0}")]
+    NotAccepted(Refused),
 }
 
 impl StoreRefused {
-    /// The number, 1 to 4, that a refusal shows after its letter S.
+    /// The number, 1 to 4 or 6 to 8, that a refusal shows after its letter S.
     pub fn number(self) -> u8
         ensures number { result ≡ store_fault_number self }
     {
@@ -37,11 +50,14 @@ impl StoreRefused {
             StoreRefused::ArgumentLength => 2,
             StoreRefused::WrongMode => 3,
             StoreRefused::Ended => 4,
+            StoreRefused::TooLarge => 6,
+            StoreRefused::NotDecoded(_) => 7,
+            StoreRefused::NotAccepted(_) => 8,
         }
     }
 }
 
-/// The program that a call names, where it takes the call's argument.
+/// The program of the catalogue that a call names, where it takes the call's argument.
 ///
 /// # Errors
 ///
@@ -65,7 +81,7 @@ pub fn find_program<'a>(
     Ok(accepted)
 }
 
-/// The program that a call names, where it takes the call's argument and has the mode that is asked for.
+/// The program of the catalogue that a call names, where it takes the call's argument and has the mode that is asked for.
 ///
 /// # Errors
 ///
@@ -80,11 +96,69 @@ pub fn find_program_of<'a>(
     ensures length { IfOk result (λ p. (length argument.now ≡ p.now.arg_len) × (length argument.now ≤ MAX_ARG_LEN)) }
     ensures shapes { IfOk result (λ p. p.now.shapes ≡ catalogue.now.shapes) }
     ensures mode { IfOk result (λ p. p.now.mode ≡ mode) }
-    ensures refusal { IsRefusedAs (early_refusal catalogue.now mode program argument.now) result }
+    ensures refusal { IsRefusedAs (offered_refusal catalogue.now mode program argument.now) result }
 {
     let accepted = find_program(catalogue, program, argument)?;
     match (mode, accepted.mode()) {
         (Mode::Update, Mode::Update) | (Mode::Read, Mode::Read) => Ok(accepted),
         (Mode::Update, Mode::Read) | (Mode::Read, Mode::Update) => Err(StoreRefused::WrongMode),
+    }
+}
+
+/// Whether a call may go on: it names a program of the catalogue that it fits, or a place behind these, with an argument that may fit what
+/// will be installed there.
+///
+/// # Errors
+///
+/// S1 where there is neither a program nor a place of this number; S2 where the argument hasn't the program's length, or is longer than
+/// [`MAX_ARG_LEN`]; S3 where the program has the other mode.
+pub fn check_call(
+    catalogue: &Catalogue,
+    mode: Mode,
+    program: u16,
+    argument: &[u8],
+) -> Result<(), StoreRefused>
+    ensures fits { IfOk result (λ _. length argument.now ≤ MAX_ARG_LEN) }
+    ensures refusal { IsRefusedAs (early_refusal catalogue.now mode program argument.now) result }
+{
+    let number = program as usize;
+    if number < catalogue.len() {
+        find_program_of(catalogue, mode, program, argument)?;
+        return Ok(());
+    }
+    if number >= catalogue.len() + catalogue.places() {
+        return Err(StoreRefused::UnknownProgram);
+    }
+    if argument.len() > MAX_ARG_LEN {
+        return Err(StoreRefused::ArgumentLength);
+    }
+    Ok(())
+}
+
+/// Whether a program may be installed: it is small enough, and the bytes spell a program that is safe. The room is one for a program of the
+/// store's maps, and holds it then.
+///
+/// # Errors
+///
+/// S6 where the bytes or the argument are too many, S7 where the bytes are no program, S8 where the program isn't safe.
+pub fn check_install(
+    room: &mut Installed,
+    mode: Mode,
+    arg_len: u64,
+    bytes: &[u8],
+) -> Result<(), StoreRefused>
+    requires room { 0 < room.old.places }
+    ensures few { IfOk result (λ _. (length bytes.now ≤ MAX_INSTALLED_BYTES) × (arg_len ≤ MAX_ARG_LEN)) }
+    ensures shapes { (room.new.shapes ≡ room.old.shapes) × (room.new.places ≡ room.old.places) }
+    ensures refusal { IsRefusedAs (install_refusal room.old.shapes (record { mode = mode; arg_len = arg_len; bytes = bytes.now })) result }
+{
+    if bytes.len() > MAX_INSTALLED_BYTES || arg_len > MAX_ARG_LEN as u64 {
+        return Err(StoreRefused::TooLarge);
+    }
+    room.clear();
+    match room.install(mode, arg_len as usize, bytes) {
+        Ok(()) => Ok(()),
+        Err(InstallRefusal::Decode(refusal)) => Err(StoreRefused::NotDecoded(refusal)),
+        Err(InstallRefusal::Verify(refusal)) => Err(StoreRefused::NotAccepted(refusal)),
     }
 }

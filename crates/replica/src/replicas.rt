@@ -5,22 +5,22 @@ ghost use Rattle.maps.specs.Shapes.{AreShapesOk};
 ghost use Rattle.maps.specs.Maps.{shapes_of, HasShapes};
 ghost use Rattle.maps.specs.MapSets.{maps_of};
 ghost use Rattle.verifier.specs.declared.refusal.Mode.TheVariants.{Read};
-ghost use Rattle.machine.specs.Effects.{effect, effect_of};
+ghost use Rattle.machine.specs.Effects.{effect_of};
 ghost use Rattle.loader.specs.declared.installed.TheConstants.{MAX_PLACES};
 ghost use Rattle.loader.specs.StoreState.{installed_in, opened_state, sizes_for, sizes_of, state_of};
 ghost use Rattle.oplog.specs.History.{after};
-ghost use Rattle.replica.specs.StoreMeaning.{store_meaning, AreUpdates};
+ghost use Rattle.replica.specs.StoreMeaning.{store_meaning, run_of, AreUpdates};
 ghost use Rattle.replica.specs.Replaying.{KeepsOutcomes};
 
-use crate::operations::perform_each;
+use crate::operations::{perform_each, program_of, run_suitable};
 use crate::replying::Replies;
 use loader::{Catalogue, Installed};
-use machine::{Outcome, run};
+use machine::Outcome;
 use maps::{MapSet, Shape};
 use oplog::Hand;
 use std::alloc::{AllocError, Global};
 use std::marker::Model;
-use verifier::Accepted;
+use verifier::Mode;
 
 /// A node's maps and the programs that were installed there, and how many operations of the history were applied to them.
 #[derive(Drop)]
@@ -104,7 +104,7 @@ impl Replica {
         ensures hand { hand.new ≡ record hand.old { begin = self.new.tail; records = [] } }
         ensures replies { KeepsOutcomes catalogue.now self.old.state self.old.tail hand.old.records replies.old replies.new }
     {
-        perform_each(catalogue, &self.programs, &mut self.maps, hand, replies);
+        perform_each(catalogue, &mut self.programs, &mut self.maps, hand, replies);
         self.tail += hand.len() as u64;
         hand.clear(self.tail);
     }
@@ -122,14 +122,15 @@ impl Replica {
         self.tail = index;
     }
 
-    /// Runs a Read program of the replica's shapes on an argument of its length. The replica stays.
-    pub fn query(&mut self, program: &Accepted, argument: &[u8]) -> Outcome
-        requires shapes { program.now.shapes ≡ shapes_of self.old.state.maps }
-        requires mode { program.now.mode ≡ Read }
-        requires length { length argument.now ≡ program.now.arg_len }
-        ensures run { effect program.now.program self.old.state.maps argument.now ≡ Some (effect_of result.steps result.reply self.old.state.maps) }
+    /// Runs the program of a number on an argument, as a read: one of the catalogue, which has the replica's sizes, or one that was
+    /// installed. Where none suits, the reply is [`NO_PROGRAM`](crate::NO_PROGRAM). The replica stays.
+    pub fn query(&mut self, catalogue: &Catalogue, program: u16, argument: &[u8]) -> Outcome
+        requires sizes { sizes_of self.old.state ≡ sizes_for catalogue.now }
+        ensures run { run_of Read catalogue.now (record { program = program; argument = argument.now }) self.old.state
+            ≡ Some (effect_of result.steps result.reply self.old.state.maps) }
         ensures same { self.new ≡ self.old }
     {
-        run(program, &mut self.maps, argument)
+        let found = program_of(catalogue, &self.programs, program);
+        run_suitable(found, Mode::Read, &mut self.maps, argument)
     }
 }

@@ -6,10 +6,8 @@ use Rattle.std.proofs.lemmas.Option.{none-some}
 use Rattle.std.proofs.lemmas.Bool.{false≢true}
 use Rattle.loader.specs.StoreState.{IsState, sizes_of, sizes_for}
 use Rattle.loader.proofs.States.{state_sizes}
-use Rattle.verifier.specs.declared.refusal.Mode.TheVariants.{Read}
 use Rattle.loader.specs.CatalogueView.{CatalogueView}
 use Rattle.oplog.specs.declared.configuration.TheConstants.{MAX_LIMIT}
-use Rattle.oplog.specs.declared.records.Op.TheVariants.{Run}
 use Rattle.oplog.specs.History.{History}
 use Rattle.oplog.specs.Logs.{Log}
 use Rattle.oplog.specs.Sessions.{session}
@@ -20,8 +18,6 @@ use Rattle.combiner.specs.declared.slots.Stage.TheVariants.{Empty, Posted, Claim
 use Rattle.combiner.specs.declared.slots.Slot.{Slot}
 use Rattle.combiner.specs.Slots.{is_claimed}
 use Rattle.combiner.specs.Desks.{DeskView, first_author, claimed_from, has_combiner, has_request, claim_refusal, claimed, batch_of, IsBatchOf}
-use Rattle.replica.specs.StoreMeaning.{IsCall, is_operation}
-use Rattle.replica.proofs.Tested.{call_tested}
 use Rattle.replica.proofs.Histories.{have_effects}
 use Rattle.node.specs.declared.following.NodeReplica.{NodeReplica}
 use Rattle.node.specs.Following.{IsNext, has_next, with_next}
@@ -33,11 +29,10 @@ use Rattle.schedule.specs.declared.steps.StepAnswer.TheVariants as answers
 use Rattle.schedule.specs.Trace.{Trace, Positions}
 use Rattle.schedule.specs.Explains.{count_of}
 use Rattle.schedule.specs.Worlds.{NodeView, own_of}
-use Rattle.schedule.specs.Steps.{silent, read_at, claim, no_batch}
+use Rattle.schedule.specs.Steps.{silent, claim, no_batch}
 use Rattle.schedule.specs.Stands.{StageStands, batch_in}
 use Rattle.schedule.specs.Taking.{IsOfStore, TakesPart}
 use Rattle.schedule.proofs.Lists.{get_in, get_some}
-use Rattle.schedule.proofs.Options.{read_is}
 use Rattle.schedule.proofs.Replays.{after_all, runs_next}
 
 -- ---- the state
@@ -136,21 +131,3 @@ is_next {m} {g} {node} c same x next =
       updates = λ k r at. x.updates (node.replica.tail + k) r (runs.0 k r at);
       short = omega arith;
     })
-
--- ---- reads
-
-waiting_read : (m : Opening) (done : ℕ) (h : History) (positions : Positions) (t : Trace) (x : ℕ) (batch : NodeBatch) (count : ℕ) (st : Stage) (read : BegunRead) → StageStands m done h positions t x batch count st (Some read) → is_operation Read m.catalogue (Run read.call) ≡ true
-waiting_read m done h positions t x batch count Empty read p = (p.1).may
-waiting_read m done h positions t x batch count (Posted op) read p = absurd p
-waiting_read m done h positions t x batch count Claimed read p = absurd p
-waiting_read m done h positions t x batch count (Answered r) read p = absurd p
-
--- a read that was begun asks a read program of the catalogue
-pub read_asks : {m : Opening} {g : Log} {node : NodeView} → IsOfStore m g node → (s : ℕ) (read : BegunRead) → slice_get node.reads s ≡ Some (Some read) → IsCall Read m.catalogue read.call
-read_asks {m} {g} {node} x s read at =
-    let o = x.stands in
-    let y = get_some node.desk.slots s (let a = get_in node.reads s (Some read) at in let b = o.desk.slots in let d = o.desk.reads in omega arith) in
-    call_tested Read m.catalogue read.call (waiting_read m g.done x.history x.positions x.trace (session m.config x.number s) node.batch (y.0).count (y.0).stage read (o.seats s y.0 (Some read) y.1 at))
-
-pub read_asked : {m : Opening} {g : Log} {node : NodeView} (c : CatalogueView) → m.catalogue ≡ c → IsOfStore m g node → (s : ℕ) (read : BegunRead) → read_at node s ≡ Some read → IsCall Read c read.call
-read_asked {m} {g} {node} c same x s read at = subst (λ k. IsCall Read k read.call) same (read_asks x s read (read_is (slice_get node.reads s) read at))

@@ -6,7 +6,7 @@ ghost use Rattle.oplog.specs.declared.configuration.TheConstants.{MAX_NODES};
 ghost use Rattle.oplog.specs.Limits.{IsConfig};
 ghost use Rattle.oplog.specs.Logs.{Log};
 ghost use Rattle.oplog.specs.declared.records.Op.TheVariants.{Run};
-ghost use Rattle.replica.specs.StoreMeaning.{IsCall, store_meaning};
+ghost use Rattle.replica.specs.StoreMeaning.{store_meaning};
 ghost use Rattle.verifier.specs.declared.refusal.Mode.TheVariants.{Update, Read};
 ghost use Rattle.schedule.specs.declared.parts.Opening.{Opening as TheOpening};
 ghost use Rattle.node.specs.Following.{Fits, has_next, with_next};
@@ -22,7 +22,7 @@ use loader::Catalogue;
 use node::{NodeBatch, NodeReplica, Written};
 use oplog::{Call, Hand, LogState, Op};
 use readpath::{ReadAnswer, answer};
-use replica::{Replica, Replies, find_program_of};
+use replica::{Replica, Replies, check_call};
 use std::alloc::{AllocError, Global};
 use std::marker::Model;
 use std::mem;
@@ -48,14 +48,14 @@ impl Model for Node {
     ghost view = { λ n. record { replica = n.own.replica; hand = n.own.hand; desk = n.desk; batch = n.batch; reads = n.reads.items } };
 }
 
-// The call of a program of the catalogue, of this mode, on an argument of its length.
+// The call of a program of the catalogue, of this mode, on an argument of its length; or of a place behind these.
 fn call_of(catalogue: &Catalogue, mode: Mode, program: u64, argument: &[u8]) -> Option<Call>
     ensures call { GivesCall mode catalogue.now (record { program = program; argument = argument.now }) result }
 {
-    if program >= catalogue.len() as u64 {
+    if program >= (catalogue.len() + catalogue.places()) as u64 {
         return None;
     }
-    find_program_of(catalogue, mode, program as u16, argument).ok()?;
+    check_call(catalogue, mode, program as u16, argument).ok()?;
     Some(Call::new(program as u16, argument))
 }
 
@@ -251,16 +251,17 @@ impl Node {
 
     // What the replica answers to a read.
     fn answer_to(&mut self, catalogue: &Catalogue, call: &Call) -> ReadAnswer
-        requires asks { IsCall Read catalogue.now call.now }
         requires sizes { sizes_of self.old.replica.state ≡ sizes_for catalogue.now }
         ensures point { result.point ≡ self.old.replica.tail }
         ensures reply { option_map (λ e. e.reply) (store_meaning.read catalogue.now (Run call.now) self.old.replica.state) ≡ Some result.reply }
         ensures same { self.new ≡ self.old }
     {
-        match catalogue.program(call.program()) {
-            Some(program) => answer(program, &mut self.own.replica, call.argument()),
-            None => unreachable!(),
-        }
+        answer(
+            catalogue,
+            &mut self.own.replica,
+            call.program(),
+            call.argument(),
+        )
     }
 
     // The read that was begun at a slot is answered, when so many operations are completed.

@@ -2,7 +2,7 @@
 
 ghost use Rattle.std.specs.Prelude.{◌≡◌, ◌↔◌, ◌<◌, ◌≤◌, [], ◌∷◌, length, replicate, slice_get, Some, None, option_map, IfOk, IfErr, OnErr};
 ghost use Rattle.maps.specs.Shapes.{AreShapesOk};
-ghost use Rattle.loader.specs.CatalogueView.{IsCatalogue};
+ghost use Rattle.loader.specs.CatalogueView.{IsCatalogue, with_places};
 ghost use Rattle.oplog.specs.Limits.{IsConfig};
 ghost use Rattle.oplog.specs.declared.configuration.OpenError.TheVariants.{OutOfLimits};
 ghost use Rattle.schedule.specs.Worlds.{opened_node, opened_nodes};
@@ -57,7 +57,7 @@ fn open_nodes(alloc: Global, opening: &Opening) -> Result<Vec<Node>, AllocError>
 }
 
 impl World {
-    /// A new store.
+    /// A new store of the maps and programs of a catalogue, with as many places behind these as the configuration says.
     ///
     /// # Errors
     ///
@@ -65,13 +65,15 @@ impl World {
     pub fn open(alloc: Global, config: Config, catalogue: Catalogue) -> Result<World, OpenError>
         ensures limits { IfErr result (λ e. (e ≡ OutOfLimits) ↔ (IsConfig config → ⊥)) }
         ensures within { IfOk result (λ w. IsConfig config) }
-        ensures opened { IfOk result (λ w. w ≡ opened_store (record { config = config; catalogue = catalogue })) }
+        ensures opened { IfOk result (λ w. w ≡ opened_store (record { config = config; catalogue = with_places catalogue config.spare })) }
         ensures stands { IfOk result (λ w. Stands w.opening w.world [] [] []) }
     {
         if !config.is_within_limits() {
             return Err(OpenError::OutOfLimits);
         }
-        let (shapes, places) = (catalogue.shapes(), catalogue.places());
+        let places = config.spare as usize;
+        let catalogue = catalogue.with_places(places);
+        let shapes = catalogue.shapes();
         let (window, limit) = (config.window as usize, config.limit as usize);
         let Ok(log) = LogState::open(alloc, shapes, places, window, limit) else {
             return Err(OpenError::NoMemory);

@@ -43,7 +43,7 @@ pub record IsOf (store : StoreView) (s : SessionView) : Type 0 where
 
 -- the first session of a seat that has any
 abbrev pub nobody : SessionKnown
-nobody = record { session = 0; progress = first_progress (record { nodes = 0; slots = 0; window = 0; limit = 0 }) (record { shapes = []; programs = []; places = 0 }); note = fresh_note; held = []; tails_read = [] }
+nobody = record { session = 0; progress = first_progress (record { nodes = 0; slots = 0; window = 0; limit = 0; spare = 0 }) (record { shapes = []; programs = []; places = 0 }); note = fresh_note; held = []; tails_read = [] }
 
 abbrev pub first_in : List SessionKnown → SessionKnown
 first_in [] = nobody

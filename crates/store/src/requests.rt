@@ -15,7 +15,7 @@ use combiner::{Batch, Reply};
 use crossbeam_utils::Backoff;
 use oplog::{Call, Op};
 use ownlock::{Seat, Shelf};
-use replica::{Replies, StoreRefused, find_program_of};
+use replica::{Replies, StoreRefused, check_call};
 use std::marker::Brand;
 use std::sync::Wait;
 use verifier::Mode;
@@ -48,7 +48,7 @@ pub(crate) fn post_only<R: Wait>(
     ensures posted { update_refusal shared.entry.catalogue.now asked.entry ≡ None → IsOk result × SessionPosts seat.old seat.new (update_of asked.entry) }
 {
     let Question { program, argument } = asked;
-    find_program_of(shared.catalogue, Mode::Update, program, argument)?;
+    check_call(shared.catalogue, Mode::Update, program, argument)?;
     let call = Call::new(program, argument);
     post(rt, shared, seat, caller, Op::Run(call));
     Ok(())

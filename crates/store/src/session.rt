@@ -17,7 +17,7 @@ use crate::values::Value;
 use combiner::{Batch, Reply};
 use ownlock::Seat;
 use readpath::ReadAnswer;
-use replica::{Replies, StoreRefused, find_program_of};
+use replica::{Replies, StoreRefused, check_call};
 use std::marker::Model;
 use std::sync::Wait;
 use verifier::Mode;
@@ -82,7 +82,8 @@ impl Session {
         (seat, caller)
     }
 
-    /// Runs an update program of the store on its argument, as the next operation of the history.
+    /// Runs an update program of the store on its argument, as the next operation of the history. A number behind the catalogue's programs
+    /// is that of a place: where no program that suits is installed there, the reply is [`NO_PROGRAM`](replica::NO_PROGRAM).
     ///
     /// # Errors
     ///
@@ -120,7 +121,7 @@ impl Session {
     }
 
     /// Runs a read program of the store on the maps of the session's node, once these have seen everything that was completed
-    /// when the call began.
+    /// when the call began. Of a place it is as with [`invoke`](Session::invoke).
     ///
     /// # Errors
     ///
@@ -144,7 +145,7 @@ impl Session {
             → TellsRead self.old self.new (op_of program argument.now) result }
     {
         let Session { seat, caller, .. } = self;
-        find_program_of(store.catalogue(), Mode::Read, program, argument)?;
+        check_call(store.catalogue(), Mode::Read, program, argument)?;
         let question = Question { program, argument };
         Ok(query(rt, store.shared(), seat, *caller, question))
     }

@@ -2,13 +2,11 @@
 
 ghost use Rattle.std.specs.Prelude.{◌≡◌, ◌↔◌, ◌<◌, ◌≤◌, true, false, min, length, None, IsTrue};
 ghost use Rattle.loader.specs.StoreState.{sizes_of, sizes_for};
-ghost use Rattle.verifier.specs.declared.refusal.Mode.TheVariants.{Read};
 ghost use Rattle.oplog.specs.Limits.{IsWindow};
 ghost use Rattle.oplog.specs.Logs.{left_of, room_in};
 ghost use Rattle.combiner.specs.Desks.{BatchView};
 ghost use Rattle.node.specs.Following.{may_rebase, rebased};
 ghost use Rattle.accounts.specs.Moves.{unplaced};
-ghost use Rattle.replica.specs.Refusals.{early_refusal};
 ghost use Rattle.store.specs.Sessions.{IsReadBy, RepliesThere, op_of};
 ghost use Rattle.store.specs.Knowing.{HasLog, HasReplica, IsOn, Knows, Learns, Relates};
 ghost use Rattle.store.specs.Standing.{Stands, IsFree, HasOthers, HasRaised, HasPlace, HasAppended, HasReplayed, HasReached};
@@ -194,18 +192,19 @@ fn reach<R: Wait>(
     follow_and_raise(rt, shared.shelf, seat, node, shared.catalogue);
 }
 
-// What a read program answers on the node's maps, which it leaves as they were.
+// What a read answers on the node's state, which it leaves as it was.
 fn answer_there(node: &mut NodeReplica, catalogue: &Catalogue, question: Question<'_>) -> ReadAnswer
     requires sizes { sizes_of node.old.replica.state ≡ sizes_for catalogue.now }
-    requires asked { early_refusal catalogue.now Read question.program question.argument.now ≡ None }
     ensures point { result.point ≡ node.old.replica.tail }
     ensures reply { RepliesThere catalogue.now (op_of question.entry.program question.entry.argument.now) node.old result.reply }
     ensures same { node.new ≡ node.old }
 {
-    let Some(accepted) = catalogue.program(question.program) else {
-        unreachable!()
-    };
-    answer(accepted, &mut node.replica, question.argument)
+    answer(
+        catalogue,
+        &mut node.replica,
+        question.program,
+        question.argument,
+    )
 }
 
 // Runs a read program on the replica of the caller's node, once it has reached the tail that is completed now.
@@ -218,7 +217,6 @@ pub(crate) fn query<R: Wait>(
 ) -> ReadAnswer
     requires own { seat.old.shelf ≡ shared.shelf.now.id }
     requires idle { Knows seat.old (λ k. IsFree caller k × IsOn shared k) }
-    requires asked { early_refusal shared.catalogue.now Read question.program question.argument.now ≡ None }
     ensures same { seat.new.shelf ≡ seat.old.shelf }
     ensures read { Learns seat.old seat.new (λ k after. IsReadBy k after (op_of question.entry.program question.entry.argument.now) result) }
     ensures goes { Relates seat.old seat.new (λ k after. ReadsBy k after (op_of question.entry.program question.entry.argument.now) result) }

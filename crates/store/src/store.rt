@@ -3,6 +3,7 @@
 ghost use Rattle.std.specs.Prelude.{◌≡◌, ◌≢◌, ◌↔◌, ◌+◌, ◌<◌, ◌≤◌, length, IfOk, IfErr, MatchResult};
 ghost use Rattle.oplog.specs.declared.configuration.OpenError.TheVariants.{OutOfLimits};
 ghost use Rattle.oplog.specs.declared.configuration.TheConstants.{MAX_NODES};
+ghost use Rattle.loader.specs.CatalogueView.{with_places};
 ghost use Rattle.oplog.specs.Limits.{IsConfig};
 ghost use Rattle.store.specs.Shelving.{sessions_of};
 ghost use Rattle.store.specs.Sessions.{fresh_sessions};
@@ -40,8 +41,8 @@ impl Model for Store {
 }
 
 impl Store {
-    /// A store without an operation, and its sessions: one for each slot of each node, in ascending order. No later call takes
-    /// memory.
+    /// A store of the maps and programs of a catalogue, with as many places behind these as the configuration says, and its sessions: one
+    /// for each slot of each node, in ascending order. There is no operation yet. No later call takes memory.
     ///
     /// # Errors
     ///
@@ -53,14 +54,15 @@ impl Store {
     ) -> Result<(Store, Vec<Session>), OpenError>
         ensures limits { IfErr result (λ e. (e ≡ OutOfLimits) ↔ (IsConfig config → ⊥)) }
         ensures openable { IfOk result (λ t. IsConfig config) }
-        ensures store { IfOk result (λ t. (t.0.config ≡ config) × (t.0.catalogue ≡ catalogue)) }
-        ensures sessions { IfOk result (λ t. t.1.items ≡ fresh_sessions t.0.id config catalogue 0 (sessions_of config)) }
+        ensures store { IfOk result (λ t. (t.0.config ≡ config) × (t.0.catalogue ≡ with_places catalogue config.spare)) }
+        ensures sessions { IfOk result (λ t. t.1.items ≡ fresh_sessions t.0.id config (with_places catalogue config.spare) 0 (sessions_of config)) }
         ensures count { IfOk result (λ t. length t.1.items ≡ sessions_of config) }
         ensures own { IfOk result (λ t. AreOf t.0 t.1.items) }
     {
         if !config.is_within_limits() {
             return Err(OpenError::OutOfLimits);
         }
+        let catalogue = catalogue.with_places(config.spare as usize);
         let Ok(values) = shelved_places(alloc, &config, &catalogue) else {
             return Err(OpenError::NoMemory);
         };

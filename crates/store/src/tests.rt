@@ -2,7 +2,8 @@
 // another node.
 
 ghost use Rattle.std.specs.Prelude.{◌≡◌, ◌+◌, ◌*◌, ◌<◌, ◌≤◌, None, IfSome, length};
-ghost use Rattle.verifier.specs.declared.refusal.Mode.TheVariants.{Read, Update};
+ghost use Rattle.verifier.specs.declared.refusal.Mode.TheVariants.{Update};
+ghost use Rattle.loader.specs.CatalogueView.{with_places};
 ghost use Rattle.store.specs.Opening.{AreOf};
 ghost use Rattle.replica.specs.Refusals.{early_refusal};
 ghost use Rattle.store.specs.Sessions.{IsOf, IsThereIn};
@@ -20,7 +21,7 @@ use loader::{Catalogue, load_manifest};
 use oplog::Config;
 use ownlock::{LEADER, Seat};
 use readpath::ReadAnswer;
-use replica::{Replies, StoreRefused, find_program_of};
+use replica::{Replies, StoreRefused, check_call};
 use std::alloc::Global;
 use std::marker::Brand;
 use std::sync::Wait;
@@ -80,13 +81,12 @@ struct Told {
 
 // The catalogue of both programs.
 fn programs(alloc: Global) -> Option<Catalogue>
-    ensures update { IfSome result (λ c. early_refusal c Update 0 ZERO ≡ None) }
-    ensures read { IfSome result (λ c. early_refusal c Read 1 ZERO ≡ None) }
+    ensures update { IfSome result (λ c. early_refusal (with_places c 0) Update 0 ZERO ≡ None) }
 {
     let files = [("bump.hex", BUMP), ("peek.hex", PEEK)];
-    let catalogue = load_manifest(alloc, MANIFEST, &files).ok()?;
-    find_program_of(&catalogue, Mode::Update, 0, &ZERO).ok()?;
-    find_program_of(&catalogue, Mode::Read, 1, &ZERO).ok()?;
+    let loaded = load_manifest(alloc, MANIFEST, &files).ok()?;
+    let catalogue = loaded.with_places(0);
+    check_call(&catalogue, Mode::Update, 0, &ZERO).ok()?;
     Some(catalogue)
 }
 
@@ -95,7 +95,6 @@ fn opened(alloc: Global, nodes: u32, slots: u32, limit: u32) -> Option<(Store, V
     ensures own { IfSome result (λ t. AreOf t.0 t.1.items) }
     ensures count { IfSome result (λ t. length t.1.items ≡ nodes * slots) }
     ensures update { IfSome result (λ t. early_refusal t.0.catalogue Update 0 ZERO ≡ None) }
-    ensures read { IfSome result (λ t. early_refusal t.0.catalogue Read 1 ZERO ≡ None) }
 {
     let catalogue = programs(alloc)?;
     let config = Config {
@@ -103,6 +102,7 @@ fn opened(alloc: Global, nodes: u32, slots: u32, limit: u32) -> Option<(Store, V
         slots,
         window: 16,
         limit,
+        spare: 0,
     };
     Store::open(alloc, config, catalogue).ok()
 }
@@ -163,7 +163,6 @@ fn ready_read<R: Wait>(
 ) -> (u64, ReadAnswer)
     requires own { seat.shelf ≡ shared.shelf.now.id }
     requires there { IsThere seat caller shared.shelf.now.places shared.nodes shared.catalogue.now }
-    requires asked { early_refusal shared.catalogue.now Read 1 ZERO ≡ None }
 {
     shared.shelf.raise(&mut seat, 0);
     let done = shared.shelf.done(&mut seat);
@@ -182,7 +181,6 @@ fn read_beside<R: Wait + Threads + Sync>(
     other: Session,
 ) -> (u64, ReadAnswer)
     requires own { IsOf store.now one × IsOf store.now other }
-    requires asked { early_refusal store.now.catalogue Read 1 ZERO ≡ None }
 {
     let shared = store.shared();
     let (mut one, _) = one.into_parts();
@@ -194,7 +192,6 @@ fn read_beside<R: Wait + Threads + Sync>(
         move ||
             requires own { other.shelf ≡ shared.shelf.now.id }
             requires there { IsThere other caller shared.shelf.now.places shared.nodes shared.catalogue.now }
-            requires asked { early_refusal shared.catalogue.now Read 1 ZERO ≡ None }
         { ready_read(rt, shared, other, caller) },
     );
     shared.shelf.put::<Brand>(&mut one, log);

@@ -6,7 +6,7 @@ use Rattle.std.specs.Io.KnownBytes.{Appends, Keeps}
 use Rattle.text.specs.Lines.{lines_of}
 use Rattle.loader.specs.NamedFiles.{named_in}
 use Rattle.loader.specs.ProgramFiles.{Files}
-use Rattle.loader.specs.CatalogueView.{CatalogueView}
+use Rattle.loader.specs.CatalogueView.{CatalogueView, with_places}
 use Rattle.loader.specs.Loading.{Outcome, loaded}
 use Rattle.oplog.specs.declared.configuration.Config.{Config}
 use Rattle.console.specs.declared.status.Status.{Status}
@@ -66,7 +66,9 @@ BySizes false Is a = a ≡ sizes_refused
 
 -- what a catalogue answers to a script, in a store of these sizes
 abbrev pub IsCatalogueAnswer : Config → CatalogueView → List ℕ → Answer → Type 0
-IsCatalogueAnswer config c script a = BySizes (are_sizes config) (IsScriptAnswer config c (script_calls c 1 (lines_of script))) a
+IsCatalogueAnswer config c script a =
+    let offered : CatalogueView = with_places c config.spare in
+    BySizes (are_sizes config) (IsScriptAnswer config offered (script_calls offered 1 (lines_of script))) a
 
 -- a refused manifest writes only its refusal, sizes out of their limits only theirs
 abbrev pub IsStressed : Config → Outcome → List ℕ → Answer → Type 0

@@ -1,6 +1,6 @@
 // The command `stress`.
 
-ghost use Rattle.std.specs.Prelude.{◌⊎◌, All, map, IfOk};
+ghost use Rattle.std.specs.Prelude.{◌≡◌, ◌⊎◌, All, map, IfOk};
 ghost use Rattle.oplog.specs.Limits.{IsConfig};
 ghost use Rattle.loader.specs.Loading.{Outcome};
 ghost use Rattle.console.specs.Files.{SomeFile};
@@ -46,6 +46,7 @@ fn calls_reply<R: Threads + Wait + Sync, F: Folder, G: Gate + Sync>(
     calls: &[ScriptCall<'_>],
 ) -> Result<Reply, AllocError>
     requires config { IsConfig trial.now.config }
+    requires places { catalogue.places ≡ trial.now.config.spare }
     requires ready { All (IsReady catalogue) calls.now }
     ensures { IfOk result (λ r. IsTranscript trial.now.config catalogue (map called calls.now) (answer_of r)) }
 {
@@ -68,6 +69,7 @@ fn catalogue_reply<R: Threads + Wait + Sync, F: Folder, G: Gate + Sync>(
     if !trial.config.is_within_limits() {
         return sizes_refused(trial.alloc);
     }
+    let catalogue = catalogue.with_places(trial.config.spare as usize);
     match read_calls(trial.alloc, &catalogue, script)? {
         ScriptCalls::Good(calls) => calls_reply(rt, trial, catalogue, &calls),
         ScriptCalls::Bad(number) => bad_line(trial.alloc, number),

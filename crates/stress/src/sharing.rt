@@ -31,6 +31,7 @@ fn open(
     catalogue: Catalogue,
 ) -> Result<(Store, Vec<Session>), AllocError>
     requires config { IsConfig config }
+    requires places { catalogue.places ≡ config.spare }
     ensures catalogue { IfOk result (λ t. t.0.catalogue ≡ catalogue) }
     ensures sizes { IfOk result (λ t. t.0.config ≡ config) }
     ensures sessions { IfOk result (λ t. AreNew t.0 (config.nodes * config.slots) t.1.items) }
@@ -172,6 +173,7 @@ pub(crate) fn tell_all<'a, R: Threads + Wait + Sync, F, G: Gate + Sync>(
     calls: &'a [ScriptCall<'a>],
 ) -> Result<Vec<Told<'a>>, AllocError>
     requires config { IsConfig trial.now.config }
+    requires places { catalogue.places ≡ trial.now.config.spare }
     requires ready { All (IsReady catalogue) calls.now }
     ensures told { TellsCalls result (dealt_to (session_count trial.now.config) (to_be_told calls.now)) }
     ensures one { IfOk result (λ v. IsOfOneHistory catalogue trial.now.config.limit (map told_of v.items)) }

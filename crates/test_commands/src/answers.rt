@@ -25,6 +25,7 @@ fn sizes(text: &str) -> Option<Config> {
         slots: slots.parse::<u32>().ok()?,
         window: window.parse::<u32>().ok()?,
         limit: limit.parse::<u32>().ok()?,
+        spare: 0,
     })
 }
 

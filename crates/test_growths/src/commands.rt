@@ -19,6 +19,7 @@ const ONE_SESSION: Config = Config {
     slots: 1,
     window: 16,
     limit: 100,
+    spare: 0,
 };
 
 // `stress` on the manifest and its calls.

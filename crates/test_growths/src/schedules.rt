@@ -14,6 +14,7 @@ pub const SIZES: Config = Config {
     slots: 2,
     window: 16,
     limit: 100,
+    spare: 0,
 };
 
 pub fn world_opened(alloc: Global) -> Ending {

@@ -55,6 +55,7 @@ pub fn opened<R: Wait>(rt: &R, alloc: Global) -> Ending {
         slots: 1,
         window: 16,
         limit: 100,
+        spare: 0,
     };
     match Store::open(alloc, config, catalogue) {
         Ok((store, mut sessions)) => {

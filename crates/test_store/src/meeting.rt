@@ -77,6 +77,7 @@ fn two_sessions_wait_for_each_other(rt: HostRuntime) {
             slots: 2,
             window: 64,
             limit: 1000,
+            spare: 0,
         },
         folder: &Programs,
         gate: &meeting,

@@ -33,6 +33,7 @@ fn single(window: u32, limit: u32) -> Config
         slots: 1,
         window,
         limit,
+        spare: 0,
     }
 }
 

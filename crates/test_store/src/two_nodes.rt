@@ -46,6 +46,7 @@ fn two_nodes_of_one_slot(rt: HostRuntime) {
         slots: 1,
         window: 16,
         limit: 100,
+        spare: 0,
     };
     let opened = Store::open(rt.alloc(), config, catalogue);
     let (store, mut sessions) = opened.expect(&rt, "store");

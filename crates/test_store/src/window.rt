@@ -109,6 +109,7 @@ fn knows_its_limits(rt: HostRuntime) {
             slots,
             window,
             limit,
+            spare: 0,
         };
         assert_eq!(rt; config.is_within_limits(), want);
     }

@@ -27,6 +27,7 @@ fn counter(alloc: Global, nodes: u32, slots: u32) -> Option<World> {
         slots,
         window: 16,
         limit: 100,
+        spare: 0,
     };
     World::open(alloc, config, catalogue).ok()
 }

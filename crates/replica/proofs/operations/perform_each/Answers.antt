@@ -1,3 +1,4 @@
+use Rattle.std.proofs.Common.{◌∙◌}
 use Rattle.maps.specs.MapSets.{maps_of}
 use Rattle.loader.specs.StoreState.{StoreState, state_of}
 use Rattle.replica.proofs.Afters.{after_one_more}
@@ -7,17 +8,18 @@ use Rattle.replica.proofs.operations.perform_each.Goals as goal
 pub loop-k-preserved : goal.loop-k-preserved
 loop-k-preserved c =
     let opening : StoreState = state_of (maps_of c.args.maps.now) c.args.programs.now in
-    let before : StoreState = state_of (maps_of c.loop-k.maps) c.args.programs.now in
-    let after : StoreState = state_of (maps_of c.perform-outcome.new.maps) c.args.programs.now in
+    let before : StoreState = state_of (maps_of c.loop-k.maps) c.loop-k.programs in
+    let after : StoreState = state_of (maps_of c.perform-outcome.new.maps) c.perform-outcome.new.programs in
     record {
       shapes = c.perform-outcome.ensures.shapes;
+      sizes = (c.perform-outcome.ensures.sizes.0 ∙ c.loop-k.invariant.sizes.0, c.perform-outcome.ensures.sizes.1 ∙ c.loop-k.invariant.sizes.1);
       state =
           after_one_more c.args.catalogue.now opening before after c.args.hand.now.records c.loop-k.k c.record-record.result.now c.record-record.ensures.record c.loop-k.invariant.state
-          (leaves c.args.catalogue.now c.record-record.result.now.op before (maps_of c.perform-outcome.new.maps) c.perform-outcome.result c.perform-outcome.ensures.updated);
+          (leaves c.args.catalogue.now c.record-record.result.now.op before after c.perform-outcome.result c.perform-outcome.ensures.updated);
       kept =
           keeps_one_more c.args.catalogue.now opening before c.args.hand.now.begin c.begin-first.result c.args.hand.now.records
           c.args.replies.now c.loop-k.replies c.keep.new.self c.loop-k.k c.record-record.result.now c.perform-outcome.result
           c.loop-k.invariant.kept c.record-record.ensures.record c.loop-k.invariant.state
-          (is_answered c.args.catalogue.now c.record-record.result.now.op before (maps_of c.perform-outcome.new.maps) c.perform-outcome.result c.perform-outcome.ensures.updated)
+          (is_answered c.args.catalogue.now c.record-record.result.now.op before after c.perform-outcome.result c.perform-outcome.ensures.updated)
           c.begin-first.ensures.begin c.keep.ensures.kept;
     }

@@ -11,6 +11,7 @@ use Rattle.replica.proofs.operations.perform_each.Given as goal
 abbrev pub invariant-loop-k : goal.invariant-loop-k
 invariant-loop-k l = record {
   shapes : HasShapes l.catalogue.shapes (maps_of l.maps);
-  state : state_of (maps_of l.maps) l.programs ≡ after store_meaning l.catalogue (state_of (maps_of l.fn.maps) l.programs) (take l.k l.hand.records);
-  kept : KeepsOutcomes l.catalogue (state_of (maps_of l.fn.maps) l.programs) l.hand.begin (take l.k l.hand.records) l.fn.replies l.replies;
+  sizes : (l.programs.shapes ≡ l.fn.programs.shapes) × (l.programs.places ≡ l.fn.programs.places);
+  state : state_of (maps_of l.maps) l.programs ≡ after store_meaning l.catalogue (state_of (maps_of l.fn.maps) l.fn.programs) (take l.k l.hand.records);
+  kept : KeepsOutcomes l.catalogue (state_of (maps_of l.fn.maps) l.fn.programs) l.hand.begin (take l.k l.hand.records) l.fn.replies l.replies;
 }

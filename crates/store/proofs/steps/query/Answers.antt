@@ -36,8 +36,8 @@ reach-requires-clause-holds g c =
     let up = b.extends.completed in
     (t.0, t.2, (record { value = w; holds = b.holds; agrees = b.agrees c.replica_mut-node.result.now c.replica_mut-node.ensures.replica; stands = b.stands; catalogue = sym b.extends.catalogue ∙ (sym d.1.1.0.0.catalogue ∙ i.2.1.catalogue_is) }, omega (arith, same, up)))
 
-pub answer_there-answer-requires-clause-sizes : goal.answer_there-answer-requires-clause-sizes
-answer_there-answer-requires-clause-sizes g c =
+pub answer_there-answer-requires : goal.answer_there-answer-requires
+answer_there-answer-requires g c =
     let i = c.requires.idle in
     let w = c.take-held.result.value in
     let d = c.done-done.ensures.read i.0 i.1 in
@@ -45,7 +45,7 @@ answer_there-answer-requires-clause-sizes g c =
     let b = took_replica _ t.0 c.args.caller w (free_on c.args.caller i.0 (having_read i.0 d.0 c.done-done.result) refl i.2.0.held d.1.1.0.0 i.2.0) t.1 in
     let r = c.reach.ensures.reached t.0 t.2 in
     let same = later_catalogue (1 + c.args.caller.node) i.0 t.0 r.0 d.0 w c.reach.new.node c.done-done.result c.args.shared.catalogue.now d.1.1.0.0 b r.2 i.2.1.catalogue_is in
-    r.2.agrees.1.0 ∙ ap sizes_for same
+    record { sizes = r.2.agrees.1.0 ∙ ap sizes_for same }
 
 pub put-requires-clause-may : goal.put-requires-clause-may
 put-requires-clause-may g c =

@@ -6,15 +6,12 @@ use Rattle.replica.specs.StoreMeaning.{store_meaning}
 use Rattle.node.specs.Following.{may_answer}
 use Rattle.schedule.specs.Worlds.{own_of}
 use Rattle.schedule.specs.Steps.{read_at, with_read}
-use Rattle.schedule.proofs.Owned.{own_sizes, read_asked}
+use Rattle.schedule.proofs.Owned.{own_sizes}
 use Rattle.schedule.proofs.Answers.{read_taken}
 use Rattle.schedule.proofs.nodes.Node.read_answer.Goals as goal
 
-pub answer_to-given-requires-clause-asks : goal.answer_to-given-requires-clause-asks
-answer_to-given-requires-clause-asks c = read_asked c.args.catalogue.now c.requires.own.2 c.requires.own.3 c.args.slot c.in-Some.read (search rules)
-
-pub answer_to-given-requires-clause-sizes : goal.answer_to-given-requires-clause-sizes
-answer_to-given-requires-clause-sizes c = own_sizes c.args.catalogue.now c.requires.own.2 c.requires.own.3
+pub answer_to-given-requires : goal.answer_to-given-requires
+answer_to-given-requires c = record { sizes = own_sizes c.args.catalogue.now c.requires.own.2 c.requires.own.3 }
 
 pub returns : goal.returns
 returns c = record {

@@ -8,12 +8,12 @@ use Rattle.store.proofs.Fresh.{fresh_long, fresh_of}
 use Rattle.store.proofs.store.Store.open.Goals as goal
 
 pub open-requires-clause-accounts : goal.open-requires-clause-accounts
-open-requires-clause-accounts c = (opens store_meaning c.args.config c.args.catalogue (sessions_of c.args.config)).0
+open-requires-clause-accounts c = (opens store_meaning c.args.config c.with_places-catalogue.result (sessions_of c.args.config)).0
 
 pub returns-clause-count : goal.returns-clause-count
-returns-clause-count c = ap length c.push_sessions.ensures.sessions ∙ fresh_long c.args.config c.args.catalogue _ 0 (sessions_of c.args.config)
+returns-clause-count c = ap length c.push_sessions.ensures.sessions ∙ fresh_long c.args.config c.with_places-catalogue.result _ 0 (sessions_of c.args.config)
 
 pub returns-clause-own : goal.returns-clause-own
 returns-clause-own c =
-    let store : StoreView = record { id = c.in-Ok-open.shelf.id; config = c.args.config; catalogue = c.args.catalogue } in
-    subst (λ z. AreOf store z) (sym c.push_sessions.ensures.sessions) (fresh_of c.args.config c.args.catalogue store 0 (sessions_of c.args.config) refl refl)
+    let store : StoreView = record { id = c.in-Ok-open.shelf.id; config = c.args.config; catalogue = c.with_places-catalogue.result } in
+    subst (λ z. AreOf store z) (sym c.push_sessions.ensures.sessions) (fresh_of c.args.config c.with_places-catalogue.result store 0 (sessions_of c.args.config) refl refl)
