@@ -1,12 +1,12 @@
 -- Which calls on a store are refused before anything is done.
-use Rattle.std.specs.Prelude.{◌≡◌, ℕ, ◌+◌, List, length, Option, Some, None, ◌==◌, ◌&&◌, nat_lt, nat_le, if◌then◌else◌, Result, Ok, Err, MatchResult}
+use Rattle.std.specs.Prelude.{◌≡◌, ℕ, ◌+◌, ◌<◌, List, length, Option, Some, None, ◌==◌, ◌&&◌, nat_lt, nat_le, if◌then◌else◌, Result, Ok, Err, MatchResult}
 use Rattle.maps.specs.declared.shapes.Shape.{Shape}
 use Rattle.maps.specs.declared.shapes.TheConstants.{MAX_ARG_LEN}
 use Rattle.verifier.specs.declared.refusal.Mode.{Mode}
 use Rattle.verifier.specs.declared.refusal.Mode.TheVariants.{Update, Read}
 use Rattle.verifier.specs.Accepted.{Checked}
 use Rattle.loader.specs.CatalogueView.{CatalogueView}
-use Rattle.loader.specs.Installed.{installed_program}
+use Rattle.loader.specs.Installed.{InstalledView, installed_program}
 use Rattle.loader.specs.declared.installed.InstallRefusal.{InstallRefusal}
 use Rattle.loader.specs.declared.installed.InstallRefusal.TheVariants.{Decode, Verify}
 use Rattle.oplog.specs.Calls.{NewProgram}
@@ -74,6 +74,10 @@ abbrev pub install_refusal : List Shape → NewProgram → Option StoreRefused
 install_refusal shapes new =
     if nat_le (length new.bytes) MAX_INSTALLED_BYTES && nat_le new.arg_len MAX_ARG_LEN
     then reading_refusal (installed_program shapes new.mode new.arg_len new.bytes) else Some TooLarge
+
+-- room to find out whether a program for these maps may be installed
+abbrev pub IsRoomFor : List Shape → InstalledView → Type 0
+IsRoomFor shapes room = (room.shapes ≡ shapes) × (0 < room.places)
 
 -- what is answered is this refusal, or that there is none
 abbrev pub IsRefusedAs : {A : Type 0} → Option StoreRefused → Result A StoreRefused → Type 0

@@ -4,7 +4,7 @@ ghost use Rattle.std.specs.Prelude.{◌≡◌, ◌<◌, ◌≤◌, [], length, S
 ghost use Rattle.maps.specs.declared.shapes.TheConstants.{MAX_ARG_LEN};
 ghost use Rattle.oplog.specs.declared.records.TheConstants.{MAX_INSTALLED_BYTES};
 ghost use Rattle.replica.specs.StoreMeaning.{program_at};
-ghost use Rattle.replica.specs.Refusals.{store_fault_number, call_refusal, offered_refusal, early_refusal, install_refusal, IsRefusedAs};
+ghost use Rattle.replica.specs.Refusals.{store_fault_number, call_refusal, offered_refusal, early_refusal, install_refusal, IsRoomFor, IsRefusedAs};
 
 use insn::DecodeRefusal;
 use loader::{Catalogue, InstallRefusal, Installed};
@@ -149,7 +149,7 @@ pub fn check_install(
 ) -> Result<(), StoreRefused>
     requires room { 0 < room.old.places }
     ensures few { IfOk result (λ _. (length bytes.now ≤ MAX_INSTALLED_BYTES) × (arg_len ≤ MAX_ARG_LEN)) }
-    ensures shapes { (room.new.shapes ≡ room.old.shapes) × (room.new.places ≡ room.old.places) }
+    ensures room { IsRoomFor room.old.shapes room.new }
     ensures refusal { IsRefusedAs (install_refusal room.old.shapes (record { mode = mode; arg_len = arg_len; bytes = bytes.now })) result }
 {
     if bytes.len() > MAX_INSTALLED_BYTES || arg_len > MAX_ARG_LEN as u64 {

@@ -15,3 +15,4 @@ pub mod Owned
 pub mod Answers
 pub mod ReadOff
 pub mod OnCalls
+pub mod Installs

@@ -1,11 +1,12 @@
 -- A store's trace is what its steps and their answers tell.
-use Rattle.std.proofs.Common.{◌≡◌, List, [], ◌∷◌, ◌++◌, Option, Some, None, refl, sym, ap, ◌∙◌, subst, append_assoc}
+use Rattle.std.proofs.Common.{◌≡◌, ℕ, List, [], ◌∷◌, ◌++◌, Option, Some, None, refl, sym, ap, ◌∙◌, subst, append_assoc}
 use Rattle.std.specs.Prelude.{slice_get, ◌&&◌, option_map}
 use Rattle.std.proofs.lemmas.Option.{same_Some}
 use Rattle.verifier.specs.declared.refusal.Mode.TheVariants.{Update, Read}
 use Rattle.oplog.specs.declared.configuration.Config.{Config}
 use Rattle.oplog.specs.Operations.{Operation}
 use Rattle.oplog.specs.declared.records.Op.TheVariants.{Run}
+use Rattle.oplog.specs.declared.records.Op.TheVariants as operations
 use Rattle.oplog.specs.History.{ReadEffect, History}
 use Rattle.oplog.specs.Logs.{Log}
 use Rattle.oplog.specs.Sessions.{session}
@@ -16,11 +17,11 @@ use Rattle.node.specs.Steps.{NodeStep, Appends, Replays, Finishes, Reclaims, Reb
 use Rattle.schedule.specs.declared.parts.BegunRead.{BegunRead}
 use Rattle.schedule.specs.declared.parts.Opening.{Opening}
 use Rattle.schedule.specs.declared.steps.Step.{Step}
-use Rattle.schedule.specs.declared.steps.Step.TheVariants.{Post, Claim, Append, Replay, Finish, Reply, Collect, ReadBegin, ReadAnswer, Reclaim, Rebase}
+use Rattle.schedule.specs.declared.steps.Step.TheVariants.{Post, Install, Claim, Append, Replay, Finish, Reply, Collect, ReadBegin, ReadAnswer, Reclaim, Rebase}
 use Rattle.schedule.specs.declared.steps.StepAnswer.TheVariants as answers
 use Rattle.schedule.specs.Trace.{Answer, Updated, ReadBack, Event, Call, Back, Trace, Positions}
 use Rattle.schedule.specs.Worlds.{NodeView, WorldView, own_of}
-use Rattle.schedule.specs.Steps.{Part, Took, with_call_or_back, put_part, part_of, node_of, took, session_at, is_idle, with_read, read_at, no_batch, inner, seen_of, with_event, world_after, trace_after, trace_of}
+use Rattle.schedule.specs.Steps.{Part, Took, post, with_call_or_back, put_part, part_of, node_of, took, session_at, is_idle, with_read, read_at, no_batch, inner, seen_of, with_event, world_after, trace_after, trace_of}
 use Rattle.schedule.specs.Stands.{DeskStands, Stands}
 use Rattle.schedule.specs.Taking.{answer_of, step_answer, answers_to}
 use Rattle.schedule.specs.ReadOff.{event_of, before_events, read_off}
@@ -48,12 +49,18 @@ inner_told m kind step g node p taken is =
     let c = cond_gives (may kind (seen_of g node)) _ p taken in
     told m.config step None p.event (event_is _ p c.1) is
 
-part_told : (m : Opening) (step : Step) (g : Log) (node : NodeView) (p : Part) → DeskStands m (node_of step) node → part_of m step g node ≡ Some p → IsTold m.config step p.event
-part_told m (Post n s program argument) g node p desk taken =
-    let op : Operation = Run (record { program = program; argument = argument.items }) in
+-- of the post of an update
+post_told : (m : Opening) (n s : ℕ) (step : Step) (op : Operation) (g : Log) (node : NodeView) (p : Part) → DeskStands m n node → post m s op g node ≡ Some p
+    → IsTold m.config step (Some (Call (session m.config n s) Update op)) → IsTold m.config step p.event
+post_told m n s step op g node p desk taken is =
     let c = cond_gives (is_idle node s && is_operation Update m.catalogue op) _ p taken in
     let d = map_gives (λ desk. with_call_or_back (Call (session_at node s) Update op) g (record node { desk = desk })) (posted s op node.desk) p c.1 in
-    told m.config (Post n s program argument) (Some (Call (session m.config n s) Update op)) p.event (ap (λ x. Some (Call x Update op)) (sym (session_is m n node s desk)) ∙ ap (λ (q : Part). q.event) d.2) refl
+    told m.config step (Some (Call (session m.config n s) Update op)) p.event (ap (λ x. Some (Call x Update op)) (sym (session_is m n node s desk)) ∙ ap (λ (q : Part). q.event) d.2) is
+
+part_told : (m : Opening) (step : Step) (g : Log) (node : NodeView) (p : Part) → DeskStands m (node_of step) node → part_of m step g node ≡ Some p → IsTold m.config step p.event
+part_told m (Post n s program argument) g node p desk taken = post_told m n s (Post n s program argument) (Run (record { program = program; argument = argument.items })) g node p desk taken refl
+part_told m (Install n s mode arg_len bytes) g node p desk taken =
+    post_told m n s (Install n s mode arg_len bytes) (operations.Install (record { mode = mode; arg_len = arg_len; bytes = bytes.items })) g node p desk taken refl
 part_told m (Claim n) g node p desk taken =
     let c = cond_gives (no_batch node.batch && has_request node.desk) _ p taken in
     told m.config (Claim n) None p.event (event_is _ p c.1) refl
@@ -81,6 +88,7 @@ part_told m (Rebase n) g node p desk taken = inner_told m Rebases (Rebase n) g n
 -- a step that may not be taken is no event
 not_told : (c : Config) (step : Step) → event_of c step answers.NotNow ≡ None
 not_told c (Post n s program argument) = refl
+not_told c (Install n s mode arg_len bytes) = refl
 not_told c (Claim n) = refl
 not_told c (Append n) = refl
 not_told c (Replay n) = refl

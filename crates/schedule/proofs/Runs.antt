@@ -3,6 +3,7 @@ use Rattle.std.proofs.Common.{◌≡◌, ℕ, zero, suc, ◌+◌, ◌*◌, List,
 use Rattle.std.specs.Prelude.{slice_get, replicate, option_map}
 use Rattle.std.proofs.lemmas.Option.{none-some, same_Some}
 use Rattle.oplog.specs.declared.records.Op.TheVariants.{Run}
+use Rattle.oplog.specs.declared.records.Op.TheVariants as operations
 use Rattle.oplog.specs.History.{History}
 use Rattle.oplog.specs.Sessions.{session}
 use Rattle.combiner.specs.declared.slots.Reply.TheVariants.{Placed, Ended}
@@ -11,7 +12,7 @@ use Rattle.combiner.specs.Slots.{slot}
 use Rattle.combiner.specs.Desks.{claimed_from}
 use Rattle.node.specs.declared.parts.NodeBatch.TheVariants.{Absent}
 use Rattle.schedule.specs.declared.steps.Step.{Step}
-use Rattle.schedule.specs.declared.steps.Step.TheVariants.{Post, Claim, Append, Replay, Finish, Reply, Collect, ReadBegin, ReadAnswer, Reclaim, Rebase}
+use Rattle.schedule.specs.declared.steps.Step.TheVariants.{Post, Install, Claim, Append, Replay, Finish, Reply, Collect, ReadBegin, ReadAnswer, Reclaim, Rebase}
 use Rattle.schedule.specs.Trace.{Updated, ReadBack, Call, Back, Trace, Positions}
 use Rattle.schedule.specs.declared.parts.Opening.{Opening}
 use Rattle.schedule.specs.Worlds.{NodeView, WorldView, opened_node, opened_nodes, opened}
@@ -36,6 +37,8 @@ use Rattle.schedule.proofs.Append.{keeps_append}
 pub keeps_part : (m : Opening) (w : WorldView) (h : History) (positions : Positions) (t : Trace) (step : Step) (node : NodeView) (p : Part)
     → slice_get w.nodes (node_of step) ≡ Some node → part_of m step w.log node ≡ Some p → Stands m w h positions t → Kept m w h positions t (node_of step) p
 keeps_part m w h positions t (Post n s program argument) node p at taken x = keeps_post m w h positions t n s (Run (record { program = program; argument = argument.items })) node p at taken x
+keeps_part m w h positions t (Install n s mode arg_len bytes) node p at taken x =
+    keeps_post m w h positions t n s (operations.Install (record { mode = mode; arg_len = arg_len; bytes = bytes.items })) node p at taken x
 keeps_part m w h positions t (Claim n) node p at taken x = keeps_claim m w h positions t n node p at taken x
 keeps_part m w h positions t (Append n) node p at taken x = keeps_append m w h positions t n node p at taken x
 keeps_part m w h positions t (Replay n) node p at taken x = keeps_replay m w h positions t n node p at taken x

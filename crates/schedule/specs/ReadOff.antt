@@ -4,8 +4,9 @@ use Rattle.verifier.specs.declared.refusal.Mode.TheVariants.{Update, Read}
 use Rattle.oplog.specs.declared.configuration.Config.{Config}
 use Rattle.oplog.specs.Sessions.{session}
 use Rattle.oplog.specs.declared.records.Op.TheVariants.{Run}
+use Rattle.oplog.specs.declared.records.Op.TheVariants as operations
 use Rattle.schedule.specs.declared.steps.Step.{Step}
-use Rattle.schedule.specs.declared.steps.Step.TheVariants.{Post, Collect, ReadBegin, ReadAnswer}
+use Rattle.schedule.specs.declared.steps.Step.TheVariants.{Post, Install, Collect, ReadBegin, ReadAnswer}
 use Rattle.schedule.specs.declared.steps.StepAnswer.{StepAnswer}
 use Rattle.schedule.specs.declared.steps.StepAnswer.TheVariants as answers
 use Rattle.schedule.specs.Trace.{Updated, ReadBack, Event, Call, Back, Trace}
@@ -13,6 +14,8 @@ use Rattle.schedule.specs.Trace.{Updated, ReadBack, Event, Call, Back, Trace}
 -- the event that a step is, by its answer: a session's call that was taken, or one that was answered; no other step is an event
 abbrev pub event_of : Config → Step → StepAnswer → Option Event
 event_of c (Post n s program argument) answers.Done = Some (Call (session c n s) Update (Run (record { program = program; argument = argument.items })))
+event_of c (Install n s mode arg_len bytes) answers.Done =
+    Some (Call (session c n s) Update (operations.Install (record { mode = mode; arg_len = arg_len; bytes = bytes.items })))
 event_of c (ReadBegin n s program argument) answers.Done = Some (Call (session c n s) Read (Run (record { program = program; argument = argument.items })))
 event_of c (Collect n s) (answers.Back reply) = Some (Back (session c n s) (Updated reply))
 event_of c (ReadAnswer n s) (answers.ReadBack answer) = Some (Back (session c n s) (ReadBack answer))

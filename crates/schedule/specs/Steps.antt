@@ -5,6 +5,7 @@ use Rattle.verifier.specs.declared.refusal.Mode.TheVariants.{Update, Read}
 use Rattle.oplog.specs.Calls.{Call as ProgramCall}
 use Rattle.oplog.specs.Operations.{Operation}
 use Rattle.oplog.specs.declared.records.Op.TheVariants.{Run}
+use Rattle.oplog.specs.declared.records.Op.TheVariants as operations
 use Rattle.oplog.specs.Logs.{Log}
 use Rattle.combiner.specs.declared.slots.Slot.{Slot}
 use Rattle.combiner.specs.Slots.{is_empty}
@@ -16,7 +17,7 @@ use Rattle.schedule.specs.declared.parts.BegunRead.{BegunRead}
 use Rattle.node.specs.declared.parts.NodeBatch.{NodeBatch}
 use Rattle.node.specs.declared.parts.NodeBatch.TheVariants.{Absent, Held}
 use Rattle.schedule.specs.declared.steps.Step.{Step}
-use Rattle.schedule.specs.declared.steps.Step.TheVariants.{Post, Claim, Append, Replay, Finish, Reply, Collect, ReadBegin, ReadAnswer, Reclaim, Rebase}
+use Rattle.schedule.specs.declared.steps.Step.TheVariants.{Post, Install, Claim, Append, Replay, Finish, Reply, Collect, ReadBegin, ReadAnswer, Reclaim, Rebase}
 use Rattle.schedule.specs.Trace.{Updated, ReadBack, Event, Call, Back, Trace}
 use Rattle.schedule.specs.declared.parts.Opening.{Opening}
 use Rattle.schedule.specs.Worlds.{NodeView, WorldView, own_of}
@@ -132,6 +133,7 @@ inner m step g node = cond (may step (seen_of g node)) (Some (put_seen node (nex
 -- the node that the step names
 abbrev pub node_of : Step → ℕ
 node_of (Post n s program argument) = n
+node_of (Install n s mode arg_len bytes) = n
 node_of (Claim n) = n
 node_of (Append n) = n
 node_of (Replay n) = n
@@ -146,6 +148,7 @@ node_of (Rebase n) = n
 -- what the step makes of the log and of its node
 abbrev pub part_of : Opening → Step → Log → NodeView → Option Part
 part_of m (Post n s program argument) = post m s (Run (record { program = program; argument = argument.items }))
+part_of m (Install n s mode arg_len bytes) = post m s (operations.Install (record { mode = mode; arg_len = arg_len; bytes = bytes.items }))
 part_of m (Claim n) = claim
 part_of m (Append n) = inner m Appends
 part_of m (Replay n) = inner m Replays

@@ -1,10 +1,11 @@
 -- What a call that takes a step does.
 use Rattle.std.specs.Prelude.{◌≡◌, ℕ, true, false, List, [], ◌∷◌, Option, Some, None, MatchOption}
 use Rattle.verifier.specs.declared.refusal.Mode.{Mode}
+use Rattle.verifier.specs.declared.refusal.Mode.TheVariants.{Update}
 use Rattle.loader.specs.CatalogueView.{CatalogueView, IsCatalogue}
-use Rattle.oplog.specs.Calls.{Call as ProgramCall}
+use Rattle.oplog.specs.Calls.{Call as ProgramCall, NewProgram}
 use Rattle.oplog.specs.Operations.{Operation}
-use Rattle.oplog.specs.declared.records.Op.TheVariants.{Run}
+use Rattle.oplog.specs.declared.records.Op.TheVariants.{Run, Install}
 use Rattle.oplog.specs.History.{History}
 use Rattle.oplog.specs.Limits.{IsConfig}
 use Rattle.oplog.specs.Logs.{Log}
@@ -54,6 +55,10 @@ MayCall m mode op = is_operation mode m.catalogue op ≡ true
 -- the call, if its program is one of the catalogue, of this mode
 abbrev pub GivesCall : Mode → CatalogueView → ProgramCall → Option ProgramCall → Type 0
 GivesCall mode c asked given = MatchOption given (is_operation mode c (Run asked) ≡ false) (λ call. (call ≡ asked) × (is_operation mode c (Run call) ≡ true))
+
+-- the program, if it may be installed
+abbrev pub GivesProgram : CatalogueView → NewProgram → Option NewProgram → Type 0
+GivesProgram c asked given = MatchOption given (is_operation Update c (Install asked) ≡ false) (λ new. (new ≡ asked) × (is_operation Update c (Install new) ≡ true))
 
 -- where the step may not be taken, NotNow and no change; else what it makes of the store
 abbrev pub Takes : Option Took → WorldState → WorldState → StepAnswer → Type 0

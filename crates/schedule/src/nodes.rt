@@ -7,22 +7,23 @@ ghost use Rattle.oplog.specs.Limits.{IsConfig};
 ghost use Rattle.oplog.specs.Logs.{Log};
 ghost use Rattle.oplog.specs.declared.records.Op.TheVariants.{Run};
 ghost use Rattle.replica.specs.StoreMeaning.{store_meaning};
+ghost use Rattle.replica.specs.Refusals.{IsRoomFor};
 ghost use Rattle.verifier.specs.declared.refusal.Mode.TheVariants.{Update, Read};
 ghost use Rattle.schedule.specs.declared.parts.Opening.{Opening as TheOpening};
 ghost use Rattle.node.specs.Following.{Fits, has_next, with_next};
 ghost use Rattle.node.specs.Steps.{Appends, Replays, Finishes, Reclaims, Rebases, Replies as TheReplies, may_append_batch};
 ghost use Rattle.schedule.specs.Worlds.{opened_node, own_of};
 ghost use Rattle.schedule.specs.Steps.{is_idle, part_of, inner, post, claim, collect, read_at, read_begin, read_answer};
-ghost use Rattle.schedule.specs.Taking.{IsOfStore, TakesPart, TakesOwnPart, MayCall, GivesCall};
+ghost use Rattle.schedule.specs.Taking.{IsOfStore, TakesPart, TakesOwnPart, MayCall, GivesCall, GivesProgram};
 
 use crate::parts::{BegunRead, Opening};
 use crate::steps::{Step, StepAnswer};
 use combiner::{Batch, Desk, Stage};
-use loader::Catalogue;
+use loader::{Catalogue, Installed};
 use node::{NodeBatch, NodeReplica, Written};
-use oplog::{Call, Hand, LogState, Op};
+use oplog::{Call, Hand, LogState, NewProgram, Op};
 use readpath::{ReadAnswer, answer};
-use replica::{Replica, Replies, check_call};
+use replica::{Replica, Replies, check_call, check_install};
 use std::alloc::{AllocError, Global};
 use std::marker::Model;
 use std::mem;
@@ -57,6 +58,22 @@ fn call_of(catalogue: &Catalogue, mode: Mode, program: u64, argument: &[u8]) -> 
     }
     check_call(catalogue, mode, program as u16, argument).ok()?;
     Some(Call::new(program as u16, argument))
+}
+
+// The program that is to be installed, if it may be: the room holds it then.
+fn program_of(
+    catalogue: &Catalogue,
+    room: &mut Installed,
+    mode: Mode,
+    arg_len: u64,
+    bytes: &[u8],
+) -> Option<NewProgram>
+    requires room { IsRoomFor catalogue.now.shapes room.old }
+    ensures room { IsRoomFor catalogue.now.shapes room.new }
+    ensures program { GivesProgram catalogue.now (record { mode = mode; arg_len = arg_len; bytes = bytes.now }) result }
+{
+    check_install(room, mode, arg_len, bytes).ok()?;
+    Some(NewProgram::new(mode, arg_len as usize, bytes))
 }
 
 // Room for so many reads, none of which is begun.
@@ -322,9 +339,17 @@ impl Node {
         }
     }
 
-    /// Takes the step, which is one of this node, if it may be taken.
-    pub(crate) fn take(&mut self, opening: &Opening, log: &mut LogState, step: &Step) -> StepAnswer
+    /// Takes the step, which is one of this node, if it may be taken. The room is one for a program that is to be installed.
+    pub(crate) fn take(
+        &mut self,
+        opening: &Opening,
+        room: &mut Installed,
+        log: &mut LogState,
+        step: &Step,
+    ) -> StepAnswer
         requires own { IsOfStore opening.now log.old self.old }
+        requires room { IsRoomFor opening.now.catalogue.shapes room.old }
+        ensures room { IsRoomFor opening.now.catalogue.shapes room.new }
         ensures taken { TakesPart (part_of opening.now step.now log.old self.old) log.old self.old log.new self.new result }
     {
         match step {
@@ -335,6 +360,16 @@ impl Node {
                 ..
             } => match call_of(&opening.catalogue, Mode::Update, *program, argument) {
                 Some(call) => self.post(*slot, Op::Run(call)),
+                None => StepAnswer::NotNow,
+            },
+            Step::Install {
+                slot,
+                mode,
+                arg_len,
+                bytes,
+                ..
+            } => match program_of(&opening.catalogue, room, *mode, *arg_len, bytes) {
+                Some(program) => self.post(*slot, Op::Install(program)),
                 None => StepAnswer::NotNow,
             },
             Step::Claim { .. } => self.claim(),

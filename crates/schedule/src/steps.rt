@@ -5,6 +5,7 @@ ghost use Rattle.schedule.specs.Steps.{node_of};
 
 use combiner::Reply;
 use readpath::ReadAnswer;
+use verifier::Mode;
 
 /// A step: what one actor of a store does at once. It names a node, and where one is concerned a slot and a program, by their
 /// numbers, whether they are there or not.
@@ -16,10 +17,23 @@ pub enum Step {
         node: u64,
         /// The slot.
         slot: u64,
-        /// The program's number in the catalogue.
+        /// The program's number: in the catalogue, or behind it that of a place.
         program: u64,
         /// Its argument.
         argument: Vec<u8>,
+    },
+    /// A session calls an install: its request stands in its slot of the desk.
+    Install {
+        /// The node.
+        node: u64,
+        /// The slot.
+        slot: u64,
+        /// What the program may call.
+        mode: Mode,
+        /// How many bytes its argument has.
+        arg_len: u64,
+        /// Its instructions.
+        bytes: Vec<u8>,
     },
     /// A combiner claims the posted requests of its desk as its batch.
     Claim {
@@ -59,7 +73,7 @@ pub enum Step {
         node: u64,
         /// The slot.
         slot: u64,
-        /// The program's number in the catalogue.
+        /// The program's number: in the catalogue, or behind it that of a place.
         program: u64,
         /// Its argument.
         argument: Vec<u8>,
@@ -90,6 +104,7 @@ impl Step {
     {
         match self {
             Step::Post { node, .. }
+            | Step::Install { node, .. }
             | Step::Claim { node }
             | Step::Append { node }
             | Step::Replay { node }

@@ -14,7 +14,7 @@ ghost use Rattle.schedule.specs.Headline.{StepsAreExplained};
 use crate::nodes::Node;
 use crate::parts::Opening;
 use crate::steps::{Step, StepAnswer};
-use loader::Catalogue;
+use loader::{Catalogue, Installed};
 use oplog::{Config, LogState, OpenError};
 use replica::Replica;
 use std::alloc::{AllocError, Global};
@@ -26,9 +26,12 @@ pub struct World {
     opening: Opening,
     log: LogState,
     nodes: Vec<Node>,
+    // Room to find out whether a program may be installed.
+    room: Installed,
 }
 
 impl Model for World {
+    ghost use Rattle.replica.specs.Refusals.{IsRoomFor};
     ghost use Rattle.schedule.specs.Taking.{WorldState, IsStanding, store_of};
     ghost use Rattle.schedule.specs.Codes.{store_code};
 
@@ -39,7 +42,7 @@ impl Model for World {
     ghost view = { λ w. store_of w.opening w.log w.nodes.items };
 
     // Some history stands for the store.
-    ghost invariant = { λ w. IsStanding (store_of w.opening w.log w.nodes.items) };
+    ghost invariant = { λ w. IsStanding (store_of w.opening w.log w.nodes.items) × IsRoomFor w.opening.catalogue.shapes w.room };
 }
 
 // The nodes of a new store.
@@ -78,6 +81,9 @@ impl World {
         let Ok(log) = LogState::open(alloc, shapes, places, window, limit) else {
             return Err(OpenError::NoMemory);
         };
+        let Ok(room) = Installed::open(alloc, shapes, 1) else {
+            return Err(OpenError::NoMemory);
+        };
         let opening = Opening { config, catalogue };
         let Ok(nodes) = open_nodes(alloc, &opening) else {
             return Err(OpenError::NoMemory);
@@ -86,6 +92,7 @@ impl World {
             opening,
             log,
             nodes,
+            room,
         })
     }
 
@@ -140,7 +147,7 @@ impl World {
         ensures taken { Takes (took self.old.opening self.old.world step.now) self.old self.new result }
         ensures explained { StepsAreExplained self.old (step.now ∷ []) (result ∷ []) self.new }
     {
-        self.nodes[number].take(&self.opening, &mut self.log, step)
+        self.nodes[number].take(&self.opening, &mut self.room, &mut self.log, step)
     }
 }
 

@@ -1,5 +1,5 @@
 -- A session's update, from its post to its answer.
-use Rattle.std.proofs.Common.{◌≡◌, ℕ, suc, ◌<◌, ◌≤◌, ◌^◌, [], ◌∷◌, ◌++◌, length, length-append, sym, refl, ap, ◌∙◌, subst, arith, Option, Some, None, Result, Ok, Err}
+use Rattle.std.proofs.Common.{◌≡◌, ℕ, suc, ◌<◌, ◌≤◌, ◌^◌, [], ◌∷◌, ◌++◌, length, length-append, sym, refl, ap, ◌∙◌, subst, arith, Some, None}
 use Rattle.ownlock.specs.Seats.{IsSession, SeatView, ShelfId}
 use Rattle.loader.specs.CatalogueView.{CatalogueView}
 use Rattle.combiner.specs.declared.slots.Reply.{Reply}
@@ -14,7 +14,6 @@ use Rattle.accounts.specs.Accounts.{Extends, IsWellFormed}
 use Rattle.accounts.specs.Moves.{answered_with}
 use Rattle.accounts.specs.Told.{Tells}
 use Rattle.accounts.proofs.Finish.{grown_long}
-use Rattle.replica.specs.declared.refusals.StoreRefused.{StoreRefused}
 use Rattle.store.specs.declared.steps.Caller.{Caller}
 use Rattle.store.specs.declared.values.Value.{Value}
 use Rattle.store.specs.AtDesk.{HasAsked}
@@ -30,14 +29,6 @@ K = SessionKnown
 
 abbrev S : Type 0
 S = SeatView (Progress CatalogueView) SessionNote Value
-
--- a call that was not refused
-pub not_refused : (o : Option StoreRefused) (result : Result (Unit {0}) StoreRefused) (x : (Unit {0})) → ((r : StoreRefused) → o ≡ Some r → result ≡ Err r) → result ≡ Ok x → o ≡ None
-not_refused None result x refused ok = refl
-not_refused (Some r) result x refused ok = absurd (no_both (sym (refused r refl) ∙ ok))
-  where
-    no_both : Err r ≡ Ok x → ⊥
-    no_both e = cc
 
 -- what a session may ask, whose history has a limit
 pub has_asked : (k a : K) (op : Operation) (config : Config) (p : HasPosted k a op) → k.progress.config ≡ config → IsConfig config → k.note.batch ≡ [] → length k.note.answered ≤ length k.progress.history → IsWellFormed store_meaning k.progress → HasAsked a p.request

@@ -2,11 +2,15 @@
 use Rattle.std.specs.Prelude.{◌≡◌, ℕ, zero, suc, ◌+◌, ◌≤◌, List, [], ◌∷◌, ◌++◌, length, Some, None, option_map, Result, MatchResult}
 use Rattle.ownlock.specs.Seats.{IsSession, ShelfId}
 use Rattle.loader.specs.CatalogueView.{CatalogueView}
+use Rattle.loader.specs.Installed.{InstalledView}
 use Rattle.oplog.specs.declared.configuration.Config.{Config}
+use Rattle.verifier.specs.declared.refusal.Mode.{Mode}
+use Rattle.oplog.specs.Calls.{NewProgram}
 use Rattle.oplog.specs.Operations.{Operation}
 use Rattle.oplog.specs.declared.records.Op.TheVariants.{Run}
 use Rattle.readpath.specs.declared.reading.ReadAnswer.{ReadAnswer}
 use Rattle.replica.specs.StoreMeaning.{store_meaning}
+use Rattle.replica.specs.Refusals.{IsRoomFor}
 use Rattle.accounts.specs.declared.sessions.Progress.{Progress}
 use Rattle.accounts.specs.declared.sessions.Pending.{Pending}
 use Rattle.accounts.specs.declared.sessions.SessionNote.{SessionNote}
@@ -84,9 +88,17 @@ pub record IsIdle (s : StoreSeat) (caller : Caller) : Type 0 where
   -- each answered update has its index in the history
   pub within : length known.note.answered ≤ length known.progress.history
 
+-- room for a program that the session's store may install
+abbrev pub HasRoom : InstalledView → StoreSeat → Type 0
+HasRoom room s = IsRoomFor (session_view s).progress.catalogue.shapes room
+
 -- the run of this program on this argument, as an operation
 abbrev pub op_of : ℕ → List ℕ → Operation
 op_of program argument = Run (record { program = program; argument = argument })
+
+-- a program of this mode, for arguments of that length, which these bytes spell, as it is to be installed
+abbrev pub new_program : Mode → ℕ → List ℕ → NewProgram
+new_program mode arg_len bytes = record { mode = mode; arg_len = arg_len; bytes = bytes }
 
 -- the operation as a request of this session
 abbrev pub request_of : Progress CatalogueView → Operation → Pending

@@ -1,7 +1,10 @@
 // What a shelf with desks is opened with: the log, and then the replica and the desk of each node.
 
 ghost use Rattle.std.specs.Prelude.{◌≡◌, ◌+◌, ◌*◌, ◌<◌, ◌≤◌, [], length, replicate, vec_capacity, IfOk};
+ghost use Rattle.std.specs.List.{All};
+ghost use Rattle.maps.specs.Shapes.{AreShapesOk};
 ghost use Rattle.loader.specs.StoreState.{sizes_for};
+ghost use Rattle.replica.specs.Refusals.{IsRoomFor};
 ghost use Rattle.oplog.specs.Limits.{IsConfig, IsWindow};
 ghost use Rattle.oplog.specs.declared.configuration.TheConstants.{MAX_NODES, MAX_NODE_SLOTS};
 ghost use Rattle.ownlock.specs.Knowledge.{AllAgree};
@@ -15,7 +18,8 @@ use crate::session::Session;
 use crate::steps::Caller;
 use crate::values::{Setup, Value, shelved_log, shelved_replica};
 use combiner::Desk;
-use loader::Catalogue;
+use loader::{Catalogue, Installed};
+use maps::Shape;
 use oplog::Config;
 use ownlock::{Seat, Shelf};
 use std::alloc::{AllocError, Global};
@@ -107,22 +111,43 @@ fn caller_of(slots: usize, number: usize) -> Caller
     }
 }
 
-// A session for each slot of each node, in ascending order, each with a seat of its own.
+// Room for a program of these maps for each of so many sessions.
+pub(crate) fn session_rooms(
+    alloc: Global,
+    shapes: &[Shape],
+    count: usize,
+) -> Result<Vec<Installed>, AllocError>
+    requires shapes { AreShapesOk shapes.now }
+    ensures rooms { IfOk result (λ v. All (IsRoomFor shapes.now) v.items × (length v.items ≡ count)) }
+{
+    let mut rooms = Vec::with_capacity(alloc, count)?;
+    for _session in 0..count {
+        rooms.push_reserved(Installed::open(alloc, shapes, 1)?);
+    }
+    Ok(rooms)
+}
+
+// A session for each slot of each node, in ascending order, each with a seat and a room of its own.
 pub(crate) fn push_sessions(
     shelf: &Shelf<Value>,
     mut seat: Seat<Value>,
     setup: &Setup,
+    mut rooms: Vec<Installed>,
     sessions: &mut Vec<Session>,
 )
     requires own { seat.shelf ≡ shelf.now.id }
     requires config { IsConfig setup.now.config }
     requires all { seat.sessions ≡ all_sessions (opening_progress setup.now) 0 (opening_notes setup.now) }
+    requires rooms { All (IsRoomFor setup.now.catalogue.shapes) rooms.items × (length rooms.items ≡ sessions_of setup.now.config) }
     requires room { (sessions.old.items ≡ []) × (sessions_of setup.now.config ≤ vec_capacity sessions.old) }
     ensures sessions { sessions.new.items ≡ fresh_sessions shelf.now.id setup.now.config setup.now.catalogue 0 (sessions_of setup.now.config) }
 {
     for number in 0..session_count(&setup.config) {
+        let Some(room) = rooms.pop() else {
+            unreachable!()
+        };
         let own = shelf.split(&mut seat);
         let caller = caller_of(setup.config.slots as usize, number);
-        sessions.push_reserved(Session::new(own, caller));
+        sessions.push_reserved(Session::new(own, caller, room));
     }
 }

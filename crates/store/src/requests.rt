@@ -21,7 +21,13 @@ use std::sync::Wait;
 use verifier::Mode;
 
 // Posts an operation at the desk of the caller's node.
-fn post<R: Wait>(rt: &R, shared: Shared<'_>, seat: &mut Seat<Value>, caller: Caller, op: Op)
+pub(crate) fn post<R: Wait>(
+    rt: &R,
+    shared: Shared<'_>,
+    seat: &mut Seat<Value>,
+    caller: Caller,
+    op: Op,
+)
     requires own { seat.old.shelf ≡ shared.shelf.now.id }
     requires idle { AwaitsNothing seat.old caller shared }
     requires update { is_operation Update shared.catalogue.now op ≡ true }

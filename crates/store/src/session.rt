@@ -1,23 +1,26 @@
 // A session's calls.
 
-ghost use Rattle.std.specs.Prelude.{◌≡◌, [], ◌∷◌, None, Some, Err};
+ghost use Rattle.std.specs.Prelude.{◌≡◌, [], ◌∷◌, true, None, Some, Err};
 ghost use Rattle.verifier.specs.declared.refusal.Mode.TheVariants.{Update, Read};
 ghost use Rattle.accounts.specs.Accounts.{Extends, IsWellFormed};
-ghost use Rattle.replica.specs.StoreMeaning.{store_meaning};
+ghost use Rattle.oplog.specs.declared.records.Op.TheVariants.{Install};
+ghost use Rattle.replica.specs.StoreMeaning.{store_meaning, is_operation};
 ghost use Rattle.replica.specs.declared.refusals.StoreRefused.{StoreRefused};
-ghost use Rattle.replica.specs.Refusals.{early_refusal};
+ghost use Rattle.replica.specs.Refusals.{early_refusal, install_refusal};
 ghost use Rattle.store.specs.Requests.{said};
-ghost use Rattle.store.specs.Sessions.{IsOf, IsIdle, TellsUpdate, TellsRead, BeginsWithin, known_of, op_of, session_view};
+ghost use Rattle.store.specs.Sessions.{IsOf, IsIdle, TellsUpdate, TellsRead, BeginsWithin, HasRoom, known_of, new_program, op_of, session_view};
 
 use crate::answers::Answer;
-use crate::requests::{complete, post_only};
+use crate::requests::{complete, post};
 use crate::steps::{Caller, Question, query};
 use crate::store::Store;
 use crate::values::Value;
 use combiner::{Batch, Reply};
+use loader::Installed;
+use oplog::{Call, NewProgram, Op};
 use ownlock::Seat;
 use readpath::ReadAnswer;
-use replica::{Replies, StoreRefused, check_call};
+use replica::{Replies, StoreRefused, check_call, check_install};
 use std::marker::Model;
 use std::sync::Wait;
 use verifier::Mode;
@@ -31,16 +34,18 @@ pub struct Session {
     batch: Batch,
     // Room for what their programs answer.
     replies: Replies,
+    // Room to find out whether a program may be installed.
+    room: Installed,
 }
 
 impl Model for Session {
-    ghost use Rattle.store.specs.Sessions.{SessionView, IsIdle, session_view};
+    ghost use Rattle.store.specs.Sessions.{SessionView, HasRoom, IsIdle, session_view};
 
     ghost Value = { SessionView };
 
     ghost view = { λ s. session_view s.seat };
 
-    ghost invariant = { λ s. IsIdle s.seat s.caller };
+    ghost invariant = { λ s. IsIdle s.seat s.caller × HasRoom s.room s.seat };
 }
 
 // What the call says of what became of its update.
@@ -54,9 +59,10 @@ fn answer_of(reply: Reply) -> Result<Answer, StoreRefused>
 }
 
 impl Session {
-    // The session of that slot, with its seat.
-    pub(crate) fn new(seat: Seat<Value>, caller: Caller) -> Session
+    // The session of that slot, with its seat, and room for a program of its store.
+    pub(crate) fn new(seat: Seat<Value>, caller: Caller, room: Installed) -> Session
         requires idle { IsIdle seat caller }
+        requires room { HasRoom room seat }
         ensures session { result ≡ session_view seat }
     {
         Session {
@@ -64,6 +70,7 @@ impl Session {
             caller,
             batch: Batch::new(),
             replies: Replies::new(0, 0),
+            room,
         }
     }
 
@@ -78,12 +85,36 @@ impl Session {
             caller,
             batch: _batch,
             replies: _replies,
+            room: _room,
         } = self;
         (seat, caller)
     }
 
+    // Has an update performed that is not refused, as the next operation of the history.
+    fn update<R: Wait>(&mut self, rt: &R, store: &Store, op: Op) -> Result<Answer, StoreRefused>
+        requires own { IsOf store.now self.old }
+        requires update { is_operation Update store.now.catalogue op ≡ true }
+        ensures own { IsOf store.now self.new }
+        ensures same { (self.new.shelf ≡ self.old.shelf) × (self.new.session ≡ self.old.session) }
+        ensures grown { Extends self.old.progress self.new.progress }
+        ensures well_formed { IsWellFormed store_meaning self.new.progress }
+        ensures answered { TellsUpdate self.old self.new op result }
+    {
+        let shared = store.shared();
+        post(rt, shared, &mut self.seat, self.caller, op);
+        let reply = complete(
+            rt,
+            shared,
+            &mut self.seat,
+            self.caller,
+            &mut self.batch,
+            &mut self.replies,
+        );
+        answer_of(reply)
+    }
+
     /// Runs an update program of the store on its argument, as the next operation of the history. A number behind the catalogue's programs
-    /// is that of a place: where no program that suits is installed there, the reply is [`NO_PROGRAM`](replica::NO_PROGRAM).
+    /// is that of a place: where no program that suits is installed there, the reply is [`NO_PROGRAM`](crate::NO_PROGRAM).
     ///
     /// # Errors
     ///
@@ -106,18 +137,42 @@ impl Session {
         ensures answered { early_refusal store.now.catalogue Update program argument.now ≡ None
             → TellsUpdate self.old self.new (op_of program argument.now) result }
     {
-        let shared = store.shared();
-        let asked = Question { program, argument };
-        post_only(rt, shared, &mut self.seat, self.caller, asked)?;
-        let reply = complete(
-            rt,
-            shared,
-            &mut self.seat,
-            self.caller,
-            &mut self.batch,
-            &mut self.replies,
-        );
-        answer_of(reply)
+        let _seat = &self.seat;
+        check_call(store.catalogue(), Mode::Update, program, argument)?;
+        let call = Call::new(program, argument);
+        self.update(rt, store, Op::Run(call))
+    }
+
+    /// Installs a program in the store, as the next operation of the history: its instructions as bytes, for arguments of `arg_len` bytes. The
+    /// reply is its number, by which it is called from then on, or [`NO_PLACE`](crate::NO_PLACE) where each place is taken. It is decoded and
+    /// verified in room of the session's own, and no memory is taken.
+    ///
+    /// # Errors
+    ///
+    /// S6 where there are more than 192 bytes of instructions or 64 of an argument, S7 where the bytes are no program, S8 where the program isn't
+    /// safe for the store's maps: nothing is done then. S4: the history has all its records, and this request has none. The session goes on
+    /// after each.
+    pub fn install<R: Wait>(
+        &mut self,
+        rt: &R,
+        store: &Store,
+        mode: Mode,
+        arg_len: usize,
+        bytes: &[u8],
+    ) -> Result<Answer, StoreRefused>
+        requires own { IsOf store.now self.old }
+        ensures own { IsOf store.now self.new }
+        ensures same { (self.new.shelf ≡ self.old.shelf) × (self.new.session ≡ self.old.session) }
+        ensures grown { Extends self.old.progress self.new.progress }
+        ensures well_formed { IsWellFormed store_meaning self.new.progress }
+        ensures early { (r : StoreRefused) → install_refusal store.now.catalogue.shapes (new_program mode arg_len bytes.now) ≡ Some r → (result ≡ Err r)
+            × (self.new ≡ self.old) }
+        ensures answered { install_refusal store.now.catalogue.shapes (new_program mode arg_len bytes.now) ≡ None
+            → TellsUpdate self.old self.new (Install (new_program mode arg_len bytes.now)) result }
+    {
+        check_install(&mut self.room, mode, arg_len as u64, bytes)?;
+        let program = NewProgram::new(mode, arg_len, bytes);
+        self.update(rt, store, Op::Install(program))
     }
 
     /// Runs a read program of the store on the maps of the session's node, once these have seen everything that was completed

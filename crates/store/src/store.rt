@@ -10,7 +10,7 @@ ghost use Rattle.store.specs.Sessions.{fresh_sessions};
 ghost use Rattle.store.specs.Opening.{AreOf, AreIdle, IsClosed, known_back};
 
 use crate::closed::Closed;
-use crate::opening::{push_sessions, session_count, shelved_places};
+use crate::opening::{push_sessions, session_count, session_rooms, shelved_places};
 use crate::session::Session;
 use crate::steps::Shared;
 use crate::values::{Setup, Value};
@@ -69,12 +69,17 @@ impl Store {
         let Ok(mut sessions) = Vec::with_capacity(alloc, session_count(&config)) else {
             return Err(OpenError::NoMemory);
         };
+        let count = session_count(&config);
+        let Ok(rooms) = session_rooms(alloc, catalogue.shapes(), count) else {
+            sessions.destroy_empty();
+            return Err(OpenError::NoMemory);
+        };
         let setup = Setup { config, catalogue };
         let Ok((shelf, seat)) = Shelf::open(alloc, values, &setup) else {
             sessions.destroy_empty();
             return Err(OpenError::NoMemory);
         };
-        push_sessions(&shelf, seat, &setup, &mut sessions);
+        push_sessions(&shelf, seat, &setup, rooms, &mut sessions);
         Ok((Store { shelf, setup }, sessions))
     }
 

@@ -12,5 +12,5 @@ returns-else-number-len-clause-explained c =
     let node = c.node-number.ensures.node in
     let outside = c.if-number-len.false in
     let past : length c.self.inside.nodes.items ≤ node_of c.args.step.now = omega (arith, long, node, outside) in
-    step_explained c.args.self.now c.args.self.now c.args.step.now answers.NotNow (subst IsStanding c.self.view_is c.self.invariant)
+    step_explained c.args.self.now c.args.self.now c.args.step.now answers.NotNow (subst IsStanding c.self.view_is c.self.invariant.0)
     (not_there c.args.self.now c.args.step.now (subst (λ (s : WorldState). length s.world.nodes ≤ node_of c.args.step.now) c.self.view_is past))

@@ -9,15 +9,16 @@ use Rattle.schedule.proofs.worlds.World.step_at.Goals as goal
 pub take-requires : goal.take-requires
 take-requires c =
     let there = slice_get_read c.self.inside.nodes.items (length c.self.inside.nodes.items) c.args.number c.index_mut.result.now refl (subst (λ (s : WorldState). c.args.number < length s.world.nodes) (sym c.self.view_is) c.requires.there) c.index_mut.ensures.value in
-    record { own = of_store (store_of c.self.inside.opening c.self.inside.log c.self.inside.nodes.items) c.self.invariant c.args.number c.index_mut.result.now there }
+    record { own = of_store (store_of c.self.inside.opening c.self.inside.log c.self.inside.nodes.items) c.self.invariant.0 c.args.number c.index_mut.result.now there; room = c.self.invariant.1 }
 
 pub invariant_of-self : goal.invariant_of-self
 invariant_of-self c =
     let there = slice_get_read c.self.inside.nodes.items (length c.self.inside.nodes.items) c.args.number c.index_mut.result.now refl (subst (λ (s : WorldState). c.args.number < length s.world.nodes) (sym c.self.view_is) c.requires.there) c.index_mut.ensures.value in
     let at = ap (λ n. slice_get c.self.inside.nodes.items n) (sym c.requires.node) ∙ there in
-    subst (λ n. IsStanding (store_of c.self.inside.opening c.take.new.log (slice_set c.self.inside.nodes.items n c.take.new.self))) (sym c.requires.node)
-    (still_standing (store_of c.self.inside.opening c.self.inside.log c.self.inside.nodes.items) _ c.args.step.now c.take.result c.self.invariant
-    (stepped (store_of c.self.inside.opening c.self.inside.log c.self.inside.nodes.items) c.args.step.now c.index_mut.result.now c.take.new.log c.take.new.self c.take.result at c.take.ensures.taken))
+    let standing = subst (λ n. IsStanding (store_of c.self.inside.opening c.take.new.log (slice_set c.self.inside.nodes.items n c.take.new.self))) (sym c.requires.node)
+    (still_standing (store_of c.self.inside.opening c.self.inside.log c.self.inside.nodes.items) _ c.args.step.now c.take.result c.self.invariant.0
+    (stepped (store_of c.self.inside.opening c.self.inside.log c.self.inside.nodes.items) c.args.step.now c.index_mut.result.now c.take.new.log c.take.new.self c.take.result at c.take.ensures.taken)) in
+    (standing, c.take.ensures.room)
 
 pub returns : goal.returns
 returns c =
@@ -28,4 +29,4 @@ returns c =
     subst (λ (s : WorldState). Takes (took s.opening s.world c.args.step.now) s new c.take.result) c.self.view_is
     (subst (λ n. Takes (took c.self.inside.opening (record { log = c.self.inside.log; nodes = c.self.inside.nodes.items }) c.args.step.now) (store_of c.self.inside.opening c.self.inside.log c.self.inside.nodes.items) (store_of c.self.inside.opening c.take.new.log (slice_set c.self.inside.nodes.items n c.take.new.self)) c.take.result) (sym c.requires.node)
     (stepped (store_of c.self.inside.opening c.self.inside.log c.self.inside.nodes.items) c.args.step.now c.index_mut.result.now c.take.new.log c.take.new.self c.take.result at c.take.ensures.taken)) in
-    record { taken = takes; explained = step_explained c.args.self.now new c.args.step.now c.take.result (subst IsStanding c.self.view_is c.self.invariant) takes }
+    record { taken = takes; explained = step_explained c.args.self.now new c.args.step.now c.take.result (subst IsStanding c.self.view_is c.self.invariant.0) takes }
