@@ -5,6 +5,7 @@ use Rattle.std.proofs.lemmas.List.{length-append}
 use Rattle.std.proofs.lemmas.Option.{same_Some}
 use Rattle.std.proofs.Math.Seq.{drop-append_seam}
 use Rattle.maps.specs.Maps.{AreBytes}
+use Rattle.loader.specs.Installed.{InstalledView}
 use Rattle.loader.specs.StoreState.{StoreState, sizes_of, sizes_for}
 use Rattle.machine.specs.declared.running.Outcome.{Outcome}
 use Rattle.verifier.specs.declared.refusal.Mode.TheVariants.{Update}
@@ -73,9 +74,9 @@ module _ (c : CatalogueView) (g h : Log) (n m : NodeReplica) (r : Record) (log :
         let there = keeps.replayed 0 0 r has_index (ap (λ (x : History). slice_get x 0) holds_one) (omega (arith, tail, at)) in
         (there.0, same_Some got (Some there.0) (sym found ∙ there.1), subst (λ (x : ReplicaView). IsAnswered c r.op x.state there.0) same_replica there.2)
 
-    pub updated : (old : SingleNode) (last : Log) (p : NodeReplica) (op : Operation) → n ≡ old.own → tail_of g ≡ tail_of old.log → g.limit ≡ MAX_LIMIT → r.op ≡ op → p ≡ replayed c m → last ≡ told p h
-        → IfSome got (λ o. IsUpdated c op old (record { log = last; own = p; replies = kept }) o)
-    updated old last p op replica tail limit same run raised =
+    pub updated : (old : SingleNode) (last : Log) (p : NodeReplica) (room : InstalledView) (op : Operation) → n ≡ old.own → tail_of g ≡ tail_of old.log → g.limit ≡ MAX_LIMIT → r.op ≡ op → p ≡ replayed c m → last ≡ told p h
+        → IfSome got (λ o. IsUpdated c op old (record { log = last; own = p; replies = kept; room = room }) o)
+    updated old last p room op replica tail limit same run raised =
         let a = answered in
         let answer = a.2 in
         let takes : store_meaning.update c op old.own.replica.state ≡ Some answer.done =
@@ -83,7 +84,7 @@ module _ (c : CatalogueView) (g h : Log) (n m : NodeReplica) (r : Record) (log :
         let state : p.replica.state ≡ answer.done.left =
         ap (λ (x : NodeReplica). x.replica.state) run ∙ ap (λ (x : History). after store_meaning c m.replica.state x) holds_one
         ∙ ap (λ (x : ReplicaView). left_by (store_meaning.update c r.op x.state) x.state) same_replica ∙ ap (λ (e : Option (Effect StoreState)). left_by e n.replica.state) answer.takes in
-        subst (λ (x : Option Outcome). IfSome x (λ o. IsUpdated c op old (record { log = last; own = p; replies = kept }) o)) (sym a.1)
+        subst (λ (x : Option Outcome). IfSome x (λ o. IsUpdated c op old (record { log = last; own = p; replies = kept; room = room }) o)) (sym a.1)
         (record {
           room = omega (arith, left, tail, limit);
           tail = ap (λ (x : Log). tail_of x) raised ∙ one_more ∙ ap (λ k. k + 1) tail;

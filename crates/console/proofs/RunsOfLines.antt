@@ -1,12 +1,13 @@
 -- Each line that a run writes for a call is a run of its program.
-use Rattle.std.proofs.Common.{◌≡◌, ◌⊎◌, inl, inr, ℕ, zero, suc, ◌<◌, Bool, true, false, cond, eqb, ltb, List, [], ◌∷◌, ◌++◌, length, Option, Some, None, Result, Ok, Err, refl, sym, ap, subst, ◌∙◌}
-use Rattle.std.specs.Prelude.{option_map}
-use Rattle.std.specs.Prelude.{◌-◌, slice_get, if◌then◌else◌}
+use Rattle.std.proofs.Common.{◌≡◌, ◌⊎◌, inl, inr, ℕ, zero, suc, ◌<◌, Bool, true, false, cond, eqb, ltb, List, [], ◌∷◌, ◌++◌, length, Option, Some, None, Result, Ok, Err, refl, sym, ap, subst, ◌∙◌, arith}
+use Rattle.std.specs.Prelude.{◌-◌, option_map, slice_get, if◌then◌else◌, bytes_eq, codes}
+use Rattle.std.specs.Option.{option_or}
 use Rattle.std.proofs.lemmas.Bool.{ltb-true, lt-ltb, eqb-true, false≢true}
-use Rattle.machine.specs.Effects.{Effect as RunEffect}
+use Rattle.std.proofs.lemmas.Option.{same_Some}
 use Rattle.hex.specs.Hex.{decode_of}
 use Rattle.hex.proofs.HexLemmas.{decode_of-ok}
 use Rattle.maps.specs.Maps.{AreBytes}
+use Rattle.machine.specs.Effects.{Effect as RunEffect}
 use Rattle.loader.specs.StoreState.{StoreState, sizes_for, opened_state}
 use Rattle.insn.proofs.Slots.{are_bytes}
 use Rattle.verifier.specs.declared.refusal.Mode.{Mode}
@@ -14,11 +15,12 @@ use Rattle.verifier.specs.declared.refusal.Mode.TheVariants.{Update, Read}
 use Rattle.verifier.specs.Accepted.{Checked}
 use Rattle.text.specs.Lines.{lines_of, next_line}
 use Rattle.text.specs.Fields.{split_at_space}
-use Rattle.text.specs.Words.{is_name}
+use Rattle.text.specs.Words.{is_name, number_of}
 use Rattle.text.specs.Digits.{good, field_bytes}
 use Rattle.text.proofs.LineReadings.{IsSilent, by_kind_from}
 use Rattle.text.proofs.Cuts.{steps, where_true}
-use Rattle.loader.specs.CatalogueView.{CatalogueView, IsCatalogue, number_named}
+use Rattle.loader.specs.CatalogueView.{CatalogueView, IsCatalogue, number_named, with_places}
+use Rattle.loader.specs.Grammar.{mode_of}
 use Rattle.loader.specs.ProgramFiles.{Files}
 use Rattle.loader.specs.Loading.{nothing_yet, loaded}
 use Rattle.loader.proofs.Outcomes.{ok_from}
@@ -26,17 +28,23 @@ use Rattle.loader.proofs.Passed.{passes_stay}
 use Rattle.loader.proofs.Steps.{is_catalogue, nothing_partial}
 use Rattle.oplog.specs.declared.configuration.TheConstants.{MAX_LIMIT}
 use Rattle.oplog.specs.declared.records.Record.{Record}
-use Rattle.oplog.specs.Calls.{Call as TheCall}
-use Rattle.oplog.specs.declared.records.Op.TheVariants.{Run}
+use Rattle.oplog.specs.Calls.{Call as TheCall, NewProgram}
+use Rattle.oplog.specs.Operations.{Operation}
+use Rattle.oplog.specs.declared.records.Op.TheVariants.{Run, Install as AnInstall}
 use Rattle.oplog.specs.History.{Effect, History, left_by, after, state_after, effect_at, read_at}
 use Rattle.replica.specs.StoreMeaning.{program_at, program_in, is_operation, AreUpdates, store_meaning}
-use Rattle.replica.specs.HistoryLaws.{HasRun, IsEffectOf, HasEffects}
+use Rattle.replica.specs.HistoryLaws.{IsEffectOf, HasEffects}
+use Rattle.replica.specs.Refusals.{early_refusal, install_refusal}
+use Rattle.replica.specs.declared.refusals.StoreRefused.{StoreRefused}
+use Rattle.replica.specs.declared.refusals.StoreRefused.TheVariants.{UnknownProgram, ArgumentLength, Ended}
+use Rattle.replica.proofs.Asked.{is_asked, may_install}
 use Rattle.replica.proofs.Tested.{tests_offered, suits_so, offered_below}
 use Rattle.replica.proofs.Histories.{have_effects}
+use Rattle.console.specs.declared.single_node.TheConstants.{RUN_PLACES}
 use Rattle.console.specs.Answer.{Answer}
-use Rattle.console.specs.Script.{ProgramCall, Meaning, Comment, Call, named_call, call_meaning, line_meaning}
-use Rattle.console.specs.RunAnswer.{Turn, refused, with_operation, update_text, read_text, update_line, read_line, performed, performed_by, numbered, called, taken, line_turn, behind, bad_line, by_turn, lines_answer, ran}
-use Rattle.console.specs.RunLines.{CallRuns, IsUpdateTurn, IsReadTurn, IsRefusedTurn, CallTurn, LineTurn, ScriptRuns, RunLinesAreRuns}
+use Rattle.console.specs.Script.{ProgramCall, Meaning, Comment, Call, InvokeAt, ReadAt, Install, named_call, numbered_call, new_program, word_meaning, call_meaning, line_meaning}
+use Rattle.console.specs.RunAnswer.{Turn, refused, with_operation, update_line, read_line, install_line, submitted, performed, performed_by, numbered, called, unless_refused, taken, line_turn, behind, bad_line, by_turn, lines_answer, ran}
+use Rattle.console.specs.RunLines.{CallRuns, IsUpdateTurn, IsReadTurn, IsInstallTurn, IsRefusedTurn, MeaningTurn, LineTurn, ScriptRuns, RunLinesAreRuns}
 use Rattle.console.proofs.Turns.{after_append, whole}
 
 -- ---- the bytes of a call
@@ -64,23 +72,64 @@ named_bytes name digits call e =
     let last = where_true (is_name name) (record { name = name; argument = argument.0 }) call argument.2 in
     subst (λ (x : ProgramCall). AreBytes x.argument) last.1 (field_are_bytes digits argument.0 argument.1)
 
-call_bytes : (line : List ℕ) (call : ProgramCall) → call_meaning line ≡ Some (Call call) → AreBytes call.argument
-unfolding call_meaning
-call_bytes line call e =
-    let field = steps (split_at_space line) _ (Call call) e in
-    let named = steps (named_call field.0.0 field.0.1) _ (Call call) field.2 in
-    subst (λ (x : ProgramCall). AreBytes x.argument) (inside named.0 call named.2) (named_bytes field.0.0 field.0.1 named.0 named.1)
-  where
-    inside : (a b : ProgramCall) → Some (Call a) ≡ Some (Call b) → a ≡ b
-    inside a b e = cc
+numbered_bytes : (text : List ℕ) (call : TheCall) → numbered_call text ≡ Some call → AreBytes call.argument
+unfolding numbered_call
+numbered_bytes text call e =
+    let field = steps (split_at_space text) _ call e in
+    let program = steps (number_of field.0.0) _ call field.2 in
+    let argument = steps (field_bytes field.0.1) _ call program.2 in
+    subst (λ (x : TheCall). AreBytes x.argument) (same_Some _ call argument.2) (field_are_bytes field.0.1 argument.0 argument.1)
 
-line_bytes : (line : List ℕ) (call : ProgramCall) → line_meaning line ≡ Some (Call call) → AreBytes call.argument
-unfolding line_meaning
-line_bytes line call e = by_kind (by_kind_from Comment (call_meaning line) line (Call call) e).1
+program_bytes : (text : List ℕ) (new : NewProgram) → new_program text ≡ Some new → AreBytes new.bytes
+unfolding new_program
+program_bytes text new e =
+    let first = steps (split_at_space text) _ new e in
+    let second = steps (split_at_space first.0.1) _ new first.2 in
+    let mode = steps (mode_of first.0.0) _ new second.2 in
+    let length = steps (number_of second.0.0) _ new mode.2 in
+    let bytes = steps (field_bytes second.0.1) _ new length.2 in
+    subst (λ (x : NewProgram). AreBytes x.bytes) (same_Some _ new bytes.2) (field_are_bytes second.0.1 bytes.0 bytes.1)
+
+-- the argument of a call and the instructions of a program are bytes
+abbrev HasBytes : Meaning → Type 0
+HasBytes Comment = Unit {0}
+HasBytes (Call call) = AreBytes call.argument
+HasBytes (InvokeAt call) = AreBytes call.argument
+HasBytes (ReadAt call) = AreBytes call.argument
+HasBytes (Install new) = AreBytes new.bytes
+
+mapped : {A : Type 0} (f : A → Meaning) (o : Option A) (m : Meaning) → option_map f o ≡ Some m → (x : A) × (o ≡ Some x) × (f x ≡ m)
+mapped f None m e = absurd cc
+mapped f (Some x) m e = (x, refl, same_Some (f x) m e)
+
+word_bytes : (word rest : List ℕ) (m : Meaning) → word_meaning word rest ≡ Some m → HasBytes m
+word_bytes word rest m e = by_word (bytes_eq word (codes "invoke")) (bytes_eq word (codes "read")) (bytes_eq word (codes "install")) e
   where
-    by_kind : (IsSilent line × (Comment ≡ Call call)) ⊎ (call_meaning line ≡ Some (Call call)) → AreBytes call.argument
-    by_kind (inl silent) = absurd (let same : Comment ≡ Call call = silent.1 in cc)
-    by_kind (inr words) = call_bytes line call words
+    by_word : (invoke read install : Bool)
+        → (if invoke then option_map InvokeAt (numbered_call rest) else if read then option_map ReadAt (numbered_call rest) else if install then option_map Install (new_program rest) else None) ≡ Some m
+        → HasBytes m
+    by_word true read install e = let x = mapped InvokeAt (numbered_call rest) m e in subst HasBytes x.2 (numbered_bytes rest x.0 x.1)
+    by_word false true install e = let x = mapped ReadAt (numbered_call rest) m e in subst HasBytes x.2 (numbered_bytes rest x.0 x.1)
+    by_word false false true e = let x = mapped Install (new_program rest) m e in subst HasBytes x.2 (program_bytes rest x.0 x.1)
+    by_word false false false e = absurd cc
+
+call_bytes : (line : List ℕ) (m : Meaning) → call_meaning line ≡ Some m → HasBytes m
+unfolding call_meaning
+call_bytes line m e =
+    let field = steps (split_at_space line) _ m e in
+    by_name field.0.0 field.0.1 (named_call field.0.0 field.0.1) refl field.2
+  where
+    by_name : (word rest : List ℕ) (o : Option ProgramCall) → named_call word rest ≡ o → option_or (option_map Call o) (word_meaning word rest) ≡ Some m → HasBytes m
+    by_name word rest (Some call) is e = subst HasBytes (same_Some (Call call) m e) (named_bytes word rest call is)
+    by_name word rest None is e = word_bytes word rest m e
+
+line_bytes : (line : List ℕ) (m : Meaning) → line_meaning line ≡ Some m → HasBytes m
+unfolding line_meaning
+line_bytes line m e = by_kind (by_kind_from Comment (call_meaning line) line m e).1
+  where
+    by_kind : (IsSilent line × (Comment ≡ m)) ⊎ (call_meaning line ≡ Some m) → HasBytes m
+    by_kind (inl silent) = subst HasBytes silent.1 tt
+    by_kind (inr words) = call_bytes line m words
 
 -- ---- one more update
 
@@ -90,116 +139,138 @@ pushed c [] r updates is (suc k) s e = absurd cc
 pushed c (x ∷ h) r updates is zero s e = updates 0 s e
 pushed c (x ∷ h) r updates is (suc k) s e = pushed c h r (λ i t f. updates (suc i) t f) is k s e
 
-module _ (c : CatalogueView) (is_whole : IsCatalogue c) (h : History) (updates : AreUpdates c h) (k : ℕ) (argument : List ℕ) (bytes : AreBytes argument) (program : Checked) (named : program_at c k ≡ Some program)
-    (fits : length argument ≡ program.arg_len) where
-  abbrev one : TheCall
-  one = record { program = k; argument = argument }
+-- ---- operations that are performed
 
+module _ (c : CatalogueView) (is_whole : IsCatalogue c) (h : History) (updates : AreUpdates c h) where
   has_effects : HasEffects c h
   has_effects = have_effects c is_whole h updates
 
-  is_of : (mode : Mode) → program.mode ≡ mode → is_operation mode c (Run one) ≡ true
-  is_of mode m = tests_offered mode c one (record { program = program; named = named; mode_is = m; length_is = fits; bytes = bytes })
+  abbrev here : StoreState
+  here = state_after store_meaning c h (length h)
 
-  -- the program is that of its number in each state, and what the call does is its run
-  named_in : (s : StoreState) → program_in c s k ≡ Some program
-  named_in s = ap (λ b. if b then program_at c k else slice_get s.programs (k - length c.programs)) (lt-ltb k (length c.programs) (offered_below c k program named)) ∙ named
+  -- the history that an update leaves has updates alone
+  grown : (op : Operation) → is_operation Update c op ≡ true → AreUpdates c (with_operation h op)
+  grown op is = pushed c h (record { author = 0; seq = length h; op = op }) updates is
 
-  same_program : (s : StoreState) (other : Checked) → program_in c s k ≡ Some other → program ≡ other
-  same_program s other e = let same : Some program ≡ Some other = sym (named_in s) ∙ e in cc
+  left_behind : (op : Operation) (e : Effect StoreState) → effect_at store_meaning c h (length h) op ≡ Some e → state_after store_meaning c (with_operation h op) (length (with_operation h op)) ≡ e.left
+  left_behind op e is =
+      let r : Record = record { author = 0; seq = length h; op = op } in
+      whole c (with_operation h op) ∙ after_append store_meaning c (opened_state (sizes_for c)) h (r ∷ []) ∙ ap (λ (s : StoreState). after store_meaning c s (r ∷ [])) (sym (whole c h))
+      ∙ ap (λ (o : Option (Effect StoreState)). left_by o here) is
 
-  its_run : (mode : Mode) (s : StoreState) (e : RunEffect) → program.mode ≡ mode → IsEffectOf mode c one s e → (r : HasRun mode c one s) × (e ≡ r.done)
-  its_run mode s e m (inl run) = run
-  its_run mode s e m (inr none) = absurd (false≢true (sym (none.0 program (named_in s)) ∙ suits_so mode argument program m fits))
+  abbrev update_of : (call : TheCall) → Turn
+  update_of call = record { text = update_line (length h) (effect_at store_meaning c h (length h) (Run call)); history = with_operation h (Run call) }
 
-  -- the run that stands behind a turn
-  abbrev call_runs : (mode : Mode) → program.mode ≡ mode → (r : HasRun mode c one (state_after store_meaning c h (length h))) → CallRuns c h one mode
-  call_runs mode m r =
-      let same = same_program (state_after store_meaning c h (length h)) r.program r.named in
-      record {
-        program = r.program;
-        named = named ∙ ap Some same;
-        mode_is = subst (λ p. p.mode ≡ mode) same m;
-        steps = r.done.steps;
-        reply = r.done.reply;
-        left = r.done.maps;
-        runs = r.run.runs;
-      }
+  abbrev read_of_call : (call : TheCall) → Turn
+  read_of_call call = record { text = read_line (length h) (read_at store_meaning c h (length h) (Run call)); history = h }
 
-  update_turn : program.mode ≡ Update → length h < MAX_LIMIT → IsUpdateTurn c h one (record { text = update_line (length h) (effect_at store_meaning c h (length h) (Run one)); history = with_operation h (Run one) })
-  update_turn mode room =
-      let u = has_effects.updates (length h) one (is_of Update mode) in
-      let run = its_run Update (state_after store_meaning c h (length h)) u.0 mode u.1 in
-      let r : Record = record { author = 0; seq = length h; op = Run one } in
-      record {
-        run = call_runs Update mode run.0;
-        room = room;
-        text = ap (update_line (length h)) u.2 ∙ ap (λ (e : RunEffect). update_text (length h) e.reply e.steps) run.1;
-        next = refl;
-        left =
-            ap (λ (s : StoreState). s.maps)
-            (whole c (with_operation h (Run one)) ∙ after_append store_meaning c (opened_state (sizes_for c)) h (r ∷ []) ∙ ap (λ (s : StoreState). after store_meaning c s (r ∷ [])) (sym (whole c h))
-            ∙ ap (λ (e : Option (Effect StoreState)). left_by e (state_after store_meaning c h (length h))) u.2)
-            ∙ ap (λ (e : RunEffect). e.maps) run.1;
-      }
+  abbrev install_of : (new : NewProgram) → Turn
+  install_of new = record { text = install_line (length h) (effect_at store_meaning c h (length h) (AnInstall new)); history = with_operation h (AnInstall new) }
 
-  read_turn : program.mode ≡ Read → IsReadTurn c h one (record { text = read_line (length h) (read_at store_meaning c h (length h) (Run one)); history = h })
-  read_turn mode =
-      let u = has_effects.reads (length h) one (is_of Read mode) in
-      let run = its_run Read (state_after store_meaning c h (length h)) u.0 mode u.1 in
-      record {
-        run = call_runs Read mode run.0;
-        text = ap (read_line (length h)) u.2 ∙ ap (λ (e : RunEffect). read_text (length h) e.reply e.steps) run.1;
-        same = refl;
-        left = sym (ap (λ (e : RunEffect). e.maps) run.1) ∙ u.3;
-      }
+  update_turn : (call : TheCall) → is_operation Update c (Run call) ≡ true → length h < MAX_LIMIT → IsUpdateTurn c h call (update_of call)
+  update_turn call is room =
+      let u = has_effects.updates (length h) call is in
+      record { done = u.0; does = u.1; room = room; text = ap (update_line (length h)) u.2; next = refl; left = ap (λ (s : StoreState). s.maps) (left_behind (Run call) _ u.2) }
 
-  -- the history that a turn leaves has updates alone
-  grown : program.mode ≡ Update → AreUpdates c (with_operation h (Run one))
-  grown mode = pushed c h (record { author = 0; seq = length h; op = Run one }) updates (is_of Update mode)
+  read_turn : (call : TheCall) → is_operation Read c (Run call) ≡ true → IsReadTurn c h call (read_of_call call)
+  read_turn call is =
+      let u = has_effects.reads (length h) call is in
+      record { done = u.0; does = u.1; text = ap (read_line (length h)) u.2; same = refl; left = u.3 }
 
-refused_turn : (h : History) (number : ℕ) → IsRefusedTurn h (refused h number)
-refused_turn h number = record { number = number; text = refl; same = refl }
+  install_turn : (new : NewProgram) → is_operation Update c (AnInstall new) ≡ true → length h < MAX_LIMIT → IsInstallTurn c h new (install_of new)
+  install_turn new is room =
+      let u = has_effects.installs (length h) new is in
+      record { program = u.0; read = u.1; room = room; text = ap (install_line (length h)) u.2; next = refl; left = left_behind (AnInstall new) _ u.2 }
 
--- ---- one call
+  stops : (why : StoreRefused) → IsRefusedTurn h (refused h why)
+  stops why = record { why = why; text = refl; same = refl }
 
--- a turn of the call, and updates alone behind it
-abbrev Goes : CatalogueView → History → ProgramCall → Turn → Type 0
-Goes c h call turn = CallTurn c h call turn × AreUpdates c turn.history
+  -- ---- by the refusal, or the room that is left
 
-module _ (c : CatalogueView) (is_whole : IsCatalogue c) (h : History) (updates : AreUpdates c h) (call : ProgramCall) (bytes : AreBytes call.argument) where
-  stops : (number : ℕ) → Goes c h call (refused h number)
-  stops number = (inl (refused_turn h number), updates)
+  -- a turn of a line that says this, and updates alone behind it
+  abbrev Goes : Meaning → Turn → Type 0
+  Goes m turn = MeaningTurn c h turn m × AreUpdates c turn.history
 
-  module _ (k : ℕ) (numbered_so : number_named c.programs call.name ≡ Some k) where
-    abbrev called_so : TheCall
-    called_so = record { program = k; argument = call.argument }
+  invoke_goes : (call : TheCall) → AreBytes call.argument → (o : Option StoreRefused) → early_refusal c Update call.program call.argument ≡ o
+      → Goes (InvokeAt call) (unless_refused h (performed c h (Run call) Update) o)
+  invoke_goes call bytes (Some why) e = (inl (stops why), updates)
+  invoke_goes call bytes None e = by_room (ltb (length h) MAX_LIMIT) refl
+    where
+      is : is_operation Update c (Run call) ≡ true
+      is = is_asked Update c call.program call.argument e bytes
 
-    goes_with : (program : Checked) (mode : Mode) → program_at c k ≡ Some program → length call.argument ≡ program.arg_len → program.mode ≡ mode → Goes c h call (performed c h (Run called_so) mode)
-    goes_with program Read named fits is = (inr (k, numbered_so, inr (read_turn c is_whole h updates k call.argument bytes program named fits is)), updates)
-    goes_with program Update named fits is = by_room (ltb (length h) MAX_LIMIT) refl
-      where
-        by_room : (b : Bool) → ltb (length h) MAX_LIMIT ≡ b
-            → Goes c h call (cond b (record { text = update_line (length h) (effect_at store_meaning c h (length h) (Run called_so)); history = with_operation h (Run called_so) }) (refused h 4))
-        by_room true room =
-            (inr (k, numbered_so, inl (update_turn c is_whole h updates k call.argument bytes program named fits is (ltb-true _ _ room))), grown c is_whole h updates k call.argument bytes program named fits is)
-        by_room false room = stops 4
+      by_room : (b : Bool) → ltb (length h) MAX_LIMIT ≡ b → Goes (InvokeAt call) (cond b (update_of call) (refused h Ended))
+      by_room true room = (inr (update_turn call is (ltb-true _ _ room)), grown (Run call) is)
+      by_room false room = (inl (stops Ended), updates)
 
-    by_program : (o : Option Checked) → program_at c k ≡ o → Goes c h call (performed_by c h called_so o)
-    by_program None e = stops 1
+  read_goes : (call : TheCall) → AreBytes call.argument → (o : Option StoreRefused) → early_refusal c Read call.program call.argument ≡ o
+      → Goes (ReadAt call) (unless_refused h (performed c h (Run call) Read) o)
+  read_goes call bytes (Some why) e = (inl (stops why), updates)
+  read_goes call bytes None e = (inr (read_turn call (is_asked Read c call.program call.argument e bytes)), updates)
+
+  install_goes : (new : NewProgram) → AreBytes new.bytes → (o : Option StoreRefused) → install_refusal c.shapes new ≡ o
+      → Goes (Install new) (unless_refused h (submitted install_line c h (AnInstall new)) o)
+  install_goes new bytes (Some why) e = (inl (stops why), updates)
+  install_goes new bytes None e = by_room (ltb (length h) MAX_LIMIT) refl
+    where
+      is : is_operation Update c (AnInstall new) ≡ true
+      is = may_install c new e bytes
+
+      by_room : (b : Bool) → ltb (length h) MAX_LIMIT ≡ b → Goes (Install new) (cond b (install_of new) (refused h Ended))
+      by_room true room = (inr (install_turn new is (ltb-true _ _ room)), grown (AnInstall new) is)
+      by_room false room = (inl (stops Ended), updates)
+
+  -- ---- a call by its program's name
+
+  module _ (call : ProgramCall) (bytes : AreBytes call.argument) (k : ℕ) (numbered_so : number_named c.programs call.name ≡ Some k) where
+    abbrev one : TheCall
+    one = record { program = k; argument = call.argument }
+
+    module _ (program : Checked) (named : program_at c k ≡ Some program) (fits : length call.argument ≡ program.arg_len) where
+      is_of : (mode : Mode) → program.mode ≡ mode → is_operation mode c (Run one) ≡ true
+      is_of mode m = tests_offered mode c one (record { program = program; named = named; mode_is = m; length_is = fits; bytes = bytes })
+
+      -- the program is that of its number in each state, and what the call does is its run
+      named_in : (s : StoreState) → program_in c s k ≡ Some program
+      named_in s = ap (λ b. if b then program_at c k else slice_get s.programs (k - length c.programs)) (lt-ltb k (length c.programs) (offered_below c k program named)) ∙ named
+
+      same_program : (s : StoreState) (other : Checked) → program_in c s k ≡ Some other → program ≡ other
+      same_program s other e = same_Some program other (sym (named_in s) ∙ e)
+
+      its_run : (mode : Mode) (e : RunEffect) → program.mode ≡ mode → IsEffectOf mode c one here e → CallRuns c h one mode e
+      its_run mode e m (inl run) =
+          let same = same_program here run.0.program run.0.named in
+          let r : CallRuns c h one mode run.0.done = record { program = run.0.program; named = named ∙ ap Some same; mode_is = subst (λ p. p.mode ≡ mode) same m; run = run.0.run } in
+          subst (CallRuns c h one mode) (sym run.1) r
+      its_run mode e m (inr none) = absurd (false≢true (sym (none.0 program (named_in here)) ∙ suits_so mode call.argument program m fits))
+
+      by_mode : (mode : Mode) → program.mode ≡ mode → Goes (Call call) (performed c h (Run one) mode)
+      by_mode Read m = let r = read_turn one (is_of Read m) in (inr (k, numbered_so, inr (r, its_run Read r.done m r.does)), updates)
+      by_mode Update m = by_room (ltb (length h) MAX_LIMIT) refl
+        where
+          by_room : (b : Bool) → ltb (length h) MAX_LIMIT ≡ b → Goes (Call call) (cond b (update_of one) (refused h Ended))
+          by_room true room = let u = update_turn one (is_of Update m) (ltb-true _ _ room) in (inr (k, numbered_so, inl (u, its_run Update u.done m u.does)), grown (Run one) (is_of Update m))
+          by_room false room = (inl (stops Ended), updates)
+
+    by_program : (o : Option Checked) → program_at c k ≡ o → Goes (Call call) (performed_by c h one o)
+    by_program None e = (inl (stops UnknownProgram), updates)
     by_program (Some program) e = by_length (eqb (length call.argument) program.arg_len) refl
       where
-        by_length : (b : Bool) → eqb (length call.argument) program.arg_len ≡ b → Goes c h call (cond b (performed c h (Run called_so) program.mode) (refused h 2))
-        by_length true fits = goes_with program program.mode e (eqb-true _ _ fits) refl
-        by_length false fits = stops 2
+        by_length : (b : Bool) → eqb (length call.argument) program.arg_len ≡ b → Goes (Call call) (cond b (performed c h (Run one) program.mode) (refused h ArgumentLength))
+        by_length true fits = by_mode program e (eqb-true _ _ fits) program.mode refl
+        by_length false fits = (inl (stops ArgumentLength), updates)
 
-  by_number : (o : Option ℕ) → number_named c.programs call.name ≡ o → Goes c h call (numbered c h call.argument o)
-  by_number None e = stops 1
-  by_number (Some k) e = by_program k e (program_at c k) refl
+  by_number : (call : ProgramCall) → AreBytes call.argument → (o : Option ℕ) → number_named c.programs call.name ≡ o → Goes (Call call) (numbered c h call.argument o)
+  by_number call bytes None e = (inl (stops UnknownProgram), updates)
+  by_number call bytes (Some k) e = by_program call bytes k e (program_at c k) refl
 
-  pub call_goes : Goes c h call (called c h call)
+  pub goes : (m : Meaning) → HasBytes m → Goes m (taken c h m)
   unfolding called
-  call_goes = by_number (number_named c.programs call.name) refl
+  goes Comment bytes = ((refl, refl), updates)
+  goes (Call call) bytes = by_number call bytes (number_named c.programs call.name) refl
+  goes (InvokeAt call) bytes = invoke_goes call bytes (early_refusal c Update call.program call.argument) refl
+  goes (ReadAt call) bytes = read_goes call bytes (early_refusal c Read call.program call.argument) refl
+  goes (Install new) bytes = install_goes new bytes (install_refusal c.shapes new) refl
 
 -- ---- the lines
 
@@ -212,10 +283,9 @@ module _ (c : CatalogueView) (is_whole : IsCatalogue c) (l : List ℕ) (ls : Lis
       → ((line_meaning l ≡ None) × (by_turn (bad_line n) next (option_map (taken c h) o) ≡ bad_line n))
       ⊎ ((turn : Turn) × (rest : Answer) × LineTurn c h l turn × ScriptRuns c (next_line n) turn.history ls rest × (by_turn (bad_line n) next (option_map (taken c h) o) ≡ behind turn.text rest))
   line_runs None e = inl (e, refl)
-  line_runs (Some Comment) e = inr (record { text = []; history = h }, lines_answer c (next_line n) h ls, inl (e, refl, refl), more h updates, refl)
-  line_runs (Some (Call call)) e =
-      let g = call_goes c is_whole h updates call (line_bytes l call e) in
-      inr (called c h call, lines_answer c (next_line n) (called c h call).history ls, inr (call, e, g.0), more (called c h call).history g.1, refl)
+  line_runs (Some m) e =
+      let g = goes c is_whole h updates m (line_bytes l m e) in
+      inr (taken c h m, lines_answer c (next_line n) (taken c h m).history ls, (m, e, g.0), more (taken c h m).history g.1, refl)
 
 pub lines_run : (c : CatalogueView) → IsCatalogue c → (ls : List (List ℕ)) (n : ℕ) (h : History) → AreUpdates c h → ScriptRuns c n h ls (lines_answer c n h ls)
 unfolding lines_answer line_turn
@@ -233,6 +303,12 @@ loaded_catalogue text files c e =
 no_updates : (c : CatalogueView) → AreUpdates c []
 no_updates c k r e = absurd cc
 
+-- a catalogue with places for a run's programs is one
+placed_catalogue : (c : CatalogueView) → IsCatalogue c → IsCatalogue (with_places c RUN_PLACES)
+placed_catalogue c is = record { shapes = is.shapes; accepted = is.accepted; checked = is.checked; distinct = is.distinct; few = is.few; few_places = omega arith }
+
 pub run_lines_are_runs : RunLinesAreRuns
 run_lines_are_runs manifest files c script e =
-    subst (λ o. ScriptRuns c 1 [] (lines_of script) (ran o script)) (sym e) (lines_run c (loaded_catalogue manifest files c e) (lines_of script) 1 [] (no_updates c))
+    let offered : CatalogueView = with_places c RUN_PLACES in
+    subst (λ o. ScriptRuns offered 1 [] (lines_of script) (ran o script)) (sym e)
+    (lines_run offered (placed_catalogue c (loaded_catalogue manifest files c e)) (lines_of script) 1 [] (no_updates offered))

@@ -15,7 +15,7 @@ use Rattle.schedule.specs.Taking.{WorldState}
 use Rattle.console.specs.declared.status.Verdict.{Verdict}
 use Rattle.console.specs.declared.status.Verdict.TheVariants as verdicts
 use Rattle.console.specs.Answer.{Answer}
-use Rattle.console.specs.StepLine.{StepMeaning, Comment, Post, ReadBegin, Collect, ReadAnswer, Claim, Append, Replay, Finish, Reply, Reclaim, Rebase, step_line_meaning}
+use Rattle.console.specs.StepLine.{StepMeaning, Comment, Post, Install, ReadBegin, Collect, ReadAnswer, Claim, Append, Replay, Finish, Reply, Reclaim, Rebase, step_line_meaning}
 use Rattle.console.specs.RunAnswer.{behind, bad_line, bad_line_text}
 use Rattle.console.specs.ScheduleAnswer.{StepTurn, part_of, step_turn, step_line_turn, by_step_turn, steps_answer, node_text, nodes_text, end_text, are_sizes}
 use Rattle.console.specs.Scheduling.{StepLineTaken, node_line}
@@ -36,6 +36,7 @@ took_keeps w n (Some node) f = by_part (f node)
 turn_keeps : (m : Opening) (w : WorldView) (line : StepMeaning) → length (step_turn m w line).world.nodes ≡ length w.nodes
 turn_keeps m w Comment = refl
 turn_keeps m w (Post at) = took_keeps w at.node (slice_get w.nodes at.node) (part_of m (Post at) w.log)
+turn_keeps m w (Install at) = took_keeps w at.node (slice_get w.nodes at.node) (part_of m (Install at) w.log)
 turn_keeps m w (ReadBegin at) = took_keeps w at.node (slice_get w.nodes at.node) (part_of m (ReadBegin at) w.log)
 turn_keeps m w (Collect at) = took_keeps w at.node (slice_get w.nodes at.node) (part_of m (Collect at) w.log)
 turn_keeps m w (ReadAnswer at) = took_keeps w at.node (slice_get w.nodes at.node) (part_of m (ReadAnswer at) w.log)

@@ -1,11 +1,9 @@
 -- What a call writes and leaves, from what the node answers.
-use Rattle.std.proofs.Common.{◌≡◌, ℕ, ◌+◌, true, List, [], ◌∷◌, ◌++◌, length, Option, Some, Result, Ok, Err, refl, sym, ap, ap₂, subst, ◌∙◌, arith, ltb}
+use Rattle.std.proofs.Common.{◌≡◌, ℕ, ◌+◌, true, List, [], ◌∷◌, ◌++◌, length, Option, Some, Result, Ok, Err, refl, sym, ap, ◌∙◌, arith, ltb}
 use Rattle.std.specs.Prelude.{OnOk}
 use Rattle.std.proofs.lemmas.Bool.{lt-ltb}
 use Rattle.std.proofs.lemmas.List.{length-append, take_all}
 use Rattle.loader.specs.StoreState.{StoreState, sizes_for, opened_state}
-use Rattle.verifier.specs.declared.refusal.Mode.TheVariants.{Update}
-use Rattle.verifier.specs.Accepted.{Checked}
 use Rattle.machine.specs.declared.running.Outcome.{Outcome}
 use Rattle.loader.specs.CatalogueView.{CatalogueView}
 use Rattle.oplog.specs.declared.configuration.TheConstants.{MAX_LIMIT}
@@ -14,7 +12,7 @@ use Rattle.oplog.specs.Logs.{tail_of}
 use Rattle.oplog.specs.History.{Meaning, Effect, History, left_by, after, state_after, effect_at}
 use Rattle.replica.specs.StoreMeaning.{store_meaning}
 use Rattle.console.specs.declared.single_node.SingleNode.{SingleNode}
-use Rattle.console.specs.RunAnswer.{with_operation, update_line, update_text, performed}
+use Rattle.console.specs.RunAnswer.{with_operation, update_line, update_text, install_line, install_text, submitted}
 use Rattle.console.specs.Running.{Follows, IsUpdated, IsTaken}
 
 -- the state after one history and then another
@@ -55,15 +53,27 @@ module _ (c : CatalogueView) (h : History) (n : SingleNode) (follows : Follows c
         ∙ sym (after_append store_meaning c (opened_state (sizes_for c)) h (record { author = 0; seq = length h; op = op } ∷ [])) in
         record { count = omega (arith, grown, count, size); state = left }
 
-  module _ (op : Operation) (program : Checked) where
-    -- an update
-    pub update_turn : {A E : Type 0} (r : Result A E) (index : ℕ) (m : SingleNode) (o : Outcome) (old new : List ℕ) → index ≡ tail_of n.log → program.mode ≡ Update → IsUpdated c op n m o
-        → OnOk r (new ≡ old ++ update_text index o.reply o.steps) → OnOk r (IsTaken c (performed c h op program.mode) m old new)
-    update_turn r index m o old new is mode u wrote =
+  module _ (op : Operation) where
+    -- an update whose line was written
+    submitted_turn : {A E : Type 0} (line : ℕ → Option (Effect StoreState) → List ℕ) (r : Result A E) (index : ℕ) (m : SingleNode) (o : Outcome) (old new : List ℕ) → index ≡ tail_of n.log → (u : IsUpdated c op n m o)
+        → OnOk r (new ≡ old ++ line index (Some u.done)) → OnOk r (IsTaken c (submitted line c h op) m old new)
+    submitted_turn line r index m o old new is u wrote =
         let at : index ≡ length h = is ∙ follows.count in
         let room = has_room op m o u in
-        let text : update_line (length h) (effect_at store_meaning c h (length h) op) ≡ update_text index o.reply o.steps =
-        ap (update_line (length h)) (effect_here op m o u) ∙ ap₂ (λ (p : ℕ) (x : Outcome). update_text p x.reply x.steps) (sym at) (sym u.outcome) in
-        on_ok r (new ≡ old ++ update_text index o.reply o.steps) (IsTaken c (performed c h op program.mode) m old new)
-        (λ w. subst (λ x. IsTaken c (performed c h op x) m old new) (sym mode)
-        (rw room (record { written = w ∙ ap (λ t. old ++ t) (sym text); placed = updated_follows op m o u }))) wrote
+        let text : line (length h) (effect_at store_meaning c h (length h) op) ≡ line index (Some u.done) =
+        ap (line (length h)) (effect_here op m o u) ∙ ap (λ (p : ℕ). line p (Some u.done)) (sym at) in
+        on_ok r (new ≡ old ++ line index (Some u.done)) (IsTaken c (submitted line c h op) m old new)
+        (λ w. rw room (record { written = w ∙ ap (λ t. old ++ t) (sym text); placed = updated_follows op m o u })) wrote
+
+    -- of a call, and of an install
+    pub update_turn : {A E : Type 0} (r : Result A E) (index : ℕ) (m : SingleNode) (o : Outcome) (old new : List ℕ) → index ≡ tail_of n.log → IsUpdated c op n m o
+        → OnOk r (new ≡ old ++ update_text index o.reply o.steps) → OnOk r (IsTaken c (submitted update_line c h op) m old new)
+    update_turn r index m o old new is u wrote =
+        submitted_turn update_line r index m o old new is u
+        (on_ok r (new ≡ old ++ update_text index o.reply o.steps) (new ≡ old ++ update_line index (Some u.done)) (λ w. w ∙ ap (λ (x : Outcome). old ++ update_text index x.reply x.steps) u.outcome) wrote)
+
+    pub install_turn : {A E : Type 0} (r : Result A E) (index : ℕ) (m : SingleNode) (o : Outcome) (old new : List ℕ) → index ≡ tail_of n.log → IsUpdated c op n m o
+        → OnOk r (new ≡ old ++ install_text index o.reply) → OnOk r (IsTaken c (submitted install_line c h op) m old new)
+    install_turn r index m o old new is u wrote =
+        submitted_turn install_line r index m o old new is u
+        (on_ok r (new ≡ old ++ install_text index o.reply) (new ≡ old ++ install_line index (Some u.done)) (λ w. w ∙ ap (λ (x : Outcome). old ++ install_text index x.reply) u.outcome) wrote)

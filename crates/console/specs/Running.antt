@@ -8,15 +8,14 @@ use Rattle.loader.specs.CatalogueView.{CatalogueView}
 use Rattle.oplog.specs.declared.configuration.TheConstants.{MAX_LIMIT}
 use Rattle.oplog.specs.Calls.{Call}
 use Rattle.oplog.specs.Operations.{Operation}
-use Rattle.oplog.specs.declared.records.Op.TheVariants.{Run}
 use Rattle.oplog.specs.Logs.{tail_of}
 use Rattle.oplog.specs.History.{Effect, History, after}
 use Rattle.replica.specs.StoreMeaning.{program_at, outcome_of, store_meaning}
-use Rattle.console.specs.declared.calls.Numbered.{Numbered}
+use Rattle.replica.specs.Refusals.{IsRoomFor}
 use Rattle.console.specs.declared.single_node.SingleNode.{SingleNode}
 use Rattle.console.specs.declared.status.Verdict.{Verdict}
 use Rattle.console.specs.Answer.{Answer}
-use Rattle.console.specs.RunAnswer.{Turn, performed, line_turn, behind}
+use Rattle.console.specs.RunAnswer.{Turn, line_turn, behind}
 
 -- the whole history is completed, and the replica has applied it
 pub record IsSteady (c : CatalogueView) (n : SingleNode) : Type 0 where
@@ -26,6 +25,7 @@ pub record IsSteady (c : CatalogueView) (n : SingleNode) : Type 0 where
   pub window : n.own.hand.window ≡ n.log.window
   pub tail : n.own.replica.tail ≡ tail_of n.log
   pub sizes : sizes_of n.own.replica.state ≡ sizes_for c
+  pub room : IsRoomFor c.shapes n.room
 
 -- the node has this history behind it: so many updates, and the state that they leave
 pub record Follows (c : CatalogueView) (h : History) (n : SingleNode) : Type 0 where
@@ -58,10 +58,6 @@ pub record HasEnded (old new : SingleNode) : Type 0 where
 pub record IsTaken (c : CatalogueView) (turn : Turn) (n : SingleNode) (old new : List ℕ) : Type 0 where
   pub written : new ≡ old ++ turn.text
   pub placed : Follows c turn.history n
-
--- what a program of this number does on an argument
-abbrev pub numbered_turn : CatalogueView → History → Numbered → List ℕ → Turn
-numbered_turn c h n argument = performed c h (Run (record { program = n.number; argument = argument })) n.program.now.mode
 
 -- from any history that the node has behind it, its turn is taken, unless memory runs out
 abbrev pub TakesTurn : {A E : Type 0} → CatalogueView → (History → Turn) → SingleNode → SingleNode → List ℕ → List ℕ → Result A E → Type 0

@@ -1,11 +1,11 @@
 -- What `schedule` answers and writes, as a function of the sizes of the store, of the manifest, of the files that are there, and of
 -- the steps.
-use Rattle.std.specs.Prelude.{ℕ, suc, Bool, ◌&&◌, List, [], ◌∷◌, ◌++◌, codes, decimal, Option, Some, None, option_map, option_and_then, unwrap_or, slice_get, Ok, Err, nat_le, if◌then◌else◌}
+use Rattle.std.specs.Prelude.{ℕ, suc, Bool, ◌&&◌, List, [], ◌∷◌, ◌++◌, codes, decimal, Option, Some, None, option_map, option_and_then, unwrap_or, slice_get, length, Ok, Err, nat_lt, nat_le, if◌then◌else◌}
 use Rattle.text.specs.Lines.{lines_of, next_line}
 use Rattle.loader.specs.CatalogueView.{CatalogueView, number_named, with_places}
 use Rattle.loader.specs.Loading.{Outcome}
 use Rattle.oplog.specs.Calls.{Call}
-use Rattle.oplog.specs.declared.records.Op.TheVariants.{Run}
+use Rattle.oplog.specs.declared.records.Op.TheVariants.{Run, Install as AnInstall}
 use Rattle.oplog.specs.Logs.{Log, tail_of}
 use Rattle.oplog.specs.declared.configuration.Config.{Config}
 use Rattle.loader.specs.declared.installed.TheConstants.{MAX_PLACES}
@@ -23,7 +23,8 @@ use Rattle.console.specs.declared.status.Verdict.TheVariants as verdicts
 use Rattle.console.specs.Files.{Contents}
 use Rattle.console.specs.Answer.{Answer, refusal_answer}
 use Rattle.console.specs.Inputs.{texts_answer, IsTextsAnswer}
-use Rattle.console.specs.StepLine.{StepMeaning, CallAt, Comment, Post, ReadBegin, Collect, ReadAnswer, Claim, Append, Replay, Finish, Reply, Reclaim, Rebase, step_line_meaning}
+use Rattle.console.specs.Script.{ProgramKey, Named, Numbered}
+use Rattle.console.specs.StepLine.{StepMeaning, CallAt, Comment, Post, Install, ReadBegin, Collect, ReadAnswer, Claim, Append, Replay, Finish, Reply, Reclaim, Rebase, step_line_meaning}
 use Rattle.console.specs.RunAnswer.{behind, bad_line}
 
 -- ---- the texts
@@ -54,13 +55,19 @@ end_text w = log_text w.log ++ nodes_text 0 w.nodes
 
 -- ---- one line
 
--- the call that a line makes; no catalogue has a program of the number that stands for an unknown name
+-- the number of the program that a line names: one of the catalogue's by its name, or one behind these; else one that no store has
+abbrev pub number_keyed : CatalogueView → ProgramKey → ℕ
+number_keyed c (Named name) = unwrap_or (number_named c.programs name) 65535
+number_keyed c (Numbered k) = if nat_lt k (length c.programs) then 65535 else k
+
+-- the call that a line makes
 abbrev pub call_at : CatalogueView → CallAt → Call
-call_at c at = record { program = unwrap_or (number_named c.programs at.call.name) 65535; argument = at.call.argument }
+call_at c at = record { program = number_keyed c at.call.key; argument = at.call.argument }
 
 abbrev pub node_of : StepMeaning → ℕ
 node_of Comment = 0
 node_of (Post at) = at.node
+node_of (Install at) = at.node
 node_of (ReadBegin at) = at.node
 node_of (Collect at) = at.node
 node_of (ReadAnswer at) = at.node
@@ -76,6 +83,7 @@ node_of (Rebase n) = n
 abbrev pub part_of : Opening → StepMeaning → Log → NodeView → Option Part
 part_of m Comment g node = None
 part_of m (Post at) g node = steps.post m at.slot (Run (call_at m.catalogue at)) g node
+part_of m (Install at) g node = steps.post m at.slot (AnInstall at.program) g node
 part_of m (ReadBegin at) g node = steps.read_begin m at.slot (call_at m.catalogue at) g node
 part_of m (Collect at) g node = steps.collect at.slot g node
 part_of m (ReadAnswer at) g node = steps.read_answer m at.slot g node

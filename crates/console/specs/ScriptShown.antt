@@ -1,21 +1,27 @@
 -- What a line that was read says, without where its text lies. Clauses of private functions alone cite this.
 use Rattle.std.specs.Prelude.{ℕ}
-use Rattle.oplog.specs.Calls.{Call as NumberedCall}
+use Rattle.oplog.specs.Calls.{Call as NumberedCall, NewProgram}
 use Rattle.oplog.specs.Operations.{Operation}
 use Rattle.oplog.specs.declared.records.Op.TheVariants.{Run}
 use Rattle.console.specs.declared.script.ProgramCall.{ProgramCall as TheCall}
+use Rattle.console.specs.declared.script.NumberedCall.{NumberedCall as TheNumberedCall}
+use Rattle.console.specs.declared.script.ProgramText.{ProgramText}
+use Rattle.console.specs.declared.script.ProgramKey.{ProgramKey as TheKey}
+use Rattle.console.specs.declared.script.ProgramKey.TheVariants as keys
+use Rattle.console.specs.declared.script.KeyedCall.{KeyedCall as TheKeyedCall}
 use Rattle.console.specs.declared.script.ScriptLine.{ScriptLine}
 use Rattle.console.specs.declared.script.ScriptLine.TheVariants as lines
 use Rattle.console.specs.declared.step_lines.SlotAt.{SlotAt as TheSlotAt}
 use Rattle.console.specs.declared.step_lines.CallAt.{CallAt as TheCallAt}
+use Rattle.console.specs.declared.step_lines.InstallAt.{InstallAt as TheInstallAt}
 use Rattle.console.specs.declared.step_lines.StepLine.{StepLine}
 use Rattle.console.specs.declared.step_lines.StepLine.TheVariants as steps
 use Rattle.console.specs.declared.transcripts.AnsweredCall.{AnsweredCall as TheAnsweredCall}
 use Rattle.console.specs.declared.transcripts.TranscriptLine.{TranscriptLine}
 use Rattle.console.specs.declared.transcripts.TranscriptLine.TheVariants as told
-use Rattle.console.specs.Script.{ProgramCall, Meaning, Comment, Call}
+use Rattle.console.specs.Script.{ProgramCall, ProgramKey, Named, Numbered, KeyedCall, Meaning, Comment, Call, InvokeAt, ReadAt, Install}
 use Rattle.console.specs.StepLine as said
-use Rattle.console.specs.StepLine.{StepMeaning, SlotAt, CallAt}
+use Rattle.console.specs.StepLine.{StepMeaning, SlotAt, CallAt, InstallAt}
 use Rattle.console.specs.Transcript as telling
 use Rattle.console.specs.Transcript.{TranscriptMeaning, AnsweredCall}
 
@@ -29,9 +35,26 @@ numbered_call number c = record { program = number; argument = c.argument.items 
 abbrev pub numbered_operation : ℕ → TheCall → Operation
 numbered_operation number c = Run (numbered_call number c)
 
+abbrev pub key_of : TheKey → ProgramKey
+key_of (keys.Named name) = Named name.now
+key_of (keys.Numbered k) = Numbered k
+
+abbrev pub keyed_of : TheKeyedCall → KeyedCall
+keyed_of c = record { key = key_of c.key; argument = c.argument.items }
+
+-- the call of a number, and a program to be installed, as a line says them
+abbrev pub at_number_of : TheNumberedCall → NumberedCall
+at_number_of c = record { program = c.program; argument = c.argument.items }
+
+abbrev pub program_of : ProgramText → NewProgram
+program_of p = record { mode = p.mode; arg_len = p.arg_len; bytes = p.bytes.items }
+
 abbrev pub meaning_of : ScriptLine → Meaning
 meaning_of lines.Comment = Comment
 meaning_of (lines.Call c) = Call (call_of c)
+meaning_of (lines.InvokeAt c) = InvokeAt (at_number_of c)
+meaning_of (lines.ReadAt c) = ReadAt (at_number_of c)
+meaning_of (lines.Install p) = Install (program_of p)
 
 -- ---- steps
 
@@ -39,11 +62,15 @@ abbrev pub slot_of : TheSlotAt → SlotAt
 slot_of at = record { node = at.node; slot = at.slot }
 
 abbrev pub slot_call_of : TheCallAt → CallAt
-slot_call_of at = record { node = at.node; slot = at.slot; call = call_of at.call }
+slot_call_of at = record { node = at.node; slot = at.slot; call = keyed_of at.call }
+
+abbrev pub slot_program_of : TheInstallAt → InstallAt
+slot_program_of at = record { node = at.node; slot = at.slot; program = program_of at.program }
 
 abbrev pub step_of : StepLine → StepMeaning
 step_of steps.Comment = said.Comment
 step_of (steps.Post at) = said.Post (slot_call_of at)
+step_of (steps.Install at) = said.Install (slot_program_of at)
 step_of (steps.ReadBegin at) = said.ReadBegin (slot_call_of at)
 step_of (steps.Collect at) = said.Collect (slot_of at)
 step_of (steps.ReadAnswer at) = said.ReadAnswer (slot_of at)

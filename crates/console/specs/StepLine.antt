@@ -3,7 +3,8 @@ use Rattle.std.specs.Prelude.{ℕ, List, Option, Some, None, option_map, if◌th
 use Rattle.text.specs.Lines.{kind_of, by_kind}
 use Rattle.text.specs.Fields.{split_at_space}
 use Rattle.text.specs.Words.{◌>>=◌, number_of}
-use Rattle.console.specs.Script.{ProgramCall, named_call}
+use Rattle.oplog.specs.Calls.{NewProgram}
+use Rattle.console.specs.Script.{KeyedCall, keyed_call, new_program}
 
 -- a slot of a node
 pub record SlotAt : Type 0 where
@@ -14,12 +15,19 @@ pub record SlotAt : Type 0 where
 pub record CallAt : Type 0 where
   pub node : ℕ
   pub slot : ℕ
-  pub call : ProgramCall
+  pub call : KeyedCall
 
--- a comment or an empty line, or a step: of a call, of a slot, or of a node
+-- a program to be installed by a slot of a node
+pub record InstallAt : Type 0 where
+  pub node : ℕ
+  pub slot : ℕ
+  pub program : NewProgram
+
+-- a comment or an empty line, or a step: of a call, of an install, of a slot, or of a node
 pub data StepMeaning : Type 0 where
   Comment : StepMeaning
   Post : CallAt → StepMeaning
+  Install : InstallAt → StepMeaning
   ReadBegin : CallAt → StepMeaning
   Collect : SlotAt → StepMeaning
   ReadAnswer : SlotAt → StepMeaning
@@ -39,7 +47,7 @@ slot_at text = do
   slot ← number_of field.1
   Some (record { node = node; slot = slot })
 
--- N S NAME HEX
+-- N S NAME HEX, or with K in the place of NAME
 unfoldable pub call_at : List ℕ → Option CallAt
 call_at text = do
   first ← split_at_space text
@@ -47,8 +55,18 @@ call_at text = do
   third ← split_at_space second.1
   node ← number_of first.0
   slot ← number_of second.0
-  call ← named_call third.0 third.1
+  call ← keyed_call third.0 third.1
   Some (record { node = node; slot = slot; call = call })
+
+-- N S MODE ARGLEN HEX
+unfoldable pub install_at : List ℕ → Option InstallAt
+install_at text = do
+  first ← split_at_space text
+  second ← split_at_space first.1
+  node ← number_of first.0
+  slot ← number_of second.0
+  program ← new_program second.1
+  Some (record { node = node; slot = slot; program = program })
 
 -- the step of a node that has this word
 abbrev pub node_step : List ℕ → ℕ → Option StepMeaning
@@ -72,6 +90,7 @@ node_words word text = do
 abbrev pub step_words : List ℕ → List ℕ → Option StepMeaning
 step_words word rest =
     if bytes_eq word (codes "post") then option_map Post (call_at rest)
+    else if bytes_eq word (codes "install") then option_map Install (install_at rest)
     else if bytes_eq word (codes "readbegin") then option_map ReadBegin (call_at rest)
     else if bytes_eq word (codes "collect") then option_map Collect (slot_at rest)
     else if bytes_eq word (codes "readanswer") then option_map ReadAnswer (slot_at rest)

@@ -3,6 +3,8 @@ use Rattle.std.specs.Prelude.{ℕ, List, [], ◌++◌, length, codes, decimal, O
 use Rattle.std.specs.List.{flat_map}
 use Rattle.insn.specs.Layout.{size}
 use Rattle.insn.specs.Refusal as decoding
+use Rattle.insn.specs.declared.decoding.DecodeRefusal.{DecodeRefusal}
+use Rattle.verifier.specs.declared.refusal.Refused.{Refused}
 use Rattle.verifier.specs.Numbers as verifying
 use Rattle.loader.specs.declared.refusals.LoadFault.{LoadFault}
 use Rattle.loader.specs.declared.refusals.LoadFault.TheVariants as faults
@@ -22,9 +24,15 @@ abbrev pub programs_text : List Entry → List ℕ
 programs_text es = flat_map program_line es
 
 -- where the decoder or the verifier refuses: its own number, and the slot
+abbrev pub decode_text : DecodeRefusal → List ℕ
+decode_text e = codes " D" ++ (decimal (decoding.fault_number e.why) ++ (codes " slot " ++ decimal e.slot))
+
+abbrev pub verify_text : Refused → List ℕ
+verify_text e = codes " V" ++ (decimal (verifying.fault_number e.why) ++ (codes " slot " ++ decimal e.slot))
+
 abbrev pub index_text : LoadFault → List ℕ
-index_text (faults.Decode e) = codes " D" ++ (decimal (decoding.fault_number e.why) ++ (codes " slot " ++ decimal e.slot))
-index_text (faults.Verify e) = codes " V" ++ (decimal (verifying.fault_number e.why) ++ (codes " slot " ++ decimal e.slot))
+index_text (faults.Decode e) = decode_text e
+index_text (faults.Verify e) = verify_text e
 index_text why = []
 
 abbrev pub fault_text : LoadFault → List ℕ

@@ -1,51 +1,42 @@
 // What a line of a script does.
 
-ghost use Rattle.std.specs.Prelude.{◌≡◌, ◌≤◌, Some, length};
-ghost use Rattle.maps.specs.declared.shapes.TheConstants.{MAX_ARG_LEN};
-ghost use Rattle.replica.specs.StoreMeaning.{program_at};
-ghost use Rattle.console.specs.RunAnswer.{numbered, called};
-ghost use Rattle.console.specs.Running.{IsSteady, TakesTurn, TakesLine, numbered_turn};
-ghost use Rattle.console.specs.ScriptShown.{call_of};
+ghost use Rattle.std.specs.Prelude.{◌≡◌, true, IfOk};
+ghost use Rattle.oplog.specs.declared.records.Op.TheVariants.{Run};
+ghost use Rattle.replica.specs.StoreMeaning.{is_operation};
+ghost use Rattle.replica.specs.Refusals.{early_refusal, IsRefusedAs};
+ghost use Rattle.console.specs.RunAnswer.{numbered, called, asked, installed, performed};
+ghost use Rattle.console.specs.Running.{IsSteady, TakesTurn, TakesLine};
+ghost use Rattle.console.specs.ScriptShown.{call_of, at_number_of, program_of};
 
-use crate::run_texts::{put_read, put_refused, put_update};
-use crate::script::{ProgramCall, ScriptLine, read_line};
+use crate::run_texts::{put_install, put_read, put_refused, put_update};
+use crate::script::{NumberedCall, ProgramCall, ProgramText, ScriptLine, read_line};
 use crate::single_node::SingleNode;
 use loader::Catalogue;
-use replica::{StoreRefused, find_program};
+use oplog::{Call, Op};
+use replica::{StoreRefused, check_call, find_program};
 use std::alloc::AllocError;
-use verifier::{Accepted, Mode};
+use verifier::Mode;
 
-// A program of the catalogue, and its number there.
-#[derive(Clone, Copy)]
-pub(crate) struct Numbered<'a> {
-    pub number: u16,
-    pub program: &'a Accepted,
-}
-
-// Runs a program on an argument of its length.
+// Performs a call, as an update or as a read.
 fn perform(
     node: &mut SingleNode,
     catalogue: &Catalogue,
-    numbered: Numbered<'_>,
-    argument: &[u8],
+    mode: Mode,
+    call: Call,
     out: &mut Vec<u8>,
 ) -> Result<(), AllocError>
     requires steady { IsSteady catalogue.now node.old }
-    requires program { program_at catalogue.now numbered.number ≡ Some numbered.program.now }
-    requires length { length argument.now ≡ numbered.program.now.arg_len }
-    requires fits { length argument.now ≤ MAX_ARG_LEN }
-    requires shapes { numbered.program.now.shapes ≡ catalogue.now.shapes }
+    requires call { is_operation mode catalogue.now (Run call) ≡ true }
     ensures steady { IsSteady catalogue.now node.new }
-    ensures taken { TakesTurn catalogue.now (λ h. numbered_turn catalogue.now h numbered.entry argument.now) node.old node.new out.old.items out.new.items result }
+    ensures taken { TakesTurn catalogue.now (λ h. performed catalogue.now h (Run call) mode) node.old node.new out.old.items out.new.items result }
 {
-    let Numbered { number, program } = numbered;
     let index = node.tail();
-    match program.mode() {
+    match mode {
         Mode::Read => {
-            let outcome = node.query(catalogue, number, argument);
+            let outcome = node.query(catalogue, call.program(), call.argument());
             put_read(out, index, outcome)
         }
-        Mode::Update => match node.submit(catalogue, number, argument) {
+        Mode::Update => match node.submit(catalogue, Op::Run(call)) {
             Some(outcome) => put_update(out, index, outcome),
             None => put_refused(out, StoreRefused::Ended),
         },
@@ -68,12 +59,15 @@ fn run_numbered(
         return put_refused(out, StoreRefused::UnknownProgram);
     };
     match find_program(catalogue, number, argument) {
-        Ok(program) => perform(node, catalogue, Numbered { number, program }, argument, out),
+        Ok(program) => {
+            let call = Call::new(number, argument);
+            perform(node, catalogue, program.mode(), call, out)
+        }
         Err(refused) => put_refused(out, refused),
     }
 }
 
-// Runs the program that a line calls, and writes what it answers.
+// Runs the program that a line calls by its name, and writes what it answers.
 #[tactic(auto, unfolding(crate::specs::RunAnswer::called))]
 fn run_call(
     node: &mut SingleNode,
@@ -94,6 +88,62 @@ fn run_call(
     )
 }
 
+// The call that a line asks for by a number, where it may go on.
+fn checked_call(
+    catalogue: &Catalogue,
+    mode: Mode,
+    asked: &NumberedCall,
+) -> Result<Call, StoreRefused>
+    ensures refusal { IsRefusedAs (early_refusal catalogue.now mode asked.now.program asked.now.argument.items) result }
+    ensures call { IfOk result (λ call. (call ≡ at_number_of asked.now) × (is_operation mode catalogue.now (Run call) ≡ true)) }
+{
+    let argument = asked.argument.as_slice();
+    if asked.program >= (catalogue.len() + catalogue.places()) as u64 {
+        return Err(StoreRefused::UnknownProgram);
+    }
+    check_call(catalogue, mode, asked.program as u16, argument)?;
+    Ok(Call::new(asked.program as u16, argument))
+}
+
+// Makes the call that a line asks for by a number, and writes what it answers.
+fn run_asked(
+    node: &mut SingleNode,
+    catalogue: &Catalogue,
+    mode: Mode,
+    call: &NumberedCall,
+    out: &mut Vec<u8>,
+) -> Result<(), AllocError>
+    requires steady { IsSteady catalogue.now node.old }
+    ensures steady { IsSteady catalogue.now node.new }
+    ensures taken { TakesTurn catalogue.now (λ h. asked catalogue.now h mode (at_number_of call.now)) node.old node.new out.old.items out.new.items result }
+{
+    match checked_call(catalogue, mode, call) {
+        Ok(call) => perform(node, catalogue, mode, call, out),
+        Err(refused) => put_refused(out, refused),
+    }
+}
+
+// Installs the program that a line says, and writes its number.
+fn run_install(
+    node: &mut SingleNode,
+    catalogue: &Catalogue,
+    text: &ProgramText,
+    out: &mut Vec<u8>,
+) -> Result<(), AllocError>
+    requires steady { IsSteady catalogue.now node.old }
+    ensures steady { IsSteady catalogue.now node.new }
+    ensures taken { TakesTurn catalogue.now (λ h. installed catalogue.now h (program_of text.now)) node.old node.new out.old.items out.new.items result }
+{
+    let index = node.tail();
+    match node.check(catalogue, text) {
+        Ok(program) => match node.submit(catalogue, Op::Install(program)) {
+            Some(outcome) => put_install(out, index, outcome),
+            None => put_refused(out, StoreRefused::Ended),
+        },
+        Err(refused) => put_refused(out, refused),
+    }
+}
+
 // Does what a line says, and tells whether the line is good.
 #[tactic(auto, unfolding(crate::specs::RunAnswer::line_turn))]
 pub(crate) fn take_line(
@@ -107,11 +157,14 @@ pub(crate) fn take_line(
     ensures taken { TakesLine catalogue.now line.now node.old node.new out.old.items out.new.items result }
 {
     match read_line(line) {
-        None => Ok(false),
-        Some(ScriptLine::Comment) => Ok(true),
-        Some(ScriptLine::Call(call)) => {
-            run_call(node, catalogue, &call, out)?;
-            Ok(true)
+        None => return Ok(false),
+        Some(ScriptLine::Comment) => {}
+        Some(ScriptLine::Call(call)) => run_call(node, catalogue, &call, out)?,
+        Some(ScriptLine::InvokeAt(call)) => {
+            run_asked(node, catalogue, Mode::Update, &call, out)?
         }
+        Some(ScriptLine::ReadAt(call)) => run_asked(node, catalogue, Mode::Read, &call, out)?,
+        Some(ScriptLine::Install(text)) => run_install(node, catalogue, &text, out)?,
     }
+    Ok(true)
 }

@@ -10,16 +10,23 @@ ghost use Rattle.console.specs.Replaying.{HasReplayed, Compares, ReplaysLine, co
 ghost use Rattle.console.specs.Running.{IsSteady, IsCallOf};
 ghost use Rattle.console.specs.ScriptShown.{call_of, answered_of, numbered_call, numbered_operation};
 
-use crate::calls::Numbered;
 use crate::script::ProgramCall;
 use crate::single_node::SingleNode;
 use crate::status::Verdict;
 use crate::transcripts::{AnsweredCall, TranscriptLine, read_transcript_line};
 use loader::Catalogue;
+use oplog::{Call, Op};
 use replica::find_program_of;
 use std::alloc::{AllocError, Global};
 use text::NumberedLines;
-use verifier::Mode;
+use verifier::{Accepted, Mode};
+
+// A program of the catalogue, and its number there.
+#[derive(Clone, Copy)]
+pub(crate) struct Numbered<'a> {
+    pub number: u16,
+    pub program: &'a Accepted,
+}
 
 // One node, and how many reads and ended calls there were beside its updates.
 #[derive(Drop)]
@@ -106,10 +113,8 @@ impl Replaying {
         if call.index != self.node.tail() {
             return false;
         }
-        match self
-            .node
-            .submit(catalogue, number, call.call.argument.as_slice())
-        {
+        let update = Call::new(number, call.call.argument.as_slice());
+        match self.node.submit(catalogue, Op::Run(update)) {
             Some(outcome) => outcome.reply == call.reply,
             None => false,
         }

@@ -1,10 +1,9 @@
 // What `run` writes.
 
 ghost use Rattle.std.specs.Prelude.{◌≡◌, ◌≤◌, ◌+◌, ◌++◌, length, drop, decimal, OnOk};
-ghost use Rattle.replica.specs.Refusals.{store_fault_number};
-ghost use Rattle.console.specs.RunAnswer.{outcome_text, update_text, read_text, refused_text, bad_line_text};
+ghost use Rattle.console.specs.RunAnswer.{outcome_text, update_text, read_text, install_text, reason_text, refused_text, bad_line_text};
 
-use crate::texts::put_numbered;
+use crate::texts::{put_decode, put_numbered, put_pair, put_verify};
 use itoa::write_digits;
 use machine::Outcome;
 use replica::StoreRefused;
@@ -72,11 +71,30 @@ pub(crate) fn put_read(out: &mut Vec<u8>, point: u64, outcome: Outcome) -> Resul
     put_outcome(out, b"read ", point, outcome)
 }
 
-// The line of a call that is refused for this reason.
+// The line of an install: its index in the history, and its program's number.
+pub(crate) fn put_install(out: &mut Vec<u8>, index: u64, outcome: Outcome) -> Result<(), AllocError>
+    ensures { OnOk result (out.new.items ≡ out.old.items ++ install_text index outcome.reply) }
+{
+    put_pair(out, b"install ", index, b" reply ", outcome.reply)
+}
+
+// What a program breaks that is to be installed.
+fn put_reason(out: &mut Vec<u8>, refused: StoreRefused) -> Result<(), AllocError>
+    ensures { OnOk result (out.new.items ≡ out.old.items ++ reason_text refused) }
+{
+    match refused {
+        StoreRefused::NotDecoded(refusal) => put_decode(out, refusal),
+        StoreRefused::NotAccepted(refusal) => put_verify(out, refusal),
+        _ => Ok(()),
+    }
+}
+
+// The line of a call or an install that is refused for this reason.
 pub(crate) fn put_refused(out: &mut Vec<u8>, refused: StoreRefused) -> Result<(), AllocError>
-    ensures { OnOk result (out.new.items ≡ out.old.items ++ refused_text (store_fault_number refused)) }
+    ensures { OnOk result (out.new.items ≡ out.old.items ++ refused_text refused) }
 {
     put_numbered(out, b"refused S", refused.number() as u64)?;
+    put_reason(out, refused)?;
     out.extend_from_slice(b"\n")
 }
 

@@ -1,27 +1,32 @@
 // One replica and one log, on one thread.
 
-ghost use Rattle.std.specs.Prelude.{◌≡◌, ◌≤◌, ◌<◌, [], length, Some, IfOk, IfSome, IfNone};
+ghost use Rattle.std.specs.Prelude.{◌≡◌, ◌<◌, [], true, Some, IfOk, IfSome, IfNone};
 ghost use Rattle.verifier.specs.declared.refusal.Mode.TheVariants.{Update, Read};
-ghost use Rattle.machine.specs.Effects.{effect_of};
 ghost use Rattle.oplog.specs.Logs.{tail_of, room_in};
-ghost use Rattle.oplog.specs.declared.records.Op.TheVariants.{Run};
-ghost use Rattle.maps.specs.declared.shapes.TheConstants.{MAX_ARG_LEN};
-ghost use Rattle.replica.specs.StoreMeaning.{run_of};
-ghost use Rattle.console.specs.Running.{IsSteady, Follows, IsCallOf, IsUpdated, HasEnded};
+ghost use Rattle.oplog.specs.declared.records.Op.TheVariants.{Install};
+ghost use Rattle.replica.specs.StoreMeaning.{call_of, run_of, ran_to, is_operation};
+ghost use Rattle.replica.specs.Refusals.{install_refusal, IsRefusedAs};
+ghost use Rattle.console.specs.ScriptShown.{program_of};
+ghost use Rattle.console.specs.Running.{IsSteady, Follows, IsUpdated, HasEnded};
 
-use loader::Catalogue;
+use crate::script::ProgramText;
+use loader::{Catalogue, Installed};
 use machine::Outcome;
 use node::{NodeReplica, append, finish, reclaim, replay};
-use oplog::{Call, Hand, LogState, MAX_LIMIT, MAX_WINDOW, Op, Record};
-use replica::{Replica, Replies};
+use oplog::{Hand, LogState, MAX_LIMIT, MAX_WINDOW, NewProgram, Op, Record};
+use replica::{Replica, Replies, StoreRefused, check_install};
 use std::alloc::{AllocError, Global};
 
-// The log, and the replica that is fed from it, with room for what a program answers.
+/// How many programs a run may install.
+pub const RUN_PLACES: usize = 4;
+
+// The log, and the replica that is fed from it, with room for what a program answers, and for one that is to be installed.
 #[derive(Drop)]
 pub(crate) struct SingleNode {
     log: LogState,
     own: NodeReplica,
     replies: Replies,
+    room: Installed,
 }
 
 impl SingleNode {
@@ -36,7 +41,13 @@ impl SingleNode {
         let replica = Replica::open(alloc, shapes, places)?;
         let own = NodeReplica { replica, hand };
         let replies = Replies::new(0, 0);
-        Ok(SingleNode { log, own, replies })
+        let room = Installed::open(alloc, shapes, 1)?;
+        Ok(SingleNode {
+            log,
+            own,
+            replies,
+            room,
+        })
     }
 
     // How many updates there were.
@@ -60,18 +71,30 @@ impl SingleNode {
         }
     }
 
-    // Appends one record and brings the replica up to date; `None` where the history has all its records.
-    pub(crate) fn submit(
+    // The program that may be installed, in the node's own room.
+    pub(crate) fn check(
         &mut self,
         catalogue: &Catalogue,
-        program: u16,
-        argument: &[u8],
-    ) -> Option<Outcome>
+        text: &ProgramText,
+    ) -> Result<NewProgram, StoreRefused>
         requires steady { IsSteady catalogue.now self.old }
-        requires call { IsCallOf catalogue.now (record { program = program; argument = argument.now }) Update }
-        requires fits { length argument.now ≤ MAX_ARG_LEN }
         ensures steady { IsSteady catalogue.now self.new }
-        ensures updated { IfSome result (λ o. IsUpdated catalogue.now (Run (record { program = program; argument = argument.now })) self.old self.new o) }
+        ensures refusal { IsRefusedAs (install_refusal catalogue.now.shapes (program_of text.now)) result }
+        ensures program { IfOk result (λ p. (p ≡ program_of text.now) × (is_operation Update catalogue.now (Install p) ≡ true)) }
+        ensures log { self.new.log ≡ self.old.log }
+        ensures own { self.new.own ≡ self.old.own }
+    {
+        let bytes = text.bytes.as_slice();
+        check_install(&mut self.room, text.mode, text.arg_len, bytes)?;
+        Ok(NewProgram::new(text.mode, text.arg_len as usize, bytes))
+    }
+
+    // Appends one record and brings the replica up to date; `None` where the history has all its records.
+    pub(crate) fn submit(&mut self, catalogue: &Catalogue, op: Op) -> Option<Outcome>
+        requires steady { IsSteady catalogue.now self.old }
+        requires update { is_operation Update catalogue.now op ≡ true }
+        ensures steady { IsSteady catalogue.now self.new }
+        ensures updated { IfSome result (λ o. IsUpdated catalogue.now op self.old self.new o) }
         ensures ended { IfNone result (HasEnded self.old self.new) }
     {
         self.make_room(catalogue);
@@ -79,11 +102,7 @@ impl SingleNode {
         if self.log.left() == 0 {
             return None;
         }
-        let record = Record {
-            author: 0,
-            seq,
-            op: Op::Run(Call::new(program, argument)),
-        };
+        let record = Record { author: 0, seq, op };
         append(&mut self.log, &mut self.own, &[record], &mut self.replies);
         replay(&mut self.own, catalogue, &mut self.replies);
         finish(&mut self.log, &self.own);
@@ -93,8 +112,8 @@ impl SingleNode {
     // What the program of a number answers as a read after all updates so far.
     pub(crate) fn query(&mut self, catalogue: &Catalogue, program: u16, argument: &[u8]) -> Outcome
         requires steady { IsSteady catalogue.now self.old }
-        ensures run { run_of Read catalogue.now (record { program = program; argument = argument.now }) self.old.own.replica.state
-            ≡ Some (effect_of result.steps result.reply self.old.own.replica.state.maps) }
+        ensures run { run_of Read catalogue.now (call_of program argument.now) self.old.own.replica.state
+            ≡ Some (ran_to result self.old.own.replica.state.maps) }
         ensures same { self.new ≡ self.old }
     {
         self.own.replica.query(catalogue, program, argument)

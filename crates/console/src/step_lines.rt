@@ -1,10 +1,10 @@
 // The lines of a list of steps.
 
 ghost use Rattle.std.specs.Prelude.{◌≡◌, ◌≤◌, length, option_map};
-ghost use Rattle.console.specs.StepLine.{slot_at, call_at, node_step, node_words, step_meaning, step_line_meaning};
-ghost use Rattle.console.specs.ScriptShown.{slot_of, slot_call_of, step_of};
+ghost use Rattle.console.specs.StepLine.{slot_at, call_at, install_at, node_step, node_words, step_meaning, step_line_meaning};
+ghost use Rattle.console.specs.ScriptShown.{slot_of, slot_call_of, slot_program_of, step_of};
 
-use crate::script::{ProgramCall, named_call};
+use crate::script::{KeyedCall, ProgramText, keyed_call, new_program};
 use text::{LINE_BYTES, LineKind, kind_of, number, split_at_space};
 
 // A slot of a node.
@@ -19,14 +19,23 @@ pub(crate) struct SlotAt {
 pub(crate) struct CallAt<'a> {
     pub node: u64,
     pub slot: u64,
-    pub call: ProgramCall<'a>,
+    pub call: KeyedCall<'a>,
 }
 
-// What a line says: a step of a call, of a slot, or of a node.
+// A program to be installed by a slot of a node.
+#[derive(Drop)]
+pub(crate) struct InstallAt {
+    pub node: u64,
+    pub slot: u64,
+    pub program: ProgramText,
+}
+
+// What a line says: a step of a call, of an install, of a slot, or of a node.
 #[derive(Drop)]
 pub(crate) enum StepLine<'a> {
     Comment,
     Post(CallAt<'a>),
+    Install(InstallAt),
     ReadBegin(CallAt<'a>),
     Collect(SlotAt),
     ReadAnswer(SlotAt),
@@ -50,7 +59,7 @@ fn slot_at(text: &str) -> Option<SlotAt>
     Some(SlotAt { node, slot })
 }
 
-// N S NAME HEX
+// N S NAME HEX, or with K in the place of NAME
 #[tactic(auto, unfolding(crate::specs::StepLine::call_at))]
 fn call_at(text: &str) -> Option<CallAt<'_>>
     requires { length text.now ≤ LINE_BYTES }
@@ -61,8 +70,26 @@ fn call_at(text: &str) -> Option<CallAt<'_>>
     let (name, digits) = split_at_space(rest)?;
     let node = number(node)?;
     let slot = number(slot)?;
-    let call = named_call(name, digits)?;
+    let call = keyed_call(name, digits)?;
     Some(CallAt { node, slot, call })
+}
+
+// N S MODE ARGLEN HEX
+#[tactic(auto, unfolding(crate::specs::StepLine::install_at))]
+fn install_at(text: &str) -> Option<InstallAt>
+    requires { length text.now ≤ LINE_BYTES }
+    ensures { option_map slot_program_of result ≡ install_at text.now }
+{
+    let (node, rest) = split_at_space(text)?;
+    let (slot, rest) = split_at_space(rest)?;
+    let node = number(node)?;
+    let slot = number(slot)?;
+    let program = new_program(rest)?;
+    Some(InstallAt {
+        node,
+        slot,
+        program,
+    })
 }
 
 // The step of a node that has this word.
@@ -97,6 +124,8 @@ fn step_words(line: &str) -> Option<StepLine<'_>>
     let (word, rest) = split_at_space(line)?;
     if word == "post" {
         Some(StepLine::Post(call_at(rest)?))
+    } else if word == "install" {
+        Some(StepLine::Install(install_at(rest)?))
     } else if word == "readbegin" {
         Some(StepLine::ReadBegin(call_at(rest)?))
     } else if word == "collect" {

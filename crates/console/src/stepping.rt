@@ -1,36 +1,49 @@
 // What a line of a list of steps does.
 
-ghost use Rattle.std.specs.Prelude.{◌≡◌, unwrap_or, IfOk, MatchOption};
-ghost use Rattle.loader.specs.CatalogueView.{number_named};
+ghost use Rattle.std.specs.Prelude.{◌≡◌, IfOk, MatchOption};
 ghost use Rattle.console.specs.StepLine.{Comment};
-ghost use Rattle.console.specs.ScheduleAnswer.{step_line_turn};
+ghost use Rattle.console.specs.ScheduleAnswer.{number_keyed, step_line_turn};
 ghost use Rattle.console.specs.Scheduling.{IsStepOf, StepLineTaken};
-ghost use Rattle.console.specs.ScriptShown.{step_of};
+ghost use Rattle.console.specs.ScriptShown.{key_of, step_of};
 
 use crate::schedule_texts::put_step;
-use crate::script::ProgramCall;
+use crate::script::ProgramKey;
 use crate::step_lines::{StepLine, read_step_line};
+use arrayvec::ArrayVec;
 use loader::Catalogue;
 use schedule::{Step, World};
 use std::alloc::{AllocError, Global};
+use text::FIELD_BYTES;
 
-// The number of the program of this name, or one that no catalogue has.
-fn number_of(catalogue: &Catalogue, name: &str) -> u64
-    ensures { result ≡ unwrap_or (number_named catalogue.now.programs name.now) 65535 }
+// A number that no store has a program or a place of.
+const NO_NUMBER: u64 = 65_535;
+
+// The number of the program that a line names: of the catalogue by its name, or behind these; else one that no store has.
+fn number_of(catalogue: &Catalogue, key: ProgramKey<'_>) -> u64
+    ensures { result ≡ number_keyed catalogue.now (key_of key.entry) }
 {
-    match catalogue.number(name) {
-        Some(number) => number as u64,
-        None => 65_535,
+    match key {
+        ProgramKey::Named(name) => match catalogue.number(name) {
+            Some(number) => number as u64,
+            None => NO_NUMBER,
+        },
+        ProgramKey::Numbered(number) => {
+            if number < catalogue.len() as u64 {
+                NO_NUMBER
+            } else {
+                number
+            }
+        }
     }
 }
 
-// The argument of a call.
-fn argument_of(alloc: Global, call: &ProgramCall) -> Result<Vec<u8>, AllocError>
-    ensures { IfOk result (λ v. v.items ≡ call.now.argument.items) }
+// These bytes in a list of their own.
+fn list_of(alloc: Global, bytes: &ArrayVec<u8, FIELD_BYTES>) -> Result<Vec<u8>, AllocError>
+    ensures { IfOk result (λ v. v.items ≡ bytes.now.items) }
 {
-    let mut argument = Vec::new(alloc);
-    argument.extend_from_slice(call.argument.as_slice())?;
-    Ok(argument)
+    let mut list = Vec::new(alloc);
+    list.extend_from_slice(bytes.as_slice())?;
+    Ok(list)
 }
 
 // The step that a line says; nothing for a comment.
@@ -46,14 +59,21 @@ fn step_of(
         StepLine::Post(at) => Step::Post {
             node: at.node,
             slot: at.slot,
-            program: number_of(catalogue, at.call.name),
-            argument: argument_of(alloc, &at.call)?,
+            program: number_of(catalogue, at.call.key),
+            argument: list_of(alloc, &at.call.argument)?,
+        },
+        StepLine::Install(at) => Step::Install {
+            node: at.node,
+            slot: at.slot,
+            mode: at.program.mode,
+            arg_len: at.program.arg_len,
+            bytes: list_of(alloc, &at.program.bytes)?,
         },
         StepLine::ReadBegin(at) => Step::ReadBegin {
             node: at.node,
             slot: at.slot,
-            program: number_of(catalogue, at.call.name),
-            argument: argument_of(alloc, &at.call)?,
+            program: number_of(catalogue, at.call.key),
+            argument: list_of(alloc, &at.call.argument)?,
         },
         StepLine::Collect(at) => Step::Collect {
             node: at.node,

@@ -1,12 +1,13 @@
 // What the commands write.
 
 ghost use Rattle.std.specs.Prelude.{◌≡◌, ◌++◌, OnOk, IfOk, codes, decimal, slice_get};
-ghost use Rattle.console.specs.Texts.{program_line, line_if_any, programs_text, fault_text, refusal_text, not_text_line, no_memory_line};
+ghost use Rattle.console.specs.Texts.{program_line, line_if_any, programs_text, decode_text, verify_text, fault_text, refusal_text, not_text_line, no_memory_line};
 
+use insn::DecodeRefusal;
 use itoa::Buffer;
 use loader::{Catalogue, LoadFault, LoadRefusal};
 use std::alloc::{AllocError, Global};
-use verifier::Accepted;
+use verifier::{Accepted, Refused};
 
 // Some file is not UTF-8.
 pub(crate) fn not_text() -> &'static [u8]
@@ -88,20 +89,30 @@ pub(crate) fn programs_text(alloc: Global, catalogue: &Catalogue) -> Result<Vec<
     Ok(out)
 }
 
+// What is wrong with a program's bytes, and where.
+pub(crate) fn put_decode(out: &mut Vec<u8>, refusal: DecodeRefusal) -> Result<(), AllocError>
+    ensures { OnOk result (out.new.items ≡ out.old.items ++ decode_text refusal) }
+{
+    put_numbered(out, b" D", refusal.why.number() as u64)?;
+    put_numbered(out, b" slot ", refusal.slot as u64)
+}
+
+// Which rule a program breaks, and where.
+pub(crate) fn put_verify(out: &mut Vec<u8>, refusal: Refused) -> Result<(), AllocError>
+    ensures { OnOk result (out.new.items ≡ out.old.items ++ verify_text refusal) }
+{
+    put_numbered(out, b" V", refusal.why.number() as u64)?;
+    put_numbered(out, b" slot ", refusal.slot as u64)
+}
+
 // What is wrong with a line.
 fn put_fault(out: &mut Vec<u8>, why: LoadFault) -> Result<(), AllocError>
     ensures { OnOk result (out.new.items ≡ out.old.items ++ fault_text why) }
 {
     put_numbered(out, b"C", why.number() as u64)?;
     match why {
-        LoadFault::Decode(e) => {
-            put_numbered(out, b" D", e.why.number() as u64)?;
-            put_numbered(out, b" slot ", e.slot as u64)
-        }
-        LoadFault::Verify(e) => {
-            put_numbered(out, b" V", e.why.number() as u64)?;
-            put_numbered(out, b" slot ", e.slot as u64)
-        }
+        LoadFault::Decode(refusal) => put_decode(out, refusal),
+        LoadFault::Verify(refusal) => put_verify(out, refusal),
         _ => Ok(()),
     }
 }

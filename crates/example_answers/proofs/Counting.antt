@@ -8,7 +8,8 @@ use Rattle.verifier.specs.Accepted.{checked}
 use Rattle.helpers.proofs.Answers.{inserted}
 use Rattle.machine.specs.Effects.{effect, effect_of}
 use Rattle.machine.specs.MapExamples.{bump, peek, with_values}
-use Rattle.loader.specs.CatalogueView.{CatalogueView}
+use Rattle.loader.specs.CatalogueView.{CatalogueView, with_places}
+use Rattle.console.specs.declared.single_node.TheConstants.{RUN_PLACES}
 
 -- the catalogue: its programs are those of the machine's examples
 abbrev pub counter : CatalogueView
@@ -18,6 +19,10 @@ counter = record {
       ∷ record { name = codes "peek"; checked = checked peek (Array 8 16 ∷ []) 4 Read } ∷ [];
   places = 0;
 }
+
+-- as a run has it
+abbrev pub running : CatalogueView
+running = with_places counter RUN_PLACES
 
 -- the key of counter 0, and one that no counter has
 abbrev pub first : List ℕ

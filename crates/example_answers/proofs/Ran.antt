@@ -15,7 +15,7 @@ use Rattle.console.specs.Inputs.{all_texts, texts_answer}
 use Rattle.console.specs.Answer.{not_text}
 use Rattle.console.specs.RunAnswer.{Turn, behind, bad_line, by_turn, line_turn, lines_answer, script_answer, ran, run_answer}
 use Rattle.example_answers.specs.Counter.{counter_manifest, counter_folder, counter_script, counter_ran}
-use Rattle.example_answers.proofs.Counting.{counter}
+use Rattle.example_answers.proofs.Counting.{counter, running}
 use Rattle.example_answers.proofs.Checked.{counter_loads}
 use Rattle.example_answers.proofs.Script.{once, twice, thrice, bump_once, bump_twice, peek_then, bump_none, nope}
 
@@ -39,11 +39,11 @@ behind_1 = codes "bump 00000000" ∷ behind_2
 lines : script_answer counter counter_script ≡ counter_ran
 unfolding lines_answer chars encode digits
 lines =
-    line counter 1 [] _ behind_1 _ bump_once
-    ∙ ap (behind (codes "update 0 reply 1 steps 9\n")) (line counter 2 once _ behind_2 _ bump_twice
-    ∙ ap (behind (codes "update 1 reply 2 steps 9\n")) (line counter 3 twice _ behind_3 _ peek_then
-    ∙ ap (behind (codes "read 2 reply 2 steps 6\n")) (line counter 4 twice _ behind_4 _ bump_none
-    ∙ ap (behind (codes "update 2 reply 18446744073709551615 steps 6\n")) (line counter 5 thrice _ [] _ nope))))
+    line running 1 [] _ behind_1 _ bump_once
+    ∙ ap (behind (codes "update 0 reply 1 steps 9\n")) (line running 2 once _ behind_2 _ bump_twice
+    ∙ ap (behind (codes "update 1 reply 2 steps 9\n")) (line running 3 twice _ behind_3 _ peek_then
+    ∙ ap (behind (codes "read 2 reply 2 steps 6\n")) (line running 4 twice _ behind_4 _ bump_none
+    ∙ ap (behind (codes "update 2 reply 18446744073709551615 steps 6\n")) (line running 5 thrice _ [] _ nope))))
 
 texts : all_texts counter_manifest counter_folder counter_script ≡ true
 unfolding chars is_utf8 encode trim_start trim_end named_in words_of

@@ -66,11 +66,12 @@ struct Row<'a> {
 }
 
 // The sizes of a store that options set, each with what it is by default and its help.
-const SIZES: [(&str, &str, &str); 4] = [
+const SIZES: [(&str, &str, &str); 5] = [
     ("nodes", "2", help::NODES),
     ("slots", "2", help::SLOTS),
     ("window", "64", help::WINDOW),
     ("limit", "1000000", help::LIMIT),
+    ("spare", "4", help::SPARE),
 ];
 
 // Appends one more.
@@ -315,7 +316,7 @@ fn config_of(matches: &ArgMatches) -> Option<Config> {
         slots: matches.get_one("slots")?,
         window: matches.get_one("window")?,
         limit: matches.get_one("limit")?,
-        spare: 0,
+        spare: matches.get_one("spare")?,
     })
 }
 

@@ -217,21 +217,31 @@ A script has one call a line, at most 512 bytes a line:
     bump 00000000
     peek 00000000
 
-    NAME HEX    NAME a program of the manifest; HEX the bytes of the argument, two hexadecimal digits each,
-                or - for no bytes; one space between
+    NAME HEX                  NAME a program of the manifest; HEX the bytes of the argument, two hexadecimal
+                              digits each, or - for no bytes; one space between
+    install MODE ARGLEN HEX   installs a program while the store runs: update or read, the length of its argument,
+                              and its bytes. It gets the next number; those of the manifest have 0 and on
+    invoke K HEX              calls program K as an update, one of the manifest or one that was installed
+    read K HEX                .. as a read
 
-Writes, for each call:
+Writes, for each line:
     update INDEX reply REPLY steps STEPS    the program may change maps; it is update INDEX, from 0
     read POINT reply REPLY steps STEPS      the program only reads; POINT updates were before it
-    refused S1                              there is no program of this name
+    install INDEX reply K                   it has number K from now on, or 18446744073709551609 (-7), where four
+                                            programs were installed before
+    refused S1                              there is no program of this name, and no place of this number
     refused S2                              the argument has not the program's length
-    refused S4                              an update, after 1000000 updates
+    refused S3                              program K is of the other mode
+    refused S4                              an update or an install, after 1000000 of them
+    refused S6                              more than 192 bytes to install, or an ARGLEN above 64
+    refused S7 D.., refused S8 V..          the bytes are no program, or it is not safe: as `nrbpf check` says it
 
-A refused call changes nothing, and the run goes on. With the manifest of examples/counter the script above
+A place where no program stands that has the mode and the argument's length replies 18446744073709551594 (-22) after
+0 steps. A refused line changes nothing, and the run goes on. With the manifest of examples/counter the script above
 writes `update 0 reply 1 steps 9` and `read 1 reply 1 steps 6`.
 
 Refusals, which end the run:
-    line N bad          line N of the script is no call, comment or empty line; what stands before was run
+    line N bad          line N of the script is none of these, no comment and no empty line; what stands before was run
     line N: ..          the manifest is refused (`nrbpf check --help`), and nothing is run
     not UTF-8           the manifest, a program file or the script is not UTF-8, and nothing is run
 
@@ -292,12 +302,15 @@ takes the steps in their order, one line each:
     collect 0 0
 
     post N S NAME HEX        slot S of node N calls an update      readbegin N S NAME HEX   .. calls a read
+    install N S MODE ARGLEN HEX    .. installs a program, as in a script of `nrbpf run`
     claim N                  a combiner claims the requests        readanswer N S           the read is answered
     append N                 they are appended to the log          reclaim N                the log's base becomes
     replay N                 the replica applies the log                                    node N's replica
     finish N                 what it applied is completed          rebase N                 node N's replica becomes
     reply N                  the requests are answered                                      the log's base
     collect N S              slot S takes its answer
+
+In the place of NAME may stand the number of a program that was installed, behind those of the manifest.
 
 Writes `ok` for a step that is taken, or `ok place I reply R`, `ok ended`, `ok point K reply R` where it answers a
 call, and `notnow` for one that may not be taken now, or names a node, slot or program that is not there: it
@@ -308,8 +321,8 @@ changes nothing. With the manifest of examples/counter the steps above write `ok
 
 Refusals:
     line N bad          line N is no step, comment or empty line; what stands before was taken
-    refused O1          --nodes is not from 1 to 8, --slots from 1 to 16, --window from 16 to 4096 or --limit
-                        from 1 to 1000000
+    refused O1          --nodes is not from 1 to 8, --slots from 1 to 16, --window from 16 to 4096, --limit
+                        from 1 to 1000000 or --spare from 0 to 16
     line N: ..          the manifest is refused (`nrbpf check --help`)
     not UTF-8           the manifest, a program file or the steps are not UTF-8
 
@@ -340,9 +353,9 @@ writes `u 0 bump 00000000 1` and `u 1 bump 00000000 2`.
 
 Refusals, before any thread starts:
     line N bad          line N is no call of a program of the manifest with an argument of its length, no comment
-                        and no empty line
-    refused O1          --nodes is not from 1 to 8, --slots from 1 to 16, --window from 16 to 4096 or --limit
-                        from 1 to 1000000
+                        and no empty line. Lines that install, or call by a number, are bad here as yet
+    refused O1          --nodes is not from 1 to 8, --slots from 1 to 16, --window from 16 to 4096, --limit
+                        from 1 to 1000000 or --spare from 0 to 16
     line N: ..          the manifest is refused (`nrbpf check --help`)
     not UTF-8           the manifest, a program file or the script is not UTF-8
 
@@ -360,3 +373,5 @@ pub const SLOTS: &str = "Slots of a node";
 pub const WINDOW: &str = "Records that the log keeps at once";
 
 pub const LIMIT: &str = "Updates that the store may have in all";
+
+pub const SPARE: &str = "Programs that may be installed behind those of the manifest";

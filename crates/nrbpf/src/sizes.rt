@@ -2,6 +2,7 @@
 
 use crate::command_line::Task;
 use console::Status;
+use loader::MAX_PLACES;
 use oplog::{Config, MAX_LIMIT, MAX_NODE_SLOTS, MAX_NODES, MAX_WINDOW, MIN_WINDOW};
 use std::io::Eprint;
 
@@ -24,6 +25,7 @@ fn say_each<R: Eprint>(rt: &R, config: Config) {
         MAX_WINDOW as u32,
     );
     say_size(rt, "limit", config.limit, 1, MAX_LIMIT as u32);
+    say_size(rt, "spare", config.spare, 0, MAX_PLACES as u32);
 }
 
 /// Says on standard error of a command that is refused which sizes of its store are out of their limits.

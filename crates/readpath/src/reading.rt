@@ -3,7 +3,7 @@
 ghost use Rattle.std.specs.Prelude.{◌≡◌, ◌↔◌, ◌≤◌, IsTrue, Some, option_map};
 ghost use Rattle.loader.specs.StoreState.{sizes_for, sizes_of};
 ghost use Rattle.oplog.specs.declared.records.Op.TheVariants.{Run};
-ghost use Rattle.replica.specs.StoreMeaning.{read_of};
+ghost use Rattle.replica.specs.StoreMeaning.{call_of, read_of};
 
 use loader::Catalogue;
 use replica::Replica;
@@ -34,7 +34,7 @@ pub fn answer(
 ) -> ReadAnswer
     requires sizes { sizes_of replica.old.state ≡ sizes_for catalogue.now }
     ensures point { result.point ≡ replica.old.tail }
-    ensures reply { option_map (λ e. e.reply) (read_of catalogue.now (Run (record { program = program; argument = argument.now })) replica.old.state) ≡ Some result.reply }
+    ensures reply { option_map (λ e. e.reply) (read_of catalogue.now (Run (call_of program argument.now)) replica.old.state) ≡ Some result.reply }
     ensures same { replica.new ≡ replica.old }
 {
     let point = replica.tail();

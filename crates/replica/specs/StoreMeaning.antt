@@ -65,6 +65,13 @@ run_in mode argument maps (Some p) = if suits mode argument p then effect p.prog
 abbrev pub run_of : Mode → CatalogueView → Call → StoreState → Option RunEffect
 run_of mode c call s = run_in mode call.argument s.maps (program_in c s call.program)
 
+-- the call of a program's number, and what a run did that answered this and left these maps
+abbrev pub call_of : ℕ → List ℕ → Call
+call_of program argument = record { program = program; argument = argument }
+
+abbrev pub ran_to : Outcome → Maps → RunEffect
+ran_to o maps = effect_of o.steps o.reply maps
+
 -- a run as an update, which leaves the programs, and as a read
 abbrev pub as_update : StoreState → RunEffect → Effect StoreState
 as_update s e = record { steps = e.steps; reply = e.reply; left = record s { maps = e.maps } }

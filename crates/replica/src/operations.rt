@@ -5,11 +5,10 @@ ghost use Rattle.maps.specs.declared.shapes.Shape.{Shape};
 ghost use Rattle.maps.specs.Maps.{Maps, HasShapes};
 ghost use Rattle.maps.specs.MapSets.{maps_of};
 ghost use Rattle.verifier.specs.declared.refusal.Mode.TheVariants.{Update, Read};
-ghost use Rattle.machine.specs.Effects.{effect_of};
 ghost use Rattle.loader.specs.StoreState.{state_of};
 ghost use Rattle.oplog.specs.declared.records.Op.TheVariants.{Install};
 ghost use Rattle.oplog.specs.History.{after};
-ghost use Rattle.replica.specs.StoreMeaning.{store_meaning, no_program, no_place, is_mode, suits, program_among, run_in, answered, updated, is_operation, AreUpdates};
+ghost use Rattle.replica.specs.StoreMeaning.{store_meaning, no_program, no_place, is_mode, suits, program_among, run_in, ran_to, answered, updated, is_operation, AreUpdates};
 ghost use Rattle.replica.specs.Replaying.{KeepsOutcomes};
 
 use crate::replying::Replies;
@@ -74,7 +73,7 @@ pub(crate) fn run_suitable(
 ) -> Outcome
     requires shapes { IfSome program (λ p. HasShapes p.now.shapes (maps_of maps.old)) }
     ensures run { run_in mode argument.now (maps_of maps.old) (option_map (λ p. p.now) program.entry)
-        ≡ Some (effect_of result.steps result.reply (maps_of maps.new)) }
+        ≡ Some (ran_to result (maps_of maps.new)) }
     ensures shapes { (shapes : List Shape) → HasShapes shapes (maps_of maps.old) → HasShapes shapes (maps_of maps.new) }
     ensures reads { mode ≡ Read → maps_of maps.new ≡ maps_of maps.old }
 {

@@ -5,11 +5,10 @@ ghost use Rattle.maps.specs.Shapes.{AreShapesOk};
 ghost use Rattle.maps.specs.Maps.{shapes_of, HasShapes};
 ghost use Rattle.maps.specs.MapSets.{maps_of};
 ghost use Rattle.verifier.specs.declared.refusal.Mode.TheVariants.{Read};
-ghost use Rattle.machine.specs.Effects.{effect_of};
 ghost use Rattle.loader.specs.declared.installed.TheConstants.{MAX_PLACES};
 ghost use Rattle.loader.specs.StoreState.{installed_in, opened_state, sizes_for, sizes_of, state_of};
 ghost use Rattle.oplog.specs.History.{after};
-ghost use Rattle.replica.specs.StoreMeaning.{store_meaning, run_of, AreUpdates};
+ghost use Rattle.replica.specs.StoreMeaning.{store_meaning, call_of, run_of, ran_to, AreUpdates};
 ghost use Rattle.replica.specs.Replaying.{KeepsOutcomes};
 
 use crate::operations::{perform_each, program_of, run_suitable};
@@ -126,8 +125,8 @@ impl Replica {
     /// installed. Where none suits, the reply is [`NO_PROGRAM`](crate::NO_PROGRAM). The replica stays.
     pub fn query(&mut self, catalogue: &Catalogue, program: u16, argument: &[u8]) -> Outcome
         requires sizes { sizes_of self.old.state ≡ sizes_for catalogue.now }
-        ensures run { run_of Read catalogue.now (record { program = program; argument = argument.now }) self.old.state
-            ≡ Some (effect_of result.steps result.reply self.old.state.maps) }
+        ensures run { run_of Read catalogue.now (call_of program argument.now) self.old.state
+            ≡ Some (ran_to result self.old.state.maps) }
         ensures same { self.new ≡ self.old }
     {
         let found = program_of(catalogue, &self.programs, program);

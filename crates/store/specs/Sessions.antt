@@ -1,5 +1,5 @@
 -- A session and a store as their users see them, and what a call answers.
-use Rattle.std.specs.Prelude.{◌≡◌, ℕ, zero, suc, ◌+◌, ◌≤◌, List, [], ◌∷◌, ◌++◌, length, Some, None, option_map, Result, MatchResult}
+use Rattle.std.specs.Prelude.{◌≡◌, ℕ, zero, suc, ◌+◌, ◌≤◌, List, [], ◌∷◌, ◌++◌, length, Option, Some, None, option_map, Result, MatchResult}
 use Rattle.ownlock.specs.Seats.{IsSession, ShelfId}
 use Rattle.loader.specs.CatalogueView.{CatalogueView}
 use Rattle.loader.specs.Installed.{InstalledView}
@@ -7,10 +7,10 @@ use Rattle.oplog.specs.declared.configuration.Config.{Config}
 use Rattle.verifier.specs.declared.refusal.Mode.{Mode}
 use Rattle.oplog.specs.Calls.{NewProgram}
 use Rattle.oplog.specs.Operations.{Operation}
-use Rattle.oplog.specs.declared.records.Op.TheVariants.{Run}
+use Rattle.oplog.specs.declared.records.Op.TheVariants.{Run, Install}
 use Rattle.readpath.specs.declared.reading.ReadAnswer.{ReadAnswer}
 use Rattle.replica.specs.StoreMeaning.{store_meaning}
-use Rattle.replica.specs.Refusals.{IsRoomFor}
+use Rattle.replica.specs.Refusals.{install_refusal, IsRoomFor}
 use Rattle.accounts.specs.declared.sessions.Progress.{Progress}
 use Rattle.accounts.specs.declared.sessions.Pending.{Pending}
 use Rattle.accounts.specs.declared.sessions.SessionNote.{SessionNote}
@@ -99,6 +99,13 @@ op_of program argument = Run (record { program = program; argument = argument })
 -- a program of this mode, for arguments of that length, which these bytes spell, as it is to be installed
 abbrev pub new_program : Mode → ℕ → List ℕ → NewProgram
 new_program mode arg_len bytes = record { mode = mode; arg_len = arg_len; bytes = bytes }
+
+-- its installing, as an operation, and its refusal by a store
+abbrev pub install_of : Mode → ℕ → List ℕ → Operation
+install_of mode arg_len bytes = Install (new_program mode arg_len bytes)
+
+abbrev pub install_refused : StoreView → Mode → ℕ → List ℕ → Option StoreRefused
+install_refused store mode arg_len bytes = install_refusal store.catalogue.shapes (new_program mode arg_len bytes)
 
 -- the operation as a request of this session
 abbrev pub request_of : Progress CatalogueView → Operation → Pending

@@ -2,6 +2,7 @@
 use Rattle.std.specs.Prelude.{◌≡◌, ◌≤◌, Bool, true, false, ℕ, List, [], ◌∷◌, ◌++◌}
 use Rattle.loader.specs.CatalogueView.{CatalogueView}
 use Rattle.oplog.specs.Logs.{Log as LogView}
+use Rattle.oplog.specs.History.{History}
 use Rattle.oplog.specs.Operations.{Operation}
 use Rattle.combiner.specs.Desks.{BatchView, DeskView, replied}
 use Rattle.replica.specs.Views.{RepliesView}
@@ -72,6 +73,10 @@ pub record AppendsBy (k after : SessionKnown) (b : BatchView) (n m : NodeReplica
   pub later : Bool
   pub goes : (d : DeskView) → Goes k.progress.catalogue (sees from log n (Held b) d) (append_steps low full next later)
       (sees after.progress back m (InLog (record { batch = b; replies = kept })) d)
+
+-- so it has of any batch that has these records
+abbrev pub AppendsAny : SessionKnown → SessionKnown → History → (n m : NodeReplica) → RepliesView → Type 0
+AppendsAny k after records n m kept = (batch : BatchView) → batch.records ≡ records → AppendsBy k after batch n m kept
 
 -- it has replayed what was copied, and completed it, while others may have had the log, which was g
 pub record ReplaysBy (k after : SessionKnown) (g : LogView) (n m : NodeReplica) (old new : RepliesView) : Type 0 where

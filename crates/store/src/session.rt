@@ -3,12 +3,11 @@
 ghost use Rattle.std.specs.Prelude.{◌≡◌, [], ◌∷◌, true, None, Some, Err};
 ghost use Rattle.verifier.specs.declared.refusal.Mode.TheVariants.{Update, Read};
 ghost use Rattle.accounts.specs.Accounts.{Extends, IsWellFormed};
-ghost use Rattle.oplog.specs.declared.records.Op.TheVariants.{Install};
 ghost use Rattle.replica.specs.StoreMeaning.{store_meaning, is_operation};
 ghost use Rattle.replica.specs.declared.refusals.StoreRefused.{StoreRefused};
-ghost use Rattle.replica.specs.Refusals.{early_refusal, install_refusal};
+ghost use Rattle.replica.specs.Refusals.{early_refusal};
 ghost use Rattle.store.specs.Requests.{said};
-ghost use Rattle.store.specs.Sessions.{IsOf, IsIdle, TellsUpdate, TellsRead, BeginsWithin, HasRoom, known_of, new_program, op_of, session_view};
+ghost use Rattle.store.specs.Sessions.{IsOf, IsIdle, TellsUpdate, TellsRead, BeginsWithin, HasRoom, known_of, install_of, install_refused, op_of, session_view};
 
 use crate::answers::Answer;
 use crate::requests::{complete, post};
@@ -165,10 +164,10 @@ impl Session {
         ensures same { (self.new.shelf ≡ self.old.shelf) × (self.new.session ≡ self.old.session) }
         ensures grown { Extends self.old.progress self.new.progress }
         ensures well_formed { IsWellFormed store_meaning self.new.progress }
-        ensures early { (r : StoreRefused) → install_refusal store.now.catalogue.shapes (new_program mode arg_len bytes.now) ≡ Some r → (result ≡ Err r)
+        ensures early { (r : StoreRefused) → install_refused store.now mode arg_len bytes.now ≡ Some r → (result ≡ Err r)
             × (self.new ≡ self.old) }
-        ensures answered { install_refusal store.now.catalogue.shapes (new_program mode arg_len bytes.now) ≡ None
-            → TellsUpdate self.old self.new (Install (new_program mode arg_len bytes.now)) result }
+        ensures answered { install_refused store.now mode arg_len bytes.now ≡ None
+            → TellsUpdate self.old self.new (install_of mode arg_len bytes.now) result }
     {
         check_install(&mut self.room, mode, arg_len as u64, bytes)?;
         let program = NewProgram::new(mode, arg_len, bytes);

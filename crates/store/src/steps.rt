@@ -4,13 +4,12 @@ ghost use Rattle.std.specs.Prelude.{◌≡◌, ◌↔◌, ◌<◌, ◌≤◌, tr
 ghost use Rattle.loader.specs.StoreState.{sizes_of, sizes_for};
 ghost use Rattle.oplog.specs.Limits.{IsWindow};
 ghost use Rattle.oplog.specs.Logs.{left_of, room_in};
-ghost use Rattle.combiner.specs.Desks.{BatchView};
 ghost use Rattle.node.specs.Following.{may_rebase, rebased};
 ghost use Rattle.accounts.specs.Moves.{unplaced};
 ghost use Rattle.store.specs.Sessions.{IsReadBy, RepliesThere, op_of};
 ghost use Rattle.store.specs.Knowing.{HasLog, HasReplica, IsOn, Knows, Learns, Relates};
 ghost use Rattle.store.specs.Standing.{Stands, IsFree, HasOthers, HasRaised, HasPlace, HasAppended, HasReplayed, HasReached};
-ghost use Rattle.store.specs.Whole.{MakesRoom, AppendsBy, ReplaysAnywhere, FollowsBy, ReadsBy};
+ghost use Rattle.store.specs.Whole.{MakesRoom, AppendsAny, ReplaysAnywhere, FollowsBy, ReadsBy};
 
 use crate::values::Value;
 use loader::Catalogue;
@@ -118,8 +117,7 @@ pub(crate) fn append_and_copy<R: Wait>(
     requires holds { Knows seat.old (λ k. HasReplica k node.old shared.catalogue.now × (k.note.batch ≡ unplaced records.now)) }
     ensures same { seat.new.shelf ≡ seat.old.shelf }
     ensures appended { Learns seat.old seat.new (λ k after. HasAppended k after records.now replies.new node.new) }
-    ensures goes { Relates seat.old seat.new (λ k after. (batch : BatchView) → batch.records ≡ records.now
-        → AppendsBy k after batch node.old node.new replies.new) }
+    ensures goes { Relates seat.old seat.new (λ k after. AppendsAny k after records.now node.old node.new replies.new) }
 {
     let mut held = shared.shelf.take(rt, seat, LEADER);
     let log = held.value.log_mut();

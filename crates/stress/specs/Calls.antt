@@ -5,7 +5,7 @@ use Rattle.verifier.specs.Accepted.{Checked}
 use Rattle.text.specs.Lines.{next_line}
 use Rattle.loader.specs.CatalogueView.{CatalogueView, number_named}
 use Rattle.replica.specs.StoreMeaning.{program_at}
-use Rattle.console.specs.Script.{ProgramCall, Meaning, Comment, Call, line_meaning}
+use Rattle.console.specs.Script.{ProgramCall, Meaning, Comment, Call, InvokeAt, ReadAt, Install, line_meaning}
 
 -- a call: its line, NAME HEX, the number of its program, and whether that is an update or a read
 pub record Called : Type 0 where
@@ -21,11 +21,15 @@ if_length argument k p = if length argument == p.arg_len then Some (k, p.mode) e
 unfoldable pub program_named : CatalogueView → ProgramCall → Option (ℕ × Mode)
 program_named c call = option_and_then (λ k. option_and_then (if_length call.argument k) (program_at c k)) (number_named c.programs call.name)
 
--- the calls of a line: none for a comment or an empty line; a line that no session could be asked for is bad
+-- the calls of a line: none for a comment or an empty line; a line that no session could be asked for is bad, and so as yet is
+-- one that calls by a number or installs
 abbrev pub calls_said : CatalogueView → List ℕ → Option Meaning → Option (List Called)
 calls_said c line None = None
 calls_said c line (Some Comment) = Some []
 calls_said c line (Some (Call call)) = option_map (λ p. record { line = line; program = p.0; mode = p.1 } ∷ []) (program_named c call)
+calls_said c line (Some (InvokeAt call)) = None
+calls_said c line (Some (ReadAt call)) = None
+calls_said c line (Some (Install new)) = None
 
 abbrev pub line_calls : CatalogueView → List ℕ → Option (List Called)
 line_calls c line = calls_said c line (line_meaning line)

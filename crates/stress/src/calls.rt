@@ -57,6 +57,10 @@ fn call_of_line<'a>(catalogue: &Catalogue, line: &'a str) -> LineCall<'a>
 {
     match read_line(line) {
         None => LineCall::Bad,
+        // A transcript has no lines for these yet.
+        Some(ScriptLine::InvokeAt(_) | ScriptLine::ReadAt(_) | ScriptLine::Install(_)) => {
+            LineCall::Bad
+        }
         Some(ScriptLine::Comment) => LineCall::Comment,
         Some(ScriptLine::Call(call)) => match program_named(catalogue, &call) {
             None => LineCall::Bad,

@@ -15,17 +15,18 @@ pub struct Answer {
     pub text: Vec<u8>,
 }
 
-// The sizes NODES:SLOTS:WINDOW:LIMIT.
+// The sizes NODES:SLOTS:WINDOW:LIMIT, and SPARE behind one more colon, or 4.
 fn sizes(text: &str) -> Option<Config> {
     let (nodes, rest) = text.split_once(':')?;
     let (slots, rest) = rest.split_once(':')?;
-    let (window, limit) = rest.split_once(':')?;
+    let (window, rest) = rest.split_once(':')?;
+    let (limit, spare) = rest.split_once(':').unwrap_or((rest, "4"));
     Some(Config {
         nodes: nodes.parse::<u32>().ok()?,
         slots: slots.parse::<u32>().ok()?,
         window: window.parse::<u32>().ok()?,
         limit: limit.parse::<u32>().ok()?,
-        spare: 0,
+        spare: spare.parse::<u32>().ok()?,
     })
 }
 

@@ -7,7 +7,7 @@ use loader::{Catalogue, load_manifest};
 use oplog::Config;
 use readpath::ReadAnswer;
 use std::alloc::Global;
-use store::{Answer, Closed, Session, Store, StoreRefused};
+use store::{Answer, Closed, Mode, NO_PLACE, NO_PROGRAM, Session, Store, StoreRefused};
 
 const BUMP: &str =
     "bf12000000000000 1851000000000000 0000000000000000 8500000001000000 1500050000000000 7906000000000000 0706000001000000 7b60000000000000 bf60000000000000 9500000000000000 b7000000ffffffff 9500000000000000";
@@ -20,12 +20,15 @@ const MANIFEST: &str =
 
 pub(crate) const ZERO: [u8; 4] = [0; 4];
 
+// The bytes of a program without an argument that replies 5.
+const FIVE: [u8; 16] = [0xb7, 0, 0, 0, 5, 0, 0, 0, 0x95, 0, 0, 0, 0, 0, 0, 0];
+
 pub(crate) fn counter(alloc: Global) -> Option<Catalogue> {
     let files = [("bump.hex", BUMP), ("peek.hex", PEEK)];
     load_manifest(alloc, MANIFEST, &files).ok()
 }
 
-fn single(window: u32, limit: u32) -> Config
+fn single(window: u32, limit: u32, spare: u32) -> Config
     ensures { (result.nodes ≡ 1) × (result.slots ≡ 1) }
 {
     Config {
@@ -33,7 +36,7 @@ fn single(window: u32, limit: u32) -> Config
         slots: 1,
         window,
         limit,
-        spare: 0,
+        spare,
     }
 }
 
@@ -54,7 +57,7 @@ fn close(store: Store, session: Session, mut sessions: Vec<Session>) -> Closed
 fn one_update_at_most(rt: HostRuntime) {
     let catalogue = counter(rt.alloc()).expect(&rt, "catalogue");
     let room = Vec::with_capacity(rt.alloc(), 1).expect(&rt, "room");
-    let opened = Store::open(rt.alloc(), single(16, 1), catalogue);
+    let opened = Store::open(rt.alloc(), single(16, 1, 0), catalogue);
     let (store, mut sessions) = opened.expect(&rt, "store");
     let mut session = sessions.pop().expect(&rt, "session");
     let first = Answer { index: 0, reply: 1 };
@@ -85,7 +88,7 @@ fn one_update_at_most(rt: HostRuntime) {
 fn forty_updates_in_a_window_of_sixteen(rt: HostRuntime) {
     let catalogue = counter(rt.alloc()).expect(&rt, "catalogue");
     let room = Vec::with_capacity(rt.alloc(), 1).expect(&rt, "room");
-    let opened = Store::open(rt.alloc(), single(16, 40), catalogue);
+    let opened = Store::open(rt.alloc(), single(16, 40, 0), catalogue);
     let (store, mut sessions) = opened.expect(&rt, "store");
     let mut session = sessions.pop().expect(&rt, "session");
     sessions.destroy_empty();
@@ -100,4 +103,50 @@ fn forty_updates_in_a_window_of_sixteen(rt: HostRuntime) {
     assert_eq!(rt; ended, Err(StoreRefused::Ended));
     let closed = close(store, session, room);
     assert_eq!(rt; (closed.log().base(), closed.log().tail()), (32, 40));
+}
+
+// The place behind the catalogue's two programs is empty, and then has one.
+#[test]
+fn a_program_is_installed(rt: HostRuntime) {
+    let catalogue = counter(rt.alloc()).expect(&rt, "catalogue");
+    let room = Vec::with_capacity(rt.alloc(), 1).expect(&rt, "room");
+    let opened = Store::open(rt.alloc(), single(16, 40, 1), catalogue);
+    let (store, mut sessions) = opened.expect(&rt, "store");
+    let mut session = sessions.pop().expect(&rt, "session");
+    sessions.destroy_empty();
+    let early = session.invoke(&rt, &store, 2, &[]);
+    let installed = session.install(&rt, &store, Mode::Update, 0, &FIVE);
+    let called = session.invoke(&rt, &store, 2, &[]);
+    assert_eq!(rt;
+        early,
+        Ok(Answer {
+            index: 0,
+            reply: NO_PROGRAM
+        })
+    );
+    assert_eq!(rt; installed, Ok(Answer { index: 1, reply: 2 }));
+    assert_eq!(rt; called, Ok(Answer { index: 2, reply: 5 }));
+    assert_eq!(rt; close(store, session, room).log().tail(), 3);
+}
+
+// A second one finds no place, which is an operation; one that is too large is none.
+#[test]
+fn no_place_is_left(rt: HostRuntime) {
+    let catalogue = counter(rt.alloc()).expect(&rt, "catalogue");
+    let room = Vec::with_capacity(rt.alloc(), 1).expect(&rt, "room");
+    let opened = Store::open(rt.alloc(), single(16, 40, 0), catalogue);
+    let (store, mut sessions) = opened.expect(&rt, "store");
+    let mut session = sessions.pop().expect(&rt, "session");
+    sessions.destroy_empty();
+    let full = session.install(&rt, &store, Mode::Read, 64, &FIVE);
+    let large = session.install(&rt, &store, Mode::Read, 65, &FIVE);
+    assert_eq!(rt;
+        full,
+        Ok(Answer {
+            index: 0,
+            reply: NO_PLACE
+        })
+    );
+    assert_eq!(rt; large, Err(StoreRefused::TooLarge));
+    assert_eq!(rt; close(store, session, room).log().tail(), 1);
 }

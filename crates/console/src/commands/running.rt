@@ -2,7 +2,8 @@
 
 ghost use Rattle.std.specs.Prelude.{◌≡◌, ◌⊎◌, [], IfOk};
 ghost use Rattle.loader.specs.Loading.{Outcome};
-ghost use Rattle.console.specs.RunAnswer.{script_answer, ran, IsRunAnswer};
+ghost use Rattle.text.specs.Lines.{lines_of};
+ghost use Rattle.console.specs.RunAnswer.{lines_answer, script_answer, ran, IsRunAnswer};
 ghost use Rattle.console.specs.Files.{SomeFile};
 ghost use Rattle.console.specs.Known.{IfRunKnown};
 ghost use Rattle.console.specs.Report.{answer_of, Failed, Prepares, Reports, ReportsSome};
@@ -17,7 +18,7 @@ use crate::input::InputFault;
 use crate::inputs::read_inputs;
 use crate::reporting::{Reply, report};
 use crate::run_texts::put_bad_line;
-use crate::single_node::SingleNode;
+use crate::single_node::{RUN_PLACES, SingleNode};
 use crate::status::{Status, Verdict};
 use crate::transfer::{Sink, Source};
 use loader::Catalogue;
@@ -33,7 +34,7 @@ fn take_lines(
 ) -> Result<Verdict, AllocError>
     requires steady { IsSteady catalogue.now node.old }
     requires nothing { Follows catalogue.now [] node.old }
-    ensures { AnswersBehind out.old.items out.new.items result (script_answer catalogue.now script.now) }
+    ensures { AnswersBehind out.old.items out.new.items result (lines_answer catalogue.now 1 [] (lines_of script.now)) }
 {
     let mut lines = NumberedLines::new(script);
     while let Some((number, line)) = lines.take_line() {
@@ -47,12 +48,13 @@ fn take_lines(
 }
 
 // What a catalogue's programs answer to a script.
-fn script_reply(alloc: Global, catalogue: &Catalogue, script: &str) -> Result<Reply, AllocError>
-    ensures { IfOk result (λ r. answer_of r ≡ script_answer catalogue.now script.now) }
+fn script_reply(alloc: Global, catalogue: Catalogue, script: &str) -> Result<Reply, AllocError>
+    ensures { IfOk result (λ r. answer_of r ≡ script_answer catalogue script.now) }
 {
-    let mut node = SingleNode::open(alloc, catalogue)?;
+    let catalogue = catalogue.with_places(RUN_PLACES);
+    let mut node = SingleNode::open(alloc, &catalogue)?;
     let mut text = Vec::new(alloc);
-    let verdict = take_lines(&mut node, catalogue, script, &mut text)?;
+    let verdict = take_lines(&mut node, &catalogue, script, &mut text)?;
     Ok(Reply { text, verdict })
 }
 
@@ -61,7 +63,7 @@ fn loaded_reply(alloc: Global, loaded: Loaded, script: &str) -> Result<Reply, Al
     ensures { IfOk result (λ r. (outcome : Outcome) → LoadedIs outcome loaded → answer_of r ≡ ran outcome script.now) }
 {
     match loaded {
-        Loaded::Catalogue(catalogue) => script_reply(alloc, &catalogue, script),
+        Loaded::Catalogue(catalogue) => script_reply(alloc, catalogue, script),
         Loaded::Refused(reply) => Ok(reply),
     }
 }
@@ -85,8 +87,8 @@ pub fn run_reply<F: Folder, R: Source, S: Source>(
 /// updates and one replica, on one thread.
 ///
 /// Writes for each call of the script `update INDEX reply REPLY steps STEPS`, `read POINT reply REPLY
-/// steps STEPS`, or `refused S1`, `refused S2` or `refused S4`, which changes nothing; a line that is no
-/// call, comment or empty line writes `line N bad` and ends the run. A refused manifest writes only its
+/// steps STEPS`, for each program that it installs `install INDEX reply REPLY`, or `refused S` with a number and its reason, which changes
+/// nothing; a line that is no call, install, comment or empty line writes `line N bad` and ends the run. A refused manifest writes only its
 /// refusal. Says how it ended. Each file is read whole before anything is written. Where a read fails, nothing is
 /// written.
 pub fn run<F: Folder, R: Source, S: Source, W: Sink>(
