@@ -8,7 +8,7 @@ _nrbpf() {
         return
     fi
     case ${COMP_WORDS[1]}:$before in
-        schedule:--limit | schedule:--nodes | schedule:--slots | schedule:--spare | schedule:--window | stress:--limit | stress:--nodes | stress:--slots | stress:--spare | stress:--window) COMPREPLY=(); return ;;
+        replay:--spare | schedule:--limit | schedule:--nodes | schedule:--slots | schedule:--spare | schedule:--window | stress:--limit | stress:--nodes | stress:--slots | stress:--spare | stress:--window) COMPREPLY=(); return ;;
     esac
     case ${COMP_WORDS[1]} in
         check) words='-h --help' ;;
@@ -17,7 +17,7 @@ _nrbpf() {
         dis) words='-h --help' ;;
         encode) words='-h --help' ;;
         run) words='-h --help' ;;
-        replay) words='-h --help' ;;
+        replay) words='--spare -h --help' ;;
         schedule) words='--nodes --slots --window --limit --spare -h --help' ;;
         stress) words='--nodes --slots --window --limit --spare -h --help' ;;
         help) words='check explain asm dis encode run replay schedule stress' ;;

@@ -4,31 +4,23 @@ use Rattle.std.specs.Prelude.{IfSome, IfNone}
 use Rattle.std.proofs.lemmas.List.{length-append}
 use Rattle.std.proofs.lemmas.Option.{same_Some}
 use Rattle.std.proofs.Math.Seq.{drop-append_seam}
-use Rattle.maps.specs.Maps.{AreBytes}
 use Rattle.loader.specs.Installed.{InstalledView}
 use Rattle.loader.specs.StoreState.{StoreState, sizes_of, sizes_for}
 use Rattle.machine.specs.declared.running.Outcome.{Outcome}
 use Rattle.verifier.specs.declared.refusal.Mode.TheVariants.{Update}
 use Rattle.loader.specs.CatalogueView.{CatalogueView}
 use Rattle.oplog.specs.declared.configuration.TheConstants.{MAX_LIMIT}
-use Rattle.oplog.specs.Calls.{Call}
 use Rattle.oplog.specs.Operations.{Operation}
-use Rattle.oplog.specs.declared.records.Op.TheVariants.{Run}
 use Rattle.oplog.specs.declared.records.Record.{Record}
 use Rattle.oplog.specs.Logs.{Log, tail_of, left_of}
 use Rattle.oplog.specs.History.{Effect, History, left_by, after}
 use Rattle.replica.specs.StoreMeaning.{is_operation, store_meaning, AreUpdates}
 use Rattle.replica.specs.Views.{ReplicaView, RepliesView}
 use Rattle.replica.specs.Replaying.{IsAnswered, KeepsOutcomes}
-use Rattle.replica.proofs.Tested.{tests_offered}
 use Rattle.node.specs.declared.following.NodeReplica.{NodeReplica}
 use Rattle.node.specs.Following.{IsNext, room_for, grown, copied, replies_for, replayed, told}
 use Rattle.console.specs.declared.single_node.SingleNode.{SingleNode}
-use Rattle.console.specs.Running.{IsCallOf, IsUpdated}
-
--- a call of an update program is an update
-pub is_update : (c : CatalogueView) (call : Call) → IsCallOf c call Update → AreBytes call.argument → is_operation Update c (Run call) ≡ true
-is_update c call is bytes = tests_offered Update c call (record { program = is.program; named = is.named; mode_is = is.allowed; length_is = is.length; bytes = bytes })
+use Rattle.console.specs.Running.{IsUpdated}
 
 only_one : (c : CatalogueView) (r : Record) → is_operation Update c r.op ≡ true → AreUpdates c (r ∷ [])
 only_one c r is zero s e = subst (λ x. is_operation Update c x.op ≡ true) (same_Some r s e) is

@@ -42,7 +42,7 @@ use Rattle.replica.proofs.Tested.{tests_offered, suits_so, offered_below}
 use Rattle.replica.proofs.Histories.{have_effects}
 use Rattle.console.specs.declared.single_node.TheConstants.{RUN_PLACES}
 use Rattle.console.specs.Answer.{Answer}
-use Rattle.console.specs.Script.{ProgramCall, Meaning, Comment, Call, InvokeAt, ReadAt, Install, named_call, numbered_call, new_program, word_meaning, call_meaning, line_meaning}
+use Rattle.console.specs.Script.{ProgramCall, Meaning, Comment, Call, InvokeAt, ReadAt, Install, named_call, numbered_call, program_fields, new_program, word_meaning, call_meaning, line_meaning}
 use Rattle.console.specs.RunAnswer.{Turn, refused, with_operation, update_line, read_line, install_line, submitted, performed, performed_by, numbered, called, unless_refused, taken, line_turn, behind, bad_line, by_turn, lines_answer, ran}
 use Rattle.console.specs.RunLines.{CallRuns, IsUpdateTurn, IsReadTurn, IsInstallTurn, IsRefusedTurn, MeaningTurn, LineTurn, ScriptRuns, RunLinesAreRuns}
 use Rattle.console.proofs.Turns.{after_append, whole}
@@ -81,7 +81,7 @@ numbered_bytes text call e =
     subst (λ (x : TheCall). AreBytes x.argument) (same_Some _ call argument.2) (field_are_bytes field.0.1 argument.0 argument.1)
 
 program_bytes : (text : List ℕ) (new : NewProgram) → new_program text ≡ Some new → AreBytes new.bytes
-unfolding new_program
+unfolding new_program program_fields
 program_bytes text new e =
     let first = steps (split_at_space text) _ new e in
     let second = steps (split_at_space first.0.1) _ new first.2 in

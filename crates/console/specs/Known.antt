@@ -17,8 +17,8 @@ abbrev pub IfRunKnown : Option (List ℕ) → Option Contents → Option (List �
 IfRunKnown manifest folder script P = IfTextsKnown manifest folder script (λ m h s. P (run_answer m h s))
 
 -- the same of what `replay` answers to a transcript
-abbrev pub IfReplayKnown : Option (List ℕ) → Option Contents → Option (List ℕ) → (Answer → Type 0) → Type 0
-IfReplayKnown manifest folder transcript P = IfTextsKnown manifest folder transcript (λ m h s. P (replay_answer m h s))
+abbrev pub IfReplayKnown : ℕ → Option (List ℕ) → Option Contents → Option (List ℕ) → (Answer → Type 0) → Type 0
+IfReplayKnown spare manifest folder transcript P = IfTextsKnown manifest folder transcript (λ m h s. P (replay_answer spare m h s))
 
 -- the same of what `schedule` answers to a list of steps, in a store of the setup's sizes
 abbrev pub IfScheduleKnown : {F : Type 0} → (F → Option Contents) → Setup F → Option (List ℕ) → Option (List ℕ) → (Answer → Type 0) → Type 0

@@ -1,22 +1,26 @@
 -- What `replay` answers and writes, as a function of the manifest, of the files that are there, and of the transcript.
-use Rattle.std.specs.Prelude.{ℕ, ◌+◌, ◌-◌, ◌^◌, min, Bool, false, ◌&&◌, List, [], ◌∷◌, ◌++◌, length, codes, decimal, Option, Some, None, option_and_then, Ok, Err, nat_lt, ◌==◌, if◌then◌else◌}
+use Rattle.std.specs.Prelude.{ℕ, ◌+◌, ◌-◌, ◌^◌, min, Bool, false, ◌&&◌, List, [], ◌∷◌, ◌++◌, length, codes, decimal, Option, Some, None, option_and_then, Ok, Err, nat_lt, nat_le, ◌==◌, if◌then◌else◌}
 use Rattle.verifier.specs.declared.refusal.Mode.{Mode}
 use Rattle.verifier.specs.declared.refusal.Mode.TheVariants.{Update, Read}
-use Rattle.verifier.specs.Accepted.{Checked}
 use Rattle.text.specs.Lines.{lines_of, next_line}
-use Rattle.loader.specs.CatalogueView.{CatalogueView, number_named}
+use Rattle.loader.specs.CatalogueView.{CatalogueView, number_named, with_places}
+use Rattle.loader.specs.declared.installed.TheConstants.{MAX_PLACES}
 use Rattle.loader.specs.Loading.{Outcome}
+use Rattle.oplog.specs.Calls.{NewProgram}
 use Rattle.oplog.specs.Operations.{Operation}
-use Rattle.oplog.specs.declared.records.Op.TheVariants.{Run}
+use Rattle.oplog.specs.declared.records.Op.TheVariants.{Run, Install}
 use Rattle.oplog.specs.declared.configuration.TheConstants.{MAX_LIMIT}
 use Rattle.oplog.specs.History.{History, reply_at, read_reply_at}
-use Rattle.replica.specs.StoreMeaning.{program_at, store_meaning, is_mode}
+use Rattle.replica.specs.StoreMeaning.{store_meaning}
+use Rattle.replica.specs.Refusals.{early_refusal, install_refusal}
+use Rattle.replica.specs.declared.refusals.StoreRefused.{StoreRefused}
 use Rattle.console.specs.declared.status.Verdict.TheVariants as verdicts
 use Rattle.console.specs.Files.{Contents}
 use Rattle.console.specs.Answer.{Answer, refusal_answer}
-use Rattle.console.specs.Script.{ProgramCall}
-use Rattle.console.specs.Transcript.{AnsweredCall, TranscriptMeaning, Comment, Answered, Ended, transcript_line_meaning}
+use Rattle.console.specs.Script.{ProgramKey, Named, Numbered, KeyedCall}
+use Rattle.console.specs.Transcript.{AnsweredCall, AnsweredInstall, TranscriptMeaning, Comment, Answered, Installed, Ended, EndedInstall, transcript_line_meaning}
 use Rattle.console.specs.RunAnswer.{bad_line, with_operation}
+use Rattle.console.specs.ScheduleAnswer.{sizes_refused}
 use Rattle.console.specs.Inputs.{texts_answer, IsTextsAnswer}
 
 -- ---- the texts
@@ -47,16 +51,23 @@ pub data LineOutcome : Type 0 where
 abbrev pub next_count : ℕ → ℕ
 next_count n = min (n + 1) (2 ^ 64 - 1)
 
--- a program of that mode, whose argument has this length
-abbrev pub may_call : Mode → List ℕ → Option Checked → Bool
-may_call mode argument None = false
-may_call mode argument (Some p) = is_mode p.mode mode && (length argument == p.arg_len)
+-- the number of the program that a line names: one of the catalogue's by its name, or one behind these
+abbrev pub number_told : CatalogueView → ProgramKey → Option ℕ
+number_told c (Named name) = number_named c.programs name
+number_told c (Numbered k) = if nat_lt k (length c.programs) then None else Some k
 
--- the operation that is called: of a program that the catalogue has, of that mode, with an argument of its length
-abbrev pub operation_of : CatalogueView → Mode → ProgramCall → Option Operation
+-- the operation, unless it is refused
+abbrev pub unless_barred : Operation → Option StoreRefused → Option Operation
+unless_barred op None = Some op
+unless_barred op (Some why) = None
+
+-- the operation that is called, and that of an install: one that a session could ask for
+abbrev pub operation_of : CatalogueView → Mode → KeyedCall → Option Operation
 operation_of c mode call =
-    option_and_then (λ k. if may_call mode call.argument (program_at c k) then Some (Run (record { program = k; argument = call.argument })) else None)
-    (number_named c.programs call.name)
+    option_and_then (λ k. unless_barred (Run (record { program = k; argument = call.argument })) (early_refusal c mode k call.argument)) (number_told c call.key)
+
+abbrev pub install_of : CatalogueView → NewProgram → Option Operation
+install_of c new = unless_barred (Install new) (install_refusal c.shapes new)
 
 abbrev pub is_reply : ℕ → Option ℕ → Bool
 is_reply told None = false
@@ -86,16 +97,22 @@ by_operation agrees (Some op) = agrees op
 abbrev pub answered_outcome : CatalogueView → Replayed → AnsweredCall → LineOutcome
 answered_outcome c at a = by_operation (compared c at a.mode a.index a.reply) (operation_of c a.mode a.call)
 
+-- an install is an update
+abbrev pub installed_outcome : CatalogueView → Replayed → AnsweredInstall → LineOutcome
+installed_outcome c at a = by_operation (compared c at Update a.index a.reply) (install_of c a.program)
+
 -- an update that was told that the history has ended changes nothing
-abbrev pub ended_outcome : CatalogueView → Replayed → ProgramCall → LineOutcome
-ended_outcome c at call = by_operation (λ op. Agrees (record at { ended = next_count at.ended })) (operation_of c Update call)
+abbrev pub ended_outcome : Replayed → Option Operation → LineOutcome
+ended_outcome at asked = by_operation (λ op. Agrees (record at { ended = next_count at.ended })) asked
 
 -- by what the line says
 abbrev pub told : CatalogueView → Replayed → Option TranscriptMeaning → LineOutcome
 told c at None = Bad
 told c at (Some Comment) = Agrees at
 told c at (Some (Answered a)) = answered_outcome c at a
-told c at (Some (Ended call)) = ended_outcome c at call
+told c at (Some (Installed a)) = installed_outcome c at a
+told c at (Some (Ended call)) = ended_outcome at (operation_of c Update call)
+told c at (Some (EndedInstall new)) = ended_outcome at (install_of c new)
 
 unfoldable pub line_outcome : CatalogueView → Replayed → List ℕ → LineOutcome
 line_outcome c at line = told c at (transcript_line_meaning line)
@@ -121,15 +138,20 @@ transcript_answer c n at (l ∷ ls) = by_outcome n (λ next. transcript_answer c
 abbrev pub nothing_replayed : Replayed
 nothing_replayed = record { history = []; reads = 0; ended = 0 }
 
--- a refused manifest writes only its refusal
-abbrev pub replayed : Outcome → List ℕ → Answer
-replayed (Ok c) transcript = transcript_answer c 1 nothing_replayed (lines_of transcript)
-replayed (Err refusal) transcript = refusal_answer refusal
+-- what a catalogue answers to a transcript, with so many places behind its programs
+abbrev pub placed_answer : ℕ → CatalogueView → List ℕ → Answer
+placed_answer spare c transcript =
+    if nat_le spare MAX_PLACES then transcript_answer (with_places c spare) 1 nothing_replayed (lines_of transcript) else sizes_refused
 
--- what `replay` answers: all files are read first, then the manifest is loaded, then the lines are replayed
-abbrev pub replay_answer : List ℕ → Contents → List ℕ → Answer
-replay_answer = texts_answer replayed
+-- a refused manifest writes only its refusal, too many places only theirs
+abbrev pub replayed : ℕ → Outcome → List ℕ → Answer
+replayed spare (Ok c) transcript = placed_answer spare c transcript
+replayed spare (Err refusal) transcript = refusal_answer refusal
+
+-- what `replay` answers: all files are read first, then the manifest is loaded, then the places are judged, then the lines are replayed
+abbrev pub replay_answer : ℕ → List ℕ → Contents → List ℕ → Answer
+replay_answer spare = texts_answer (replayed spare)
 
 -- what `replay` answers to some manifest, files and transcript
-abbrev pub IsReplayAnswer : Answer → Type 0
-IsReplayAnswer = IsTextsAnswer replayed
+abbrev pub IsReplayAnswer : ℕ → Answer → Type 0
+IsReplayAnswer spare = IsTextsAnswer (replayed spare)

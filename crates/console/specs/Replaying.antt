@@ -11,7 +11,6 @@ use Rattle.console.specs.declared.replaying.LineVerdict.{LineVerdict}
 use Rattle.console.specs.declared.replaying.LineVerdict.TheVariants as lines
 use Rattle.console.specs.declared.replaying.ReplayEnd.{ReplayEnd}
 use Rattle.console.specs.declared.replaying.ReplayEnd.TheVariants as ends
-use Rattle.console.specs.declared.transcripts.AnsweredCall.{AnsweredCall}
 use Rattle.console.specs.declared.status.Verdict.{Verdict}
 use Rattle.console.specs.declared.status.Verdict.TheVariants as verdicts
 use Rattle.console.specs.Running.{Follows}
@@ -40,8 +39,8 @@ with_call Update at op = with_update at op
 with_call Read at op = record at { reads = next_count at.reads }
 
 -- after whatever was replayed before: whether this operation has the index and the reply that its call tells, and what is replayed then
-abbrev pub Compares : CatalogueView → Mode → Operation → AnsweredCall → Replaying → Bool → Replaying → Type 0
-Compares c mode op call old answer new = (at : Replayed) → HasReplayed c at old → IsCompared c (call_agrees c mode at.history op call.index call.reply) (with_call mode at op) answer new
+abbrev pub Compares : CatalogueView → Mode → Operation → (index reply : ℕ) → Replaying → Bool → Replaying → Type 0
+Compares c mode op index reply old answer new = (at : Replayed) → HasReplayed c at old → IsCompared c (call_agrees c mode at.history op index reply) (with_call mode at op) answer new
 
 -- what a line does was told, and where it agrees so much is replayed
 abbrev pub LineReplayed : CatalogueView → LineOutcome → LineVerdict → Replaying → Type 0

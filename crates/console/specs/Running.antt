@@ -1,16 +1,13 @@
 -- What is kept while a script is run. Clauses of private functions alone cite this.
 use Rattle.std.specs.Prelude.{◌≡◌, ℕ, ◌+◌, ◌<◌, Bool, true, false, List, ◌++◌, length, Option, Some, None, Result, IfOk, OnOk}
 use Rattle.loader.specs.StoreState.{StoreState, sizes_of, sizes_for, opened_state}
-use Rattle.verifier.specs.declared.refusal.Mode.{Mode}
-use Rattle.verifier.specs.Accepted.{Checked}
 use Rattle.machine.specs.declared.running.Outcome.{Outcome}
 use Rattle.loader.specs.CatalogueView.{CatalogueView}
 use Rattle.oplog.specs.declared.configuration.TheConstants.{MAX_LIMIT}
-use Rattle.oplog.specs.Calls.{Call}
 use Rattle.oplog.specs.Operations.{Operation}
 use Rattle.oplog.specs.Logs.{tail_of}
 use Rattle.oplog.specs.History.{Effect, History, after}
-use Rattle.replica.specs.StoreMeaning.{program_at, outcome_of, store_meaning}
+use Rattle.replica.specs.StoreMeaning.{outcome_of, store_meaning}
 use Rattle.replica.specs.Refusals.{IsRoomFor}
 use Rattle.console.specs.declared.single_node.SingleNode.{SingleNode}
 use Rattle.console.specs.declared.status.Verdict.{Verdict}
@@ -31,13 +28,6 @@ pub record IsSteady (c : CatalogueView) (n : SingleNode) : Type 0 where
 pub record Follows (c : CatalogueView) (h : History) (n : SingleNode) : Type 0 where
   pub count : tail_of n.log ≡ length h
   pub state : n.own.replica.state ≡ after store_meaning c (opened_state (sizes_for c)) h
-
--- a call of a program of this mode, with as many bytes as its argument has
-pub record IsCallOf (c : CatalogueView) (call : Call) (mode : Mode) : Type 0 where
-  pub program : Checked
-  pub named : program_at c call.program ≡ Some program
-  pub allowed : program.mode ≡ mode
-  pub length : length call.argument ≡ program.arg_len
 
 -- the node applied one more operation, and answered this
 pub record IsUpdated (c : CatalogueView) (op : Operation) (old new : SingleNode) (o : Outcome) : Type 0 where

@@ -56,15 +56,20 @@ numbered_call text = do
   argument ← field_bytes field.1
   Some (record { program = program; argument = argument })
 
+-- the fields MODE, ARGLEN and HEX
+unfoldable pub program_fields : List ℕ → List ℕ → List ℕ → Option NewProgram
+program_fields word length digits = do
+  mode ← mode_of word
+  arg_len ← number_of length
+  bytes ← field_bytes digits
+  Some (record { mode = mode; arg_len = arg_len; bytes = bytes })
+
 -- MODE ARGLEN HEX
 unfoldable pub new_program : List ℕ → Option NewProgram
 new_program text = do
   first ← split_at_space text
   second ← split_at_space first.1
-  mode ← mode_of first.0
-  length ← number_of second.0
-  bytes ← field_bytes second.1
-  Some (record { mode = mode; arg_len = length; bytes = bytes })
+  program_fields first.0 second.0 second.1
 
 -- invoke K HEX, read K HEX, or install MODE ARGLEN HEX
 abbrev pub word_meaning : List ℕ → List ℕ → Option Meaning

@@ -1,8 +1,5 @@
 -- What a line that was read says, without where its text lies. Clauses of private functions alone cite this.
-use Rattle.std.specs.Prelude.{ℕ}
 use Rattle.oplog.specs.Calls.{Call as NumberedCall, NewProgram}
-use Rattle.oplog.specs.Operations.{Operation}
-use Rattle.oplog.specs.declared.records.Op.TheVariants.{Run}
 use Rattle.console.specs.declared.script.ProgramCall.{ProgramCall as TheCall}
 use Rattle.console.specs.declared.script.NumberedCall.{NumberedCall as TheNumberedCall}
 use Rattle.console.specs.declared.script.ProgramText.{ProgramText}
@@ -17,23 +14,17 @@ use Rattle.console.specs.declared.step_lines.InstallAt.{InstallAt as TheInstallA
 use Rattle.console.specs.declared.step_lines.StepLine.{StepLine}
 use Rattle.console.specs.declared.step_lines.StepLine.TheVariants as steps
 use Rattle.console.specs.declared.transcripts.AnsweredCall.{AnsweredCall as TheAnsweredCall}
+use Rattle.console.specs.declared.transcripts.AnsweredInstall.{AnsweredInstall as TheAnsweredInstall}
 use Rattle.console.specs.declared.transcripts.TranscriptLine.{TranscriptLine}
 use Rattle.console.specs.declared.transcripts.TranscriptLine.TheVariants as told
 use Rattle.console.specs.Script.{ProgramCall, ProgramKey, Named, Numbered, KeyedCall, Meaning, Comment, Call, InvokeAt, ReadAt, Install}
 use Rattle.console.specs.StepLine as said
 use Rattle.console.specs.StepLine.{StepMeaning, SlotAt, CallAt, InstallAt}
 use Rattle.console.specs.Transcript as telling
-use Rattle.console.specs.Transcript.{TranscriptMeaning, AnsweredCall}
+use Rattle.console.specs.Transcript.{TranscriptMeaning, AnsweredCall, AnsweredInstall}
 
 abbrev pub call_of : TheCall → ProgramCall
 call_of c = record { name = c.name.now; argument = c.argument.items }
-
--- the call of a program by its number, and the run of that as an operation
-abbrev pub numbered_call : ℕ → TheCall → NumberedCall
-numbered_call number c = record { program = number; argument = c.argument.items }
-
-abbrev pub numbered_operation : ℕ → TheCall → Operation
-numbered_operation number c = Run (numbered_call number c)
 
 abbrev pub key_of : TheKey → ProgramKey
 key_of (keys.Named name) = Named name.now
@@ -85,9 +76,14 @@ step_of (steps.Rebase node) = said.Rebase node
 -- ---- transcripts
 
 abbrev pub answered_of : TheAnsweredCall → AnsweredCall
-answered_of a = record { mode = a.mode; index = a.index; call = call_of a.call; reply = a.reply }
+answered_of a = record { mode = a.mode; index = a.index; call = keyed_of a.call; reply = a.reply }
+
+abbrev pub installed_of : TheAnsweredInstall → AnsweredInstall
+installed_of a = record { index = a.index; program = program_of a.program; reply = a.reply }
 
 abbrev pub told_of : TranscriptLine → TranscriptMeaning
 told_of told.Comment = telling.Comment
 told_of (told.Answered a) = telling.Answered (answered_of a)
-told_of (told.Ended c) = telling.Ended (call_of c)
+told_of (told.Installed a) = telling.Installed (installed_of a)
+told_of (told.Ended c) = telling.Ended (keyed_of c)
+told_of (told.EndedInstall p) = telling.EndedInstall (program_of p)

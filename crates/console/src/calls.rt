@@ -2,7 +2,7 @@
 
 ghost use Rattle.std.specs.Prelude.{◌≡◌, true, IfOk};
 ghost use Rattle.oplog.specs.declared.records.Op.TheVariants.{Run};
-ghost use Rattle.replica.specs.StoreMeaning.{is_operation};
+ghost use Rattle.replica.specs.StoreMeaning.{call_of as program_call, is_operation};
 ghost use Rattle.replica.specs.Refusals.{early_refusal, IsRefusedAs};
 ghost use Rattle.console.specs.RunAnswer.{numbered, called, asked, installed, performed};
 ghost use Rattle.console.specs.Running.{IsSteady, TakesTurn, TakesLine};
@@ -88,21 +88,21 @@ fn run_call(
     )
 }
 
-// The call that a line asks for by a number, where it may go on.
-fn checked_call(
+// The call of a program by its number, where it may go on.
+pub(crate) fn checked_call(
     catalogue: &Catalogue,
     mode: Mode,
-    asked: &NumberedCall,
+    program: u64,
+    argument: &[u8],
 ) -> Result<Call, StoreRefused>
-    ensures refusal { IsRefusedAs (early_refusal catalogue.now mode asked.now.program asked.now.argument.items) result }
-    ensures call { IfOk result (λ call. (call ≡ at_number_of asked.now) × (is_operation mode catalogue.now (Run call) ≡ true)) }
+    ensures refusal { IsRefusedAs (early_refusal catalogue.now mode program argument.now) result }
+    ensures call { IfOk result (λ call. (call ≡ program_call program argument.now) × (is_operation mode catalogue.now (Run call) ≡ true)) }
 {
-    let argument = asked.argument.as_slice();
-    if asked.program >= (catalogue.len() + catalogue.places()) as u64 {
+    if program >= (catalogue.len() + catalogue.places()) as u64 {
         return Err(StoreRefused::UnknownProgram);
     }
-    check_call(catalogue, mode, asked.program as u16, argument)?;
-    Ok(Call::new(asked.program as u16, argument))
+    check_call(catalogue, mode, program as u16, argument)?;
+    Ok(Call::new(program as u16, argument))
 }
 
 // Makes the call that a line asks for by a number, and writes what it answers.
@@ -117,7 +117,7 @@ fn run_asked(
     ensures steady { IsSteady catalogue.now node.new }
     ensures taken { TakesTurn catalogue.now (λ h. asked catalogue.now h mode (at_number_of call.now)) node.old node.new out.old.items out.new.items result }
 {
-    match checked_call(catalogue, mode, call) {
+    match checked_call(catalogue, mode, call.program, call.argument.as_slice()) {
         Ok(call) => perform(node, catalogue, mode, call, out),
         Err(refused) => put_refused(out, refused),
     }

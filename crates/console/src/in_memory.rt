@@ -106,18 +106,20 @@ pub fn run(
     settled(alloc, prepared)
 }
 
-/// What `replay` answers to a manifest, with these files, and a transcript.
+/// What `replay` answers to a manifest, with these files and so many places behind its programs, and a transcript.
 pub fn replay(
     alloc: Global,
+    spare: u32,
     files: &[(&str, &[u8])],
     manifest: &[u8],
     transcript: &[u8],
 ) -> Result<Reply, AllocError>
-    ensures { IfOk result (λ r. answer_of r ≡ replay_answer manifest.now (found_file files.now) transcript.now) }
+    ensures { IfOk result (λ r. answer_of r ≡ replay_answer spare manifest.now (found_file files.now) transcript.now) }
 {
     let prepared = replay_reply(
         alloc,
         &HeldFiles(files),
+        spare,
         &mut Held(manifest),
         &mut Held(transcript),
     );

@@ -1,32 +1,25 @@
 // The replay of a transcript, line by line.
 
-ghost use Rattle.std.specs.Prelude.{◌≡◌, ◌≤◌, [], length, Some, option_map, IfSome, IfOk};
+ghost use Rattle.std.specs.Prelude.{◌≡◌, true, option_map, IfSome, IfOk};
 ghost use Rattle.verifier.specs.declared.refusal.Mode.TheVariants.{Update, Read};
-ghost use Rattle.maps.specs.declared.shapes.TheConstants.{MAX_ARG_LEN};
-ghost use Rattle.replica.specs.StoreMeaning.{program_at};
+ghost use Rattle.oplog.specs.declared.records.Op.TheVariants.{Run};
+ghost use Rattle.replica.specs.StoreMeaning.{is_operation};
 ghost use Rattle.text.specs.Lines.{lines_of};
-ghost use Rattle.console.specs.ReplayAnswer.{operation_of, answered_outcome, ended_outcome, line_outcome, nothing_replayed, transcript_answer};
+ghost use Rattle.console.specs.ReplayAnswer.{number_told, operation_of, install_of, answered_outcome, installed_outcome, ended_outcome, line_outcome, nothing_replayed, transcript_answer};
 ghost use Rattle.console.specs.Replaying.{HasReplayed, Compares, ReplaysLine, compared_verdict, ended_answer, ended_verdict};
-ghost use Rattle.console.specs.Running.{IsSteady, IsCallOf};
-ghost use Rattle.console.specs.ScriptShown.{call_of, answered_of, numbered_call, numbered_operation};
+ghost use Rattle.console.specs.Running.{IsSteady};
+ghost use Rattle.console.specs.ScriptShown.{key_of, keyed_of, program_of, answered_of, installed_of};
 
-use crate::script::ProgramCall;
+use crate::calls::checked_call;
+use crate::script::{KeyedCall, ProgramKey, ProgramText};
 use crate::single_node::SingleNode;
 use crate::status::Verdict;
-use crate::transcripts::{AnsweredCall, TranscriptLine, read_transcript_line};
+use crate::transcripts::{AnsweredCall, AnsweredInstall, TranscriptLine, read_transcript_line};
 use loader::Catalogue;
 use oplog::{Call, Op};
-use replica::find_program_of;
 use std::alloc::{AllocError, Global};
 use text::NumberedLines;
-use verifier::{Accepted, Mode};
-
-// A program of the catalogue, and its number there.
-#[derive(Clone, Copy)]
-pub(crate) struct Numbered<'a> {
-    pub number: u16,
-    pub program: &'a Accepted,
-}
+use verifier::Mode;
 
 // One node, and how many reads and ended calls there were beside its updates.
 #[derive(Drop)]
@@ -65,17 +58,36 @@ impl ReplayEnd {
     }
 }
 
-// The program that a call names, where it has this mode and the argument has its length.
-fn find<'a>(catalogue: &'a Catalogue, mode: Mode, call: &ProgramCall) -> Option<Numbered<'a>>
-    ensures found { option_map (λ n. numbered_operation n.number call.now) result ≡ operation_of catalogue.now mode (call_of call.now) }
-    ensures fits { IfSome result (λ n. IsCallOf catalogue.now (numbered_call n.number call.now) mode) }
-    ensures program { IfSome result (λ n. program_at catalogue.now n.number ≡ Some n.program.now) }
-    ensures length { IfSome result (λ n. (length call.now.argument.items ≡ n.program.now.arg_len) × (length call.now.argument.items ≤ MAX_ARG_LEN)) }
-    ensures mode { IfSome result (λ n. (n.program.now.mode ≡ mode) × (n.program.now.shapes ≡ catalogue.now.shapes)) }
+// The number of the program that a line names.
+fn number_told(catalogue: &Catalogue, key: ProgramKey<'_>) -> Option<u64>
+    ensures { result ≡ number_told catalogue.now (key_of key.entry) }
 {
-    let number = catalogue.number(call.name)?;
-    let program = find_program_of(catalogue, mode, number, call.argument.as_slice()).ok()?;
-    Some(Numbered { number, program })
+    match key {
+        ProgramKey::Named(name) => match catalogue.number(name) {
+            Some(number) => Some(number as u64),
+            None => None,
+        },
+        ProgramKey::Numbered(number) => {
+            if number < catalogue.len() as u64 {
+                None
+            } else {
+                Some(number)
+            }
+        }
+    }
+}
+
+// The call that a line says, where a session could ask for it.
+fn find(catalogue: &Catalogue, mode: Mode, call: &KeyedCall) -> Option<Call>
+    ensures found { option_map Run result ≡ operation_of catalogue.now mode (keyed_of call.now) }
+    ensures asks { IfSome result (λ c. is_operation mode catalogue.now (Run c) ≡ true) }
+{
+    let number = number_told(catalogue, call.key)?;
+    let argument = call.argument.as_slice();
+    match checked_call(catalogue, mode, number, argument) {
+        Ok(call) => Some(call),
+        Err(_) => None,
+    }
 }
 
 // What a line is found to be whose call agrees, or does not.
@@ -103,63 +115,72 @@ impl Replaying {
     }
 
     // Whether an update has this index and this reply.
-    fn update(&mut self, catalogue: &Catalogue, number: u16, call: &AnsweredCall) -> bool
+    fn update(&mut self, catalogue: &Catalogue, op: Op, index: u64, reply: u64) -> bool
         requires steady { IsSteady catalogue.now self.old.node }
-        requires call { IsCallOf catalogue.now (numbered_call number call.now.call) Update }
-        requires fits { length call.now.call.argument.items ≤ MAX_ARG_LEN }
+        requires update { is_operation Update catalogue.now op ≡ true }
         ensures steady { IsSteady catalogue.now self.new.node }
-        ensures compared { Compares catalogue.now Update (numbered_operation number call.now.call) call.now self.old result self.new }
+        ensures compared { Compares catalogue.now Update op index reply self.old result self.new }
     {
-        if call.index != self.node.tail() {
+        if index != self.node.tail() {
             return false;
         }
-        let update = Call::new(number, call.call.argument.as_slice());
-        match self.node.submit(catalogue, Op::Run(update)) {
-            Some(outcome) => outcome.reply == call.reply,
+        match self.node.submit(catalogue, op) {
+            Some(outcome) => outcome.reply == reply,
             None => false,
         }
     }
 
     // Whether a read has this point and this reply.
-    fn read(&mut self, catalogue: &Catalogue, found: Numbered<'_>, call: &AnsweredCall) -> bool
+    fn read(&mut self, catalogue: &Catalogue, call: &Call, point: u64, reply: u64) -> bool
         requires steady { IsSteady catalogue.now self.old.node }
-        requires call { IsCallOf catalogue.now (numbered_call found.number call.now.call) Read }
-        requires program { program_at catalogue.now found.number ≡ Some found.program.now }
-        requires length { length call.now.call.argument.items ≡ found.program.now.arg_len }
-        requires mode { (found.program.now.mode ≡ Read) × (found.program.now.shapes ≡ catalogue.now.shapes) }
         ensures steady { IsSteady catalogue.now self.new.node }
-        ensures compared { Compares catalogue.now Read (numbered_operation found.entry.number call.now.call) call.now self.old result self.new }
+        ensures compared { Compares catalogue.now Read (Run call.now) point reply self.old result self.new }
     {
-        if call.index != self.node.tail() {
+        if point != self.node.tail() {
             return false;
         }
-        let outcome = self
-            .node
-            .query(catalogue, found.number, call.call.argument.as_slice());
+        let outcome = self.node.query(catalogue, call.program(), call.argument());
         self.reads = self.reads.saturating_add(1);
-        outcome.reply == call.reply
+        outcome.reply == reply
     }
 
     // What a call that was answered is found to be.
-    fn answered(&mut self, catalogue: &Catalogue, call: &AnsweredCall) -> LineVerdict
+    fn answered(&mut self, catalogue: &Catalogue, told: &AnsweredCall) -> LineVerdict
         requires steady { IsSteady catalogue.now self.old.node }
         ensures steady { IsSteady catalogue.now self.new.node }
-        ensures replayed { ReplaysLine catalogue.now (λ at. answered_outcome catalogue.now at (answered_of call.now)) self.old result self.new }
+        ensures replayed { ReplaysLine catalogue.now (λ at. answered_outcome catalogue.now at (answered_of told.now)) self.old result self.new }
     {
-        let Some(found) = find(catalogue, call.mode, &call.call) else {
+        let Some(call) = find(catalogue, told.mode, &told.call) else {
             return LineVerdict::Bad;
         };
-        match call.mode {
-            Mode::Update => verdict_of(self.update(catalogue, found.number, call)),
-            Mode::Read => verdict_of(self.read(catalogue, found, call)),
+        match told.mode {
+            Mode::Update => verdict_of(self.update(
+                catalogue,
+                Op::Run(call),
+                told.index,
+                told.reply,
+            )),
+            Mode::Read => verdict_of(self.read(catalogue, &call, told.index, told.reply)),
         }
     }
 
-    // What an update after the end of the history is found to be.
-    fn after_end(&mut self, catalogue: &Catalogue, call: &ProgramCall) -> LineVerdict
+    // What an install that was answered is found to be.
+    fn installed(&mut self, catalogue: &Catalogue, told: &AnsweredInstall) -> LineVerdict
         requires steady { IsSteady catalogue.now self.old.node }
         ensures steady { IsSteady catalogue.now self.new.node }
-        ensures replayed { ReplaysLine catalogue.now (λ at. ended_outcome catalogue.now at (call_of call.now)) self.old result self.new }
+        ensures replayed { ReplaysLine catalogue.now (λ at. installed_outcome catalogue.now at (installed_of told.now)) self.old result self.new }
+    {
+        let Ok(program) = self.node.check(catalogue, &told.program) else {
+            return LineVerdict::Bad;
+        };
+        verdict_of(self.update(catalogue, Op::Install(program), told.index, told.reply))
+    }
+
+    // What an update after the end of the history is found to be.
+    fn after_end(&mut self, catalogue: &Catalogue, call: &KeyedCall) -> LineVerdict
+        requires steady { IsSteady catalogue.now self.old.node }
+        ensures steady { IsSteady catalogue.now self.new.node }
+        ensures replayed { ReplaysLine catalogue.now (λ at. ended_outcome at (operation_of catalogue.now Update (keyed_of call.now))) self.old result self.new }
     {
         match find(catalogue, Mode::Update, call) {
             Some(_) => {
@@ -167,6 +188,21 @@ impl Replaying {
                 LineVerdict::Agrees
             }
             None => LineVerdict::Bad,
+        }
+    }
+
+    // What an install after the end of the history is found to be.
+    fn install_after_end(&mut self, catalogue: &Catalogue, text: &ProgramText) -> LineVerdict
+        requires steady { IsSteady catalogue.now self.old.node }
+        ensures steady { IsSteady catalogue.now self.new.node }
+        ensures replayed { ReplaysLine catalogue.now (λ at. ended_outcome at (install_of catalogue.now (program_of text.now))) self.old result self.new }
+    {
+        match self.node.check(catalogue, text) {
+            Ok(_) => {
+                self.ended = self.ended.saturating_add(1);
+                LineVerdict::Agrees
+            }
+            Err(_) => LineVerdict::Bad,
         }
     }
 
@@ -180,8 +216,10 @@ impl Replaying {
         match read_transcript_line(line) {
             None => LineVerdict::Bad,
             Some(TranscriptLine::Comment) => LineVerdict::Agrees,
-            Some(TranscriptLine::Answered(call)) => self.answered(catalogue, &call),
+            Some(TranscriptLine::Answered(told)) => self.answered(catalogue, &told),
+            Some(TranscriptLine::Installed(told)) => self.installed(catalogue, &told),
             Some(TranscriptLine::Ended(call)) => self.after_end(catalogue, &call),
+            Some(TranscriptLine::EndedInstall(text)) => self.install_after_end(catalogue, &text),
         }
     }
 

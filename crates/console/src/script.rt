@@ -2,7 +2,7 @@
 
 ghost use Rattle.std.specs.Prelude.{◌≡◌, ◌≤◌, length, option_map};
 ghost use Rattle.loader.specs.Grammar.{mode_of};
-ghost use Rattle.console.specs.Script.{named_call, program_key, keyed_call, numbered_call, new_program, word_meaning, call_meaning, line_meaning};
+ghost use Rattle.console.specs.Script.{named_call, program_key, keyed_call, numbered_call, program_fields, new_program, word_meaning, call_meaning, line_meaning};
 ghost use Rattle.console.specs.ScriptShown.{call_of, key_of, keyed_of, at_number_of, program_of, meaning_of};
 
 use arrayvec::ArrayVec;
@@ -132,13 +132,11 @@ fn mode(text: &str) -> Option<Mode>
 }
 
 // The program that the fields MODE, ARGLEN and HEX say.
-#[tactic(auto, unfolding(crate::specs::Script::new_program))]
-pub(crate) fn new_program(text: &str) -> Option<ProgramText>
-    requires { length text.now ≤ LINE_BYTES }
-    ensures { option_map program_of result ≡ new_program text.now }
+#[tactic(auto, unfolding(crate::specs::Script::program_fields))]
+pub(crate) fn program_fields(word: &str, arg_len: &str, digits: &str) -> Option<ProgramText>
+    requires { length digits.now ≤ LINE_BYTES }
+    ensures { option_map program_of result ≡ program_fields word.now arg_len.now digits.now }
 {
-    let (word, rest) = split_at_space(text)?;
-    let (arg_len, digits) = split_at_space(rest)?;
     let mode = mode(word)?;
     let arg_len = number(arg_len)?;
     let bytes = hex_field(digits)?;
@@ -147,6 +145,17 @@ pub(crate) fn new_program(text: &str) -> Option<ProgramText>
         arg_len,
         bytes,
     })
+}
+
+// The program that the words MODE ARGLEN HEX say.
+#[tactic(auto, unfolding(crate::specs::Script::new_program))]
+pub(crate) fn new_program(text: &str) -> Option<ProgramText>
+    requires { length text.now ≤ LINE_BYTES }
+    ensures { option_map program_of result ≡ new_program text.now }
+{
+    let (word, rest) = split_at_space(text)?;
+    let (arg_len, digits) = split_at_space(rest)?;
+    program_fields(word, arg_len, digits)
 }
 
 // What a line of more than two fields says, by its first word.

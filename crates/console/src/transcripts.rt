@@ -1,10 +1,10 @@
 // The lines of a transcript.
 
 ghost use Rattle.std.specs.Prelude.{◌≡◌, ◌≤◌, length, option_map};
-ghost use Rattle.console.specs.Transcript.{Answered, Ended, answered_call, ended_call, transcript_meaning, transcript_line_meaning};
-ghost use Rattle.console.specs.ScriptShown.{told_of};
+ghost use Rattle.console.specs.Transcript.{Answered, Installed, answered_call, answered_install, ended_call, ended_words, transcript_meaning, transcript_line_meaning};
+ghost use Rattle.console.specs.ScriptShown.{keyed_of, told_of};
 
-use crate::script::{ProgramCall, named_call};
+use crate::script::{KeyedCall, ProgramText, keyed_call, new_program, program_fields};
 use text::{LINE_BYTES, LineKind, kind_of, number, split_at_space};
 use verifier::Mode;
 
@@ -13,7 +13,15 @@ use verifier::Mode;
 pub(crate) struct AnsweredCall<'a> {
     pub mode: Mode,
     pub index: u64,
-    pub call: ProgramCall<'a>,
+    pub call: KeyedCall<'a>,
+    pub reply: u64,
+}
+
+// An install that was answered: the number of updates before it, and the reply.
+#[derive(Drop)]
+pub(crate) struct AnsweredInstall {
+    pub index: u64,
+    pub program: ProgramText,
     pub reply: u64,
 }
 
@@ -22,10 +30,12 @@ pub(crate) struct AnsweredCall<'a> {
 pub(crate) enum TranscriptLine<'a> {
     Comment,
     Answered(AnsweredCall<'a>),
-    Ended(ProgramCall<'a>),
+    Installed(AnsweredInstall),
+    Ended(KeyedCall<'a>),
+    EndedInstall(ProgramText),
 }
 
-// PLACE NAME HEX REPLY
+// PLACE NAME HEX REPLY, or with K in the place of NAME
 #[tactic(auto, unfolding(crate::specs::Transcript::answered_call))]
 fn answered_line(mode: Mode, text: &str) -> Option<TranscriptLine<'_>>
     requires { length text.now ≤ LINE_BYTES }
@@ -35,7 +45,7 @@ fn answered_line(mode: Mode, text: &str) -> Option<TranscriptLine<'_>>
     let (name, rest) = split_at_space(rest)?;
     let (digits, reply) = split_at_space(rest)?;
     let index = number(index)?;
-    let call = named_call(name, digits)?;
+    let call = keyed_call(name, digits)?;
     let reply = number(reply)?;
     Some(TranscriptLine::Answered(AnsweredCall {
         mode,
@@ -45,15 +55,45 @@ fn answered_line(mode: Mode, text: &str) -> Option<TranscriptLine<'_>>
     }))
 }
 
-// NAME HEX
-#[tactic(auto, unfolding(crate::specs::Transcript::ended_call))]
-fn ended_line(text: &str) -> Option<TranscriptLine<'_>>
+// PLACE MODE ARGLEN HEX REPLY
+#[tactic(auto, unfolding(crate::specs::Transcript::answered_install))]
+fn installed_line<'a>(text: &str) -> Option<TranscriptLine<'a>>
     requires { length text.now ≤ LINE_BYTES }
-    ensures { option_map told_of result ≡ option_map Ended (ended_call text.now) }
+    ensures { option_map told_of result ≡ option_map Installed (answered_install text.now) }
+{
+    let (index, rest) = split_at_space(text)?;
+    let (word, rest) = split_at_space(rest)?;
+    let (arg_len, rest) = split_at_space(rest)?;
+    let (digits, reply) = split_at_space(rest)?;
+    let index = number(index)?;
+    let program = program_fields(word, arg_len, digits)?;
+    let reply = number(reply)?;
+    Some(TranscriptLine::Installed(AnsweredInstall {
+        index,
+        program,
+        reply,
+    }))
+}
+
+// NAME HEX, or with K in the place of NAME
+#[tactic(auto, unfolding(crate::specs::Transcript::ended_call))]
+fn ended_call(text: &str) -> Option<KeyedCall<'_>>
+    requires { length text.now ≤ LINE_BYTES }
+    ensures { option_map keyed_of result ≡ ended_call text.now }
 {
     let (name, digits) = split_at_space(text)?;
-    let call = named_call(name, digits)?;
-    Some(TranscriptLine::Ended(call))
+    keyed_call(name, digits)
+}
+
+// The same, or MODE ARGLEN HEX
+fn ended_line(text: &str) -> Option<TranscriptLine<'_>>
+    requires { length text.now ≤ LINE_BYTES }
+    ensures { option_map told_of result ≡ ended_words text.now }
+{
+    match ended_call(text) {
+        Some(call) => Some(TranscriptLine::Ended(call)),
+        None => Some(TranscriptLine::EndedInstall(new_program(text)?)),
+    }
 }
 
 // What the words of a line say.
@@ -67,6 +107,8 @@ fn transcript_words(line: &str) -> Option<TranscriptLine<'_>>
         answered_line(Mode::Update, rest)
     } else if letter == "r" {
         answered_line(Mode::Read, rest)
+    } else if letter == "i" {
+        installed_line(rest)
     } else if letter == "e" {
         ended_line(rest)
     } else {

@@ -24,8 +24,8 @@ pub enum Task<'a> {
     Encode,
     /// Run a script.
     Run,
-    /// Replay a transcript.
-    Replay,
+    /// Replay a transcript, with so many places behind the programs.
+    Replay(u32),
     /// Take a list of steps on a store of these sizes.
     Schedule(Config),
     /// Make the calls of a script on threads, on a store of these sizes.
@@ -50,7 +50,7 @@ impl Call<'_> {
     }
 }
 
-// What a command is: its help, whether it takes the sizes of a store, a file to write, a manifest and then a program's name, which may be
+// What a command is: its help, whether it takes the sizes of a store, and how many programs may be installed, a file to write, a manifest and then a program's name, which may be
 // left out, the name and the help of the file that it reads besides, and whether standard input stands for that where it is left out.
 #[derive(Clone, Copy)]
 struct Row<'a> {
@@ -58,6 +58,7 @@ struct Row<'a> {
     about: &'a str,
     after: &'a str,
     is_sized: bool,
+    has_spare: bool,
     has_output: bool,
     has_manifest: bool,
     has_name: bool,
@@ -66,13 +67,15 @@ struct Row<'a> {
 }
 
 // The sizes of a store that options set, each with what it is by default and its help.
-const SIZES: [(&str, &str, &str); 5] = [
+const SIZES: [(&str, &str, &str); 4] = [
     ("nodes", "2", help::NODES),
     ("slots", "2", help::SLOTS),
     ("window", "64", help::WINDOW),
     ("limit", "1000000", help::LIMIT),
-    ("spare", "4", help::SPARE),
 ];
+
+// How many programs may be installed, in the same way.
+const SPARE: (&str, &str, &str) = ("spare", "4", help::SPARE);
 
 // Appends one more.
 fn append<T: Drop>(items: &mut Vec<T>, item: T) -> Result<(), AllocError> {
@@ -131,6 +134,10 @@ fn list_arguments<'a>(
             append(arguments, size(alloc, name, default, help))?;
         }
     }
+    if row.has_spare {
+        let (name, default, help) = SPARE;
+        append(arguments, size(alloc, name, default, help))?;
+    }
     if row.has_output {
         append(arguments, output(alloc))?;
     }
@@ -184,6 +191,7 @@ fn program_rows<'a>() -> [Row<'a>; 4] {
             about: help::CHECK,
             after: help::AFTER_CHECK,
             is_sized: false,
+            has_spare: false,
             has_output: false,
             has_manifest: true,
             has_name: false,
@@ -195,6 +203,7 @@ fn program_rows<'a>() -> [Row<'a>; 4] {
             about: help::EXPLAIN,
             after: help::AFTER_EXPLAIN,
             is_sized: false,
+            has_spare: false,
             has_output: false,
             has_manifest: true,
             has_name: true,
@@ -206,6 +215,7 @@ fn program_rows<'a>() -> [Row<'a>; 4] {
             about: help::ASM,
             after: help::AFTER_ASM,
             is_sized: false,
+            has_spare: false,
             has_output: true,
             has_manifest: false,
             has_name: false,
@@ -217,6 +227,7 @@ fn program_rows<'a>() -> [Row<'a>; 4] {
             about: help::DIS,
             after: help::AFTER_DIS,
             is_sized: false,
+            has_spare: false,
             has_output: false,
             has_manifest: false,
             has_name: false,
@@ -233,6 +244,7 @@ fn script_rows<'a>() -> [Row<'a>; 1] {
         about: help::ENCODE,
         after: help::AFTER_ENCODE,
         is_sized: false,
+        has_spare: false,
         has_output: false,
         has_manifest: false,
         has_name: false,
@@ -249,6 +261,7 @@ fn store_rows<'a>() -> [Row<'a>; 4] {
             about: help::RUN,
             after: help::AFTER_RUN,
             is_sized: false,
+            has_spare: false,
             has_output: false,
             has_manifest: true,
             has_name: false,
@@ -260,6 +273,7 @@ fn store_rows<'a>() -> [Row<'a>; 4] {
             about: help::REPLAY,
             after: help::AFTER_REPLAY,
             is_sized: false,
+            has_spare: true,
             has_output: false,
             has_manifest: true,
             has_name: false,
@@ -271,6 +285,7 @@ fn store_rows<'a>() -> [Row<'a>; 4] {
             about: help::SCHEDULE,
             after: help::AFTER_SCHEDULE,
             is_sized: true,
+            has_spare: true,
             has_output: false,
             has_manifest: true,
             has_name: false,
@@ -282,6 +297,7 @@ fn store_rows<'a>() -> [Row<'a>; 4] {
             about: help::STRESS,
             after: help::AFTER_STRESS,
             is_sized: true,
+            has_spare: true,
             has_output: false,
             has_manifest: true,
             has_name: false,
@@ -337,7 +353,7 @@ fn task_of<'a>(name: &str, matches: &ArgMatches<'a>) -> Option<Task<'a>> {
         "dis" => Task::Disassemble,
         "encode" => Task::Encode,
         "run" => Task::Run,
-        "replay" => Task::Replay,
+        "replay" => Task::Replay(matches.get_one("spare")?),
         "schedule" => Task::Schedule(config_of(matches)?),
         "stress" => Task::Stress(config_of(matches)?),
         _ => return None,

@@ -268,13 +268,19 @@ A transcript has one answered call a line, at most 512 bytes a line:
     u INDEX NAME HEX REPLY    an update: its index in the history, from 0, the program, the argument's bytes
                               as two hexadecimal digits each, or - for no bytes, and what it replied
     r POINT NAME HEX REPLY    a read, after POINT updates
+    i INDEX MODE ARGLEN HEX REPLY    an install, as in a script of `nrbpf run`; REPLY is the program's number
     e NAME HEX                an update that was told that the history has ended: it changes nothing
+    e MODE ARGLEN HEX         an install that was told so
 
-Writes `good U R E`, the numbers of these lines, if each line agrees: with the manifest of examples/counter the
+In the place of NAME may stand the number of a place, behind the programs of the manifest.
+
+Writes `good U R E`, the numbers of lines u and i, r, and e, if each line agrees: with the manifest of examples/counter the
 transcript above gives `good 1 1 0`. Else one line, for the first line that does not:
-    line N bad          line N is none of these, or names no program of its kind with an argument of its length
-    line N differs      INDEX or POINT is not the number of u lines before, or the program replies something
+    line N bad          line N is none of these, or names no program of its kind with an argument of its length,
+                        or what it installs would be refused
+    line N differs      INDEX or POINT is not the number of u and i lines before, or the program replies something
                         else there, or line N is an update past the 1000000th
+    refused O1          --spare is not from 0 to 16
     line N: ..          the manifest is refused (`nrbpf check --help`)
     not UTF-8           the manifest, a program file or the transcript is not UTF-8
 

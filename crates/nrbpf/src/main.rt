@@ -39,7 +39,7 @@ fn perform<R: Files + AllocGlobal + Eprint + Threads + Wait + Sync, F: Folder, I
         Task::Disassemble => disassemble(alloc, file, writer),
         Task::Encode => encode_or_say(rt, file, writer),
         Task::Run => run(alloc, folder, manifest, file, writer),
-        Task::Replay => replay(alloc, folder, manifest, file, writer),
+        Task::Replay(spare) => replay(alloc, folder, spare, manifest, file, writer),
         Task::Schedule(config) => {
             schedule(alloc, Setup { config, folder }, manifest, file, writer)
         }

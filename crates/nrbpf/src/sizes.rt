@@ -25,13 +25,19 @@ fn say_each<R: Eprint>(rt: &R, config: Config) {
         MAX_WINDOW as u32,
     );
     say_size(rt, "limit", config.limit, 1, MAX_LIMIT as u32);
-    say_size(rt, "spare", config.spare, 0, MAX_PLACES as u32);
+    say_spare(rt, config.spare);
+}
+
+// Says it of the number of programs that may be installed.
+fn say_spare<R: Eprint>(rt: &R, spare: u32) {
+    say_size(rt, "spare", spare, 0, MAX_PLACES as u32);
 }
 
 /// Says on standard error of a command that is refused which sizes of its store are out of their limits.
 pub fn say_sizes<R: Eprint>(rt: &R, task: Task<'_>, status: Status) {
     match (task, status) {
         (Task::Schedule(config) | Task::Stress(config), Status::Refused) => say_each(rt, config),
+        (Task::Replay(spare), Status::Refused) => say_spare(rt, spare),
         _ => {}
     }
 }

@@ -1,7 +1,9 @@
 // What a command answers.
 
 use crate::files::Offered;
-use console::{Setup, assemble, check, disassemble, encode, explain, replay, run, schedule};
+use console::{
+    Setup, Status, assemble, check, disassemble, encode, explain, replay, run, schedule,
+};
 use oplog::Config;
 use std::alloc::Global;
 use std::sync::Wait;
@@ -30,6 +32,28 @@ fn sizes(text: &str) -> Option<Config> {
     })
 }
 
+// What `schedule` answers in a store of the sizes behind its name, and `replay` with the places behind its name.
+fn sized(
+    alloc: Global,
+    folder: &Offered,
+    command: &str,
+    mut manifest: &[u8],
+    out: &mut Vec<u8>,
+) -> Option<Status> {
+    let (name, text) = command.split_once(':')?;
+    let mut other = folder.other;
+    if name == "replay" {
+        let spare = text.parse::<u32>().ok()?;
+        return Some(replay(alloc, folder, spare, &mut manifest, &mut other, out));
+    }
+    if name != "schedule" {
+        return None;
+    }
+    let config = sizes(text)?;
+    let setup = Setup { config, folder };
+    Some(schedule(alloc, setup, &mut manifest, &mut other, out))
+}
+
 // What `stress` answers, or `replay` to what it writes.
 fn stressed<R: Threads + Wait + Sync>(
     rt: &R,
@@ -39,9 +63,11 @@ fn stressed<R: Threads + Wait + Sync>(
     manifest: &[u8],
 ) -> Option<Answer> {
     let (name, text) = command.split_once(':')?;
+    let config = sizes(text)?;
+    let spare = config.spare;
     let trial = Trial {
         alloc,
-        config: sizes(text)?,
+        config,
         folder,
         gate: &OpenGate,
     };
@@ -58,7 +84,7 @@ fn stressed<R: Threads + Wait + Sync>(
     let mut transcript = out.as_slice();
     let mut text = manifest;
     let mut found = Vec::new(alloc);
-    let status = replay(alloc, folder, &mut text, &mut transcript, &mut found);
+    let status = replay(alloc, folder, spare, &mut text, &mut transcript, &mut found);
     Some(Answer {
         status: status.code(),
         text: found,
@@ -101,7 +127,7 @@ pub fn answer_to<R: Threads + Wait + Sync>(
         }
         "replay" => {
             let mut transcript = folder.other;
-            replay(alloc, folder, &mut text, &mut transcript, &mut out)
+            replay(alloc, folder, 4, &mut text, &mut transcript, &mut out)
         }
         "assembled" => {
             let mut program = Vec::new(alloc);
@@ -114,12 +140,7 @@ pub fn answer_to<R: Threads + Wait + Sync>(
         "asm" => assemble(alloc, &mut text, &mut out),
         "dis" => disassemble(alloc, &mut text, &mut out),
         "encode" => encode(alloc, &mut text, &mut out),
-        _ => {
-            let config = sizes(command.strip_prefix("schedule:")?)?;
-            let mut steps = folder.other;
-            let setup = Setup { config, folder };
-            schedule(alloc, setup, &mut text, &mut steps, &mut out)
-        }
+        _ => sized(alloc, folder, command, text, &mut out)?,
     };
     Some(Answer {
         status: status.code(),

@@ -72,7 +72,7 @@ pub fn ended<R: Threads + Wait + Sync>(
         }
         Command::Replay => {
             let mut transcript = Slow::new(TRANSCRIPT, reads);
-            replay(alloc, &folder, &mut manifest, &mut transcript, out)
+            replay(alloc, &folder, 4, &mut manifest, &mut transcript, out)
         }
         Command::Stress => stressed(rt, alloc, reads, out),
     }

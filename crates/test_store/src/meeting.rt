@@ -88,7 +88,14 @@ fn two_sessions_wait_for_each_other(rt: HostRuntime) {
     assert_eq!(rt; (status.code(), meeting.met.load(Ordering::SeqCst)), (0, 2));
     let (mut manifest, mut told) = (MANIFEST, transcript.as_slice());
     let mut found = Vec::new(rt.alloc());
-    let status = replay(rt.alloc(), &Programs, &mut manifest, &mut told, &mut found);
+    let status = replay(
+        rt.alloc(),
+        &Programs,
+        4,
+        &mut manifest,
+        &mut told,
+        &mut found,
+    );
     assert_eq!(rt;
         (status.code(), found.as_slice()),
         (0, b"good 8 0 0\n".as_slice())

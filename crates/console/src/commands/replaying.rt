@@ -3,7 +3,7 @@
 ghost use Rattle.std.specs.Prelude.{◌≡◌, ◌⊎◌, IfOk};
 ghost use Rattle.loader.specs.Loading.{Outcome};
 ghost use Rattle.text.specs.Lines.{lines_of};
-ghost use Rattle.console.specs.ReplayAnswer.{transcript_answer, nothing_replayed, replayed, IsReplayAnswer};
+ghost use Rattle.console.specs.ReplayAnswer.{transcript_answer, nothing_replayed, placed_answer, replayed, IsReplayAnswer};
 ghost use Rattle.console.specs.Files.{SomeFile};
 ghost use Rattle.console.specs.Known.{IfReplayKnown};
 ghost use Rattle.console.specs.Report.{answer_of, Failed, Prepares, Reports, ReportsSome};
@@ -12,6 +12,7 @@ ghost use Rattle.console.specs.Loaded.{LoadedIs};
 ghost use Rattle.console.specs.Replaying.{ended_answer};
 
 use crate::catalogues::Loaded;
+use crate::commands::scheduling::sizes_refused;
 use crate::folder::Folder;
 use crate::input::InputFault;
 use crate::inputs::read_inputs;
@@ -20,7 +21,7 @@ use crate::replaying::{ReplayEnd, Replaying};
 use crate::reporting::{Reply, report};
 use crate::status::Status;
 use crate::transfer::{Sink, Source};
-use loader::Catalogue;
+use loader::{Catalogue, MAX_PLACES};
 use std::alloc::{AllocError, Global};
 
 // What is answered where a replay ended so.
@@ -46,12 +47,34 @@ fn transcript_reply(
     end_reply(alloc, end, &replaying)
 }
 
+// The same, with so many places behind the catalogue's programs.
+fn placed_reply(
+    alloc: Global,
+    spare: u32,
+    catalogue: Catalogue,
+    transcript: &str,
+) -> Result<Reply, AllocError>
+    ensures { IfOk result (λ r. answer_of r ≡ placed_answer spare catalogue transcript.now) }
+{
+    let places = spare as usize;
+    if places > MAX_PLACES {
+        return sizes_refused(alloc);
+    }
+    let catalogue = catalogue.with_places(places);
+    transcript_reply(alloc, &catalogue, transcript)
+}
+
 // What a manifest that was loaded and a transcript get.
-fn loaded_reply(alloc: Global, loaded: Loaded, transcript: &str) -> Result<Reply, AllocError>
-    ensures { IfOk result (λ r. (outcome : Outcome) → LoadedIs outcome loaded → answer_of r ≡ replayed outcome transcript.now) }
+fn loaded_reply(
+    alloc: Global,
+    spare: u32,
+    loaded: Loaded,
+    transcript: &str,
+) -> Result<Reply, AllocError>
+    ensures { IfOk result (λ r. (outcome : Outcome) → LoadedIs outcome loaded → answer_of r ≡ replayed spare outcome transcript.now) }
 {
     match loaded {
-        Loaded::Catalogue(catalogue) => transcript_reply(alloc, &catalogue, transcript),
+        Loaded::Catalogue(catalogue) => placed_reply(alloc, spare, catalogue, transcript),
         Loaded::Refused(reply) => Ok(reply),
     }
 }
@@ -60,38 +83,44 @@ fn loaded_reply(alloc: Global, loaded: Loaded, transcript: &str) -> Result<Reply
 pub fn replay_reply<F: Folder, R: Source, S: Source>(
     alloc: Global,
     folder: &F,
+    spare: u32,
     manifest: &mut R,
     transcript: &mut S,
 ) -> Result<Reply, InputFault>
-    ensures known { IfReplayKnown (R.remaining manifest.old) (F.holds folder.now) (S.remaining transcript.old) (Prepares result) }
+    ensures known { IfReplayKnown spare (R.remaining manifest.old) (F.holds folder.now) (S.remaining transcript.old) (Prepares result) }
     ensures failed { IfCannotRead result (R.has_failed manifest.new ⊎ SomeFile F.File.has_failed ⊎ S.has_failed transcript.new) }
-    ensures some { IfOk result (λ r. IsReplayAnswer (answer_of r)) }
+    ensures some { IfOk result (λ r. IsReplayAnswer spare (answer_of r)) }
 {
     let inputs = read_inputs(alloc, folder, manifest, transcript)?;
-    Ok(loaded_reply(alloc, inputs.loaded, inputs.text.as_str())?)
+    Ok(loaded_reply(alloc, spare, inputs.loaded, inputs.text.as_str())?)
 }
 
-/// Replays a transcript on one replica with the maps and the programs of a manifest: the updates in the order of their
+/// Replays a transcript on one replica with the maps and the programs of a manifest, and so many places behind these: the updates and installs in the order of their
 /// indexes, and each read after the updates before its point.
 ///
 /// Writes `good UPDATES READS ENDED`, the numbers of the lines of each kind, where each update has the next index and each
 /// read the number of updates before it as its point, and each reply is what the program replies there. Else it writes one
 /// line for the first line that is not so: `line N bad` where it is no line of a transcript or names no program of its mode
-/// with an argument of its length, and otherwise `line N differs`. A refused manifest writes only its refusal. Says how it
+/// with an argument of its length, nor a place, and otherwise `line N differs`. A refused manifest writes only its refusal, and more than 16
+/// places `refused O1`. Says how it
 /// ended. Each file is read whole before anything is written. Where a read fails, nothing is written.
 pub fn replay<F: Folder, R: Source, S: Source, W: Sink>(
     alloc: Global,
     folder: &F,
+    spare: u32,
     manifest: &mut R,
     transcript: &mut S,
     writer: &mut W,
 ) -> Status
     // Where the readers and the folder tell their bytes, those are replayed.
-    ensures written { IfReplayKnown (R.remaining manifest.old) (F.holds folder.now) (S.remaining transcript.old) (Reports W.contents writer.old writer.new result) }
+    ensures written { IfReplayKnown spare (R.remaining manifest.old) (F.holds folder.now) (S.remaining transcript.old) (Reports W.contents writer.old writer.new result) }
     // It says that a read or a write failed only after one did.
     ensures failed { Failed result (R.has_failed manifest.new ⊎ SomeFile F.File.has_failed ⊎ S.has_failed transcript.new) (W.has_failed writer.new) }
     // Whatever they give, or where they fail.
-    ensures ended { ReportsSome IsReplayAnswer W.contents writer.old writer.new result }
+    ensures ended { ReportsSome (IsReplayAnswer spare) W.contents writer.old writer.new result }
 {
-    report(writer, replay_reply(alloc, folder, manifest, transcript))
+    report(
+        writer,
+        replay_reply(alloc, folder, spare, manifest, transcript),
+    )
 }

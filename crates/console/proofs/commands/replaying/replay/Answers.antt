@@ -4,11 +4,11 @@ use Rattle.console.proofs.Reported.{failed_only, reports_some, reports_known}
 use Rattle.console.proofs.commands.replaying.replay.Goals as goal
 
 pub returns-clause-ended : goal.returns-clause-ended
-returns-clause-ended g c = reports_some IsReplayAnswer (inl refl) (g.W.Sink.contents c.args.writer.now) (g.W.Sink.contents c.report.new.writer) c.report.result c.replay_reply.result c.report.ensures.written c.replay_reply.ensures.some
+returns-clause-ended g c = reports_some (IsReplayAnswer c.args.spare) (inl refl) (g.W.Sink.contents c.args.writer.now) (g.W.Sink.contents c.report.new.writer) c.report.result c.replay_reply.result c.report.ensures.written c.replay_reply.ensures.some
 
 pub returns-clause-written : goal.returns-clause-written
 returns-clause-written g c =
-    reports_known replay_answer (g.R.Source.remaining c.args.manifest.now) (g.F.Folder.holds c.args.folder.now) (g.S.Source.remaining c.args.transcript.now) (g.W.Sink.contents c.args.writer.now) (g.W.Sink.contents c.report.new.writer)
+    reports_known (replay_answer c.args.spare) (g.R.Source.remaining c.args.manifest.now) (g.F.Folder.holds c.args.folder.now) (g.S.Source.remaining c.args.transcript.now) (g.W.Sink.contents c.args.writer.now) (g.W.Sink.contents c.report.new.writer)
     c.report.result c.replay_reply.result c.report.ensures.written c.replay_reply.ensures.known
 
 pub returns-clause-failed : goal.returns-clause-failed

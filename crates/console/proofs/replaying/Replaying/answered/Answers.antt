@@ -1,11 +1,12 @@
-use Rattle.console.specs.ScriptShown.{answered_of, numbered_operation}
+use Rattle.oplog.specs.declared.records.Op.TheVariants.{Run}
+use Rattle.console.specs.ScriptShown.{answered_of}
 use Rattle.console.proofs.TranscriptLines.{of_operation, of_read}
 use Rattle.console.proofs.replaying.Replaying.answered.Goals as goal
 
 pub returns-in-Read-clause-replayed : goal.returns-in-Read-clause-replayed
 returns-in-Read-clause-replayed c =
     λ at has. rw c.verdict_of-in-Read.ensures
-    (of_operation c.args.catalogue.now at (answered_of c.args.call.now) (numbered_operation c.in-Some.found.number c.args.call.now.call) _ c.read.new.self c.in-Some.ensures.found
+    (of_operation c.args.catalogue.now at (answered_of c.args.told.now) (Run c.in-Some.call) _ c.read.new.self c.in-Some.ensures.found
     (rw c.in-Read.is
-    (of_read c.args.catalogue.now at (numbered_operation c.in-Some.found.number c.args.call.now.call) c.args.call.now.index c.args.call.now.reply c.read.result c.read.new.self
+    (of_read c.args.catalogue.now at (Run c.in-Some.call) c.args.told.now.index c.args.told.now.reply c.read.result c.read.new.self
     (c.read.ensures.compared at has))))
