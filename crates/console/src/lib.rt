@@ -28,7 +28,7 @@ mod transfer;
 
 pub use commands::{Setup, assemble, check, disassemble, encode, explain, replay, run, schedule};
 pub use folder::Folder;
-pub use laws::run_lines_are_runs;
+pub use laws::{limits, run_lines_are_runs};
 pub use memory::{Held, HeldFiles, Page};
 pub use status::Status;
 pub use transfer::{CannotWrite, ReadFault, Sink, Source};
