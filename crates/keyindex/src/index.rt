@@ -1,6 +1,6 @@
 // An index of keys of one size.
 
-ghost use Rattle.std.specs.Prelude.{◌≡◌, ◌≢◌, ◌+◌, ◌<◌, ◌≤◌, ◌*◌, ℕ, List, suc, length, slice_set, replicate, Some, None, IfSome, IfNone, IfOk, true, false};
+ghost use Rattle.std.specs.Prelude.{◌≡◌, ◌≢◌, ◌+◌, ◌<◌, ◌≤◌, ◌*◌, ℕ, List, suc, length, option_map, slice_set, replicate, Some, None, IfSome, IfNone, IfOk, true, false};
 ghost use Rattle.keyindex.specs.Walks.{walk, cell};
 ghost use Rattle.keyindex.specs.Indexes.{at, key_of, HasRoom, IsIndex, HasFree};
 
@@ -115,6 +115,22 @@ impl KeyIndex {
         self.free.len() - self.free_count
     }
 
+    /// An index with the keys of `source` at their places, and as much room.
+    pub fn copy_of(alloc: Global, source: &KeyIndex) -> Result<KeyIndex, AllocError>
+        ensures sizes { IfOk result (λ s. SameSizes source.now s) }
+        ensures keys { IfOk result (λ s. keys_of s ≡ keys_of source.now) }
+    {
+        Ok(KeyIndex {
+            size: source.size,
+            buckets: source.buckets,
+            links: Vec::from_slice(alloc, &source.links)?,
+            depths: Vec::from_slice(alloc, &source.depths)?,
+            keys: Vec::from_slice(alloc, &source.keys)?,
+            free: Vec::from_slice(alloc, &source.free)?,
+            free_count: source.free_count,
+        })
+    }
+
     /// Makes the keys and their places those of `source`, which has the same room.
     pub fn copy_from(&mut self, source: &KeyIndex)
         requires sizes { SameSizes source.now self.old }
@@ -169,6 +185,20 @@ impl KeyIndex {
         } else {
             Some((spot.node - 1) as u32)
         }
+    }
+
+    /// The key that stands at a place, if one does.
+    pub fn key(&self, place: u32) -> Option<&[u8]>
+        requires place { place < places self.now }
+        ensures key { option_map (λ k. k.now) result ≡ key_in self.now place }
+        ensures size { IfSome result (λ k. length k.now ≡ self.now.size) }
+    {
+        let node = place as usize + 1;
+        if self.depths[node] == 0 {
+            return None;
+        }
+        let start = node * self.size;
+        Some(&self.keys[start..start + self.size])
     }
 
     /// The place where a key stands from now on: its own, or a free one; none where there is no free one.

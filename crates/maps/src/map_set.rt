@@ -1,6 +1,6 @@
 // The maps of a program in memory.
 
-ghost use Rattle.std.specs.Prelude.{◌≡◌, ◌↔◌, ◌<◌, ◌≢◌, ℕ, List, length, slice_get, All, Some, Err, IfSome, IfNone, IsSome, IsNone, IfOk, IfErr, is_some, not, false};
+ghost use Rattle.std.specs.Prelude.{◌≡◌, ◌↔◌, ◌<◌, ◌≢◌, ℕ, List, length, slice_get, All, Some, Err, IfSome, IfNone, IsSome, IsNone, IfOk, IfErr, is_some, not, true, false};
 ghost use Rattle.std.specs.List.{AllByRecursion};
 ghost use Rattle.std.specs.FinMap as finite_map;
 ghost use Rattle.std.specs.Borrow.{sem};
@@ -8,11 +8,11 @@ ghost use Rattle.maps.specs.Shapes.{key_size, value_size, entry_count, block_siz
 ghost use Rattle.maps.specs.Blocks.{contents, IsTable};
 ghost use Rattle.maps.specs.declared.shapes.MapError.TheVariants.{NoMemory, Refused};
 ghost use Rattle.maps.specs.Maps.{HasShapes, value_at};
-ghost use Rattle.maps.specs.MapSets.{maps_of, stored_shapes, key_of, value_of, block_of, HoldsValues, write_value, write_block, PutsValue, PutsOneValue, opened, opening_maps, PutsWritten, put_value, take_key, HasRoom, IsFull};
+ghost use Rattle.maps.specs.MapSets.{maps_of, stored_shapes, key_at, key_of, value_of, block_of, HoldsValues, write_value, write_block, PutsValue, PutsOneValue, opened, opening_maps, PutsWritten, put_value, take_key, HasRoom, IsFull};
 
 use crate::entry::{Entry, Inserted};
 use crate::shapes::{MapError, Shape, shapes_ok};
-use crate::table::{Table, copy_tables};
+use crate::table::{Table, copies_of_tables, copy_tables};
 use std::alloc::{AllocError, Global};
 use std::marker::Model;
 
@@ -53,6 +53,14 @@ impl MapSet {
         Ok(MapSet { tables })
     }
 
+    /// Maps with the keys and the values of `source`, and as much room. Its keys stand at the same places.
+    pub fn copy_of(alloc: Global, source: &MapSet) -> Result<MapSet, AllocError>
+        ensures same { IfOk result (λ c. c ≡ source.now) }
+    {
+        let tables = copies_of_tables(alloc, &source.tables)?;
+        Ok(MapSet { tables })
+    }
+
     /// The shape of map `m`.
     pub fn shape(&self, m: usize) -> Shape
         requires map { m < length (stored_shapes self.now) }
@@ -82,6 +90,18 @@ impl MapSet {
             map: m as u8,
             place,
         })
+    }
+
+    /// Writes the key at a place of map `m` into `key`, if one stands there. Whether one does.
+    pub fn key(&self, m: usize, place: u32, key: &mut [u8]) -> bool
+        requires map { m < length (stored_shapes self.now) }
+        requires place { IfSome (slice_get (stored_shapes self.now) m) (λ s. place < entry_count s) }
+        requires room { IfSome (slice_get (stored_shapes self.now) m) (λ s. length key.old ≡ key_size s) }
+        ensures there { result ≡ is_some (key_at self.now m place) }
+        ensures key { result ≡ true → key_at self.now m place ≡ Some key.new }
+        ensures kept { result ≡ false → key.new ≡ key.old }
+    {
+        self.tables[m].key(place, key)
     }
 
     /// The value of an entry.

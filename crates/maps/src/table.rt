@@ -1,9 +1,10 @@
 // One map in memory.
 
-ghost use Rattle.std.specs.Prelude.{◌≡◌, ◌≢◌, ◌+◌, ◌≤◌, ℕ, List, take, drop, length, vec_len, slice_get, Some, None, IfSome, IfNone, IfOk, true, false};
+ghost use Rattle.std.specs.Prelude.{◌≡◌, ◌≢◌, ◌+◌, ◌<◌, ◌≤◌, ℕ, List, take, drop, length, vec_len, slice_get, Some, None, IfSome, IfNone, IfOk, true, false};
 ghost use Rattle.std.specs.List.{AllByRecursion};
 ghost use Rattle.std.specs.FinMap as finite_map;
 ghost use Rattle.std.specs.Borrow.{sem};
+ghost use Rattle.maps.specs.declared.shapes.Shape.{Shape};
 ghost use Rattle.maps.specs.Shapes.{key_size, value_size, entry_count, IsShapeOk, IsHash};
 ghost use Rattle.maps.specs.Maps.{index_key};
 ghost use Rattle.maps.specs.MapSets.{stored_shapes, entries_of, opening_keys, opened_map};
@@ -41,6 +42,21 @@ impl Table {
         })
     }
 
+    /// A table with the keys and the values of `source`, and as much room.
+    pub(crate) fn copy_of(alloc: Global, source: &Table) -> Result<Table, AllocError>
+        requires source { IsTable source.now }
+        ensures same { IfOk result (λ t. stored t ≡ stored source.now) }
+        ensures table { IfOk result IsTable }
+    {
+        let block = Vec::from_slice(alloc, &source.block)?;
+        let index = copy_index(alloc, &source.index)?;
+        Ok(Table {
+            shape: source.shape,
+            block,
+            index,
+        })
+    }
+
     /// The number of keys.
     pub(crate) fn len(&self) -> usize
         requires shape { IsShapeOk self.now.shape }
@@ -71,6 +87,30 @@ impl Table {
                 }
             }
             Some(index) => index.lookup(key),
+        }
+    }
+
+    /// Writes the key at a place into `key`, if one stands there. Whether one does.
+    pub(crate) fn key(&self, place: u32, key: &mut [u8]) -> bool
+        requires table { IsTable self.now }
+        requires place { place < entry_count self.now.shape }
+        requires room { length key.old ≡ key_size self.now.shape }
+        ensures there { result ≡ true → slice_get (stored self.now).keys place ≡ Some (Some key.new) }
+        ensures free { result ≡ false → slice_get (stored self.now).keys place ≡ Some None }
+        ensures kept { result ≡ false → key.new ≡ key.old }
+    {
+        match &self.index {
+            None => {
+                key.copy_from_slice(&place.to_le_bytes());
+                true
+            }
+            Some(index) => match index.key(place) {
+                Some(stored) => {
+                    key.copy_from_slice(stored);
+                    true
+                }
+                None => false,
+            },
         }
     }
 
@@ -192,12 +232,40 @@ fn open_index(alloc: Global, shape: Shape) -> Result<Option<KeyIndex>, AllocErro
     }
 }
 
+/// The same index in room of its own, if there is one.
+fn copy_index(alloc: Global, index: &Option<KeyIndex>) -> Result<Option<KeyIndex>, AllocError>
+    ensures fits { IfOk result (λ copy. (shape : Shape) → FitsIndex shape index.now → FitsIndex shape copy) }
+    ensures keys { IfOk result (λ copy. (shape : Shape) → keys_at shape copy ≡ keys_at shape index.now) }
+{
+    match index {
+        None => Ok(None),
+        Some(index) => {
+            let copy = KeyIndex::copy_of(alloc, index)?;
+            Ok(Some(copy))
+        }
+    }
+}
+
 /// The index that a key of an array is.
 fn index_of(key: &[u8]) -> u32
     requires size { length key.now ≡ 4 }
     ensures index { key.now ≡ index_key result }
 {
     u32::from_le_bytes([key[0], key[1], key[2], key[3]])
+}
+
+/// Tables with the keys and the values of these, and as much room.
+pub(crate) fn copies_of_tables(alloc: Global, source: &Vec<Table>) -> Result<Vec<Table>, AllocError>
+    requires source { AreTables source.now.items }
+    ensures same { IfOk result (λ v. contents v.items ≡ contents source.now.items) }
+    ensures tables { IfOk result (λ v. AreTables v.items) }
+{
+    let mut tables = Vec::with_capacity(alloc, source.len())?;
+    for table in source {
+        let copy = Table::copy_of(alloc, table)?;
+        tables.push(copy)?;
+    }
+    Ok(tables)
 }
 
 /// Copies the keys and the values of tables of the same shapes.
