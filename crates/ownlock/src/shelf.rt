@@ -1,5 +1,5 @@
 // The shelf, and its calls.
-ghost use Rattle.std.specs.Prelude.{◌≡◌, ◌<◌, ◌++◌, length, replicate, IfOk, IfErr};
+ghost use Rattle.std.specs.Prelude.{◌≡◌, ◌<◌, ◌++◌, length, replicate, IfOk, IfErr, IfSome, MatchOption};
 ghost use Rattle.ownlock.specs.declared.known.Known.{Known};
 ghost use Rattle.ownlock.specs.Seats.{IsSession, IsSplit, HasSession, all_sessions, HoldsNone};
 ghost use Rattle.ownlock.specs.Knowledge.{MayTake, MayPut, Takes, Puts, Reads, Raises, AllAgree, Closes};
@@ -11,7 +11,7 @@ use crate::rule::{JoinViews, LockRule, RaiseDone, ReadDone, SplitFirst, View};
 use crate::seat::Seat;
 use crate::shelved::Shelved;
 use crate::spreading::{gather, slot_of, spread, unload};
-use crate::steps::{acquire, release};
+use crate::steps::{release, try_once, wait_for};
 use crate::words::{word_count, word_of};
 use atomic_table::{Refused, Table};
 use std::alloc::{AllocError, Global};
@@ -133,8 +133,36 @@ impl<V: Shelved> Shelf<V> {
         ensures same { (seat.new.shelf ≡ seat.old.shelf) × (held_place result ≡ place) }
         ensures taken { Takes V.rules seat.old place result.value seat.new }
     {
-        let value = acquire(rt, &self.table.shared, &mut seat.pass, place);
-        Held { value, place }
+        for _ in rt.forever() {
+            if let Some(held) = self.try_take(seat, place) {
+                return held;
+            }
+            self.wait(rt, place);
+        }
+        unreachable!()
+    }
+
+    /// Takes the value of the place where nobody holds it, and waits for nobody: one try. The session doesn't hold the place, and may
+    /// hold it beside those that it holds. `None` where another session holds it: nothing has changed then.
+    pub fn try_take(&self, seat: &mut Seat<V>, place: usize) -> Option<Held<V>>
+        requires own { seat.old.shelf ≡ self.now.id }
+        requires there { place < self.now.places }
+        requires may { (k : Known V.Progress V.SessionNote V) × IsSession seat.old k × MayTake V.rules place k }
+        ensures same { seat.new.shelf ≡ seat.old.shelf }
+        ensures place { IfSome result (λ h. held_place h ≡ place) }
+        ensures taken { MatchOption result (seat.new ≡ seat.old) (λ h. Takes V.rules seat.old place h.value seat.new) }
+    {
+        let Some(value) = try_once(&self.table.shared, &mut seat.pass, place) else {
+            return None;
+        };
+        Some(Held { value, place })
+    }
+
+    /// Waits until nobody holds the place. Nothing is known then: another session may take it at once.
+    pub fn wait<R: Wait>(&self, rt: &R, place: usize)
+        requires { place < self.now.places }
+    {
+        wait_for(rt, &self.table.shared, place);
     }
 
     /// Puts back the value of a place, of those that the session holds whichever. The value agrees with every progress and all

@@ -15,7 +15,7 @@ use crossbeam_utils::Backoff;
 use std::sync::Wait;
 
 // Takes the value out of its slot if the place's word was 0.
-fn try_once<V: Shelved>(steps: &Steps<V>, pass: &mut Pass<V>, place: usize) -> Option<V>
+pub(crate) fn try_once<V: Shelved>(steps: &Steps<V>, pass: &mut Pass<V>, place: usize) -> Option<V>
     requires own { pass.old.table_id ≡ steps.now.table_id }
     requires there { HasPlace steps.now.table_id place }
     requires may { (k : Known V.Progress V.SessionNote V) × StepsAs pass.old.me k × MayTake V.rules place k }
@@ -32,7 +32,7 @@ fn try_once<V: Shelved>(steps: &Steps<V>, pass: &mut Pass<V>, place: usize) -> O
 }
 
 // Looks at the place's word until it is 0. Nothing is known then: somebody may take the place at once.
-fn wait_for<V: Shelved, R: Wait>(rt: &R, steps: &Steps<V>, place: usize)
+pub(crate) fn wait_for<V: Shelved, R: Wait>(rt: &R, steps: &Steps<V>, place: usize)
     requires { HasPlace steps.now.table_id place }
 {
     let word = word_of(place);
@@ -43,28 +43,6 @@ fn wait_for<V: Shelved, R: Wait>(rt: &R, steps: &Steps<V>, place: usize)
         }
         backoff.snooze();
     }
-}
-
-// Tries until the place's word was 0, then takes the value out of its slot.
-pub(crate) fn acquire<V: Shelved, R: Wait>(
-    rt: &R,
-    steps: &Steps<V>,
-    pass: &mut Pass<V>,
-    place: usize,
-) -> V
-    requires own { pass.old.table_id ≡ steps.now.table_id }
-    requires there { HasPlace steps.now.table_id place }
-    requires may { (k : Known V.Progress V.SessionNote V) × StepsAs pass.old.me k × MayTake V.rules place k }
-    ensures same { pass.new.table_id ≡ pass.old.table_id }
-    ensures taken { StepsTaking V.rules pass.old.me place result pass.new.me }
-{
-    for _ in rt.forever() {
-        if let Some(value) = try_once(steps, pass, place) {
-            return value;
-        }
-        wait_for(rt, steps, place);
-    }
-    unreachable!()
 }
 
 // Puts the value into its slot, then frees the place's word. The look at its own word finds it taken, since the seat holds the

@@ -1,13 +1,17 @@
-use Rattle.std.proofs.Common.{ap}
-use Rattle.ownlock.proofs.Seats.{steps_as}
+use Rattle.std.proofs.Common.{ap, ◌∙◌}
 use Rattle.ownlock.proofs.shelf.Shelf.take.Goals as goal
 
-pub acquire-value-requires-clause-may : goal.acquire-value-requires-clause-may
-acquire-value-requires-clause-may g c =
-    let m = c.requires.may in
-    (m.0, steps_as c.seat.inside.pass.me _ m.0 (ap (λ z. z.sessions) c.seat.view_is) m.1 c.seat.invariant, m.2)
+pub try_take-requires-clause-own : goal.try_take-requires-clause-own
+try_take-requires-clause-own g c = ap (λ s. s.shelf) c.loop.invariant ∙ c.requires.own
 
-pub returns-clause-taken : goal.returns-clause-taken
-returns-clause-taken g c k is =
-    let t = c.acquire-value.ensures.taken k (steps_as c.seat.inside.pass.me _ k (ap (λ z. z.sessions) c.seat.view_is) is c.seat.invariant) in
-    (t.0, t.1, ap (λ z. z.0) t.2)
+pub try_take-requires-clause-may : goal.try_take-requires-clause-may
+try_take-requires-clause-may g c = let m = c.requires.may in (m.0, ap (λ s. s.sessions) c.loop.invariant ∙ m.1, m.2)
+
+pub returns-in-Some-try_take-clause-same : goal.returns-in-Some-try_take-clause-same
+returns-in-Some-try_take-clause-same g c = (c.try_take.ensures.same ∙ ap (λ s. s.shelf) c.loop.invariant, c.in-Some-try_take.ensures.place)
+
+pub returns-in-Some-try_take-clause-taken : goal.returns-in-Some-try_take-clause-taken
+returns-in-Some-try_take-clause-taken g c k is = c.in-Some-try_take.ensures.taken k (ap (λ s. s.sessions) c.loop.invariant ∙ is)
+
+pub loop-preserved : goal.loop-preserved
+loop-preserved g c = c.in_default.ensures.taken ∙ c.loop.invariant
