@@ -10,6 +10,7 @@ pub mod Refusal
 pub mod Installed
 -- What operations change.
 pub mod StoreState
+pub mod Codes
 -- The same as functions, line by line, which laws tie to those: the crates above cite them.
 pub mod Loading
 pub mod Spelling

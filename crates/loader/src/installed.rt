@@ -76,6 +76,27 @@ impl Installed {
         })
     }
 
+    /// The same programs, in room for so many of their own.
+    ///
+    /// # Errors
+    ///
+    /// The system has no memory left.
+    pub fn copy_of(alloc: Global, from: &Installed, places: usize) -> Result<Installed, AllocError>
+        requires few { length from.now.programs ≤ places }
+        requires places { places ≤ MAX_PLACES }
+        ensures copied { IfOk result (λ a. a ≡ record from.now { places = places }) }
+    {
+        let mut rooms = open_rooms(alloc, &from.shapes, places)?;
+        copy_rooms(&from.rooms[..from.count], &mut rooms);
+        Ok(Installed {
+            shapes: Vec::from_slice(alloc, &from.shapes)?,
+            rooms,
+            count: from.count,
+            decoded: Vec::with_capacity(alloc, MAX_INSTALLED_SLOTS)?,
+            scratch: Scratch::open(alloc)?,
+        })
+    }
+
     /// How many programs were installed.
     pub fn len(&self) -> usize
         ensures count { result ≡ length self.now.programs }

@@ -1,4 +1,5 @@
-//! Manifests: which maps a store has, and which programs it offers; and the programs that are installed behind these.
+//! Manifests: which maps a store has, and which programs it offers; and the programs that are installed behind these; and the state that
+//! operations change, maps with such programs.
 #![tactic(auto)]
 
 mod catalogue;
@@ -11,6 +12,7 @@ mod numbering;
 mod paths;
 mod program_files;
 mod refusals;
+mod store_state;
 
 pub use catalogue::Catalogue;
 pub use file_names::named_files;
@@ -21,3 +23,4 @@ pub use laws::{
 };
 pub use loading::load_manifest;
 pub use refusals::{LoadError, LoadFault, LoadRefusal};
+pub use store_state::StoreState;

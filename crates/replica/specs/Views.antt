@@ -2,8 +2,8 @@
 use Rattle.std.specs.Prelude.{ℕ, ◌-◌, List, replicate, Option, Some, None, slice_set, nat_le, if◌then◌else◌, refl}
 use Rattle.std.specs.Coded.{Coded, code_by, coded×, coded_ℕ}
 use Rattle.loader.specs.StoreState.{StoreState}
+use Rattle.loader.specs.Codes.{state_code}
 use Rattle.machine.specs.declared.running.Outcome.{Outcome}
-use Rattle.oplog.specs.Codes.{state_code}
 
 -- how many records it has applied, and its state after them
 pub record ReplicaView : Type 0 where

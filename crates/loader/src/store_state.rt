@@ -1,0 +1,110 @@
+// What the operations of a store change.
+
+ghost use Rattle.std.specs.Prelude.{◌≡◌, ◌≤◌, length, IfOk};
+ghost use Rattle.maps.specs.Maps.{HasShapes, shapes_of};
+ghost use Rattle.maps.specs.MapSets.{maps_of};
+ghost use Rattle.loader.specs.declared.installed.TheConstants.{MAX_PLACES};
+ghost use Rattle.loader.specs.StoreState.{installed_in, opened_state, sizes_for, state_of};
+
+use crate::catalogue::Catalogue;
+use crate::installed::{Installed, MAX_PLACES};
+use maps::MapSet;
+use std::alloc::{AllocError, Global};
+use std::marker::Model;
+
+/// The maps of a store, and the programs that were installed while it ran, which were accepted for these maps. All their room is taken
+/// when the state is made; no operation on them takes memory.
+#[derive(Drop)]
+pub struct StoreState {
+    maps: MapSet,
+    installed: Installed,
+}
+
+impl Model for StoreState {
+    ghost use Rattle.std.specs.Prelude.{◌≡◌};
+    ghost use Rattle.maps.specs.Maps.{HasShapes, shapes_of};
+    ghost use Rattle.maps.specs.MapSets.{maps_of};
+    ghost use Rattle.loader.specs.StoreState.{StoreState as State, state_of};
+
+    ghost Value = { State };
+
+    ghost use Rattle.loader.specs.Codes.{state_code};
+
+    ghost coded = { state_code };
+
+    ghost view = { λ s. state_of (maps_of s.maps) s.installed };
+
+    // The programs are for the maps.
+    ghost invariant = { λ s. HasShapes (shapes_of (maps_of s.maps)) (maps_of s.maps) × (s.installed.shapes ≡ shapes_of (maps_of s.maps)) };
+}
+
+impl StoreState {
+    /// A new state for a catalogue: its maps as they are opened, and room for as many programs as it has places, none of which is
+    /// installed yet.
+    ///
+    /// # Errors
+    ///
+    /// The system has no memory left.
+    pub fn open(alloc: Global, catalogue: &Catalogue) -> Result<StoreState, AllocError>
+        ensures opened { IfOk result (λ s. s ≡ opened_state (sizes_for catalogue.now)) }
+    {
+        let Ok(maps) = MapSet::open(alloc, catalogue.shapes()) else {
+            return Err(AllocError);
+        };
+        let installed = Installed::open(alloc, catalogue.shapes(), catalogue.places())?;
+        Ok(StoreState { maps, installed })
+    }
+
+    /// A state of these maps and of these programs, which were accepted for them.
+    pub fn of(maps: MapSet, installed: Installed) -> StoreState
+        requires shapes { HasShapes (shapes_of (maps_of maps)) (maps_of maps) }
+        requires programs { installed.shapes ≡ shapes_of (maps_of maps) }
+        ensures state { result ≡ state_of (maps_of maps) installed }
+    {
+        StoreState { maps, installed }
+    }
+
+    /// The same state in room of its own, in which so many programs may be installed.
+    ///
+    /// # Errors
+    ///
+    /// The system has no memory left.
+    pub fn copy_of(
+        alloc: Global,
+        from: &StoreState,
+        places: usize,
+    ) -> Result<StoreState, AllocError>
+        requires few { length from.now.programs ≤ places }
+        requires places { places ≤ MAX_PLACES }
+        ensures copied { IfOk result (λ s. s ≡ record from.now { places = places }) }
+    {
+        let maps = MapSet::copy_of(alloc, &from.maps)?;
+        let installed = Installed::copy_of(alloc, &from.installed, places)?;
+        Ok(StoreState { maps, installed })
+    }
+
+    /// The maps.
+    pub fn maps(&self) -> &MapSet
+        ensures maps { maps_of result.now ≡ self.now.maps }
+        ensures shapes { HasShapes (shapes_of self.now.maps) self.now.maps }
+    {
+        &self.maps
+    }
+
+    /// The programs that were installed.
+    pub fn programs(&self) -> &Installed
+        ensures programs { result.now ≡ installed_in self.now }
+    {
+        &self.installed
+    }
+
+    /// The maps and the programs, to be changed and put together again.
+    pub fn into_parts(self) -> (MapSet, Installed)
+        ensures maps { maps_of result.0 ≡ self.maps }
+        ensures programs { result.1 ≡ installed_in self }
+        ensures shapes { HasShapes (shapes_of self.maps) self.maps }
+    {
+        let StoreState { maps, installed } = self;
+        (maps, installed)
+    }
+}
