@@ -104,8 +104,8 @@ impl Desk {
             .any(|slot| matches!(slot.stage, Stage::Claimed))
     }
 
-    // Whether a slot has a request that no combiner has.
-    fn has_request(&self) -> bool
+    /// Whether a slot has a request that no combiner has.
+    pub fn has_request(&self) -> bool
         ensures request { result ≡ has_request self.now }
     {
         self.slots[..self.count]

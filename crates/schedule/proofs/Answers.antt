@@ -143,7 +143,7 @@ steps_next start now new steps i step answer so_far at is are takes =
           ∙ sym (answers_snoc start.opening start.world (take i steps) step) ∙ ap (answers_to start.opening start.world) (sym longer),
     )
 
-get_beyond : {A : Type 0} (xs : List A) (i : ℕ) → length xs ≤ i → slice_get xs i ≡ None
+pub get_beyond : {A : Type 0} (xs : List A) (i : ℕ) → length xs ≤ i → slice_get xs i ≡ None
 get_beyond [] i l = refl
 get_beyond (x ∷ xs) zero l = absurd (omega arith)
 get_beyond (x ∷ xs) (suc i) l = get_beyond xs i (omega arith)

@@ -16,3 +16,4 @@ pub mod Answers
 pub mod ReadOff
 pub mod OnCalls
 pub mod Installs
+pub mod Unless

@@ -7,6 +7,8 @@ pub mod ReadOff
 pub mod Headline
 -- What holds at each moment.
 pub mod Stands
+-- Why a step may not be taken.
+pub mod Blocking
 -- What calls that take a step do.
 pub mod Taking
 pub mod Codes

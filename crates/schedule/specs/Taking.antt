@@ -1,5 +1,5 @@
 -- What a call that takes a step does.
-use Rattle.std.specs.Prelude.{◌≡◌, ℕ, true, false, List, [], ◌∷◌, Option, Some, None, MatchOption}
+use Rattle.std.specs.Prelude.{◌≡◌, ℕ, true, false, List, [], ◌∷◌, Option, Some, None, Result, MatchResult}
 use Rattle.verifier.specs.declared.refusal.Mode.{Mode}
 use Rattle.verifier.specs.declared.refusal.Mode.TheVariants.{Update}
 use Rattle.loader.specs.CatalogueView.{CatalogueView, IsCatalogue}
@@ -53,12 +53,12 @@ abbrev pub MayCall : Opening → Mode → Operation → Type 0
 MayCall m mode op = is_operation mode m.catalogue op ≡ true
 
 -- the call, if its program is one of the catalogue, of this mode
-abbrev pub GivesCall : Mode → CatalogueView → ProgramCall → Option ProgramCall → Type 0
-GivesCall mode c asked given = MatchOption given (is_operation mode c (Run asked) ≡ false) (λ call. (call ≡ asked) × (is_operation mode c (Run call) ≡ true))
+abbrev pub GivesCall : {E : Type 0} → Mode → CatalogueView → ProgramCall → Result ProgramCall E → Type 0
+GivesCall mode c asked given = MatchResult given (λ call. (call ≡ asked) × (is_operation mode c (Run call) ≡ true)) (λ e. is_operation mode c (Run asked) ≡ false)
 
 -- the program, if it may be installed
-abbrev pub GivesProgram : CatalogueView → NewProgram → Option NewProgram → Type 0
-GivesProgram c asked given = MatchOption given (is_operation Update c (Install asked) ≡ false) (λ new. (new ≡ asked) × (is_operation Update c (Install new) ≡ true))
+abbrev pub GivesProgram : {E : Type 0} → CatalogueView → NewProgram → Result NewProgram E → Type 0
+GivesProgram c asked given = MatchResult given (λ new. (new ≡ asked) × (is_operation Update c (Install new) ≡ true)) (λ e. is_operation Update c (Install asked) ≡ false)
 
 -- where the step may not be taken, NotNow and no change; else what it makes of the store
 abbrev pub Takes : Option Took → WorldState → WorldState → StepAnswer → Type 0

@@ -3,12 +3,14 @@
 //! Structures for NUMA Architectures", ASPLOS 2017; Herlihy and Wing, "Linearizability", TOPLAS 1990).
 #![tactic(auto)]
 
+mod blocking;
 mod laws;
 mod nodes;
 mod parts;
 mod steps;
 mod worlds;
 
+pub use blocking::Blocked;
 pub use laws::{every_schedule, standing_is_kept};
 pub use node::{NodeBatch, Written};
 pub use parts::{BegunRead, Opening};

@@ -7,7 +7,7 @@ ghost use Rattle.oplog.specs.Limits.{IsConfig};
 ghost use Rattle.oplog.specs.Logs.{Log};
 ghost use Rattle.oplog.specs.declared.records.Op.TheVariants.{Run};
 ghost use Rattle.replica.specs.StoreMeaning.{store_meaning};
-ghost use Rattle.replica.specs.Refusals.{IsRoomFor};
+ghost use Rattle.replica.specs.Refusals.{IsRoomFor, IsRefusedAs, early_refusal, install_refusal};
 ghost use Rattle.verifier.specs.declared.refusal.Mode.TheVariants.{Update, Read};
 ghost use Rattle.schedule.specs.declared.parts.Opening.{Opening as TheOpening};
 ghost use Rattle.node.specs.Following.{Fits, has_next, with_next};
@@ -23,7 +23,7 @@ use loader::{Catalogue, Installed};
 use node::{NodeBatch, NodeReplica, Written};
 use oplog::{Call, Hand, LogState, NewProgram, Op};
 use readpath::{ReadAnswer, answer};
-use replica::{Replica, Replies, check_call, check_install};
+use replica::{Replica, Replies, StoreRefused, check_call, check_install};
 use std::alloc::{AllocError, Global};
 use std::marker::Model;
 use std::mem;
@@ -32,10 +32,10 @@ use verifier::Mode;
 /// A node: its replica, the records copied for it, its desk, its batch, and the reads that were begun at its slots.
 #[derive(Drop)]
 pub(crate) struct Node {
-    own: NodeReplica,
-    desk: Desk,
-    batch: NodeBatch,
-    reads: Vec<Option<BegunRead>>,
+    pub(crate) own: NodeReplica,
+    pub(crate) desk: Desk,
+    pub(crate) batch: NodeBatch,
+    pub(crate) reads: Vec<Option<BegunRead>>,
 }
 
 impl Model for Node {
@@ -50,30 +50,37 @@ impl Model for Node {
 }
 
 // The call of a program of the catalogue, of this mode, on an argument of its length; or of a place behind these.
-fn call_of(catalogue: &Catalogue, mode: Mode, program: u64, argument: &[u8]) -> Option<Call>
+pub(crate) fn call_of(
+    catalogue: &Catalogue,
+    mode: Mode,
+    program: u64,
+    argument: &[u8],
+) -> Result<Call, StoreRefused>
     ensures call { GivesCall mode catalogue.now (record { program = program; argument = argument.now }) result }
+    ensures refusal { IsRefusedAs (early_refusal catalogue.now mode program argument.now) result }
 {
     if program >= (catalogue.len() + catalogue.places()) as u64 {
-        return None;
+        return Err(StoreRefused::UnknownProgram);
     }
-    check_call(catalogue, mode, program as u16, argument).ok()?;
-    Some(Call::new(program as u16, argument))
+    check_call(catalogue, mode, program as u16, argument)?;
+    Ok(Call::new(program as u16, argument))
 }
 
 // The program that is to be installed, if it may be: the room holds it then.
-fn program_of(
+pub(crate) fn program_of(
     catalogue: &Catalogue,
     room: &mut Installed,
     mode: Mode,
     arg_len: u64,
     bytes: &[u8],
-) -> Option<NewProgram>
+) -> Result<NewProgram, StoreRefused>
     requires room { IsRoomFor catalogue.now.shapes room.old }
     ensures room { IsRoomFor catalogue.now.shapes room.new }
     ensures program { GivesProgram catalogue.now (record { mode = mode; arg_len = arg_len; bytes = bytes.now }) result }
+    ensures refusal { IsRefusedAs (install_refusal catalogue.now.shapes (record { mode = mode; arg_len = arg_len; bytes = bytes.now })) result }
 {
-    check_install(room, mode, arg_len, bytes).ok()?;
-    Some(NewProgram::new(mode, arg_len as usize, bytes))
+    check_install(room, mode, arg_len, bytes)?;
+    Ok(NewProgram::new(mode, arg_len as usize, bytes))
 }
 
 // Room for so many reads, none of which is begun.
@@ -359,8 +366,8 @@ impl Node {
                 argument,
                 ..
             } => match call_of(&opening.catalogue, Mode::Update, *program, argument) {
-                Some(call) => self.post(*slot, Op::Run(call)),
-                None => StepAnswer::NotNow,
+                Ok(call) => self.post(*slot, Op::Run(call)),
+                Err(_) => StepAnswer::NotNow,
             },
             Step::Install {
                 slot,
@@ -369,8 +376,8 @@ impl Node {
                 bytes,
                 ..
             } => match program_of(&opening.catalogue, room, *mode, *arg_len, bytes) {
-                Some(program) => self.post(*slot, Op::Install(program)),
-                None => StepAnswer::NotNow,
+                Ok(program) => self.post(*slot, Op::Install(program)),
+                Err(_) => StepAnswer::NotNow,
             },
             Step::Claim { .. } => self.claim(),
             Step::Append { .. } => self.append(log),
@@ -384,8 +391,8 @@ impl Node {
                 argument,
                 ..
             } => match call_of(&opening.catalogue, Mode::Read, *program, argument) {
-                Some(call) => self.read_begin(*slot, call, log.done()),
-                None => StepAnswer::NotNow,
+                Ok(call) => self.read_begin(*slot, call, log.done()),
+                Err(_) => StepAnswer::NotNow,
             },
             Step::ReadAnswer { slot, .. } => self.read_answer(
                 &opening.catalogue,

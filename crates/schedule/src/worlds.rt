@@ -7,10 +7,12 @@ ghost use Rattle.oplog.specs.Limits.{IsConfig};
 ghost use Rattle.oplog.specs.declared.configuration.OpenError.TheVariants.{OutOfLimits};
 ghost use Rattle.schedule.specs.Worlds.{opened_node, opened_nodes};
 ghost use Rattle.schedule.specs.Steps.{node_of, took, world_of};
+ghost use Rattle.schedule.specs.Blocking.{blocked, IsTakenUnless};
 ghost use Rattle.schedule.specs.Stands.{Stands};
 ghost use Rattle.schedule.specs.Taking.{Takes, IsStanding, opened_store, answers_to};
 ghost use Rattle.schedule.specs.Headline.{StepsAreExplained};
 
+use crate::blocking::Blocked;
 use crate::nodes::Node;
 use crate::parts::Opening;
 use crate::steps::{Step, StepAnswer};
@@ -133,11 +135,37 @@ impl World {
         }
     }
 
+    /// Why a step may not be taken now: the first of its conditions that fails; `None` where it may be taken.
+    pub fn blocked(&mut self, step: &Step) -> Option<Blocked>
+        ensures first { result ≡ blocked self.old.opening self.old.world step.now }
+        ensures taken { IsTakenUnless result (took self.old.opening self.old.world step.now) }
+        ensures same { self.new ≡ self.old }
+    {
+        let number = step.node();
+        let nodes = self.nodes.len() as u64;
+        if number < nodes {
+            self.blocked_at(number as usize, step)
+        } else {
+            Some(Blocked::NoNode { nodes })
+        }
+    }
+
     // Some history stands for the store, as it always does.
     fn stands(&self)
         ensures stands { IsStanding self.now }
     {
         let _log = &self.log;
+    }
+
+    // Why a step of a node that is there may not be taken now.
+    fn blocked_at(&mut self, number: usize, step: &Step) -> Option<Blocked>
+        requires node { number ≡ node_of step.now }
+        requires there { number < length self.old.world.nodes }
+        ensures first { result ≡ blocked self.old.opening self.old.world step.now }
+        ensures taken { IsTakenUnless result (took self.old.opening self.old.world step.now) }
+        ensures same { self.new ≡ self.old }
+    {
+        self.nodes[number].blocked(&self.opening, &mut self.room, &self.log, step)
     }
 
     // Takes a step of a node that is there, if it may be taken now.
