@@ -2,6 +2,7 @@
 //! how their times compare. With the name of a program, of a machine, and a number it runs that alone so often, for a tool that counts
 //! processor instructions.
 
+mod host;
 mod interpreter;
 
 use interpreter::{Array, decode, run};
@@ -116,6 +117,7 @@ fn main() {
     if let [_, program, machine, times] = &arguments[..] {
         return alone(program, machine, times.parse().expect("a number"));
     }
+    host::print();
     println!("{:<10}{:>6}{:>12}{:>12}{:>12}{:>10}{:>10}", "program", "steps", "proved ns", "safe ns", "unchecked", "to safe", "to unch.");
     for program in programs() {
         let mut best = [Duration::MAX; 3];

@@ -2,6 +2,7 @@
 //! answer the same. With the bytes of a key, a fill, a kind of work, a map and a number it goes so often through the keys of that map alone,
 //! for a tool that counts processor instructions.
 
+mod host;
 mod keys;
 
 use keys::{Asked, Keys, Random};
@@ -211,6 +212,7 @@ fn main() {
         return println!("{sum}");
     }
     let mut random = Random(0x1234_5678_9abc_def1);
+    host::print();
     println!("{:<4}{:<11}{:>7}  {:<18}{:>9}{:>9}{:>9}{:>9}{:>9}", "key", "keys", "fill", "ns for each", "proved", "HashMap", "BTreeMap", "to Hash", "to BTree");
     print_size::<4>(&mut random);
     print_size::<64>(&mut random);
