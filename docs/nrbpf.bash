@@ -14,7 +14,7 @@ _nrbpf() {
         check) words='-h --help' ;;
         explain) words='-h --help' ;;
         asm) words='-o --output -h --help' ;;
-        dis) words='-h --help' ;;
+        dis) words='--slots -h --help' ;;
         encode) words='-h --help' ;;
         run) words='-h --help' ;;
         replay) words='--spare -h --help' ;;

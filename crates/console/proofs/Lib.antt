@@ -5,6 +5,7 @@ pub mod Answers
 pub mod Reported
 pub mod Explanations
 pub mod ProgramLines
+pub mod SlotLines
 pub mod RunLines
 pub mod InputTexts
 pub mod Opened

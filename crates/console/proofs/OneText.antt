@@ -10,6 +10,7 @@ use Rattle.text.specs.Digits.{spaced_bytes}
 use Rattle.encoding.specs.Encoded.{encoded_text}
 use Rattle.console.specs.EncodeAnswer.{encoded_answer, encode_answer}
 use Rattle.console.specs.AsmAnswer.{assembled_answer, asm_answer, bytes_answer, dis_answer}
+use Rattle.console.specs.SlotsAnswer.{slots_bytes_answer, slots_answer}
 use Rattle.console.specs.InputFaults.{FailsAs}
 use Rattle.console.specs.Input.{TextIs}
 
@@ -24,6 +25,10 @@ asm_of_text m = refl
 pub dis_of_text : IsOfText (λ m. bytes_answer (spaced_bytes m)) dis_answer
 unfolding dis_answer
 dis_of_text m = refl
+
+pub slots_of_text : IsOfText (λ m. slots_bytes_answer (spaced_bytes m)) slots_answer
+unfolding slots_answer
+slots_of_text m = refl
 
 pub encode_of_text : IsOfText (λ m. encoded_answer (encoded_text m)) encode_answer
 unfolding encode_answer

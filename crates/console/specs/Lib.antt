@@ -12,6 +12,7 @@ pub mod Answer
 pub mod Inputs
 pub mod RunAnswer
 pub mod AsmAnswer
+pub mod SlotsAnswer
 pub mod EncodeAnswer
 pub mod ReplayAnswer
 pub mod ScheduleAnswer

@@ -26,7 +26,9 @@ mod texts;
 mod transcripts;
 mod transfer;
 
-pub use commands::{Setup, assemble, check, disassemble, encode, explain, replay, run, schedule};
+pub use commands::{
+    Setup, assemble, check, disassemble, disassemble_slots, encode, explain, replay, run, schedule,
+};
 pub use folder::Folder;
 pub use laws::{limits, run_lines_are_runs};
 pub use memory::{Held, HeldFiles, Page};
@@ -36,7 +38,7 @@ pub use transfer::{CannotWrite, ReadFault, Sink, Source};
 // What each command has to write, without a writer.
 pub use commands::{
     asm_reply, check_reply, dis_reply, encode_reply, explain_reply, replay_reply, run_reply,
-    schedule_reply,
+    schedule_reply, slots_reply,
 };
 
 // What an engine in a crate of its own is put together from, as `stress` is.

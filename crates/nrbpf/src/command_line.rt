@@ -3,7 +3,7 @@
 use crate::disk::DASH;
 use crate::help;
 use clap::builder::ValueParser;
-use clap::{Arg, ArgMatches, Command, Error};
+use clap::{Arg, ArgAction, ArgMatches, Command, Error};
 use oplog::Config;
 use std::alloc::{AllocError, Global};
 
@@ -20,6 +20,8 @@ pub enum Task<'a> {
     AssembleInto(&'a str),
     /// Disassemble a program file.
     Disassemble,
+    /// Disassemble a program file, with slots and bytes.
+    DisassembleSlots,
     /// Write the script of a text of calls.
     Encode,
     /// Run a script.
@@ -50,7 +52,7 @@ impl Call<'_> {
     }
 }
 
-// What a command is: its help, whether it takes the sizes of a store, and how many programs may be installed, a file to write, a manifest and then a program's name, which may be
+// What a command is: its help, whether it takes the sizes of a store, and how many programs may be installed, a file to write, whether slots may be asked for, a manifest and then a program's name, which may be
 // left out, the name and the help of the file that it reads besides, and whether standard input stands for that where it is left out.
 #[derive(Clone, Copy)]
 struct Row<'a> {
@@ -60,6 +62,7 @@ struct Row<'a> {
     is_sized: bool,
     has_spare: bool,
     has_output: bool,
+    has_slots: bool,
     has_manifest: bool,
     has_name: bool,
     file: Option<(&'a str, &'a str)>,
@@ -118,6 +121,14 @@ fn output<'a>(alloc: Global) -> Arg<'a> {
         .help(help::OUTPUT)
 }
 
+// The option that asks for slots and bytes.
+fn slots<'a>(alloc: Global) -> Arg<'a> {
+    Arg::new(alloc, "slots-and-bytes")
+        .long("slots")
+        .action(ArgAction::SetTrue)
+        .help(help::SLOTS_AND_BYTES)
+}
+
 // The name of a program, which may be left out.
 fn name<'a>(alloc: Global) -> Arg<'a> {
     Arg::new(alloc, "NAME").value_name("NAME").help(help::NAME)
@@ -140,6 +151,9 @@ fn list_arguments<'a>(
     }
     if row.has_output {
         append(arguments, output(alloc))?;
+    }
+    if row.has_slots {
+        append(arguments, slots(alloc))?;
     }
     if row.has_manifest {
         append(
@@ -193,6 +207,7 @@ fn program_rows<'a>() -> [Row<'a>; 4] {
             is_sized: false,
             has_spare: false,
             has_output: false,
+            has_slots: false,
             has_manifest: true,
             has_name: false,
             file: None,
@@ -205,6 +220,7 @@ fn program_rows<'a>() -> [Row<'a>; 4] {
             is_sized: false,
             has_spare: false,
             has_output: false,
+            has_slots: false,
             has_manifest: true,
             has_name: true,
             file: None,
@@ -217,6 +233,7 @@ fn program_rows<'a>() -> [Row<'a>; 4] {
             is_sized: false,
             has_spare: false,
             has_output: true,
+            has_slots: false,
             has_manifest: false,
             has_name: false,
             file: Some(("FILE", help::SOURCE)),
@@ -229,6 +246,7 @@ fn program_rows<'a>() -> [Row<'a>; 4] {
             is_sized: false,
             has_spare: false,
             has_output: false,
+            has_slots: true,
             has_manifest: false,
             has_name: false,
             file: Some(("FILE", help::PROGRAM)),
@@ -246,6 +264,7 @@ fn script_rows<'a>() -> [Row<'a>; 1] {
         is_sized: false,
         has_spare: false,
         has_output: false,
+        has_slots: false,
         has_manifest: false,
         has_name: false,
         file: Some(("FILE", help::CALLS)),
@@ -263,6 +282,7 @@ fn store_rows<'a>() -> [Row<'a>; 4] {
             is_sized: false,
             has_spare: false,
             has_output: false,
+            has_slots: false,
             has_manifest: true,
             has_name: false,
             file: Some(("SCRIPT", help::SCRIPT)),
@@ -275,6 +295,7 @@ fn store_rows<'a>() -> [Row<'a>; 4] {
             is_sized: false,
             has_spare: true,
             has_output: false,
+            has_slots: false,
             has_manifest: true,
             has_name: false,
             file: Some(("TRANSCRIPT", help::TRANSCRIPT)),
@@ -287,6 +308,7 @@ fn store_rows<'a>() -> [Row<'a>; 4] {
             is_sized: true,
             has_spare: true,
             has_output: false,
+            has_slots: false,
             has_manifest: true,
             has_name: false,
             file: Some(("STEPS", help::STEPS)),
@@ -299,6 +321,7 @@ fn store_rows<'a>() -> [Row<'a>; 4] {
             is_sized: true,
             has_spare: true,
             has_output: false,
+            has_slots: false,
             has_manifest: true,
             has_name: false,
             file: Some(("SCRIPT", help::SCRIPT)),
@@ -344,13 +367,22 @@ fn assembling<'a>(matches: &ArgMatches<'a>) -> Task<'a> {
     }
 }
 
+// Disassembling, with slots and bytes or without.
+fn disassembling<'a>(matches: &ArgMatches<'a>) -> Task<'a> {
+    if matches.get_flag("slots-and-bytes") {
+        Task::DisassembleSlots
+    } else {
+        Task::Disassemble
+    }
+}
+
 // What the command of this name does.
 fn task_of<'a>(name: &str, matches: &ArgMatches<'a>) -> Option<Task<'a>> {
     Some(match name {
         "check" => Task::Check,
         "explain" => Task::Explain(matches.get_str("NAME")),
         "asm" => assembling(matches),
-        "dis" => Task::Disassemble,
+        "dis" => disassembling(matches),
         "encode" => Task::Encode,
         "run" => Task::Run,
         "replay" => Task::Replay(matches.get_one("spare")?),

@@ -152,6 +152,12 @@ instruction a line, as `nrbpf asm` reads it (`nrbpf asm --help` has the words). 
     mov64 r0, 5
     exit
 
+With `--slots` two columns stand before each line: the slot of the instruction, as refusals and jumps count it, and its
+bytes, 8 or 16 of them. `nrbpf asm` doesn't read these columns.
+
+       0  b700000005000000  mov64 r0, 5
+       1  9500000000000000  exit
+
 Refusals:
     bad hex             the file is not pairs of hexadecimal digits
     Dn slot S           the bytes are no program: the reason n, and the slot
@@ -162,6 +168,9 @@ Exit statuses: 0 all is well, 2 wrong words on the command line, 3 refused, 4 `n
 
 /// What the path of a program file is.
 pub const PROGRAM: &str = "The path of the program file";
+
+/// What the slots and the bytes of `dis` are.
+pub const SLOTS_AND_BYTES: &str = "Writes the slot and the bytes of each instruction before it";
 
 /// What the manifest's path is.
 pub const MANIFEST: &str = "The path of the manifest";

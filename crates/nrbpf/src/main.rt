@@ -9,7 +9,8 @@ mod sizes;
 
 use command_line::{Call, Task};
 use console::{
-    Folder, Setup, Status, assemble, check, disassemble, explain, replay, run, schedule,
+    Folder, Setup, Status, assemble, check, disassemble, disassemble_slots, explain, replay, run,
+    schedule,
 };
 use disk::{Disk, LateFile};
 use output::{Output, assemble_into, encode_or_say};
@@ -37,6 +38,7 @@ fn perform<R: Files + AllocGlobal + Eprint + Threads + Wait + Sync, F: Folder, I
         Task::Assemble => assemble(alloc, file, writer),
         Task::AssembleInto(path) => assemble_into(rt, path, file, writer),
         Task::Disassemble => disassemble(alloc, file, writer),
+        Task::DisassembleSlots => disassemble_slots(alloc, file, writer),
         Task::Encode => encode_or_say(rt, file, writer),
         Task::Run => run(alloc, folder, manifest, file, writer),
         Task::Replay(spare) => replay(alloc, folder, spare, manifest, file, writer),

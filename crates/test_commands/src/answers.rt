@@ -2,7 +2,8 @@
 
 use crate::files::Offered;
 use console::{
-    Setup, Status, assemble, check, disassemble, encode, explain, replay, run, schedule,
+    Setup, Status, assemble, check, disassemble, disassemble_slots, encode, explain, replay, run,
+    schedule,
 };
 use oplog::Config;
 use std::alloc::Global;
@@ -139,6 +140,7 @@ pub fn answer_to<R: Threads + Wait + Sync>(
         }
         "asm" => assemble(alloc, &mut text, &mut out),
         "dis" => disassemble(alloc, &mut text, &mut out),
+        "dis:slots" => disassemble_slots(alloc, &mut text, &mut out),
         "encode" => encode(alloc, &mut text, &mut out),
         _ => sized(alloc, folder, command, text, &mut out)?,
     };

@@ -6,7 +6,9 @@ use crate::served::{
     BUMP_LINE, BUMP_TEXT, CALLS, Command, MANIFEST, SCRIPT, STEPS, TRANSCRIPT, written,
 };
 use crate::streams::{Narrow, Programs, Slow, Turns};
-use console::{Setup, Status, assemble, check, disassemble, replay, run, schedule};
+use console::{
+    Setup, Status, assemble, check, disassemble, disassemble_slots, replay, run, schedule,
+};
 use oplog::Config;
 use std::alloc::Global;
 use std::sync::Wait;
@@ -58,6 +60,7 @@ pub fn ended<R: Threads + Wait + Sync>(
         }
         Command::Assemble => assemble(alloc, &mut Slow::new(BUMP_TEXT, reads), out),
         Command::Disassemble => disassemble(alloc, &mut Slow::new(BUMP_LINE, reads), out),
+        Command::Slots => disassemble_slots(alloc, &mut Slow::new(BUMP_LINE, reads), out),
         Command::Schedule => {
             let config = SIZES;
             let folder = &folder;

@@ -8,6 +8,10 @@ pub const BUMP_TEXT: &str =
 pub const BUMP_LINE: &str =
     "bf120000000000001851000000000000000000000000000085000000010000001500050000000000790600000000000007060000010000007b60000000000000bf600000000000009500000000000000b7000000ffffffff9500000000000000\n";
 
+/// Its text behind slots and bytes.
+pub const BUMP_SLOTS: &str =
+    "   0  bf12000000000000  mov64 r2, r1\n   1  18510000000000000000000000000000  ldmap r1, 0\n   3  8500000001000000  call 1\n   4  1500050000000000  jeq r0, 0, +5\n   5  7906000000000000  ldxdw r6, [r0+0]\n   6  0706000001000000  add64 r6, 1\n   7  7b60000000000000  stxdw [r0+0], r6\n   8  bf60000000000000  mov64 r0, r6\n   9  9500000000000000  exit\n  10  b7000000ffffffff  mov64 r0, -1\n  11  9500000000000000  exit\n";
+
 /// Replies the number under the key.
 pub const PEEK_LINE: &str =
     "bf12000000000000185100000000000000000000000000008500000001000000150002000000000079000000000000009500000000000000b7000000ffffffff9500000000000000\n";
@@ -44,17 +48,19 @@ pub enum Command {
     Run,
     Assemble,
     Disassemble,
+    Slots,
     Schedule,
     Replay,
     Stress,
 }
 
 /// Each command by its name.
-pub const COMMANDS: [(&str, Command); 7] = [
+pub const COMMANDS: [(&str, Command); 8] = [
     ("check", Command::Check),
     ("run", Command::Run),
     ("asm", Command::Assemble),
     ("dis", Command::Disassemble),
+    ("dis --slots", Command::Slots),
     ("schedule", Command::Schedule),
     ("replay", Command::Replay),
     ("stress", Command::Stress),
@@ -72,6 +78,7 @@ pub fn written(command: Command) -> &'static str {
             7b60000000000000bf600000000000009500000000000000b7000000ffffffff9500000000000000\n"
         }
         Command::Disassemble => BUMP_TEXT,
+        Command::Slots => BUMP_SLOTS,
         Command::Schedule => {
             "ok\nok\nok\nok\nok\nok\nok place 0 reply 1\nok\nok point 1 reply 1\nlog base 0 tail 1 done 1\nnode 0 tail 1\n"
         }

@@ -89,7 +89,7 @@ impl<'a> Folder for Programs<'a> {
 /// A writer that takes one byte at a time, and whose failing write is an error or takes nothing.
 #[derive(Drop)]
 pub struct Narrow<'a> {
-    taken: [u8; 256],
+    taken: [u8; 512],
     len: usize,
     turns: &'a Turns,
     is_error: bool,
@@ -99,7 +99,7 @@ impl<'a> Narrow<'a> {
     /// Nothing is written yet.
     pub fn new(turns: &'a Turns, is_error: bool) -> Narrow<'a> {
         Narrow {
-            taken: [0; 256],
+            taken: [0; 512],
             len: 0,
             turns,
             is_error,
@@ -120,7 +120,7 @@ impl Write for Narrow<'_> {
             }
             return Ok(0);
         }
-        if buf.is_empty() || self.len >= 256 {
+        if buf.is_empty() || self.len >= 512 {
             return Ok(0);
         }
         self.taken[self.len] = buf[0];
