@@ -88,8 +88,12 @@ fn run_call(
     )
 }
 
-// The call of a program by its number, where it may go on.
-pub(crate) fn checked_call(
+/// The call of a program by its number, where it may go on.
+///
+/// # Errors
+///
+/// S1 where there is neither a program nor a place of this number, else S2 and S3 as [`replica::check_call`].
+pub fn checked_call(
     catalogue: &Catalogue,
     mode: Mode,
     program: u64,

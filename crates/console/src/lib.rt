@@ -42,12 +42,13 @@ pub use commands::{
 };
 
 // What an engine in a crate of its own is put together from, as `stress` is.
+pub use calls::checked_call;
 pub use catalogues::Loaded;
 pub use commands::sizes_refused;
 pub use input::InputFault;
 pub use inputs::{Inputs, read_inputs};
 pub use replay_texts::bad_line;
 pub use reporting::{Reply, report};
-pub use script::{ProgramCall, ScriptLine, read_line};
+pub use script::{NumberedCall, ProgramCall, ProgramText, ScriptLine, read_line};
 pub use status::Verdict;
 pub use texts::{put_number, put_numbered};

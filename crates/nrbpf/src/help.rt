@@ -354,9 +354,13 @@ gives the calls of the script (`nrbpf run --help`) to its sessions in turn: call
 number of sessions, one for each slot of each node. Each session makes its calls on a thread of its own.
 
 Writes a transcript, as `nrbpf replay` reads it:
-    u INDEX NAME HEX REPLY    an update: its index in the history, from 0, and what it replied, in their order
-    r POINT NAME HEX REPLY    a read: it has seen the first POINT updates, and stands behind them
-    e NAME HEX                last, an update that was told that the history has ended: it changed nothing
+    u INDEX NAME HEX REPLY           an update: its index in the history, from 0, and what it replied, in their order
+    i INDEX MODE ARGLEN HEX REPLY    an install, among the updates: it replies the number of its program
+    r POINT NAME HEX REPLY           a read: it has seen the first POINT updates, and stands behind them
+    e NAME HEX                       last, an update that was told that the history has ended: it changed nothing
+    e MODE ARGLEN HEX                the same of an install
+
+A program that was installed stands by its number in the place of NAME.
 
 Which index a call gets is another from run to run; `nrbpf replay` writes `good U R E` for each transcript. With the
 manifest of examples/counter, the script
@@ -367,8 +371,8 @@ manifest of examples/counter, the script
 writes `u 0 bump 00000000 1` and `u 1 bump 00000000 2`.
 
 Refusals, before any thread starts:
-    line N bad          line N is no call of a program of the manifest with an argument of its length, no comment
-                        and no empty line. Lines that install, or call by a number, are bad here as yet
+    line N bad          line N is no comment, no empty line, and nothing that a session could be asked for: `run`
+                        would find it bad, or answer it by refused S1 to S3 or S6 to S8
     refused O1          --nodes is not from 1 to 8, --slots from 1 to 16, --window from 16 to 4096, --limit
                         from 1 to 1000000 or --spare from 0 to 16
     line N: ..          the manifest is refused (`nrbpf check --help`)

@@ -139,7 +139,8 @@ impl Store {
         }
     }
 
-    pub(crate) fn catalogue(&self) -> &Catalogue
+    /// Its maps and programs, and how many places are behind these.
+    pub fn catalogue(&self) -> &Catalogue
         ensures catalogue { result.now ≡ self.now.catalogue }
     {
         &self.setup.catalogue

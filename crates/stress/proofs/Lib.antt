@@ -1,4 +1,6 @@
 mod Script
+pub mod Digits
+pub mod Ready
 mod Texts
 pub mod Playing
 mod Told

@@ -13,7 +13,6 @@ use Rattle.ownlock.specs.Seats.{At, ShelfId}
 use Rattle.loader.specs.CatalogueView.{CatalogueView}
 use Rattle.oplog.specs.declared.configuration.Config.{Config}
 use Rattle.oplog.specs.Operations.{Operation}
-use Rattle.oplog.specs.declared.records.Op.TheVariants.{Run}
 use Rattle.oplog.specs.declared.records.Record.{Record}
 use Rattle.replica.specs.StoreMeaning.{store_meaning}
 use Rattle.accounts.specs.declared.sessions.Progress.{Progress}
@@ -27,17 +26,17 @@ use Rattle.accounts.proofs.Puts.{at_there}
 use Rattle.accounts.proofs.Tellings.{reply_on, read_on}
 use Rattle.combiner.specs.declared.slots.Reply.TheVariants.{Placed, Ended}
 use Rattle.readpath.specs.declared.reading.ReadAnswer.{ReadAnswer}
-use Rattle.console.specs.Script.{ProgramCall, Meaning, Call}
 use Rattle.store.specs.declared.answers.Answer.{Answer}
 use Rattle.store.specs.Opening.{ClosedView, IsClosed}
-use Rattle.store.specs.Sessions.{SessionView, StoreView, request_of, fresh_session, fresh_sessions}
+use Rattle.replica.specs.declared.refusals.StoreRefused.{StoreRefused}
+use Rattle.store.specs.Sessions.{SessionView, StoreView, TellsUpdate, request_of, fresh_session, fresh_sessions}
 use Rattle.stress.specs.declared.lines.Told.{Told}
 use Rattle.stress.specs.declared.lines.Said.{Said}
 use Rattle.stress.specs.declared.lines.Said.TheVariants as told
 use Rattle.stress.specs.Lines as lines
 use Rattle.stress.specs.Lines.{ToldCall}
 use Rattle.stress.specs.OneHistory.{Asks, Holds, IsSo, IsOfOneHistory, is_at, lines_at}
-use Rattle.stress.specs.Playing.{IsSoIn, AreShown, HasAnswered, IsTold, IsNoted, IsAsked, AreToldIn, AreTold, AreNumbered}
+use Rattle.stress.specs.Playing.{IsSoIn, AreShown, HasAnswered, IsTold, IsNoted, IsAsked, AreToldIn, AreTold, AreNumbered, update_said}
 use Rattle.stress.specs.Shown.{called, said_of, told_of}
 use Rattle.stress.proofs.Numbered.{is_numbered, one_index}
 
@@ -204,11 +203,10 @@ module _ (old new : SessionView) (t : Told) (op : Operation) (asks : Asks (calle
     noted = ap (λ (n : SessionNote). n.answered) h.1;
   }
 
-abbrev pub with_argument : ℕ → List ℕ → Operation
-with_argument program argument = Run (record { program = program; argument = argument })
-
-pub same_call : (x y : ProgramCall) (l : Option Meaning) → l ≡ Some (Call x) → Some (Call y) ≡ l → x ≡ y
-same_call x y l is read = let both : Some (Call x) ≡ Some (Call y) = sym is ∙ sym read in cc
+  -- an update or an install that was not refused early
+  pub told_update : (r : Result Answer StoreRefused) → TellsUpdate old new op r → IsAsked old new (record { call = t.call; said = update_said r })
+  told_update (Ok a) h = updated a h
+  told_update (Err e) h = ended (h.1, h.2)
 
 -- ---- all sessions together
 

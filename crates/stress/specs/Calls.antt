@@ -1,38 +1,84 @@
 -- Which calls a script makes on the programs of a catalogue.
 use Rattle.std.specs.Prelude.{ℕ, List, [], ◌∷◌, ◌++◌, length, Option, Some, None, option_map, option_and_then, Result, Ok, Err, ◌==◌, if◌then◌else◌}
 use Rattle.verifier.specs.declared.refusal.Mode.{Mode}
+use Rattle.verifier.specs.declared.refusal.Mode.TheVariants.{Update, Read}
 use Rattle.verifier.specs.Accepted.{Checked}
 use Rattle.text.specs.Lines.{next_line}
+use Rattle.text.specs.Fields.{split_at_space}
 use Rattle.loader.specs.CatalogueView.{CatalogueView, number_named}
+use Rattle.oplog.specs.Operations.{Operation}
+use Rattle.oplog.specs.declared.records.Op.TheVariants as operations
 use Rattle.replica.specs.StoreMeaning.{program_at}
+use Rattle.replica.specs.Refusals.{early_refusal, install_refusal}
+use Rattle.replica.specs.declared.refusals.StoreRefused.{StoreRefused}
 use Rattle.console.specs.Script.{ProgramCall, Meaning, Comment, Call, InvokeAt, ReadAt, Install, line_meaning}
+use Rattle.stress.specs.declared.calls.Asked.{Asked}
+use Rattle.stress.specs.declared.calls.Asked.TheVariants as asks
 
--- a call: its line, NAME HEX, the number of its program, and whether that is an update or a read
+-- a call: what it asks for, and HEX, the digits of its bytes
 pub record Called : Type 0 where
-  pub line : List ℕ
-  pub program : ℕ
-  pub mode : Mode
+  pub asked : Asked
+  pub digits : List ℕ
 
--- program k, where the argument has its length
-abbrev pub if_length : List ℕ → ℕ → Checked → Option (ℕ × Mode)
-if_length argument k p = if length argument == p.arg_len then Some (k, p.mode) else None
+-- the operation that is asked for, on these bytes
+abbrev pub operation_on : Asked → List ℕ → Operation
+operation_on (asks.Run mode k) bytes = operations.Run (record { program = k; argument = bytes })
+operation_on (asks.Install mode arg_len) bytes = operations.Install (record { mode = mode; arg_len = arg_len; bytes = bytes })
 
--- the program of that name
-unfoldable pub program_named : CatalogueView → ProgramCall → Option (ℕ × Mode)
+-- its refusal before anything is done
+abbrev pub asked_refusal : CatalogueView → Asked → List ℕ → Option StoreRefused
+asked_refusal c (asks.Run mode k) bytes = early_refusal c mode k bytes
+asked_refusal c (asks.Install mode arg_len) bytes = install_refusal c.shapes (record { mode = mode; arg_len = arg_len; bytes = bytes })
+
+-- an install is told what an update is told
+abbrev pub told_as : Asked → Mode
+told_as (asks.Run mode k) = mode
+told_as (asks.Install mode arg_len) = Update
+
+-- ---- a line
+
+-- a run of program k, in its own mode, where the argument has its length
+abbrev pub if_length : List ℕ → ℕ → Checked → Option Asked
+if_length argument k p = if length argument == p.arg_len then Some (asks.Run p.mode k) else None
+
+-- that of the program of this name
+unfoldable pub program_named : CatalogueView → ProgramCall → Option Asked
 program_named c call = option_and_then (λ k. option_and_then (if_length call.argument k) (program_at c k)) (number_named c.programs call.name)
 
--- the calls of a line: none for a comment or an empty line; a line that no session could be asked for is bad, and so as yet is
--- one that calls by a number or installs
+-- what is asked for, unless it is refused with these bytes
+abbrev pub unless_refused : Asked → Option StoreRefused → Option Asked
+unless_refused asked None = Some asked
+unless_refused asked (Some why) = None
+
+abbrev pub asked_with : CatalogueView → List ℕ → Asked → Option Asked
+asked_with c bytes asked = unless_refused asked (asked_refusal c asked bytes)
+
+-- what stands behind the first field of a text
+abbrev pub behind : Option (List ℕ × List ℕ) → List ℕ
+behind None = []
+behind (Some fields) = fields.1
+
+abbrev pub behind_field : List ℕ → List ℕ
+behind_field text = behind (split_at_space text)
+
+-- the call of a line that asks for this
+abbrev pub one_call : List ℕ → Option Asked → Option (List Called)
+one_call digits asked = option_map (λ a. record { asked = a; digits = digits } ∷ []) asked
+
+-- the calls of a line, NAME HEX, invoke K HEX, read K HEX, or install MODE ARGLEN HEX: none for a comment or an empty line; a line that
+-- no session could be asked for is bad
 abbrev pub calls_said : CatalogueView → List ℕ → Option Meaning → Option (List Called)
 calls_said c line None = None
 calls_said c line (Some Comment) = Some []
-calls_said c line (Some (Call call)) = option_map (λ p. record { line = line; program = p.0; mode = p.1 } ∷ []) (program_named c call)
-calls_said c line (Some (InvokeAt call)) = None
-calls_said c line (Some (ReadAt call)) = None
-calls_said c line (Some (Install new)) = None
+calls_said c line (Some (Call call)) = one_call (behind_field line) (program_named c call)
+calls_said c line (Some (InvokeAt call)) = one_call (behind_field (behind_field line)) (asked_with c call.argument (asks.Run Update call.program))
+calls_said c line (Some (ReadAt call)) = one_call (behind_field (behind_field line)) (asked_with c call.argument (asks.Run Read call.program))
+calls_said c line (Some (Install new)) = one_call (behind_field (behind_field (behind_field line))) (asked_with c new.bytes (asks.Install new.mode new.arg_len))
 
 abbrev pub line_calls : CatalogueView → List ℕ → Option (List Called)
 line_calls c line = calls_said c line (line_meaning line)
+
+-- ---- a script
 
 -- these calls before those of the lines behind
 abbrev pub before : List Called → Result (List Called) ℕ → Result (List Called) ℕ

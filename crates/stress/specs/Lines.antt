@@ -1,9 +1,13 @@
 -- The lines of a transcript.
-use Rattle.std.specs.Prelude.{◌≡◌, ℕ, ◌+◌, ◌*◌, ◌^◌, Bool, true, false, List, ◌++◌, codes, decimal}
+use Rattle.std.specs.Prelude.{◌≡◌, ℕ, ◌+◌, ◌*◌, ◌^◌, Bool, true, false, List, ◌++◌, Option, Some, None, codes, decimal, slice_get}
 use Rattle.std.specs.List.{flat_map}
 use Rattle.std.specs.List.Sorted.{IsNonDecreasingBy, IsPermutation}
 use Rattle.verifier.specs.declared.refusal.Mode.{Mode}
 use Rattle.verifier.specs.declared.refusal.Mode.TheVariants.{Update, Read}
+use Rattle.loader.specs.CatalogueView.{CatalogueView, Entry}
+use Rattle.loader.specs.Spelling.{mode_word}
+use Rattle.stress.specs.declared.calls.Asked.{Asked}
+use Rattle.stress.specs.declared.calls.Asked.TheVariants as asks
 use Rattle.stress.specs.Calls.{Called}
 
 -- what a session was told: the index of its update and the reply there, how many updates its read has seen and the reply, or that the
@@ -35,22 +39,43 @@ suits mode said = false
 abbrev pub AreOrdered : List ToldCall → Type 0
 AreOrdered told = IsNonDecreasingBy (λ t. rank t.said) told
 
--- PLACE NAME HEX REPLY behind a letter
-abbrev pub answered_text : List ℕ → ℕ → Called → ℕ → List ℕ
-answered_text letter index c reply = letter ++ (decimal index ++ (codes " " ++ (c.line ++ (codes " " ++ (decimal reply ++ codes "\n")))))
+-- ---- the texts
 
-abbrev pub said_text : Called → Said → List ℕ
-said_text c (Updated index reply) = answered_text (codes "u ") index c reply
-said_text c (Seen point reply) = answered_text (codes "r ") point c reply
-said_text c Ended = codes "e " ++ (c.line ++ codes "\n")
+-- NAME of a program of the catalogue, or K of a place behind these
+abbrev pub name_or : ℕ → Option Entry → List ℕ
+name_or k None = decimal k
+name_or k (Some program) = program.name
+
+-- NAME or K, or of an install MODE ARGLEN
+abbrev pub asked_text : CatalogueView → Asked → List ℕ
+asked_text c (asks.Run mode k) = name_or k (slice_get c.programs k)
+asked_text c (asks.Install mode arg_len) = mode_word mode ++ (codes " " ++ decimal arg_len)
+
+-- the same, and HEX
+abbrev pub call_text : CatalogueView → Called → List ℕ
+call_text c call = asked_text c call.asked ++ (codes " " ++ call.digits)
+
+-- the letter of an update, and of an install
+abbrev pub update_letter : Asked → List ℕ
+update_letter (asks.Run mode k) = codes "u "
+update_letter (asks.Install mode arg_len) = codes "i "
+
+-- behind a letter PLACE, the call, and REPLY
+abbrev pub answered_text : CatalogueView → List ℕ → ℕ → Called → ℕ → List ℕ
+answered_text c letter index call reply = letter ++ (decimal index ++ (codes " " ++ (call_text c call ++ (codes " " ++ (decimal reply ++ codes "\n")))))
+
+abbrev pub said_text : CatalogueView → Called → Said → List ℕ
+said_text c call (Updated index reply) = answered_text c (update_letter call.asked) index call reply
+said_text c call (Seen point reply) = answered_text c (codes "r ") point call reply
+said_text c call Ended = codes "e " ++ (call_text c call ++ codes "\n")
 
 -- the line of a call
-abbrev pub told_text : ToldCall → List ℕ
-told_text t = said_text t.call t.said
+abbrev pub told_text : CatalogueView → ToldCall → List ℕ
+told_text c t = said_text c t.call t.said
 
-abbrev pub transcript_text : List ToldCall → List ℕ
-transcript_text told = flat_map told_text told
+abbrev pub transcript_text : CatalogueView → List ToldCall → List ℕ
+transcript_text c told = flat_map (told_text c) told
 
 -- the lines of these calls, each once, in their order
-abbrev pub IsTextOf : List ToldCall → List ℕ → Type 0
-IsTextOf told text = (lines : List ToldCall) × IsPermutation told lines × AreOrdered lines × (text ≡ transcript_text lines)
+abbrev pub IsTextOf : CatalogueView → List ToldCall → List ℕ → Type 0
+IsTextOf c told text = (lines : List ToldCall) × IsPermutation told lines × AreOrdered lines × (text ≡ transcript_text c lines)

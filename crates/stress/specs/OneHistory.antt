@@ -4,17 +4,16 @@ use Rattle.std.specs.List.{All}
 use Rattle.ownlock.specs.Seats.{At}
 use Rattle.loader.specs.CatalogueView.{CatalogueView}
 use Rattle.oplog.specs.Operations.{Operation}
-use Rattle.oplog.specs.declared.records.Op.TheVariants.{Run}
 use Rattle.oplog.specs.declared.records.Record.{Record}
 use Rattle.oplog.specs.History.{History, reply_at, read_reply_at}
 use Rattle.replica.specs.StoreMeaning.{store_meaning}
-use Rattle.console.specs.Script.{ProgramCall, Call, line_meaning}
-use Rattle.stress.specs.Calls.{Called}
+use Rattle.text.specs.Digits.{field_bytes}
+use Rattle.stress.specs.Calls.{Called, operation_on}
 use Rattle.stress.specs.Lines.{Said, Updated, Seen, Ended, ToldCall}
 
--- the operation that a call asks for: the run of its program, on the argument of its line
+-- the operation that a call asks for, on the bytes that its digits spell
 abbrev pub Asks : Called → Operation → Type 0
-Asks call op = (said : ProgramCall) × (line_meaning call.line ≡ Some (Call said)) × (op ≡ Run (record { program = call.program; argument = said.argument }))
+Asks call op = (bytes : List ℕ) × (field_bytes call.digits ≡ Some bytes) × (op ≡ operation_on call.asked bytes)
 
 -- what a session was told of an operation is so in this history of a catalogue: the operation's record stands at the update's index,
 -- with its reply there; the read has seen no more than the history has, and its reply is the one there; the history has ended only

@@ -1,9 +1,11 @@
 -- What is kept while sessions make their calls. Clauses of private functions alone cite this.
-use Rattle.std.specs.Prelude.{◌≡◌, ◌⊎◌, ℕ, ◌-◌, ◌<◌, List, [], ◌∷◌, ◌++◌, map, length, slice_index_or, Option, Some, None, Result, IfOk, Vec}
+use Rattle.std.specs.Prelude.{◌≡◌, ◌⊎◌, ℕ, ◌-◌, ◌<◌, ◌≤◌, List, [], ◌∷◌, ◌++◌, map, length, slice_index_or, Option, Some, None, Result, Ok, Err, IfOk, Vec}
 use Rattle.std.specs.List.{All}
 use Rattle.loader.specs.CatalogueView.{CatalogueView}
-use Rattle.console.specs.Script.{ProgramCall, Call, line_meaning}
-use Rattle.replica.specs.Refusals.{early_refusal}
+use Rattle.text.specs.Digits.{field_bytes}
+use Rattle.text.specs.declared.lines.TheConstants.{LINE_BYTES}
+use Rattle.replica.specs.declared.refusals.StoreRefused.{StoreRefused}
+use Rattle.store.specs.declared.answers.Answer.{Answer}
 use Rattle.store.specs.Sessions.{StoreView, SessionView, IsOf}
 use Rattle.stress.specs.declared.calls.ScriptCall.{ScriptCall}
 use Rattle.stress.specs.declared.calls.LineCall.{LineCall}
@@ -12,7 +14,7 @@ use Rattle.stress.specs.declared.calls.ScriptCalls.{ScriptCalls}
 use Rattle.stress.specs.declared.calls.ScriptCalls.TheVariants as reads
 use Rattle.stress.specs.declared.players.Player.{Player}
 use Rattle.stress.specs.declared.players.Playground.{Playground}
-use Rattle.stress.specs.Calls.{Called}
+use Rattle.stress.specs.Calls.{Called, asked_refusal}
 use Rattle.stress.specs.Dealt.{dealt, dealt_to}
 use Rattle.accounts.specs.declared.sessions.Progress.{Progress}
 use Rattle.accounts.specs.declared.sessions.AnsweredUpdate.{AnsweredUpdate}
@@ -22,15 +24,18 @@ use Rattle.oplog.specs.Operations.{Operation}
 use Rattle.stress.specs.declared.lines.Told.{Told}
 use Rattle.stress.specs.declared.lines.Said.{Said}
 use Rattle.stress.specs.declared.lines.Said.TheVariants as told
-use Rattle.stress.specs.Lines.{ToldCall}
-use Rattle.stress.specs.OneHistory.{IsSo, lines_at}
-use Rattle.stress.specs.Shown.{TellsCalls, to_be_told, told_of}
+use Rattle.oplog.specs.declared.configuration.Config.{Config}
+use Rattle.stress.specs.Lines.{ToldCall, IsTextOf}
+use Rattle.stress.specs.OneHistory.{IsSo, IsOfOneHistory, lines_at}
+use Rattle.stress.specs.Shown.{TellsCalls, calls_told, to_be_told, told_of}
+use Rattle.stress.specs.StressAnswer.{session_count}
 
 -- no session of a store of this catalogue is refused this call before it is made
 pub record IsReady (c : CatalogueView) (call : ScriptCall) : Type 0 where
-  pub said : ProgramCall
-  pub is : line_meaning call.line.now ≡ Some (Call said)
-  pub ready : early_refusal c call.mode call.program said.argument ≡ None
+  pub short : length call.digits.now ≤ LINE_BYTES
+  pub bytes : List ℕ
+  pub spelled : field_bytes call.digits.now ≡ Some bytes
+  pub ready : asked_refusal c call.asked bytes ≡ None
 
 abbrev pub IsReadyLine : CatalogueView → LineCall → Type 0
 IsReadyLine c lines.Bad = Unit {0}
@@ -101,6 +106,11 @@ IsNew store s = IsOf store s × (s.note.answered ≡ [])
 abbrev pub AreNew : StoreView → ℕ → List SessionView → Type 0
 AreNew store n sessions = (length sessions ≡ n) × All (IsNew store) sessions × AreNumbered sessions
 
+-- what a session is told of an update that was not refused early: its answer, or that the history has ended
+abbrev pub update_said : Result Answer StoreRefused → Said
+update_said (Ok a) = told.Updated a
+update_said (Err e) = told.Ended
+
 -- the answer to an update is in the session's note, with its record in the history
 abbrev pub IsNoted : (old new : SessionView) → Said → Type 0
 IsNoted old new (told.Updated a) = (op : Operation) × (new.note.answered ≡ old.note.answered ++ record { index = a.index; op = op } ∷ [])
@@ -125,6 +135,12 @@ pub record AreToldIn (l : Progress CatalogueView) (sessions : List SessionView) 
 abbrev pub AreTold : List SessionView → List Told → Type 0
 AreTold sessions told =
     (l : Progress CatalogueView) → ((k : ℕ) (s : SessionView) → At k s sessions → Extends s.progress l × (s.session ≡ k)) → AreToldIn l sessions told
+
+-- the text is the transcript of what the sessions of a store of these sizes and this catalogue were told of these calls, by one history
+abbrev pub IsToldText : Config → CatalogueView → List ScriptCall → List ℕ → Type 0
+IsToldText config c calls text =
+    (told : List Told) × (calls_told told ≡ dealt_to (session_count config) (to_be_told calls))
+    × IsOfOneHistory c config.limit (map told_of told) × IsTextOf c (map told_of told) text
 
 abbrev pub IsNewPlayer : StoreView → Player → Type 0
 IsNewPlayer store p = IsNew store p.session

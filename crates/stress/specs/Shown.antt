@@ -8,12 +8,12 @@ use Rattle.stress.specs.declared.calls.ScriptCalls.TheVariants as reads
 use Rattle.stress.specs.declared.lines.Told.{Told}
 use Rattle.stress.specs.declared.lines.Said.{Said}
 use Rattle.stress.specs.declared.lines.Said.TheVariants as told
-use Rattle.stress.specs.Calls.{Called}
+use Rattle.stress.specs.Calls.{Called, told_as}
 use Rattle.stress.specs.Lines as said
 use Rattle.stress.specs.Lines.{ToldCall, suits}
 
 abbrev pub called : ScriptCall → Called
-called c = record { line = c.line.now; program = c.program; mode = c.mode }
+called c = record { asked = c.asked; digits = c.digits.now }
 
 -- the calls of a line; a bad one has none
 abbrev pub calls_in : LineCall → Option (List Called)
@@ -38,7 +38,7 @@ told_of t = record { call = called t.call.now; said = said_of t.said }
 
 -- the call of a told one, if what was said suits it
 abbrev pub told_call : Told → Option Called
-told_call t = if suits t.call.now.mode (said_of t.said) then Some (called t.call.now) else None
+told_call t = if suits (told_as t.call.now.asked) (said_of t.said) then Some (called t.call.now) else None
 
 abbrev pub calls_told : List Told → List (Option Called)
 calls_told told = map told_call told

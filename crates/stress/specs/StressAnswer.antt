@@ -25,7 +25,7 @@ use Rattle.console.specs.Report.{answer_of}
 use Rattle.console.specs.RunAnswer.{bad_line}
 use Rattle.console.specs.ScheduleAnswer.{are_sizes, sizes_refused}
 use Rattle.stress.specs.declared.engine.Trial.{Trial}
-use Rattle.stress.specs.Calls.{Called, script_calls}
+use Rattle.stress.specs.Calls.{Called, told_as, script_calls}
 use Rattle.stress.specs.Dealt.{dealt_to}
 use Rattle.stress.specs.Lines.{ToldCall, suits, AreOrdered, transcript_text}
 use Rattle.stress.specs.OneHistory.{IsOfOneHistory}
@@ -43,12 +43,12 @@ pub record IsTranscript (config : Config) (c : CatalogueView) (calls : List Call
   -- what the sessions were told, one behind the other: each made the calls that are dealt to it, in their order
   pub asked : List ToldCall
   pub in_turn : calls_of asked ≡ dealt_to (session_count config) calls
-  pub suited : All (λ t. suits t.call.mode t.said ≡ true) asked
+  pub suited : All (λ t. suits (told_as t.call.asked) t.said ≡ true) asked
   -- the same in the order of their lines, which are what is written
   pub told : List ToldCall
   pub same : IsPermutation asked told
   pub ordered : AreOrdered told
-  pub is : a ≡ record { text = transcript_text told; verdict = verdicts.Good }
+  pub is : a ≡ record { text = transcript_text c told; verdict = verdicts.Good }
   -- so each call of the script has one line
   pub each_once : IsPermutation calls (calls_of told)
   -- and one history is behind all lines

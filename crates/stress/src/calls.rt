@@ -1,27 +1,37 @@
 // The calls of a script.
 
-ghost use Rattle.std.specs.Prelude.{◌≡◌, IfOk, IfSome, None};
+ghost use Rattle.std.specs.Prelude.{◌≡◌, ◌≤◌, ◌<◌, length, IfOk, IfSome, None};
 ghost use Rattle.text.specs.Lines.{lines_of};
+ghost use Rattle.loader.specs.CatalogueView.{CatalogueView};
+ghost use Rattle.replica.specs.Refusals.{IsRoomFor};
 ghost use Rattle.console.specs.ScriptShown.{call_of};
-ghost use Rattle.replica.specs.Refusals.{early_refusal};
-ghost use Rattle.stress.specs.Calls.{program_named, line_calls, script_calls};
-ghost use Rattle.stress.specs.Playing.{IsReadyLine, AreReady};
+ghost use Rattle.stress.specs.declared.calls.Asked.TheVariants.{Run, Install};
+ghost use Rattle.stress.specs.Calls.{asked_refusal, program_named, asked_with, behind_field, one_call, line_calls, script_calls};
+ghost use Rattle.stress.specs.Playing.{IsReady, IsReadyLine, AreReady};
 ghost use Rattle.stress.specs.Shown.{calls_in, ReadAs};
 
-use console::{ProgramCall, ScriptLine, read_line};
-use loader::Catalogue;
-use replica::find_program;
+use console::{NumberedCall, ProgramCall, ProgramText, ScriptLine, checked_call, read_line};
+use loader::{Catalogue, Installed};
+use replica::{check_install, find_program};
 use std::alloc::{AllocError, Global};
-use text::NumberedLines;
+use text::{NumberedLines, split_at_space};
 use verifier::Mode;
 
-// A call that no session is refused: of a program of the catalogue, with an argument of its length.
+// What a session is asked for.
+#[derive(Clone, Copy)]
+pub(crate) enum Asked {
+    // A run of the program of this number, as an update or as a read.
+    Run { mode: Mode, program: u16 },
+    // The install of a program of this mode, for arguments of this length.
+    Install { mode: Mode, arg_len: usize },
+}
+
+// A call that no session is refused.
 #[derive(Clone, Copy)]
 pub(crate) struct ScriptCall<'a> {
-    // NAME HEX
-    pub line: &'a str,
-    pub program: u16,
-    pub mode: Mode,
+    pub asked: Asked,
+    // HEX, as it stands in the script.
+    pub digits: &'a str,
 }
 
 // All calls of a script in their order, or the number of its first bad line.
@@ -39,37 +49,91 @@ pub(crate) enum LineCall<'a> {
     Call(ScriptCall<'a>),
 }
 
-// The program that a call names and its mode, where the argument has its length.
+// A run of the program that a call names, where the argument has its length.
 #[tactic(auto, unfolding(crate::specs::Calls::program_named))]
-fn program_named(catalogue: &Catalogue, call: &ProgramCall) -> Option<(u16, Mode)>
+fn program_named(catalogue: &Catalogue, call: &ProgramCall) -> Option<Asked>
     ensures named { result ≡ program_named catalogue.now (call_of call.now) }
-    ensures ready { IfSome result (λ p. early_refusal catalogue.now p.1 p.0 call.now.argument.items ≡ None) }
+    ensures ready { IfSome result (λ a. asked_refusal catalogue.now a call.now.argument.items ≡ None) }
 {
     let number = catalogue.number(call.name)?;
     let program = find_program(catalogue, number, call.argument.as_slice()).ok()?;
-    Some((number, program.mode()))
+    Some(Asked::Run {
+        mode: program.mode(),
+        program: number,
+    })
 }
 
-// What a line says.
-fn call_of_line<'a>(catalogue: &Catalogue, line: &'a str) -> LineCall<'a>
+// A run of the program or of the place of this number, unless it is refused.
+fn program_numbered(catalogue: &Catalogue, mode: Mode, call: &NumberedCall) -> Option<Asked>
+    ensures asked { result ≡ asked_with catalogue.now call.now.argument.items (Run mode call.now.program) }
+{
+    let call = checked_call(catalogue, mode, call.program, call.argument.as_slice()).ok()?;
+    Some(Asked::Run {
+        mode,
+        program: call.program(),
+    })
+}
+
+// The install of a program, unless it is refused.
+fn program_installed(room: &mut Installed, text: &ProgramText) -> Option<Asked>
+    requires room { 0 < room.old.places }
+    ensures room { IsRoomFor room.old.shapes room.new }
+    ensures asked { (c : CatalogueView) → c.shapes ≡ room.old.shapes → result ≡ asked_with c text.now.bytes.items (Install text.now.mode text.now.arg_len) }
+{
+    check_install(room, text.mode, text.arg_len, text.bytes.as_slice()).ok()?;
+    Some(Asked::Install {
+        mode: text.mode,
+        arg_len: text.arg_len as usize,
+    })
+}
+
+// What stands behind the first field of a text.
+fn behind_field(text: &str) -> &str
+    ensures behind { result.now ≡ behind_field text.now }
+    ensures short { length result.now ≤ length text.now }
+{
+    match split_at_space(text) {
+        Some((_, rest)) => rest,
+        None => "",
+    }
+}
+
+// The call of a line with these digits that asks for this.
+fn one_call<'a>(digits: &'a str, asked: Option<Asked>) -> LineCall<'a>
+    ensures said { calls_in result ≡ one_call digits.entry.now asked }
+    ensures ready { (c : CatalogueView) → IfSome asked (λ a. IsReady c (record { asked = a; digits = digits.entry })) → IsReadyLine c result }
+{
+    match asked {
+        None => LineCall::Bad,
+        Some(asked) => LineCall::Call(ScriptCall { asked, digits }),
+    }
+}
+
+// What a line says. The room is one for programs of the catalogue's maps.
+fn call_of_line<'a>(catalogue: &Catalogue, room: &mut Installed, line: &'a str) -> LineCall<'a>
+    requires room { IsRoomFor catalogue.now.shapes room.old }
+    ensures room { IsRoomFor catalogue.now.shapes room.new }
     ensures said { calls_in result ≡ line_calls catalogue.now line.now }
     ensures ready { IsReadyLine catalogue.now result }
 {
     match read_line(line) {
         None => LineCall::Bad,
-        // A transcript has no lines for these yet.
-        Some(ScriptLine::InvokeAt(_) | ScriptLine::ReadAt(_) | ScriptLine::Install(_)) => {
-            LineCall::Bad
-        }
         Some(ScriptLine::Comment) => LineCall::Comment,
-        Some(ScriptLine::Call(call)) => match program_named(catalogue, &call) {
-            None => LineCall::Bad,
-            Some((program, mode)) => LineCall::Call(ScriptCall {
-                line,
-                program,
-                mode,
-            }),
-        },
+        Some(ScriptLine::Call(call)) => {
+            one_call(behind_field(line), program_named(catalogue, &call))
+        }
+        Some(ScriptLine::InvokeAt(call)) => {
+            let asked = program_numbered(catalogue, Mode::Update, &call);
+            one_call(behind_field(behind_field(line)), asked)
+        }
+        Some(ScriptLine::ReadAt(call)) => {
+            let asked = program_numbered(catalogue, Mode::Read, &call);
+            one_call(behind_field(behind_field(line)), asked)
+        }
+        Some(ScriptLine::Install(text)) => {
+            let asked = program_installed(room, &text);
+            one_call(behind_field(behind_field(behind_field(line))), asked)
+        }
     }
 }
 
@@ -82,10 +146,11 @@ pub(crate) fn read_calls<'a>(
     ensures calls { IfOk result (ReadAs (script_calls catalogue.now 1 (lines_of script.now))) }
     ensures ready { IfOk result (AreReady catalogue.now) }
 {
+    let mut room = Installed::open(alloc, catalogue.shapes(), 1)?;
     let mut calls = Vec::new(alloc);
     let mut lines = NumberedLines::new(script);
     while let Some((number, line)) = lines.take_line() {
-        match call_of_line(catalogue, line) {
+        match call_of_line(catalogue, &mut room, line) {
             LineCall::Bad => return Ok(ScriptCalls::Bad(number)),
             LineCall::Comment => {}
             LineCall::Call(call) => calls.push(call)?,

@@ -13,7 +13,6 @@ ghost use Rattle.stress.specs.Playing.{IsReady};
 
 use crate::calls::{ScriptCall, ScriptCalls, read_calls};
 use crate::gate::Gate;
-use crate::lines::transcript;
 use crate::sharing::tell_all;
 use console::{
     Folder, InputFault, Loaded, Reply, Sink, Source, Status, Verdict, bad_line, read_inputs,
@@ -50,9 +49,8 @@ fn calls_reply<R: Threads + Wait + Sync, F: Folder, G: Gate + Sync>(
     requires ready { All (IsReady catalogue) calls.now }
     ensures { IfOk result (λ r. IsTranscript trial.now.config catalogue (map called calls.now) (answer_of r)) }
 {
-    let told = tell_all(rt, trial, catalogue, calls)?;
     Ok(Reply {
-        text: transcript(trial.alloc, told)?,
+        text: tell_all(rt, trial, catalogue, calls)?,
         verdict: Verdict::Good,
     })
 }
@@ -109,11 +107,11 @@ fn prepare<R: Threads + Wait + Sync, F: Folder, G: Gate + Sync, M: Source, S: So
 /// Makes the calls of a script on a new store of several nodes with the maps and the programs of a manifest. The lines go to the
 /// sessions in turn, and each session makes its own in their order, on a thread of its own.
 ///
-/// Writes a transcript, as `replay` reads it: each update at its index in the history with its reply, each read behind the updates
-/// that it has seen, and last the updates that were told that the history has ended. A line that is no call of a program of the
-/// manifest with an argument of its length, no comment and not empty writes `line N bad`, and no thread starts. Sizes out of their
-/// limits write `refused O1`, a refused manifest only its refusal. Says how it ended. Each file is read whole before anything is
-/// written. Where a read fails, nothing is written.
+/// Writes a transcript, as `replay` reads it: each update and install at its index in the history with its reply, each read behind the
+/// updates that it has seen, and last those that were told that the history has ended. A line that is bad, or whose call or install
+/// is refused with S1 to S3 or S6 to S8, writes `line N bad`, and no thread starts. Sizes out of their limits write `refused O1`, a
+/// refused manifest only its refusal. Says how it ended. Each file is read whole before anything is written. Where a read fails,
+/// nothing is written.
 pub fn stress<R: Threads + Wait + Sync, F: Folder, G: Gate + Sync, M: Source, S: Source, W: Sink>(
     rt: &R,
     trial: &Trial<'_, F, G>,

@@ -3,15 +3,15 @@
 ghost use Rattle.std.specs.Prelude.{◌≡◌, ◌<◌, [], All, IfOk, drop, Some};
 ghost use Rattle.store.specs.Sessions.{IsOf};
 ghost use Rattle.stress.specs.Shown.{TellsCalls, called, told_call};
-ghost use Rattle.stress.specs.Playing.{IsReady, IsAsked, IsTold, IsToldPlayer, calls_for};
+ghost use Rattle.stress.specs.Playing.{IsReady, IsAsked, IsTold, IsToldPlayer, calls_for, update_said};
 
-use crate::calls::ScriptCall;
+use crate::calls::{Asked, ScriptCall};
 use crate::gate::Gate;
 use crate::lines::{Said, Told};
-use console::{ScriptLine, read_line};
 use std::alloc::{AllocError, Global};
 use std::sync::Wait;
-use store::{Session, Store};
+use store::{Answer, Session, Store, StoreRefused};
+use text::hex_field;
 use verifier::Mode;
 
 // What all threads share.
@@ -31,6 +31,16 @@ pub(crate) struct Player<'a> {
     pub told: Result<Vec<Told<'a>>, AllocError>,
 }
 
+// What a session is told of an update that was not refused early.
+fn update_said(answer: Result<Answer, StoreRefused>) -> Said
+    ensures said { result ≡ update_said answer }
+{
+    match answer {
+        Ok(answer) => Said::Updated(answer),
+        Err(_) => Said::Ended,
+    }
+}
+
 // Makes one call.
 fn ask<'a, R: Wait>(
     rt: &R,
@@ -44,19 +54,21 @@ fn ask<'a, R: Wait>(
     ensures call { told_call result ≡ Some (called call.now) }
     ensures told { IsAsked session.old session.new result }
 {
-    let Some(ScriptLine::Call(line)) = read_line(call.line) else {
+    let Some(spelled) = hex_field(call.digits) else {
         unreachable!()
     };
-    let argument = line.argument.as_slice();
-    let said = match call.mode {
-        Mode::Update => match session.invoke(rt, store, call.program, argument) {
-            Ok(answer) => Said::Updated(answer),
-            Err(_) => Said::Ended,
+    let bytes = spelled.as_slice();
+    let said = match call.asked {
+        Asked::Run { mode, program } => match mode {
+            Mode::Update => update_said(session.invoke(rt, store, program, bytes)),
+            Mode::Read => match session.read(rt, store, program, bytes) {
+                Ok(answer) => Said::Seen(answer),
+                Err(_) => unreachable!(),
+            },
         },
-        Mode::Read => match session.read(rt, store, call.program, argument) {
-            Ok(answer) => Said::Seen(answer),
-            Err(_) => unreachable!(),
-        },
+        Asked::Install { mode, arg_len } => {
+            update_said(session.install(rt, store, mode, arg_len, bytes))
+        }
     };
     Told { call, said }
 }

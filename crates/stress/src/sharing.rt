@@ -6,15 +6,14 @@ ghost use Rattle.store.specs.Opening.{ClosedView, IsClosed};
 ghost use Rattle.store.specs.Sessions.{IsOf, StoreView};
 ghost use Rattle.stress.specs.Calls.{Called};
 ghost use Rattle.stress.specs.Dealt.{dealt_to};
-ghost use Rattle.stress.specs.OneHistory.{IsOfOneHistory};
+ghost use Rattle.stress.specs.Lines.{IsTextOf};
 ghost use Rattle.stress.specs.Shown.{TellsCalls, to_be_told, told_of};
-ghost use Rattle.stress.specs.StressAnswer.{session_count};
-ghost use Rattle.stress.specs.Playing.{IsReady, AreIn, AreLast, AreNew, AreNumbered, AreTold, IsNew, IsNewPlayer, IsPlaying, IsToldPlayer, TellTheirs, TellsAll, calls_for};
+ghost use Rattle.stress.specs.Playing.{IsReady, AreIn, AreLast, AreNew, AreNumbered, AreTold, IsNew, IsNewPlayer, IsPlaying, IsToldPlayer, IsToldText, TellTheirs, TellsAll, calls_for};
 
 use crate::calls::ScriptCall;
 use crate::engine::Trial;
 use crate::gate::Gate;
-use crate::lines::Told;
+use crate::lines::{Told, transcript};
 use crate::players::{Player, Playground, play};
 use loader::Catalogue;
 use oplog::{Config, OpenError};
@@ -165,18 +164,28 @@ fn play_all<'a, R: Threads + Wait + Sync, G: Gate + Sync>(
     told
 }
 
-// Makes the calls on a new store, and closes it. What the sessions were told, session by session.
-pub(crate) fn tell_all<'a, R: Threads + Wait + Sync, F, G: Gate + Sync>(
+// The transcript of what was told, if memory was left.
+fn written(
+    alloc: Global,
+    catalogue: &Catalogue,
+    told: Result<Vec<Told<'_>>, AllocError>,
+) -> Result<Vec<u8>, AllocError>
+    ensures { IfOk result (λ text. MatchResult told.entry (λ v. IsTextOf catalogue.now (map told_of v.items) text.items) (λ _. ⊥)) }
+{
+    transcript(alloc, catalogue, told?)
+}
+
+// Makes the calls on a new store, and closes it. The transcript of what the sessions were told.
+pub(crate) fn tell_all<R: Threads + Wait + Sync, F, G: Gate + Sync>(
     rt: &R,
     trial: &Trial<'_, F, G>,
     catalogue: Catalogue,
-    calls: &'a [ScriptCall<'a>],
-) -> Result<Vec<Told<'a>>, AllocError>
+    calls: &[ScriptCall<'_>],
+) -> Result<Vec<u8>, AllocError>
     requires config { IsConfig trial.now.config }
     requires places { catalogue.places ≡ trial.now.config.spare }
     requires ready { All (IsReady catalogue) calls.now }
-    ensures told { TellsCalls result (dealt_to (session_count trial.now.config) (to_be_told calls.now)) }
-    ensures one { IfOk result (λ v. IsOfOneHistory catalogue trial.now.config.limit (map told_of v.items)) }
+    ensures told { IfOk result (λ text. IsToldText trial.now.config catalogue calls.now text.items) }
 {
     let (alloc, config) = (trial.alloc, trial.config);
     let count = (config.nodes * config.slots) as usize;
@@ -193,6 +202,7 @@ pub(crate) fn tell_all<'a, R: Threads + Wait + Sync, F, G: Gate + Sync>(
         sessions: count,
     };
     let told = play_all(rt, &ground, &mut sessions, players);
+    let text = written(alloc, store.catalogue(), told);
     close(store, sessions);
-    told
+    text
 }

@@ -1,4 +1,6 @@
-use Rattle.std.proofs.Common.{◌∙◌, sym, refl, map, rules}
+use Rattle.std.proofs.Common.{◌∙◌, sym, refl, map, subst, All}
+use Rattle.std.proofs.lemmas.List.Elements.{All-push}
+use Rattle.stress.specs.Playing.{IsReady}
 use Rattle.stress.specs.Shown.{called}
 use Rattle.stress.proofs.Script.{none_here, one_here, bad_here, all_read}
 use Rattle.stress.proofs.calls.read_calls.Goals as goal
@@ -13,13 +15,15 @@ pub loop-number-preserved-in-Comment : goal.loop-number-preserved-in-Comment
 loop-number-preserved-in-Comment c =
     let taken = c.in-Some.ensures.taken in
     let on = none_here c.args.catalogue.now c.loop-number.lines.number c.loop-number.lines.lines c.in-Some.line.now c.take_line.new.self.lines taken.0 (map called c.loop-number.calls.items) c.in-Comment.ensures.said in
-    (rw taken.2 (on ∙ c.loop-number.invariant.0), c.loop-number.invariant.1)
+    (rw taken.2 (on ∙ c.loop-number.invariant.0), c.loop-number.invariant.1, c.in-Comment.ensures.room)
 
 pub loop-number-preserved : goal.loop-number-preserved
 loop-number-preserved c =
     let taken = c.in-Some.ensures.taken in
     let on = one_here c.args.catalogue.now c.loop-number.lines.number c.loop-number.lines.lines c.in-Some.line.now c.take_line.new.self.lines taken.0 c.loop-number.calls.items c.in-Call.call c.in-Call.ensures.said in
-    (rw (taken.2, c.in_ok-push-in-Call.ensures.items) (on ∙ c.loop-number.invariant.0), search rules)
+    let pushed = c.in_ok-push-in-Call.ensures.items in
+    let ready = All-push (IsReady c.args.catalogue.now) c.loop-number.calls.items c.in-Call.call c.loop-number.invariant.1 c.in-Call.ensures.ready in
+    (rw (taken.2, pushed) (on ∙ c.loop-number.invariant.0), subst (All (IsReady c.args.catalogue.now)) (sym pushed) ready, c.in-Call.ensures.room)
 
 pub returns-clause-calls : goal.returns-clause-calls
 returns-clause-calls c =

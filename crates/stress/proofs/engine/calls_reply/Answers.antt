@@ -3,4 +3,6 @@ use Rattle.stress.proofs.engine.calls_reply.Goals as goal
 
 pub returns : goal.returns
 returns g c =
-    transcript_of c.args.trial.now.config c.args.catalogue c.requires.config c.args.calls.now c.in_ok-told.told.items c.in_ok-transcript.field-0.items c.in_ok-told.ensures.told c.in_ok-transcript.ensures c.in_ok-told.ensures.one
+    let text = c.in_ok-tell_all.field-0.items in
+    let told = c.in_ok-tell_all.ensures.told in
+    transcript_of c.args.trial.now.config c.args.catalogue c.requires.config c.args.calls.now told.0 text told.1 told.3 told.2

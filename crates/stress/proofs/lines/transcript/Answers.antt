@@ -12,4 +12,4 @@ returns c =
     let up = IsNonDecreasingBy-from_sort_by_key (λ t. rank (said_of t.said)) _ c.in_ok-sort_by_key.ensures.sorted (λ a r q k. search rules) in
     let past : length told ≤ c.loop-one.one-index = search rules in
     let whole = take_all c.loop-one.one-index told past in
-    (map told_of told, rw c.deref-one-items.ensures.value (IsPermutation-map told_of _ _ c.in_ok-sort_by_key.ensures.permutation), rw c.deref-one-items.ensures.value (ordered _ up), c.loop-one.invariant ∙ ap (λ xs. transcript_text (map told_of xs)) whole)
+    (map told_of told, rw c.deref-one-items.ensures.value (IsPermutation-map told_of _ _ c.in_ok-sort_by_key.ensures.permutation), rw c.deref-one-items.ensures.value (ordered _ up), c.loop-one.invariant ∙ ap (λ xs. transcript_text c.args.catalogue.now (map told_of xs)) whole)

@@ -4,4 +4,4 @@ use Rattle.stress.specs.Shown.{told_of}
 use Rattle.stress.proofs.lines.transcript.Given as goal
 
 abbrev pub invariant-loop-one : goal.invariant-loop-one
-invariant-loop-one l = l.out.items ≡ transcript_text (map told_of (take l.one-index l.one-items))
+invariant-loop-one l = l.out.items ≡ transcript_text l.catalogue (map told_of (take l.one-index l.one-items))

@@ -1,43 +1,50 @@
-use Rattle.std.proofs.Common.{◌≡◌, ◌∙◌, List, ℕ, None, Some, ap, sym, subst}
-use Rattle.verifier.specs.declared.refusal.Mode.{Mode}
-use Rattle.console.specs.Script.{ProgramCall}
-use Rattle.console.specs.ScriptShown.{call_of, meaning_of}
+use Rattle.std.proofs.Common.{◌≡◌, ◌∙◌, None, Some, refl, ap, sym, subst}
+use Rattle.text.specs.Digits.{field_bytes}
 use Rattle.oplog.specs.Operations.{Operation}
-use Rattle.oplog.specs.declared.records.Op.TheVariants.{Run}
-use Rattle.replica.specs.Refusals.{early_refusal}
-use Rattle.store.specs.Sessions.{TellsUpdate, TellsRead}
+use Rattle.store.specs.Sessions.{SessionView, TellsUpdate, TellsRead}
+use Rattle.verifier.specs.declared.refusal.Mode.{Mode}
+use Rattle.verifier.specs.declared.refusal.Mode.TheVariants.{Update, Read}
+use Rattle.stress.specs.declared.calls.Asked.{Asked}
+use Rattle.stress.specs.declared.calls.Asked.TheVariants as asks
 use Rattle.stress.specs.declared.lines.Told.{Told}
+use Rattle.stress.specs.Calls.{operation_on, asked_refusal}
 use Rattle.stress.specs.Shown.{called}
 use Rattle.stress.specs.OneHistory.{Asks}
-use Rattle.stress.proofs.OneHistory.{same_call, with_argument, updated, seen, ended}
+use Rattle.stress.proofs.OneHistory.{told_update, seen}
 use Rattle.stress.proofs.players.ask.Goals as goal
-use Rattle.stress.proofs.players.ask.Goals.{in-Update+in-Ok, in-Update+in-Err, in-Read+in-Ok-read}
+use Rattle.stress.proofs.players.ask.Goals.{in-Run+in-Update, in-Run+in-Read+in-Ok, in-Install}
 
 pub returns-clause-told : goal.returns-clause-told
 returns-clause-told g c =
     let t : Told = record { call = c.args.call; said = c.match-call.said } in
     let call = c.args.call.now in
     let ready = c.requires.ready in
-    let said = call_of c.in-Some-Call.line in
-    let read = ap (λ m. Some (meaning_of m)) (sym c.in-Some-Call.field-0-is) ∙ c.in-Some-Call.ensures in
-    let value = c.as_slice-argument.ensures.value in
-    let argument = c.as_slice-argument.result.now in
-    let op : Operation = Run (record { program = call.program; argument = argument }) in
-    let asks : Asks (called call) op = (said, sym read, ap (with_argument call.program) value) in
-    let bytes : ready.said.argument ≡ argument = ap (λ (x : ProgramCall). x.argument) (same_call ready.said said _ ready.is read) ∙ sym value in
-    let early = λ (mode : Mode) (is : call.mode ≡ mode). subst (λ (p : Mode × List ℕ). early_refusal c.args.store.now.catalogue p.0 call.program p.1 ≡ None) (λ i. (is i, bytes i)) ready.ready in
+    let catalogue = c.args.store.now.catalogue in
+    let bytes = c.as_slice-bytes.result.now in
+    let spelled : field_bytes call.digits.now ≡ Some bytes = sym c.in-Some.ensures.bytes ∙ ap Some (sym c.as_slice-bytes.ensures.value) in
+    let op : Operation = operation_on call.asked bytes in
+    let asked : Asks (called call) op = (bytes, spelled, refl) in
+    let both : Some ready.bytes ≡ Some bytes = sym ready.spelled ∙ spelled in
+    let same : ready.bytes ≡ bytes = cc in
+    let none : asked_refusal catalogue call.asked bytes ≡ None = subst (λ b. asked_refusal catalogue call.asked b ≡ None) same ready.ready in
     let old = c.args.session.now in
     elim c.match-call.branch [
-      | in-Update+in-Ok w ↦
+      | in-Run+in-Update w ↦
           let h = w.invoke.ensures in
-          let tells = subst (λ r. TellsUpdate old w.invoke.new.self op r) w.in-Ok.is (h.answered (early _ w.in-Update.is)) in
-          rw (w.session-is, w.said-is) (updated old w.invoke.new.self t op asks h.same.1 h.grown h.well_formed w.in-Ok.answer tells)
-      | in-Update+in-Err w ↦
-          let h = w.invoke.ensures in
-          let tells = subst (λ r. TellsUpdate old w.invoke.new.self op r) w.in-Err.is (h.answered (early _ w.in-Update.is)) in
-          rw (w.session-is, w.said-is) (ended old w.invoke.new.self t op asks h.same.1 h.grown h.well_formed (tells.1, tells.2))
-      | in-Read+in-Ok-read w ↦
+          let is : call.asked ≡ asks.Run Update w.in-Run.program = w.in-Run.is ∙ ap (λ (m : Mode). asks.Run m w.in-Run.program) w.in-Update.is in
+          let tells = h.answered (subst (λ a. asked_refusal catalogue a bytes ≡ None) is none) in
+          rw (w.session-is, w.said-is, w.update_said.ensures.said)
+          (told_update old w.invoke.new.self t op asked h.same.1 h.grown h.well_formed w.invoke.result (subst (λ a. TellsUpdate old w.invoke.new.self (operation_on a bytes) w.invoke.result) (sym is) tells))
+      | in-Run+in-Read+in-Ok w ↦
           let h = w.read.ensures in
-          let tells = subst (λ r. TellsRead old w.read.new.self op r) w.in-Ok-read.is (h.answered (early _ w.in-Read.is)) in
-          rw (w.session-is, w.said-is) (seen old w.read.new.self t op asks h.same.1 h.grown h.well_formed w.in-Ok-read.answer tells h.same.2)
+          let is : call.asked ≡ asks.Run Read w.in-Run.program = w.in-Run.is ∙ ap (λ (m : Mode). asks.Run m w.in-Run.program) w.in-Read.is in
+          let tells = h.answered (subst (λ a. asked_refusal catalogue a bytes ≡ None) is none) in
+          let mine = subst (λ a. TellsRead old w.read.new.self (operation_on a bytes) w.read.result) (sym is) tells in
+          rw (w.session-is, w.said-is) (seen old w.read.new.self t op asked h.same.1 h.grown h.well_formed w.in-Ok.answer (subst (λ r. TellsRead old w.read.new.self op r) w.in-Ok.is mine) h.same.2)
+      | in-Install w ↦
+          let h = w.install.ensures in
+          let is : call.asked ≡ asks.Install w.in-Install.mode w.in-Install.arg_len = w.in-Install.is in
+          let tells = h.answered (subst (λ a. asked_refusal catalogue a bytes ≡ None) is none) in
+          rw (w.session-is, w.said-is, w.update_said-said.ensures.said)
+          (told_update old w.install.new.self t op asked h.same.1 h.grown h.well_formed w.install.result (subst (λ a. TellsUpdate old w.install.new.self (operation_on a bytes) w.install.result) (sym is) tells))
     ]
