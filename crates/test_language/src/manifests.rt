@@ -1,6 +1,6 @@
 // What a catalogue keeps of a manifest. Which manifests are refused is in crates/test_commands.
 
-use loader::{LoadError, load_manifest, named_files};
+use loader::{LoadError, StoreState, load_manifest, named_files};
 use maps::Shape;
 use std::test::Fail;
 use verifier::Mode;
@@ -70,4 +70,13 @@ fn wants_memory_alone(rt: HostRuntime) {
         Ok(catalogue) => assert_eq!(rt; catalogue.len(), 1),
         Err(e) => assert_eq!(rt; e, LoadError::NoMemory),
     }
+}
+
+// A new state has no program yet, and nor has a copy with room for two.
+#[test]
+fn copies_a_state(rt: HostRuntime) {
+    let catalogue = load_manifest(rt.alloc(), TEXT, FILES).expect(&rt, "catalogue");
+    let state = StoreState::open(rt.alloc(), &catalogue).expect(&rt, "state");
+    let copy = StoreState::copy_of(rt.alloc(), &state, 2).expect(&rt, "copy");
+    assert_eq!(rt; [state.programs().len(), copy.programs().len()], [0, 0]);
 }

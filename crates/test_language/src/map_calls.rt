@@ -108,3 +108,16 @@ fn copies_values(rt: HostRuntime) {
     copy.copy_from(&maps);
     assert!(&rt; copy.value(third) == [7; 8].as_slice());
 }
+
+// A copy has the keys of its source at the same places: in an array the key at a place is the place's index.
+#[test]
+fn copies_into_room_of_its_own(rt: HostRuntime) {
+    let maps = MapSet::open(rt.alloc(), &[SMALL, HASH]).expect(&rt, "open");
+    let copy = MapSet::copy_of(rt.alloc(), &maps).expect(&rt, "copy");
+    let last = copy.lookup(0, &[15, 0, 0, 0]).expect(&rt, "last");
+    assert!(&rt; copy.value(last) == [0; 8].as_slice());
+    assert_eq!(rt; [copy.len(0), copy.len(1)], [16, 0]);
+    let mut key = [9; 4];
+    assert!(&rt; copy.key(0, 15, &mut key));
+    assert!(&rt; key == [15, 0, 0, 0]);
+}
