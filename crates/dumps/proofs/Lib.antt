@@ -1,0 +1,4 @@
+pub mod EndedLines
+pub mod Faults
+pub mod Entries
+pub mod Loop

@@ -1,0 +1,28 @@
+use Rattle.std.proofs.Common.{sym, ◌∙◌, refl}
+use Rattle.dumps.specs.Loading.{loaded_state}
+use Rattle.dumps.proofs.Loop.{one_on, fails_here, at_end}
+use Rattle.dumps.proofs.loading.load.Goals as goal
+
+pub loop-number-init : goal.loop-number-init
+unfolding loaded_state
+loop-number-init c = (c.in_ok-so_far.ensures.for_shapes, rw (c.new-lines.ensures.all, c.in_ok-so_far.ensures.opened) refl)
+
+pub loop-number-preserved : goal.loop-number-preserved
+loop-number-preserved c =
+    let taken = c.in-Some.ensures.taken in
+    let next = one_on c.args.shapes.now c.loop-number.lines.number c.take_line.new.self.number _ _ c.loop-number.lines.lines c.take_line.new.self.lines _ taken.0 taken.2 c.in-Ok.ensures.made in
+    (c.take_ended.ensures.same, sym next ∙ c.loop-number.invariant.1)
+
+pub returns-in-Err : goal.returns-in-Err
+returns-in-Err c =
+    let taken = c.in-Some.ensures.taken in
+    record {
+      loaded =
+          rw (c.at.ensures, taken.1)
+          (fails_here c.in-Err.e c.args.shapes.now c.loop-number.lines.number _ c.loop-number.lines.lines c.take_line.new.self.lines _ _ taken.0 c.in-Err.ensures.made c.loop-number.invariant.1);
+    }
+
+pub returns : goal.returns
+returns c =
+    let taken = c.in_default.ensures.taken in
+    record { loaded = at_end c.args.shapes.now c.loop-number.lines.number _ c.loop-number.lines.lines _ taken.0 c.loop-number.invariant.1 }

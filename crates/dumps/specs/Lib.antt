@@ -1,0 +1,6 @@
+-- What a line of a dump says, the state that its lines make, and what is wrong with a line.
+pub mod Grammar
+pub mod Loading
+pub mod Refusal
+-- What is kept of the lines before the one that is read. No public clause cites these.
+pub mod Shown

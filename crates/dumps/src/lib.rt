@@ -1,0 +1,10 @@
+//! The state of a store as text: a line for each entry, in order, and for each program that was installed.
+#![tactic(auto)]
+
+mod lines;
+mod loading;
+mod refusals;
+
+pub use lines::DUMP_LINE_BYTES;
+pub use loading::load;
+pub use refusals::{DumpError, DumpFault, DumpRefusal};

@@ -1,0 +1,195 @@
+// The lines of a dump.
+
+ghost use Rattle.std.specs.Prelude.{◌≡◌, ◌≤◌, ◌*◌, ◌∷◌, ◌<◌, Some, None, [], length, option_map, IfSome, MatchOption};
+ghost use Rattle.std.specs.List.{list_all};
+ghost use Rattle.insn.specs.declared.decoding.TheConstants.{MAX_INSTALLED_SLOTS};
+ghost use Rattle.maps.specs.declared.shapes.TheConstants.{MAX_ARG_LEN};
+ghost use Rattle.loader.specs.Grammar.{mode_of};
+ghost use Rattle.dumps.specs.Grammar.{ended_lines, Takes, is_lower_digit, lower_bytes, entry_meaning, program_meaning, words_meaning, line_meaning};
+ghost use Rattle.dumps.specs.Shown.{meaning_of, LineFits};
+
+use arrayvec::ArrayVec;
+use insn::MAX_INSTALLED_SLOTS;
+use maps::MAX_ARG_LEN;
+use std::marker::Model;
+use text::{FIELD_BYTES, LINE_BYTES, hex_field, number, number_within, split_at_space};
+use verifier::Mode;
+
+/// How many bytes a line of a dump has at most, its line feed not counted.
+pub const DUMP_LINE_BYTES: usize = 675;
+
+// An entry: the number of its map, its key and its value.
+#[derive(Drop)]
+pub(crate) struct EntryLine {
+    pub map: u64,
+    pub key: ArrayVec<u8, FIELD_BYTES>,
+    pub value: ArrayVec<u8, FIELD_BYTES>,
+}
+
+// A program that was installed.
+#[derive(Drop)]
+pub(crate) struct ProgramLine {
+    pub mode: Mode,
+    pub arg_len: u64,
+    pub bytes: ArrayVec<u8, FIELD_BYTES>,
+}
+
+// What a line says.
+#[derive(Drop)]
+pub(crate) enum Line {
+    Entry(EntryLine),
+    Program(ProgramLine),
+}
+
+// The first line of a text that is not empty, without its line feed, and what stands behind that; `None` where it lacks it.
+fn ended_line(text: &str) -> Option<(&str, &str)>
+    requires { 0 < length text.now }
+    ensures { MatchOption result (ended_lines text.now ≡ None ∷ []) (λ x. ended_lines text.now ≡ Some x.0.now ∷ ended_lines x.1.now) }
+{
+    text.split_once('\n')
+}
+
+// The lines of a text that are left, and the number of the first of them: the text's first line has number 1, and a number past
+// 2^32 - 1 stays there.
+#[derive(Drop)]
+pub(crate) struct EndedLines<'a> {
+    rest: &'a str,
+    number: u32,
+}
+
+impl<'a> Model for EndedLines<'a> {
+    ghost use Rattle.dumps.specs.Grammar.{ended_lines, LinesLeft};
+
+    ghost Value = { LinesLeft };
+
+    ghost view = { λ l. record { number = l.number; lines = ended_lines l.rest.now } };
+}
+
+impl<'a> EndedLines<'a> {
+    // All lines of a text.
+    pub(crate) fn new(text: &'a str) -> EndedLines<'a>
+        ensures all { result ≡ record { number = 1; lines = ended_lines text.now } }
+    {
+        EndedLines {
+            rest: text,
+            number: 1,
+        }
+    }
+
+    // Takes the next line, without its line feed, and its number; of a last line that lacks it the number alone. `None` behind the last.
+    pub(crate) fn take_line(&mut self) -> Option<(u32, Option<&'a str>)>
+        ensures taken { Takes self.old self.new (option_map (λ l. (l.0, option_map (λ t. t.now) l.1)) result) }
+    {
+        if self.rest.is_empty() {
+            return None;
+        }
+        let number = self.number;
+        self.number = number.saturating_add(1);
+        match ended_line(self.rest) {
+            Some((line, rest)) => {
+                self.rest = rest;
+                Some((number, Some(line)))
+            }
+            None => {
+                self.rest = "";
+                Some((number, None))
+            }
+        }
+    }
+}
+
+fn is_lower_digit(c: u8) -> bool
+    ensures { result ≡ is_lower_digit c }
+{
+    (b'0' <= c && c <= b'9') || (b'a' <= c && c <= b'f')
+}
+
+fn are_lower_digits(bytes: &[u8]) -> bool
+    ensures { result ≡ list_all is_lower_digit bytes.now }
+{
+    bytes.iter().all(|c| is_lower_digit(*c))
+}
+
+// The bytes of a field: pairs of hexadecimal digits in lower case.
+#[tactic(auto, unfolding(crate::specs::Grammar::lower_bytes))]
+fn lower_hex(field: &str) -> Option<ArrayVec<u8, FIELD_BYTES>>
+    ensures { option_map (λ v. v.items) result ≡ lower_bytes field.now }
+{
+    if field.len() <= LINE_BYTES && are_lower_digits(field.as_bytes()) {
+        hex_field(field)
+    } else {
+        None
+    }
+}
+
+fn mode(text: &str) -> Option<Mode>
+    ensures { result ≡ mode_of text.now }
+{
+    if text == "update" {
+        Some(Mode::Update)
+    } else if text == "read" {
+        Some(Mode::Read)
+    } else {
+        None
+    }
+}
+
+// An entry of the map of this number.
+#[tactic(auto, unfolding(crate::specs::Grammar::entry_meaning))]
+fn entry_line(map: &str, text: &str) -> Option<Line>
+    ensures meaning { option_map meaning_of result ≡ entry_meaning map.now text.now }
+    ensures fits { IfSome result LineFits }
+{
+    let (key, value) = split_at_space(text)?;
+    let map = number(map)?;
+    let key = lower_hex(key)?;
+    let value = lower_hex(value)?;
+    Some(Line::Entry(EntryLine { map, key, value }))
+}
+
+// A program, behind the letter that begins its line.
+#[tactic(auto, unfolding(crate::specs::Grammar::program_meaning))]
+fn program_line(text: &str) -> Option<Line>
+    ensures meaning { option_map meaning_of result ≡ program_meaning text.now }
+    ensures fits { IfSome result LineFits }
+{
+    let (word, rest) = split_at_space(text)?;
+    let (len, digits) = split_at_space(rest)?;
+    let mode = mode(word)?;
+    let arg_len = number_within(0, MAX_ARG_LEN as u64, len)?;
+    let bytes = lower_hex(digits)?;
+    if bytes.len() > 8 * MAX_INSTALLED_SLOTS {
+        return None;
+    }
+    Some(Line::Program(ProgramLine {
+        mode,
+        arg_len,
+        bytes,
+    }))
+}
+
+#[tactic(auto, unfolding(crate::specs::Grammar::words_meaning))]
+fn words_line(line: &str) -> Option<Line>
+    ensures meaning { option_map meaning_of result ≡ words_meaning line.now }
+    ensures fits { IfSome result LineFits }
+{
+    let (word, rest) = split_at_space(line)?;
+    if word == "p" {
+        program_line(rest)
+    } else {
+        entry_line(word, rest)
+    }
+}
+
+// What a line of a dump says, whatever stands before it; `None` where it is bad.
+#[tactic(auto, unfolding(crate::specs::Grammar::line_meaning))]
+pub(crate) fn read_line(line: &str) -> Option<Line>
+    ensures meaning { option_map meaning_of result ≡ line_meaning line.now }
+    ensures fits { IfSome result LineFits }
+{
+    if line.len() > DUMP_LINE_BYTES {
+        None
+    } else {
+        words_line(line)
+    }
+}

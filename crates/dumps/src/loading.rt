@@ -1,0 +1,285 @@
+// A dump, line by line.
+
+ghost use Rattle.std.specs.Prelude.{◌≡◌, ◌≤◌, ◌<◌, MatchResult, IfOk, IfErr, IfSome, IsErr, Ok, length, slice_get, Some, option_map};
+ghost use Rattle.std.specs.List.{list_all};
+ghost use Rattle.maps.specs.Shapes.{AreShapesOk, key_size};
+ghost use Rattle.maps.specs.Maps.{MapState};
+ghost use Rattle.maps.specs.MapSets.{maps_of, stored_shapes};
+ghost use Rattle.loader.specs.declared.installed.TheConstants.{MAX_PLACES};
+ghost use Rattle.loader.specs.Installed.{installed_program};
+ghost use Rattle.loader.specs.StoreState.{state_of};
+ghost use Rattle.dumps.specs.Loading.{is_hash, is_zero, is_behind, is_in_order, is_key_for, is_left_out, has_room, entry_fault, without_place, after_entry, after_program, after_line, after_ended, opening, loaded_state};
+ghost use Rattle.dumps.specs.declared.refusals.DumpError.TheVariants.{NoMemory};
+ghost use Rattle.dumps.specs.Refusal.{Fails, Makes, LoadFails};
+ghost use Rattle.dumps.specs.Shown.{entry_of, program_of, key_of, view_of, ProgramFits, IsFor};
+
+use crate::lines::{EndedLines, EntryLine, Line, ProgramLine, read_line};
+use crate::refusals::{DumpError, DumpFault, LineError};
+use arrayvec::ArrayVec;
+use loader::Installed;
+use maps::{MapSet, Shape};
+use std::alloc::Global;
+use text::FIELD_BYTES;
+
+// Where the last entry stands.
+#[derive(Drop)]
+struct LastEntry {
+    map: u64,
+    key: ArrayVec<u8, FIELD_BYTES>,
+}
+
+// What the lines before the one that is read say.
+#[derive(Drop)]
+struct PartialState {
+    maps: MapSet,
+    installed: Installed,
+    last: Option<LastEntry>,
+}
+
+fn is_hash(shape: Shape) -> bool
+    ensures { result ≡ is_hash shape }
+{
+    matches!(shape, Shape::Hash { .. })
+}
+
+fn are_zeros(bytes: &[u8]) -> bool
+    ensures { result ≡ list_all is_zero bytes.now }
+{
+    bytes.iter().all(|b| *b == 0)
+}
+
+// Whether a key of a map stands behind the last entry.
+fn is_behind(last: &Option<LastEntry>, map: u64, key: &[u8]) -> bool
+    ensures { result ≡ is_behind (option_map key_of last.now) map key.now }
+{
+    match last {
+        None => true,
+        Some(last) => last.map < map || (last.map == map && last.key.as_slice().cmp(key).is_lt()),
+    }
+}
+
+// Whether an entry stands behind the last one, and before all programs.
+#[tactic(auto, unfolding(crate::specs::Loading::is_in_order))]
+fn is_in_order(so_far: &PartialState, entry: &EntryLine) -> bool
+    ensures { result ≡ is_in_order (view_of so_far.now) (entry_of entry.now) }
+{
+    so_far.installed.len() == 0 && is_behind(&so_far.last, entry.map, entry.key.as_slice())
+}
+
+// Whether map `m` may have this key.
+fn is_key_for(maps: &MapSet, m: usize, key: &[u8]) -> bool
+    requires map { m < length (stored_shapes maps.now) }
+    ensures { (s : MapState) → slice_get (maps_of maps.now) m ≡ Some s → result ≡ is_key_for s key.now }
+{
+    let shape = maps.shape(m);
+    if key.len() != shape.key_bytes() {
+        return false;
+    }
+    is_hash(shape) || maps.lookup(m, key).is_some()
+}
+
+#[tactic(auto, unfolding(crate::specs::Loading::is_left_out))]
+fn is_left_out(shape: Shape, value: &[u8]) -> bool
+    ensures { result ≡ is_left_out shape value.now }
+{
+    !is_hash(shape) && are_zeros(value)
+}
+
+// Whether map `m` has room for this key.
+fn has_room(maps: &MapSet, m: usize, key: &[u8]) -> bool
+    requires map { m < length (stored_shapes maps.now) }
+    requires key { IfSome (slice_get (stored_shapes maps.now) m) (λ s. length key.now ≡ key_size s) }
+    ensures { (s : MapState) → slice_get (maps_of maps.now) m ≡ Some s → result ≡ has_room s key.now }
+{
+    let shape = maps.shape(m);
+    if maps.lookup(m, key).is_some() {
+        return true;
+    }
+    is_hash(shape) && maps.len(m) < shape.entry_count()
+}
+
+// The first thing that keeps an entry from map `m`.
+fn entry_fault(so_far: &PartialState, m: usize, entry: &EntryLine) -> Option<DumpFault>
+    requires map { m < length (stored_shapes so_far.now.maps) }
+    ensures { (s : MapState) → slice_get (maps_of so_far.now.maps) m ≡ Some s
+        → result ≡ entry_fault (view_of so_far.now) (entry_of entry.now) s }
+{
+    let shape = so_far.maps.shape(m);
+    if !is_key_for(&so_far.maps, m, entry.key.as_slice()) {
+        return Some(DumpFault::BadKey);
+    }
+    if entry.value.len() != shape.value_bytes() {
+        return Some(DumpFault::BadValue);
+    }
+    if !is_in_order(so_far, entry) {
+        return Some(DumpFault::OutOfOrder);
+    }
+    if is_left_out(shape, entry.value.as_slice()) {
+        return Some(DumpFault::ZeroValue);
+    }
+    if !has_room(&so_far.maps, m, entry.key.as_slice()) {
+        return Some(DumpFault::Full);
+    }
+    None
+}
+
+// One more entry.
+fn take_entry(
+    shapes: &[Shape],
+    so_far: &mut PartialState,
+    entry: EntryLine,
+) -> Result<(), LineError>
+    requires so_far { IsFor shapes.now so_far.old }
+    ensures made { Makes (view_of so_far.new) result (after_entry (view_of so_far.old) (entry_of entry)) }
+    ensures same { IsFor shapes.now so_far.new }
+{
+    if entry.map >= shapes.len() as u64 {
+        return Err(LineError::Refused(DumpFault::NoMap));
+    }
+    let m = entry.map as usize;
+    match entry_fault(so_far, m, &entry) {
+        Some(fault) => Err(LineError::Refused(fault)),
+        None => {
+            so_far
+                .maps
+                .update(m, entry.key.as_slice(), entry.value.as_slice());
+            so_far.last = Some(LastEntry {
+                map: entry.map,
+                key: entry.key,
+            });
+            Ok(())
+        }
+    }
+}
+
+// A program for which there is no place: it is refused, and if its bytes are, for that.
+fn refuse_program(alloc: Global, shapes: &[Shape], program: &ProgramLine) -> Result<(), LineError>
+    requires shapes { AreShapesOk shapes.now }
+    requires program { ProgramFits program.now }
+    ensures fails { IfErr result (λ e. Fails e (without_place (installed_program shapes.now program.now.mode program.now.arg_len program.now.bytes.items))) }
+    ensures never { IsErr result }
+{
+    let mut room = Installed::open(alloc, shapes, 1)?;
+    match room.install(
+        program.mode,
+        program.arg_len as usize,
+        program.bytes.as_slice(),
+    ) {
+        Ok(()) => Err(LineError::Refused(DumpFault::TooManyPrograms)),
+        Err(e) => Err(LineError::Refused(DumpFault::Program(e))),
+    }
+}
+
+// One more program.
+fn take_program(
+    alloc: Global,
+    shapes: &[Shape],
+    so_far: &mut PartialState,
+    program: ProgramLine,
+) -> Result<(), LineError>
+    requires shapes { AreShapesOk shapes.now }
+    requires so_far { IsFor shapes.now so_far.old }
+    requires program { ProgramFits program }
+    ensures made { Makes (view_of so_far.new) result (after_program shapes.now (view_of so_far.old) (program_of program)) }
+    ensures same { IsFor shapes.now so_far.new }
+{
+    if so_far.installed.len() >= so_far.installed.places() {
+        return refuse_program(alloc, shapes, &program);
+    }
+    let arg_len = program.arg_len as usize;
+    match so_far
+        .installed
+        .install(program.mode, arg_len, program.bytes.as_slice())
+    {
+        Ok(()) => Ok(()),
+        Err(e) => Err(LineError::Refused(DumpFault::Program(e))),
+    }
+}
+
+// One more line.
+#[tactic(auto, unfolding(crate::specs::Loading::after_line))]
+fn take_line(
+    alloc: Global,
+    shapes: &[Shape],
+    so_far: &mut PartialState,
+    line: &str,
+) -> Result<(), LineError>
+    requires shapes { AreShapesOk shapes.now }
+    requires so_far { IsFor shapes.now so_far.old }
+    ensures made { Makes (view_of so_far.new) result (after_line shapes.now (view_of so_far.old) line.now) }
+    ensures same { IsFor shapes.now so_far.new }
+{
+    match read_line(line) {
+        None => Err(LineError::Refused(DumpFault::BadLine)),
+        Some(Line::Entry(entry)) => take_entry(shapes, so_far, entry),
+        Some(Line::Program(program)) => take_program(alloc, shapes, so_far, program),
+    }
+}
+
+// One more line, which the last may be without a line feed.
+fn take_ended(
+    alloc: Global,
+    shapes: &[Shape],
+    so_far: &mut PartialState,
+    line: Option<&str>,
+) -> Result<(), LineError>
+    requires shapes { AreShapesOk shapes.now }
+    requires so_far { IsFor shapes.now so_far.old }
+    ensures made { Makes (view_of so_far.new) result (after_ended shapes.now (view_of so_far.old) (option_map (λ t. t.now) line.entry)) }
+    ensures same { IsFor shapes.now so_far.new }
+{
+    match line {
+        None => Err(LineError::Refused(DumpFault::BadLine)),
+        Some(line) => take_line(alloc, shapes, so_far, line),
+    }
+}
+
+// Maps of these shapes as they are opened, and no program.
+fn opened(alloc: Global, shapes: &[Shape], places: usize) -> Result<PartialState, DumpError>
+    requires shapes { AreShapesOk shapes.now }
+    requires places { places ≤ MAX_PLACES }
+    ensures opened { MatchResult result (λ s. view_of s ≡ opening shapes.now places) (λ e. e ≡ NoMemory) }
+    ensures for_shapes { IfOk result (λ s. IsFor shapes.now s) }
+{
+    let maps = match MapSet::open(alloc, shapes) {
+        Ok(maps) => maps,
+        Err(_) => return Err(DumpError::NoMemory),
+    };
+    let installed = Installed::open(alloc, shapes, places)?;
+    Ok(PartialState {
+        maps,
+        installed,
+        last: None,
+    })
+}
+
+/// The maps and the installed programs that a dump says, on maps of these shapes and with so many places for programs; else the first
+/// bad line, and of its faults the one of lowest number.
+///
+/// A dump has a line of at most 675 bytes for each entry that is there, `MAP KEYHEX VALUEHEX`, in the order of the maps' numbers and then of the keys' bytes, without the zeros of arrays; and then a line
+/// `p MODE ARGLEN HEX` for each program. Takes time in proportion to the text and to the maps' room.
+///
+/// # Errors
+///
+/// The first bad line, or memory ran out: nothing is loaded.
+pub fn load(
+    alloc: Global,
+    shapes: &[Shape],
+    places: usize,
+    text: &str,
+) -> Result<(MapSet, Installed), DumpError>
+    requires shapes { AreShapesOk shapes.now }
+    requires places { places ≤ MAX_PLACES }
+    ensures loaded { MatchResult result (λ s. loaded_state shapes.now places text.now ≡ Ok (state_of (maps_of s.0) s.1))
+        (λ e. LoadFails e (loaded_state shapes.now places text.now)) }
+{
+    let mut so_far = opened(alloc, shapes, places)?;
+    let mut lines = EndedLines::new(text);
+    while let Some((number, line)) = lines.take_line() {
+        match take_ended(alloc, shapes, &mut so_far, line) {
+            Ok(()) => {}
+            Err(e) => return Err(e.at(number)),
+        }
+    }
+    Ok((so_far.maps, so_far.installed))
+}
