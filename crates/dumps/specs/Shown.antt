@@ -3,6 +3,7 @@ use Rattle.std.specs.Prelude.{◌≡◌, ◌*◌, ◌≤◌, List, length, optio
 use Rattle.insn.specs.declared.decoding.TheConstants.{MAX_INSTALLED_SLOTS}
 use Rattle.maps.specs.declared.shapes.Shape.{Shape}
 use Rattle.maps.specs.declared.shapes.TheConstants.{MAX_ARG_LEN}
+use Rattle.maps.specs.Maps.{AreMaps}
 use Rattle.maps.specs.MapSets.{maps_of, stored_shapes}
 use Rattle.loader.specs.StoreState.{state_of}
 use Rattle.dumps.specs.declared.lines.EntryLine.{EntryLine as TheEntryLine}
@@ -39,7 +40,8 @@ key_of e = record { map = e.map; key = e.key.items }
 abbrev pub view_of : PartialState → Loading
 view_of s = record { state = state_of (maps_of s.maps) s.installed; last = option_map key_of s.last }
 
--- its maps and programs are for these shapes
+-- its maps and programs are for these shapes, and its maps are maps of their shapes
 pub record IsFor (shapes : List Shape) (s : PartialState) : Type 0 where
   pub maps : stored_shapes s.maps ≡ shapes
   pub programs : s.installed.shapes ≡ shapes
+  pub each : AreMaps (maps_of s.maps)

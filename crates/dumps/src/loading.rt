@@ -2,12 +2,11 @@
 
 ghost use Rattle.std.specs.Prelude.{◌≡◌, ◌≤◌, ◌<◌, MatchResult, IfOk, IfErr, IfSome, IsErr, Ok, length, slice_get, Some, option_map};
 ghost use Rattle.std.specs.List.{list_all};
-ghost use Rattle.maps.specs.Shapes.{AreShapesOk, key_size};
-ghost use Rattle.maps.specs.Maps.{MapState};
-ghost use Rattle.maps.specs.MapSets.{maps_of, stored_shapes};
+ghost use Rattle.maps.specs.Shapes.{AreShapesOk, key_size, value_size};
+ghost use Rattle.maps.specs.Maps.{MapState, AreMaps};
+ghost use Rattle.maps.specs.MapSets.{HasRoom, maps_of, put_value, stored_shapes};
 ghost use Rattle.loader.specs.declared.installed.TheConstants.{MAX_PLACES};
 ghost use Rattle.loader.specs.Installed.{installed_program};
-ghost use Rattle.loader.specs.StoreState.{state_of};
 ghost use Rattle.dumps.specs.Loading.{is_hash, is_zero, is_behind, is_in_order, is_key_for, is_left_out, has_room, entry_fault, without_place, after_entry, after_program, after_line, after_ended, opening, loaded_state};
 ghost use Rattle.dumps.specs.declared.refusals.DumpError.TheVariants.{NoMemory};
 ghost use Rattle.dumps.specs.Refusal.{Fails, Makes, LoadFails};
@@ -16,7 +15,7 @@ ghost use Rattle.dumps.specs.Shown.{entry_of, program_of, key_of, view_of, Progr
 use crate::lines::{EndedLines, EntryLine, Line, ProgramLine, read_line};
 use crate::refusals::{DumpError, DumpFault, LineError};
 use arrayvec::ArrayVec;
-use loader::Installed;
+use loader::{Installed, StoreState};
 use maps::{MapSet, Shape};
 use std::alloc::Global;
 use text::FIELD_BYTES;
@@ -123,6 +122,20 @@ fn entry_fault(so_far: &PartialState, m: usize, entry: &EntryLine) -> Option<Dum
     None
 }
 
+// Puts a value under a key of map `m`, which has room for it.
+fn put_entry(maps: &mut MapSet, m: usize, key: &[u8], value: &[u8])
+    requires map { m < length (stored_shapes maps.old) }
+    requires key { IfSome (slice_get (stored_shapes maps.old) m) (λ s. length key.now ≡ key_size s) }
+    requires value { IfSome (slice_get (stored_shapes maps.old) m) (λ s. length value.now ≡ value_size s) }
+    requires room { HasRoom (maps_of maps.old) m key.now }
+    requires each { AreMaps (maps_of maps.old) }
+    ensures updated { maps_of maps.new ≡ put_value (maps_of maps.old) m key.now value.now }
+    ensures shapes { stored_shapes maps.new ≡ stored_shapes maps.old }
+    ensures each { AreMaps (maps_of maps.new) }
+{
+    maps.update(m, key, value);
+}
+
 // One more entry.
 fn take_entry(
     shapes: &[Shape],
@@ -140,9 +153,12 @@ fn take_entry(
     match entry_fault(so_far, m, &entry) {
         Some(fault) => Err(LineError::Refused(fault)),
         None => {
-            so_far
-                .maps
-                .update(m, entry.key.as_slice(), entry.value.as_slice());
+            put_entry(
+                &mut so_far.maps,
+                m,
+                entry.key.as_slice(),
+                entry.value.as_slice(),
+            );
             so_far.last = Some(LastEntry {
                 map: entry.map,
                 key: entry.key,
@@ -253,7 +269,7 @@ fn opened(alloc: Global, shapes: &[Shape], places: usize) -> Result<PartialState
     })
 }
 
-/// The maps and the installed programs that a dump says, on maps of these shapes and with so many places for programs; else the first
+/// The state that a dump says, on maps of these shapes and with so many places for programs; else the first
 /// bad line, and of its faults the one of lowest number.
 ///
 /// A dump has a line of at most 675 bytes for each entry that is there, `MAP KEYHEX VALUEHEX`, in the order of the maps' numbers and then of the keys' bytes, without the zeros of arrays; and then a line
@@ -267,10 +283,10 @@ pub fn load(
     shapes: &[Shape],
     places: usize,
     text: &str,
-) -> Result<(MapSet, Installed), DumpError>
+) -> Result<StoreState, DumpError>
     requires shapes { AreShapesOk shapes.now }
     requires places { places ≤ MAX_PLACES }
-    ensures loaded { MatchResult result (λ s. loaded_state shapes.now places text.now ≡ Ok (state_of (maps_of s.0) s.1))
+    ensures loaded { MatchResult result (λ s. loaded_state shapes.now places text.now ≡ Ok s)
         (λ e. LoadFails e (loaded_state shapes.now places text.now)) }
 {
     let mut so_far = opened(alloc, shapes, places)?;
@@ -281,5 +297,5 @@ pub fn load(
             Err(e) => return Err(e.at(number)),
         }
     }
-    Ok((so_far.maps, so_far.installed))
+    Ok(StoreState::of(so_far.maps, so_far.installed))
 }

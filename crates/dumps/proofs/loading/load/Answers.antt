@@ -1,5 +1,6 @@
 use Rattle.std.proofs.Common.{sym, ◌∙◌, refl}
 use Rattle.dumps.specs.Loading.{loaded_state}
+use Rattle.maps.proofs.StoredShapes.{stored_are}
 use Rattle.dumps.proofs.Loop.{one_on, fails_here, at_end}
 use Rattle.dumps.proofs.loading.load.Goals as goal
 
@@ -22,7 +23,15 @@ returns-in-Err c =
           (fails_here c.in-Err.e c.args.shapes.now c.loop-number.lines.number _ c.loop-number.lines.lines c.take_line.new.self.lines _ _ taken.0 c.in-Err.ensures.made c.loop-number.invariant.1);
     }
 
+pub of-requires-clause-shapes : goal.of-requires-clause-shapes
+of-requires-clause-shapes c = record { same = refl; each = c.loop-number.invariant.0.each }
+
+pub of-requires-clause-programs : goal.of-requires-clause-programs
+of-requires-clause-programs c = c.loop-number.invariant.0.programs ∙ sym c.loop-number.invariant.0.maps ∙ stored_are _
+
 pub returns : goal.returns
 returns c =
     let taken = c.in_default.ensures.taken in
-    record { loaded = at_end c.args.shapes.now c.loop-number.lines.number _ c.loop-number.lines.lines _ taken.0 c.loop-number.invariant.1 }
+    record {
+      loaded = rw c.of.ensures.state (at_end c.args.shapes.now c.loop-number.lines.number _ c.loop-number.lines.lines _ taken.0 c.loop-number.invariant.1);
+    }

@@ -5,22 +5,22 @@ use Rattle.dumps.specs.Shown.{view_of, entry_of}
 use Rattle.dumps.proofs.Entries.{passes, key_fits, room_for, put_in, kept_out}
 use Rattle.dumps.proofs.loading.take_entry.Goals as goal
 
-pub update-requires-clause-key : goal.update-requires-clause-key
-update-requires-clause-key c =
+pub put_entry-requires-clause-key : goal.put_entry-requires-clause-key
+put_entry-requires-clause-key c =
     let within : c.args.entry.map < length (stored_shapes c.args.so_far.now.maps) = rw c.requires.so_far.maps (omega arith) in
     let there = map_there c.args.so_far.now.maps c.args.entry.map within in
     let p = passes (view_of c.args.so_far.now) (entry_of c.args.entry) there.0 (c.in-None.ensures there.0 there.1) in
     rw (there.2, c.as_slice.ensures.value) (key_fits there.0 _ p.key)
 
-pub update-requires-clause-value : goal.update-requires-clause-value
-update-requires-clause-value c =
+pub put_entry-requires-clause-value : goal.put_entry-requires-clause-value
+put_entry-requires-clause-value c =
     let within : c.args.entry.map < length (stored_shapes c.args.so_far.now.maps) = rw c.requires.so_far.maps (omega arith) in
     let there = map_there c.args.so_far.now.maps c.args.entry.map within in
     let p = passes (view_of c.args.so_far.now) (entry_of c.args.entry) there.0 (c.in-None.ensures there.0 there.1) in
     rw (there.2, c.as_slice-in-None.ensures.value) p.value
 
-pub update-requires-clause-room : goal.update-requires-clause-room
-update-requires-clause-room c =
+pub put_entry-requires-clause-room : goal.put_entry-requires-clause-room
+put_entry-requires-clause-room c =
     let within : c.args.entry.map < length (stored_shapes c.args.so_far.now.maps) = rw c.requires.so_far.maps (omega arith) in
     let there = map_there c.args.so_far.now.maps c.args.entry.map within in
     let p = passes (view_of c.args.so_far.now) (entry_of c.args.entry) there.0 (c.in-None.ensures there.0 there.1) in
@@ -37,4 +37,4 @@ returns-in-None-clause-made c =
     let within : c.args.entry.map < length (stored_shapes c.args.so_far.now.maps) = rw c.requires.so_far.maps (omega arith) in
     let there = map_there c.args.so_far.now.maps c.args.entry.map within in
     let put = put_in (view_of c.args.so_far.now) (entry_of c.args.entry) there.0 there.1 (c.in-None.ensures there.0 there.1) in
-    rw (c.update.ensures.updated, c.as_slice.ensures.value, c.as_slice-in-None.ensures.value) put
+    rw (c.put_entry.ensures.updated, c.as_slice.ensures.value, c.as_slice-in-None.ensures.value) put
