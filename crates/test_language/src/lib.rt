@@ -16,4 +16,6 @@ mod manifests;
 #[cfg(test)]
 mod map_calls;
 #[cfg(test)]
+mod states;
+#[cfg(test)]
 mod verdicts;

@@ -1,6 +1,5 @@
 // What a catalogue keeps of a manifest. Which manifests are refused is in crates/test_commands.
 
-use dumps::load;
 use loader::{LoadError, StoreState, load_manifest, named_files};
 use maps::Shape;
 use std::test::Fail;
@@ -80,15 +79,4 @@ fn copies_a_state(rt: HostRuntime) {
     let state = StoreState::open(rt.alloc(), &catalogue).expect(&rt, "state");
     let copy = StoreState::copy_of(rt.alloc(), &state, 2).expect(&rt, "copy");
     assert_eq!(rt; [state.programs().len(), copy.programs().len()], [0, 0]);
-}
-
-// The second value of the first map is 1. A value of one byte is none of that map's.
-#[test]
-fn loads_a_state(rt: HostRuntime) {
-    let catalogue = load_manifest(rt.alloc(), TEXT, FILES).expect(&rt, "catalogue");
-    let shapes = catalogue.shapes();
-    let state = load(rt.alloc(), shapes, 2, "0 01000000 0100000000000000\n").expect(&rt, "state");
-    assert_eq!(rt; state.programs().len(), 0);
-    let refused = load(rt.alloc(), shapes, 2, "0 01000000 01\n").err();
-    assert_eq!(rt; refused.map(|e| (e.line(), e.number())), Some((1, 4)));
 }

@@ -1,0 +1,57 @@
+//! A state as text: two maps and a place for one program, and the first bad line with the number of its fault.
+
+use dumps::load;
+use loader::load_manifest;
+
+const MAPS: &str = "map array 2 4\nmap hash 1 1 2\n";
+
+const STATE: &str =
+    "0 01000000 0100\n1 05 00\n1 06 ff\np update 0 b7000000050000009500000000000000\n";
+
+// A text, its first bad line, and the number of its fault.
+const BAD: &[(&str, u32, u8)] = &[
+    ("0 01000000 0100", 1, 1),
+    ("0 0100000A 0100\n", 1, 1),
+    ("\n", 1, 1),
+    ("2 05 00\n", 1, 2),
+    ("0 04000000 0100\n", 1, 3),
+    ("1 0505 00\n", 1, 3),
+    ("1 05 0000\n", 1, 4),
+    ("1 05 00\n1 05 01\n", 2, 5),
+    ("1 05 00\n0 00000000 0100\n", 2, 5),
+    (
+        "p update 0 b7000000050000009500000000000000\n1 05 00\n",
+        2,
+        5,
+    ),
+    ("0 00000000 0000\n", 1, 6),
+    ("1 01 00\n1 02 00\n1 03 00\n", 3, 7),
+    ("p update 0 b700000005000000\n", 1, 8),
+    (
+        "p update 0 b7000000050000009500000000000000\np update 0 b7000000050000009500000000000000\n",
+        2,
+        9,
+    ),
+    (
+        "p update 0 b7000000050000009500000000000000\np update 0 00\n",
+        2,
+        8,
+    ),
+];
+
+#[test]
+fn loads_a_state(rt: HostRuntime) {
+    let catalogue = load_manifest(rt.alloc(), MAPS, &[]).expect(&rt, "catalogue");
+    let state = load(rt.alloc(), catalogue.shapes(), 1, STATE).expect(&rt, "state");
+    assert_eq!(rt; state.programs().len(), 1);
+}
+
+#[test]
+fn names_the_first_bad_line(rt: HostRuntime) {
+    let catalogue = load_manifest(rt.alloc(), MAPS, &[]).expect(&rt, "catalogue");
+    for &(text, line, number) in BAD {
+        let refused = load(rt.alloc(), catalogue.shapes(), 1, text).err();
+        let told = refused.map(|e| (e.line(), e.number()));
+        assert_eq!(rt; told, Some((line, number)));
+    }
+}
