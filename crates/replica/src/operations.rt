@@ -92,7 +92,7 @@ pub(crate) fn run_suitable(
 fn install(catalogue: &Catalogue, programs: &mut Installed, new: &NewProgram) -> Outcome
     requires shapes { programs.old.shapes ≡ catalogue.now.shapes }
     requires update { is_operation Update catalogue.now (Install new.now) ≡ true }
-    ensures updated { (maps : Maps) → updated catalogue.now (Install new.now) (state_of maps programs.old) ≡ Some (answered result (state_of maps programs.new)) }
+    ensures updated { (m : Maps) → updated catalogue.now (Install new.now) (state_of m programs.old) ≡ Some (answered result (state_of m programs.new)) }
     ensures sizes { (programs.new.shapes ≡ programs.old.shapes) × (programs.new.places ≡ programs.old.places) }
 {
     let place = programs.len();

@@ -136,7 +136,7 @@ pub fn check_call(
 }
 
 /// Whether a program may be installed: it is small enough, and the bytes spell a program that is safe. The room is one for a program of the
-/// store's maps, and holds it then.
+/// store's maps, and what it holds then is left open.
 ///
 /// # Errors
 ///
