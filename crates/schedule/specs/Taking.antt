@@ -48,6 +48,10 @@ TakesPart (Some p) g node g' node' answer = (answer ≡ answer_of p.event) × (g
 abbrev pub TakesOwnPart : (Log → NodeView → Option Part) → Log → NodeView → NodeView → StepAnswer → Type 0
 TakesOwnPart step g node node' answer = TakesPart (step g node) g node g node' answer
 
+-- on whatever log, where so many operations are completed
+abbrev pub TakesWith : ℕ → (Log → NodeView → Option Part) → NodeView → NodeView → StepAnswer → Type 0
+TakesWith done step node node' answer = (g : Log) → g.done ≡ done → TakesOwnPart step g node node' answer
+
 -- the operation is one of the store's catalogue, of this mode
 abbrev pub MayCall : Opening → Mode → Operation → Type 0
 MayCall m mode op = is_operation mode m.catalogue op ≡ true

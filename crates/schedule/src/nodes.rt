@@ -14,7 +14,7 @@ ghost use Rattle.node.specs.Following.{Fits, has_next, with_next};
 ghost use Rattle.node.specs.Steps.{Appends, Replays, Finishes, Reclaims, Rebases, Replies as TheReplies, may_append_batch};
 ghost use Rattle.schedule.specs.Worlds.{opened_node, own_of};
 ghost use Rattle.schedule.specs.Steps.{is_idle, part_of, inner, post, claim, collect, read_at, read_begin, read_answer};
-ghost use Rattle.schedule.specs.Taking.{IsOfStore, TakesPart, TakesOwnPart, MayCall, GivesCall, GivesProgram};
+ghost use Rattle.schedule.specs.Taking.{IsOfStore, TakesPart, TakesOwnPart, TakesWith, MayCall, GivesCall, GivesProgram};
 
 use crate::parts::{BegunRead, Opening};
 use crate::steps::{Step, StepAnswer};
@@ -251,7 +251,7 @@ impl Node {
     // A read is called at a slot, when so many operations are completed.
     fn read_begin(&mut self, slot: u64, call: Call, seen: u64) -> StepAnswer
         requires sized { length self.old.reads ≡ length self.old.desk.slots }
-        ensures begun { (m : TheOpening) (g : Log) → g.done ≡ seen → MayCall m Read (Run call) → TakesOwnPart (read_begin m slot call) g self.old self.new result }
+        ensures begun { (m : TheOpening) → MayCall m Read (Run call) → TakesWith seen (read_begin m slot call) self.old self.new result }
     {
         if !self.is_idle(slot) {
             return StepAnswer::NotNow;
@@ -291,7 +291,7 @@ impl Node {
     // The read that was begun at a slot is answered, when so many operations are completed.
     fn read_answer(&mut self, catalogue: &Catalogue, slot: u64, done: u64) -> StepAnswer
         requires own { (m : TheOpening) × (g : Log) × (m.catalogue ≡ catalogue.now) × IsOfStore m g self.old }
-        ensures answered { (m : TheOpening) (g : Log) → m.catalogue ≡ catalogue.now → g.done ≡ done → TakesOwnPart (read_answer m slot) g self.old self.new result }
+        ensures answered { (m : TheOpening) → m.catalogue ≡ catalogue.now → TakesWith done (read_answer m slot) self.old self.new result }
     {
         let Some(read) = self.begun(slot) else {
             return StepAnswer::NotNow;

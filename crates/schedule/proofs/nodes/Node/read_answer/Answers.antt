@@ -15,7 +15,7 @@ answer_to-given-requires c = record { sizes = own_sizes c.args.catalogue.now c.r
 
 pub returns : goal.returns
 returns c = record {
-  answered = λ m g same done.
+  answered = λ m same g done.
       let at : read_at c.args.self.now c.args.slot ≡ Some c.in-Some.read = search rules in
       let may : may_answer c.in-Some.read.seen g.done (own_of c.args.self.now) ≡ true = search rules in
       read_taken m g c.args.self.now _ c.args.slot c.in-Some.read c.answer_to-given.result at may c.answer_to-given.ensures.point
