@@ -7,6 +7,7 @@ use Rattle.text.specs.Lines.{next_line}
 use Rattle.text.specs.Fields.{split_at_space}
 use Rattle.loader.specs.CatalogueView.{CatalogueView, number_named}
 use Rattle.oplog.specs.Operations.{Operation}
+use Rattle.oplog.specs.Calls.{NewProgram}
 use Rattle.oplog.specs.declared.records.Op.TheVariants as operations
 use Rattle.replica.specs.StoreMeaning.{program_at}
 use Rattle.replica.specs.Refusals.{early_refusal, install_refusal}
@@ -53,6 +54,9 @@ unless_refused asked (Some why) = None
 abbrev pub asked_with : CatalogueView → List ℕ → Asked → Option Asked
 asked_with c bytes asked = unless_refused asked (asked_refusal c asked bytes)
 
+abbrev pub asked_install : CatalogueView → NewProgram → Option Asked
+asked_install c new = asked_with c new.bytes (asks.Install new.mode new.arg_len)
+
 -- what stands behind the first field of a text
 abbrev pub behind : Option (List ℕ × List ℕ) → List ℕ
 behind None = []
@@ -73,7 +77,7 @@ calls_said c line (Some Comment) = Some []
 calls_said c line (Some (Call call)) = one_call (behind_field line) (program_named c call)
 calls_said c line (Some (InvokeAt call)) = one_call (behind_field (behind_field line)) (asked_with c call.argument (asks.Run Update call.program))
 calls_said c line (Some (ReadAt call)) = one_call (behind_field (behind_field line)) (asked_with c call.argument (asks.Run Read call.program))
-calls_said c line (Some (Install new)) = one_call (behind_field (behind_field (behind_field line))) (asked_with c new.bytes (asks.Install new.mode new.arg_len))
+calls_said c line (Some (Install new)) = one_call (behind_field (behind_field (behind_field line))) (asked_install c new)
 
 abbrev pub line_calls : CatalogueView → List ℕ → Option (List Called)
 line_calls c line = calls_said c line (line_meaning line)

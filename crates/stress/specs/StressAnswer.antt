@@ -92,9 +92,9 @@ IsSomeStressAnswer config a =
     (a ≡ not_text) ⊎ ((manifest : List ℕ) × (files : Files) × (script : List ℕ) × IsStressed config (loaded manifest files) script a)
 
 -- where the bytes of the manifest, of the trial's files and of the script are known, this is so of the trial's sizes and of these
-abbrev pub IfTrialKnown : {F G : Type 0} → (F → Option Contents) → Trial F G → Option (List ℕ) → Option (List ℕ)
+abbrev pub IfKnown : {F G : Type 0} → (F → Option Contents) → Trial F G → Option (List ℕ) → Option (List ℕ)
     → (Config → List ℕ → Contents → List ℕ → Type 0) → Type 0
-IfTrialKnown holds trial manifest script P = IfTextsKnown manifest (holds trial.folder.now) script (P trial.config)
+IfKnown holds trial manifest script P = IfTextsKnown manifest (holds trial.folder.now) script (P trial.config)
 
 -- what `stress` may answer is prepared; or memory ran out, or a read failed, or what was read is no text
 abbrev pub PreparesOne : Result Reply InputFault → Config → List ℕ → Contents → List ℕ → Type 0

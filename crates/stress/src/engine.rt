@@ -7,7 +7,7 @@ ghost use Rattle.console.specs.Files.{SomeFile};
 ghost use Rattle.console.specs.Report.{answer_of, Failed};
 ghost use Rattle.console.specs.InputFaults.{IfCannotRead};
 ghost use Rattle.console.specs.Loaded.{LoadedIs};
-ghost use Rattle.stress.specs.StressAnswer.{IsTranscript, IsCatalogueAnswer, IsStressed, IsSomeStressAnswer, IfTrialKnown, PreparesOne, ReportsOne, ReportsStress};
+ghost use Rattle.stress.specs.StressAnswer.{IsTranscript, IsCatalogueAnswer, IsStressed, IsSomeStressAnswer, IfKnown, PreparesOne, ReportsOne, ReportsStress};
 ghost use Rattle.stress.specs.Shown.{called};
 ghost use Rattle.stress.specs.Playing.{IsReady};
 
@@ -96,7 +96,7 @@ fn prepare<R: Threads + Wait + Sync, F: Folder, G: Gate + Sync, M: Source, S: So
     manifest: &mut M,
     script: &mut S,
 ) -> Result<Reply, InputFault>
-    ensures known { IfTrialKnown F.holds trial.now (M.remaining manifest.old) (S.remaining script.old) (PreparesOne result) }
+    ensures known { IfKnown F.holds trial.now (M.remaining manifest.old) (S.remaining script.old) (PreparesOne result) }
     ensures failed { IfCannotRead result (M.has_failed manifest.new ⊎ SomeFile F.File.has_failed ⊎ S.has_failed script.new) }
     ensures some { IfOk result (λ r. IsSomeStressAnswer trial.now.config (answer_of r)) }
 {
@@ -120,7 +120,7 @@ pub fn stress<R: Threads + Wait + Sync, F: Folder, G: Gate + Sync, M: Source, S:
     writer: &mut W,
 ) -> Status
     // Where the readers and the folder tell their bytes, those calls are made.
-    ensures written { IfTrialKnown F.holds trial.now (M.remaining manifest.old) (S.remaining script.old) (ReportsStress W.contents writer.old writer.new result) }
+    ensures written { IfKnown F.holds trial.now (M.remaining manifest.old) (S.remaining script.old) (ReportsStress W.contents writer.old writer.new result) }
     // It says that a read or a write failed only after one did.
     ensures failed { Failed result (M.has_failed manifest.new ⊎ SomeFile F.File.has_failed ⊎ S.has_failed script.new) (W.has_failed writer.new) }
     // Whatever they give, or where they fail.
