@@ -5,7 +5,6 @@ ghost use Rattle.combiner.specs.declared.slots.Reply.{Reply as TheReply};
 ghost use Rattle.combiner.specs.Desks.{BatchView};
 
 use crate::slots::Reply;
-use arrayvec::ArrayVec;
 use oplog::{Op, Record};
 use std::marker::Model;
 
@@ -13,20 +12,21 @@ use std::marker::Model;
 /// [`Desk::claim`](crate::Desk::claim), which fills it, and to [`Desk::reply`](crate::Desk::reply).
 #[derive(Drop)]
 pub struct Batch {
-    records: ArrayVec<Record, 16>,
-    answers: ArrayVec<Option<Reply>, 16>,
+    // The requests, and behind them whatever stood there before.
+    records: [Record; 16],
+    answers: [Option<Reply>; 16],
+    count: usize,
 }
 
 impl Model for Batch {
-    ghost use Rattle.std.specs.Prelude.{◌≡◌, ◌≤◌, length};
+    ghost use Rattle.std.specs.Prelude.{◌≡◌, ◌≤◌, length, take};
     ghost use Rattle.combiner.specs.Desks.{BatchView};
 
     ghost Value = { BatchView };
 
-    ghost view = { λ b. record { records = b.records.items; answers = b.answers.items } };
+    ghost view = { λ b. record { records = take b.count b.records; answers = take b.count b.answers } };
 
-    // Each request has room for its answer.
-    ghost invariant = { λ b. (length b.answers.items ≡ length b.records.items) × (length b.records.items ≤ 16) };
+    ghost invariant = { λ b. (b.count ≤ 16) × (length b.records ≡ 16) × (length b.answers ≡ 16) };
 }
 
 impl Batch {
@@ -35,8 +35,9 @@ impl Batch {
         ensures empty { result ≡ record { records = []; answers = [] } }
     {
         Batch {
-            records: ArrayVec::new(),
-            answers: ArrayVec::new(),
+            records: [Record::default(); 16],
+            answers: [None; 16],
+            count: 0,
         }
     }
 
@@ -44,8 +45,7 @@ impl Batch {
     pub(crate) fn clear(&mut self)
         ensures empty { self.new ≡ record { records = []; answers = [] } }
     {
-        self.records.clear();
-        self.answers.clear();
+        self.count = 0;
     }
 
     // One more request, by its record's fields. It has no answer yet. The operation is copied by its case.
@@ -54,17 +54,19 @@ impl Batch {
         ensures records { self.new.records ≡ self.old.records ++ record { author = author; op = op.now; seq = seq } ∷ [] }
         ensures answers { self.new.answers ≡ self.old.answers ++ None ∷ [] }
     {
+        let k = self.count;
         match op {
             Op::Run(call) => {
                 let op = Op::Run(*call);
-                self.records.push(Record { author, op, seq });
+                self.records[k] = Record { author, op, seq };
             }
             Op::Install(program) => {
                 let op = Op::Install(*program);
-                self.records.push(Record { author, op, seq });
+                self.records[k] = Record { author, op, seq };
             }
         }
-        self.answers.push(None);
+        self.answers[k] = None;
+        self.count = k + 1;
     }
 
     /// The records of the requests, in the order of their slots.
@@ -73,7 +75,7 @@ impl Batch {
         ensures few { length self.now.records ≤ 16 }
         ensures answers { length self.now.answers ≡ length self.now.records }
     {
-        self.records.as_slice()
+        &self.records[..self.count]
     }
 
     /// Sets the answer of the `k`-th request, from 0.
@@ -81,7 +83,8 @@ impl Batch {
         requires there { k < length self.old.records }
         ensures set { self.new ≡ record self.old { answers = slice_set self.old.answers k (Some reply) } }
     {
-        self.answers[k] = Some(reply);
+        let answers = &mut self.answers[..self.count];
+        answers[k] = Some(reply);
     }
 
     // The answer of the `k`-th request, which is set.
@@ -89,7 +92,8 @@ impl Batch {
         requires set { (reply : TheReply) × (slice_get self.now.answers k ≡ Some (Some reply)) }
         ensures answer { slice_get self.now.answers k ≡ Some (Some result) }
     {
-        match self.answers[k] {
+        let answers = &self.answers[..self.count];
+        match answers[k] {
             Some(reply) => reply,
             None => unreachable!(),
         }
