@@ -19,9 +19,11 @@ pub same_shape : (c : Contents) (m : ℕ) (s : MapState) (shape : Shape) → m <
 same_shape c m s shape within map stored = let there = map_there c m within in cc (there.1, there.2, map, stored)
 
 -- what passes the tests
-pub record Passes (e : EntryLine) (s : MapState) : Type 0 where
+pub record Passes (so : Loading) (e : EntryLine) (s : MapState) : Type 0 where
   pub key : is_key_for s e.key ≡ true
   pub value : length e.value ≡ value_size s.shape
+  pub order : is_in_order so e ≡ true
+  pub kept : is_left_out s.shape e.value ≡ false
   pub room : has_room s e.key ≡ true
 
 passed : (a b c d f : Bool)
@@ -31,19 +33,19 @@ passed : (a b c d f : Bool)
     else if d then Some faults.ZeroValue
     else if not f then Some faults.Full
     else None) ≡ None
-    → (a ≡ true) × (b ≡ true) × (f ≡ true)
+    → (a ≡ true) × (b ≡ true) × (c ≡ true) × (d ≡ false) × (f ≡ true)
 passed false b c d f h = cc
 passed true false c d f h = cc
 passed true true false d f h = cc
 passed true true true true f h = cc
 passed true true true false false h = cc
-passed true true true false true h = (refl, refl, refl)
+passed true true true false true h = (refl, refl, refl, refl, refl)
 
-pub passes : (so : Loading) (e : EntryLine) (s : MapState) → None ≡ entry_fault so e s → Passes e s
+pub passes : (so : Loading) (e : EntryLine) (s : MapState) → None ≡ entry_fault so e s → Passes so e s
 unfolding entry_fault
 passes so e s h =
     let p = passed (is_key_for s e.key) (length e.value == value_size s.shape) (is_in_order so e) (is_left_out s.shape e.value) (has_room s e.key) (sym h) in
-    record { key = p.0; value = eqb-true (length e.value) (value_size s.shape) p.1; room = p.2 }
+    record { key = p.0; value = eqb-true (length e.value) (value_size s.shape) p.1; order = p.2; kept = p.3; room = p.4 }
 
 first_true : (a b : Bool) → (a && b) ≡ true → a ≡ true
 first_true true b h = refl
@@ -57,7 +59,7 @@ hash_is : (shape : Shape) → is_hash shape ≡ true → IsHash shape
 hash_is (Array value entries) h = cc
 hash_is (Hash key value entries) h = tt
 
-in_hash : (shape : Shape) (n : ℕ) (b : Bool) → (b || (is_hash shape && nat_lt n (entry_count shape))) ≡ true → b ≡ false → IsHash shape × (n < entry_count shape)
+pub in_hash : (shape : Shape) (n : ℕ) (b : Bool) → (b || (is_hash shape && nat_lt n (entry_count shape))) ≡ true → b ≡ false → IsHash shape × (n < entry_count shape)
 in_hash shape n true h lacks = cc
 in_hash (Array value entries) n false h lacks = cc
 in_hash (Hash key value entries) n false h lacks = (tt, ltb-true n entries h)

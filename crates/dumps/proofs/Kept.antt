@@ -6,12 +6,14 @@ use Rattle.std.specs.FinMap as finite_map
 use Rattle.maps.specs.Shapes.{key_size, value_size, entry_count, IsHash}
 use Rattle.maps.specs.declared.shapes.Shape.{Shape}
 use Rattle.maps.specs.declared.shapes.Shape.TheVariants.{Array, Hash}
-use Rattle.maps.specs.Maps.{MapState, AreMaps, AreBytes, IsMapState, shapes_of, value_at}
+use Rattle.maps.specs.Maps.{Maps, MapState, AreMaps, AreBytes, IsMapState, IsValueOf, HasShapes, shapes_of, value_at}
 use Rattle.maps.specs.MapSets.{Contents, maps_of, stored_shapes, put_value, HasRoom}
 use Rattle.maps.proofs.Stored.{all_get, map_there}
 use Rattle.maps.proofs.Written.{put_value_at}
 use Rattle.helpers.specs.Helpers.{update_error}
 use Rattle.helpers.proofs.Kept.{insert_keeps, entries_kept}
+use Rattle.dumps.specs.Loading.{has_room}
+use Rattle.dumps.proofs.Entries.{in_hash}
 
 -- an update without flags is allowed where there is room
 allowed : (shape : Shape) (present : Bool) (n : ℕ) → (present ≡ false → IsHash shape × (n < entry_count shape)) → update_error shape present n 0 ≡ None
@@ -39,3 +41,13 @@ put_keeps c d m key value each within key_fits value_fits room key_bytes value_b
     let is = insert_keeps s key value 0 (all_get IsMapState (maps_of c) m s each there.1) free (size, key_bytes) (width, value_bytes) in
     let kept = entries_kept (shapes_of (maps_of c)) (maps_of c) m s (finite_map.insert s.entries key value) (record { same = refl; each = each }) there.1 is in
     subst AreMaps (sym (put ∙ put_value_at (maps_of c) m s key value there.1)) kept.each
+
+-- a key and a value of their sizes, for which there is room
+pub maps_keep : (shapes : List Shape) (maps : Maps) (m : ℕ) (s : MapState) (key value : List ℕ) → HasShapes shapes maps → slice_get maps m ≡ Some s → (length key ≡ key_size s.shape) × AreBytes key
+    → IsValueOf s.shape value → has_room s key ≡ true → HasShapes shapes (put_value maps m key value)
+unfolding has_room
+maps_keep shapes maps m s key value has there key_is value_is room =
+    let free = allowed s.shape (finite_map.contains_key s.entries key) (finite_map.len s.entries) (λ absent. in_hash s.shape (finite_map.len s.entries) (is_some (finite_map.get s.entries key)) room absent) in
+    let is = insert_keeps s key value 0 (all_get IsMapState maps m s has.each there) free key_is value_is in
+    let kept = entries_kept shapes maps m s (finite_map.insert s.entries key value) has there is in
+    subst (HasShapes shapes) (sym (put_value_at maps m s key value there)) kept

@@ -3,3 +3,13 @@ pub mod Faults
 pub mod Entries
 pub mod Loop
 pub mod Kept
+pub mod LowerHex
+pub mod TextLines
+pub mod SpelledLines
+pub mod Listed
+pub mod Placing
+pub mod Dumped
+pub mod Alike
+pub mod ProgramBytes
+pub mod Belongs
+pub mod Reread

@@ -2,5 +2,8 @@
 pub mod Grammar
 pub mod Loading
 pub mod Refusal
+-- A state as text, and that states and texts are one for one.
+pub mod Dumping
+pub mod Laws
 -- What is kept of the lines before the one that is read. No public clause cites these.
 pub mod Shown

@@ -1,10 +1,12 @@
 //! The state of a store as text: a line for each entry, in order, and for each program that was installed.
 #![tactic(auto)]
 
+mod laws;
 mod lines;
 mod loading;
 mod refusals;
 
+pub use laws::{dump_is_read, text_is_dumped};
 pub use lines::DUMP_LINE_BYTES;
 pub use loading::load;
 pub use refusals::{DumpError, DumpFault, DumpRefusal};

@@ -1,0 +1,368 @@
+-- What a state is dumped as is loaded as that state.
+use Rattle.std.proofs.Common.{append_assoc, append-nil, ◌≡◌, ℕ, zero, suc, ◌+◌, ◌^◌, ◌<◌, ◌≤◌, Bool, true, false, not, cond, ltb, leb, eqb, ◌&&◌, List, [], ◌∷◌, ◌++◌, map, length, decimal, Option, Some, None, Result, Ok, Err, refl, sym, ap, ◌∙◌, subst, arith}
+use Rattle.std.specs.Prelude.{slice_get, is_some}
+use Rattle.std.specs.List.{AllByRecursion, list_all}
+use Rattle.std.proofs.lemmas.Bool.{eq-eqb, lt-ltb, and_parts, leb-true}
+use Rattle.std.proofs.lemmas.Bool.Decides.{nat_tests}
+use Rattle.std.proofs.lemmas.Fmt.{digits_decimal}
+use Rattle.std.proofs.lemmas.List.{length-append}
+use Rattle.hex.specs.Hex.{IsBytes, encode_lower}
+use Rattle.std.specs.FinMap as finite_map
+use Rattle.insn.specs.Encoding.{program_bytes, program_slots}
+use Rattle.insn.specs.Refusal.{Decodes}
+use Rattle.insn.proofs.Laws.{spelled_is_read}
+use Rattle.insn.proofs.Slots.{size_is, slot_bytes_length}
+use Rattle.maps.specs.declared.shapes.Shape.{Shape}
+use Rattle.maps.specs.declared.shapes.Shape.TheVariants.{Array, Hash}
+use Rattle.maps.specs.Shapes.{value_size, entry_count, AreShapesOk}
+use Rattle.maps.specs.Maps.{Maps, MapState, IsKeyOf, IsMapState, HasShapes, HasEntryCount, shapes_of}
+use Rattle.maps.proofs.OpeningShapes.{opening_shapes}
+use Rattle.maps.proofs.Stored.{all_get}
+use Rattle.text.specs.Lines.{next_line}
+use Rattle.text.proofs.FirstLines.{HasNoFeed}
+use Rattle.text.proofs.Numbers.{own}
+use Rattle.verifier.specs.declared.refusal.Mode.{Mode}
+use Rattle.verifier.specs.declared.refusal.Mode.TheVariants.{Update, Read}
+use Rattle.verifier.specs.Typing.{IsTypable}
+use Rattle.verifier.specs.Accepted.{Checked, checked, IsAccepted}
+use Rattle.verifier.specs.Signature.{signature}
+use Rattle.verifier.specs.Verdict.{verdict}
+use Rattle.verifier.proofs.VerdictLaws.{accepted_iff}
+use Rattle.loader.specs.declared.installed.InstallRefusal.{InstallRefusal}
+use Rattle.loader.specs.Spelling.{mode_word}
+use Rattle.loader.specs.Installed.{installed_program, accepted_program, unless_unsafe, IsShort}
+use Rattle.loader.specs.StoreState.{StoreState, IsState}
+use Rattle.dumps.specs.declared.refusals.DumpFault.TheVariants as faults
+use Rattle.dumps.specs.Grammar.{is_lower_digit, EntryLine, Meaning, Entry, Program, ended_lines}
+use Rattle.dumps.specs.Loading.{Loading, is_behind, is_hash, is_key_for, is_in_order, is_left_out, has_room, with_entry, with_program, after_entry, after_program, after_meaning, after_line, after_ended, after_lines, in_place, opening, loaded_state}
+use Rattle.dumps.specs.Dumping.{entries_of, program_line, lines_of, text_of, dump}
+use Rattle.dumps.proofs.EndedLines.{ended_lines-cut}
+use Rattle.dumps.proofs.Entries.{Passes, put_in}
+use Rattle.dumps.proofs.Faults.{hash_key, array_key, known_key, hash_room, none}
+use Rattle.dumps.proofs.Kept.{maps_keep}
+use Rattle.dumps.proofs.Loop.{one_on}
+use Rattle.dumps.proofs.LowerHex.{lower_all}
+use Rattle.dumps.proofs.SpelledLines.{ProgramFits, Fits, spelled_says}
+use Rattle.dumps.proofs.TextLines.{joined}
+use Rattle.dumps.proofs.Placing.{IsBefore, behind, key_of, all_joined, all_mapped, map_joined, all_empty}
+use Rattle.dumps.proofs.Dumped.{IsRising, entry_listed, entry_rising, opening_rising, texts}
+use Rattle.dumps.proofs.Alike.{hash_keeps, array_has, same_maps}
+use Rattle.dumps.proofs.ProgramBytes.{program_are_bytes}
+use Rattle.dumps.proofs.Belongs.{Belongs, Rises, all_belong, all_rise, count, count_joined, hash_count, entry_fits, all_list, at_each, key_bytes, key_long}
+
+-- ---- an entry has no fault
+
+-- the map of this number in maps of the same shapes
+same_there : (maps others : Maps) (i : ℕ) (s : MapState) → slice_get maps i ≡ Some s → shapes_of others ≡ shapes_of maps → (t : MapState) × (slice_get others i ≡ Some t) × (t.shape ≡ s.shape)
+same_there [] others i s h same = absurd cc
+same_there (x ∷ maps) [] i s h same = absurd cc
+same_there (x ∷ maps) (y ∷ others) zero s h same =
+    let here : x ≡ s = cc in
+    let shape : y.shape ≡ x.shape = cc in
+    (y, refl, shape ∙ ap (λ (t : MapState). t.shape) here)
+same_there (x ∷ maps) (y ∷ others) (suc i) s h same =
+    let rest : shapes_of others ≡ shapes_of maps = cc in
+    same_there maps others i s h rest
+
+not_true : (b : Bool) → not b ≡ true → b ≡ false
+not_true true h = absurd cc
+not_true false h = refl
+
+key_for : (t : MapState) (key : List ℕ) → IsMapState t → IsKeyOf t.shape key → is_key_for t key ≡ true
+key_for t key is of = by (is_hash t.shape) refl
+  where
+    by : (b : Bool) → is_hash t.shape ≡ b → is_key_for t key ≡ true
+    by true hash = sym (hash_key t key (key_long t.shape key of) hash)
+    by false hash = sym (array_key t key true (key_long t.shape key of) hash (sym (array_has t key is hash of)))
+
+in_order : (so : Loading) (e : EntryLine) → so.state.programs ≡ [] → is_behind so.last e.map e.key ≡ true → is_in_order so e ≡ true
+unfolding is_in_order
+in_order so e empty behind = rw (empty, behind) refl
+
+-- an entry that is the next to be listed, and the map that it goes into
+record Coming (maps so : Maps) (e : EntryLine) (t : MapState) : Type 0 where
+  belongs : Belongs 0 maps e
+  there : slice_get so e.map ≡ Some t
+  shape : t.shape ≡ belongs.state.shape
+  is : IsMapState t
+  is_whole : IsMapState belongs.state
+  rest : List EntryLine
+  listed : entries_of so ++ e ∷ rest ≡ entries_of maps
+
+fewer : (maps so : Maps) (e : EntryLine) (t : MapState) (c : Coming maps so e t) → is_hash t.shape ≡ true → finite_map.len t.entries < finite_map.len c.belongs.state.entries
+fewer maps so e t c hash =
+    let whole : is_hash c.belongs.state.shape ≡ true = ap is_hash (sym c.shape) ∙ hash in
+    let now = hash_count so 0 e.map e.map t (omega arith) c.there (λ v. hash_keeps t.shape v hash) in
+    let then = hash_count maps 0 c.belongs.index e.map c.belongs.state c.belongs.number c.belongs.there (λ v. hash_keeps c.belongs.state.shape v whole) in
+    let joined = count_joined e.map (entries_of so) (e ∷ c.rest) in
+    let here : eqb e.map e.map ≡ true = eq-eqb e.map e.map refl in
+    let first : count e.map (e ∷ c.rest) ≡ 1 + count e.map c.rest = ap (λ b. cond b 1 0 + count e.map c.rest) here in
+    let all = ap (count e.map) c.listed in
+    omega (arith, now, then, joined, first, all)
+
+hash_limit : (s : MapState) → IsMapState s → is_hash s.shape ≡ true → finite_map.len s.entries ≤ entry_count s.shape
+hash_limit s is hash = by s.shape is.count hash
+  where
+    by : (shape : Shape) → HasEntryCount shape s.entries → is_hash shape ≡ true → finite_map.len s.entries ≤ entry_count shape
+    by (Array value entries) count hash = absurd cc
+    by (Hash key value entries) count hash = count
+
+room : (maps so : Maps) (e : EntryLine) (t : MapState) (c : Coming maps so e t) → IsKeyOf t.shape e.key → has_room t e.key ≡ true
+room maps so e t c of = by (is_some (finite_map.get t.entries e.key)) (is_hash t.shape) refl refl
+  where
+    by : (known hash : Bool) → is_some (finite_map.get t.entries e.key) ≡ known → is_hash t.shape ≡ hash → has_room t e.key ≡ true
+    by true hash there is = sym (known_key t e.key there)
+    by false true there is =
+        let whole : is_hash c.belongs.state.shape ≡ true = ap is_hash (sym c.shape) ∙ is in
+        let fewer_than = fewer maps so e t c is in
+        let limit = hash_limit c.belongs.state c.is_whole whole in
+        let same : entry_count t.shape ≡ entry_count c.belongs.state.shape = ap entry_count c.shape in
+        let free : ltb (finite_map.len t.entries) (entry_count t.shape) ≡ true = lt-ltb _ _ (omega (arith, fewer_than, limit, same)) in
+        sym (hash_room t e.key (finite_map.len t.entries) (entry_count t.shape) there is refl refl) ∙ free
+    by false false there is =
+        let has = array_has t e.key c.is is of in
+        absurd cc
+
+-- ---- the entries
+
+-- before the entries that are still to come
+record Midway (shapes : List Shape) (maps : Maps) (so : Loading) (es : List EntryLine) : Type 0 where
+  has : HasShapes shapes so.state.maps
+  empty : so.state.programs ≡ []
+  rising : IsRising so
+  listed : entries_of so.state.maps ++ es ≡ entries_of maps
+  belongs : AllByRecursion (Belongs 0 maps) es
+  behind : AllByRecursion (λ (e : EntryLine). is_behind so.last e.map e.key ≡ true) es
+  rises : Rises es
+
+-- one of them is put into its map
+record Put (shapes : List Shape) (maps : Maps) (so : Loading) (e : EntryLine) (es : List EntryLine) : Type 0 where
+  taken : after_entry so e ≡ Ok (with_entry so e)
+  next : Midway shapes maps (with_entry so e) es
+
+one_entry : (shapes : List Shape) (maps : Maps) (so : Loading) (e : EntryLine) (es : List EntryLine) → HasShapes shapes maps → Midway shapes maps so (e ∷ es) → Put shapes maps so e es
+one_entry shapes maps so e es has mid =
+    let b = mid.belongs.0 in
+    let found = same_there maps so.state.maps b.index b.state b.there (mid.has.same ∙ sym has.same) in
+    let t = found.0 in
+    let number : e.map ≡ b.index = (let n = b.number in omega (arith, n)) in
+    let there : slice_get so.state.maps e.map ≡ Some t = ap (slice_get so.state.maps) number ∙ found.1 in
+    let is_whole = all_get IsMapState maps b.index b.state has.each b.there in
+    let is = all_get IsMapState so.state.maps e.map t mid.has.each there in
+    let c : Coming maps so.state.maps e t = record { belongs = b; there = there; shape = found.2; is = is; is_whole = is_whole; rest = es; listed = mid.listed } in
+    let of : IsKeyOf t.shape e.key = subst (λ x. IsKeyOf x e.key) (sym found.2) (is_whole.each_key e.key (ap is_some b.value)) in
+    let value = is_whole.each_value e.key e.value b.value in
+    let size : length e.value ≡ value_size t.shape = value.0 ∙ ap value_size (sym found.2) in
+    let order = in_order so e mid.empty mid.behind.0 in
+    let left : is_left_out t.shape e.value ≡ false = ap (λ x. is_left_out x e.value) found.2 ∙ not_true (is_left_out b.state.shape e.value) b.kept in
+    let free = room maps so.state.maps e t c of in
+    let key = key_for t e.key is of in
+    let p : Passes so e t = record { key = key; value = size; order = order; kept = left; room = free } in
+    let listed = entry_listed so e t mid.rising there p in
+    record {
+      taken = put_in so e t there (none so e t key size order left free);
+      next = record {
+        has = maps_keep shapes so.state.maps e.map t e.key e.value mid.has there (key_long t.shape e.key of, key_bytes t.shape e.key of) (size, value.1) free;
+        empty = mid.empty;
+        rising = entry_rising so e t mid.rising there p;
+        listed = ap (λ u. u ++ es) listed ∙ append_assoc (entries_of so.state.maps) (e ∷ []) es ∙ mid.listed;
+        belongs = mid.belongs.1;
+        behind = all_mapped (λ (f : EntryLine). IsBefore e f.map f.key) (λ (f : EntryLine). is_behind (Some (key_of e)) f.map f.key ≡ true) (λ f h. behind e f.map f.key h) es mid.rises.0;
+        rises = mid.rises.1;
+      };
+    }
+
+-- lines that say something, one after the other
+abbrev pub spelled : List Meaning → List (Option (List ℕ))
+spelled ms = map Some (map text_of ms)
+
+-- the lines of the entries leave these maps
+record EntriesRead (shapes : List Shape) (maps : Maps) (n : ℕ) (so : Loading) (es : List EntryLine) (rest : List (Option (List ℕ))) : Type 0 where
+  number : ℕ
+  after : Loading
+  are : after.state.maps ≡ maps
+  empty : after.state.programs ≡ []
+  places : after.state.places ≡ so.state.places
+  read : after_lines shapes n so (spelled (map Entry es) ++ rest) ≡ after_lines shapes number after rest
+
+said_by : (shapes : List Shape) (so after : Loading) (m : Meaning) → Fits m → after_meaning shapes so (Some m) ≡ Ok after → after_ended shapes so (Some (text_of m)) ≡ Ok after
+unfolding after_line
+said_by shapes so after m fits h = ap (after_meaning shapes so) (spelled_says m fits) ∙ h
+
+entries_read : (shapes : List Shape) (maps : Maps) (n : ℕ) (so : Loading) (es : List EntryLine) (rest : List (Option (List ℕ))) → AreShapesOk shapes → HasShapes shapes maps → Midway shapes maps so es
+    → EntriesRead shapes maps n so es rest
+entries_read shapes maps n so [] rest ok has mid =
+    let listed : entries_of so.state.maps ≡ entries_of maps = sym (append-nil (entries_of so.state.maps)) ∙ mid.listed in
+    record {
+      number = n;
+      after = so;
+      are = same_maps 0 so.state.maps maps (mid.has.same ∙ sym has.same) mid.has.each has.each listed;
+      empty = mid.empty;
+      places = refl;
+      read = refl;
+    }
+entries_read shapes maps n so (e ∷ es) rest ok has mid =
+    let put = one_entry shapes maps so e es has mid in
+    let fits = entry_fits shapes maps e ok has mid.belongs.0 in
+    let behind = entries_read shapes maps (next_line n) (with_entry so e) es rest ok has put.next in
+    let step = said_by shapes so (with_entry so e) (Entry e) fits put.taken in
+    record {
+      number = behind.number;
+      after = behind.after;
+      are = behind.are;
+      empty = behind.empty;
+      places = behind.places;
+      read = one_on shapes n (next_line n) so (with_entry so e) (spelled (map Entry (e ∷ es)) ++ rest) (spelled (map Entry es) ++ rest) (Some (text_of (Entry e))) refl refl step ∙ behind.read;
+    }
+
+-- ---- the programs
+
+record IsGood (shapes : List Shape) (c : Checked) : Type 0 where
+  for_maps : c.shapes ≡ shapes
+  accepted : IsAccepted c
+  short : IsShort c
+
+abbrev pub as_line : Checked → Meaning
+as_line c = Program (program_line c)
+
+decodes : (c : Checked) → IsAccepted c → Decodes (program_bytes c.program) c.program
+decodes c ok = record { each = ok.instructions; spelled = refl; some = ok.typable.0.size_good.some; few = ok.typable.0.size_good.few }
+
+installs : (shapes : List Shape) (c : Checked) → IsGood shapes c → installed_program shapes c.mode c.arg_len (program_bytes c.program) ≡ Ok c
+installs shapes c good =
+    let same : checked c.program shapes c.arg_len c.mode ≡ c = λ i. record { program = c.program; shapes = sym good.for_maps i; arg_len = c.arg_len; mode = c.mode } in
+    let typable = subst (λ s. IsTypable c.program (signature s c.arg_len c.mode)) good.for_maps good.accepted.typable in
+    let safe : verdict c.program (signature shapes c.arg_len c.mode) ≡ None = (accepted_iff c.program (signature shapes c.arg_len c.mode) good.accepted.instructions).1 typable in
+    ap (accepted_program shapes c.mode c.arg_len) (spelled_is_read (program_bytes c.program) c.program (decodes c good.accepted))
+    ∙ ap (unless_unsafe (checked c.program shapes c.arg_len c.mode)) safe ∙ ap Ok same
+
+program_fits : (shapes : List Shape) (c : Checked) → IsGood shapes c → ProgramFits (program_line c)
+program_fits shapes c good =
+    let bytes = slot_bytes_length (program_slots c.program) in
+    let slots = size_is c.program in
+    let some = good.accepted.typable.0.size_good.some in
+    let short = good.short in
+    record {
+      argument = good.accepted.argument;
+      bytes = at_each (program_bytes c.program) (program_are_bytes c.program good.accepted.instructions);
+      some = omega (arith, bytes, slots, some);
+      few = omega (arith, bytes, slots, short);
+    }
+
+placed : (so : Loading) (c : Checked) (r : Result Checked InstallRefusal) → r ≡ Ok c → length so.state.programs < so.state.places → in_place so r ≡ Ok (with_program so c)
+placed so c r is lt =
+    let free : ltb (length so.state.programs) so.state.places ≡ true = lt-ltb _ _ lt in
+    ap (in_place so) is ∙ ap (λ b. cond b (Ok (with_program so c)) (Err faults.TooManyPrograms)) free
+
+programs_read : (shapes : List Shape) (s : StoreState) (n : ℕ) (so : Loading) (cs : List Checked) → so.state.maps ≡ s.maps → so.state.programs ++ cs ≡ s.programs → so.state.places ≡ s.places
+    → length s.programs ≤ s.places → AllByRecursion (IsGood shapes) cs → after_lines shapes n so (spelled (map as_line cs)) ≡ Ok s
+unfolding after_lines
+programs_read shapes s n so [] maps programs places few good =
+    let whole : so.state.programs ≡ s.programs = sym (append-nil so.state.programs) ∙ programs in
+    ap Ok (λ i. record { maps = maps i; programs = whole i; places = places i })
+programs_read shapes s n so (c ∷ cs) maps programs places few good =
+    let count = ap length programs in
+    let both = length-append so.state.programs (c ∷ cs) in
+    let free : length so.state.programs < so.state.places = omega (arith, count, both, few, places) in
+    let taken : after_program shapes so (program_line c) ≡ Ok (with_program so c) = placed so c _ (installs shapes c good.0) free in
+    let step = said_by shapes so (with_program so c) (as_line c) (program_fits shapes c good.0) taken in
+    let rest = programs_read shapes s (next_line n) (with_program so c) cs maps (append_assoc so.state.programs (c ∷ []) cs ∙ programs) places few good.1 in
+    one_on shapes n (next_line n) so (with_program so c) (spelled (map as_line (c ∷ cs))) (spelled (map as_line cs)) (Some (text_of (as_line c))) refl refl step ∙ rest
+
+-- ---- the text
+
+abbrev is_plain : ℕ → Bool
+is_plain b = leb 32 b
+
+all_plain : (p : ℕ → Bool) → ((b : ℕ) → p b ≡ true → is_plain b ≡ true) → (xs : List ℕ) → list_all p xs ≡ true → list_all is_plain xs ≡ true
+all_plain p other [] h = refl
+all_plain p other (x ∷ xs) h =
+    let both = and_parts (p x) (list_all p xs) h in
+    rw (other x both.0) (all_plain p other xs both.1)
+
+plain_joined : (xs ys : List ℕ) → list_all is_plain xs ≡ true → list_all is_plain ys ≡ true → list_all is_plain (xs ++ ys) ≡ true
+plain_joined [] ys a b = b
+plain_joined (x ∷ xs) ys a b =
+    let both = and_parts (is_plain x) (list_all is_plain xs) a in
+    rw both.0 (plain_joined xs ys both.1 b)
+
+no_feed : (xs : List ℕ) → list_all is_plain xs ≡ true → HasNoFeed xs
+no_feed [] h i lt = absurd (omega (arith, lt))
+no_feed (x ∷ xs) h zero lt =
+    let plain : 32 ≤ x = leb-true 32 x (and_parts (is_plain x) (list_all is_plain xs) h).0 in
+    λ e. omega (arith, plain, e)
+no_feed (x ∷ xs) h (suc i) lt = no_feed xs (and_parts (is_plain x) (list_all is_plain xs) h).1 i (omega (arith, lt))
+
+digit_plain : (b : ℕ) → (leb 48 b && leb b 57) ≡ true → is_plain b ≡ true
+digit_plain b h = grind (arith, nat_tests)
+
+lower_plain : (b : ℕ) → is_lower_digit b ≡ true → is_plain b ≡ true
+lower_plain b h = grind (arith, nat_tests)
+
+plain_number : (n : ℕ) → n < 2 ^ 64 → list_all is_plain (decimal n) ≡ true
+plain_number n lt = all_plain (λ b. leb 48 b && leb b 57) digit_plain (decimal n) (digits_decimal own n lt)
+
+plain_hex : (bytes : List ℕ) → IsBytes bytes → list_all is_plain (encode_lower bytes) ≡ true
+plain_hex bytes are = all_plain is_lower_digit lower_plain (encode_lower bytes) (lower_all bytes are)
+
+plain_mode : (m : Mode) → list_all is_plain (mode_word m) ≡ true
+plain_mode Update = refl
+plain_mode Read = refl
+
+plain_text : (m : Meaning) → Fits m → list_all is_plain (text_of m) ≡ true
+plain_text (Entry e) f =
+    plain_joined (decimal e.map) (32 ∷ (encode_lower e.key ++ 32 ∷ encode_lower e.value)) (plain_number e.map f.map) (plain_joined (encode_lower e.key) (32 ∷ encode_lower e.value) (plain_hex e.key f.key) (plain_hex e.value f.value))
+plain_text (Program p) f =
+    let argument = f.argument in
+    let number = plain_number p.arg_len (omega (arith, argument)) in
+    plain_joined (mode_word p.mode) (32 ∷ (decimal p.arg_len ++ 32 ∷ encode_lower p.bytes)) (plain_mode p.mode) (plain_joined (decimal p.arg_len) (32 ∷ encode_lower p.bytes) number (plain_hex p.bytes f.bytes))
+
+ended_texts : (ms : List Meaning) → AllByRecursion Fits ms → ended_lines (joined (map text_of ms)) ≡ spelled ms
+ended_texts [] fits = refl
+ended_texts (m ∷ ms) fits =
+    ap ended_lines (append_assoc (text_of m) (10 ∷ []) (joined (map text_of ms)))
+    ∙ ended_lines-cut (text_of m) (joined (map text_of ms)) (no_feed (text_of m) (plain_text m fits.0)) ∙ ap (λ u. Some (text_of m) ∷ u) (ended_texts ms fits.1)
+
+-- ---- a state
+
+entries_fit : (shapes : List Shape) (maps : Maps) (es : List EntryLine) → AreShapesOk shapes → HasShapes shapes maps → AllByRecursion (Belongs 0 maps) es → AllByRecursion Fits (map Entry es)
+entries_fit shapes maps [] ok has all = tt
+entries_fit shapes maps (e ∷ es) ok has all = (entry_fits shapes maps e ok has all.0, entries_fit shapes maps es ok has all.1)
+
+programs_fit : (shapes : List Shape) (cs : List Checked) → AllByRecursion (IsGood shapes) cs → AllByRecursion Fits (map as_line cs)
+programs_fit shapes [] all = tt
+programs_fit shapes (c ∷ cs) all = (program_fits shapes c all.0, programs_fit shapes cs all.1)
+
+all_good : (shapes : List Shape) (cs : List Checked) → AllByRecursion (λ (c : Checked). c.shapes ≡ shapes) cs → AllByRecursion IsAccepted cs → AllByRecursion IsShort cs → AllByRecursion (IsGood shapes) cs
+all_good shapes [] a b c = tt
+all_good shapes (x ∷ cs) a b c = (record { for_maps = a.0; accepted = b.0; short = c.0 }, all_good shapes cs a.1 b.1 c.1)
+
+none_before : (es : List EntryLine) → AllByRecursion (λ (e : EntryLine). is_behind None e.map e.key ≡ true) es
+none_before [] = tt
+none_before (e ∷ es) = (refl, none_before es)
+
+at_first : (shapes : List Shape) (places : ℕ) (maps : Maps) → AreShapesOk shapes → Midway shapes maps (opening shapes places) (entries_of maps)
+at_first shapes places maps ok = record {
+  has = opening_shapes shapes ok;
+  empty = refl;
+  rising = opening_rising shapes places;
+  listed = ap (λ u. u ++ entries_of maps) (all_empty 0 shapes);
+  belongs = all_belong 0 maps;
+  behind = none_before (entries_of maps);
+  rises = all_rise 0 maps;
+}
+
+pub dump_is_read : (shapes : List Shape) (places : ℕ) (s : StoreState) → IsState (record { shapes = shapes; places = places }) s → loaded_state shapes places (dump s) ≡ Ok s
+unfolding loaded_state dump
+dump_is_read shapes places s is =
+    let ok = is.programs.shapes in
+    let good = all_good shapes s.programs (all_list (λ (c : Checked). c.shapes ≡ shapes) s.programs is.programs.accepted) (all_list IsAccepted s.programs is.programs.checked) (all_list IsShort s.programs is.programs.short) in
+    let fits = all_joined Fits (map Entry (entries_of s.maps)) (map as_line s.programs) (entries_fit shapes s.maps (entries_of s.maps) ok is.maps (all_belong 0 s.maps)) (programs_fit shapes s.programs good) in
+    let read = entries_read shapes s.maps 1 (opening shapes places) (entries_of s.maps) (spelled (map as_line s.programs)) ok is.maps (at_first shapes places s.maps ok) in
+    let few : length s.programs ≤ s.places = (let a = is.programs.few in let b = is.places in omega (arith, a, b)) in
+    let lines : spelled (lines_of s) ≡ spelled (map Entry (entries_of s.maps)) ++ spelled (map as_line s.programs) =
+    ap (map Some) (map_joined text_of (map Entry (entries_of s.maps)) (map as_line s.programs)) ∙ map_joined Some (map text_of (map Entry (entries_of s.maps))) (map text_of (map as_line s.programs)) in
+    ap (λ t. after_lines shapes 1 (opening shapes places) (ended_lines t)) (texts (lines_of s))
+    ∙ ap (after_lines shapes 1 (opening shapes places)) (ended_texts (lines_of s) fits ∙ lines)
+    ∙ read.read
+    ∙ programs_read shapes s read.number read.after s.programs read.are (ap (λ u. u ++ s.programs) read.empty) (read.places ∙ sym is.places) few good

@@ -1,0 +1,210 @@
+-- What a line says is how it is spelled, and what is spelled so says that.
+use Rattle.std.proofs.Common.{◌≡◌, ℕ, ◌*◌, ◌^◌, ◌<◌, ◌≤◌, Bool, true, false, cond, leb, ltb, ◌&&◌, List, ◌∷◌, ◌++◌, length, codes, bytes_eq, decimal, Some, None, refl, sym, ap, ap₂, ◌∙◌, subst, arith, lit<}
+use Rattle.std.specs.Str.{all_ascii_digits}
+use Rattle.std.proofs.lemmas.Bool.{le-leb, le-ltb}
+use Rattle.std.proofs.lemmas.Bool.Decides.{nat_tests}
+use Rattle.std.proofs.lemmas.Fmt.{digits_decimal, length-decimal-le}
+use Rattle.std.proofs.lemmas.List.{length-append}
+use Rattle.std.proofs.lemmas.Slice.Eq.{bytes_eq-Decides}
+use Rattle.hex.specs.Hex.{IsBytes, encode_lower, lower_digits}
+use Rattle.hex.proofs.HexLemmas.{length-encode_with}
+use Rattle.insn.specs.declared.decoding.TheConstants.{MAX_INSTALLED_SLOTS}
+use Rattle.maps.specs.declared.shapes.TheConstants.{MAX_ARG_LEN}
+use Rattle.verifier.specs.declared.refusal.Mode.{Mode}
+use Rattle.verifier.specs.declared.refusal.Mode.TheVariants.{Update, Read}
+use Rattle.text.specs.Fields.{split_at_space, is_space, has_no_space}
+use Rattle.text.specs.Words.{number_of, number_within}
+use Rattle.text.proofs.Numbers.{own}
+use Rattle.text.proofs.Numerals.{numerals_are_decimals}
+use Rattle.text.proofs.Cuts.{steps, where_true, unless, split_from, split_to}
+use Rattle.loader.specs.Grammar.{mode_of}
+use Rattle.loader.specs.Spelling.{mode_word}
+use Rattle.loader.proofs.Respelled.{no_space_from}
+use Rattle.dumps.specs.declared.lines.TheConstants.{DUMP_LINE_BYTES}
+use Rattle.dumps.specs.Grammar.{EntryLine, ProgramLine, Meaning, Entry, Program, is_lower_digit, lower_bytes, entry_meaning, program_meaning, words_meaning, line_meaning}
+use Rattle.dumps.specs.Dumping.{entry_text, program_text, text_of}
+use Rattle.dumps.proofs.LowerHex.{lower_from, lower_to, lower_all}
+
+-- ---- a line that says something
+
+-- the bytes of a program
+abbrev pub HasBytes : Meaning → Type 0
+HasBytes (Entry e) = Unit {0}
+HasBytes (Program p) = IsBytes p.bytes
+
+within : (low high : ℕ) (t : List ℕ) (n : ℕ) → number_within low high t ≡ Some n → t ≡ decimal n
+unfolding number_within
+within low high t n e =
+    let read = steps (number_of t) _ n e in
+    let parts = where_true (leb low read.0 && leb read.0 high) read.0 n read.2 in
+    ((numerals_are_decimals t read.0).0 read.1).0 ∙ ap decimal parts.1
+
+word_is : (w word : List ℕ) → bytes_eq w word ≡ true → w ≡ word
+word_is w word e = (bytes_eq-Decides w word).0 e
+
+mode_from : (w : List ℕ) (m : Mode) → mode_of w ≡ Some m → w ≡ mode_word m
+mode_from w m e = by_word (bytes_eq w (codes "update")) (bytes_eq w (codes "read")) m e (word_is w (codes "update")) (word_is w (codes "read"))
+  where
+    by_word : (u r : Bool) (m : Mode) → cond u (Some Update) (cond r (Some Read) None) ≡ Some m → (u ≡ true → w ≡ codes "update") → (r ≡ true → w ≡ codes "read") → w ≡ mode_word m
+    by_word true r Update e f g = f refl
+    by_word true r Read e f g = absurd cc
+    by_word false true Update e f g = absurd cc
+    by_word false true Read e f g = g refl
+    by_word false false m e f g = absurd cc
+
+abbrev IsSpelled : List ℕ → Meaning → Type 0
+IsSpelled line m = (line ≡ text_of m) × HasBytes m
+
+entry_from : (map text : List ℕ) (m : Meaning) → entry_meaning map text ≡ Some m → IsSpelled (map ++ 32 ∷ text) m
+unfolding entry_meaning
+entry_from map text m e =
+    let field = steps (split_at_space text) _ m e in
+    let number = steps (number_of map) _ m field.2 in
+    let key = steps (lower_bytes field.0.0) _ m number.2 in
+    let value = steps (lower_bytes field.0.1) _ m key.2 in
+    let is : Entry (record { map = number.0; key = key.0; value = value.0 }) ≡ m = cc in
+    let rest : text ≡ encode_lower key.0 ++ 32 ∷ encode_lower value.0 =
+    split_from text field.0 field.1 ∙ ap₂ (λ a b. a ++ 32 ∷ b) (lower_from _ _ key.1).0 (lower_from _ _ value.1).0 in
+    let whole : map ++ 32 ∷ text ≡ decimal number.0 ++ 32 ∷ (encode_lower key.0 ++ 32 ∷ encode_lower value.0) =
+    ap₂ (λ a b. a ++ 32 ∷ b) ((numerals_are_decimals map number.0).0 number.1).0 rest in
+    subst (λ x. IsSpelled (map ++ 32 ∷ text) x) is (whole, tt)
+
+program_from : (text : List ℕ) (m : Meaning) → program_meaning text ≡ Some m → IsSpelled (codes "p " ++ text) m
+unfolding program_meaning
+program_from text m e =
+    let first = steps (split_at_space text) _ m e in
+    let second = steps (split_at_space first.0.1) _ m first.2 in
+    let mode = steps (mode_of first.0.0) _ m second.2 in
+    let len = steps (number_within 0 MAX_ARG_LEN second.0.0) _ m mode.2 in
+    let bytes = steps (lower_bytes second.0.1) _ m len.2 in
+    let parts = where_true (leb (length bytes.0) (8 * MAX_INSTALLED_SLOTS)) (Program (record { mode = mode.0; arg_len = len.0; bytes = bytes.0 })) m bytes.2 in
+    let hex = lower_from _ _ bytes.1 in
+    let rest : first.0.1 ≡ decimal len.0 ++ 32 ∷ encode_lower bytes.0 =
+    split_from first.0.1 second.0 second.1 ∙ ap₂ (λ a b. a ++ 32 ∷ b) (within 0 MAX_ARG_LEN second.0.0 len.0 len.1) hex.0 in
+    let whole : text ≡ mode_word mode.0 ++ 32 ∷ (decimal len.0 ++ 32 ∷ encode_lower bytes.0) =
+    split_from text first.0 first.1 ∙ ap₂ (λ a b. a ++ 32 ∷ b) (mode_from first.0.0 mode.0 mode.1) rest in
+    subst (λ x. IsSpelled (codes "p " ++ text) x) parts.1 (ap (λ u. codes "p " ++ u) whole, hex.1)
+
+words_from : (line : List ℕ) (m : Meaning) → words_meaning line ≡ Some m → IsSpelled line m
+unfolding words_meaning
+words_from line m e =
+    let field = steps (split_at_space line) _ m e in
+    by_letter field.0.0 field.0.1 (bytes_eq field.0.0 (codes "p")) field.2 (word_is _ _) (split_from line field.0 field.1)
+  where
+    by_letter : (w r : List ℕ) (p : Bool) → cond p (program_meaning r) (entry_meaning w r) ≡ Some m → (p ≡ true → w ≡ codes "p") → line ≡ w ++ 32 ∷ r → IsSpelled line m
+    by_letter w r true e letter whole = subst (λ u. IsSpelled u m) (sym (whole ∙ ap (λ u. u ++ 32 ∷ r) (letter refl))) (program_from r m e)
+    by_letter w r false e letter whole = subst (λ u. IsSpelled u m) (sym whole) (entry_from w r m e)
+
+pub said : (line : List ℕ) (m : Meaning) → line_meaning line ≡ Some m → IsSpelled line m
+unfolding line_meaning
+said line m e = words_from line m (unless (ltb DUMP_LINE_BYTES (length line)) (words_meaning line) m e).1
+
+-- ---- a line that is spelled
+
+pub record EntryFits (e : EntryLine) : Type 0 where
+  pub map : e.map < 2 ^ 64
+  pub key : IsBytes e.key
+  pub key_some : 0 < length e.key
+  pub key_few : length e.key ≤ 64
+  pub value : IsBytes e.value
+  pub value_some : 0 < length e.value
+  pub value_few : length e.value ≤ 256
+
+pub record ProgramFits (p : ProgramLine) : Type 0 where
+  pub argument : p.arg_len ≤ MAX_ARG_LEN
+  pub bytes : IsBytes p.bytes
+  pub some : 0 < length p.bytes
+  pub few : length p.bytes ≤ 8 * MAX_INSTALLED_SLOTS
+
+abbrev pub Fits : Meaning → Type 0
+Fits (Entry e) = EntryFits e
+Fits (Program p) = ProgramFits p
+
+digit_no_space : (b : ℕ) → (leb 48 b && leb b 57) ≡ true → is_space b ≡ false
+digit_no_space b h = grind (arith, nat_tests)
+
+lower_no_space : (b : ℕ) → is_lower_digit b ≡ true → is_space b ≡ false
+lower_no_space b h = grind (arith, nat_tests)
+
+plain_number : (n : ℕ) → n < 2 ^ 64 → has_no_space (decimal n) ≡ true
+plain_number n lt = no_space_from (λ b. leb 48 b && leb b 57) digit_no_space (decimal n) (digits_decimal own n lt)
+
+plain_hex : (bytes : List ℕ) → IsBytes bytes → has_no_space (encode_lower bytes) ≡ true
+plain_hex bytes are = no_space_from is_lower_digit lower_no_space (encode_lower bytes) (lower_all bytes are)
+
+plain_mode : (m : Mode) → has_no_space (mode_word m) ≡ true
+plain_mode Update = refl
+plain_mode Read = refl
+
+mode_to : (m : Mode) → mode_of (mode_word m) ≡ Some m
+mode_to Update = refl
+mode_to Read = refl
+
+no_letter : (n : ℕ) → n < 2 ^ 64 → bytes_eq (decimal n) (codes "p") ≡ false
+no_letter n lt = by_test (bytes_eq (decimal n) (codes "p")) (word_is (decimal n) (codes "p"))
+  where
+    by_test : (b : Bool) → (b ≡ true → decimal n ≡ codes "p") → b ≡ false
+    by_test false is = refl
+    by_test true is =
+        let digits : all_ascii_digits (codes "p") ≡ true = subst (λ t. all_ascii_digits t ≡ true) (is refl) (digits_decimal own n lt) in
+        absurd cc
+
+digits_few : (n : ℕ) → n < 2 ^ 64 → length (decimal n) ≤ 20
+digits_few n lt = length-decimal-le 20 n (lit< tt) (omega (arith, lt)) lt
+
+entry_short : (e : EntryLine) → EntryFits e → length (entry_text e) ≤ DUMP_LINE_BYTES
+entry_short e f =
+    let key = length-encode_with lower_digits e.key in
+    let value = length-encode_with lower_digits e.value in
+    let rest = length-append (encode_lower e.key) (32 ∷ encode_lower e.value) in
+    let whole = length-append (decimal e.map) (32 ∷ (encode_lower e.key ++ 32 ∷ encode_lower e.value)) in
+    omega (arith, digits_few e.map f.map, key, value, rest, whole, f.key_few, f.value_few)
+
+pub entry_to : (e : EntryLine) → EntryFits e → line_meaning (entry_text e) ≡ Some (Entry e)
+unfolding line_meaning words_meaning entry_meaning
+entry_to e f =
+    rw (
+      le-ltb DUMP_LINE_BYTES (length (entry_text e)) (entry_short e f),
+      split_to (decimal e.map) (encode_lower e.key ++ 32 ∷ encode_lower e.value) (plain_number e.map f.map),
+      no_letter e.map f.map,
+      split_to (encode_lower e.key) (encode_lower e.value) (plain_hex e.key f.key),
+      (numerals_are_decimals (decimal e.map) e.map).1 (refl, f.map),
+      lower_to e.key f.key f.key_some (omega (arith, f.key_few)),
+      lower_to e.value f.value f.value_some f.value_few,
+    ) refl
+
+within_to : (n : ℕ) → n ≤ MAX_ARG_LEN → number_within 0 MAX_ARG_LEN (decimal n) ≡ Some n
+unfolding number_within
+within_to n le = rw ((numerals_are_decimals (decimal n) n).1 (refl, omega (arith, le)), le-leb 0 n (omega arith), le-leb n MAX_ARG_LEN le) refl
+
+word_few : (m : Mode) → length (mode_word m) ≤ 6
+word_few Update = omega arith
+word_few Read = omega arith
+
+program_short : (p : ProgramLine) → ProgramFits p → length (program_text p) ≤ DUMP_LINE_BYTES
+program_short p f =
+    let hex = length-encode_with lower_digits p.bytes in
+    let rest = length-append (decimal p.arg_len) (32 ∷ encode_lower p.bytes) in
+    let whole = length-append (mode_word p.mode) (32 ∷ (decimal p.arg_len ++ 32 ∷ encode_lower p.bytes)) in
+    omega (arith, digits_few p.arg_len (omega (arith, f.argument)), hex, rest, whole, word_few p.mode, f.few)
+
+pub program_to : (p : ProgramLine) → ProgramFits p → line_meaning (program_text p) ≡ Some (Program p)
+unfolding line_meaning words_meaning program_meaning
+program_to p f =
+    let behind = decimal p.arg_len ++ 32 ∷ encode_lower p.bytes in
+    let small : p.arg_len < 2 ^ 64 = omega (arith, f.argument) in
+    let letter : split_at_space (codes "p" ++ 32 ∷ (mode_word p.mode ++ 32 ∷ behind)) ≡ Some (codes "p", mode_word p.mode ++ 32 ∷ behind) = split_to (codes "p") _ refl in
+    rw (
+      le-ltb DUMP_LINE_BYTES (length (program_text p)) (program_short p f),
+      letter,
+      split_to (mode_word p.mode) behind (plain_mode p.mode),
+      split_to (decimal p.arg_len) (encode_lower p.bytes) (plain_number p.arg_len small),
+      mode_to p.mode,
+      within_to p.arg_len f.argument,
+      lower_to p.bytes f.bytes f.some (omega (arith, f.few)),
+      le-leb (length p.bytes) (8 * MAX_INSTALLED_SLOTS) f.few,
+    ) refl
+
+pub spelled_says : (m : Meaning) → Fits m → line_meaning (text_of m) ≡ Some m
+spelled_says (Entry e) f = entry_to e f
+spelled_says (Program p) f = program_to p f

@@ -1,0 +1,15 @@
+-- That states and texts are one for one.
+use Rattle.std.specs.Prelude.{◌≡◌, ℕ, List, Ok}
+use Rattle.maps.specs.declared.shapes.Shape.{Shape}
+use Rattle.loader.specs.StoreState.{StoreState, IsState}
+use Rattle.dumps.specs.Loading.{loaded_state}
+use Rattle.dumps.specs.Dumping.{dump}
+
+-- what a state is dumped as is loaded as that state
+abbrev pub DumpIsRead : Type 0
+DumpIsRead =
+    (shapes : List Shape) (places : ℕ) (s : StoreState) → IsState (record { shapes = shapes; places = places }) s → loaded_state shapes places (dump s) ≡ Ok s
+
+-- a text that is loaded as a state is what that state is dumped as
+abbrev pub TextIsDumped : Type 0
+TextIsDumped = (shapes : List Shape) (places : ℕ) (text : List ℕ) (s : StoreState) → loaded_state shapes places text ≡ Ok s → dump s ≡ text
