@@ -1,12 +1,13 @@
 // The buffer that records are copied into from the log.
 
-ghost use Rattle.std.specs.Prelude.{◌≡◌, ◌↔◌, ◌<◌, ◌++◌, ◌∷◌, [], length, slice_get, Some, IsTrue, IfOk};
+ghost use Rattle.std.specs.Prelude.{◌≡◌, ◌↔◌, ◌<◌, ◌≤◌, ◌+◌, ◌^◌, ◌++◌, ◌∷◌, [], length, drop, slice_get, vec_capacity, Some, IsTrue, IfOk};
 ghost use Rattle.oplog.specs.Limits.{IsWindow};
 ghost use Rattle.oplog.specs.Logs.{opened_hand};
 
 use crate::records::{Record, push_copy};
 use std::alloc::{AllocError, Global};
 use std::marker::Model;
+use std::mem::swap;
 
 /// A buffer for records of the log, with the index of the first. All its room is taken when it is opened: no later call
 /// takes memory.
@@ -90,5 +91,43 @@ impl Hand {
         ensures pushed { self.new ≡ record self.old { records = self.old.records ++ next.now ∷ [] } }
     {
         push_copy(&mut self.records, next);
+    }
+
+    /// Puts copies of these records at the end. There is room for them.
+    pub fn extend(&mut self, records: &[Record])
+        requires room { length self.old.records + length records.now ≤ self.old.window }
+        ensures extended { self.new ≡ record self.old { records = self.old.records ++ records.now } }
+    {
+        for record in records {
+            self.push(record);
+        }
+    }
+
+    /// Drops so many records from the front; the hand then begins behind them.
+    pub fn drop_first(&mut self, count: usize)
+        requires within { count ≤ length self.old.records }
+        requires short { self.old.begin + count < 2 ^ 64 }
+        ensures dropped { self.new ≡ record self.old { begin = self.old.begin + count; records = drop count self.old.records } }
+    {
+        self.records.copy_within(count.., 0);
+        self.records.truncate(self.records.len() - count);
+        self.begin += count as u64;
+    }
+
+    /// All records, in order.
+    pub(crate) fn records(&self) -> &[Record]
+        ensures records { result.now ≡ self.now.records }
+    {
+        &self.records
+    }
+
+    /// Takes the records of a log, the first of which has this index, and leaves its own there. Nothing is copied.
+    pub(crate) fn exchange(&mut self, begin: u64, records: &mut Vec<Record>)
+        requires room { self.old.window ≤ vec_capacity records.old }
+        ensures taken { self.new ≡ record self.old { begin = begin; records = records.old.items } }
+        ensures room { self.old.window ≤ vec_capacity records.new }
+    {
+        swap(&mut self.records, records);
+        self.begin = begin;
     }
 }

@@ -1,6 +1,6 @@
 // The log.
 
-ghost use Rattle.std.specs.Prelude.{◌≡◌, ◌↔◌, ◌<◌, ◌≤◌, ◌-◌, ◌++◌, length, take, min, max, IfOk, IsErr, OnErr};
+ghost use Rattle.std.specs.Prelude.{◌≡◌, ◌↔◌, ◌<◌, ◌≤◌, ◌-◌, ◌++◌, length, take, min, max, vec_capacity, IfOk, IsErr, OnErr};
 ghost use Rattle.maps.specs.Shapes.{AreShapesOk};
 ghost use Rattle.maps.specs.Maps.{HasShapes, shapes_of};
 ghost use Rattle.maps.specs.MapSets.{maps_of};
@@ -18,6 +18,7 @@ use loader::Installed;
 use maps::{MapSet, Shape};
 use std::alloc::{AllocError, Global};
 use std::marker::Model;
+use std::mem::swap;
 
 /// The one history of operations that all replicas are fed from, from its base on, with the maps and the installed programs there, and how
 /// far it is completed. All its room, a window of records, the maps and the programs, is taken when it is opened: no later call takes memory.
@@ -187,6 +188,15 @@ impl LogState {
         CopyAnswer::Copied
     }
 
+    /// The records from an index on, which is not below the base.
+    pub fn records_from(&self, index: u64) -> &[Record]
+        requires base { self.now.base ≤ index }
+        requires tail { index ≤ tail_of self.now }
+        ensures records { result.now ≡ records_from self.now index }
+    {
+        &self.records[(index - self.base) as usize..]
+    }
+
     /// The completed tail becomes the greater of itself and `n`, which is a length of the history so far.
     pub fn raise_done(&mut self, n: u64)
         requires tail { n ≤ tail_of self.old }
@@ -212,5 +222,47 @@ impl LogState {
         self.records.copy_within(dropped.., 0);
         self.records.truncate(self.records.len() - dropped);
         self.base = at;
+    }
+
+    /// Makes `at` the base, as [`LogState::reclaim`] does, and copies neither the maps nor the programs: they and the base's change places,
+    /// so that the caller has what was the base. The hand, which was opened for a log of this window, gets all the records that the log had:
+    /// the first of them, up to `at`, lead from that base to the new one. Takes time in proportion to the records that stay.
+    pub fn exchange(
+        &mut self,
+        at: u64,
+        maps: &mut MapSet,
+        programs: &mut Installed,
+        hand: &mut Hand,
+    )
+        requires above { self.old.base < at }
+        requires completed { at ≤ self.old.done }
+        requires shapes { HasShapes (shapes_of self.old.base_state.maps) (maps_of maps.old) }
+        requires programs { programs.old.shapes ≡ shapes_of (maps_of maps.old) }
+        requires places { programs.old.places ≡ self.old.base_state.places }
+        requires window { hand.old.window ≡ self.old.window }
+        ensures base { self.new ≡ record self.old { base = at; base_state = state_of (maps_of maps.old) programs.old; records = records_from self.old at } }
+        ensures state { state_of (maps_of maps.new) programs.new ≡ self.old.base_state }
+        ensures shapes { HasShapes (shapes_of (maps_of maps.new)) (maps_of maps.new) }
+        ensures programs { programs.new.shapes ≡ shapes_of (maps_of maps.new) }
+        ensures hand { hand.new ≡ record hand.old { begin = self.old.base; records = self.old.records } }
+    {
+        swap(&mut self.base_maps, maps);
+        swap(&mut self.base_programs, programs);
+        let dropped = (at - self.base) as usize;
+        hand.exchange(self.base, &mut self.records);
+        copy_records(&mut self.records, &hand.records()[dropped..]);
+        self.base = at;
+    }
+}
+
+// Becomes a copy of these records. There is room for them.
+fn copy_records(records: &mut Vec<Record>, from: &[Record])
+    requires room { length from.now ≤ vec_capacity records.old }
+    ensures copied { records.new.items ≡ from.now }
+    ensures capacity { vec_capacity records.new ≡ vec_capacity records.old }
+{
+    records.clear();
+    for record in from {
+        push_copy(records, record);
     }
 }
