@@ -1,6 +1,6 @@
 // Operations of the history, run on a node's maps and programs.
 
-ghost use Rattle.std.specs.Prelude.{◌≡◌, ◌+◌, ◌<◌, ◌^◌, List, IfSome, length, true, Some, option_map};
+ghost use Rattle.std.specs.Prelude.{◌≡◌, ◌+◌, ◌<◌, ◌≤◌, ◌^◌, List, IfSome, length, take, true, Some, option_map};
 ghost use Rattle.maps.specs.declared.shapes.Shape.{Shape};
 ghost use Rattle.maps.specs.Maps.{Maps, HasShapes};
 ghost use Rattle.maps.specs.MapSets.{maps_of};
@@ -131,25 +131,27 @@ fn perform(catalogue: &Catalogue, programs: &mut Installed, maps: &mut MapSet, o
     }
 }
 
-// Performs the operations of the records in a hand, one after the other, and keeps what they answer.
-pub(crate) fn perform_each(
+// Performs the operations of the first records in a hand, one after the other, and keeps what they answer.
+pub(crate) fn perform_first(
     catalogue: &Catalogue,
     programs: &mut Installed,
     maps: &mut MapSet,
     hand: &Hand,
+    count: usize,
     replies: &mut Replies,
 )
+    requires count { count ≤ length hand.now.records }
     requires shapes { HasShapes catalogue.now.shapes (maps_of maps.old) }
     requires programs { programs.old.shapes ≡ catalogue.now.shapes }
     requires allowed { AreUpdates catalogue.now hand.now.records }
     requires fits { hand.now.begin + length hand.now.records < 2 ^ 64 }
-    ensures state { state_of (maps_of maps.new) programs.new ≡ after store_meaning catalogue.now (state_of (maps_of maps.old) programs.old) hand.now.records }
+    ensures state { state_of (maps_of maps.new) programs.new ≡ after store_meaning catalogue.now (state_of (maps_of maps.old) programs.old) (take count hand.now.records) }
     ensures shapes { HasShapes catalogue.now.shapes (maps_of maps.new) }
     ensures sizes { (programs.new.shapes ≡ programs.old.shapes) × (programs.new.places ≡ programs.old.places) }
-    ensures kept { KeepsOutcomes catalogue.now (state_of (maps_of maps.old) programs.old) hand.now.begin hand.now.records replies.old replies.new }
+    ensures kept { KeepsOutcomes catalogue.now (state_of (maps_of maps.old) programs.old) hand.now.begin (take count hand.now.records) replies.old replies.new }
 {
     let first = hand.begin();
-    for k in 0..hand.len() {
+    for k in 0..count {
         let record = hand.record(k);
         let outcome = perform(catalogue, programs, maps, &record.op);
         replies.keep(first + k as u64, outcome);

@@ -1,6 +1,6 @@
 // A replica of the maps, and of the programs that were installed.
 
-ghost use Rattle.std.specs.Prelude.{◌≡◌, ◌+◌, ◌<◌, ◌≤◌, ◌^◌, [], length, Some, IfOk};
+ghost use Rattle.std.specs.Prelude.{◌≡◌, ◌+◌, ◌<◌, ◌≤◌, ◌^◌, [], length, take, drop, Some, IfOk};
 ghost use Rattle.maps.specs.Shapes.{AreShapesOk};
 ghost use Rattle.maps.specs.Maps.{shapes_of, HasShapes};
 ghost use Rattle.maps.specs.MapSets.{maps_of};
@@ -8,15 +8,16 @@ ghost use Rattle.verifier.specs.declared.refusal.Mode.TheVariants.{Read};
 ghost use Rattle.loader.specs.declared.installed.TheConstants.{MAX_PLACES};
 ghost use Rattle.loader.specs.StoreState.{installed_in, opened_state, sizes_for, sizes_of, state_of};
 ghost use Rattle.oplog.specs.History.{after};
+ghost use Rattle.oplog.specs.Logs.{records_from};
 ghost use Rattle.replica.specs.StoreMeaning.{store_meaning, call_of, run_of, ran_to, AreUpdates};
 ghost use Rattle.replica.specs.Replaying.{KeepsOutcomes};
 
-use crate::operations::{perform_each, program_of, run_suitable};
+use crate::operations::{perform_first, program_of, run_suitable};
 use crate::replying::Replies;
 use loader::{Catalogue, Installed};
 use machine::Outcome;
 use maps::{MapSet, Shape};
-use oplog::Hand;
+use oplog::{Hand, LogState};
 use std::alloc::{AllocError, Global};
 use std::marker::Model;
 use verifier::Mode;
@@ -103,9 +104,43 @@ impl Replica {
         ensures hand { hand.new ≡ record hand.old { begin = self.new.tail; records = [] } }
         ensures replies { KeepsOutcomes catalogue.now self.old.state self.old.tail hand.old.records replies.old replies.new }
     {
-        perform_each(catalogue, &mut self.programs, &mut self.maps, hand, replies);
-        self.tail += hand.len() as u64;
+        let count = hand.len();
+        perform_first(
+            catalogue,
+            &mut self.programs,
+            &mut self.maps,
+            hand,
+            count,
+            replies,
+        );
+        self.tail += count as u64;
         hand.clear(self.tail);
+    }
+
+    /// Applies the first `count` records of a hand, which begins at the tail, and lets go of what they answer. Their operations are updates
+    /// of the catalogue, which has the replica's sizes. The hand then has the others, and begins at the new tail.
+    pub fn replay_first(&mut self, hand: &mut Hand, count: usize, catalogue: &Catalogue)
+        requires begins { hand.old.begin ≡ self.old.tail }
+        requires sizes { sizes_of self.old.state ≡ sizes_for catalogue.now }
+        requires allowed { AreUpdates catalogue.now hand.old.records }
+        requires fits { self.old.tail + length hand.old.records < 2 ^ 64 }
+        requires count { count ≤ length hand.old.records }
+        ensures tail { self.new.tail ≡ self.old.tail + count }
+        ensures state { self.new.state ≡ after store_meaning catalogue.now self.old.state (take count hand.old.records) }
+        ensures sizes { sizes_of self.new.state ≡ sizes_of self.old.state }
+        ensures hand { hand.new ≡ record hand.old { begin = self.new.tail; records = drop count hand.old.records } }
+    {
+        let mut replies = Replies::new(0, 0);
+        perform_first(
+            catalogue,
+            &mut self.programs,
+            &mut self.maps,
+            hand,
+            count,
+            &mut replies,
+        );
+        self.tail += count as u64;
+        hand.drop_first(count);
     }
 
     /// Makes the maps and the programs those of a base, which are those after `index` operations. They have the replica's sizes. Takes
@@ -119,6 +154,23 @@ impl Replica {
         self.maps.copy_from(maps);
         self.programs.copy_from(programs);
         self.tail = index;
+    }
+
+    /// Changes places with a log's base, which lies below the tail: the maps and the programs become the base's, and the replica has what
+    /// was the base. All that it has applied is completed. The hand, which was opened for a log of this window, gets all the records that
+    /// the log had, and the log keeps those from the tail on. No map is copied.
+    pub fn exchange(&mut self, log: &mut LogState, hand: &mut Hand)
+        requires above { log.old.base < self.old.tail }
+        requires completed { self.old.tail ≤ log.old.done }
+        requires sizes { sizes_of self.old.state ≡ sizes_of log.old.base_state }
+        requires window { hand.old.window ≡ log.old.window }
+        ensures log { log.new ≡ record log.old { base = self.old.tail; base_state = self.old.state; records = records_from log.old self.old.tail } }
+        ensures replica { self.new ≡ record { tail = log.old.base; state = log.old.base_state } }
+        ensures hand { hand.new ≡ record hand.old { begin = log.old.base; records = log.old.records } }
+    {
+        let base = log.base();
+        log.exchange(self.tail, &mut self.maps, &mut self.programs, hand);
+        self.tail = base;
     }
 
     /// Runs the program of a number on an argument, as a read: one of the catalogue, which has the replica's sizes, or one that was

@@ -6,7 +6,7 @@ use Rattle.loader.specs.StoreState.{state_of}
 use Rattle.oplog.specs.History.{after}
 use Rattle.replica.specs.StoreMeaning.{store_meaning}
 use Rattle.replica.specs.Replaying.{KeepsOutcomes}
-use Rattle.replica.proofs.operations.perform_each.Given as goal
+use Rattle.replica.proofs.operations.perform_first.Given as goal
 
 abbrev pub invariant-loop-k : goal.invariant-loop-k
 invariant-loop-k l = record {

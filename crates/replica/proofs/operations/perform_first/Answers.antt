@@ -3,7 +3,7 @@ use Rattle.maps.specs.MapSets.{maps_of}
 use Rattle.loader.specs.StoreState.{StoreState, state_of}
 use Rattle.replica.proofs.Afters.{after_one_more}
 use Rattle.replica.proofs.Kept.{keeps_one_more, is_answered, leaves}
-use Rattle.replica.proofs.operations.perform_each.Goals as goal
+use Rattle.replica.proofs.operations.perform_first.Goals as goal
 
 pub loop-k-preserved : goal.loop-k-preserved
 loop-k-preserved c =
