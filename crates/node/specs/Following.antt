@@ -1,6 +1,6 @@
 -- The steps of a node's replica on a log: when each may be taken, and what it makes of the two. Where a guard asks what is completed, it is
 -- told how much, since the log itself may know less.
-use Rattle.std.specs.Prelude.{◌≡◌, ℕ, ◌+◌, ◌<◌, ◌≤◌, ◌^◌, Bool, true, false, ◌&&◌, ◌||◌, not, [], ◌∷◌, ◌++◌, length, take, min, max, nat_lt, nat_le, Option, Some, None}
+use Rattle.std.specs.Prelude.{◌≡◌, ℕ, ◌+◌, ◌<◌, ◌≤◌, ◌^◌, Bool, true, false, ◌&&◌, ◌||◌, not, [], ◌∷◌, ◌++◌, length, take, drop, min, max, nat_lt, nat_le, Option, Some, None}
 use Rattle.loader.specs.CatalogueView.{CatalogueView}
 use Rattle.loader.specs.StoreState.{StoreState, sizes_of, sizes_for}
 use Rattle.oplog.specs.Logs.{Log, tail_of, left_of, room_in, records_from}
@@ -77,6 +77,15 @@ replayed c n =
       hand = record n.hand { begin = tail; records = [] };
     }
 
+-- the replica once it has applied the first of the records in its hand, so many
+abbrev pub replayed_first : CatalogueView → ℕ → NodeReplica → NodeReplica
+replayed_first c count n =
+    let tail = n.replica.tail + count in
+    record {
+      replica = record { tail = tail; state = after store_meaning c n.replica.state (take count n.hand.records) };
+      hand = record n.hand { begin = tail; records = drop count n.hand.records };
+    }
+
 -- an outcome at an index is kept, if there is one
 abbrev pub with_effect : RepliesView → ℕ → Option (Effect StoreState) → RepliesView
 with_effect kept index (Some e) = with_outcome kept index (outcome_of e)
@@ -115,6 +124,11 @@ may_rebase g n = nat_lt n.replica.tail g.base && no_records n.hand.records
 
 abbrev pub rebased : Log → NodeReplica → NodeReplica
 rebased g n = record { replica = record { tail = g.base; state = g.base_state }; hand = record n.hand { begin = g.base; records = [] } }
+
+-- ---- exchange: a reclaim of which the node keeps what was the base. On the log as it was, this is a rebase, and a copy of all that is there
+
+abbrev pub exchanged : Log → NodeReplica → NodeReplica
+exchanged g n = copied g (rebased g n)
 
 -- ---- answers: of a read, where the replica has come to what the read saw completed, and all that it has applied is completed; of a batch in
 -- the log, where no copied record is left to apply, and all that the replica has applied is completed

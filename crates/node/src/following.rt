@@ -3,10 +3,10 @@
 ghost use Rattle.std.specs.Prelude.{◌≡◌, ◌≤◌, ◌<◌, true, length};
 ghost use Rattle.loader.specs.StoreState.{sizes_of, sizes_for};
 ghost use Rattle.oplog.specs.declared.configuration.TheConstants.{MAX_LIMIT};
-ghost use Rattle.oplog.specs.Logs.{tail_of, records_from};
+ghost use Rattle.oplog.specs.Logs.{tail_of, records_from, room_in};
 ghost use Rattle.replica.specs.Replaying.{KeepsOutcomes};
 ghost use Rattle.replica.specs.StoreMeaning.{AreUpdates};
-ghost use Rattle.node.specs.Following.{IsNext, Fits, may_append, grown, copied, replies_for, is_above, has_next, replayed, replies_after, may_finish, told, may_reclaim, reclaimed, may_rebase, rebased, may_answer, may_reply};
+ghost use Rattle.node.specs.Following.{IsNext, Fits, may_append, grown, copied, room_for, replies_for, is_above, has_next, replayed, replayed_first, replies_after, may_finish, told, may_reclaim, reclaimed, may_rebase, rebased, exchanged, may_answer, may_reply};
 
 use loader::Catalogue;
 use oplog::{CopyAnswer, Hand, LogState, Record};
@@ -29,6 +29,25 @@ pub fn may_append(log: &LogState, node: &NodeReplica, records: &[Record]) -> boo
     log.base() <= node.replica.tail() && records.len().min(log.left()) <= log.room()
 }
 
+/// Appends as many of the records, from the first on, as the history may still have. There is room for these. The replies that are lent
+/// keep the indexes of those that were appended then, and no outcome yet.
+pub fn append_only(log: &mut LogState, records: &[Record], replies: &mut Replies)
+    requires room { room_for records.now log.old ≤ room_in log.old }
+    requires few { length records.now ≤ 16 }
+    ensures log { log.new ≡ grown records.now log.old }
+    ensures replies { replies.new ≡ replies_for records.now log.old }
+    ensures within { tail_of log.new ≤ MAX_LIMIT }
+    ensures kept { length log.new.records ≤ log.new.window }
+{
+    let first = log.tail();
+    let count = match log.append(records) {
+        Ok(appended) => appended.count,
+        Err(_) => 0,
+    };
+    replies.restart(first, count);
+    let _tail = log.tail();
+}
+
 /// Appends as many of the records, from the first on, as the history may still have, and copies what the replica lacks into the hand.
 /// The replies that are lent keep the indexes of those that were appended then, and no outcome yet.
 pub fn append(log: &mut LogState, node: &mut NodeReplica, records: &[Record], replies: &mut Replies)
@@ -40,13 +59,8 @@ pub fn append(log: &mut LogState, node: &mut NodeReplica, records: &[Record], re
     ensures replies { replies.new ≡ replies_for records.now log.old }
     ensures within { tail_of log.new ≤ MAX_LIMIT }
 {
-    let first = log.tail();
-    let count = match log.append(records) {
-        Ok(appended) => appended.count,
-        Err(_) => 0,
-    };
+    append_only(log, records, replies);
     copy(log, node);
-    replies.restart(first, count);
 }
 
 /// Copies what the replica lacks into the hand. The log has all of it.
@@ -79,6 +93,16 @@ pub fn replay(node: &mut NodeReplica, catalogue: &Catalogue, replies: &mut Repli
     ensures kept { KeepsOutcomes catalogue.now node.old.replica.state node.old.replica.tail node.old.hand.records replies.old replies.new }
 {
     node.replica.replay(&mut node.hand, catalogue, replies);
+}
+
+/// Applies the first of the records in the hand to the replica, so many, and lets go of what they answer.
+pub fn replay_first(node: &mut NodeReplica, catalogue: &Catalogue, count: usize)
+    requires next { IsNext catalogue.now node.old }
+    requires count { count ≤ length node.old.hand.records }
+    ensures node { node.new ≡ replayed_first catalogue.now count node.old }
+    ensures sizes { sizes_of node.new.replica.state ≡ sizes_of node.old.replica.state }
+{
+    node.replica.replay_first(&mut node.hand, count, catalogue);
 }
 
 /// Copies what the replica lacks, and applies it, while the log is lent. The log has all of it.
@@ -130,6 +154,23 @@ pub fn reclaim(log: &mut LogState, node: &NodeReplica)
     finish(log, node);
     let replica = &node.replica;
     log.reclaim(replica.tail(), replica.maps(), replica.programs());
+}
+
+/// Makes the replica the log's base, as [`reclaim`] does, and copies no map: the two change places. The node has what was the base then,
+/// with all the records that the log had in its hand; the first of these lead back to what it was. The hand is empty before.
+pub fn exchange(log: &mut LogState, node: &mut NodeReplica)
+    requires above { log.old.base < node.old.replica.tail }
+    requires within { node.old.replica.tail ≤ tail_of log.old }
+    requires sizes { sizes_of node.old.replica.state ≡ sizes_of log.old.base_state }
+    requires window { node.old.hand.window ≡ log.old.window }
+    ensures log { log.new ≡ reclaimed node.old (told node.old log.old) }
+    ensures node { node.new ≡ exchanged log.old node.old }
+    ensures within { tail_of log.old ≤ MAX_LIMIT }
+{
+    let _end = log.tail();
+    let tail = node.replica.tail();
+    log.raise_done(tail);
+    node.replica.exchange(log, &mut node.hand);
 }
 
 /// Whether the replica is behind the log's base, and its hand is empty.

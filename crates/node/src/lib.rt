@@ -9,7 +9,8 @@ mod parts;
 
 pub use answering::answer_batch;
 pub use following::{
-    NodeReplica, append, copy, finish, follow, has_next, may_answer, may_append, may_finish,
-    may_rebase, may_reclaim, may_reply, rebase, reclaim, replay,
+    NodeReplica, append, append_only, copy, exchange, finish, follow, has_next, may_answer,
+    may_append, may_finish, may_rebase, may_reclaim, may_reply, rebase, reclaim, replay,
+    replay_first,
 };
 pub use parts::{NodeBatch, Written};
