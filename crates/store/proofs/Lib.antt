@@ -4,6 +4,7 @@ pub mod Parts
 pub mod Followed
 pub mod Taken
 pub mod Played
+pub mod Exchanged
 pub mod Rooms
 pub mod Finished
 pub mod Batched

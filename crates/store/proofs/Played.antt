@@ -38,21 +38,21 @@ pub record Rest (l : L) (n : NodeReplica) : Type 0 where
   sizes : sizes_of n.replica.state ≡ sizes_for l.catalogue
   hand : n.hand ≡ (let full : HandView = record { begin = n.replica.tail; records = drop n.replica.tail l.history; window = l.config.window } in full)
 
-rest_of : (l : L) (n : NodeReplica) → HasOthers l n → Rest l n
+pub rest_of : (l : L) (n : NodeReplica) → HasOthers l n → Rest l n
 rest_of l n h = record { within = h.within; state = h.state; sizes = h.sizes; hand = h.hand }
 
 module _ (l : L) (n : NodeReplica) (h : Rest l n) where
   abbrev t : ℕ
   t = n.replica.tail
 
-  records : n.hand.records ≡ drop t l.history
+  pub records : n.hand.records ≡ drop t l.history
   records = ap (λ (z : HandView). z.records) h.hand
 
-  all : t + length n.hand.records ≡ length l.history
+  pub all : t + length n.hand.records ≡ length l.history
   all = let long = ap length records in let rest = long_drop t l.history h.within in omega (arith, long, rest)
 
   -- the state after the first k of the hand's records are those after so many more operations
-  state_in : (k : ℕ) → after store_meaning l.catalogue n.replica.state (take k n.hand.records) ≡ state_after store_meaning l.catalogue l.history (t + k)
+  pub state_in : (k : ℕ) → after store_meaning l.catalogue n.replica.state (take k n.hand.records) ≡ state_after store_meaning l.catalogue l.history (t + k)
   state_in k = ap (λ z. after store_meaning l.catalogue z (take k n.hand.records)) h.state
       ∙ (ap (λ z. after store_meaning l.catalogue (state_after store_meaning l.catalogue l.history t) (take k z)) records ∙ replays store_meaning l.catalogue l.history t k)
 

@@ -87,35 +87,42 @@ module _ (k : K) (g : LogView) (n u : NodeReplica) (is : IsLogOf k.progress g) (
     goes = λ b d. goes_on (rebase_step k.progress.catalogue k.progress g n u (Held b) d behind stays) (Ends (sees k.progress g u (Held b) d));
   }
 
+  abbrev c : CatalogueView
+  c = k.progress.catalogue
+
+  keeps : Follows k.progress u × (g.base ≤ u.replica.tail)
+  keeps = kept_up k.progress g n is f u behind stays
+
+  -- the replica comes up, or stays
+  Comes : NodeReplica → Type 0
+  Comes m = (next : Bool) × ((b : BatchView) (d : DeskView) → Goes c (sees k.progress g u (Held b) d) (if_any next (Replays ∷ [])) (sees k.progress g m (Held b) d))
+
+  comes : (m : NodeReplica) (up : Bool) → (up ≡ false → m ≡ u) → (up ≡ true → m ≡ replayed c (copied g u)) → Comes m
+  unfolding Comes
+  comes m false same ran = (false, λ b d. subst (λ z. Goes c (sees k.progress g u (Held b) d) [] (sees k.progress g z (Held b) d)) (sym (same refl)) (Ends (sees k.progress g u (Held b) d)))
+  comes m true same ran = (has_next g u, λ b d. follow_step c k.progress g u m (above k.progress g u is keeps.0 keeps.1) keeps.0 (ran refl) (Held b) d (λ x. refl))
+
   -- there was none
-  module _ (after : K) (m : NodeReplica) (ran : m ≡ replayed k.progress.catalogue (copied g u)) (up : HasRaised k after m.replica.tail) (holds : HoldsLog k) (past : g.base < m.replica.tail) (h : LogView) (log : h ≡ reclaimed m (told m g)) where
-    abbrev c : CatalogueView
-    c = k.progress.catalogue
-
-    keeps : Follows k.progress u × (g.base ≤ u.replica.tail)
-    keeps = kept_up k.progress g n is f u behind stays
-
+  module _ (after : K) (m : NodeReplica) (came : Bool) (same : came ≡ false → m ≡ u) (ran : came ≡ true → m ≡ replayed c (copied g u)) (up : HasRaised k after m.replica.tail) (holds : HoldsLog k) (past : g.base < m.replica.tail) (h : LogView) (log : h ≡ reclaimed m (told m g)) where
     abbrev ahead : Bool
     ahead = nat_lt up.before.completed m.replica.tail
 
     same_log : later after.progress g ≡ g
     same_log = still_log k.progress after.progress g is up.goes.extends up.stands.accounts.completed (up.still holds)
 
-    follows : (b : BatchView) (d : DeskView) → Goes c (sees k.progress g u (Held b) d) (if_any (has_next g u) (Replays ∷ [])) (sees k.progress g m (Held b) d)
-    follows b d = follow_step c k.progress g u m (above k.progress g u is keeps.0 keeps.1) keeps.0 ran (Held b) d (λ x. refl)
-
     raises : (b : BatchView) (d : DeskView) → Goes c (sees k.progress g m (Held b) d) (if_any ahead (Finishes ∷ [])) (sees after.progress g m (Held b) d)
     raises b d = subst (λ z. Goes c (sees k.progress g m (Held b) d) (if_any ahead (Finishes ∷ [])) (sees after.progress z m (Held b) d)) same_log (raise_part k.progress k after g m is (store_laws.extends_self k.progress) up c (Held b) d)
 
     pub makes_room : MakesRoom k after g h n m
+    unfolding Comes
     makes_room = record {
       low = may_rebase g n;
       full = true;
-      next = has_next g u;
+      next = (comes m came same ran).0;
       later = ahead;
       goes = λ b d. ends_as c (sees after.progress h m (Held b) d) (ap (λ z. sees after.progress z m (Held b) d) (sym log))
           (goes_on (rebase_step c k.progress g n u (Held b) d behind stays)
-          (goes_on (goes_on (follows b d) (raises b d)) (reclaim_step c after.progress g m (Held b) d past up.completed)));
+          (goes_on (goes_on ((comes m came same ran).1 b d) (raises b d)) (reclaim_step c after.progress g m (Held b) d past up.completed)));
     }
 
 -- ---- the batch is appended

@@ -9,6 +9,7 @@ pub mod Standing
 pub mod Knowing
 -- What the store's inner functions speak of.
 pub mod Lending
+pub mod Rooms
 pub mod Places
 pub mod Combining
 pub mod Requests

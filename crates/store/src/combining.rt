@@ -36,7 +36,7 @@ pub(crate) fn combine<R: Wait>(
     let Shared {
         shelf,
         catalogue,
-        nodes: _,
+        ..
     } = shared;
     let mut held = shelf.take(rt, seat, 1 + caller.node);
     let node = held.value.replica_mut();

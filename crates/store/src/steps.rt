@@ -1,32 +1,40 @@
 // What a session does on the shelf.
 
-ghost use Rattle.std.specs.Prelude.{◌≡◌, ◌↔◌, ◌<◌, ◌≤◌, true, false, min, length, None, IsTrue};
+ghost use Rattle.std.specs.Prelude.{◌≡◌, ◌↔◌, ◌⊎◌, ◌+◌, ◌-◌, ◌<◌, ◌≤◌, true, false, min, length, drop, None, IsTrue};
 ghost use Rattle.loader.specs.StoreState.{sizes_of, sizes_for};
 ghost use Rattle.oplog.specs.Limits.{IsWindow};
-ghost use Rattle.oplog.specs.Logs.{left_of, room_in};
-ghost use Rattle.node.specs.Following.{may_rebase, rebased};
+ghost use Rattle.oplog.specs.Logs.{left_of, records_from, room_in, tail_of};
+ghost use Rattle.oplog.specs.declared.configuration.TheConstants.{MAX_LIMIT};
+ghost use Rattle.replica.specs.StoreMeaning.{AreUpdates};
+ghost use Rattle.node.specs.Following.{Fits, IsNext, copied, exchanged, is_above, may_rebase, rebased, reclaimed, replayed, replayed_first, told};
 ghost use Rattle.accounts.specs.Moves.{unplaced};
 ghost use Rattle.store.specs.Sessions.{IsReadBy, RepliesThere, op_of};
 ghost use Rattle.store.specs.Knowing.{HasLog, HasReplica, IsOn, Knows, Learns, Relates};
 ghost use Rattle.store.specs.Standing.{Stands, IsFree, HasOthers, HasRaised, HasPlace, HasAppended, HasReplayed, HasReached};
+ghost use Rattle.store.specs.Rooms.{FreesRoom, Owes, caught_up, with_more};
 ghost use Rattle.store.specs.Whole.{MakesRoom, AppendsAny, ReplaysAnywhere, FollowsBy, ReadsBy};
 
 use crate::values::Value;
 use loader::Catalogue;
-use node::{NodeReplica, append, follow, may_rebase, rebase, reclaim, replay};
-use oplog::{LogState, Record};
+use maps::Shape;
+use node::{
+    NodeReplica, append_only, copy, exchange, follow, may_rebase, rebase, reclaim, replay,
+    replay_first,
+};
+use oplog::{LogState, MAX_NODES, Record};
 use ownlock::{LEADER, Seat, Shelf};
 use readpath::{ReadAnswer, answer, ready};
 use replica::Replies;
 use std::marker::Brand;
 use std::sync::Wait;
 
-// What all sessions of a store share: its shelf, its catalogue, and how many nodes it has.
+// What all sessions of a store share: its shelf, its catalogue, how many nodes it has, and how many slots each has.
 #[derive(Clone, Copy)]
 pub(crate) struct Shared<'a> {
     pub(crate) shelf: &'a Shelf<Value>,
     pub(crate) catalogue: &'a Catalogue,
     pub(crate) nodes: usize,
+    pub(crate) slots: usize,
 }
 
 // A slot of a node: the session that works there.
@@ -72,37 +80,166 @@ fn lacks_room(log: &LogState, want: usize) -> bool
     log.room() < want.min(log.left())
 }
 
+// Whether more than half of the window are records before the replica, and there is room for so many without them.
+fn frees_room(log: &LogState, node: &NodeReplica, want: usize) -> bool
+    requires above { is_above log.now node.now ≡ true }
+    requires fits { Fits log.now node.now }
+    ensures frees { result ≡ true → FreesRoom want log.now node.now }
+{
+    let dropped = (node.replica.tail() - log.base()) as usize;
+    let kept = (log.tail() - node.replica.tail()) as usize;
+    kept + log.room() < dropped && want.min(log.left()) <= log.room() + dropped
+}
+
+// Whether each other node has appended something since the replica came up, so that no replica of a node that appends is behind it.
+fn is_last(log: &LogState, node: &NodeReplica, shared: Shared<'_>) -> bool
+    requires above { is_above log.now node.now ≡ true }
+    requires fits { Fits log.now node.now }
+{
+    let mut appended = [false; MAX_NODES as usize];
+    let mut others = 0usize;
+    for record in log.records_from(node.replica.tail()) {
+        let author = record.author as usize / shared.slots.max(1);
+        if author < appended.len() && !appended[author] {
+            appended[author] = true;
+            others = others.saturating_add(1);
+        }
+    }
+    shared.nodes <= others.saturating_add(1)
+}
+
+// Whether the log's base is to move: where the log has no room for so many records, of those that the history may still have, or before that
+// where the base may change places with a replica that no other is behind.
+fn is_base_due(log: &LogState, node: &NodeReplica, shared: Shared<'_>, want: usize) -> bool
+    requires above { is_above log.now node.now ≡ true }
+    requires fits { Fits log.now node.now }
+    ensures due { result ≡ true → (room_in log.now < min want (left_of log.now)) ⊎ FreesRoom want log.now node.now }
+    ensures room { result ≡ false → min want (left_of log.now) ≤ room_in log.now }
+    ensures window { IsWindow log.now.window }
+{
+    if lacks_room(log, want) {
+        return true;
+    }
+    frees_room(log, node, want)
+        && is_exchange_cheaper(log, shared.catalogue)
+        && is_last(log, node, shared)
+}
+
+// Brings the replica up to the log's end, where the log has no room for so many without the records that it has applied. Answers whether
+// it did.
+fn come_up(log: &LogState, node: &mut NodeReplica, catalogue: &Catalogue, want: usize) -> bool
+    requires above { is_above log.now node.old ≡ true }
+    requires fits { Fits log.now node.old }
+    requires sizes { sizes_of node.old.replica.state ≡ sizes_for catalogue.now }
+    requires updates { AreUpdates catalogue.now (records_from log.now node.old.replica.tail) }
+    ensures stays { result ≡ false → (node.new ≡ node.old) × FreesRoom want log.now node.old }
+    ensures follows { result ≡ true → node.new ≡ replayed catalogue.now (copied log.now node.old) }
+    ensures sizes { sizes_of node.new.replica.state ≡ sizes_of node.old.replica.state }
+{
+    if frees_room(log, node, want) {
+        return false;
+    }
+    follow(log, node, catalogue);
+    true
+}
+
+// As many bytes of maps are copied in about the time in which a record is copied once more and applied.
+const BYTES_A_RECORD: usize = 1_000;
+
+// The bytes that the values of a map have, and the keys of a hash.
+fn bytes_of(shape: Shape) -> usize {
+    let each = match shape {
+        Shape::Array { .. } => shape.value_bytes(),
+        Shape::Hash { .. } => shape.value_bytes().saturating_add(shape.key_bytes()),
+    };
+    each.saturating_mul(shape.entry_count())
+}
+
+// Whether it costs less to apply a window of records once more than to copy the maps.
+fn is_exchange_cheaper(log: &LogState, catalogue: &Catalogue) -> bool {
+    let mut bytes = 0usize;
+    for shape in catalogue.shapes() {
+        bytes = bytes.saturating_add(bytes_of(*shape));
+    }
+    let window = log
+        .room()
+        .saturating_add((log.tail() - log.base()) as usize);
+    window < bytes / BYTES_A_RECORD
+}
+
+// Makes the replica, all of which is completed, the log's base: where the maps are small by a copy of them, else the replica and the base
+// change places. The hand gets the records that the replica has then to apply to be what it was, which are counted, and those that it
+// lacked before.
+fn bring_base(log: &mut LogState, node: &mut NodeReplica, catalogue: &Catalogue) -> usize
+    requires above { log.old.base < node.old.replica.tail }
+    requires fits { Fits log.old node.old }
+    requires sizes { sizes_of node.old.replica.state ≡ sizes_of log.old.base_state }
+    ensures log { log.new ≡ reclaimed node.old (told node.old log.old) }
+    ensures copied { result ≡ 0 → node.new ≡ copied log.new node.old }
+    ensures exchanged { 0 < result → (node.new ≡ exchanged log.old node.old) × (result ≡ node.old.replica.tail - log.old.base) }
+    ensures within { tail_of log.new ≤ MAX_LIMIT }
+{
+    if is_exchange_cheaper(log, catalogue) {
+        let dropped = (node.replica.tail() - log.base()) as usize;
+        exchange(log, node);
+        let _tail = log.tail();
+        return dropped;
+    }
+    reclaim(log, node);
+    copy(log, node);
+    0
+}
+
 // While the log is held: a replica behind its base becomes the base, and a log without room for so many records gets the replica
-// as its base, once that has applied everything and all is completed.
+// as its base, once all that it has applied is completed. The hand has the records that the replica lacks then; where it changed places
+// with the base, those that lead back to what it was come before them, and are counted.
 fn make_room(
     shared: Shared<'_>,
     seat: &mut Seat<Value>,
     log: &mut LogState,
     node: &mut NodeReplica,
     want: usize,
-)
+) -> usize
     requires own { seat.old.shelf ≡ shared.shelf.now.id }
     requires few { want ≤ 16 }
     requires holds { Knows seat.old (λ k. HasLog k log.old node.old shared.catalogue.now) }
     ensures same { seat.new.shelf ≡ seat.old.shelf }
-    ensures room { Learns seat.old seat.new (λ k after. HasPlace k after want log.old log.new node.new) }
-    ensures goes { Relates seat.old seat.new (λ k after. MakesRoom k after log.old log.new node.old node.new) }
+    ensures owes { Owes shared.entry.catalogue.now log.new node.new result }
+    ensures room { Learns seat.old seat.new (λ k after. HasPlace k after want log.old log.new (caught_up shared.entry.catalogue.now result node.new)) }
+    ensures goes { Relates seat.old seat.new (λ k after. MakesRoom k after log.old log.new node.old (caught_up shared.entry.catalogue.now result node.new)) }
 {
     let Shared {
         shelf,
         catalogue,
-        nodes: _,
+        ..
     } = shared;
     rebase_if_behind(log, node);
-    if lacks_room(log, want) {
-        follow(log, node, catalogue);
+    if is_base_due(log, node, shared, want) {
+        come_up(log, node, catalogue, want);
         raise_to(shelf, seat, node.replica.tail());
-        reclaim(log, node);
+        bring_base(log, node, catalogue)
+    } else {
+        copy(log, node);
+        0
     }
 }
 
-// Takes the log, makes room and appends as many of the records as the history may still have, copies what the replica has still
-// to apply into its hand, and puts the log back. The replies that are lent keep the places of those that were appended then.
+// Applies the first of the records in the hand to the replica, so many, and puts these behind the others.
+fn come_back(node: &mut NodeReplica, catalogue: &Catalogue, owed: usize, appended: &[Record])
+    requires next { IsNext catalogue.now node.old }
+    requires owed { owed ≤ length node.old.hand.records }
+    requires room { length (drop owed node.old.hand.records) + length appended.now ≤ node.old.hand.window }
+    ensures node { node.new ≡ with_more appended.now (replayed_first catalogue.now owed node.old) }
+{
+    if owed > 0 {
+        replay_first(node, catalogue, owed);
+    }
+    node.hand.extend(appended);
+}
+
+// Takes the log, makes room and appends as many of the records as the history may still have, and puts the log back. The hand has what
+// the replica has still to apply then. The replies that are lent keep the places of those that were appended. A replica that changed
+// places with the log's base is brought back to what it was, once the log is put back.
 pub(crate) fn append_and_copy<R: Wait>(
     rt: &R,
     shared: Shared<'_>,
@@ -121,9 +258,10 @@ pub(crate) fn append_and_copy<R: Wait>(
 {
     let mut held = shared.shelf.take(rt, seat, LEADER);
     let log = held.value.log_mut();
-    make_room(shared, seat, log, node, records.len());
-    append(log, node, records, replies);
+    let owed = make_room(shared, seat, log, node, records.len());
+    append_only(log, records, replies);
     shared.shelf.put::<Brand>(seat, held);
+    come_back(node, shared.catalogue, owed, &records[..replies.len()]);
 }
 
 // Replays the records in the hand, and raises the completed tail to the replica's.
@@ -222,7 +360,7 @@ pub(crate) fn query<R: Wait>(
     let Shared {
         shelf,
         catalogue,
-        nodes: _,
+        ..
     } = shared;
     let done = shelf.done(seat);
     let mut held = shelf.take(rt, seat, 1 + caller.node);

@@ -136,6 +136,7 @@ impl Store {
             shelf: &self.shelf,
             catalogue: &self.setup.catalogue,
             nodes: self.setup.config.nodes as usize,
+            slots: self.setup.config.slots as usize,
         }
     }
 
