@@ -1,6 +1,7 @@
 // Why the text of a program file is no program, in words: C2 and C3.
 
 use crate::sentences::{Sentence, Word, of_eight, of_one, of_three, of_two, plain, small};
+use crate::strangers::{ELF, object_file};
 use asm::{AsmError, AsmFault, assemble};
 use insn::{DecodeFault, DecodeRefusal};
 use std::alloc::Global;
@@ -52,10 +53,8 @@ fn is_assembler_text(alloc: Global, text: &str) -> bool {
 
 // Why a text is no pairs of hexadecimal digits.
 pub(crate) fn bad_hex(alloc: Global, text: &str) -> Sentence<'static> {
-    if text.starts_with("\x7fELF") {
-        return plain(
-            "The file is an object file (ELF). To do: take the bytes of the program's section out (`llvm-objcopy -O binary -j .text`), and write them as hexadecimal digits (`xxd -p`); c/c2hex does both.",
-        );
+    if text.as_bytes().starts_with(ELF) {
+        return object_file();
     }
     if is_assembler_text(alloc, text) {
         return plain(

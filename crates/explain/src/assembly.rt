@@ -1,0 +1,274 @@
+// Where a line of assembler text is wrong, and what is wanted there.
+
+use crate::operand_kinds::{OperandKind, kinds_of};
+use crate::probes::{fault_of, is_word};
+use crate::sentences::{Sentence, Word, of_two, plain};
+use asm::{AsmError, AsmFault, AsmRefusal, assemble};
+use std::alloc::{AllocError, Global};
+use std::fmt::Write;
+use text::NumberedLines;
+
+// A part of a line: from a byte up to another one.
+#[derive(Clone, Copy)]
+struct Span {
+    begin: usize,
+    end: usize,
+}
+
+// The parts of a line.
+#[derive(Drop)]
+struct Parts<'a> {
+    // The line without its comment.
+    code: &'a str,
+    word: Span,
+    operands: Vec<Span>,
+}
+
+// What is wanted at a place of a line.
+#[derive(Clone, Copy)]
+struct Wanted<'a> {
+    at: usize,
+    what: Sentence<'a>,
+}
+
+fn is_blank(byte: u8) -> bool {
+    matches!(byte, b' ' | b'\t' | b'\r')
+}
+
+// The first place from this one on at which no white space is.
+fn visible(code: &str, from: usize) -> usize {
+    let mut at = from;
+    for byte in code.as_bytes().iter().skip(from) {
+        if !is_blank(*byte) {
+            break;
+        }
+        at = at.saturating_add(1);
+    }
+    at
+}
+
+// What stands behind white space, up to white space or a comma.
+fn token(code: &str, from: usize) -> Span {
+    let begin = visible(code, from);
+    let mut end = begin;
+    for byte in code.as_bytes().iter().skip(begin) {
+        if is_blank(*byte) || *byte == b',' {
+            break;
+        }
+        end = end.saturating_add(1);
+    }
+    Span { begin, end }
+}
+
+// The byte at a place.
+fn byte_at(code: &str, at: usize) -> Option<u8> {
+    code.as_bytes().get(at).copied()
+}
+
+impl<'a> Parts<'a> {
+    // Those of a line, with so many operands at most.
+    fn of(alloc: Global, line: &'a str, count: usize) -> Result<Parts<'a>, AllocError> {
+        let code = match line.split_once(';') {
+            Some((code, _)) => code,
+            None => line,
+        };
+        let word = token(code, 0);
+        let mut operands = Vec::new(alloc);
+        let mut at = word.end;
+        for k in 0..count {
+            if k > 0 {
+                let comma = visible(code, at);
+                if byte_at(code, comma) != Some(b',') {
+                    break;
+                }
+                at = comma.saturating_add(1);
+            }
+            let operand = token(code, at);
+            operands.push(operand)?;
+            at = operand.end;
+        }
+        Ok(Parts {
+            code,
+            word,
+            operands,
+        })
+    }
+
+    // The text of a part.
+    fn text(&self, span: Span) -> &'a str {
+        self.code.get(span.begin..span.end).unwrap_or("")
+    }
+
+    // Where the last part ends, without the white space behind it.
+    fn end(&self) -> usize {
+        match self.operands.last() {
+            Some(operand) => operand.end,
+            None => self.word.end,
+        }
+    }
+}
+
+// What is wanted in place of a word.
+fn wanted_word(alloc: Global, word: &str) -> Result<Sentence<'_>, AllocError> {
+    let wide = format!(in alloc; "{word}64")?;
+    if is_word(alloc, wide.as_str())? {
+        return Ok(of_two(
+            "a word with a width: `{}64`, or `{}32` for the lower half",
+            Word::Text(word),
+            Word::Text(word),
+        ));
+    }
+    let mut lower = String::new(alloc);
+    for byte in word.as_bytes() {
+        lower.push(char::from(byte.to_ascii_lowercase()))?;
+    }
+    if is_word(alloc, lower.as_str())? {
+        return Ok(plain("the word in lower case"));
+    }
+    Ok(plain(
+        "the word of an instruction (docs/LANGUAGE.md has them), or a label and a colon; `;` begins a comment",
+    ))
+}
+
+// The operand that is wrong in this way, and what is wanted there.
+fn wanted_operand<'a>(
+    alloc: Global,
+    parts: &Parts<'a>,
+    kinds: &[OperandKind],
+    why: AsmFault,
+) -> Result<Wanted<'a>, AllocError> {
+    let word = parts.text(parts.word);
+    for (k, span) in parts.operands.iter().enumerate() {
+        if let Some(kind) = kinds.get(k) {
+            if fault_of(alloc, word, kinds, k, parts.text(*span))? == Some(why) {
+                return Ok(Wanted {
+                    at: span.begin,
+                    what: kind.wanted(word, why),
+                });
+            }
+        }
+    }
+    Ok(Wanted {
+        at: parts.end(),
+        what: match kinds.get(parts.operands.len()) {
+            Some(kind) if parts.operands.is_empty() => kind.wanted(word, why),
+            _ => plain("a comma, and one more operand"),
+        },
+    })
+}
+
+// What is wanted where a jump leads to.
+fn wanted_target<'a>(parts: &Parts<'a>, what: Sentence<'a>) -> Wanted<'a> {
+    let at = match parts.operands.last() {
+        Some(operand) => operand.begin,
+        None => parts.end(),
+    };
+    Wanted { at, what }
+}
+
+// What is wanted behind the end of an instruction or a label: nothing.
+fn wanted_end<'a>(parts: &Parts<'a>, is_label: bool) -> Wanted<'a> {
+    if !is_label {
+        return Wanted {
+            at: visible(parts.code, parts.end()),
+            what: plain("the end of the line: one instruction stands there; `;` begins a comment"),
+        };
+    }
+    let mut at = parts.word.begin;
+    for byte in parts.code.as_bytes().iter().skip(at) {
+        at = at.saturating_add(1);
+        if *byte == b':' {
+            break;
+        }
+    }
+    Wanted {
+        at: visible(parts.code, at),
+        what: plain("the end of the line: an instruction stands on a line behind its label"),
+    }
+}
+
+// What is wanted in a line that is wrong in this way.
+fn wanted_in<'a>(alloc: Global, line: &'a str, why: AsmFault) -> Result<Wanted<'a>, AllocError> {
+    let first = Parts::of(alloc, line, 0)?;
+    let word = first.text(first.word);
+    let is_label = word.split_once(':').is_some();
+    let kinds = kinds_of(word);
+    let parts = Parts::of(alloc, line, kinds.len())?;
+    let at = parts.word.begin;
+    Ok(match why {
+        AsmFault::UnknownWord => Wanted {
+            at,
+            what: wanted_word(alloc, word)?,
+        },
+        AsmFault::BadOperand | AsmFault::OutOfRange => wanted_operand(alloc, &parts, kinds, why)?,
+        AsmFault::UnknownLabel => wanted_target(
+            &parts,
+            plain("a label that stands in the text, with a colon, on a line of its own"),
+        ),
+        AsmFault::LabelTwice => Wanted {
+            at,
+            what: plain("another name: a line above has this label too"),
+        },
+        AsmFault::JumpTooFar => wanted_target(
+            &parts,
+            plain("a slot that is nearer: 32768 slots back to 32767 on (`ja32` goes farther)"),
+        ),
+        AsmFault::TooLong => Wanted {
+            at,
+            what: plain("the end of the text: a program has at most 4096 slots"),
+        },
+        AsmFault::TextBehind => wanted_end(&parts, is_label),
+    })
+}
+
+// Adds white space up to a place of a line, so that what follows stands below it.
+fn put_below(out: &mut String, line: &str, at: usize) -> Result<(), AllocError> {
+    for byte in line.as_bytes().iter().take(at) {
+        match *byte {
+            b'\t' => out.push_str("\t")?,
+            0x80..=0xbf => {}
+            _ => out.push_str(" ")?,
+        }
+    }
+    Ok(())
+}
+
+// The line of this number.
+fn line_at(text: &str, wanted: u32) -> &str {
+    let mut lines = NumberedLines::new(text);
+    while let Some((number, line)) = lines.take_line() {
+        if number == wanted {
+            return line;
+        }
+    }
+    ""
+}
+
+// What is said of a refused text.
+fn told(alloc: Global, text: &str, refusal: AsmRefusal) -> Result<String, AllocError> {
+    let AsmRefusal { line: number, why } = refusal;
+    let line = line_at(text, number);
+    let Wanted { at, what } = wanted_in(alloc, line, why)?;
+    let column = at.saturating_add(1);
+    let mut out = String::new(alloc);
+    writeln!(out, "line {number} column {column}: wanted {what}")?;
+    writeln!(out, "    {}", line.strip_suffix('\r').unwrap_or(line))?;
+    out.push_str("    ")?;
+    put_below(&mut out, line, at)?;
+    out.push_str("^\n")?;
+    Ok(out)
+}
+
+/// Where an assembler text is wrong that is refused, and what is wanted there: the line and the column, the text of the line, and a mark below
+/// the column. Nothing of a text that is a program.
+///
+/// # Errors
+///
+/// The system has no memory left.
+pub fn explain_assembly(alloc: Global, text: &str) -> Result<String, AllocError> {
+    match assemble(alloc, text) {
+        Ok(_) => Ok(String::new(alloc)),
+        Err(AsmError::NoMemory) => Err(AllocError),
+        Err(AsmError::Refused(refusal)) => told(alloc, text, refusal),
+    }
+}
