@@ -1,6 +1,6 @@
 -- What a shelf with desks is opened with, place by place.
 use Rattle.std.specs.Prelude.{◌≡◌, ℕ, ◌+◌, ◌<◌, List, length, Option, Some}
-use Rattle.loader.specs.StoreState.{sizes_for}
+use Rattle.loader.specs.StoreState.{StateSizes, sizes_for}
 use Rattle.ownlock.specs.Seats.{At}
 use Rattle.loader.specs.CatalogueView.{CatalogueView}
 use Rattle.oplog.specs.declared.configuration.Config.{Config}
@@ -18,6 +18,10 @@ IsOpenedDesk slots node (Replica n) = ⊥
 -- so many places from that one on have a value each, the i-th of them one of which P i holds
 abbrev pub AreFilled : ℕ → ℕ → (ℕ → Value → Type 0) → List (Option Value) → Type 0
 AreFilled from count P values = (i : ℕ) → i < count → (v : Value) × At (from + i) (Some v) values × P i v
+
+-- with replicas as they are opened, for maps and places of these sizes
+abbrev pub HaveReplicas : ℕ → ℕ → StateSizes → ℕ → List (Option Value) → Type 0
+HaveReplicas from count sizes window = AreFilled from count (λ i v. IsOpenedReplica sizes window v)
 
 -- the values that there were stand where they stood
 abbrev pub AreKept : List (Option Value) → List (Option Value) → Type 0

@@ -12,7 +12,7 @@ ghost use Rattle.accounts.specs.LogSteps.{first_progress, fresh_note};
 ghost use Rattle.ownlock.specs.Seats.{all_sessions};
 ghost use Rattle.store.specs.Shelving.{IsOpenedReplica, opening_notes, opening_progress, sessions_of, store_rules};
 ghost use Rattle.store.specs.Sessions.{fresh_sessions};
-ghost use Rattle.store.specs.Places.{AreFilled, IsOpenedDesk, AreKept, AreShelved};
+ghost use Rattle.store.specs.Places.{AreFilled, HaveReplicas, IsOpenedDesk, AreKept, AreShelved};
 
 use crate::session::Session;
 use crate::steps::Caller;
@@ -44,7 +44,7 @@ fn push_replicas(
     requires window { IsWindow window }
     ensures count { IfOk result (λ _. length values.new.items ≡ length values.old.items + nodes) }
     ensures kept { IfOk result (λ _. AreKept values.old.items values.new.items) }
-    ensures replicas { IfOk result (λ _. AreFilled (length values.old.items) nodes (λ i v. IsOpenedReplica (sizes_for catalogue.now) window v) values.new.items) }
+    ensures replicas { IfOk result (λ _. HaveReplicas (length values.old.items) nodes (sizes_for catalogue.now) window values.new.items) }
 {
     for _node in 0..nodes {
         values.push(Some(shelved_replica(alloc, catalogue, window)?))?;
