@@ -3,24 +3,25 @@
 _nrbpf() {
     local word=${COMP_WORDS[COMP_CWORD]} before=${COMP_WORDS[COMP_CWORD - 1]} words
     if [ "$COMP_CWORD" -eq 1 ]; then
-        words='check explain asm dis encode run replay schedule stress help -h --help -V --version'
+        words='check explain asm dis encode run serve replay schedule stress help -h --help -V --version'
         COMPREPLY=($(compgen -W "$words" -- "$word"))
         return
     fi
     case ${COMP_WORDS[1]}:$before in
-        replay:--spare | schedule:--limit | schedule:--nodes | schedule:--slots | schedule:--spare | schedule:--window | stress:--limit | stress:--nodes | stress:--slots | stress:--spare | stress:--window) COMPREPLY=(); return ;;
+        replay:--spare | schedule:--limit | schedule:--nodes | schedule:--slots | schedule:--spare | schedule:--window | serve:--spare | stress:--limit | stress:--nodes | stress:--slots | stress:--spare | stress:--window) COMPREPLY=(); return ;;
     esac
     case ${COMP_WORDS[1]} in
         check) words='-h --help' ;;
-        explain) words='-h --help' ;;
-        asm) words='-o --output -h --help' ;;
+        explain) words='--graph -h --help' ;;
+        asm) words='-o --output --explain -h --help' ;;
         dis) words='--slots -h --help' ;;
         encode) words='-h --help' ;;
         run) words='-h --help' ;;
-        replay) words='--spare -h --help' ;;
-        schedule) words='--nodes --slots --window --limit --spare -h --help' ;;
+        serve) words='--spare -h --help' ;;
+        replay) words='--spare --explain -h --help' ;;
+        schedule) words='--nodes --slots --window --limit --spare --explain --lanes -h --help' ;;
         stress) words='--nodes --slots --window --limit --spare -h --help' ;;
-        help) words='check explain asm dis encode run replay schedule stress' ;;
+        help) words='check explain asm dis encode run serve replay schedule stress' ;;
         *) words= ;;
     esac
     case $word in

@@ -1,5 +1,6 @@
--- What `explain` writes, from what `check` answers and what it adds.
+-- What is written beside what `check` answers, as `explain` and its graph are.
 use Rattle.std.proofs.Common.{◌≡◌, ℕ, List, [], Option, Some, None, Result, Ok, Err, refl, sym, subst}
+use Rattle.std.specs.Prelude.{MatchResult}
 use Rattle.std.proofs.lemmas.List.{append-nil}
 use Rattle.console.specs.declared.status.Status.{Status}
 use Rattle.console.specs.declared.input.InputFault.{InputFault}
@@ -9,43 +10,60 @@ use Rattle.console.specs.Files.{Contents}
 use Rattle.console.specs.InputFaults.{FailsAs}
 use Rattle.console.specs.Inputs.{IfFilesKnown}
 use Rattle.console.specs.Answer.{Answer, not_text, check_answer}
-use Rattle.console.specs.Report.{Writes, answer_of}
-use Rattle.console.specs.Explanation.{IsExplanation, PreparesExplanation, ReportsExplanation}
+use Rattle.console.specs.Report.{Writes, ReportsSome, answer_of}
+use Rattle.console.specs.Explanation.{IsExplanation}
+use Rattle.console.specs.Graph.{IsGraph}
 use Rattle.console.proofs.Reported.{sent, no_memory_sent, none_read}
 
 -- an answer with nothing behind it explains itself
 pub itself : (a : Answer) → IsExplanation a a
 itself a = (refl, ([], sym (append-nil a.text)))
 
-pub explains_same : (checked known a : Answer) → checked ≡ known → IsExplanation checked a → IsExplanation known a
-explains_same checked known a is made = subst (λ c. IsExplanation c a) is made
+pub graph_itself : (a : Answer) → IsGraph a a
+graph_itself a = refl
 
--- ---- what was prepared
+module _ (Made : Answer → Answer → Type 0) where
+  -- one that is made so is prepared
+  abbrev PreparesMade : Result Reply InputFault → Answer → Type 0
+  PreparesMade prepared checked = MatchResult prepared (λ r. Made checked (answer_of r)) (λ e. FailsAs e (checked ≡ not_text))
 
--- where something failed
-pub failed : (r : Option (List ℕ)) (o : Option Contents) (e : InputFault) → IfFilesKnown r o (λ m h. FailsAs e (check_answer m h ≡ not_text))
-    → IfFilesKnown r o (λ m h. PreparesExplanation (Err e) (check_answer m h))
-failed None o e known = tt
-failed (Some m) None e known = tt
-failed (Some m) (Some h) e known = known
+  made_same : (checked known a : Answer) → checked ≡ known → Made checked a → Made known a
+  made_same checked known a is made = subst (λ c. Made c a) is made
 
-pub answered : (r : Option (List ℕ)) (o : Option Contents) (checked a : Answer) → IfFilesKnown r o (λ m h. checked ≡ check_answer m h) → IsExplanation checked a
-    → IfFilesKnown r o (λ m h. IsExplanation (check_answer m h) a)
-answered None o checked a known made = tt
-answered (Some m) None checked a known made = tt
-answered (Some m) (Some h) checked a known made = explains_same checked (check_answer m h) a known made
+  -- ---- what was prepared
 
--- ---- what was written
+  -- where something failed
+  pub failed : (r : Option (List ℕ)) (o : Option Contents) (e : InputFault) → IfFilesKnown r o (λ m h. FailsAs e (check_answer m h ≡ not_text))
+      → IfFilesKnown r o (λ m h. PreparesMade (Err e) (check_answer m h))
+  failed None o e known = tt
+  failed (Some m) None e known = tt
+  failed (Some m) (Some h) e known = known
 
-reports_at : (old new : Option (List ℕ)) (got : Status) (checked : Answer) (prepared : Result Reply InputFault) → Writes old new got prepared → PreparesExplanation prepared checked
-    → ReportsExplanation (λ b. b) old new got checked
-reports_at old new got checked (Ok r) wrote known = (answer_of r, known, sent old new got (answer_of r) wrote)
-reports_at old new got checked (Err faults.NotText) wrote known = (not_text, explains_same not_text checked not_text (sym known) (itself not_text), sent old new got not_text wrote)
-reports_at old new got checked (Err faults.NoMemory) wrote known = (checked, itself checked, no_memory_sent old new got checked wrote)
-reports_at old new got checked (Err faults.CannotRead) wrote known = (checked, itself checked, none_read old new got checked wrote)
+  pub answered : (r : Option (List ℕ)) (o : Option Contents) (checked a : Answer) → IfFilesKnown r o (λ m h. checked ≡ check_answer m h) → Made checked a
+      → IfFilesKnown r o (λ m h. Made (check_answer m h) a)
+  answered None o checked a known made = tt
+  answered (Some m) None checked a known made = tt
+  answered (Some m) (Some h) checked a known made = made_same checked (check_answer m h) a known made
 
-pub reports_explained : (r : Option (List ℕ)) (o : Option Contents) (old new : Option (List ℕ)) (got : Status) (prepared : Result Reply InputFault) → Writes old new got prepared
-    → IfFilesKnown r o (λ m h. PreparesExplanation prepared (check_answer m h)) → IfFilesKnown r o (λ m h. ReportsExplanation (λ b. b) old new got (check_answer m h))
-reports_explained None o old new got prepared wrote known = tt
-reports_explained (Some m) None old new got prepared wrote known = tt
-reports_explained (Some m) (Some h) old new got prepared wrote known = reports_at old new got (check_answer m h) prepared wrote known
+  -- where something is no text, which is all that `check` answers
+  pub of_stranger : (r : Option (List ℕ)) (o : Option Contents) (a : Answer) → IfFilesKnown r o (λ m h. check_answer m h ≡ not_text) → Made not_text a
+      → IfFilesKnown r o (λ m h. Made (check_answer m h) a)
+  of_stranger None o a known made = tt
+  of_stranger (Some m) None a known made = tt
+  of_stranger (Some m) (Some h) a known made = made_same not_text (check_answer m h) a (sym known) made
+
+  -- ---- what was written
+
+  module _ (own : (a : Answer) → Made a a) where
+    reports_at : (old new : Option (List ℕ)) (got : Status) (checked : Answer) (prepared : Result Reply InputFault) → Writes old new got prepared → PreparesMade prepared checked
+        → ReportsSome (Made checked) (λ b. b) old new got
+    reports_at old new got checked (Ok r) wrote known = (answer_of r, known, sent old new got (answer_of r) wrote)
+    reports_at old new got checked (Err faults.NotText) wrote known = (not_text, made_same not_text checked not_text (sym known) (own not_text), sent old new got not_text wrote)
+    reports_at old new got checked (Err faults.NoMemory) wrote known = (checked, own checked, no_memory_sent old new got checked wrote)
+    reports_at old new got checked (Err faults.CannotRead) wrote known = (checked, own checked, none_read old new got checked wrote)
+
+    pub reports_made : (r : Option (List ℕ)) (o : Option Contents) (old new : Option (List ℕ)) (got : Status) (prepared : Result Reply InputFault) → Writes old new got prepared
+        → IfFilesKnown r o (λ m h. PreparesMade prepared (check_answer m h)) → IfFilesKnown r o (λ m h. ReportsSome (Made (check_answer m h)) (λ b. b) old new got)
+    reports_made None o old new got prepared wrote known = tt
+    reports_made (Some m) None old new got prepared wrote known = tt
+    reports_made (Some m) (Some h) old new got prepared wrote known = reports_at old new got (check_answer m h) prepared wrote known

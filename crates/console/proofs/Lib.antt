@@ -14,5 +14,12 @@ pub mod Turns
 pub mod Replays
 pub mod TranscriptLines
 pub mod StepLines
+pub mod Quiet
 pub mod OneText
 pub mod RunsOfLines
+pub mod Served
+pub mod KeptLines
+pub mod LineTurns
+pub mod Turned
+pub mod ServedAll
+pub mod ServedRuns

@@ -1,9 +1,9 @@
 -- One line of a transcript, from what the node answers.
-use Rattle.std.proofs.Common.{◌≡◌, ℕ, Bool, true, false, eqb, ltb, length, Option, Some, refl, sym, ap, subst, ◌∙◌, arith}
+use Rattle.std.proofs.Common.{◌≡◌, ℕ, Bool, true, false, eqb, ltb, length, Option, Some, refl, sym, ap, subst, ◌∙◌, arith, None}
 use Rattle.std.specs.Prelude.{option_map}
 use Rattle.std.proofs.lemmas.Bool.{ltb-true, eqb-true, false≢true}
 use Rattle.loader.specs.StoreState.{StoreState}
-use Rattle.verifier.specs.declared.refusal.Mode.TheVariants.{Read}
+use Rattle.verifier.specs.declared.refusal.Mode.TheVariants.{Update, Read}
 use Rattle.machine.specs.Effects.{effect_of}
 use Rattle.machine.specs.declared.running.Outcome.{Outcome}
 use Rattle.loader.specs.CatalogueView.{CatalogueView}
@@ -14,10 +14,12 @@ use Rattle.oplog.specs.declared.records.Op.TheVariants.{Run}
 use Rattle.oplog.specs.Logs.{tail_of}
 use Rattle.oplog.specs.History.{Effect, reply_at, read_reply_at}
 use Rattle.replica.specs.StoreMeaning.{run_of, store_meaning}
+use Rattle.console.specs.declared.replaying.Due.{Due}
 use Rattle.console.specs.declared.replaying.Replaying.{Replaying}
+use Rattle.console.specs.declared.single_node.SingleNode.{SingleNode}
 use Rattle.console.specs.Running.{Follows, IsUpdated, HasEnded}
 use Rattle.console.specs.ReplayAnswer.{Replayed, update_agrees, read_agrees, with_update, is_reply, next_count}
-use Rattle.console.specs.Replaying.{HasReplayed, IsCompared}
+use Rattle.console.specs.Replaying.{HasReplayed, IsCompared, due_at}
 use Rattle.console.proofs.Turns.{here, effect_here, has_room, updated_follows}
 
 is_off : (b : Bool) → (b ≡ true → ⊥) → b ≡ false
@@ -83,3 +85,30 @@ module _ (c : CatalogueView) (at : Replayed) (op : Operation) (index reply : ℕ
           told = sym agrees;
           goes_on = λ on. record { placed = subst (λ n. Follows c at.history n) (sym node) has.placed; reads = reads ∙ ap next_count has.reads; ended = ended ∙ has.ended };
         }
+
+-- what an operation should tell, from what the node answers to it
+module _ (c : CatalogueView) (at : Replayed) (op : Operation) (old : Replaying) (has : HasReplayed c at old) where
+  -- an update that was applied
+  pub due_applied : (m : SingleNode) (o : Outcome) → IsUpdated c op old.node m o → (due : Due) → due ≡ record { mode = Update; place = tail_of old.node.log; reply = Some o.reply } → due ≡ due_at c Update at.history op
+  due_applied m o u due is =
+      let room = has_room c at.history old.node has.placed op m o u in
+      let effect = effect_here c at.history old.node has.placed op m o u in
+      let replies : reply_at store_meaning c at.history (length at.history) op ≡ Some o.reply =
+      ap (λ (e : Option (Effect StoreState)). option_map (λ x. x.reply) e) effect ∙ ap (λ (x : Outcome). Some x.reply) (sym u.outcome) in
+      is ∙ rw (has.placed.count, room, replies) refl
+
+  -- an update for which the history has no room
+  pub due_full : (m : SingleNode) → HasEnded old.node m → (due : Due) → due ≡ record { mode = Update; place = tail_of old.node.log; reply = None } → due ≡ due_at c Update at.history op
+  due_full m end due is =
+      let limit = end.full in
+      let count = has.placed.count in
+      let none : ltb (length at.history) MAX_LIMIT ≡ false = is_off (ltb (length at.history) MAX_LIMIT) (λ e. let low = ltb-true (length at.history) MAX_LIMIT e in omega (arith, low, limit, count)) in
+      is ∙ rw (count, none) refl
+
+  -- a read
+  pub due_queried : (call : Call) (o : Outcome) → op ≡ Run call → run_of Read c call old.node.own.replica.state ≡ Some (effect_of o.steps o.reply old.node.own.replica.state.maps)
+      → (due : Due) → due ≡ record { mode = Read; place = tail_of old.node.log; reply = Some o.reply } → due ≡ due_at c Read at.history op
+  due_queried call o is_call ran due is =
+      let told_here : read_reply_at store_meaning c at.history (length at.history) op ≡ Some o.reply =
+      ap (λ (x : StoreState). option_map (λ e. e.reply) (store_meaning.read c op x)) (here c at.history old.node has.placed) ∙ rw (is_call, ran) refl in
+      is ∙ rw (has.placed.count, told_here) refl

@@ -16,12 +16,17 @@ pub mod SlotsAnswer
 pub mod EncodeAnswer
 pub mod ReplayAnswer
 pub mod ScheduleAnswer
+pub mod Notes
+pub mod ServeAnswer
 pub mod Known
 pub mod Report
 pub mod Explanation
+pub mod Graph
 pub mod Transfer
 -- Laws: each line that a run writes for a call is a run of its program.
 pub mod RunLines
+-- Laws: how an input is cut, and what is served of a text that could be run.
+pub mod ServeLaws
 -- The steps between reading and writing.
 pub mod ScriptShown
 pub mod Running
@@ -30,3 +35,4 @@ pub mod Loaded
 pub mod Gathering
 pub mod Replaying
 pub mod Scheduling
+pub mod Serving

@@ -1,11 +1,14 @@
 -- What is kept while a transcript is replayed. Clauses of private functions alone cite this.
-use Rattle.std.specs.Prelude.{◌≡◌, ℕ, Bool, true, false, List}
+use Rattle.std.specs.Prelude.{◌≡◌, ℕ, Bool, true, false, List, length, None, nat_lt, if◌then◌else◌}
 use Rattle.verifier.specs.declared.refusal.Mode.{Mode}
 use Rattle.verifier.specs.declared.refusal.Mode.TheVariants.{Update, Read}
 use Rattle.loader.specs.CatalogueView.{CatalogueView}
 use Rattle.oplog.specs.Operations.{Operation}
 use Rattle.oplog.specs.Logs.{tail_of}
-use Rattle.oplog.specs.History.{History}
+use Rattle.oplog.specs.History.{History, reply_at, read_reply_at}
+use Rattle.oplog.specs.declared.configuration.TheConstants.{MAX_LIMIT}
+use Rattle.replica.specs.StoreMeaning.{store_meaning}
+use Rattle.console.specs.declared.replaying.Due.{Due}
 use Rattle.console.specs.declared.replaying.Replaying.{Replaying}
 use Rattle.console.specs.declared.replaying.LineVerdict.{LineVerdict}
 use Rattle.console.specs.declared.replaying.LineVerdict.TheVariants as lines
@@ -42,6 +45,15 @@ with_call Read at op = record at { reads = next_count at.reads }
 abbrev pub Compares : CatalogueView → Mode → Operation → (index reply : ℕ) → Replaying → Bool → Replaying → Type 0
 Compares c mode op index reply old answer new = (at : Replayed) → HasReplayed c at old → IsCompared c (call_agrees c mode at.history op index reply) (with_call mode at op) answer new
 
+-- what an operation behind a history should tell: its place, and its reply there; none where the history has all its updates
+abbrev pub due_at : CatalogueView → Mode → History → Operation → Due
+due_at c Update h op = record { mode = Update; place = length h; reply = if nat_lt (length h) MAX_LIMIT then reply_at store_meaning c h (length h) op else None }
+due_at c Read h op = record { mode = Read; place = length h; reply = read_reply_at store_meaning c h (length h) op }
+
+-- after whatever was replayed before, that is it
+abbrev pub TellsDue : CatalogueView → Mode → Operation → Replaying → Due → Type 0
+TellsDue c mode op old due = (at : Replayed) → HasReplayed c at old → due ≡ due_at c mode at.history op
+
 -- what a line does was told, and where it agrees so much is replayed
 abbrev pub LineReplayed : CatalogueView → LineOutcome → LineVerdict → Replaying → Type 0
 LineReplayed c Bad lines.Bad r = Unit {0}
@@ -61,12 +73,12 @@ compared_verdict false = lines.Differs
 abbrev pub ended_text : ReplayEnd → Replaying → List ℕ
 ended_text ends.Agrees r = good_text (tail_of r.node.log) r.reads r.ended
 ended_text (ends.Bad n) r = bad_line_text n
-ended_text (ends.Differs n) r = differs_text n
+ended_text (ends.Differs n due) r = differs_text n
 
 abbrev pub ended_verdict : ReplayEnd → Verdict
 ended_verdict ends.Agrees = verdicts.Good
 ended_verdict (ends.Bad n) = verdicts.Refused
-ended_verdict (ends.Differs n) = verdicts.Differs
+ended_verdict (ends.Differs n due) = verdicts.Differs
 
 abbrev pub ended_answer : ReplayEnd → Replaying → Answer
 ended_answer end r = record { text = ended_text end r; verdict = ended_verdict end }

@@ -1,5 +1,5 @@
 -- What is kept while a script is run. Clauses of private functions alone cite this.
-use Rattle.std.specs.Prelude.{◌≡◌, ℕ, ◌+◌, ◌<◌, Bool, true, false, List, ◌++◌, length, Option, Some, None, Result, IfOk, OnOk}
+use Rattle.std.specs.Prelude.{◌≡◌, ℕ, ◌+◌, ◌<◌, Bool, true, false, List, ◌++◌, length, Option, Some, None, option_map, Result, IfOk, OnOk}
 use Rattle.loader.specs.StoreState.{StoreState, sizes_of, sizes_for, opened_state}
 use Rattle.machine.specs.declared.running.Outcome.{Outcome}
 use Rattle.loader.specs.CatalogueView.{CatalogueView}
@@ -12,7 +12,8 @@ use Rattle.replica.specs.Refusals.{IsRoomFor}
 use Rattle.console.specs.declared.single_node.SingleNode.{SingleNode}
 use Rattle.console.specs.declared.status.Verdict.{Verdict}
 use Rattle.console.specs.Answer.{Answer}
-use Rattle.console.specs.RunAnswer.{Turn, line_turn, behind}
+use Rattle.console.specs.Script.{Meaning}
+use Rattle.console.specs.RunAnswer.{Turn, called, taken, line_turn, behind}
 
 -- the whole history is completed, and the replica has applied it
 pub record IsSteady (c : CatalogueView) (n : SingleNode) : Type 0 where
@@ -53,12 +54,19 @@ pub record IsTaken (c : CatalogueView) (turn : Turn) (n : SingleNode) (old new :
 abbrev pub TakesTurn : {A E : Type 0} → CatalogueView → (History → Turn) → SingleNode → SingleNode → List ℕ → List ℕ → Result A E → Type 0
 TakesTurn c turn node after old new r = (h : History) → Follows c h node → OnOk r (IsTaken c (turn h) after old new)
 
+-- the turn of a call of the program of this name with this argument
+abbrev pub TakesCall : {A E : Type 0} → CatalogueView → (name argument : List ℕ) → SingleNode → SingleNode → List ℕ → List ℕ → Result A E → Type 0
+TakesCall c name argument = TakesTurn c (λ h. called c h (record { name = name; argument = argument }))
+
 -- what a line does was done, and the line is good; or it is bad
 abbrev pub LineTaken : CatalogueView → Option Turn → Bool → SingleNode → List ℕ → List ℕ → Type 0
 LineTaken c None good n old new = (good ≡ false) × (new ≡ old)
 LineTaken c (Some turn) good n old new = (good ≡ true) × IsTaken c turn n old new
 
--- the same from any history that the node has behind it, unless memory runs out
+-- the same of what was said, and of a line, from any history that the node has behind it, unless memory runs out
+abbrev pub TakesMeaning : {E : Type 0} → CatalogueView → Option Meaning → SingleNode → SingleNode → List ℕ → List ℕ → Result Bool E → Type 0
+TakesMeaning c said node after old new r = (h : History) → Follows c h node → IfOk r (λ good. LineTaken c (option_map (taken c h) said) good after old new)
+
 abbrev pub TakesLine : {E : Type 0} → CatalogueView → List ℕ → SingleNode → SingleNode → List ℕ → List ℕ → Result Bool E → Type 0
 TakesLine c line node after old new r = (h : History) → Follows c h node → IfOk r (λ good. LineTaken c (line_turn c h line) good after old new)
 

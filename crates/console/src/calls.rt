@@ -1,20 +1,22 @@
 // What a line of a script does.
 
-ghost use Rattle.std.specs.Prelude.{◌≡◌, true, IfOk};
+ghost use Rattle.std.specs.Prelude.{◌≡◌, ◌≤◌, true, false, length, Ok, option_map, IfOk};
 ghost use Rattle.oplog.specs.declared.records.Op.TheVariants.{Run};
 ghost use Rattle.replica.specs.StoreMeaning.{call_of as program_call, is_operation};
 ghost use Rattle.replica.specs.Refusals.{early_refusal, IsRefusedAs};
 ghost use Rattle.console.specs.RunAnswer.{numbered, called, asked, installed, performed};
-ghost use Rattle.console.specs.Running.{IsSteady, TakesTurn, TakesLine};
-ghost use Rattle.console.specs.ScriptShown.{call_of, at_number_of, program_of};
+ghost use Rattle.console.specs.Running.{IsSteady, TakesCall, TakesTurn, TakesMeaning, TakesLine};
+ghost use Rattle.console.specs.Script.{call_meaning};
+ghost use Rattle.console.specs.ScriptShown.{at_number_of, program_of, meaning_of};
 
 use crate::run_texts::{put_install, put_read, put_refused, put_update};
-use crate::script::{NumberedCall, ProgramCall, ProgramText, ScriptLine, read_line};
+use crate::script::{NumberedCall, ProgramText, ScriptLine, lent_argument, word_line};
 use crate::single_node::SingleNode;
 use loader::Catalogue;
 use oplog::{Call, Op};
 use replica::{StoreRefused, check_call, find_program};
 use std::alloc::AllocError;
+use text::{FIELD_BYTES, LINE_BYTES, LineKind, kind_of, split_at_space};
 use verifier::Mode;
 
 // Performs a call, as an update or as a read.
@@ -67,25 +69,20 @@ fn run_numbered(
     }
 }
 
-// Runs the program that a line calls by its name, and writes what it answers.
+// Runs the program of this name, and writes what it answers.
 #[tactic(auto, unfolding(crate::specs::RunAnswer::called))]
 fn run_call(
     node: &mut SingleNode,
     catalogue: &Catalogue,
-    call: &ProgramCall,
+    name: &str,
+    argument: &[u8],
     out: &mut Vec<u8>,
 ) -> Result<(), AllocError>
     requires steady { IsSteady catalogue.now node.old }
     ensures steady { IsSteady catalogue.now node.new }
-    ensures taken { TakesTurn catalogue.now (λ h. called catalogue.now h (call_of call.now)) node.old node.new out.old.items out.new.items result }
+    ensures taken { TakesCall catalogue.now name.now argument.now node.old node.new out.old.items out.new.items result }
 {
-    run_numbered(
-        node,
-        catalogue,
-        catalogue.number(call.name),
-        call.argument.as_slice(),
-        out,
-    )
+    run_numbered(node, catalogue, catalogue.number(name), argument, out)
 }
 
 /// The call of a program by its number, where it may go on.
@@ -148,22 +145,24 @@ fn run_install(
     }
 }
 
-// Does what a line says, and tells whether the line is good.
-#[tactic(auto, unfolding(crate::specs::RunAnswer::line_turn))]
-pub(crate) fn take_line(
+// Does what was said, and tells whether anything was.
+fn take_said(
     node: &mut SingleNode,
     catalogue: &Catalogue,
-    line: &str,
+    said: Option<ScriptLine<'_>>,
     out: &mut Vec<u8>,
 ) -> Result<bool, AllocError>
     requires steady { IsSteady catalogue.now node.old }
     ensures steady { IsSteady catalogue.now node.new }
-    ensures taken { TakesLine catalogue.now line.now node.old node.new out.old.items out.new.items result }
+    ensures kept { result ≡ Ok false → node.new ≡ node.old }
+    ensures taken { TakesMeaning catalogue.now (option_map meaning_of said.entry) node.old node.new out.old.items out.new.items result }
 {
-    match read_line(line) {
+    match said {
         None => return Ok(false),
         Some(ScriptLine::Comment) => {}
-        Some(ScriptLine::Call(call)) => run_call(node, catalogue, &call, out)?,
+        Some(ScriptLine::Call(call)) => {
+            run_call(node, catalogue, call.name, call.argument.as_slice(), out)?
+        }
         Some(ScriptLine::InvokeAt(call)) => {
             run_asked(node, catalogue, Mode::Update, &call, out)?
         }
@@ -171,4 +170,52 @@ pub(crate) fn take_line(
         Some(ScriptLine::Install(text)) => run_install(node, catalogue, &text, out)?,
     }
     Ok(true)
+}
+
+// Does what the words of a line say, and tells whether they say anything. A call by a name has its argument in the room.
+#[tactic(auto, unfolding(crate::specs::Script::call_meaning))]
+fn take_words(
+    node: &mut SingleNode,
+    catalogue: &Catalogue,
+    line: &str,
+    room: &mut [u8; FIELD_BYTES],
+    out: &mut Vec<u8>,
+) -> Result<bool, AllocError>
+    requires line { length line.now ≤ LINE_BYTES }
+    requires steady { IsSteady catalogue.now node.old }
+    ensures steady { IsSteady catalogue.now node.new }
+    ensures kept { result ≡ Ok false → node.new ≡ node.old }
+    ensures taken { TakesMeaning catalogue.now (call_meaning line.now) node.old node.new out.old.items out.new.items result }
+{
+    let Some((word, rest)) = split_at_space(line) else {
+        return Ok(false);
+    };
+    match lent_argument(word, rest, room) {
+        Some(argument) => {
+            run_call(node, catalogue, word, argument, out)?;
+            Ok(true)
+        }
+        None => take_said(node, catalogue, word_line(word, rest), out),
+    }
+}
+
+// Does what a line says, and tells whether the line is good. It is not read as a `ScriptLine`, which would move its argument.
+#[tactic(auto, unfolding(crate::specs::RunAnswer::line_turn, crate::specs::Script::line_meaning))]
+pub(crate) fn take_line(
+    node: &mut SingleNode,
+    catalogue: &Catalogue,
+    line: &str,
+    room: &mut [u8; FIELD_BYTES],
+    out: &mut Vec<u8>,
+) -> Result<bool, AllocError>
+    requires steady { IsSteady catalogue.now node.old }
+    ensures steady { IsSteady catalogue.now node.new }
+    ensures kept { result ≡ Ok false → node.new ≡ node.old }
+    ensures taken { TakesLine catalogue.now line.now node.old node.new out.old.items out.new.items result }
+{
+    match kind_of(line) {
+        LineKind::TooLong => Ok(false),
+        LineKind::Comment => Ok(true),
+        LineKind::Words => take_words(node, catalogue, line, room, out),
+    }
 }

@@ -18,6 +18,7 @@ use crate::commands::{
 };
 use crate::input::InputFault;
 use crate::memory::{Held, HeldFiles};
+use crate::notes::Notes;
 use crate::reporting::Reply;
 use crate::status::Verdict;
 use crate::texts::not_text;
@@ -122,6 +123,7 @@ pub fn replay(
         spare,
         &mut Held(manifest),
         &mut Held(transcript),
+        &mut Notes::none(alloc),
     );
     settled(alloc, prepared)
 }
@@ -141,6 +143,12 @@ pub fn schedule(
         config,
         folder: &folder,
     };
-    let prepared = schedule_reply(alloc, setup, &mut Held(manifest), &mut Held(steps));
+    let prepared = schedule_reply(
+        alloc,
+        setup,
+        &mut Held(manifest),
+        &mut Held(steps),
+        &mut Notes::none(alloc),
+    );
     settled(alloc, prepared)
 }

@@ -2,22 +2,28 @@
 #![tactic(auto)]
 
 mod asm_texts;
+mod blocked_texts;
 mod calls;
 mod catalogues;
 mod commands;
 mod encode_texts;
+mod feeding;
 mod folder;
 pub mod in_memory;
 mod input;
 mod inputs;
+mod lanes;
 mod laws;
 mod memory;
+mod notes;
 mod replay_texts;
 mod replaying;
 mod reporting;
 mod run_texts;
 mod schedule_texts;
 mod script;
+mod serve_laws;
+mod serving;
 mod single_node;
 mod status;
 mod step_lines;
@@ -27,18 +33,22 @@ mod transcripts;
 mod transfer;
 
 pub use commands::{
-    Setup, assemble, check, disassemble, disassemble_slots, encode, explain, replay, run, schedule,
+    Setup, assemble, check, disassemble, disassemble_slots, encode, explain, graph, replay, run,
+    schedule, serve,
 };
+pub use feeding::{CannotRead, Feed};
 pub use folder::Folder;
 pub use laws::{limits, run_lines_are_runs};
 pub use memory::{Held, HeldFiles, Page};
+pub use notes::{Notes, Telling};
+pub use serve_laws::{served_in_parts, served_is_run};
 pub use status::Status;
 pub use transfer::{CannotWrite, ReadFault, Sink, Source};
 
 // What each command has to write, without a writer.
 pub use commands::{
-    asm_reply, check_reply, dis_reply, encode_reply, explain_reply, replay_reply, run_reply,
-    schedule_reply, slots_reply,
+    asm_reply, asm_told_reply, check_reply, dis_reply, encode_reply, explain_reply, graph_reply,
+    replay_reply, run_reply, schedule_reply, slots_reply,
 };
 
 // What an engine in a crate of its own is put together from, as `stress` is.

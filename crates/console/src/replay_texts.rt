@@ -6,12 +6,14 @@ ghost use Rattle.console.specs.Report.{answer_of};
 ghost use Rattle.console.specs.ReplayAnswer.{good_text, differs_text};
 ghost use Rattle.console.specs.Replaying.{ended_text};
 
-use crate::replaying::{ReplayEnd, Replaying};
+use crate::replaying::{Due, ReplayEnd, Replaying};
 use crate::reporting::Reply;
 use crate::run_texts::put_bad_line;
 use crate::status::Verdict;
-use crate::texts::put_numbered;
+use crate::texts::{put_numbered, put_pair};
+use oplog::MAX_LIMIT;
 use std::alloc::{AllocError, Global};
+use verifier::Mode;
 
 // The numbers of updates, of reads, and of updates after the history's end.
 fn put_good(out: &mut Vec<u8>, updates: u64, reads: u64, ended: u64) -> Result<(), AllocError>
@@ -42,7 +44,21 @@ pub(crate) fn put_end(
     match end {
         ReplayEnd::Agrees => put_good(out, replaying.node.tail(), replaying.reads, replaying.ended),
         ReplayEnd::Bad(number) => put_bad_line(out, number),
-        ReplayEnd::Differs(number) => put_differs(out, number),
+        ReplayEnd::Differs(number, _) => put_differs(out, number),
+    }
+}
+
+// What the line of this number should tell.
+pub(crate) fn put_due(out: &mut Vec<u8>, number: u32, due: Due) -> Result<(), AllocError> {
+    put_numbered(out, b"line ", number as u64)?;
+    let Some(reply) = due.reply else {
+        put_numbered(out, b": differs: the history has its ", MAX_LIMIT as u64)?;
+        return out.extend_from_slice(b" updates\n");
+    };
+    out.extend_from_slice(b": differs: should be ")?;
+    match due.mode {
+        Mode::Update => put_pair(out, b"index ", due.place, b" reply ", reply),
+        Mode::Read => put_pair(out, b"point ", due.place, b" reply ", reply),
     }
 }
 

@@ -1,13 +1,13 @@
 // The replay of a transcript, line by line.
 
-ghost use Rattle.std.specs.Prelude.{◌≡◌, true, option_map, IfSome, IfOk};
+ghost use Rattle.std.specs.Prelude.{◌≡◌, true, option_map, IfSome, IfNone, IfOk};
 ghost use Rattle.verifier.specs.declared.refusal.Mode.TheVariants.{Update, Read};
 ghost use Rattle.oplog.specs.declared.records.Op.TheVariants.{Run};
 ghost use Rattle.replica.specs.StoreMeaning.{is_operation};
 ghost use Rattle.text.specs.Lines.{lines_of};
 ghost use Rattle.console.specs.ReplayAnswer.{number_told, operation_of, install_of, answered_outcome, installed_outcome, ended_outcome, line_outcome, nothing_replayed, transcript_answer};
-ghost use Rattle.console.specs.Replaying.{HasReplayed, Compares, ReplaysLine, compared_verdict, ended_answer, ended_verdict};
-ghost use Rattle.console.specs.Running.{IsSteady};
+ghost use Rattle.console.specs.Replaying.{HasReplayed, Compares, ReplaysLine, TellsDue, compared_verdict, ended_answer, ended_verdict};
+ghost use Rattle.console.specs.Running.{IsSteady, IsUpdated, HasEnded};
 ghost use Rattle.console.specs.ScriptShown.{key_of, keyed_of, program_of, answered_of, installed_of};
 
 use crate::calls::checked_call;
@@ -16,17 +16,27 @@ use crate::single_node::SingleNode;
 use crate::status::Verdict;
 use crate::transcripts::{AnsweredCall, AnsweredInstall, TranscriptLine, read_transcript_line};
 use loader::Catalogue;
+use machine::Outcome;
 use oplog::{Call, Op};
 use std::alloc::{AllocError, Global};
 use text::NumberedLines;
 use verifier::Mode;
 
-// One node, and how many reads and ended calls there were beside its updates.
+// What a call should tell: the number of updates before it, and its reply; none where the history has all its updates.
+#[derive(Clone, Copy)]
+pub(crate) struct Due {
+    pub mode: Mode,
+    pub place: u64,
+    pub reply: Option<u64>,
+}
+
+// One node, how many reads and ended calls there were beside its updates, and what the last call should tell that was compared.
 #[derive(Drop)]
 pub(crate) struct Replaying {
     pub node: SingleNode,
     pub reads: u64,
     pub ended: u64,
+    pub due: Due,
 }
 
 // What a line is found to be.
@@ -37,12 +47,12 @@ pub(crate) enum LineVerdict {
     Agrees,
 }
 
-// How a replay ends: at the end of the transcript, or at the line of a number.
+// How a replay ends: at the end of the transcript, or at the line of a number, where it differs with what it should tell.
 #[derive(Clone, Copy)]
 pub(crate) enum ReplayEnd {
     Agrees,
     Bad(u32),
-    Differs(u32),
+    Differs(u32, Due),
 }
 
 impl ReplayEnd {
@@ -53,7 +63,7 @@ impl ReplayEnd {
         match self {
             ReplayEnd::Agrees => Verdict::Good,
             ReplayEnd::Bad(_) => Verdict::Refused,
-            ReplayEnd::Differs(_) => Verdict::Differs,
+            ReplayEnd::Differs(_, _) => Verdict::Differs,
         }
     }
 }
@@ -111,7 +121,39 @@ impl Replaying {
             node: SingleNode::open(alloc, catalogue)?,
             reads: 0,
             ended: 0,
+            due: Due {
+                mode: Mode::Update,
+                place: 0,
+                reply: None,
+            },
         })
+    }
+
+    // Applies an update, and keeps what it should tell.
+    #[tactic(auto, using(crate::proofs::Replays::due_applied, crate::proofs::Replays::due_full))]
+    fn apply(&mut self, catalogue: &Catalogue, op: Op) -> Option<Outcome>
+        requires steady { IsSteady catalogue.now self.old.node }
+        requires update { is_operation Update catalogue.now op ≡ true }
+        ensures steady { IsSteady catalogue.now self.new.node }
+        ensures updated { IfSome result (λ o. IsUpdated catalogue.now op self.old.node self.new.node o) }
+        ensures ended { IfNone result (HasEnded self.old.node self.new.node) }
+        ensures counts { (self.new.reads ≡ self.old.reads) × (self.new.ended ≡ self.old.ended) }
+        ensures due { TellsDue catalogue.now Update op self.old self.new.due }
+    {
+        let mode = Mode::Update;
+        let place = self.node.tail();
+        match self.node.submit(catalogue, op) {
+            Some(outcome) => {
+                let reply = Some(outcome.reply);
+                self.due = Due { mode, place, reply };
+                Some(outcome)
+            }
+            None => {
+                let reply = None;
+                self.due = Due { mode, place, reply };
+                None
+            }
+        }
     }
 
     // Whether an update has this index and this reply.
@@ -120,26 +162,37 @@ impl Replaying {
         requires update { is_operation Update catalogue.now op ≡ true }
         ensures steady { IsSteady catalogue.now self.new.node }
         ensures compared { Compares catalogue.now Update op index reply self.old result self.new }
+        ensures due { TellsDue catalogue.now Update op self.old self.new.due }
     {
-        if index != self.node.tail() {
+        let place = self.node.tail();
+        let outcome = self.apply(catalogue, op);
+        if index != place {
             return false;
         }
-        match self.node.submit(catalogue, op) {
+        match outcome {
             Some(outcome) => outcome.reply == reply,
             None => false,
         }
     }
 
     // Whether a read has this point and this reply.
+    #[tactic(auto, using(crate::proofs::Replays::due_queried, crate::proofs::Replays::queried, crate::proofs::Replays::read_elsewhere))]
     fn read(&mut self, catalogue: &Catalogue, call: &Call, point: u64, reply: u64) -> bool
         requires steady { IsSteady catalogue.now self.old.node }
         ensures steady { IsSteady catalogue.now self.new.node }
         ensures compared { Compares catalogue.now Read (Run call.now) point reply self.old result self.new }
+        ensures due { TellsDue catalogue.now Read (Run call.now) self.old self.new.due }
     {
-        if point != self.node.tail() {
+        let place = self.node.tail();
+        let outcome = self.node.query(catalogue, call.program(), call.argument());
+        self.due = Due {
+            mode: Mode::Read,
+            place,
+            reply: Some(outcome.reply),
+        };
+        if point != place {
             return false;
         }
-        let outcome = self.node.query(catalogue, call.program(), call.argument());
         self.reads = self.reads.saturating_add(1);
         outcome.reply == reply
     }
@@ -234,7 +287,7 @@ impl Replaying {
             match self.take_line(catalogue, line) {
                 LineVerdict::Agrees => {}
                 LineVerdict::Bad => return ReplayEnd::Bad(number),
-                LineVerdict::Differs => return ReplayEnd::Differs(number),
+                LineVerdict::Differs => return ReplayEnd::Differs(number, self.due),
             }
         }
         ReplayEnd::Agrees

@@ -1,6 +1,7 @@
 // The lines of a script.
 
-ghost use Rattle.std.specs.Prelude.{◌≡◌, ◌≤◌, length, option_map};
+ghost use Rattle.std.specs.Prelude.{◌≡◌, ◌≤◌, length, option_map, take, IfSome};
+ghost use Rattle.text.specs.Digits.{field_bytes};
 ghost use Rattle.loader.specs.Grammar.{mode_of};
 ghost use Rattle.console.specs.Script.{named_call, program_key, keyed_call, numbered_call, program_fields, new_program, word_meaning, call_meaning, line_meaning};
 ghost use Rattle.console.specs.ScriptShown.{call_of, key_of, keyed_of, at_number_of, program_of, meaning_of};
@@ -83,6 +84,44 @@ pub(crate) fn named_call<'a>(name: &'a str, digits: &str) -> Option<ProgramCall<
     }
 }
 
+// The bytes of a field of hexadecimal digits, put at the front of a room: how many.
+#[tactic(auto, unfolding(text::specs::Digits::field_bytes))]
+fn fill_room(digits: &str, room: &mut [u8; FIELD_BYTES]) -> Option<usize>
+    requires { length digits.now ≤ LINE_BYTES }
+    ensures bytes { option_map (λ n. take n room.new) result ≡ field_bytes digits.now }
+    ensures few { IfSome result (λ n. n ≤ FIELD_BYTES) }
+{
+    if digits == "-" {
+        return Some(0);
+    }
+    if digits.is_empty() {
+        return None;
+    }
+    let count = digits.len() / 2;
+    match hex::decode_to_slice(digits.as_bytes(), &mut room[..count]) {
+        Ok(()) => Some(count),
+        Err(_) => None,
+    }
+}
+
+// The argument of the call that the fields NAME and HEX say, in a room that is lent.
+#[tactic(auto, unfolding(crate::specs::Script::named_call))]
+pub(crate) fn lent_argument<'a>(
+    name: &str,
+    digits: &str,
+    room: &'a mut [u8; FIELD_BYTES],
+) -> Option<&'a [u8]>
+    requires { length digits.now ≤ LINE_BYTES }
+    ensures { option_map (λ a. record { name = name.now; argument = a.now }) result ≡ named_call name.now digits.now }
+{
+    let count = fill_room(digits, room)?;
+    if is_name(name) {
+        Some(&room[..count])
+    } else {
+        None
+    }
+}
+
 // The program that a field says: NAME or K.
 #[tactic(auto, unfolding(crate::specs::Script::program_key))]
 fn program_key(text: &str) -> Option<ProgramKey<'_>>
@@ -159,7 +198,7 @@ pub(crate) fn new_program(text: &str) -> Option<ProgramText>
 }
 
 // What a line of more than two fields says, by its first word.
-fn word_line<'a>(word: &str, rest: &str) -> Option<ScriptLine<'a>>
+pub(crate) fn word_line<'a>(word: &str, rest: &str) -> Option<ScriptLine<'a>>
     requires { length rest.now ≤ LINE_BYTES }
     ensures { option_map meaning_of result ≡ word_meaning word.now rest.now }
 {

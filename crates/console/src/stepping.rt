@@ -5,7 +5,9 @@ ghost use Rattle.console.specs.StepLine.{Comment};
 ghost use Rattle.console.specs.ScheduleAnswer.{number_keyed, step_line_turn};
 ghost use Rattle.console.specs.Scheduling.{IsStepOf, StepLineTaken};
 ghost use Rattle.console.specs.ScriptShown.{key_of, step_of};
+ghost use Rattle.console.specs.Notes.{IsQuiet};
 
+use crate::notes::Notes;
 use crate::schedule_texts::put_step;
 use crate::script::ProgramKey;
 use crate::step_lines::{StepLine, read_step_line};
@@ -98,11 +100,14 @@ fn step_of(
 pub(crate) fn take_step_line(
     alloc: Global,
     world: &mut World,
+    number: u32,
     line: &str,
     out: &mut Vec<u8>,
+    notes: &mut Notes,
 ) -> Result<bool, AllocError>
-    ensures { IfOk result (λ good.
+    ensures taken { IfOk result (λ good.
         StepLineTaken world.old (step_line_turn world.old.opening world.old.world line.now) good world.new out.old.items out.new.items) }
+    ensures quiet { IsQuiet notes.old notes.new }
 {
     let Some(line) = read_step_line(line) else {
         return Ok(false);
@@ -110,7 +115,9 @@ pub(crate) fn take_step_line(
     let Some(step) = step_of(alloc, world.catalogue(), &line)? else {
         return Ok(true);
     };
+    let reason = notes.reason(world, &step);
     let answer = world.step(&step);
     put_step(out, answer)?;
+    notes.tell_step(world, number, &step, answer, reason)?;
     Ok(true)
 }

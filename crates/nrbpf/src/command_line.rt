@@ -4,6 +4,7 @@ use crate::disk::DASH;
 use crate::help;
 use clap::builder::ValueParser;
 use clap::{Arg, ArgAction, ArgMatches, Command, Error};
+use console::Telling;
 use oplog::Config;
 use std::alloc::{AllocError, Global};
 
@@ -14,10 +15,14 @@ pub enum Task<'a> {
     Check,
     /// Explain the programs of a manifest, or the one of this name.
     Explain(Option<&'a str>),
+    /// Draw them.
+    Graph(Option<&'a str>),
     /// Assemble a text.
     Assemble,
     /// Assemble a text into the file of this path.
     AssembleInto(&'a str),
+    /// Assemble a text, into the file of this path if there is one, and say what a refused one wants.
+    AssembleTold(Option<&'a str>),
     /// Disassemble a program file.
     Disassemble,
     /// Disassemble a program file, with slots and bytes.
@@ -26,10 +31,12 @@ pub enum Task<'a> {
     Encode,
     /// Run a script.
     Run,
-    /// Replay a transcript, with so many places behind the programs.
-    Replay(u32),
-    /// Take a list of steps on a store of these sizes.
-    Schedule(Config),
+    /// Replay a transcript, with so many places behind the programs, and tell this of it.
+    Replay(u32, Telling),
+    /// Take a list of steps on a store of these sizes, and tell this of it.
+    Schedule(Config, Telling),
+    /// Answer lines as they come in, with so many places behind the programs.
+    Serve(u32),
     /// Make the calls of a script on threads, on a store of these sizes.
     Stress(Config),
 }
@@ -75,6 +82,15 @@ const SIZES: [(&str, &str, &str); 4] = [
     ("slots", "2", help::SLOTS),
     ("window", "64", help::WINDOW),
     ("limit", "1000000", help::LIMIT),
+];
+
+// What options ask for that have no value, each with its command and its help.
+const FLAGS: [(&str, &str, &str); 5] = [
+    ("replay", "explain", help::DUE),
+    ("schedule", "explain", help::REASONS),
+    ("schedule", "lanes", help::LANES),
+    ("explain", "graph", help::GRAPH),
+    ("asm", "explain", help::WANTED),
 ];
 
 // How many programs may be installed, in the same way.
@@ -129,6 +145,14 @@ fn slots<'a>(alloc: Global) -> Arg<'a> {
         .help(help::SLOTS_AND_BYTES)
 }
 
+// An option that has no value.
+fn flag<'a>(alloc: Global, name: &'a str, help: &'a str) -> Arg<'a> {
+    Arg::new(alloc, name)
+        .long(name)
+        .action(ArgAction::SetTrue)
+        .help(help)
+}
+
 // The name of a program, which may be left out.
 fn name<'a>(alloc: Global) -> Arg<'a> {
     Arg::new(alloc, "NAME").value_name("NAME").help(help::NAME)
@@ -154,6 +178,11 @@ fn list_arguments<'a>(
     }
     if row.has_slots {
         append(arguments, slots(alloc))?;
+    }
+    for &(command, name, help) in &FLAGS {
+        if command == row.name {
+            append(arguments, flag(alloc, name, help))?;
+        }
     }
     if row.has_manifest {
         append(
@@ -273,7 +302,7 @@ fn script_rows<'a>() -> [Row<'a>; 1] {
 }
 
 // The commands that run a store.
-fn store_rows<'a>() -> [Row<'a>; 4] {
+fn store_rows<'a>() -> [Row<'a>; 5] {
     [
         Row {
             name: "run",
@@ -286,6 +315,19 @@ fn store_rows<'a>() -> [Row<'a>; 4] {
             has_manifest: true,
             has_name: false,
             file: Some(("SCRIPT", help::SCRIPT)),
+            may_lack_file: false,
+        },
+        Row {
+            name: "serve",
+            about: help::SERVE,
+            after: help::AFTER_SERVE,
+            is_sized: false,
+            has_spare: true,
+            has_output: false,
+            has_slots: false,
+            has_manifest: true,
+            has_name: false,
+            file: None,
             may_lack_file: false,
         },
         Row {
@@ -361,9 +403,24 @@ fn config_of(matches: &ArgMatches) -> Option<Config> {
 
 // Assembling, to standard output or into a file.
 fn assembling<'a>(matches: &ArgMatches<'a>) -> Task<'a> {
-    match matches.get_str("output") {
-        Some(path) if path != DASH => Task::AssembleInto(path),
-        _ => Task::Assemble,
+    let path = match matches.get_str("output") {
+        Some(path) if path != DASH => Some(path),
+        _ => None,
+    };
+    match path {
+        _ if matches.get_flag("explain") => Task::AssembleTold(path),
+        Some(path) => Task::AssembleInto(path),
+        None => Task::Assemble,
+    }
+}
+
+// Explaining in words or by a drawing.
+fn explaining<'a>(matches: &ArgMatches<'a>) -> Task<'a> {
+    let name = matches.get_str("NAME");
+    if matches.get_flag("graph") {
+        Task::Graph(name)
+    } else {
+        Task::Explain(name)
     }
 }
 
@@ -376,28 +433,56 @@ fn disassembling<'a>(matches: &ArgMatches<'a>) -> Task<'a> {
     }
 }
 
+// What is told of a run beside its answer.
+fn telling(matches: &ArgMatches) -> Telling {
+    if matches.get_flag("explain") {
+        Telling::Reasons
+    } else {
+        Telling::Nothing
+    }
+}
+
+// What is told of a list of steps beside its answer.
+fn telling_of_steps(matches: &ArgMatches) -> Telling {
+    if matches.get_flag("lanes") {
+        Telling::Lanes
+    } else {
+        telling(matches)
+    }
+}
+
 // What the command of this name does.
 fn task_of<'a>(name: &str, matches: &ArgMatches<'a>) -> Option<Task<'a>> {
     Some(match name {
         "check" => Task::Check,
-        "explain" => Task::Explain(matches.get_str("NAME")),
+        "explain" => explaining(matches),
         "asm" => assembling(matches),
         "dis" => disassembling(matches),
         "encode" => Task::Encode,
         "run" => Task::Run,
-        "replay" => Task::Replay(matches.get_one("spare")?),
-        "schedule" => Task::Schedule(config_of(matches)?),
+        "replay" => Task::Replay(matches.get_one("spare")?, telling(matches)),
+        "schedule" => Task::Schedule(config_of(matches)?, telling_of_steps(matches)),
+        "serve" => Task::Serve(matches.get_one("spare")?),
         "stress" => Task::Stress(config_of(matches)?),
         _ => return None,
     })
 }
 
+// The path of the file that a task reads besides: `serve` reads standard input.
+fn file_of<'a>(task: Task<'a>, matches: &ArgMatches<'a>) -> &'a str {
+    match task {
+        Task::Serve(_) => DASH,
+        _ => matches.get_str("FILE").unwrap_or(""),
+    }
+}
+
 // The call of a command with these arguments.
 fn call_of<'a>(name: &str, matches: &ArgMatches<'a>) -> Option<Call<'a>> {
+    let task = task_of(name, matches)?;
     Some(Call {
-        task: task_of(name, matches)?,
+        task,
         manifest: matches.get_str("MANIFEST").unwrap_or(""),
-        file: matches.get_str("FILE").unwrap_or(""),
+        file: file_of(task, matches),
     })
 }
 

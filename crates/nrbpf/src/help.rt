@@ -71,8 +71,9 @@ Writes what `nrbpf check` writes, and behind it, for an author:
     of a refused program  the listing up to there, the way that leads there, what broke, and what to do about it
     of another bad line   what is wrong with it, and what to do about it
 
-All bad lines are told, and not the first alone; behind the bad line of a map no program is judged. Where NAME is
-given, it is the program of that name alone. For the manifest of `nrbpf check --help` it writes:
+All bad lines are told, and not the first alone; behind the bad line of a map no program is judged. Of files that are
+not UTF-8 it says what they are. Where NAME is given, it is the program of that name alone. For the manifest of
+`nrbpf check --help` it writes:
 
     five ok 2 2
 
@@ -83,14 +84,23 @@ given, it is the program of that name alone. For the manifest of `nrbpf check --
 `argument +4` and `stack -8` are pointers to byte 4 of the argument and to the byte 8 below the stack's end, `value
 of map 0` is one to a value, and `value of map 0, or null` the answer of a lookup that is not tested yet.
 
+With `--graph` it draws the programs instead, refused ones too, as Graphviz reads it (`dot -Tsvg`): a box for the
+instructions that run from the first to the last, and an arrow for each way on, with `jump` at those that jump.
+
 Exit statuses: as those of `check`: 0 all is well, 2 wrong words on the command line, 3 refused, 4 `no memory`,
 5 `cannot read` or `cannot write` (on standard error).";
+
+/// What `--graph` does.
+pub const GRAPH: &str = "Writes the programs as a graph for Graphviz instead";
 
 /// What the name of a program is.
 pub const NAME: &str = "The name of a program; all, where it is left out";
 
 /// What `asm` does, in a line.
 pub const ASM: &str = "Assembles a program";
+
+/// What `--explain` does for `asm`.
+pub const WANTED: &str = "Says on standard error what a refused text wants, and where";
 
 /// What stands behind the argument of `asm`.
 pub const AFTER_ASM: &str = "\
@@ -101,7 +111,8 @@ them. A line has one instruction or one label; `;` begins a comment.
     exit
 
 is `b7000000050000009500000000000000`. With `-o OUT` they are written to the file OUT, and only where the text is
-a program: by way of a file OUT.part beside it, so that OUT is replaced whole or stays as it was.
+a program: by way of a file OUT.part beside it, so that OUT is replaced whole or stays as it was. With `--explain`
+standard error shows the line of a refused text, with a mark below the column where it is wrong, and what is wanted.
 
     WORDS                                                        OPERANDS
     add sub mul div or and lsh rsh mod xor mov arsh sdiv smod,   rD, rS or rD, IMM
@@ -249,6 +260,8 @@ A place where no program stands that has the mode and the argument's length repl
 0 steps. A refused line changes nothing, and the run goes on. With the manifest of examples/counter the script above
 writes `update 0 reply 1 steps 9` and `read 1 reply 1 steps 6`.
 
+Replies have no sign: -1 is 18446744073709551615.
+
 Refusals, which end the run:
     line N bad          line N of the script is none of these, no comment and no empty line; what stands before was run
     line N: ..          the manifest is refused (`nrbpf check --help`), and nothing is run
@@ -259,6 +272,34 @@ Exit statuses: 0 all is well, 2 wrong words on the command line, 3 refused, 4 `n
 
 /// What the script's path is.
 pub const SCRIPT: &str = "The path of the script";
+
+/// What `serve` does, in a line.
+pub const SERVE: &str = "Answers the lines of a script as they come in";
+
+/// What stands behind the arguments of `serve`.
+pub const AFTER_SERVE: &str = "\
+Opens a new store with the maps and the programs of the manifest (`nrbpf check --help`), and answers the lines that
+come in from standard input, one after the other, until its end. The lines and their answers are those of a script
+(`nrbpf run --help`), and stand on standard output as soon as a line has ended: before more is read, all lines that
+were read are answered.
+
+    bump 00000000                           update 0 reply 1 steps 9
+    bump                                    line 2 bad
+    peek 00000000                           read 1 reply 1 steps 6
+
+Each line has one answer, but for a comment and an empty line, which have none. What is no line of a script, has more
+than 512 bytes or is not UTF-8 is answered `line N bad`, changes nothing, and the service goes on; lines are counted
+from 1, with comments and empty lines. A last line that has no line feed is not answered, and nothing of it is run:
+a client that goes away in the middle of a line has not asked. A refused line changes nothing; after 1000000 updates
+and installs each further one gets `refused S4`, and reads go on.
+
+Refusals, before a line is read:
+    refused O1          --spare is not from 0 to 16
+    line N: ..          the manifest is refused (`nrbpf check --help`)
+    not UTF-8           the manifest or a program file is not UTF-8
+
+Exit statuses: 0 the end of standard input, 2 wrong words on the command line, 3 refused, 4 `no memory`, behind the
+answers so far, 5 `cannot read` or `cannot write` (on standard error).";
 
 /// What `replay` does, in a line.
 pub const REPLAY: &str = "Replays a transcript on the programs of a manifest";
@@ -293,8 +334,14 @@ transcript above gives `good 1 1 0`. Else one line, for the first line that does
     line N: ..          the manifest is refused (`nrbpf check --help`)
     not UTF-8           the manifest, a program file or the transcript is not UTF-8
 
+With `--explain` standard error says of a line that differs what it should tell, or that the history has its updates:
+    line 2: differs: should be point 1 reply 1
+
 Exit statuses: 0 all is well, 2 wrong words on the command line, 3 refused, 4 `no memory`,
 5 `cannot read` or `cannot write` (on standard error), 6 `line N differs`.";
+
+/// What `--explain` asks of `replay`.
+pub const DUE: &str = "Says on standard error what a line that differs should tell";
 
 /// What the transcript's path is.
 pub const TRANSCRIPT: &str = "The path of the transcript";
@@ -333,6 +380,15 @@ changes nothing. With the manifest of examples/counter the steps above write `ok
 `ok place 0 reply 1`. Behind the last step:
     log base B tail T done D    how many operations the log has given up, has, and has completed
     node N tail T               for each node, how many operations its replica has applied
+
+With `--explain` standard error has a line for each `notnow`: the condition that fails, with its numbers, and where
+there is one the step that helps. Standard output stays as it is. With examples/counter/steps:
+    line 16: notnow: tail 0 < noted 2: replay 1
+
+With `--lanes` standard error has a line for each step: in the lane of its node what it did, or x and why it may not be
+taken, and behind the lanes BASE|DONE|TAIL of the log with a sign for each record that it keeps, # completed, - not.
+       # node 0                node 1                log
+       8 append, hand 2                              0|0|2 [--]
 
 Refusals:
     line N bad          line N is no step, comment or empty line; what stands before was taken
@@ -380,6 +436,12 @@ Refusals, before any thread starts:
 
 Exit statuses: 0 all is well, 2 wrong words on the command line, 3 refused, 4 `no memory`,
 5 `cannot read` or `cannot write` (on standard error).";
+
+/// What `--explain` asks of `schedule`.
+pub const REASONS: &str = "Says on standard error why steps may not be taken now";
+
+/// What `--lanes` asks of `schedule`.
+pub const LANES: &str = "Draws the steps on standard error, a lane for each node";
 
 /// What the path of the steps is.
 pub const STEPS: &str = "The path of the steps";

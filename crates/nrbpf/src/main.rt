@@ -9,11 +9,11 @@ mod sizes;
 
 use command_line::{Call, Task};
 use console::{
-    Folder, Setup, Status, assemble, check, disassemble, disassemble_slots, explain, replay, run,
-    schedule,
+    Folder, Notes, Setup, Status, assemble, check, disassemble, disassemble_slots, explain, graph,
+    replay, run, schedule, serve,
 };
 use disk::{Disk, LateFile};
-use output::{Output, assemble_into, encode_or_say};
+use output::{Output, assemble_into, assemble_told, encode_or_say, say_text};
 use sizes::say_sizes;
 use std::io::{self, Eprint, Input, Print, Read, Write};
 use std::process::ExitCode;
@@ -35,15 +35,27 @@ fn perform<R: Files + AllocGlobal + Eprint + Threads + Wait + Sync, F: Folder, I
     match task {
         Task::Check => check(alloc, folder, manifest, writer),
         Task::Explain(name) => explain(alloc, folder, manifest, name, writer),
+        Task::Graph(name) => graph(alloc, folder, manifest, name, writer),
         Task::Assemble => assemble(alloc, file, writer),
         Task::AssembleInto(path) => assemble_into(rt, path, file, writer),
+        Task::AssembleTold(path) => assemble_told(rt, path, file, writer),
         Task::Disassemble => disassemble(alloc, file, writer),
         Task::DisassembleSlots => disassemble_slots(alloc, file, writer),
         Task::Encode => encode_or_say(rt, file, writer),
         Task::Run => run(alloc, folder, manifest, file, writer),
-        Task::Replay(spare) => replay(alloc, folder, spare, manifest, file, writer),
-        Task::Schedule(config) => {
-            schedule(alloc, Setup { config, folder }, manifest, file, writer)
+        Task::Serve(spare) => serve(alloc, folder, spare, manifest, file, writer),
+        Task::Replay(spare, telling) => {
+            let mut notes = Notes::new(alloc, telling);
+            let status = replay(alloc, folder, spare, manifest, file, &mut notes, writer);
+            say_text(rt, notes.text);
+            status
+        }
+        Task::Schedule(config, telling) => {
+            let mut notes = Notes::new(alloc, telling);
+            let setup = Setup { config, folder };
+            let status = schedule(alloc, setup, manifest, file, &mut notes, writer);
+            say_text(rt, notes.text);
+            status
         }
         Task::Stress(config) => {
             let gate = &OpenGate;

@@ -1,7 +1,10 @@
 // Where a command writes.
 
 use crate::disk::say;
-use console::{InputFault, Reply, Sink, Source, Status, Verdict, asm_reply, encode_reply, report};
+use console::{
+    InputFault, Reply, Sink, Source, Status, Verdict, asm_reply, asm_told_reply, encode_reply,
+    report,
+};
 use std::alloc::{AllocError, Global};
 use std::io::{Eprint, ErrorKind, Write};
 use std::rt::Files;
@@ -90,14 +93,14 @@ fn save<R: Files + Eprint>(rt: &R, path: &str, part: &str, text: &[u8]) -> Statu
     }
 }
 
-/// Assembles a text into the file of a path. A refusal goes to the writer, and the file stays as it was.
-pub fn assemble_into<R: Files + AllocGlobal + Eprint, I: Source, W: Sink>(
+// Puts what was assembled into the file of a path. A refusal goes to the writer, and the file stays as it was.
+fn put_assembled<R: Files + AllocGlobal + Eprint, W: Sink>(
     rt: &R,
     path: &str,
-    source: &mut I,
+    prepared: Result<Reply, InputFault>,
     writer: &mut W,
 ) -> Status {
-    match asm_reply(rt.alloc(), source) {
+    match prepared {
         Ok(
             Reply {
                 text,
@@ -111,8 +114,35 @@ pub fn assemble_into<R: Files + AllocGlobal + Eprint, I: Source, W: Sink>(
     }
 }
 
-// Says a text on standard error.
-fn say_text<R: Eprint>(rt: &R, text: Vec<u8>) {
+/// Assembles a text into the file of a path. A refusal goes to the writer, and the file stays as it was.
+pub fn assemble_into<R: Files + AllocGlobal + Eprint, I: Source, W: Sink>(
+    rt: &R,
+    path: &str,
+    source: &mut I,
+    writer: &mut W,
+) -> Status {
+    put_assembled(rt, path, asm_reply(rt.alloc(), source), writer)
+}
+
+/// Assembles a text, into the file of a path if there is one, and says on standard error what is wanted in a text that is refused.
+pub fn assemble_told<R: Files + AllocGlobal + Eprint, I: Source, W: Sink>(
+    rt: &R,
+    path: Option<&str>,
+    source: &mut I,
+    writer: &mut W,
+) -> Status {
+    let mut told = String::new(rt.alloc());
+    let prepared = asm_told_reply(rt.alloc(), source, &mut told);
+    let status = match path {
+        Some(path) => put_assembled(rt, path, prepared, writer),
+        None => report(writer, prepared),
+    };
+    let _ = eprint!(rt; "{told}");
+    status
+}
+
+/// Says a text on standard error.
+pub fn say_text<R: Eprint>(rt: &R, text: Vec<u8>) {
     if let Ok(text) = String::from_utf8(text) {
         let _ = eprint!(rt; "{text}");
     }

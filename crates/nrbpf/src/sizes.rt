@@ -36,8 +36,10 @@ fn say_spare<R: Eprint>(rt: &R, spare: u32) {
 /// Says on standard error of a command that is refused which sizes of its store are out of their limits.
 pub fn say_sizes<R: Eprint>(rt: &R, task: Task<'_>, status: Status) {
     match (task, status) {
-        (Task::Schedule(config) | Task::Stress(config), Status::Refused) => say_each(rt, config),
-        (Task::Replay(spare), Status::Refused) => say_spare(rt, spare),
+        (Task::Schedule(config, _) | Task::Stress(config), Status::Refused) => {
+            say_each(rt, config)
+        }
+        (Task::Replay(spare, _) | Task::Serve(spare), Status::Refused) => say_spare(rt, spare),
         _ => {}
     }
 }

@@ -2,8 +2,8 @@
 
 use crate::files::Offered;
 use console::{
-    Setup, Status, assemble, check, disassemble, disassemble_slots, encode, explain, replay, run,
-    schedule,
+    Notes, Setup, Status, Telling, assemble, check, disassemble, disassemble_slots, encode,
+    explain, graph, replay, run, schedule, serve,
 };
 use oplog::Config;
 use std::alloc::Global;
@@ -33,26 +33,48 @@ fn sizes(text: &str) -> Option<Config> {
     })
 }
 
-// What `schedule` answers in a store of the sizes behind its name, and `replay` with the places behind its name.
+// What `schedule` answers in a store of the sizes behind its name, and `replay` and `serve` with the places behind their names.
 fn sized(
     alloc: Global,
     folder: &Offered,
     command: &str,
     mut manifest: &[u8],
+    notes: &mut Notes,
     out: &mut Vec<u8>,
 ) -> Option<Status> {
     let (name, text) = command.split_once(':')?;
     let mut other = folder.other;
     if name == "replay" {
         let spare = text.parse::<u32>().ok()?;
-        return Some(replay(alloc, folder, spare, &mut manifest, &mut other, out));
+        return Some(replay(alloc, folder, spare, &mut manifest, &mut other, notes, out));
+    }
+    if name == "serve" {
+        let spare = text.parse::<u32>().ok()?;
+        return Some(serve(alloc, folder, spare, &mut manifest, &mut other, out));
     }
     if name != "schedule" {
         return None;
     }
     let config = sizes(text)?;
     let setup = Setup { config, folder };
-    Some(schedule(alloc, setup, &mut manifest, &mut other, out))
+    Some(schedule(alloc, setup, &mut manifest, &mut other, notes, out))
+}
+
+// What `schedule` or `replay` tells beside its answer.
+fn told(
+    alloc: Global,
+    folder: &Offered,
+    telling: Telling,
+    command: &str,
+    manifest: &[u8],
+) -> Option<Answer> {
+    let mut notes = Notes::new(alloc, telling);
+    let mut out = Vec::new(alloc);
+    let status = sized(alloc, folder, command, manifest, &mut notes, &mut out)?;
+    Some(Answer {
+        status: status.code(),
+        text: notes.text,
+    })
 }
 
 // What `stress` answers, or `replay` to what it writes.
@@ -85,7 +107,16 @@ fn stressed<R: Threads + Wait + Sync>(
     let mut transcript = out.as_slice();
     let mut text = manifest;
     let mut found = Vec::new(alloc);
-    let status = replay(alloc, folder, spare, &mut text, &mut transcript, &mut found);
+    let mut notes = Notes::none(alloc);
+    let status = replay(
+        alloc,
+        folder,
+        spare,
+        &mut text,
+        &mut transcript,
+        &mut notes,
+        &mut found,
+    );
     Some(Answer {
         status: status.code(),
         text: found,
@@ -104,6 +135,18 @@ fn explained(alloc: Global, folder: &Offered, command: &str, manifest: &[u8]) ->
     }
 }
 
+// What `explain --graph` answers, or behind `graph:NAME` of the program of this name.
+fn drawn(alloc: Global, folder: &Offered, command: &str, manifest: &[u8]) -> Answer {
+    let mut text = manifest;
+    let mut out = Vec::new(alloc);
+    let name = command.strip_prefix("graph:");
+    let status = graph(alloc, folder, &mut text, name, &mut out);
+    Answer {
+        status: status.code(),
+        text: out,
+    }
+}
+
 // What a command answers to its text; nothing where there is no such command.
 pub fn answer_to<R: Threads + Wait + Sync>(
     rt: &R,
@@ -115,11 +158,21 @@ pub fn answer_to<R: Threads + Wait + Sync>(
     if command.starts_with("stress") {
         return stressed(rt, alloc, folder, command, text);
     }
+    if let Some(inner) = command.strip_prefix("told:") {
+        return told(alloc, folder, Telling::Reasons, inner, text);
+    }
+    if let Some(inner) = command.strip_prefix("lanes:") {
+        return told(alloc, folder, Telling::Lanes, inner, text);
+    }
     if command.starts_with("explain") {
         return Some(explained(alloc, folder, command, text));
     }
+    if command.starts_with("graph") {
+        return Some(drawn(alloc, folder, command, text));
+    }
     let mut text = text;
     let mut out = Vec::new(alloc);
+    let mut notes = Notes::none(alloc);
     let status = match command {
         "check" => check(alloc, folder, &mut text, &mut out),
         "run" => {
@@ -128,7 +181,19 @@ pub fn answer_to<R: Threads + Wait + Sync>(
         }
         "replay" => {
             let mut transcript = folder.other;
-            replay(alloc, folder, 4, &mut text, &mut transcript, &mut out)
+            replay(
+                alloc,
+                folder,
+                4,
+                &mut text,
+                &mut transcript,
+                &mut notes,
+                &mut out,
+            )
+        }
+        "serve" => {
+            let mut input = folder.other;
+            serve(alloc, folder, 4, &mut text, &mut input, &mut out)
         }
         "assembled" => {
             let mut program = Vec::new(alloc);
@@ -142,7 +207,7 @@ pub fn answer_to<R: Threads + Wait + Sync>(
         "dis" => disassemble(alloc, &mut text, &mut out),
         "dis:slots" => disassemble_slots(alloc, &mut text, &mut out),
         "encode" => encode(alloc, &mut text, &mut out),
-        _ => sized(alloc, folder, command, text, &mut out)?,
+        _ => sized(alloc, folder, command, text, &mut notes, &mut out)?,
     };
     Some(Answer {
         status: status.code(),

@@ -3,10 +3,12 @@
 //! from what the commands promise, and not by this repository. A row is added to `stdout`; `stdin` is `stdout` without the answers.
 //!
 //! `file NAME TEXT` names a text, and `read PATH` the file of this path under its path, where `data/examples` is the repository's
-//! `examples`; `check MANIFEST`, `explain MANIFEST`, `explain:NAME MANIFEST`, `run MANIFEST | SCRIPT`, `replay MANIFEST | TRANSCRIPT` and `replay:SPARE ..`,
+//! `examples`; `check MANIFEST`, `explain MANIFEST`, `explain:NAME MANIFEST`, `graph MANIFEST`, `graph:NAME MANIFEST`, `run MANIFEST | SCRIPT`, `replay MANIFEST | TRANSCRIPT` and `replay:SPARE ..`,
+//! `serve MANIFEST | LINES` and `serve:SPARE ..`,
 //! `schedule:NODES:SLOTS:WINDOW:LIMIT MANIFEST | STEPS`, `stress:NODES:SLOTS:WINDOW:LIMIT MANIFEST | SCRIPT`, `stressed:..`, which is
-//! what `replay` answers to the transcript of such a `stress`, with `:SPARE` behind the limit or without (4), `asm TEXT`, `dis PROGRAM`, `dis:slots PROGRAM` and `encode CALLS` are commands; what stands
-//! behind the bar of a `check` or an `explain` is the file `p.hex`, and of an `assembled`, which is a `check` too, the text from which `asm` makes it.
+//! what `replay` answers to the transcript of such a `stress`, `told:schedule:..` and `told:replay:..`,
+//! which is what these tell on standard error, and `lanes:schedule:..`, the picture there, with `:SPARE` behind the limit or without (4), `asm TEXT`, `dis PROGRAM`, `dis:slots PROGRAM` and `encode CALLS` are commands; what stands
+//! behind the bar of a `check`, an `explain` or a `graph` is the file `p.hex`, and of an `assembled`, which is a `check` too, the text from which `asm` makes it.
 //! `is NAME COMMAND ..` says whether the command writes the text of that name, and `spells NAME COMMAND ..` whether it does but for
 //! white space. Other lines are headings.
 #![tactic(auto)]

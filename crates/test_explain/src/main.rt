@@ -3,11 +3,12 @@
 //! stands beside this program, read by hand against what is wrong with each.
 //!
 //! A slip `NAME.s` is assembler text, and one `NAME.hex` the digits of a program file. At its head stand the lines of a manifest as comments
-//! of the assembler, in which the program's file is `NAME.hex`. The mended program is `NAME.fixed.s` or `NAME.fixed.hex`.
+//! of the assembler, in which the program's file is `NAME.hex`. The mended program is `NAME.fixed.s` or `NAME.fixed.hex`. A slip `NAME.asm` is
+//! assembler text that is refused, and `NAME.fixed.asm` that which is not.
 #![tactic(auto)]
 
 use asm::assemble;
-use explain::explain_manifest;
+use explain::{explain_assembly, explain_manifest};
 use insn::encode;
 use loader::load_manifest;
 use std::alloc::{AllocError, Global};
@@ -80,10 +81,26 @@ fn tell(rt: &HostRuntime, name: &str, kind: &str) -> io::Result<()> {
     }
 }
 
+// Writes what is said of assembler text, and whether the mended text is a program.
+fn tell_text(rt: &HostRuntime, name: &str) -> io::Result<()> {
+    let alloc = rt.alloc();
+    let path = format!(in alloc; "slips/{name}.asm")?;
+    let text = fs::read_to_string(rt, path.as_str())?;
+    let told = explain_assembly(alloc, text.as_str())?;
+    print!(rt; "{name}.asm\n\n{told}")?;
+    let path = format!(in alloc; "slips/{name}.fixed.asm")?;
+    let fixed = fs::read_to_string(rt, path.as_str())?;
+    match assemble(alloc, fixed.as_str()) {
+        Ok(_) => println!(rt; "\n{name}.fixed.asm: assembled\n"),
+        Err(why) => println!(rt; "\n{name}.fixed.asm: {why}\n"),
+    }
+}
+
 fn main(rt: HostRuntime) -> io::Result<()> {
     for line in rt.lines(rt.alloc()) {
         let line = line?;
         match line.as_str().split_once('.') {
+            Some((name, "asm")) => tell_text(&rt, name)?,
             Some((name, kind)) => tell(&rt, name, kind)?,
             None => println!(rt; "{line}")?,
         }

@@ -3,11 +3,13 @@
 use crate::endings::{Ending, judged};
 use crate::schedules::SIZES;
 use crate::served::{
-    BUMP_LINE, BUMP_TEXT, CALLS, Command, MANIFEST, SCRIPT, STEPS, TRANSCRIPT, written,
+    BUMP_LINE, BUMP_TEXT, CALLS, Command, MANIFEST, SCRIPT, STEPS, TRANSCRIPT, may_have_written,
+    written,
 };
 use crate::streams::{Narrow, Programs, Slow, Turns};
 use console::{
-    Setup, Status, assemble, check, disassemble, disassemble_slots, replay, run, schedule,
+    Notes, Setup, Status, assemble, check, disassemble, disassemble_slots, replay, run, schedule,
+    serve,
 };
 use oplog::Config;
 use std::alloc::Global;
@@ -70,14 +72,36 @@ pub fn ended<R: Threads + Wait + Sync>(
                 Setup { config, folder },
                 &mut manifest,
                 &mut steps,
+                &mut Notes::none(alloc),
                 out,
             )
         }
         Command::Replay => {
             let mut transcript = Slow::new(TRANSCRIPT, reads);
-            replay(alloc, &folder, 4, &mut manifest, &mut transcript, out)
+            let mut notes = Notes::none(alloc);
+            replay(
+                alloc,
+                &folder,
+                4,
+                &mut manifest,
+                &mut transcript,
+                &mut notes,
+                out,
+            )
         }
         Command::Stress => stressed(rt, alloc, reads, out),
+        Command::Serve => {
+            let mut input = Slow::new(SCRIPT, reads);
+            serve(alloc, &folder, 4, &mut manifest, &mut input, out)
+        }
+    }
+}
+
+// Whether it is said last that no memory is left.
+fn wants_memory(command: Command, text: &[u8]) -> bool {
+    match text.strip_suffix(b"no memory\n".as_slice()) {
+        Some(before) => may_have_written(command, before),
+        None => false,
     }
 }
 
@@ -88,7 +112,7 @@ pub fn ending<R: Threads + Wait + Sync>(rt: &R, alloc: Global, command: Command)
     let mut out = Narrow::new(&writes, true);
     match ended(rt, alloc, command, &reads, &mut out) {
         Status::Good => judged(out.text() == written(command).as_bytes()),
-        Status::NoMemory if out.text() == b"no memory\n".as_slice() => Ending::NoMemory,
+        Status::NoMemory if wants_memory(command, out.text()) => Ending::NoMemory,
         _ => Ending::Other,
     }
 }

@@ -52,10 +52,11 @@ pub enum Command {
     Schedule,
     Replay,
     Stress,
+    Serve,
 }
 
 /// Each command by its name.
-pub const COMMANDS: [(&str, Command); 8] = [
+pub const COMMANDS: [(&str, Command); 9] = [
     ("check", Command::Check),
     ("run", Command::Run),
     ("asm", Command::Assemble),
@@ -64,13 +65,14 @@ pub const COMMANDS: [(&str, Command); 8] = [
     ("schedule", Command::Schedule),
     ("replay", Command::Replay),
     ("stress", Command::Stress),
+    ("serve", Command::Serve),
 ];
 
 /// What a command writes.
 pub fn written(command: Command) -> &'static str {
     match command {
         Command::Check => "bump ok 12 11\npeek ok 9 8\n",
-        Command::Run => {
+        Command::Run | Command::Serve => {
             "update 0 reply 1 steps 9\nupdate 1 reply 2 steps 9\nread 2 reply 2 steps 6\nrefused S2\n"
         }
         Command::Assemble => {
@@ -84,5 +86,13 @@ pub fn written(command: Command) -> &'static str {
         }
         Command::Replay => "good 1 1 0\n",
         Command::Stress => "u 0 bump 00000000 1\nr 1 peek 00000000 1\nu 1 bump 00000000 2\n",
+    }
+}
+
+/// Whether a command's answer may begin so where it breaks off: what `serve` has answered is written.
+pub fn may_have_written(command: Command, text: &[u8]) -> bool {
+    match command {
+        Command::Serve => written(command).as_bytes().starts_with(text),
+        _ => text.is_empty(),
     }
 }

@@ -1,7 +1,7 @@
 // Each read and each write of a command fails in turn.
 
 use crate::commands::ended;
-use crate::served::{COUNTER, Command, FIVE_CALLS, written};
+use crate::served::{COUNTER, Command, FIVE_CALLS, may_have_written, written};
 use crate::streams::{Narrow, Programs, Slow, Turns};
 use console::{Status, run};
 use std::alloc::Global;
@@ -15,7 +15,7 @@ pub struct Tried {
     pub writes: u64,
 }
 
-// Where this read fails, nothing is written and no further read is made.
+// Where this read fails, nothing is written but what `serve` has answered, and no further read is made.
 fn stops_at_read<R: Threads + Wait + Sync>(
     rt: &R,
     alloc: Global,
@@ -26,7 +26,9 @@ fn stops_at_read<R: Threads + Wait + Sync>(
     let writes = Turns::new(0);
     let mut out = Narrow::new(&writes, true);
     let status = ended(rt, alloc, command, &reads, &mut out);
-    status == Status::CannotRead && reads.made() == fails_at && writes.made() == 0
+    let is_last = reads.made() == fails_at;
+    let is_all = writes.made() == out.text().len() as u64;
+    status == Status::CannotRead && is_last && is_all && may_have_written(command, out.text())
 }
 
 // Where this write fails, or takes nothing, what was written before stands and no further write is made.

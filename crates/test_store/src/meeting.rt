@@ -1,6 +1,6 @@
 //! The sessions of `stress` run side by side: two of them wait for each other before they make their first calls.
 
-use console::{Folder, replay};
+use console::{Folder, Notes, replay};
 use oplog::Config;
 use std::sync::atomic::{AtomicU64, Ordering};
 use std::thread;
@@ -94,6 +94,7 @@ fn two_sessions_wait_for_each_other(rt: HostRuntime) {
         4,
         &mut manifest,
         &mut told,
+        &mut Notes::none(rt.alloc()),
         &mut found,
     );
     assert_eq!(rt;

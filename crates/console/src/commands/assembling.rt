@@ -12,6 +12,7 @@ use crate::reporting::{Reply, report};
 use crate::status::{Status, Verdict};
 use crate::transfer::{Sink, Source};
 use asm::AsmError;
+use explain::explain_assembly;
 use std::alloc::{AllocError, Global};
 
 // What an assembler text gets.
@@ -38,6 +39,21 @@ pub fn asm_reply<R: Source>(alloc: Global, source: &mut R) -> Result<Reply, Inpu
     ensures some { IfOk result (λ r. IsAsmAnswer (answer_of r)) }
 {
     let text = read_text(alloc, source)?;
+    Ok(source_reply(alloc, text.as_str())?)
+}
+
+/// The same; of a text that is refused, `told` becomes where it is wrong and what is wanted there, and of a program nothing.
+pub fn asm_told_reply<R: Source>(
+    alloc: Global,
+    source: &mut R,
+    told: &mut String,
+) -> Result<Reply, InputFault>
+    ensures known { IfSome (R.remaining source.old) (λ s. Prepares result (asm_answer s)) }
+    ensures failed { IfCannotRead result (R.has_failed source.new) }
+    ensures some { IfOk result (λ r. IsAsmAnswer (answer_of r)) }
+{
+    let text = read_text(alloc, source)?;
+    *told = explain_assembly(alloc, text.as_str())?;
     Ok(source_reply(alloc, text.as_str())?)
 }
 

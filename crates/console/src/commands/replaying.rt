@@ -5,7 +5,8 @@ ghost use Rattle.loader.specs.Loading.{Outcome};
 ghost use Rattle.text.specs.Lines.{lines_of};
 ghost use Rattle.console.specs.ReplayAnswer.{transcript_answer, nothing_replayed, placed_answer, replayed, IsReplayAnswer};
 ghost use Rattle.console.specs.Files.{SomeFile};
-ghost use Rattle.console.specs.Known.{IfReplayKnown};
+ghost use Rattle.console.specs.Known.{IfReplayKnown, ReportsReplay};
+ghost use Rattle.console.specs.Notes.{IsQuiet};
 ghost use Rattle.console.specs.Report.{answer_of, Failed, Prepares, Reports, ReportsSome};
 ghost use Rattle.console.specs.InputFaults.{IfCannotRead};
 ghost use Rattle.console.specs.Loaded.{LoadedIs};
@@ -16,6 +17,7 @@ use crate::commands::scheduling::sizes_refused;
 use crate::folder::Folder;
 use crate::input::InputFault;
 use crate::inputs::read_inputs;
+use crate::notes::Notes;
 use crate::replay_texts::put_end;
 use crate::replaying::{ReplayEnd, Replaying};
 use crate::reporting::{Reply, report};
@@ -39,11 +41,14 @@ fn transcript_reply(
     alloc: Global,
     catalogue: &Catalogue,
     transcript: &str,
+    notes: &mut Notes,
 ) -> Result<Reply, AllocError>
-    ensures { IfOk result (λ r. answer_of r ≡ transcript_answer catalogue.now 1 nothing_replayed (lines_of transcript.now)) }
+    ensures quiet { IsQuiet notes.old notes.new }
+    ensures answered { IfOk result (λ r. answer_of r ≡ transcript_answer catalogue.now 1 nothing_replayed (lines_of transcript.now)) }
 {
     let mut replaying = Replaying::open(alloc, catalogue)?;
     let end = replaying.take_lines(catalogue, transcript);
+    notes.tell_end(end)?;
     end_reply(alloc, end, &replaying)
 }
 
@@ -53,15 +58,17 @@ fn placed_reply(
     spare: u32,
     catalogue: Catalogue,
     transcript: &str,
+    notes: &mut Notes,
 ) -> Result<Reply, AllocError>
-    ensures { IfOk result (λ r. answer_of r ≡ placed_answer spare catalogue transcript.now) }
+    ensures quiet { IsQuiet notes.old notes.new }
+    ensures answered { IfOk result (λ r. answer_of r ≡ placed_answer spare catalogue transcript.now) }
 {
     let places = spare as usize;
     if places > MAX_PLACES {
         return sizes_refused(alloc);
     }
     let catalogue = catalogue.with_places(places);
-    transcript_reply(alloc, &catalogue, transcript)
+    transcript_reply(alloc, &catalogue, transcript, notes)
 }
 
 // What a manifest that was loaded and a transcript get.
@@ -70,11 +77,13 @@ fn loaded_reply(
     spare: u32,
     loaded: Loaded,
     transcript: &str,
+    notes: &mut Notes,
 ) -> Result<Reply, AllocError>
-    ensures { IfOk result (λ r. (outcome : Outcome) → LoadedIs outcome loaded → answer_of r ≡ replayed spare outcome transcript.now) }
+    ensures quiet { IsQuiet notes.old notes.new }
+    ensures answered { IfOk result (λ r. (outcome : Outcome) → LoadedIs outcome loaded → answer_of r ≡ replayed spare outcome transcript.now) }
 {
     match loaded {
-        Loaded::Catalogue(catalogue) => placed_reply(alloc, spare, catalogue, transcript),
+        Loaded::Catalogue(catalogue) => placed_reply(alloc, spare, catalogue, transcript, notes),
         Loaded::Refused(reply) => Ok(reply),
     }
 }
@@ -86,13 +95,15 @@ pub fn replay_reply<F: Folder, R: Source, S: Source>(
     spare: u32,
     manifest: &mut R,
     transcript: &mut S,
+    notes: &mut Notes,
 ) -> Result<Reply, InputFault>
     ensures known { IfReplayKnown spare (R.remaining manifest.old) (F.holds folder.now) (S.remaining transcript.old) (Prepares result) }
     ensures failed { IfCannotRead result (R.has_failed manifest.new ⊎ SomeFile F.File.has_failed ⊎ S.has_failed transcript.new) }
     ensures some { IfOk result (λ r. IsReplayAnswer spare (answer_of r)) }
+    ensures quiet { IsQuiet notes.old notes.new }
 {
     let inputs = read_inputs(alloc, folder, manifest, transcript)?;
-    Ok(loaded_reply(alloc, spare, inputs.loaded, inputs.text.as_str())?)
+    Ok(loaded_reply(alloc, spare, inputs.loaded, inputs.text.as_str(), notes)?)
 }
 
 /// Replays a transcript on one replica with the maps and the programs of a manifest, and so many places behind these: the updates and installs in the order of their
@@ -103,24 +114,28 @@ pub fn replay_reply<F: Folder, R: Source, S: Source>(
 /// line for the first line that is not so: `line N bad` where it is no line of a transcript or names no program of its mode
 /// with an argument of its length, nor a place, and otherwise `line N differs`. A refused manifest writes only its refusal, and more than 16
 /// places `refused O1`. Says how it
-/// ended. Each file is read whole before anything is written. Where a read fails, nothing is written.
+/// ended. Each file is read whole before anything is written. Where a read fails, nothing is written. The notes tell what a line should tell that
+/// differs, where they are to tell that.
 pub fn replay<F: Folder, R: Source, S: Source, W: Sink>(
     alloc: Global,
     folder: &F,
     spare: u32,
     manifest: &mut R,
     transcript: &mut S,
+    notes: &mut Notes,
     writer: &mut W,
 ) -> Status
     // Where the readers and the folder tell their bytes, those are replayed.
-    ensures written { IfReplayKnown spare (R.remaining manifest.old) (F.holds folder.now) (S.remaining transcript.old) (Reports W.contents writer.old writer.new result) }
+    ensures written { ReportsReplay spare (R.remaining manifest.old) (F.holds folder.now) (S.remaining transcript.old) W.contents writer.old writer.new result }
     // It says that a read or a write failed only after one did.
     ensures failed { Failed result (R.has_failed manifest.new ⊎ SomeFile F.File.has_failed ⊎ S.has_failed transcript.new) (W.has_failed writer.new) }
     // Whatever they give, or where they fail.
     ensures ended { ReportsSome (IsReplayAnswer spare) W.contents writer.old writer.new result }
+    // Where nothing is to be told beside the answer, nothing is.
+    ensures quiet { IsQuiet notes.old notes.new }
 {
     report(
         writer,
-        replay_reply(alloc, folder, spare, manifest, transcript),
+        replay_reply(alloc, folder, spare, manifest, transcript, notes),
     )
 }

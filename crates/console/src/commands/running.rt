@@ -23,7 +23,7 @@ use crate::status::{Status, Verdict};
 use crate::transfer::{Sink, Source};
 use loader::Catalogue;
 use std::alloc::{AllocError, Global};
-use text::NumberedLines;
+use text::{FIELD_BYTES, NumberedLines};
 
 // Runs the lines of a script up to the first bad one, and tells whether the script is good.
 fn take_lines(
@@ -36,9 +36,10 @@ fn take_lines(
     requires nothing { Follows catalogue.now [] node.old }
     ensures { AnswersBehind out.old.items out.new.items result (lines_answer catalogue.now 1 [] (lines_of script.now)) }
 {
+    let mut room = [0; FIELD_BYTES];
     let mut lines = NumberedLines::new(script);
     while let Some((number, line)) = lines.take_line() {
-        let is_good = take_line(node, catalogue, line, out)?;
+        let is_good = take_line(node, catalogue, line, &mut room, out)?;
         if !is_good {
             put_bad_line(out, number)?;
             return Ok(Verdict::Refused);

@@ -1,7 +1,7 @@
 use Rattle.std.proofs.Common.{inl, refl}
 use Rattle.console.specs.Answer.{not_text}
-use Rattle.console.specs.Explanation.{IsSomeExplanation}
-use Rattle.console.proofs.Explanations.{itself, reports_explained}
+use Rattle.console.specs.Explanation.{IsExplanation, IsSomeExplanation}
+use Rattle.console.proofs.Explanations.{itself, reports_made}
 use Rattle.console.proofs.Reported.{failed_only, reports_some}
 use Rattle.console.proofs.commands.explaining.explain.Goals as goal
 
@@ -12,7 +12,7 @@ returns-clause-ended g c =
 
 pub returns-clause-written : goal.returns-clause-written
 returns-clause-written g c =
-    reports_explained (g.R.Source.remaining c.args.manifest.now) (g.F.Folder.holds c.args.folder.now) (g.W.Sink.contents c.args.writer.now) (g.W.Sink.contents c.report.new.writer)
+    reports_made IsExplanation itself (g.R.Source.remaining c.args.manifest.now) (g.F.Folder.holds c.args.folder.now) (g.W.Sink.contents c.args.writer.now) (g.W.Sink.contents c.report.new.writer)
     c.report.result c.explain_reply.result c.report.ensures.written c.explain_reply.ensures.known
 
 pub returns-clause-failed : goal.returns-clause-failed

@@ -11,9 +11,9 @@ returns-in_err-inputs-clause-known g c =
 
 pub returns-clause-known : goal.returns-clause-known
 returns-clause-known g c =
-    answered (replayed c.args.spare) c.in_ok-inputs.inputs (answer_of c.in_ok-loaded_reply.field-0) (rw c.as_str.ensures.value at c.in_ok-loaded_reply.ensures)
+    answered (replayed c.args.spare) c.in_ok-inputs.inputs (answer_of c.in_ok-loaded_reply.field-0) (rw c.as_str.ensures.value at c.in_ok-loaded_reply.ensures.answered)
     (g.R.Source.remaining c.args.manifest.now) (g.F.Folder.holds c.args.folder.now) (g.S.Source.remaining c.args.transcript.now) c.in_ok-inputs.ensures.known
 
 pub returns-clause-some : goal.returns-clause-some
 returns-clause-some g c =
-    is_some_answer (replayed c.args.spare) c.in_ok-inputs.inputs (answer_of c.in_ok-loaded_reply.field-0) (rw c.as_str.ensures.value at c.in_ok-loaded_reply.ensures) c.in_ok-inputs.ensures.some
+    is_some_answer (replayed c.args.spare) c.in_ok-inputs.inputs (answer_of c.in_ok-loaded_reply.field-0) (rw c.as_str.ensures.value at c.in_ok-loaded_reply.ensures.answered) c.in_ok-inputs.ensures.some

@@ -1,0 +1,3 @@
+mov64 r0, 5 ; five
+; the reply
+exit

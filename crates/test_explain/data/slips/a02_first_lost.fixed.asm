@@ -1,0 +1,2 @@
+neg64 r1
+exit

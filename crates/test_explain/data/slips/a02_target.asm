@@ -1,0 +1,3 @@
+mov64 r0, 0
+ja 2
+exit

@@ -1,0 +1,2 @@
+movsx64 r0, r1, 7
+exit

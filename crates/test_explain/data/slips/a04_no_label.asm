@@ -1,0 +1,2 @@
+jeq r0, 0, out
+exit

@@ -1,0 +1,3 @@
+jeq r0, 0, out
+out:
+exit

@@ -1,0 +1,4 @@
+out:
+mov64 r0, 0
+ out:
+exit
