@@ -226,60 +226,44 @@ fn list_rows<'a>(
     Ok(())
 }
 
+// A command that takes neither options nor arguments.
+fn bare<'a>(name: &'a str, about: &'a str, after: &'a str) -> Row<'a> {
+    Row {
+        name,
+        about,
+        after,
+        is_sized: false,
+        has_spare: false,
+        has_output: false,
+        has_slots: false,
+        has_manifest: false,
+        has_name: false,
+        file: None,
+        may_lack_file: false,
+    }
+}
+
 // The commands that look at programs.
 fn program_rows<'a>() -> [Row<'a>; 4] {
     [
         Row {
-            name: "check",
-            about: help::CHECK,
-            after: help::AFTER_CHECK,
-            is_sized: false,
-            has_spare: false,
-            has_output: false,
-            has_slots: false,
             has_manifest: true,
-            has_name: false,
-            file: None,
-            may_lack_file: false,
+            ..bare("check", help::CHECK, help::AFTER_CHECK)
         },
         Row {
-            name: "explain",
-            about: help::EXPLAIN,
-            after: help::AFTER_EXPLAIN,
-            is_sized: false,
-            has_spare: false,
-            has_output: false,
-            has_slots: false,
             has_manifest: true,
             has_name: true,
-            file: None,
-            may_lack_file: false,
+            ..bare("explain", help::EXPLAIN, help::AFTER_EXPLAIN)
         },
         Row {
-            name: "asm",
-            about: help::ASM,
-            after: help::AFTER_ASM,
-            is_sized: false,
-            has_spare: false,
             has_output: true,
-            has_slots: false,
-            has_manifest: false,
-            has_name: false,
             file: Some(("FILE", help::SOURCE)),
-            may_lack_file: false,
+            ..bare("asm", help::ASM, help::AFTER_ASM)
         },
         Row {
-            name: "dis",
-            about: help::DIS,
-            after: help::AFTER_DIS,
-            is_sized: false,
-            has_spare: false,
-            has_output: false,
             has_slots: true,
-            has_manifest: false,
-            has_name: false,
             file: Some(("FILE", help::PROGRAM)),
-            may_lack_file: false,
+            ..bare("dis", help::DIS, help::AFTER_DIS)
         },
     ]
 }
@@ -287,17 +271,9 @@ fn program_rows<'a>() -> [Row<'a>; 4] {
 // The commands that write scripts.
 fn script_rows<'a>() -> [Row<'a>; 1] {
     [Row {
-        name: "encode",
-        about: help::ENCODE,
-        after: help::AFTER_ENCODE,
-        is_sized: false,
-        has_spare: false,
-        has_output: false,
-        has_slots: false,
-        has_manifest: false,
-        has_name: false,
         file: Some(("FILE", help::CALLS)),
         may_lack_file: true,
+        ..bare("encode", help::ENCODE, help::AFTER_ENCODE)
     }]
 }
 
@@ -305,69 +281,34 @@ fn script_rows<'a>() -> [Row<'a>; 1] {
 fn store_rows<'a>() -> [Row<'a>; 5] {
     [
         Row {
-            name: "run",
-            about: help::RUN,
-            after: help::AFTER_RUN,
-            is_sized: false,
-            has_spare: false,
-            has_output: false,
-            has_slots: false,
             has_manifest: true,
-            has_name: false,
             file: Some(("SCRIPT", help::SCRIPT)),
-            may_lack_file: false,
+            ..bare("run", help::RUN, help::AFTER_RUN)
         },
         Row {
-            name: "serve",
-            about: help::SERVE,
-            after: help::AFTER_SERVE,
-            is_sized: false,
             has_spare: true,
-            has_output: false,
-            has_slots: false,
             has_manifest: true,
-            has_name: false,
-            file: None,
-            may_lack_file: false,
+            ..bare("serve", help::SERVE, help::AFTER_SERVE)
         },
         Row {
-            name: "replay",
-            about: help::REPLAY,
-            after: help::AFTER_REPLAY,
-            is_sized: false,
             has_spare: true,
-            has_output: false,
-            has_slots: false,
             has_manifest: true,
-            has_name: false,
             file: Some(("TRANSCRIPT", help::TRANSCRIPT)),
-            may_lack_file: false,
+            ..bare("replay", help::REPLAY, help::AFTER_REPLAY)
         },
         Row {
-            name: "schedule",
-            about: help::SCHEDULE,
-            after: help::AFTER_SCHEDULE,
             is_sized: true,
             has_spare: true,
-            has_output: false,
-            has_slots: false,
             has_manifest: true,
-            has_name: false,
             file: Some(("STEPS", help::STEPS)),
-            may_lack_file: false,
+            ..bare("schedule", help::SCHEDULE, help::AFTER_SCHEDULE)
         },
         Row {
-            name: "stress",
-            about: help::STRESS,
-            after: help::AFTER_STRESS,
             is_sized: true,
             has_spare: true,
-            has_output: false,
-            has_slots: false,
             has_manifest: true,
-            has_name: false,
             file: Some(("SCRIPT", help::SCRIPT)),
-            may_lack_file: false,
+            ..bare("stress", help::STRESS, help::AFTER_STRESS)
         },
     ]
 }

@@ -15,6 +15,10 @@ pub record IsAnswered (c : CatalogueView) (op : Operation) (s : StoreState) (o :
   pub takes : store_meaning.update c op s ≡ Some done
   pub outcome : o ≡ outcome_of done
 
+-- these records, performed one after the other on this state, leave that
+abbrev pub Leaves : CatalogueView → StoreState → History → StoreState → Type 0
+Leaves c s records left = left ≡ after store_meaning c s records
+
 -- the records, the first at index begin, were replayed on this state: of each at an index that is kept, the outcome on the state after
 -- the records before it; at the other indexes what was kept before
 pub record KeepsOutcomes (c : CatalogueView) (s : StoreState) (begin : ℕ) (records : History) (old new : RepliesView) : Type 0 where

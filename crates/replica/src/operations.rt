@@ -7,9 +7,8 @@ ghost use Rattle.maps.specs.MapSets.{maps_of};
 ghost use Rattle.verifier.specs.declared.refusal.Mode.TheVariants.{Update, Read};
 ghost use Rattle.loader.specs.StoreState.{state_of};
 ghost use Rattle.oplog.specs.declared.records.Op.TheVariants.{Install};
-ghost use Rattle.oplog.specs.History.{after};
-ghost use Rattle.replica.specs.StoreMeaning.{store_meaning, no_program, no_place, is_mode, suits, program_among, run_in, ran_to, answered, updated, is_operation, AreUpdates};
-ghost use Rattle.replica.specs.Replaying.{KeepsOutcomes};
+ghost use Rattle.replica.specs.StoreMeaning.{no_program, no_place, is_mode, suits, program_among, run_in, ran_to, answered, updated, is_operation, AreUpdates};
+ghost use Rattle.replica.specs.Replaying.{KeepsOutcomes, Leaves};
 
 use crate::replying::Replies;
 use loader::{Catalogue, Installed};
@@ -145,7 +144,7 @@ pub(crate) fn perform_first(
     requires programs { programs.old.shapes ≡ catalogue.now.shapes }
     requires allowed { AreUpdates catalogue.now hand.now.records }
     requires fits { hand.now.begin + length hand.now.records < 2 ^ 64 }
-    ensures state { state_of (maps_of maps.new) programs.new ≡ after store_meaning catalogue.now (state_of (maps_of maps.old) programs.old) (take count hand.now.records) }
+    ensures state { Leaves catalogue.now (state_of (maps_of maps.old) programs.old) (take count hand.now.records) (state_of (maps_of maps.new) programs.new) }
     ensures shapes { HasShapes catalogue.now.shapes (maps_of maps.new) }
     ensures sizes { (programs.new.shapes ≡ programs.old.shapes) × (programs.new.places ≡ programs.old.places) }
     ensures kept { KeepsOutcomes catalogue.now (state_of (maps_of maps.old) programs.old) hand.now.begin (take count hand.now.records) replies.old replies.new }
