@@ -9,7 +9,7 @@ use Rattle.std.proofs.lemmas.Option.{slice_get-map, slice_get_within, get_or_fro
 use Rattle.std.proofs.Math.Nat.{mul-le-mul, mul-le-mul_right}
 use Rattle.keyindex.specs.declared.index.KeyIndex.{KeyIndex}
 use Rattle.keyindex.specs.Places.{HasSizes, filled}
-use Rattle.keyindex.proofs.Callers.{listed_key, listed_once}
+use Rattle.keyindex.proofs.Callers.{many_keys, listed_key, listed_once}
 use Rattle.maps.specs.declared.shapes.Shape.{Shape}
 use Rattle.maps.specs.declared.shapes.Shape.TheVariants.{Array, Hash}
 use Rattle.maps.specs.Shapes.{IsShapeOk, key_size, value_size, entry_count}
@@ -17,7 +17,7 @@ use Rattle.maps.specs.Maps.{MapState, value_at}
 use Rattle.maps.specs.declared.table.Table.{Table}
 use Rattle.maps.specs.MapSets.{Stored, Contents, value_in, entries_of, map_of, maps_of, key_at, flat, stored_shapes}
 use Rattle.maps.specs.Blocks.{keys_at, stored, contents, FitsIndex, IsTable, AreTables}
-use Rattle.maps.proofs.Placed.{Distinct, get_placed, index_stands, index_distinct, filled_index, len_placed, get_nowhere}
+use Rattle.maps.proofs.Placed.{Distinct, get_placed, length_index_keys, index_stands, index_distinct, filled_index, len_placed, get_nowhere}
 use Rattle.maps.proofs.KeysChanged.{distinct_once}
 
 pub get_at : {A : Type 0} (xs : List A) (i : ℕ) (x : A) → i < length xs → x ≡ get_or xs i x → slice_get xs i ≡ Some x
@@ -61,6 +61,11 @@ index_size (Hash key value entries) h = absurd h
 pub below : (shape : Shape) (index : Option KeyIndex) (p : ℕ) (k : List ℕ) → FitsIndex shape index → slice_get (keys_at shape index) p ≡ Some (Some k) → p < entry_count shape
 below shape None p k fits e = (index_stands 0 (entry_count shape) p k e).0
 below shape (Some index) p k fits e = let low = (listed_key index p (Some k) e).0 in let many = (sizes shape index fits).places_are in subst (λ n. p < n) many low
+
+-- there is a place for each entry
+pub many_places : (shape : Shape) (index : Option KeyIndex) → FitsIndex shape index → length (keys_at shape index) ≡ entry_count shape
+many_places shape None fits = length_index_keys 0 (entry_count shape)
+many_places shape (Some index) fits = many_keys index ∙ (sizes shape index fits).places_are
 
 -- how many there are
 pub array_len : (t : Table) → IsShapeOk t.shape → t.index ≡ None → entry_count t.shape ≡ finite_map.len (entries_of (stored t))

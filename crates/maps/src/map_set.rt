@@ -61,6 +61,13 @@ impl MapSet {
         Ok(MapSet { tables })
     }
 
+    /// How many maps there are.
+    pub fn count(&self) -> usize
+        ensures count { result ≡ length (stored_shapes self.now) }
+    {
+        self.tables.len()
+    }
+
     /// The shape of map `m`.
     pub fn shape(&self, m: usize) -> Shape
         requires map { m < length (stored_shapes self.now) }
@@ -75,6 +82,16 @@ impl MapSet {
         ensures keys { IfSome (slice_get (maps_of self.now) m) (λ s. result ≡ finite_map.len s.entries) }
     {
         self.tables[m].len()
+    }
+
+    /// How many places map `m` has: one for each entry that it has or may have.
+    pub fn places(&self, m: usize) -> u32
+        requires map { m < length (stored_shapes self.now) }
+        ensures places { IfSome (slice_get self.now m) (λ s. result ≡ length s.keys) }
+        ensures entries { IfSome (slice_get (stored_shapes self.now) m) (λ s. result ≡ entry_count s) }
+    {
+        let table = &self.tables[m];
+        table.places()
     }
 
     /// The entry of map `m` where a key stands, if it does.
@@ -100,6 +117,7 @@ impl MapSet {
         ensures there { result ≡ is_some (key_at self.now m place) }
         ensures key { result ≡ true → key_at self.now m place ≡ Some key.new }
         ensures kept { result ≡ false → key.new ≡ key.old }
+        ensures size { length key.new ≡ length key.old }
     {
         self.tables[m].key(place, key)
     }

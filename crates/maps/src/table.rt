@@ -69,6 +69,16 @@ impl Table {
         }
     }
 
+    /// The number of places, at each of which a key stands or none.
+    pub(crate) fn places(&self) -> u32
+        requires shape { IsShapeOk self.now.shape }
+        requires table { IsTable self.now }
+        ensures places { result ≡ length (stored self.now).keys }
+        ensures entries { result ≡ entry_count self.now.shape }
+    {
+        self.shape.entry_count() as u32
+    }
+
     /// The place of a key, if it stands anywhere.
     pub(crate) fn find(&self, key: &[u8]) -> Option<u32>
         requires shape { IsShapeOk self.now.shape }
@@ -98,6 +108,7 @@ impl Table {
         ensures there { result ≡ true → slice_get (stored self.now).keys place ≡ Some (Some key.new) }
         ensures free { result ≡ false → slice_get (stored self.now).keys place ≡ Some None }
         ensures kept { result ≡ false → key.new ≡ key.old }
+        ensures size { length key.new ≡ length key.old }
     {
         match &self.index {
             None => {
