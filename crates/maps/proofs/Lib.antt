@@ -10,3 +10,4 @@ pub mod Opened
 pub mod OpeningShapes
 pub mod StoredShapes
 pub mod Exchanged
+pub mod EntriesAt

@@ -30,3 +30,12 @@ pub struct Inserted {
     /// Whether it stood nowhere before.
     pub is_new: bool,
 }
+
+/// What a scan gave.
+#[derive(Clone, Copy, PartialEq, Eq, Debug)]
+pub struct Scanned {
+    /// How many entries.
+    pub count: usize,
+    /// The place to go on from; none where it came to the end of the map.
+    pub next: Option<u32>,
+}

@@ -3,10 +3,11 @@
 
 mod entry;
 mod map_set;
+mod scanning;
 mod shapes;
 mod table;
 
-pub use entry::{Entry, Inserted};
+pub use entry::{Entry, Inserted, Scanned};
 pub use map_set::MapSet;
 pub use shapes::{
     INDEX_BYTES, MAX_ARG_LEN, MAX_ENTRIES, MAX_KEY_BYTES, MAX_MAPS, MAX_TOTAL_BYTES,

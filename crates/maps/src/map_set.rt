@@ -7,10 +7,11 @@ ghost use Rattle.std.specs.Borrow.{sem};
 ghost use Rattle.maps.specs.Shapes.{key_size, value_size, entry_count, block_size, first_shape_fault, IsShapeOk, IsHash};
 ghost use Rattle.maps.specs.Blocks.{contents, IsTable};
 ghost use Rattle.maps.specs.declared.shapes.MapError.TheVariants.{NoMemory, Refused};
-ghost use Rattle.maps.specs.Maps.{HasShapes, value_at};
+ghost use Rattle.maps.specs.Maps.{HasShapes, MapState, value_at};
 ghost use Rattle.maps.specs.MapSets.{maps_of, stored_shapes, key_at, key_of, value_of, block_of, HoldsValues, write_value, write_block, PutsValue, PutsOneValue, opened, opening_maps, PutsWritten, put_value, take_key, HasRoom, IsFull};
+ghost use Rattle.maps.specs.Scans.{Scans, given, room_in};
 
-use crate::entry::{Entry, Inserted};
+use crate::entry::{Entry, Inserted, Scanned};
 use crate::shapes::{MapError, Shape, shapes_ok};
 use crate::table::{Table, copies_of_tables, copy_tables};
 use std::alloc::{AllocError, Global};
@@ -132,6 +133,22 @@ impl MapSet {
         let size = table.shape.value_bytes();
         let start = entry.place as usize * size;
         &table.block[start..start + size]
+    }
+
+    /// Gives entries of map `m` from a place on, their keys one after another in `keys` and their values in `values`, as many as both
+    /// have room for. It looks at no more than 1,024 places, and 16 more for each entry that there is room for.
+    pub fn scan(&self, m: usize, from: u32, keys: &mut [u8], values: &mut [u8]) -> Scanned
+        requires map { m < length (stored_shapes self.now) }
+        requires place { IfSome (slice_get (stored_shapes self.now) m) (λ s. from < entry_count s) }
+        ensures scanned { (s : MapState) → slice_get (maps_of self.now) m ≡ Some s
+            → Scans s from (room_in s.shape (length keys.old) (length values.old)) (given s.shape result.count keys.new values.new) result.next }
+    {
+        let table = &self.tables[m];
+        let room = table.room_in(keys.len(), values.len());
+        let end = table.scan_end(from, room);
+        let (count, place) = table.scan(from, end, room, keys, values);
+        let next = table.next_place(place);
+        Scanned { count, next }
     }
 
     /// The value of an entry, to be written.
