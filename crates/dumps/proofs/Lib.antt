@@ -13,3 +13,4 @@ pub mod Alike
 pub mod ProgramBytes
 pub mod Belongs
 pub mod Reread
+pub mod Writing

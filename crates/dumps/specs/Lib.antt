@@ -5,5 +5,6 @@ pub mod Refusal
 -- A state as text, and that states and texts are one for one.
 pub mod Dumping
 pub mod Laws
--- What is kept of the lines before the one that is read. No public clause cites these.
+-- What is kept of the lines before the one that is read, and the text map by map. No public clause cites these.
 pub mod Shown
+pub mod Written

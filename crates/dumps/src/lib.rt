@@ -1,11 +1,13 @@
 //! The state of a store as text: a line for each entry, in order, and for each program that was installed.
 #![tactic(auto)]
 
+mod dumping;
 mod laws;
 mod lines;
 mod loading;
 mod refusals;
 
+pub use dumping::dump;
 pub use laws::{dump_is_read, text_is_dumped};
 pub use lines::DUMP_LINE_BYTES;
 pub use loading::load;

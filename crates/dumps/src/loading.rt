@@ -78,7 +78,7 @@ fn is_key_for(maps: &MapSet, m: usize, key: &[u8]) -> bool
 }
 
 #[tactic(auto, unfolding(crate::specs::Loading::is_left_out))]
-fn is_left_out(shape: Shape, value: &[u8]) -> bool
+pub(crate) fn is_left_out(shape: Shape, value: &[u8]) -> bool
     ensures { result ≡ is_left_out shape value.now }
 {
     !is_hash(shape) && are_zeros(value)

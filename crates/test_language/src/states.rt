@@ -1,7 +1,7 @@
-//! A state as text: two maps and a place for one program, and the first bad line with the number of its fault.
+//! A state as text: two maps and a place for one program, the first bad line with the number of its fault, and states that are written.
 
-use dumps::load;
-use loader::load_manifest;
+use dumps::{dump, load};
+use loader::{StoreState, load_manifest};
 
 const MAPS: &str = "map array 2 4\nmap hash 1 1 2\n";
 
@@ -39,6 +39,17 @@ const BAD: &[(&str, u32, u8)] = &[
     ),
 ];
 
+// An array whose index 256 goes before index 1, by the bytes of the keys, and a hash.
+const WIDE_MAPS: &str = "map array 1 300\nmap hash 2 1 4\n";
+
+// States of these maps with two places, as they are written.
+const WRITTEN: &[&str] = &[
+    "",
+    "0 00010000 07\n0 01000000 05\n",
+    "0 2b010000 ff\n1 0001 00\n1 0100 01\n1 ff00 0a\n",
+    "p read 3 b7000000050000009500000000000000\np update 64 b7000000050000009500000000000000\n",
+];
+
 #[test]
 fn loads_a_state(rt: HostRuntime) {
     let catalogue = load_manifest(rt.alloc(), MAPS, &[]).expect(&rt, "catalogue");
@@ -54,4 +65,22 @@ fn names_the_first_bad_line(rt: HostRuntime) {
         let told = refused.map(|e| (e.line(), e.number()));
         assert_eq!(rt; told, Some((line, number)));
     }
+}
+
+#[test]
+fn writes_what_it_loads(rt: HostRuntime) {
+    let catalogue = load_manifest(rt.alloc(), WIDE_MAPS, &[]).expect(&rt, "catalogue");
+    for &text in WRITTEN {
+        let state = load(rt.alloc(), catalogue.shapes(), 2, text).expect(&rt, "state");
+        let written = dump(rt.alloc(), &state).expect(&rt, "text");
+        assert_eq!(rt; written.as_slice(), text.as_bytes());
+    }
+}
+
+#[test]
+fn writes_nothing_of_a_new_state(rt: HostRuntime) {
+    let catalogue = load_manifest(rt.alloc(), MAPS, &[]).expect(&rt, "catalogue");
+    let state = StoreState::open(rt.alloc(), &catalogue).expect(&rt, "state");
+    let written = dump(rt.alloc(), &state).expect(&rt, "text");
+    assert!(rt; written.is_empty());
 }
