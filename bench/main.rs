@@ -1,4 +1,4 @@
-//! Runs the same programs in the proved machine and in two conventional interpreters, checks that all give the same replies, and prints
+//! Runs the same programs in the proved machine and in three conventional interpreters, checks that all give the same replies, and prints
 //! how their times compare. With the name of a program, of a machine, and a number it runs that alone so often, for a tool that counts
 //! processor instructions.
 
@@ -12,6 +12,9 @@ use std::time::{Duration, Instant};
 unsafe extern "C" {
     // Opens one array of so many 8-byte values, verifies the program once, runs it so often, and answers the sum of the replies.
     fn bench_run(code: *const u8, code_len: usize, argument: *const u8, argument_len: usize, entries: u32, times: u64) -> u64;
+
+    // Runs a program so often over one array of 8-byte values, in C, and answers the sum of the replies (threaded.c).
+    fn threaded_run(code: *mut u8, slots: u64, argument: *const u8, values: *mut u8, entries: u32, times: u64) -> u64;
 }
 
 struct Program {
@@ -40,7 +43,16 @@ fn plain<const CHECKED: bool>(program: &Program, times: u64) -> u64 {
     sum
 }
 
-const MACHINES: [(&str, fn(&Program, u64) -> u64); 3] = [("proved", proved), ("safe", plain::<true>), ("unchecked", plain::<false>)];
+fn threaded(program: &Program, times: u64) -> u64 {
+    let slots = program.code.len() / 8;
+    // (in words, so that they lie where instructions may)
+    let mut code: Vec<u64> = program.code.chunks_exact(8).map(|slot| u64::from_le_bytes(slot.try_into().expect("8 bytes"))).collect();
+    let mut values = vec![0u64; program.entries as usize];
+    unsafe { threaded_run(code.as_mut_ptr().cast(), slots as u64, program.argument.as_ptr(), values.as_mut_ptr().cast(), program.entries, times) }
+}
+
+const MACHINES: [(&str, fn(&Program, u64) -> u64); 4] =
+    [("proved", proved), ("threaded", threaded), ("safe", plain::<true>), ("unchecked", plain::<false>)];
 
 fn timed(f: impl FnOnce() -> u64) -> (u64, Duration) {
     let start = Instant::now();
@@ -118,20 +130,24 @@ fn main() {
         return alone(program, machine, times.parse().expect("a number"));
     }
     host::print();
-    println!("{:<10}{:>6}{:>12}{:>12}{:>12}{:>10}{:>10}", "program", "steps", "proved ns", "safe ns", "unchecked", "to safe", "to unch.");
+    let [program, steps, proved, threaded, safe, unchecked] = ["program", "steps", "proved ns", "threaded ns", "safe ns", "unchecked"];
+    let [to_threaded, to_safe, to_unchecked] = ["to threaded", "to safe", "to unch."];
+    println!("{program:<10}{steps:>6}{proved:>12}{threaded:>12}{safe:>12}{unchecked:>12}{to_threaded:>12}{to_safe:>10}{to_unchecked:>10}");
     for program in programs() {
-        let mut best = [Duration::MAX; 3];
+        let mut best = [Duration::MAX; 4];
         for _ in 0..7 {
-            let mut sums = [0; 3];
+            let mut sums = [0; 4];
             for (k, (_, run)) in MACHINES.iter().enumerate() {
                 let (sum, time) = timed(|| run(&program, program.times));
                 sums[k] = sum;
                 best[k] = best[k].min(time);
             }
-            assert!(sums[0] == sums[1] && sums[0] == sums[2], "{}: the replies differ", program.name);
+            assert!(sums.iter().all(|sum| *sum == sums[0]), "{}: the replies differ", program.name);
         }
         let each = best.map(|t| t.as_nanos() as f64 / program.times as f64);
         let ratio = |k: usize| each[0] / each[k];
-        println!("{:<10}{:>6}{:>12.1}{:>12.1}{:>12.1}{:>10.2}{:>10.2}", program.name, program.steps, each[0], each[1], each[2], ratio(1), ratio(2));
+        let [proved, threaded, safe, unchecked] = each;
+        print!("{:<10}{:>6}{proved:>12.1}{threaded:>12.1}{safe:>12.1}{unchecked:>12.1}", program.name, program.steps);
+        println!("{:>12.2}{:>10.2}{:>10.2}", ratio(1), ratio(2), ratio(3));
     }
 }
