@@ -46,11 +46,11 @@ module _ (Made : Answer → Answer → Type 0) where
   answered (Some m) (Some h) checked a known made = made_same checked (check_answer m h) a known made
 
   -- where something is no text, which is all that `check` answers
-  pub of_stranger : (r : Option (List ℕ)) (o : Option Contents) (a : Answer) → IfFilesKnown r o (λ m h. check_answer m h ≡ not_text) → Made not_text a
+  pub of_stranger : (r : Option (List ℕ)) (o : Option Contents) (e : InputFault) (a : Answer) → e ≡ faults.NotText → IfFilesKnown r o (λ m h. FailsAs e (check_answer m h ≡ not_text)) → Made not_text a
       → IfFilesKnown r o (λ m h. Made (check_answer m h) a)
-  of_stranger None o a known made = tt
-  of_stranger (Some m) None a known made = tt
-  of_stranger (Some m) (Some h) a known made = made_same not_text (check_answer m h) a (sym known) made
+  of_stranger None o e a is known made = tt
+  of_stranger (Some m) None e a is known made = tt
+  of_stranger (Some m) (Some h) e a is known made = made_same not_text (check_answer m h) a (sym (subst (λ f. FailsAs f (check_answer m h ≡ not_text)) is known)) made
 
   -- ---- what was written
 

@@ -40,34 +40,92 @@ impl<T: Drop> From<AllocFailed<T>> for InputFault {
     }
 }
 
+// What was read last, where it isn't UTF-8.
+#[derive(Drop)]
+pub(crate) struct Stranger<'a> {
+    // The name of its file.
+    pub name: &'a str,
+    // All that was read of it.
+    pub bytes: Vec<u8>,
+}
+
+impl<'a> Stranger<'a> {
+    // Nothing was read yet.
+    pub(crate) fn none(alloc: Global) -> Stranger<'a> {
+        let bytes = Vec::new(alloc);
+        Stranger { name: "", bytes }
+    }
+}
+
+// The text that a reader gives; where what it gives is no text, `bytes` becomes that.
+pub(crate) fn read_keeping<R: Source>(
+    alloc: Global,
+    reader: &mut R,
+    bytes: &mut Vec<u8>,
+) -> Result<String, InputFault>
+    ensures text { IfSome (R.remaining reader.old) (TextIs result) }
+    ensures failed { IfCannotRead result (R.has_failed reader.new) }
+{
+    let read = match reader.read_whole(alloc) {
+        Ok(read) => read,
+        Err(ReadFault::NoMemory) => return Err(InputFault::NoMemory),
+        Err(ReadFault::CannotRead) => return Err(InputFault::CannotRead),
+    };
+    match String::from_utf8(read) {
+        Ok(text) => Ok(text),
+        Err(error) => {
+            *bytes = error.into_bytes();
+            Err(InputFault::NotText)
+        }
+    }
+}
+
 // The text that a reader gives.
 pub(crate) fn read_text<R: Source>(alloc: Global, reader: &mut R) -> Result<String, InputFault>
     ensures text { IfSome (R.remaining reader.old) (TextIs result) }
     ensures failed { IfCannotRead result (R.has_failed reader.new) }
 {
-    let bytes = match reader.read_whole(alloc) {
-        Ok(bytes) => bytes,
-        Err(ReadFault::NoMemory) => return Err(InputFault::NoMemory),
-        Err(ReadFault::CannotRead) => return Err(InputFault::CannotRead),
-    };
-    match String::from_utf8(bytes) {
-        Ok(text) => Ok(text),
-        Err(_) => Err(InputFault::NotText),
-    }
+    read_keeping(alloc, reader, &mut Vec::new(alloc))
 }
 
-// The text of a file, where it is there.
-fn file_text<F: Folder>(alloc: Global, folder: &F, name: &str) -> Result<Option<String>, InputFault>
+// The text of a file, where it is there; where it is no text, `bytes` becomes what it is.
+fn file_text<F: Folder>(
+    alloc: Global,
+    folder: &F,
+    name: &str,
+    bytes: &mut Vec<u8>,
+) -> Result<Option<String>, InputFault>
     ensures found { IfSome (F.holds folder.now) (λ h. MatchResult result (λ t. FoundAs t (h name.now)) (λ e. FailsAs e (IsNoText (h name.now)))) }
     ensures failed { IfCannotRead result (SomeFile F.File.has_failed) }
 {
     match folder.open(name) {
         None => Ok(None),
-        Some(mut file) => match read_text(alloc, &mut file) {
+        Some(mut file) => match read_keeping(alloc, &mut file, bytes) {
             Ok(text) => Ok(Some(text)),
             Err(fault) => Err(fault),
         },
     }
+}
+
+// The files that a manifest names and that are there, each with its text; where one is no text, `stranger` becomes that.
+pub(crate) fn gather_keeping<'a, F: Folder>(
+    alloc: Global,
+    folder: &F,
+    manifest: &'a str,
+    stranger: &mut Stranger<'a>,
+) -> Result<Vec<(&'a str, String)>, InputFault>
+    ensures gathered { IfSome (F.holds folder.now) (λ h. Gathered h (named_in manifest.now) result) }
+    ensures failed { IfCannotRead result (SomeFile F.File.has_failed) }
+{
+    let names = named_files(alloc, manifest)?;
+    let mut files = Vec::new(alloc);
+    for name in &names {
+        stranger.name = *name;
+        if let Some(text) = file_text(alloc, folder, name, &mut stranger.bytes)? {
+            files.push((*name, text))?;
+        }
+    }
+    Ok(files)
 }
 
 // The files that a manifest names and that are there, each with its text.
@@ -79,14 +137,7 @@ pub(crate) fn gather<'a, F: Folder>(
     ensures gathered { IfSome (F.holds folder.now) (λ h. Gathered h (named_in manifest.now) result) }
     ensures failed { IfCannotRead result (SomeFile F.File.has_failed) }
 {
-    let names = named_files(alloc, manifest)?;
-    let mut files = Vec::new(alloc);
-    for name in &names {
-        if let Some(text) = file_text(alloc, folder, name)? {
-            files.push((*name, text))?;
-        }
-    }
-    Ok(files)
+    gather_keeping(alloc, folder, manifest, &mut Stranger::none(alloc))
 }
 
 // The files, lent.

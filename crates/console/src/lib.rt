@@ -28,6 +28,7 @@ mod single_node;
 mod status;
 mod step_lines;
 mod stepping;
+mod strangers;
 mod texts;
 mod transcripts;
 mod transfer;

@@ -9,9 +9,10 @@ ghost use Rattle.console.specs.InputFaults.{IfCannotRead};
 
 use crate::commands::checking::loaded_reply;
 use crate::folder::Folder;
-use crate::input::{InputFault, gather, lent, read_text};
+use crate::input::{InputFault, Stranger, gather_keeping, lent, read_keeping};
 use crate::reporting::{Reply, report};
 use crate::status::Status;
+use crate::strangers::{strange_files, strange_manifest};
 use crate::transfer::{Sink, Source};
 use explain::explain_manifest;
 use std::alloc::{AllocError, Global};
@@ -44,8 +45,20 @@ pub fn explain_reply<F: Folder, R: Source>(
     ensures failed { IfCannotRead result (R.has_failed manifest.new ⊎ SomeFile F.File.has_failed) }
     ensures some { IfOk result (λ r. IsSomeExplanation (answer_of r)) }
 {
-    let text = read_text(alloc, manifest)?;
-    let files = gather(alloc, folder, text.as_str())?;
+    let mut bytes = Vec::new(alloc);
+    let text = match read_keeping(alloc, manifest, &mut bytes) {
+        Ok(text) => text,
+        Err(InputFault::NotText) => return Ok(strange_manifest(alloc, &bytes)?),
+        Err(fault) => return Err(fault),
+    };
+    let mut stranger = Stranger::none(alloc);
+    let files = match gather_keeping(alloc, folder, text.as_str(), &mut stranger) {
+        Ok(files) => files,
+        Err(InputFault::NotText) => {
+            return Ok(strange_files(alloc, folder, text.as_str(), &stranger)?);
+        }
+        Err(fault) => return Err(fault),
+    };
     let checked = loaded_reply(alloc, text.as_str(), &files)?;
     Ok(explained(alloc, text.as_str(), &files, name, checked)?)
 }
@@ -54,6 +67,7 @@ pub fn explain_reply<F: Folder, R: Source>(
 ///
 /// Writes what `check` writes, and behind it of each program what the verifier knows before each of its instructions, and of
 /// each line that is bad what is wrong with it and what to do about it; where a name is given, of the program of this name alone.
+/// Of a manifest or a file that is not UTF-8 it writes what that is, and of no program then.
 /// Says how it ended, as `check` does. Each file is read whole before anything is written. Where a read fails, nothing is written.
 pub fn explain<F: Folder, R: Source, W: Sink>(
     alloc: Global,

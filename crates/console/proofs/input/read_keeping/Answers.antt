@@ -3,13 +3,13 @@ use Rattle.std.proofs.lemmas.Bool.{false≢true}
 use Rattle.std.proofs.lemmas.Str.{is_utf8-from_IsUtf8, IsUtf8-had}
 use Rattle.console.specs.Files.{is_text}
 use Rattle.console.proofs.Found.{text_found, no_text, not_text_from_err}
-use Rattle.console.proofs.input.read_text.Goals as goal
+use Rattle.console.proofs.input.read_keeping.Goals as goal
 
 pub returns-in-Ok-from_utf8 : goal.returns-in-Ok-from_utf8
 returns-in-Ok-from_utf8 g c =
     let same = c.in-Ok-from_utf8.ensures.ok in
     let text : is_text c.in-Ok-from_utf8.text.bytes.items ≡ true = is_utf8-from_IsUtf8 _ (IsUtf8-had _ c.in-Ok-from_utf8.text.ok) in
-    record { text = text_found (g.R.Source.remaining c.args.reader.now) c.in-Ok-from_utf8.text c.in-Ok.bytes.items c.in-Ok.ensures.whole (ap (λ v. v.items) same) (sym (ap (λ v. is_text v.items) same) ∙ text); failed = tt }
+    record { text = text_found (g.R.Source.remaining c.args.reader.now) c.in-Ok-from_utf8.text c.in-Ok.read.items c.in-Ok.ensures.whole (ap (λ v. v.items) same) (sym (ap (λ v. is_text v.items) same) ∙ text); failed = tt }
 
-pub returns : goal.returns
-returns g c = record { text = no_text (g.R.Source.remaining c.args.reader.now) c.in-Ok.bytes.items c.in-Ok.ensures.whole (not_text_from_err _ (λ t. false≢true (c.in-Err.ensures.succeeds t))); failed = tt }
+pub returns-in-Err-clause-text : goal.returns-in-Err-clause-text
+returns-in-Err-clause-text g c = no_text (g.R.Source.remaining c.args.reader.now) c.in-Ok.read.items c.in-Ok.ensures.whole (not_text_from_err _ (λ t. false≢true (c.in-Err.ensures.succeeds t)))
