@@ -16,7 +16,7 @@ _nrbpf() {
         asm) words='-o --output --explain -h --help' ;;
         dis) words='--slots -h --help' ;;
         encode) words='-h --help' ;;
-        run) words='-h --help' ;;
+        run) words='--signed -h --help' ;;
         serve) words='--spare -h --help' ;;
         replay) words='--spare --explain -h --help' ;;
         schedule) words='--nodes --slots --window --limit --spare --explain --lanes -h --help' ;;

@@ -8,6 +8,8 @@ pub mod ProgramLines
 pub mod SlotLines
 pub mod RunLines
 pub mod InputTexts
+pub mod SignedRuns
+pub mod SignedLines
 pub mod Opened
 pub mod OneUpdate
 pub mod Turns

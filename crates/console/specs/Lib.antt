@@ -11,6 +11,7 @@ pub mod Status
 pub mod Answer
 pub mod Inputs
 pub mod RunAnswer
+pub mod Signed
 pub mod AsmAnswer
 pub mod SlotsAnswer
 pub mod EncodeAnswer
@@ -25,6 +26,8 @@ pub mod Graph
 pub mod Transfer
 -- Laws: each line that a run writes for a call is a run of its program.
 pub mod RunLines
+-- Laws: the reply that a line tells, beside which a signed number may stand.
+pub mod SignedLaws
 -- Laws: how an input is cut, and what is served of a text that could be run.
 pub mod ServeLaws
 -- The steps between reading and writing.

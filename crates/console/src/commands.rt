@@ -11,6 +11,7 @@ mod running;
 mod scheduling;
 mod scripting;
 mod serving;
+mod signing;
 
 pub use assembling::{asm_reply, asm_told_reply, assemble};
 pub use checking::{check, check_reply};
@@ -23,3 +24,4 @@ pub use running::{run, run_reply};
 pub use scheduling::{Setup, schedule, schedule_reply, sizes_refused};
 pub use scripting::{encode, encode_reply};
 pub use serving::serve;
+pub use signing::{run_signed, run_signed_reply};

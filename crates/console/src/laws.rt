@@ -2,6 +2,7 @@
 
 ghost use Rattle.std.specs.Prelude.{◌≡◌};
 ghost use Rattle.console.specs.RunLines.{RunLinesAreRuns};
+ghost use Rattle.console.specs.SignedLaws.{RepliesAreTold};
 ghost use Rattle.console.specs.declared.single_node.TheConstants.{RUN_PLACES};
 
 /// The limit that the definitions cite, as a number.
@@ -15,4 +16,9 @@ pub fn limits()
 /// refused, or its line has the number of the program that its bytes spell, or -7.
 pub fn run_lines_are_runs()
     ensures runs { RunLinesAreRuns }
+{}
+
+/// `run --signed` finds the reply of each line that `run` writes for an update, a read or an install.
+pub fn replies_are_told()
+    ensures replies { RepliesAreTold }
 {}

@@ -24,6 +24,7 @@ mod schedule_texts;
 mod script;
 mod serve_laws;
 mod serving;
+mod signed_texts;
 mod single_node;
 mod status;
 mod step_lines;
@@ -35,11 +36,11 @@ mod transfer;
 
 pub use commands::{
     Setup, assemble, check, disassemble, disassemble_slots, encode, explain, graph, replay, run,
-    schedule, serve,
+    run_signed, schedule, serve,
 };
 pub use feeding::{CannotRead, Feed};
 pub use folder::Folder;
-pub use laws::{limits, run_lines_are_runs};
+pub use laws::{limits, replies_are_told, run_lines_are_runs};
 pub use memory::{Held, HeldFiles, Page};
 pub use notes::{Notes, Telling};
 pub use serve_laws::{served_in_parts, served_is_run};
@@ -49,7 +50,7 @@ pub use transfer::{CannotWrite, ReadFault, Sink, Source};
 // What each command has to write, without a writer.
 pub use commands::{
     asm_reply, asm_told_reply, check_reply, dis_reply, encode_reply, explain_reply, graph_reply,
-    replay_reply, run_reply, schedule_reply, slots_reply,
+    replay_reply, run_reply, run_signed_reply, schedule_reply, slots_reply,
 };
 
 // What an engine in a crate of its own is put together from, as `stress` is.

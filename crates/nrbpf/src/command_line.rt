@@ -31,6 +31,8 @@ pub enum Task<'a> {
     Encode,
     /// Run a script.
     Run,
+    /// Run a script, and write negative replies as signed numbers beside.
+    RunSigned,
     /// Replay a transcript, with so many places behind the programs, and tell this of it.
     Replay(u32, Telling),
     /// Take a list of steps on a store of these sizes, and tell this of it.
@@ -85,7 +87,8 @@ const SIZES: [(&str, &str, &str); 4] = [
 ];
 
 // What options ask for that have no value, each with its command and its help.
-const FLAGS: [(&str, &str, &str); 5] = [
+const FLAGS: [(&str, &str, &str); 6] = [
+    ("run", "signed", help::SIGNED),
     ("replay", "explain", help::DUE),
     ("schedule", "explain", help::REASONS),
     ("schedule", "lanes", help::LANES),
@@ -374,6 +377,15 @@ fn disassembling<'a>(matches: &ArgMatches<'a>) -> Task<'a> {
     }
 }
 
+// Running, with signed numbers beside replies or without.
+fn running<'a>(matches: &ArgMatches<'a>) -> Task<'a> {
+    if matches.get_flag("signed") {
+        Task::RunSigned
+    } else {
+        Task::Run
+    }
+}
+
 // What is told of a run beside its answer.
 fn telling(matches: &ArgMatches) -> Telling {
     if matches.get_flag("explain") {
@@ -400,7 +412,7 @@ fn task_of<'a>(name: &str, matches: &ArgMatches<'a>) -> Option<Task<'a>> {
         "asm" => assembling(matches),
         "dis" => disassembling(matches),
         "encode" => Task::Encode,
-        "run" => Task::Run,
+        "run" => running(matches),
         "replay" => Task::Replay(matches.get_one("spare")?, telling(matches)),
         "schedule" => Task::Schedule(config_of(matches)?, telling_of_steps(matches)),
         "serve" => Task::Serve(matches.get_one("spare")?),

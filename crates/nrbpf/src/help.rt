@@ -4,7 +4,7 @@
 pub const ABOUT: &str = "A store of maps whose operations are eBPF programs";
 
 /// The day of the newest change that a user notices (CHANGELOG).
-pub const VERSION: &str = "2026-11-24";
+pub const VERSION: &str = "2026-11-25";
 
 /// What stands behind the list of commands.
 pub const AFTER: &str = "\
@@ -260,7 +260,8 @@ A place where no program stands that has the mode and the argument's length repl
 0 steps. A refused line changes nothing, and the run goes on. With the manifest of examples/counter the script above
 writes `update 0 reply 1 steps 9` and `read 1 reply 1 steps 6`.
 
-Replies have no sign: -1 is 18446744073709551615.
+Replies have no sign: -1 is 18446744073709551615. With `--signed` a line whose reply is 2^63 or more ends with that
+reply as a signed number: `update 2 reply 18446744073709551615 steps 7 = -1`. All else stays as it is.
 
 Refusals, which end the run:
     line N bad          line N of the script is none of these, no comment and no empty line; what stands before was run
@@ -269,6 +270,9 @@ Refusals, which end the run:
 
 Exit statuses: 0 all is well, 2 wrong words on the command line, 3 refused, 4 `no memory`,
 5 `cannot read` or `cannot write` (on standard error).";
+
+/// What `--signed` does.
+pub const SIGNED: &str = "Writes negative replies as signed numbers beside";
 
 /// What the script's path is.
 pub const SCRIPT: &str = "The path of the script";

@@ -10,7 +10,7 @@ mod sizes;
 use command_line::{Call, Task};
 use console::{
     Folder, Notes, Setup, Status, assemble, check, disassemble, disassemble_slots, explain, graph,
-    replay, run, schedule, serve,
+    replay, run, run_signed, schedule, serve,
 };
 use disk::{Disk, LateFile};
 use output::{Output, assemble_into, assemble_told, encode_or_say, say_text};
@@ -43,6 +43,7 @@ fn perform<R: Files + AllocGlobal + Eprint + Threads + Wait + Sync, F: Folder, I
         Task::DisassembleSlots => disassemble_slots(alloc, file, writer),
         Task::Encode => encode_or_say(rt, file, writer),
         Task::Run => run(alloc, folder, manifest, file, writer),
+        Task::RunSigned => run_signed(alloc, folder, manifest, file, writer),
         Task::Serve(spare) => serve(alloc, folder, spare, manifest, file, writer),
         Task::Replay(spare, telling) => {
             let mut notes = Notes::new(alloc, telling);

@@ -3,7 +3,7 @@
 use crate::files::Offered;
 use console::{
     Notes, Setup, Status, Telling, assemble, check, disassemble, disassemble_slots, encode,
-    explain, graph, replay, run, schedule, serve,
+    explain, graph, replay, run, run_signed, schedule, serve,
 };
 use oplog::Config;
 use std::alloc::Global;
@@ -135,6 +135,22 @@ fn explained(alloc: Global, folder: &Offered, command: &str, manifest: &[u8]) ->
     }
 }
 
+// What `run` answers, or as `run:signed` with signed numbers beside.
+fn ran(alloc: Global, folder: &Offered, command: &str, manifest: &[u8]) -> Answer {
+    let mut text = manifest;
+    let mut script = folder.other;
+    let mut out = Vec::new(alloc);
+    let status = if command == "run:signed" {
+        run_signed(alloc, folder, &mut text, &mut script, &mut out)
+    } else {
+        run(alloc, folder, &mut text, &mut script, &mut out)
+    };
+    Answer {
+        status: status.code(),
+        text: out,
+    }
+}
+
 // What `explain --graph` answers, or behind `graph:NAME` of the program of this name.
 fn drawn(alloc: Global, folder: &Offered, command: &str, manifest: &[u8]) -> Answer {
     let mut text = manifest;
@@ -170,15 +186,14 @@ pub fn answer_to<R: Threads + Wait + Sync>(
     if command.starts_with("graph") {
         return Some(drawn(alloc, folder, command, text));
     }
+    if command.starts_with("run") {
+        return Some(ran(alloc, folder, command, text));
+    }
     let mut text = text;
     let mut out = Vec::new(alloc);
     let mut notes = Notes::none(alloc);
     let status = match command {
         "check" => check(alloc, folder, &mut text, &mut out),
-        "run" => {
-            let mut script = folder.other;
-            run(alloc, folder, &mut text, &mut script, &mut out)
-        }
         "replay" => {
             let mut transcript = folder.other;
             replay(

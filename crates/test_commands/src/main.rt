@@ -3,7 +3,7 @@
 //! from what the commands promise, and not by this repository. A row is added to `stdout`; `stdin` is `stdout` without the answers.
 //!
 //! `file NAME TEXT` names a text, and `read PATH` the file of this path under its path, where `data/examples` is the repository's
-//! `examples`; `check MANIFEST`, `explain MANIFEST`, `explain:NAME MANIFEST`, `graph MANIFEST`, `graph:NAME MANIFEST`, `run MANIFEST | SCRIPT`, `replay MANIFEST | TRANSCRIPT` and `replay:SPARE ..`,
+//! `examples`; `check MANIFEST`, `explain MANIFEST`, `explain:NAME MANIFEST`, `graph MANIFEST`, `graph:NAME MANIFEST`, `run MANIFEST | SCRIPT`, `run:signed ..`, `replay MANIFEST | TRANSCRIPT` and `replay:SPARE ..`,
 //! `serve MANIFEST | LINES` and `serve:SPARE ..`,
 //! `schedule:NODES:SLOTS:WINDOW:LIMIT MANIFEST | STEPS`, `stress:NODES:SLOTS:WINDOW:LIMIT MANIFEST | SCRIPT`, `stressed:..`, which is
 //! what `replay` answers to the transcript of such a `stress`, `told:schedule:..` and `told:replay:..`,
