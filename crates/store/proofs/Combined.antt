@@ -146,15 +146,6 @@ module _ (t a r : K) (rs : History) (old : RepliesView) (n m : NodeReplica) (new
       pub session_is : f.session ≡ k.session
       session_is = end.session ∙ (c.goes.session ∙ (h.goes.session ∙ took.session))
 
-      pub combined : (z : K) → HasCombined f z → HasCombined k z
-      combined z d = record {
-        session = d.session ∙ session_is;
-        held = d.held;
-        note = d.note ∙ (ap (λ (n : SessionNote). record n { batch = [] }) (end.note ∙ (c.note ∙ h.note)) ∙ ap (λ (n : SessionNote). record n { batch = [] }) took.note);
-        extends = store_laws.extends_on k.progress f.progress z.progress from_k d.extends;
-        stands = d.stands;
-      }
-
 -- ---- the answers are handed over
 
 pub handed : (k t z : K) → t.note ≡ k.note → BackDesk k z (record t.note { batch = [] }) → HasCombined k z

@@ -19,6 +19,7 @@ pub mod Joined
 pub mod Combined
 pub mod Whole
 pub mod Stretches
+pub mod Tried
 pub mod Requested
 pub mod Resumed
 pub mod Turning

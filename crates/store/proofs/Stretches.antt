@@ -3,12 +3,12 @@ use Rattle.std.proofs.Common.{Bool, true, false, not, ◌&&◌, ◌≡◌, ℕ, 
 use Rattle.std.specs.Prelude.{nat_le, nat_lt}
 use Rattle.std.proofs.Math.Nat.{le-max_left}
 use Rattle.std.proofs.lemmas.Bool.{le-leb}
-use Rattle.std.proofs.lemmas.List.{append-nil}
+use Rattle.std.proofs.lemmas.List.{append-nil, append_assoc}
 use Rattle.loader.specs.CatalogueView.{CatalogueView}
 use Rattle.oplog.specs.History.{History}
 use Rattle.oplog.specs.Logs.{Log as LogView, HandView}
 use Rattle.oplog.specs.Operations.{Operation}
-use Rattle.combiner.specs.Desks.{BatchView, DeskView}
+use Rattle.combiner.specs.Desks.{BatchView, DeskView, replied}
 use Rattle.replica.specs.Views.{RepliesView}
 use Rattle.accounts.specs.declared.sessions.Progress.{Progress}
 use Rattle.accounts.specs.Accounts.{Extends}
@@ -16,14 +16,14 @@ use Rattle.readpath.specs.declared.reading.ReadAnswer.{ReadAnswer}
 use Rattle.node.specs.Answering.{answered_batch}
 use Rattle.node.specs.Following.{copied, grown, has_next, may_append, may_rebase, no_records, rebased, reclaimed, replayed, replies_after, replies_for, told}
 use Rattle.node.specs.Seen.{Goes, Ends, Meets, OthersDo}
-use Rattle.node.specs.Steps.{NodeStep, Finishes, Replays, Seen}
+use Rattle.node.specs.Steps.{NodeStep, Finishes, Replays, Replies, Seen}
 use Rattle.node.proofs.Going.{goes_on}
 use Rattle.node.specs.declared.following.NodeReplica.{NodeReplica}
 use Rattle.node.specs.declared.parts.NodeBatch.{NodeBatch}
 use Rattle.node.specs.declared.parts.NodeBatch.TheVariants.{Absent, Held, InLog}
 use Rattle.store.specs.Standing.{SessionKnown, Agrees, Follows, HasRaised, HoldsLog, IsLogOf, Stands}
 use Rattle.store.specs.Sessions.{RepliesThere}
-use Rattle.store.specs.Whole.{AppendsBy, CombinesBy, FollowsBy, HandsOver, MakesRoom, ReadsBy, ReplaysBy, if_any, read_steps, sees}
+use Rattle.store.specs.Whole.{AnswersBy, AppendsBy, CombinesBy, FollowsBy, HandsOver, MakesRoom, ReadsBy, ReplaysBy, append_steps, if_any, read_steps, replay_steps, sees}
 use Rattle.store.proofs.StoreLaws.{store_laws}
 use Rattle.store.proofs.Followed.{above, kept_up}
 use Rattle.store.proofs.Whole.{agrees_on, append_step, finish_step, follow_step, later, later_is, log_from, log_from_is, others, others_complete, rebase_step, reclaim_step, replay_step, reply_step, still_log}
@@ -38,7 +38,7 @@ L = Progress CatalogueView
 
 module _ {s : Seen} {t : Seen} {xs : List NodeStep} where
   -- the steps of one catalogue
-  under : (c d : CatalogueView) → c ≡ d → Goes c s xs t → Goes d s xs t
+  pub under : (c d : CatalogueView) → c ≡ d → Goes c s xs t → Goes d s xs t
   under c d e goes = subst (λ z. Goes z s xs t) e goes
 
   -- what is seen last
@@ -173,15 +173,11 @@ hands_over k after g n b kept d is a grown low =
           (reply_step k.progress.catalogue after.progress (later after.progress g) n b kept d (ap (λ (z : HandView). z.records) a.1.1) (omega (arith, tail, rise)));
     }
 
--- the whole combine
-module _ (k t a r f z : K) (b : BatchView) (n v m : NodeReplica) (old new : RepliesView) (took : Extends k.progress t.progress) (found : Agrees t.progress n) (stands : Stands t) (first : AppendsBy t a b n v old)
-    (then : ReplaysBy a r first.back v m old new) (since : Extends t.progress a.progress) (up : Extends a.progress r.progress) (agrees : Agrees r.progress m) (back : Extends r.progress f.progress) (stands_f : Stands f) (within : m.replica.tail ≤ length r.progress.history)
-    (last : HandsOver f z (later f.progress then.log) m b new) (end : Extends f.progress z.progress) where
+-- the answers are kept, and the replica is back
+module _ (k t a r f : K) (b : BatchView) (n v m : NodeReplica) (old new : RepliesView) (took : Extends k.progress t.progress) (found : Agrees t.progress n) (stands : Stands t) (first : AppendsBy t a b n v old)
+    (then : ReplaysBy a r first.back v m old new) (since : Extends t.progress a.progress) (up : Extends a.progress r.progress) (agrees : Agrees r.progress m) (back : Extends r.progress f.progress) (stands_f : Stands f) (within : m.replica.tail ≤ length r.progress.history) where
   abbrev c0 : CatalogueView
   c0 = k.progress.catalogue
-
-  abbrev s0 : Seen
-  s0 = sees f.progress (later f.progress then.log) m (InLog (record { batch = b; replies = new })) last.desk
 
   low_f : f.progress.completed ≤ length f.progress.history
   low_f = stands_f.accounts.completed
@@ -189,31 +185,63 @@ module _ (k t a r f z : K) (b : BatchView) (n v m : NodeReplica) (old new : Repl
   to_a : k.progress.catalogue ≡ a.progress.catalogue
   to_a = took.catalogue ∙ since.catalogue
 
-  pub combines_by : (answered : BatchView) → answered ≡ answered_batch new b → CombinesBy k z b answered
-  combines_by answered answers = record {
+  pub answers_by : AnswersBy k f b new
+  answers_by = record {
     from = first.from;
     since = store_laws.extends_on k.progress t.progress first.from took first.since;
     log = first.log;
-    back = last.log;
+    back = later f.progress then.log;
     log_is = first.log_is;
-    back_is = last.log_is;
+    back_is = later_is r.progress f.progress then.log then.log_is back low_f;
     own = n;
     left = m;
     own_is = agrees_on t.progress first.from n first.since (let tail = found.0.tail in let low = stands.accounts.completed in omega (arith, tail, low)) found;
-    left_is = agrees_on r.progress z.progress m (store_laws.extends_on r.progress f.progress z.progress back end) within agrees;
-    kept = new;
-    answers = answers;
-    desk = last.desk;
+    left_is = agrees_on r.progress f.progress m back within agrees;
     low = first.low;
     full = first.full;
     next = first.next;
     later = first.later;
     more = then.more;
     ahead = then.ahead;
-    goes = goes_on (under t.progress.catalogue c0 (sym took.catalogue) (first.goes last.desk))
-        (goes_on (under a.progress.catalogue c0 (sym to_a) (then.goes b last.desk))
-        (Meets _ s0 _ _ (others r.progress f.progress then.log then.log_is back low_f c0 m (InLog (record { batch = b; replies = new })) last.desk)
-        (under f.progress.catalogue c0 (sym (to_a ∙ (up.catalogue ∙ back.catalogue))) last.goes)));
+    goes = λ d. goes_on (under t.progress.catalogue c0 (sym took.catalogue) (first.goes d))
+        (then_others c0 _ _ _ (replay_steps then.more then.ahead) (under a.progress.catalogue c0 (sym to_a) (then.goes b d))
+        (others r.progress f.progress then.log then.log_is back low_f c0 m (InLog (record { batch = b; replies = new })) d));
+  }
+
+-- the whole combine: the session k was f when its answers were kept, and z once it had handed them over
+module _ (k f z : K) (b : BatchView) (kept : RepliesView) (first : AnswersBy k f b kept) (last : HandsOver f z first.back first.left b kept) (on : Extends k.progress f.progress) (end : Extends f.progress z.progress) (stands : Stands f) where
+  abbrev began : Seen
+  began = sees first.from first.log first.own (Held b) last.desk
+
+  abbrev ended : Seen
+  ended = sees z.progress last.log first.left Absent (replied (answered_batch kept b) last.desk)
+
+  within_f : first.left.replica.tail ≤ length f.progress.history
+  within_f = let tail = first.left_is.0.tail in let low = stands.accounts.completed in omega (arith, tail, low)
+
+  pub combines_by : (answered : BatchView) → answered ≡ answered_batch kept b → CombinesBy k z b answered
+  combines_by answered answers = record {
+    from = first.from;
+    since = first.since;
+    log = first.log;
+    back = last.log;
+    log_is = first.log_is;
+    back_is = last.log_is;
+    own = first.own;
+    left = first.left;
+    own_is = first.own_is;
+    left_is = agrees_on f.progress z.progress first.left end within_f first.left_is;
+    kept = kept;
+    answers = answers;
+    desk = last.desk;
+    low = first.low;
+    full = first.full;
+    next = first.next;
+    later = first.later;
+    more = first.more;
+    ahead = first.ahead;
+    goes = subst (λ xs. Goes k.progress.catalogue began xs ended) (append_assoc (append_steps first.low first.full first.next first.later) (replay_steps first.more first.ahead) (Replies ∷ []))
+        (goes_on (first.goes last.desk) (under f.progress.catalogue k.progress.catalogue (sym on.catalogue) last.goes));
   }
 
 -- ---- a read

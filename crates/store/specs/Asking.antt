@@ -20,8 +20,8 @@ use Rattle.store.specs.Knowing.{IsOn, Learns}
 use Rattle.store.specs.Sessions.{op_of}
 
 -- the operation that the question asks for
-abbrev pub update_of : Question → Operation
-update_of asked = op_of asked.program asked.argument.now
+abbrev pub asked_op : Question → Operation
+asked_op asked = op_of asked.program asked.argument.now
 
 -- its refusal, where an update of this catalogue is asked for
 abbrev pub update_refusal : CatalogueView → Question → Option StoreRefused

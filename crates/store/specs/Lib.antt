@@ -14,5 +14,6 @@ pub mod Places
 pub mod Combining
 pub mod Requests
 pub mod Asking
+pub mod Trying
 -- Whole calls as lists of steps.
 pub mod Whole

@@ -118,6 +118,27 @@ pub record FollowsBy (k after : SessionKnown) (n m : NodeReplica) : Type 0 where
 
 -- ---- what the whole calls do
 
+-- a combine as far as its answers: the batch b is appended, and replayed and completed, and the replica that did it is put back
+pub record AnswersBy (k after : SessionKnown) (b : BatchView) (kept : RepliesView) : Type 0 where
+  pub from : Progress CatalogueView
+  pub since : Extends k.progress from
+  pub log : LogView
+  pub back : LogView
+  pub log_is : IsLogOf from log
+  pub back_is : IsLogOf after.progress back
+  pub own : NodeReplica
+  pub left : NodeReplica
+  pub own_is : Agrees from own
+  pub left_is : Agrees after.progress left
+  pub low : Bool
+  pub full : Bool
+  pub next : Bool
+  pub later : Bool
+  pub more : Bool
+  pub ahead : Bool
+  pub goes : (d : DeskView) → Goes k.progress.catalogue (sees from log own (Held b) d) (append_steps low full next later ++ replay_steps more ahead)
+      (sees after.progress back left (InLog (record { batch = b; replies = kept })) d)
+
 -- a combine of the batch b: from the log and the replica as the session found them, with the batch claimed, to its answers at the desk
 pub record CombinesBy (k after : SessionKnown) (b answered : BatchView) : Type 0 where
   pub from : Progress CatalogueView

@@ -1,10 +1,10 @@
 // What a session does at its node's desk with an update of its own, from its post to its answer.
 
-ghost use Rattle.std.specs.Prelude.{◌≡◌, ◌<◌, None, Some, true, Err, IsOk};
+ghost use Rattle.std.specs.Prelude.{◌≡◌, ◌<◌, None, Some, true, Err, IfNone, IfSome, IsOk};
 ghost use Rattle.verifier.specs.declared.refusal.Mode.TheVariants.{Update};
 ghost use Rattle.replica.specs.StoreMeaning.{is_operation};
 ghost use Rattle.replica.specs.declared.refusals.StoreRefused.{StoreRefused as TheRefusal};
-ghost use Rattle.store.specs.Asking.{AwaitsNothing, AwaitsAnswer, SessionPosts, SessionTurns, SessionCompletes, update_of, update_refusal};
+ghost use Rattle.store.specs.Asking.{AwaitsNothing, AwaitsAnswer, SessionPosts, SessionTurns, SessionCompletes, asked_op, update_refusal};
 
 use crate::combining::combine;
 use crate::desks;
@@ -20,7 +20,29 @@ use std::marker::Brand;
 use std::sync::Wait;
 use verifier::Mode;
 
-// Posts an operation at the desk of the caller's node.
+// Posts an operation at the desk of the caller's node, unless another session holds the desk: `None` then, and nothing has changed.
+pub(crate) fn try_post(
+    shared: Shared<'_>,
+    seat: &mut Seat<Value>,
+    caller: Caller,
+    op: &Op,
+) -> Option<()>
+    requires own { seat.old.shelf ≡ shared.shelf.now.id }
+    requires idle { AwaitsNothing seat.old caller shared }
+    requires update { is_operation Update shared.catalogue.now op.now ≡ true }
+    ensures same { seat.new.shelf ≡ seat.old.shelf }
+    ensures stays { IfNone result (seat.new ≡ seat.old) }
+    ensures posted { IfSome result (λ _. SessionPosts seat.old seat.new op.now) }
+{
+    let Some(mut held) = shared.shelf.try_take(seat, 1 + shared.nodes + caller.node) else {
+        return None;
+    };
+    desks::post(held.value.desk_mut(), caller.slot, *op);
+    shared.shelf.put::<Brand>(seat, held);
+    Some(())
+}
+
+// The same, but waits while another session holds the desk.
 pub(crate) fn post<R: Wait>(
     rt: &R,
     shared: Shared<'_>,
@@ -34,9 +56,13 @@ pub(crate) fn post<R: Wait>(
     ensures same { seat.new.shelf ≡ seat.old.shelf }
     ensures posted { SessionPosts seat.old seat.new op }
 {
-    let mut held = shared.shelf.take(rt, seat, 1 + shared.nodes + caller.node);
-    desks::post(held.value.desk_mut(), caller.slot, op);
-    shared.shelf.put::<Brand>(seat, held);
+    for _ in rt.forever() {
+        if let Some(()) = try_post(shared, seat, caller, &op) {
+            return;
+        }
+        shared.shelf.wait(rt, 1 + shared.nodes + caller.node);
+    }
+    unreachable!()
 }
 
 // Posts an update at the desk of the caller's node, unless it is refused: S1 to S3. It goes on with `complete`.
@@ -51,7 +77,7 @@ pub(crate) fn post_only<R: Wait>(
     requires idle { AwaitsNothing seat.old caller shared }
     ensures same { seat.new.shelf ≡ seat.old.shelf }
     ensures refused { (r : TheRefusal) → update_refusal shared.entry.catalogue.now asked.entry ≡ Some r → (result ≡ Err r) × (seat.new ≡ seat.old) }
-    ensures posted { update_refusal shared.entry.catalogue.now asked.entry ≡ None → IsOk result × SessionPosts seat.old seat.new (update_of asked.entry) }
+    ensures posted { update_refusal shared.entry.catalogue.now asked.entry ≡ None → IsOk result × SessionPosts seat.old seat.new (asked_op asked.entry) }
 {
     let Question { program, argument } = asked;
     check_call(shared.catalogue, Mode::Update, program, argument)?;
@@ -61,7 +87,28 @@ pub(crate) fn post_only<R: Wait>(
 }
 
 // One turn at the desk of the caller's node: collects the answer that waits there; else claims the posted requests into the batch,
-// where nobody combines; else nothing.
+// where nobody combines; else nothing. Where another session holds the desk it answers `None`, and nothing has changed.
+pub(crate) fn try_turn(
+    shared: Shared<'_>,
+    seat: &mut Seat<Value>,
+    caller: Caller,
+    batch: &mut Batch,
+) -> Option<Turn>
+    requires own { seat.old.shelf ≡ shared.shelf.now.id }
+    requires asked { AwaitsAnswer seat.old caller shared }
+    ensures same { seat.new.shelf ≡ seat.old.shelf }
+    ensures stays { IfNone result ((seat.new ≡ seat.old) × (batch.new ≡ batch.old)) }
+    ensures turned { IfSome result (λ turn. SessionTurns seat.old seat.new batch.new turn) }
+{
+    let Some(mut held) = shared.shelf.try_take(seat, 1 + shared.nodes + caller.node) else {
+        return None;
+    };
+    let turn = desks::look(held.value.desk_mut(), caller.slot, batch);
+    shared.shelf.put::<Brand>(seat, held);
+    Some(turn)
+}
+
+// The same, but waits while another session holds the desk.
 fn turn<R: Wait>(
     rt: &R,
     shared: Shared<'_>,
@@ -74,10 +121,13 @@ fn turn<R: Wait>(
     ensures same { seat.new.shelf ≡ seat.old.shelf }
     ensures turned { SessionTurns seat.old seat.new batch.new result }
 {
-    let mut held = shared.shelf.take(rt, seat, 1 + shared.nodes + caller.node);
-    let turn = desks::look(held.value.desk_mut(), caller.slot, batch);
-    shared.shelf.put::<Brand>(seat, held);
-    turn
+    for _ in rt.forever() {
+        if let Some(turn) = try_turn(shared, seat, caller, batch) {
+            return turn;
+        }
+        shared.shelf.wait(rt, 1 + shared.nodes + caller.node);
+    }
+    unreachable!()
 }
 
 // How often a session that waits looks between two turns at its desk. The pauses between its looks grow, and the last of so many yields

@@ -1,6 +1,6 @@
 // What a session does on the shelf.
 
-ghost use Rattle.std.specs.Prelude.{◌≡◌, ◌↔◌, ◌⊎◌, ◌+◌, ◌-◌, ◌<◌, ◌≤◌, true, false, min, length, drop, None, IsTrue};
+ghost use Rattle.std.specs.Prelude.{◌≡◌, ◌↔◌, ◌⊎◌, ◌+◌, ◌-◌, ◌<◌, ◌≤◌, true, false, min, length, drop, None, IsTrue, IfSome, IfNone, IfOk, IfErr};
 ghost use Rattle.loader.specs.StoreState.{sizes_of, sizes_for};
 ghost use Rattle.oplog.specs.Limits.{IsWindow};
 ghost use Rattle.oplog.specs.Logs.{left_of, records_from, room_in, tail_of};
@@ -11,6 +11,8 @@ ghost use Rattle.accounts.specs.Moves.{unplaced};
 ghost use Rattle.store.specs.Sessions.{IsReadBy, RepliesThere, op_of};
 ghost use Rattle.store.specs.Knowing.{HasLog, HasReplica, IsOn, Knows, Learns, Relates};
 ghost use Rattle.store.specs.Standing.{Stands, IsFree, HasOthers, HasRaised, HasPlace, HasAppended, HasReplayed, HasReached};
+ghost use Rattle.store.specs.Asking.{asked_op};
+ghost use Rattle.store.specs.Trying.{IsStill};
 ghost use Rattle.store.specs.Rooms.{FreesRoom, Owes, caught_up, with_more};
 ghost use Rattle.store.specs.Whole.{MakesRoom, AppendsAny, ReplaysAnywhere, FollowsBy, ReadsBy};
 
@@ -239,29 +241,33 @@ fn come_back(node: &mut NodeReplica, catalogue: &Catalogue, owed: usize, appende
 
 // Takes the log, makes room and appends as many of the records as the history may still have, and puts the log back. The hand has what
 // the replica has still to apply then. The replies that are lent keep the places of those that were appended. A replica that changed
-// places with the log's base is brought back to what it was, once the log is put back.
-pub(crate) fn append_and_copy<R: Wait>(
-    rt: &R,
+// places with the log's base is brought back to what it was, once the log is put back. Where another session holds the log it answers
+// `None`, and nothing has changed.
+pub(crate) fn try_append_and_copy(
     shared: Shared<'_>,
     seat: &mut Seat<Value>,
     node: &mut NodeReplica,
     records: &[Record],
     replies: &mut Replies,
-)
+) -> Option<()>
     requires own { seat.old.shelf ≡ shared.shelf.now.id }
     requires there { 0 < shared.shelf.now.places }
     requires few { length records.now ≤ 16 }
     requires holds { Knows seat.old (λ k. HasReplica k node.old shared.catalogue.now × (k.note.batch ≡ unplaced records.now)) }
     ensures same { seat.new.shelf ≡ seat.old.shelf }
-    ensures appended { Learns seat.old seat.new (λ k after. HasAppended k after records.now replies.new node.new) }
-    ensures goes { Relates seat.old seat.new (λ k after. AppendsAny k after records.now node.old node.new replies.new) }
+    ensures stays { IfNone result ((seat.new ≡ seat.old) × (node.new ≡ node.old)) }
+    ensures appended { IfSome result (λ _. Learns seat.old seat.new (λ k after. HasAppended k after records.now replies.new node.new)) }
+    ensures goes { IfSome result (λ _. Relates seat.old seat.new (λ k after. AppendsAny k after records.now node.old node.new replies.new)) }
 {
-    let mut held = shared.shelf.take(rt, seat, LEADER);
+    let Some(mut held) = shared.shelf.try_take(seat, LEADER) else {
+        return None;
+    };
     let log = held.value.log_mut();
     let owed = make_room(shared, seat, log, node, records.len());
     append_only(log, records, replies);
     shared.shelf.put::<Brand>(seat, held);
     come_back(node, shared.catalogue, owed, &records[..replies.len()]);
+    Some(())
 }
 
 // Replays the records in the hand, and raises the completed tail to the replica's.
@@ -284,48 +290,56 @@ pub(crate) fn replay_and_raise(
 }
 
 // Takes the log, brings the replica up to its end while it is held, puts it back, and raises the completed tail to the replica's.
-fn follow_and_raise<R: Wait>(
-    rt: &R,
+// Where another session holds the log it answers `None`, and nothing has changed.
+fn try_follow_and_raise(
     shelf: &Shelf<Value>,
     seat: &mut Seat<Value>,
     node: &mut NodeReplica,
     catalogue: &Catalogue,
-)
+) -> Option<()>
     requires own { seat.old.shelf ≡ shelf.now.id }
     requires there { 0 < shelf.now.places }
     requires holds { Knows seat.old (λ k. HasReplica k node.old catalogue.now) }
     ensures same { seat.new.shelf ≡ seat.old.shelf }
-    ensures reached { Learns seat.old seat.new (λ k after. HasReached k after k.progress.completed node.new) }
-    ensures goes { Relates seat.old seat.new (λ k after. FollowsBy k after node.old node.new) }
+    ensures stays { IfNone result ((seat.new ≡ seat.old) × (node.new ≡ node.old)) }
+    ensures reached { IfSome result (λ _. Learns seat.old seat.new (λ k after. HasReached k after k.progress.completed node.new)) }
+    ensures goes { IfSome result (λ _. Relates seat.old seat.new (λ k after. FollowsBy k after node.old node.new)) }
 {
-    let held = shelf.take(rt, seat, LEADER);
+    let Some(held) = shelf.try_take(seat, LEADER) else {
+        return None;
+    };
     let log = held.value.log();
     rebase_if_behind(log, node);
     follow(log, node, catalogue);
     shelf.put::<Brand>(seat, held);
     let followed = node.replica.tail();
     raise_to(shelf, seat, followed);
+    Some(())
 }
 
-// Brings the replica up to that completed tail, where it has not reached it.
-fn reach<R: Wait>(
-    rt: &R,
+// Brings the replica up to that completed tail, where it has not reached it. Where another session holds the log, which that takes, it
+// answers `None`, and nothing has changed.
+fn try_reach(
     shared: Shared<'_>,
     seat: &mut Seat<Value>,
     node: &mut NodeReplica,
     done: u64,
-)
+) -> Option<()>
     requires own { seat.old.shelf ≡ shared.shelf.now.id }
     requires there { 0 < shared.shelf.now.places }
     requires holds { Knows seat.old (λ k. HasReplica k node.old shared.catalogue.now × (done ≤ k.progress.completed)) }
     ensures same { seat.new.shelf ≡ seat.old.shelf }
-    ensures reached { Learns seat.old seat.new (λ k after. HasReached k after done node.new) }
-    ensures goes { Relates seat.old seat.new (λ k after. FollowsBy k after node.old node.new) }
+    ensures stays { IfNone result ((seat.new ≡ seat.old) × (node.new ≡ node.old)) }
+    ensures reached { IfSome result (λ _. Learns seat.old seat.new (λ k after. HasReached k after done node.new)) }
+    ensures goes { IfSome result (λ _. Relates seat.old seat.new (λ k after. FollowsBy k after node.old node.new)) }
 {
     if ready(&node.replica, done) {
-        return;
+        return Some(());
     }
-    follow_and_raise(rt, shared.shelf, seat, node, shared.catalogue);
+    let Some(()) = try_follow_and_raise(shared.shelf, seat, node, shared.catalogue) else {
+        return None;
+    };
+    Some(())
 }
 
 // What a read answers on the node's state, which it leaves as it was.
@@ -343,7 +357,42 @@ fn answer_there(node: &mut NodeReplica, catalogue: &Catalogue, question: Questio
     )
 }
 
-// Runs a read program on the replica of the caller's node, once it has reached the tail that is completed now.
+// Runs a read program on the replica of the caller's node, once that has reached the tail that is completed now. Where another session
+// holds the replica, or the log, which a replica that lacks something takes, it answers that place: the session holds nothing then.
+pub(crate) fn try_query(
+    shared: Shared<'_>,
+    seat: &mut Seat<Value>,
+    caller: Caller,
+    question: Question<'_>,
+) -> Result<ReadAnswer, usize>
+    requires own { seat.old.shelf ≡ shared.shelf.now.id }
+    requires idle { Knows seat.old (λ k. IsFree caller k × IsOn shared k) }
+    ensures same { seat.new.shelf ≡ seat.old.shelf }
+    ensures held { IfErr result (λ place. place < shared.entry.shelf.now.places) }
+    ensures stays { IfErr result (λ _. Learns seat.old seat.new IsStill) }
+    ensures read { IfOk result (λ answer. Learns seat.old seat.new (λ k after. IsReadBy k after (asked_op question.entry) answer)) }
+    ensures goes { IfOk result (λ answer. Relates seat.old seat.new (λ k after. ReadsBy k after (asked_op question.entry) answer)) }
+{
+    let Shared {
+        shelf,
+        catalogue,
+        ..
+    } = shared;
+    let done = shelf.done(seat);
+    let Some(mut held) = shelf.try_take(seat, 1 + caller.node) else {
+        return Err(1 + caller.node);
+    };
+    let node = held.value.replica_mut();
+    let Some(()) = try_reach(shared, seat, node, done) else {
+        shelf.put::<Brand>(seat, held);
+        return Err(LEADER);
+    };
+    let answer = answer_there(node, catalogue, question);
+    shelf.put::<Brand>(seat, held);
+    Ok(answer)
+}
+
+// The same, but waits for the place that another session holds.
 pub(crate) fn query<R: Wait>(
     rt: &R,
     shared: Shared<'_>,
@@ -357,16 +406,11 @@ pub(crate) fn query<R: Wait>(
     ensures read { Learns seat.old seat.new (λ k after. IsReadBy k after (op_of question.entry.program question.entry.argument.now) result) }
     ensures goes { Relates seat.old seat.new (λ k after. ReadsBy k after (op_of question.entry.program question.entry.argument.now) result) }
 {
-    let Shared {
-        shelf,
-        catalogue,
-        ..
-    } = shared;
-    let done = shelf.done(seat);
-    let mut held = shelf.take(rt, seat, 1 + caller.node);
-    let node = held.value.replica_mut();
-    reach(rt, shared, seat, node, done);
-    let answer = answer_there(node, catalogue, question);
-    shelf.put::<Brand>(seat, held);
-    answer
+    for _ in rt.forever() {
+        match try_query(shared, seat, caller, question) {
+            Ok(answer) => return answer,
+            Err(place) => shared.shelf.wait(rt, place),
+        }
+    }
+    unreachable!()
 }

@@ -1,7 +1,5 @@
-use Rattle.accounts.specs.DeskNotes.{RepliedThere, desk_noting}
-use Rattle.accounts.specs.Picks.{put_progress, put_note}
-use Rattle.store.specs.Shelving.{view_of}
+use Rattle.std.proofs.Common.{◌≡◌}
 use Rattle.store.proofs.combining.hand_over.Given as goal
 
-abbrev pub ghosts-put : goal.ghosts-put
-ghosts-put g a = record { progress = put_progress a.seat.now.sessions (view_of a.held.value); note = put_note (desk_noting view_of RepliedThere) a.seat.now.sessions (view_of a.held.value) }
+abbrev pub invariant-loop : goal.invariant-loop
+invariant-loop g l = (l.seat ≡ l.initial.seat) × (l.batch ≡ l.initial.batch)

@@ -1,6 +1,7 @@
-use Rattle.accounts.specs.Picks.{put_progress, put_note}
-use Rattle.store.specs.Shelving.{session_noting, view_of}
+use Rattle.std.proofs.Common.{◌≡◌}
+use Rattle.store.specs.Knowing.{Learns}
+use Rattle.store.specs.Trying.{IsStill}
 use Rattle.store.proofs.steps.query.Given as goal
 
-abbrev pub ghosts-put : goal.ghosts-put
-ghosts-put g a = record { progress = put_progress a.seat.now.sessions (view_of a.held.value); note = put_note session_noting a.seat.now.sessions (view_of a.held.value) }
+abbrev pub invariant-loop : goal.invariant-loop
+invariant-loop g l = (l.seat.shelf ≡ l.initial.seat.shelf) × Learns l.initial.seat l.seat IsStill
