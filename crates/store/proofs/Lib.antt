@@ -24,6 +24,7 @@ pub mod Requested
 pub mod Resumed
 pub mod Turning
 pub mod Invoked
+pub mod Between
 pub mod Closing
 pub mod Watched
 pub mod EachSession

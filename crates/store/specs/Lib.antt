@@ -1,5 +1,6 @@
 -- What each answer tells its session, what a store is opened with and gives back.
 pub mod Sessions
+pub mod Polled
 pub mod Opening
 -- The steps at a desk, which the public calls on a lent desk cite.
 pub mod AtDesk

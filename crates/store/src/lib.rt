@@ -5,8 +5,10 @@
 mod answers;
 mod closed;
 mod combining;
+mod deeds;
 pub mod desks;
 mod opening;
+mod polled;
 mod requests;
 mod session;
 mod steps;
@@ -20,6 +22,7 @@ pub use closed::Closed;
 pub use loader::{Catalogue, LoadError, load_manifest};
 pub use node::NodeReplica;
 pub use oplog::{Config, OpenError};
+pub use polled::Polled;
 pub use readpath::ReadAnswer;
 pub use replica::{NO_PLACE, NO_PROGRAM, StoreRefused};
 pub use session::Session;

@@ -48,7 +48,7 @@ impl Model for Session {
 }
 
 // What the call says of what became of its update.
-fn answer_of(reply: Reply) -> Result<Answer, StoreRefused>
+pub(crate) fn answer_of(reply: Reply) -> Result<Answer, StoreRefused>
     ensures said { result ≡ said reply }
 {
     match reply {
@@ -73,19 +73,30 @@ impl Session {
         }
     }
 
-    // Its seat, and its slot.
-    pub(crate) fn into_parts(self) -> (Seat<Value>, Caller)
+    // Its seat, its slot, and its room for a program.
+    pub(crate) fn into_room(self) -> (Seat<Value>, Caller, Installed)
         ensures shelf { result.0.shelf ≡ self.shelf }
         ensures known { result.0.sessions ≡ known_of self ∷ [] }
         ensures idle { IsIdle result.0 result.1 }
+        ensures room { HasRoom result.2 result.0 }
     {
         let Session {
             seat,
             caller,
             batch: _batch,
             replies: _replies,
-            room: _room,
+            room,
         } = self;
+        (seat, caller, room)
+    }
+
+    // Its seat, and its slot.
+    pub(crate) fn into_parts(self) -> (Seat<Value>, Caller)
+        ensures shelf { result.0.shelf ≡ self.shelf }
+        ensures known { result.0.sessions ≡ known_of self ∷ [] }
+        ensures idle { IsIdle result.0 result.1 }
+    {
+        let (seat, caller, _room) = self.into_room();
         (seat, caller)
     }
 

@@ -1,0 +1,49 @@
+use Rattle.std.proofs.Common.{sym, ap, subst, ◌∙◌}
+use Rattle.std.proofs.lemmas.Option.{same_Some}
+use Rattle.accounts.specs.Accounts.{Extends}
+use Rattle.store.specs.Polled.{HasDone}
+use Rattle.store.specs.Sessions.{IsOf, SessionView, session_view}
+use Rattle.store.proofs.Between.{on_at, out_at, own_on, room_on}
+use Rattle.store.proofs.polled.Polled.deed.Goals as goal
+
+pub go_on-requires-clause-on : goal.go_on-requires-clause-on
+go_on-requires-clause-on c =
+    let s = c.self.inside in
+    let own = subst (λ z. IsOf c.args.store.now z) (sym c.self.view_is) c.requires.own in
+    let shared = c.shared-shared in
+    on_at s.seat s.caller s.batch s.replies shared.result c.args.store.now s.stage c.self.invariant.0 own shared.ensures.places shared.ensures.nodes shared.ensures.catalogue
+
+pub go_on-requires-clause-out : goal.go_on-requires-clause-out
+go_on-requires-clause-out c =
+    let s = c.self.inside in
+    out_at s.seat s.caller s.batch s.replies s.stage c.self.invariant.0 c.requires.asked.0 (ap (λ (z : SessionView). z.note.pending) c.self.view_is ∙ c.requires.asked.1)
+
+pub invariant_of-self : goal.invariant_of-self
+invariant_of-self c =
+    let h = c.go_on.ensures.gone in
+    (h.polled, room_on c.self.inside.seat c.go_on.new.seat c.self.inside.room h.extends c.self.invariant.1)
+
+pub go_on-requires-clause-polled : goal.go_on-requires-clause-polled
+go_on-requires-clause-polled c = c.self.invariant.0
+
+pub returns-clause-own : goal.returns-clause-own
+returns-clause-own c =
+    let new = session_view c.go_on.new.seat in
+    let grown = subst (λ (z : SessionView). Extends z.progress new.progress) c.self.view_is c.go_on.ensures.gone.extends in
+    own_on c.args.store.now c.args.self.now new grown (c.go_on.ensures.same ∙ ap (λ (z : SessionView). z.shelf) c.self.view_is) c.requires.own
+
+pub returns-clause-same : goal.returns-clause-same
+returns-clause-same c = (c.go_on.ensures.same ∙ ap (λ (z : SessionView). z.shelf) c.self.view_is, c.go_on.ensures.gone.session ∙ ap (λ (z : SessionView). z.session) c.self.view_is)
+
+pub returns-clause-grown : goal.returns-clause-grown
+returns-clause-grown c = subst (λ (z : SessionView). Extends z.progress (session_view c.go_on.new.seat).progress) c.self.view_is c.go_on.ensures.gone.extends
+
+pub returns-clause-well_formed : goal.returns-clause-well_formed
+returns-clause-well_formed c = c.go_on.ensures.gone.well_formed
+
+pub returns-clause-done : goal.returns-clause-done
+returns-clause-done c o is =
+    let h = c.go_on.ensures.gone in
+    let new = session_view c.go_on.new.seat in
+    let e = same_Some h.request o (sym h.waited ∙ (ap (λ (z : SessionView). z.note.pending) c.self.view_is ∙ is)) in
+    subst (λ z. HasDone c.args.self.now new z c.go_on.result) e (subst (λ (z : SessionView). HasDone z new h.request c.go_on.result) c.self.view_is h.done)

@@ -1,0 +1,37 @@
+use Rattle.std.proofs.Common.{refl, subst, ◌∙◌}
+use Rattle.replica.specs.StoreMeaning.{store_meaning}
+use Rattle.accounts.specs.Accounts.{IsWellFormed}
+use Rattle.store.specs.Polled.{HasDone}
+use Rattle.store.specs.Sessions.{SessionView}
+use Rattle.store.proofs.Between.{way_then, well_at}
+use Rattle.store.proofs.StoreLaws.{store_laws}
+use Rattle.store.proofs.polled.Polled.try_complete.Goals as goal
+
+pub loop-init : goal.loop-init
+loop-init c =
+    let s = c.self.inside in
+    record {
+      own = c.requires.own;
+      shelf = refl;
+      session = refl;
+      grown = store_laws.extends_self c.args.self.now.progress;
+      well = subst (λ (z : SessionView). IsWellFormed store_meaning z.progress) c.self.view_is (well_at s.seat s.caller s.batch s.replies s.stage c.self.invariant.0);
+      way = (refl, refl);
+    }
+
+pub deed-requires-clause-asked : goal.deed-requires-clause-asked
+deed-requires-clause-asked c = let o = c.requires.asked in (o.0, c.loop.invariant.way.0 ∙ o.1)
+
+pub loop-preserved : goal.loop-preserved
+loop-preserved c =
+    let i = c.loop.invariant in
+    let o = c.requires.asked in
+    let d = subst (λ z. HasDone c.loop.self c.deed.new.self o.0 z) c.in-Went.is (c.deed.ensures.done o.0 (i.way.0 ∙ o.1)) in
+    record {
+      own = c.deed.ensures.own;
+      shelf = c.deed.ensures.same.0 ∙ i.shelf;
+      session = c.deed.ensures.same.1 ∙ i.session;
+      grown = store_laws.extends_on _ _ _ i.grown c.deed.ensures.grown;
+      well = c.deed.ensures.well_formed;
+      way = way_then c.args.self.now c.loop.self c.deed.new.self i.way d;
+    }

@@ -1,0 +1,268 @@
+// A session whose calls answer at once.
+
+ghost use Rattle.std.specs.Prelude.{◌≡◌, [], ◌∷◌, None, Some, Err, true, false, IfSome, IfNone, MatchOption};
+ghost use Rattle.verifier.specs.declared.refusal.Mode.TheVariants.{Update, Read};
+ghost use Rattle.accounts.specs.Accounts.{Extends, IsWellFormed};
+ghost use Rattle.accounts.specs.declared.sessions.Pending.{Pending};
+ghost use Rattle.replica.specs.StoreMeaning.{store_meaning, is_operation};
+ghost use Rattle.replica.specs.declared.refusals.StoreRefused.{StoreRefused};
+ghost use Rattle.replica.specs.Refusals.{early_refusal};
+ghost use Rattle.store.specs.Sessions.{IsOf, install_of, install_refused, op_of};
+ghost use Rattle.store.specs.Polled.{HasDone, HasPostedFor, TellsCompleted, TellsPost, TellsTriedRead};
+
+use crate::answers::Answer;
+use crate::deeds::{Deed, Stage, go_on};
+use crate::requests::try_post;
+use crate::session::{Session, answer_of};
+use crate::steps::{Caller, Question, try_query};
+use crate::store::Store;
+use crate::values::Value;
+use combiner::Batch;
+use loader::Installed;
+use oplog::{Call, NewProgram, Op};
+use ownlock::Seat;
+use readpath::ReadAnswer;
+use replica::{Replies, StoreRefused, check_call, check_install};
+use std::marker::Model;
+use verifier::Mode;
+
+// How many deeds a call does at most that goes on with an update. Where nobody else is there it takes four.
+const DEEDS: usize = 16;
+
+/// What a caller that may not wait updates and reads a store with: one slot of one node. Each call answers at once, or says that another
+/// session held a place. It holds none between two calls.
+#[derive(Drop)]
+pub struct Polled {
+    seat: Seat<Value>,
+    caller: Caller,
+    // Room for the requests that it combines.
+    batch: Batch,
+    // Room for what their programs answer.
+    replies: Replies,
+    // Room to find out whether a program may be installed.
+    room: Installed,
+    stage: Stage,
+}
+
+impl Model for Polled {
+    ghost use Rattle.store.specs.Sessions.{SessionView, HasRoom, session_view};
+    ghost use Rattle.store.specs.Polled.{IsPolled};
+
+    ghost Value = { SessionView };
+
+    ghost view = { λ s. session_view s.seat };
+
+    ghost invariant = { λ s. IsPolled s.seat s.caller s.batch s.replies s.stage × HasRoom s.room s.seat };
+}
+
+impl Polled {
+    /// The session, whose calls wait for nobody from now on.
+    pub fn new(session: Session) -> Polled
+        ensures same { result ≡ session }
+    {
+        let (seat, caller, room) = session.into_room();
+        Polled {
+            seat,
+            caller,
+            batch: Batch::new(),
+            replies: Replies::new(0, 0),
+            room,
+            stage: Stage::Idle,
+        }
+    }
+
+    /// The session, whose calls wait for others again, as `Store::close` wants it. No update is out.
+    pub fn into_session(self) -> Session
+        requires idle { self.note.pending ≡ None }
+        ensures same { result ≡ self }
+    {
+        let Polled {
+            seat,
+            caller,
+            room,
+            batch: _batch,
+            replies: _replies,
+            stage: _stage,
+        } = self;
+        Session::new(seat, caller, room)
+    }
+
+    /// Whether it has posted an update that is not answered.
+    pub fn is_waiting(&self) -> bool
+        ensures waiting { MatchOption self.now.note.pending (result ≡ false) (λ _. result ≡ true) }
+    {
+        match self.stage {
+            Stage::Idle => false,
+            Stage::Asked | Stage::Claimed | Stage::Ready => true,
+        }
+    }
+
+    // Posts an operation that is not refused. `None` where the desk is held.
+    fn post(&mut self, store: &Store, op: Op) -> Option<()>
+        requires own { IsOf store.now self.old }
+        requires idle { self.old.note.pending ≡ None }
+        requires update { is_operation Update store.now.catalogue op ≡ true }
+        ensures own { IsOf store.now self.new }
+        ensures same { (self.new.shelf ≡ self.old.shelf) × (self.new.session ≡ self.old.session) }
+        ensures grown { Extends self.old.progress self.new.progress }
+        ensures well_formed { IsWellFormed store_meaning self.new.progress }
+        ensures stays { IfNone result (self.new ≡ self.old) }
+        ensures posted { IfSome result (λ _. HasPostedFor self.old self.new op) }
+    {
+        let shared = store.shared();
+        let Polled {
+            seat,
+            caller,
+            stage,
+            ..
+        } = self;
+        let Some(()) = try_post(shared, seat, *caller, &op) else {
+            return None;
+        };
+        *stage = Stage::Asked;
+        Some(())
+    }
+
+    /// Posts an update, as [`Session::invoke`] has it, if nobody holds the desk of its node. [`try_complete`](Polled::try_complete) goes on with it.
+    /// Where somebody holds the desk it answers `None`, and nothing has changed. The session waits for no other answer.
+    ///
+    /// # Errors
+    ///
+    /// S1 unknown program, S2 argument length, S3 not an update: nothing is done then.
+    pub fn try_post(
+        &mut self,
+        store: &Store,
+        program: u16,
+        argument: &[u8],
+    ) -> Result<Option<()>, StoreRefused>
+        requires own { IsOf store.now self.old }
+        requires idle { self.old.note.pending ≡ None }
+        ensures own { IsOf store.now self.new }
+        ensures same { (self.new.shelf ≡ self.old.shelf) × (self.new.session ≡ self.old.session) }
+        ensures grown { Extends self.old.progress self.new.progress }
+        ensures well_formed { IsWellFormed store_meaning self.new.progress }
+        ensures early { (r : StoreRefused) → early_refusal store.now.catalogue Update program argument.now ≡ Some r → (result ≡ Err r)
+            × (self.new ≡ self.old) }
+        ensures posted { early_refusal store.now.catalogue Update program argument.now ≡ None
+            → TellsPost self.old self.new (op_of program argument.now) result }
+    {
+        let _seat = &self.seat;
+        check_call(store.catalogue(), Mode::Update, program, argument)?;
+        let call = Call::new(program, argument);
+        let Some(()) = self.post(store, Op::Run(call)) else {
+            return Ok(None);
+        };
+        Ok(Some(()))
+    }
+
+    /// Posts the install of a program, as [`Session::install`] has it, if nobody holds the desk of its node; it is an update like others.
+    ///
+    /// # Errors
+    ///
+    /// S6, S7 or S8 as with [`Session::install`]: nothing is done then.
+    pub fn try_install(
+        &mut self,
+        store: &Store,
+        mode: Mode,
+        arg_len: usize,
+        bytes: &[u8],
+    ) -> Result<Option<()>, StoreRefused>
+        requires own { IsOf store.now self.old }
+        requires idle { self.old.note.pending ≡ None }
+        ensures own { IsOf store.now self.new }
+        ensures same { (self.new.shelf ≡ self.old.shelf) × (self.new.session ≡ self.old.session) }
+        ensures grown { Extends self.old.progress self.new.progress }
+        ensures well_formed { IsWellFormed store_meaning self.new.progress }
+        ensures early { (r : StoreRefused) → install_refused store.now mode arg_len bytes.now ≡ Some r → (result ≡ Err r)
+            × (self.new ≡ self.old) }
+        ensures posted { install_refused store.now mode arg_len bytes.now ≡ None
+            → TellsPost self.old self.new (install_of mode arg_len bytes.now) result }
+    {
+        check_install(&mut self.room, mode, arg_len as u64, bytes)?;
+        let program = NewProgram::new(mode, arg_len, bytes);
+        let Some(()) = self.post(store, Op::Install(program)) else {
+            return Ok(None);
+        };
+        Ok(Some(()))
+    }
+
+    // The next deed of the update that is out.
+    fn deed(&mut self, store: &Store) -> Deed
+        requires own { IsOf store.now self.old }
+        requires asked { (o : Pending) × (self.old.note.pending ≡ Some o) }
+        ensures own { IsOf store.now self.new }
+        ensures same { (self.new.shelf ≡ self.old.shelf) × (self.new.session ≡ self.old.session) }
+        ensures grown { Extends self.old.progress self.new.progress }
+        ensures well_formed { IsWellFormed store_meaning self.new.progress }
+        ensures done { (o : Pending) → self.old.note.pending ≡ Some o → HasDone self.old self.new o result }
+    {
+        let shared = store.shared();
+        let Polled {
+            seat,
+            caller,
+            batch,
+            replies,
+            stage,
+            ..
+        } = self;
+        go_on(shared, seat, *caller, batch, replies, stage)
+    }
+
+    /// Goes on with the update that is out, as far as nobody holds a place that it takes. `None` where it is to be called again: the update is
+    /// posted then, once, and not answered.
+    ///
+    /// # Errors
+    ///
+    /// S4: the history has all its records, and this request has none.
+    pub fn try_complete(&mut self, store: &Store) -> Option<Result<Answer, StoreRefused>>
+        requires own { IsOf store.now self.old }
+        requires asked { (o : Pending) × (self.old.note.pending ≡ Some o) }
+        ensures own { IsOf store.now self.new }
+        ensures same { (self.new.shelf ≡ self.old.shelf) × (self.new.session ≡ self.old.session) }
+        ensures grown { Extends self.old.progress self.new.progress }
+        ensures well_formed { IsWellFormed store_meaning self.new.progress }
+        ensures completed { (o : Pending) → self.old.note.pending ≡ Some o → TellsCompleted self.old self.new o result }
+    {
+        let _seat = &self.seat;
+        for _ in 0..DEEDS {
+            match self.deed(store) {
+                Deed::Busy => return None,
+                Deed::Went => {}
+                Deed::Collected(reply) => return Some(answer_of(reply)),
+            }
+        }
+        None
+    }
+
+    /// Runs a read program of the store, as [`Session::read`] has it, if nobody holds the replica of its node, nor the log where that replica
+    /// lacks something. `None` where somebody does. No update is out.
+    ///
+    /// # Errors
+    ///
+    /// S1 unknown program, S2 argument length, S3 not a read: nothing is done then.
+    pub fn try_read(
+        &mut self,
+        store: &Store,
+        program: u16,
+        argument: &[u8],
+    ) -> Result<Option<ReadAnswer>, StoreRefused>
+        requires own { IsOf store.now self.old }
+        requires idle { self.old.note.pending ≡ None }
+        ensures own { IsOf store.now self.new }
+        ensures same { (self.new.shelf ≡ self.old.shelf) × (self.new.session ≡ self.old.session) × (self.new.note ≡ self.old.note) }
+        ensures grown { Extends self.old.progress self.new.progress }
+        ensures well_formed { IsWellFormed store_meaning self.new.progress }
+        ensures early { (r : StoreRefused) → early_refusal store.now.catalogue Read program argument.now ≡ Some r → (result ≡ Err r)
+            × (self.new ≡ self.old) }
+        ensures answered { early_refusal store.now.catalogue Read program argument.now ≡ None
+            → TellsTriedRead self.old self.new (op_of program argument.now) result }
+    {
+        let Polled { seat, caller, .. } = self;
+        check_call(store.catalogue(), Mode::Read, program, argument)?;
+        let question = Question { program, argument };
+        let Ok(answer) = try_query(store.shared(), seat, *caller, question) else {
+            return Ok(None);
+        };
+        Ok(Some(answer))
+    }
+}
