@@ -56,5 +56,5 @@ IsSignedAnswer a = (plain : Answer) × IsRunAnswer plain × (a ≡ signed_answer
 abbrev pub PreparesSigned : Result Reply InputFault → Answer → Type 0
 PreparesSigned prepared plain = Prepares prepared (signed_answer plain)
 
-abbrev pub ReportsSigned : {W : Type 0} → (W → Option (List ℕ)) → W → W → Status → Answer → Type 0
-ReportsSigned contents old new status plain = Reports contents old new status (signed_answer plain)
+abbrev pub SignedTo : {W : Type 0} → (W → Option (List ℕ)) → W → W → Status → Answer → Type 0
+SignedTo contents old new status plain = Reports contents old new status (signed_answer plain)

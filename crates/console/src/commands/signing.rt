@@ -5,7 +5,7 @@ ghost use Rattle.console.specs.Files.{SomeFile};
 ghost use Rattle.console.specs.InputFaults.{IfCannotRead};
 ghost use Rattle.console.specs.Known.{IfRunKnown};
 ghost use Rattle.console.specs.Report.{answer_of, Failed, ReportsSome};
-ghost use Rattle.console.specs.Signed.{signed_answer, IsSignedAnswer, PreparesSigned, ReportsSigned};
+ghost use Rattle.console.specs.Signed.{signed_answer, IsSignedAnswer, PreparesSigned, SignedTo};
 
 use crate::commands::running::run_reply;
 use crate::folder::Folder;
@@ -54,7 +54,7 @@ pub fn run_signed<F: Folder, R: Source, S: Source, W: Sink>(
     writer: &mut W,
 ) -> Status
     // Where the readers and the folder tell their bytes, it is what `run` answers to those, with signed numbers beside.
-    ensures written { IfRunKnown (R.remaining manifest.old) (F.holds folder.now) (S.remaining script.old) (ReportsSigned W.contents writer.old writer.new result) }
+    ensures written { IfRunKnown (R.remaining manifest.old) (F.holds folder.now) (S.remaining script.old) (SignedTo W.contents writer.old writer.new result) }
     // It says that a read or a write failed only after one did.
     ensures failed { Failed result (R.has_failed manifest.new ⊎ SomeFile F.File.has_failed ⊎ S.has_failed script.new) (W.has_failed writer.new) }
     // Whatever they give, or where they fail.
