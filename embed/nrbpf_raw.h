@@ -1,0 +1,118 @@
+/* What the proved library libembed.a exports, and what lies at its two kinds of handle. A host includes nrbpf.h, not this.
+ *
+ * A handle is memory of the host's, of the size and the alignment of its struct. It is room until nrbpf_raw_open or nrbpf_raw_attach has written
+ * it, and room again once nrbpf_raw_close or nrbpf_raw_detach has ended it. Between two calls the host writes the words under "asked" and reads
+ * those under "answered"; it leaves `own` alone, and moves or copies no handle. Each function takes one call at a time on each handle that is passed to it;
+ * calls on different handles may run side by side. No pointer is null, also where nothing lies behind it.
+ *
+ * No function waits or locks. nrbpf_raw_open takes memory, by the host's malloc, and nrbpf_raw_close gives it back, by free; no other function
+ * takes any. What is passed in is copied; nothing of it is read after the function has returned.
+ *
+ * A status is 0, NRBPF_RAW_BUSY, NRBPF_RAW_AGAIN, or a refusal: its letter times 256 and its number, those of docs/REFUSALS.md or of the letter H.
+ * With any status but 0 the words place, reply and number are as they were.
+ */
+#ifndef NRBPF_RAW_H
+#define NRBPF_RAW_H
+
+#include <stddef.h>
+#include <stdint.h>
+
+#ifdef __cplusplus
+extern "C" {
+#endif
+
+enum {
+    NRBPF_RAW_BUSY = 1,     /* another session held a place, and nothing has changed: call again */
+    NRBPF_RAW_AGAIN = 2,    /* an update is posted, once, and not answered: call again, and go on soon */
+    NRBPF_RAW_H1 = 'H' << 8 | 1, /* attach: no session of this node is free, or there is no such node */
+    NRBPF_RAW_H2,           /* the handle is not open: the opening was refused, or the session was not given */
+    NRBPF_RAW_H3,           /* a read, or a detach, while an update is out */
+    NRBPF_RAW_H4,           /* a text is not UTF-8: the manifest, a file, its name, or the name of a program */
+    NRBPF_RAW_H5            /* a word that is none: of a call, or of a mode */
+};
+
+/* ---- what is passed in */
+
+struct nrbpf_raw_text { const uint8_t *at; size_t length; };
+
+/* A program file of the manifest: the name that stands there, and its text, hexadecimal digits. */
+struct nrbpf_raw_file { struct nrbpf_raw_text name, text; };
+
+struct nrbpf_raw_opening {
+    struct nrbpf_raw_text manifest;
+    const struct nrbpf_raw_file *files; size_t count;
+    uint32_t nodes, slots, window, limit, spare;    /* as O1 has their limits */
+};
+
+/* ---- a store's handle */
+
+struct nrbpf_raw_store {
+    uint64_t own[2];
+    /* asked */
+    uint64_t node;          /* attach: of which node */
+    uint64_t length;        /* number: how many bytes of name count; more than 32 are no program's name */
+    uint8_t name[32];
+    /* answered */
+    uint64_t status;        /* by each call */
+    uint64_t line;          /* by open: the manifest's line that is to blame, from 1; 0 where none is */
+    uint64_t inner;         /* by open: a refusal as status has them, of the letter D with C3, of V with C4; else 0 */
+    uint64_t slot;          /* by open: the instruction that is to blame, where inner isn't 0 */
+    uint64_t number;        /* by number */
+};
+
+/* ---- a session's handle */
+
+enum { NRBPF_RAW_UPDATE = 0, NRBPF_RAW_READ = 1, NRBPF_RAW_INSTALL = 2 };
+
+struct nrbpf_raw_session {
+    uint64_t own[2];
+    /* asked */
+    uint64_t call;          /* NRBPF_RAW_UPDATE, .. */
+    uint64_t program;       /* update, read: the program's number */
+    uint64_t mode;          /* install: 0 for a program that updates, 1 for one that reads */
+    uint64_t argument;      /* install: how many bytes the program's arguments have */
+    uint64_t length;        /* how many bytes count: of the argument, or of the program that is installed */
+    uint8_t bytes[192];
+    /* answered */
+    uint64_t status;
+    uint64_t inner;         /* with S7 a refusal of the letter D, with S8 of the letter V; else 0 */
+    uint64_t slot;          /* the instruction that is to blame, where inner isn't 0 */
+    uint64_t place;         /* update, install: the index in the history, from 0. read: how many operations the read has seen */
+    uint64_t reply;         /* what the program replied there; of an install the number of the program, or 2^64 - 1 where each place is taken */
+};
+
+/* ---- the functions */
+
+uint32_t nrbpf_raw_version(void);           /* of this interface: 1000 times the major number, and the minor one */
+size_t nrbpf_raw_store_size(void);          /* sizeof(struct nrbpf_raw_store), as the library has it */
+size_t nrbpf_raw_session_size(void);
+
+/* Opens a store, and writes its handle into the room at `at`. Statuses: 0, H4, C1 to C6, O1, O2. Where it is refused the handle is closed:
+ * each call answers H2, and its memory is as good as room. */
+void nrbpf_raw_open(const struct nrbpf_raw_opening *opening, struct nrbpf_raw_store *at);
+
+/* Writes the number of the program that has this name. Statuses: 0, S1, H2, H4. */
+void nrbpf_raw_number(struct nrbpf_raw_store *at);
+
+/* Gives a session of the node that the store's word `node` names, and writes its handle into the room at `session`. The status stands in both
+ * handles: 0, H1, H2. Where it is refused the session's handle is closed. */
+void nrbpf_raw_attach(struct nrbpf_raw_store *at, struct nrbpf_raw_session *session);
+
+/* Takes a session back into the store that it was attached to; then its handle is room. The status stands in the store's handle: 0, H2, and H3
+ * where an update of the session is out: then the session is as it was. */
+void nrbpf_raw_detach(struct nrbpf_raw_store *at, struct nrbpf_raw_session *session);
+
+/* Ends the store; then its handle is room. Statuses: 0, H2, and S5 where a session is attached: then nothing has changed. */
+void nrbpf_raw_close(struct nrbpf_raw_store *at);
+
+/* Makes the call that the session's words ask for. An update or an install posts where no update is out, and else goes on with the one that is,
+ * whatever its words are. Statuses: 0, BUSY, AGAIN, S1 to S4, S6 to S8, H2, H3, H5. */
+void nrbpf_raw_call(struct nrbpf_raw_session *session);
+
+/* Writes what a status says, as text without a zero byte behind it, cut off at `room` bytes, and returns how many it wrote. */
+size_t nrbpf_raw_text(uint32_t status, uint8_t *out, size_t room);
+
+#ifdef __cplusplus
+}
+#endif
+#endif
