@@ -28,7 +28,8 @@ enum {
     NRBPF_RAW_H2,           /* the handle is not open: the opening was refused, or the session was not given */
     NRBPF_RAW_H3,           /* a read, or a detach, while an update is out */
     NRBPF_RAW_H4,           /* a text is not UTF-8: the manifest, a file, its name, or the name of a program */
-    NRBPF_RAW_H5            /* a word that is none: of a call, or of a mode */
+    NRBPF_RAW_H5,           /* a word is none of a call: `call` above 2, `mode` above 1, `length` above 192 */
+    NRBPF_RAW_H6            /* detach: the session is of another store */
 };
 
 /* ---- what is passed in */
@@ -68,10 +69,10 @@ struct nrbpf_raw_session {
     uint64_t own[2];
     /* asked */
     uint64_t call;          /* NRBPF_RAW_UPDATE, .. */
-    uint64_t program;       /* update, read: the program's number */
+    uint16_t program;       /* update, read: the program's number */
     uint64_t mode;          /* install: 0 for a program that updates, 1 for one that reads */
     uint64_t argument;      /* install: how many bytes the program's arguments have */
-    uint64_t length;        /* how many bytes count: of the argument, or of the program that is installed */
+    uint64_t length;        /* how many bytes count, of the argument, or of the program that is installed; H5 above 192 */
     uint8_t bytes[192];
     /* answered */
     uint64_t status;
@@ -99,7 +100,7 @@ void nrbpf_raw_number(struct nrbpf_raw_store *at);
 void nrbpf_raw_attach(struct nrbpf_raw_store *at, struct nrbpf_raw_session *session);
 
 /* Takes a session back into the store that it was attached to; then its handle is room. The status stands in the store's handle: 0, H2, and H3
- * where an update of the session is out: then the session is as it was. */
+ * where an update of the session is out or H6 where it is of another store: then the session is as it was. */
 void nrbpf_raw_detach(struct nrbpf_raw_store *at, struct nrbpf_raw_session *session);
 
 /* Ends the store; then its handle is room. Statuses: 0, H2, and S5 where a session is attached: then nothing has changed. */

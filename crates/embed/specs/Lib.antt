@@ -1,0 +1,6 @@
+-- Handles of C: what lies there, and what the calls of a host tell.
+pub mod Statuses
+pub mod Views
+pub mod Calls
+pub mod Stores
+pub mod Rooms

@@ -1,0 +1,135 @@
+// A session that is attached, and its calls.
+
+ghost use Rattle.std.specs.Prelude.{◌≡◌, None, Some, true, false, MatchOption};
+ghost use Rattle.std.specs.Arc.{arc_value};
+ghost use Rattle.store.specs.Sessions.{IsOf, op_of, install_of};
+ghost use Rattle.accounts.specs.declared.sessions.Pending.{Pending};
+
+use std::alloc::Global;
+use std::marker::Model;
+use std::sync::Arc;
+use store::{Mode, Polled, Store, StoreRefused};
+
+/// A session and the store that it is of.
+#[derive(Drop)]
+pub struct Attached {
+    store: Arc<Store, Global>,
+    // Where it stands in the pool of its store.
+    place: usize,
+    session: Polled,
+}
+
+impl Model for Attached {
+    ghost use Rattle.std.specs.Arc.{arc_value};
+    ghost use Rattle.store.specs.Sessions.{IsOf};
+    ghost use Rattle.embed.specs.Views.{AttachedView};
+
+    ghost Value = { AttachedView };
+
+    ghost view = { λ a. record { store = arc_value a.store; place = a.place; session = a.session } };
+
+    ghost invariant = { λ a. IsOf (arc_value a.store) a.session };
+}
+
+/// What a call on a session answers.
+#[derive(Clone, Copy, Debug, PartialEq, Eq)]
+pub enum Told {
+    /// Another session held a place, and nothing has changed.
+    Busy,
+    /// An update is posted, and not answered.
+    Again,
+    /// A place or a point, and the reply there.
+    Answered { place: u64, reply: u64 },
+    /// The store refuses the call.
+    Refused(StoreRefused),
+    /// H2: the handle is not open.
+    NotOpen,
+    /// H3: an update is out.
+    IsOut,
+    /// H5: a word is none of a call.
+    NoWord,
+}
+
+impl Attached {
+    pub(crate) fn new(store: Arc<Store, Global>, place: usize, session: Polled) -> Attached
+        requires own { IsOf (arc_value store) session }
+        ensures { result ≡ record { store = arc_value store; place = place; session = session } }
+    {
+        Attached {
+            store,
+            place,
+            session,
+        }
+    }
+
+    // Where it stands in its pool.
+    pub(crate) fn place(&self) -> usize
+        ensures place { result ≡ self.now.place }
+    {
+        self.place
+    }
+
+    // Whether an update of it is out.
+    pub(crate) fn is_waiting(&self) -> bool
+        ensures waiting { MatchOption self.now.session.note.pending (result ≡ false) (λ _. result ≡ true) }
+    {
+        self.session.is_waiting()
+    }
+
+    // Goes on with the update that is out.
+    fn go_on(&mut self) -> Told
+        requires out { (o : Pending) × (self.old.session.note.pending ≡ Some o) }
+    {
+        let Attached { store, session, .. } = self;
+        match session.try_complete(store) {
+            None => Told::Again,
+            Some(Err(why)) => Told::Refused(why),
+            Some(Ok(answer)) => Told::Answered {
+                place: answer.index,
+                reply: answer.reply,
+            },
+        }
+    }
+
+    // Posts an update, or goes on with the one that is out.
+    pub(crate) fn update(&mut self, program: u16, argument: &[u8]) -> Told {
+        if self.is_waiting() {
+            return self.go_on();
+        }
+        let Attached { store, session, .. } = &mut *self;
+        match session.try_post(store, program, argument) {
+            Err(why) => Told::Refused(why),
+            Ok(None) => Told::Busy,
+            Ok(Some(())) => self.go_on(),
+        }
+    }
+
+    // Posts an install, or goes on with the update that is out.
+    pub(crate) fn install(&mut self, mode: Mode, argument: u64, bytes: &[u8]) -> Told {
+        if self.is_waiting() {
+            return self.go_on();
+        }
+        let Attached { store, session, .. } = &mut *self;
+        match session.try_install(store, mode, argument as usize, bytes) {
+            Err(why) => Told::Refused(why),
+            Ok(None) => Told::Busy,
+            Ok(Some(())) => self.go_on(),
+        }
+    }
+
+    // Reads, where no update is out.
+    pub(crate) fn read(&mut self, program: u16, argument: &[u8]) -> Told {
+        let Attached { store, session, .. } = self;
+        if session.is_waiting() {
+            return Told::IsOut;
+        }
+        match session.try_read(store, program, argument) {
+            Err(why) => Told::Refused(why),
+            Ok(None) => Told::Busy,
+            Ok(Some(answer)) => Told::Answered {
+                place: answer.point,
+                reply: answer.reply,
+            },
+        }
+    }
+}

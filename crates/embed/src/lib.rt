@@ -1,0 +1,121 @@
+//! A store for programs of other languages. No call waits: one that meets a held place says so. What is exported takes and gives numbers, texts
+//! and memory of the host's, in which its two kinds of handle lie.
+#![tactic(auto)]
+
+ghost use Rattle.std.specs.Prelude.{◌≡◌, ◌≤◌, length};
+ghost use Rattle.std.specs.Borrow.{full_share, sem};
+ghost use Rattle.std.specs.Ptr.{lies_at, room_at};
+ghost use Rattle.embed.specs.Calls.{Goes};
+ghost use Rattle.embed.specs.Stores.{Closes, Finds, Gives, IsOpened, Takes};
+ghost use Rattle.embed.specs.Rooms.{session_left, store_left};
+ghost use Rattle.embed.specs.contracts.handles.SessionHandle.{the_row as the_session};
+ghost use Rattle.embed.specs.contracts.handles.StoreHandle.{the_row as the_store};
+
+mod attached;
+mod calls;
+mod handles;
+mod opening;
+mod pool;
+mod statuses;
+mod stores;
+mod texts;
+
+use calls::called;
+use handles::{Opening, SessionHandle, StoreHandle};
+use opening::opened;
+use std::alloc::Global;
+use stores::{attached, closed, detached, numbered};
+use texts::text_of;
+
+// The interface that a host is compiled for: 1000 times the major number, and the minor one.
+const VERSION: u32 = 1_000;
+
+/// The interface: 1000 times its major number, and its minor one.
+#[unsafe(no_mangle)]
+pub extern "C" fn nrbpf_raw_version() -> u32
+    ensures version { result ≡ 1000 }
+{
+    VERSION
+}
+
+/// How many bytes a store's handle takes.
+#[unsafe(no_mangle)]
+pub extern "C" fn nrbpf_raw_store_size() -> usize {
+    std::mem::size_of::<StoreHandle>()
+}
+
+/// How many bytes a session's handle takes.
+#[unsafe(no_mangle)]
+pub extern "C" fn nrbpf_raw_session_size() -> usize {
+    std::mem::size_of::<SessionHandle>()
+}
+
+/// Opens a store, and writes its handle. It is closed where the store is refused, and its words say why.
+#[unsafe(no_mangle)]
+pub unsafe extern "C" fn nrbpf_raw_open(alloc: Global, opening: &Opening, at: *mut u8)
+    requires* { sem 𝓛 (room_at the_store at) }
+    ensures* { ∃ₛ (λ after. sem 𝓛 (lies_at the_store full_share at after) ∗ ⌜ IsOpened opening.now after ⌝) }
+{
+    std::ptr::write(at as *mut StoreHandle, opened(alloc, opening));
+}
+
+/// Writes the number of the program that has the name in the store's words.
+#[unsafe(no_mangle)]
+pub unsafe extern "C" fn nrbpf_raw_number(at: *mut u8)
+    ghost value: { StoreHandle }
+    requires* { sem 𝓛 (lies_at the_store full_share at value) }
+    ensures* { ∃ₛ (λ after. sem 𝓛 (lies_at the_store full_share at after) ∗ ⌜ Finds value after ⌝) }
+{
+    numbered(&mut *(at as *mut StoreHandle));
+}
+
+/// Gives a session of the node in the store's words, and writes its handle. It is closed where there is none.
+#[unsafe(no_mangle)]
+pub unsafe extern "C" fn nrbpf_raw_attach(at: *mut u8, room: *mut u8)
+    ghost value: { StoreHandle }
+    requires* { sem 𝓛 (lies_at the_store full_share at value) ∗ sem 𝓛 (room_at the_session room) }
+    ensures* { ∃ₛ (λ after. ∃ₛ (λ given. sem 𝓛 (lies_at the_store full_share at after) ∗ sem 𝓛 (lies_at the_session full_share room given) ∗ ⌜ Gives value after given ⌝)) }
+{
+    std::ptr::write(room as *mut SessionHandle, attached(&mut *(at as *mut StoreHandle)));
+}
+
+/// Takes a session back into its store. Its handle is room then, and is as it was where the session is refused.
+#[unsafe(no_mangle)]
+pub unsafe extern "C" fn nrbpf_raw_detach(at: *mut u8, session: *mut u8)
+    ghost values: { StoreHandle × SessionHandle }
+    requires* { sem 𝓛 (lies_at the_store full_share at values.0) ∗ sem 𝓛 (lies_at the_session full_share session values.1) }
+    ensures* { ∃ₛ (λ after. ∃ₛ (λ left. sem 𝓛 (lies_at the_store full_share at after) ∗ sem 𝓛 (session_left session left) ∗ ⌜ Takes values.0 values.1 after left ⌝)) }
+{
+    detached(&mut *(at as *mut StoreHandle), &mut *(session as *mut SessionHandle));
+}
+
+/// Ends a store whose sessions are all back. Its handle is room then, and is as it was where it is refused.
+#[unsafe(no_mangle)]
+pub unsafe extern "C" fn nrbpf_raw_close(at: *mut u8)
+    ghost value: { StoreHandle }
+    requires* { sem 𝓛 (lies_at the_store full_share at value) }
+    ensures* { ∃ₛ (λ left. sem 𝓛 (store_left at left) ∗ ⌜ Closes value left ⌝) }
+{
+    closed(&mut *(at as *mut StoreHandle));
+}
+
+/// Makes the call that the session's words ask for.
+#[unsafe(no_mangle)]
+pub unsafe extern "C" fn nrbpf_raw_call(at: *mut u8)
+    ghost value: { SessionHandle }
+    requires* { sem 𝓛 (lies_at the_session full_share at value) }
+    ensures* { ∃ₛ (λ after. sem 𝓛 (lies_at the_session full_share at after) ∗ ⌜ Goes value after ⌝) }
+{
+    called(&mut *(at as *mut SessionHandle));
+}
+
+/// Writes what a status says, cut off where the room ends, and returns how many bytes it wrote.
+#[unsafe(no_mangle)]
+pub extern "C" fn nrbpf_raw_text(status: u32, out: &mut [u8]) -> usize
+    ensures fits { result ≤ length out.new }
+{
+    let text = text_of(status).as_bytes();
+    let count = text.len().min(out.len());
+    out[..count].copy_from_slice(&text[..count]);
+    count
+}

@@ -1,0 +1,185 @@
+// Opening a store from texts.
+
+ghost use Rattle.std.specs.Prelude.{◌≡◌, All, IfOk};
+ghost use Rattle.std.specs.Arc.{arc_value};
+ghost use Rattle.store.specs.Sessions.{IsOf};
+ghost use Rattle.embed.specs.Stores.{IsOpened};
+
+use crate::attached::Attached;
+use crate::handles::{File, Opening, StoreAnswered, StoreHandle};
+use crate::pool::Pool;
+use crate::statuses::{DONE, NO_TEXT, refusal};
+use loader::{LoadError, LoadFault};
+use std::alloc::{AllocError, Global};
+use std::sync::Arc;
+use store::{Config, OpenError, Polled, Session, Store, load_manifest};
+
+// Why a store is not opened.
+#[derive(Clone, Copy)]
+pub(crate) enum NotOpened {
+    // A text is not UTF-8.
+    NoText,
+    // The manifest is refused.
+    Loading(LoadError),
+    // The sizes are, or there is no memory.
+    Opening(OpenError),
+}
+
+// The texts of the program files. `None` where one is not UTF-8.
+fn texts<'a>(
+    alloc: Global,
+    files: &[File<'a>],
+) -> Result<Option<Vec<(&'a str, &'a str)>>, AllocError> {
+    let mut texts = Vec::new(alloc);
+    for file in files {
+        let (Ok(name), Ok(text)) = (str::from_utf8(file.name), str::from_utf8(file.text)) else {
+            return Ok(None);
+        };
+        texts.push((name, text))?;
+    }
+    Ok(Some(texts))
+}
+
+// The store of these texts, and its sessions.
+fn opened_store(alloc: Global, opening: &Opening) -> Result<(Store, Vec<Session>), NotOpened>
+    ensures own { IfOk result (λ t. All (IsOf t.0) t.1.items) }
+{
+    let Ok(manifest) = str::from_utf8(opening.manifest) else {
+        return Err(NotOpened::NoText);
+    };
+    let texts = match texts(alloc, opening.files) {
+        Ok(Some(texts)) => texts,
+        Ok(None) => return Err(NotOpened::NoText),
+        Err(_) => return Err(NotOpened::Loading(LoadError::NoMemory)),
+    };
+    let catalogue = match load_manifest(alloc, manifest, texts.as_slice()) {
+        Ok(catalogue) => catalogue,
+        Err(error) => return Err(NotOpened::Loading(error)),
+    };
+    let config = Config {
+        nodes: opening.nodes,
+        slots: opening.slots,
+        window: opening.window,
+        limit: opening.limit,
+        spare: opening.spare,
+    };
+    match Store::open(alloc, config, catalogue) {
+        Ok(opened) => Ok(opened),
+        Err(error) => Err(NotOpened::Opening(error)),
+    }
+}
+
+// Lets sessions go: no store is left for them.
+fn let_go(mut sessions: Vec<Session>) {
+    while let Some(session) = sessions.pop() {
+        drop(Polled::new(session));
+    }
+    sessions.destroy_empty();
+}
+
+// So many places with nothing there.
+fn empty_places(alloc: Global, count: usize) -> Result<Vec<Option<Box<Attached>>>, AllocError> {
+    let mut places = Vec::new(alloc);
+    for _ in 0..count {
+        places.push(None)?;
+    }
+    Ok(places)
+}
+
+// The session, at its place.
+fn seated(
+    alloc: Global,
+    store: &Arc<Store, Global>,
+    place: usize,
+    session: Session,
+) -> Result<Box<Attached>, AllocError>
+    requires own { IsOf (arc_value store.now) session }
+{
+    let session = Polled::new(session);
+    let store = Arc::try_clone(store)?;
+    Ok(Box::new(alloc, Attached::new(store, place, session))?)
+}
+
+// Puts a session at its place.
+fn put(places: &mut Vec<Option<Box<Attached>>>, place: usize, attached: Box<Attached>) {
+    if place < places.len() {
+        places[place] = Some(attached);
+    }
+}
+
+// A place for each session, with it there.
+fn pooled(
+    alloc: Global,
+    store: Store,
+    slots: usize,
+    mut sessions: Vec<Session>,
+) -> Option<Box<Pool>>
+    requires own { All (IsOf store) sessions.items }
+{
+    let Ok(store) = Arc::new(alloc, store) else {
+        let_go(sessions);
+        return None;
+    };
+    let Ok(mut places) = empty_places(alloc, sessions.len()) else {
+        let_go(sessions);
+        return None;
+    };
+    while let Some(session) = sessions.pop() {
+        let place = sessions.len();
+        let Ok(attached) = seated(alloc, &store, place, session) else {
+            let_go(sessions);
+            return None;
+        };
+        put(&mut places, place, attached);
+    }
+    sessions.destroy_empty();
+    match Box::new(alloc, Pool::new(store, slots, places)) {
+        Ok(pool) => Some(pool),
+        Err(_) => None,
+    }
+}
+
+// What is answered where a store is not opened.
+fn answered(why: NotOpened) -> StoreAnswered {
+    match why {
+        NotOpened::NoText => StoreAnswered::of(NO_TEXT),
+        NotOpened::Opening(error) => StoreAnswered::of(refusal(b'O', error.number())),
+        NotOpened::Loading(error) => {
+            let mut answered = StoreAnswered::of(refusal(b'C', error.number()));
+            let (inner, slot) = inner_of(error);
+            answered.line = error.line() as u64;
+            answered.inner = inner;
+            answered.slot = slot;
+            answered
+        }
+    }
+}
+
+// Why the decoder or the verifier refuses the program of the bad line, and at which slot.
+fn inner_of(error: LoadError) -> (u64, u64) {
+    match error {
+        LoadError::Refused(bad) => match bad.why {
+            LoadFault::Decode(why) => (refusal(b'D', why.why.number()), why.slot as u64),
+            LoadFault::Verify(why) => (refusal(b'V', why.why.number()), why.slot as u64),
+            _ => (0, 0),
+        },
+        LoadError::NoMemory => (0, 0),
+    }
+}
+
+// The handle of the store of these texts. It is closed where the store is refused.
+pub(crate) fn opened(alloc: Global, opening: &Opening) -> StoreHandle
+    ensures opened { IsOpened opening.now result }
+{
+    let (store, sessions) = match opened_store(alloc, opening) {
+        Ok(opened) => opened,
+        Err(why) => return StoreHandle::new(None, answered(why)),
+    };
+    match pooled(alloc, store, opening.slots as usize, sessions) {
+        Some(pool) => StoreHandle::new(Some(pool), StoreAnswered::of(DONE)),
+        None => {
+            let why = NotOpened::Opening(OpenError::NoMemory);
+            StoreHandle::new(None, answered(why))
+        }
+    }
+}
