@@ -1,5 +1,5 @@
 -- What is known of a session that is attached.
-use Rattle.std.specs.Prelude.{ℕ}
+use Rattle.std.specs.Prelude.{◌≡◌, ℕ}
 use Rattle.store.specs.Sessions.{SessionView, StoreView}
 
 -- a session, where it stands in the pool of its store, and that store
@@ -7,3 +7,10 @@ pub record AttachedView : Type 0 where
   pub store : StoreView
   pub place : ℕ
   pub session : SessionView
+
+-- the same session of the same store
+pub record IsSame (old new : AttachedView) : Type 0 where
+  pub store : new.store ≡ old.store
+  pub place : new.place ≡ old.place
+  pub shelf : new.session.shelf ≡ old.session.shelf
+  pub session : new.session.session ≡ old.session.session

@@ -1,9 +1,13 @@
 // A session that is attached, and its calls.
 
-ghost use Rattle.std.specs.Prelude.{◌≡◌, None, Some, true, false, MatchOption};
+ghost use Rattle.std.specs.Prelude.{◌≡◌, Some, true, false, MatchOption};
 ghost use Rattle.std.specs.Arc.{arc_value};
-ghost use Rattle.store.specs.Sessions.{IsOf, op_of, install_of};
+ghost use Rattle.verifier.specs.declared.refusal.Mode.TheVariants.{Update, Read};
 ghost use Rattle.accounts.specs.declared.sessions.Pending.{Pending};
+ghost use Rattle.replica.specs.Refusals.{early_refusal};
+ghost use Rattle.store.specs.Sessions.{IsOf, install_of, install_refused, op_of};
+ghost use Rattle.embed.specs.Told.{HasGrown, TellsOut, TellsReading, TellsUpdate};
+ghost use Rattle.embed.specs.Views.{IsSame};
 
 use std::alloc::Global;
 use std::marker::Model;
@@ -79,6 +83,9 @@ impl Attached {
     // Goes on with the update that is out.
     fn go_on(&mut self) -> Told
         requires out { (o : Pending) × (self.old.session.note.pending ≡ Some o) }
+        ensures same { IsSame self.old self.new }
+        ensures grown { HasGrown self.old.session self.new.session }
+        ensures tells { (o : Pending) → self.old.session.note.pending ≡ Some o → TellsOut self.old.session self.new.session o result }
     {
         let Attached { store, session, .. } = self;
         match session.try_complete(store) {
@@ -92,7 +99,11 @@ impl Attached {
     }
 
     // Posts an update, or goes on with the one that is out.
-    pub(crate) fn update(&mut self, program: u16, argument: &[u8]) -> Told {
+    pub(crate) fn update(&mut self, program: u16, argument: &[u8]) -> Told
+        ensures same { IsSame self.old self.new }
+        ensures tells { TellsUpdate (op_of program argument.now) (early_refusal self.old.store.catalogue Update program argument.now)
+            self.old.session self.new.session result }
+    {
         if self.is_waiting() {
             return self.go_on();
         }
@@ -105,7 +116,11 @@ impl Attached {
     }
 
     // Posts an install, or goes on with the update that is out.
-    pub(crate) fn install(&mut self, mode: Mode, argument: u64, bytes: &[u8]) -> Told {
+    pub(crate) fn install(&mut self, mode: Mode, argument: u64, bytes: &[u8]) -> Told
+        ensures same { IsSame self.old self.new }
+        ensures tells { TellsUpdate (install_of mode argument bytes.now) (install_refused self.old.store mode argument bytes.now)
+            self.old.session self.new.session result }
+    {
         if self.is_waiting() {
             return self.go_on();
         }
@@ -118,7 +133,11 @@ impl Attached {
     }
 
     // Reads, where no update is out.
-    pub(crate) fn read(&mut self, program: u16, argument: &[u8]) -> Told {
+    pub(crate) fn read(&mut self, program: u16, argument: &[u8]) -> Told
+        ensures same { IsSame self.old self.new }
+        ensures tells { TellsReading (op_of program argument.now) (early_refusal self.old.store.catalogue Read program argument.now)
+            self.old.session self.new.session result }
+    {
         let Attached { store, session, .. } = self;
         if session.is_waiting() {
             return Told::IsOut;

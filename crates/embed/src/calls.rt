@@ -1,7 +1,7 @@
 // The words of a session's handle: which call they ask for, and what is answered there.
 
 ghost use Rattle.std.specs.Prelude.{◌≡◌};
-ghost use Rattle.embed.specs.Calls.{Goes};
+ghost use Rattle.embed.specs.Calls.{Goes, TellsAttached, inner_of, status_of, written};
 
 use crate::attached::{Attached, Told};
 use crate::handles::{Answered, Asked, CALL_ROOM, SessionHandle};
@@ -17,17 +17,16 @@ const READ: u64 = 1;
 // An install.
 const INSTALL: u64 = 2;
 
-// The mode that a word names.
-fn mode_of(word: u64) -> Option<Mode> {
-    match word {
-        0 => Some(Mode::Update),
-        1 => Some(Mode::Read),
-        _ => None,
-    }
-}
+// A program that updates, as the word `mode` has it.
+const UPDATES: u64 = 0;
+
+// A program that reads.
+const READS: u64 = 1;
 
 // The status of an answer.
-fn status_of(told: Told) -> u64 {
+fn status_of(told: Told) -> u64
+    ensures status { result ≡ status_of told }
+{
     match told {
         Told::Busy => BUSY,
         Told::Again => AGAIN,
@@ -40,7 +39,9 @@ fn status_of(told: Told) -> u64 {
 }
 
 // Why the decoder or the verifier refuses a program, and at which slot.
-fn inner_of(told: Told) -> (u64, u64) {
+fn inner_of(told: Told) -> (u64, u64)
+    ensures inner { result ≡ inner_of told }
+{
     match told {
         Told::Refused(StoreRefused::NotDecoded(why)) => {
             (refusal(b'D', why.why.number()), why.slot as u64)
@@ -53,7 +54,9 @@ fn inner_of(told: Told) -> (u64, u64) {
 }
 
 // Makes the call that the words ask for.
-fn tell(attached: &mut Attached, asked: &Asked) -> Told {
+fn tell(attached: &mut Attached, asked: &Asked) -> Told
+    ensures tells { TellsAttached asked.now attached.old attached.new result }
+{
     if asked.length > CALL_ROOM as u64 {
         return Told::NoWord;
     }
@@ -61,16 +64,19 @@ fn tell(attached: &mut Attached, asked: &Asked) -> Told {
     match asked.call {
         UPDATE => attached.update(asked.program, bytes),
         READ => attached.read(asked.program, bytes),
-        INSTALL => match mode_of(asked.mode) {
-            Some(mode) => attached.install(mode, asked.argument, bytes),
-            None => Told::NoWord,
+        INSTALL => match asked.mode {
+            UPDATES => attached.install(Mode::Update, asked.argument, bytes),
+            READS => attached.install(Mode::Read, asked.argument, bytes),
+            _ => Told::NoWord,
         },
         _ => Told::NoWord,
     }
 }
 
 // Writes what is told. Without an answer its place and its reply stay what they were.
-fn write(answered: &mut Answered, told: Told) {
+fn write(answered: &mut Answered, told: Told)
+    ensures written { answered.new ≡ written answered.old told }
+{
     let (inner, slot) = inner_of(told);
     answered.status = status_of(told);
     answered.inner = inner;
