@@ -1,6 +1,10 @@
 // The sessions of a store that are not attached.
 
-ghost use Rattle.std.specs.Prelude.{◌≡◌};
+ghost use Rattle.std.specs.Prelude.{◌≡◌, ◌↔◌, ◌<◌, length, is_some, IfErr, IfOk, IsSome, IsTrue, MatchOption};
+ghost use Rattle.std.specs.List.{list_all};
+ghost use Rattle.std.specs.Arc.{arc_value};
+ghost use Rattle.loader.specs.CatalogueView.{number_named};
+ghost use Rattle.embed.specs.Stores.{IsGiven, IsKept, IsOfNode, IsOurs, IsTaken, IsUnmoved, NoneIsFree, seated};
 
 use crate::attached::Attached;
 use std::alloc::Global;
@@ -21,7 +25,9 @@ impl Pool {
         store: Arc<Store, Global>,
         slots: usize,
         places: Vec<Option<Box<Attached>>>,
-    ) -> Pool {
+    ) -> Pool
+        ensures { (result.store ≡ store) × (result.slots ≡ slots) × (result.places ≡ places) }
+    {
         Pool {
             store,
             slots,
@@ -29,20 +35,43 @@ impl Pool {
         }
     }
 
-    // Takes a session of this node out.
-    pub(crate) fn take(&mut self, node: u64) -> Option<Box<Attached>> {
+    // Whether the session at this place is one of the node, and not attached.
+    fn is_free(&self, node: u64, place: usize) -> bool
+        requires there { place < length self.now.places.items }
+        ensures free { IsTrue result ↔ (IsOfNode self.now node place × IsSome (seated self.now place)) }
+    {
+        self.slots > 0
+            && (place / self.slots) as u64 == node
+            && self.places[place].is_some()
+    }
+
+    // The first place of a session of the node that is not attached.
+    fn free_place(&self, node: u64) -> Option<usize>
+        ensures free { MatchOption result (NoneIsFree self.now node) (λ k. IsOfNode self.now node k × IsSome (seated self.now k)) }
+    {
         for place in 0..self.places.len() {
-            if self.slots > 0 && (place / self.slots) as u64 == node {
-                if let Some(attached) = self.places[place].take() {
-                    return Some(attached);
-                }
+            if self.is_free(node, place) {
+                return Some(place);
             }
         }
         None
     }
 
+    // Takes a session of this node out.
+    pub(crate) fn take(&mut self, node: u64) -> Option<Box<Attached>>
+        ensures kept { IsKept self.old self.new }
+        ensures taken { MatchOption result (NoneIsFree self.old node × IsUnmoved self.old self.new) (λ a. IsTaken self.old self.new node a) }
+    {
+        let place = self.free_place(node)?;
+        self.places[place].take()
+    }
+
     // Puts a session back where it stood.
-    pub(crate) fn give(&mut self, attached: Box<Attached>) -> Result<(), Box<Attached>> {
+    pub(crate) fn give(&mut self, attached: Box<Attached>) -> Result<(), Box<Attached>>
+        ensures kept { IsKept self.old self.new }
+        ensures given { IfOk result (λ _. IsGiven self.old self.new attached) }
+        ensures back { IfErr result (λ back. (back ≡ attached) × (IsOurs self.old attached → ⊥) × IsUnmoved self.old self.new) }
+    {
         let place = attached.place();
         if place >= self.places.len() || self.places[place].is_some() {
             return Err(attached);
@@ -52,12 +81,16 @@ impl Pool {
     }
 
     // Whether no session is attached.
-    pub(crate) fn is_whole(&self) -> bool {
+    pub(crate) fn is_whole(&self) -> bool
+        ensures whole { result ≡ list_all is_some self.now.places.items }
+    {
         self.places.iter().all(|place| place.is_some())
     }
 
     // The number of the program of this name.
-    pub(crate) fn number(&self, name: &str) -> Option<u16> {
+    pub(crate) fn number(&self, name: &str) -> Option<u16>
+        ensures number { result ≡ number_named (arc_value self.now.store).catalogue.programs name.now }
+    {
         self.store.catalogue().number(name)
     }
 }

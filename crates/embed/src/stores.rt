@@ -1,7 +1,7 @@
 // The calls on a store's handle.
 
 ghost use Rattle.std.specs.Prelude.{◌≡◌};
-ghost use Rattle.embed.specs.Stores.{Closes, Finds, Gives, Takes};
+ghost use Rattle.embed.specs.Stores.{Closes, Finds, Gives, IsNumber, Takes};
 
 use crate::handles::{NAME_ROOM, SessionHandle, StoreHandle};
 use crate::statuses::{
@@ -9,7 +9,9 @@ use crate::statuses::{
 };
 
 // The number of the program that has the name in the words, or why there is none.
-fn number_in(handle: &StoreHandle) -> Result<u16, u64> {
+fn number_in(handle: &StoreHandle) -> Result<u16, u64>
+    ensures number { IsNumber handle.now result }
+{
     let Some(pool) = &handle.own else {
         return Err(NOT_OPEN);
     };
