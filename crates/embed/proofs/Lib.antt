@@ -2,3 +2,4 @@ pub mod Steps
 mod Left
 mod Sessions
 mod Posted
+mod Opened

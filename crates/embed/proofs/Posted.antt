@@ -47,7 +47,8 @@ posting op old new o NoWord is seen t = absurd t
 pub posted_then : (op : Operation) (refused : Option StoreRefused) (old mid new : SessionView) (told : Told) → old.note.pending ≡ None → refused ≡ None → HasPostedFor old mid op → mid.session ≡ old.session
     → Extends old.progress mid.progress → HasGrown mid new → ((o : Pending) → mid.note.pending ≡ Some o → TellsOut mid new o told) → TellsUpdate op refused old new told
 posted_then op refused old mid new told idle none (o, is, seen, note) same grew grown tells =
-    let at = posting op old new o told is seen (out_from old mid new o told same note (tells o (ap (λ (n : SessionNote). n.pending) note))) in
-    (record { grown = store_laws.extends_on _ _ _ grew grown.grown; well_formed = grown.well_formed },
-    subst (λ p. MatchOption p (MatchOption refused (TellsPosting op old new told) (λ why. TellsRefused old new told why)) (λ o'. TellsOut old new o' told)) (sym idle)
-    (subst (λ r. MatchOption r (TellsPosting op old new told) (λ why. TellsRefused old new told why)) (sym none) at))
+    let at = posting op old new o told is seen (out_from old mid new o told same note (tells o (ap (λ (n : SessionNote). n.pending) note))) in (
+      record { grown = store_laws.extends_on _ _ _ grew grown.grown; well_formed = grown.well_formed },
+      subst (λ p. MatchOption p (MatchOption refused (TellsPosting op old new told) (λ why. TellsRefused old new told why)) (λ o'. TellsOut old new o' told)) (sym idle)
+          (subst (λ r. MatchOption r (TellsPosting op old new told) (λ why. TellsRefused old new told why)) (sym none) at),
+    )

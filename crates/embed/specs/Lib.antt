@@ -4,4 +4,5 @@ pub mod Views
 pub mod Told
 pub mod Calls
 pub mod Stores
+pub mod Openings
 pub mod Rooms

@@ -8,7 +8,6 @@ use Rattle.std.specs.declared.boxed.Box.{Box}
 use Rattle.loader.specs.CatalogueView.{number_named}
 use Rattle.accounts.specs.declared.sessions.Pending.{Pending}
 use Rattle.embed.specs.declared.attached.Attached.{Attached}
-use Rattle.embed.specs.declared.handles.Opening.{Opening}
 use Rattle.embed.specs.declared.handles.StoreAnswered.{StoreAnswered}
 use Rattle.embed.specs.declared.handles.StoreHandle.{StoreHandle}
 use Rattle.embed.specs.declared.handles.SessionHandle.{SessionHandle}
@@ -119,10 +118,3 @@ pub record Finds (before after : StoreHandle) : Type 0 where
   pub found : Result ℕ ℕ
   pub is_number : IsNumber before found
   pub answered : after.answered ≡ with_number before.answered found
-
--- ---- open
-
--- the handle is open, and the store has the sizes that were asked for; or it is closed, and has a reason
-abbrev pub IsOpened : Opening → StoreHandle → Type 0
-IsOpened opening after =
-    MatchOption after.own (after.answered.status ≢ done) (λ b. (after.answered.status ≡ done) × (b.value.slots ≡ opening.slots))

@@ -5,7 +5,7 @@ ghost use Rattle.embed.specs.Calls.{Goes, TellsAttached, inner_of, status_of, wr
 
 use crate::attached::{Attached, Told};
 use crate::handles::{Answered, Asked, CALL_ROOM, SessionHandle};
-use crate::statuses::{AGAIN, BUSY, DONE, IS_OUT, NOT_OPEN, NO_WORD, refusal};
+use crate::statuses::{AGAIN, BUSY, DONE, IS_OUT, NO_WORD, NOT_OPEN, refusal};
 use store::{Mode, StoreRefused};
 
 // An update, as the word `call` has it.

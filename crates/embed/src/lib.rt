@@ -6,7 +6,8 @@ ghost use Rattle.std.specs.Prelude.{◌≡◌, ◌≤◌, length};
 ghost use Rattle.std.specs.Borrow.{full_share, sem};
 ghost use Rattle.std.specs.Ptr.{lies_at, room_at};
 ghost use Rattle.embed.specs.Calls.{Goes};
-ghost use Rattle.embed.specs.Stores.{Closes, Finds, Gives, IsOpened, Takes};
+ghost use Rattle.embed.specs.Stores.{Closes, Finds, Gives, Takes};
+ghost use Rattle.embed.specs.Openings.{IsOpened};
 ghost use Rattle.embed.specs.Rooms.{session_left, store_left};
 ghost use Rattle.embed.specs.contracts.handles.SessionHandle.{the_row as the_session};
 ghost use Rattle.embed.specs.contracts.handles.StoreHandle.{the_row as the_store};
@@ -76,7 +77,10 @@ pub unsafe extern "C" fn nrbpf_raw_attach(at: *mut u8, room: *mut u8)
     requires* { sem 𝓛 (lies_at the_store full_share at value) ∗ sem 𝓛 (room_at the_session room) }
     ensures* { ∃ₛ (λ after. ∃ₛ (λ given. sem 𝓛 (lies_at the_store full_share at after) ∗ sem 𝓛 (lies_at the_session full_share room given) ∗ ⌜ Gives value after given ⌝)) }
 {
-    std::ptr::write(room as *mut SessionHandle, attached(&mut *(at as *mut StoreHandle)));
+    std::ptr::write(
+        room as *mut SessionHandle,
+        attached(&mut *(at as *mut StoreHandle)),
+    );
 }
 
 /// Takes a session back into its store. Its handle is room then, and is as it was where the session is refused.
@@ -86,7 +90,10 @@ pub unsafe extern "C" fn nrbpf_raw_detach(at: *mut u8, session: *mut u8)
     requires* { sem 𝓛 (lies_at the_store full_share at values.0) ∗ sem 𝓛 (lies_at the_session full_share session values.1) }
     ensures* { ∃ₛ (λ after. ∃ₛ (λ left. sem 𝓛 (lies_at the_store full_share at after) ∗ sem 𝓛 (session_left session left) ∗ ⌜ Takes values.0 values.1 after left ⌝)) }
 {
-    detached(&mut *(at as *mut StoreHandle), &mut *(session as *mut SessionHandle));
+    detached(
+        &mut *(at as *mut StoreHandle),
+        &mut *(session as *mut SessionHandle),
+    );
 }
 
 /// Ends a store whose sessions are all back. Its handle is room then, and is as it was where it is refused.

@@ -1,9 +1,11 @@
 // Opening a store from texts.
 
-ghost use Rattle.std.specs.Prelude.{◌≡◌, All, IfOk};
+ghost use Rattle.std.specs.Prelude.{◌≡◌, All, IfNone, IfOk, IfSome, MatchOption, MatchResult, Ok};
 ghost use Rattle.std.specs.Arc.{arc_value};
+ghost use Rattle.std.specs.Str.{IsUtf8};
+ghost use Rattle.loader.specs.ProgramFiles.{files_of};
 ghost use Rattle.store.specs.Sessions.{IsOf};
-ghost use Rattle.embed.specs.Stores.{IsOpened};
+ghost use Rattle.embed.specs.Openings.{AreUtf8, IsOpened, IsReason, IsStoreOf, inner_in, only, reading_of, texts_of, words_of};
 
 use crate::attached::Attached;
 use crate::handles::{File, Opening, StoreAnswered, StoreHandle};
@@ -12,7 +14,7 @@ use crate::statuses::{DONE, NO_TEXT, refusal};
 use loader::{LoadError, LoadFault};
 use std::alloc::{AllocError, Global};
 use std::sync::Arc;
-use store::{Config, OpenError, Polled, Session, Store, load_manifest};
+use store::{Catalogue, Config, OpenError, Polled, Session, Store, load_manifest};
 
 // Why a store is not opened.
 #[derive(Clone, Copy)]
@@ -25,24 +27,40 @@ pub(crate) enum NotOpened {
     Opening(OpenError),
 }
 
+// A program file's name and text. `None` where one is not UTF-8.
+fn text_of<'a>(file: &File<'a>) -> Option<(&'a str, &'a str)>
+    ensures unclear { IfNone result (IsUtf8 file.now.name.now × IsUtf8 file.now.text.now → ⊥) }
+    ensures text { IfSome result (λ t. (t.0.now ≡ file.now.name.now) × (t.1.now ≡ file.now.text.now)) }
+{
+    let Ok(name) = str::from_utf8(file.name) else {
+        return None;
+    };
+    let Ok(text) = str::from_utf8(file.text) else {
+        return None;
+    };
+    Some((name, text))
+}
+
 // The texts of the program files. `None` where one is not UTF-8.
 fn texts<'a>(
     alloc: Global,
     files: &[File<'a>],
-) -> Result<Option<Vec<(&'a str, &'a str)>>, AllocError> {
+) -> Result<Option<Vec<(&'a str, &'a str)>>, AllocError>
+    ensures texts { IfOk result (λ o. MatchOption o (AreUtf8 files.now → ⊥) (λ v. files_of v.items ≡ texts_of files.now)) }
+{
     let mut texts = Vec::new(alloc);
-    for file in files {
-        let (Ok(name), Ok(text)) = (str::from_utf8(file.name), str::from_utf8(file.text)) else {
+    for k in 0..files.len() {
+        let Some(text) = text_of(&files[k]) else {
             return Ok(None);
         };
-        texts.push((name, text))?;
+        texts.push(text)?;
     }
     Ok(Some(texts))
 }
 
-// The store of these texts, and its sessions.
-fn opened_store(alloc: Global, opening: &Opening) -> Result<(Store, Vec<Session>), NotOpened>
-    ensures own { IfOk result (λ t. All (IsOf t.0) t.1.items) }
+// The catalogue that the manifest says.
+fn loaded(alloc: Global, opening: &Opening) -> Result<Catalogue, NotOpened>
+    ensures loaded { MatchResult result (λ c. reading_of opening.now ≡ Ok c) (λ why. IsReason opening.now why) }
 {
     let Ok(manifest) = str::from_utf8(opening.manifest) else {
         return Err(NotOpened::NoText);
@@ -52,9 +70,20 @@ fn opened_store(alloc: Global, opening: &Opening) -> Result<(Store, Vec<Session>
         Ok(None) => return Err(NotOpened::NoText),
         Err(_) => return Err(NotOpened::Loading(LoadError::NoMemory)),
     };
-    let catalogue = match load_manifest(alloc, manifest, texts.as_slice()) {
+    match load_manifest(alloc, manifest, texts.as_slice()) {
+        Ok(catalogue) => Ok(catalogue),
+        Err(error) => Err(NotOpened::Loading(error)),
+    }
+}
+
+// The store of these texts, and its sessions.
+fn opened_store(alloc: Global, opening: &Opening) -> Result<(Store, Vec<Session>), NotOpened>
+    ensures opened { MatchResult result (λ t. IsStoreOf opening.now t.0) (λ why. IsReason opening.now why) }
+    ensures own { IfOk result (λ t. All (IsOf t.0) t.1.items) }
+{
+    let catalogue = match loaded(alloc, opening) {
         Ok(catalogue) => catalogue,
-        Err(error) => return Err(NotOpened::Loading(error)),
+        Err(why) => return Err(why),
     };
     let config = Config {
         nodes: opening.nodes,
@@ -115,6 +144,7 @@ fn pooled(
     mut sessions: Vec<Session>,
 ) -> Option<Box<Pool>>
     requires own { All (IsOf store) sessions.items }
+    ensures store { IfSome result (λ b. (arc_value b.value.store ≡ store) × (b.value.slots ≡ slots)) }
 {
     let Ok(store) = Arc::new(alloc, store) else {
         let_go(sessions);
@@ -140,7 +170,9 @@ fn pooled(
 }
 
 // What is answered where a store is not opened.
-fn answered(why: NotOpened) -> StoreAnswered {
+fn answered(why: NotOpened) -> StoreAnswered
+    ensures words { result ≡ words_of why }
+{
     match why {
         NotOpened::NoText => StoreAnswered::of(NO_TEXT),
         NotOpened::Opening(error) => StoreAnswered::of(refusal(b'O', error.number())),
@@ -156,7 +188,9 @@ fn answered(why: NotOpened) -> StoreAnswered {
 }
 
 // Why the decoder or the verifier refuses the program of the bad line, and at which slot.
-fn inner_of(error: LoadError) -> (u64, u64) {
+fn inner_of(error: LoadError) -> (u64, u64)
+    ensures inner { result ≡ inner_in error }
+{
     match error {
         LoadError::Refused(bad) => match bad.why {
             LoadFault::Decode(why) => (refusal(b'D', why.why.number()), why.slot as u64),
@@ -175,11 +209,9 @@ pub(crate) fn opened(alloc: Global, opening: &Opening) -> StoreHandle
         Ok(opened) => opened,
         Err(why) => return StoreHandle::new(None, answered(why)),
     };
-    match pooled(alloc, store, opening.slots as usize, sessions) {
-        Some(pool) => StoreHandle::new(Some(pool), StoreAnswered::of(DONE)),
-        None => {
-            let why = NotOpened::Opening(OpenError::NoMemory);
-            StoreHandle::new(None, answered(why))
-        }
-    }
+    let Some(pool) = pooled(alloc, store, opening.slots as usize, sessions) else {
+        let why = NotOpened::Opening(OpenError::NoMemory);
+        return StoreHandle::new(None, answered(why));
+    };
+    StoreHandle::new(Some(pool), StoreAnswered::of(DONE))
 }

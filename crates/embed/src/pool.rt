@@ -40,9 +40,7 @@ impl Pool {
         requires there { place < length self.now.places.items }
         ensures free { IsTrue result ↔ (IsOfNode self.now node place × IsSome (seated self.now place)) }
     {
-        self.slots > 0
-            && (place / self.slots) as u64 == node
-            && self.places[place].is_some()
+        self.slots > 0 && (place / self.slots) as u64 == node && self.places[place].is_some()
     }
 
     // The first place of a session of the node that is not attached.

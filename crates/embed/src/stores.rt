@@ -5,7 +5,7 @@ ghost use Rattle.embed.specs.Stores.{Closes, Finds, Gives, IsNumber, Takes};
 
 use crate::handles::{NAME_ROOM, SessionHandle, StoreHandle};
 use crate::statuses::{
-    DONE, IS_ATTACHED, IS_OUT, NOT_OPEN, NOT_OURS, NO_PROGRAM_SO_NAMED, NO_SESSION, NO_TEXT,
+    DONE, IS_ATTACHED, IS_OUT, NO_PROGRAM_SO_NAMED, NO_SESSION, NO_TEXT, NOT_OPEN, NOT_OURS,
 };
 
 // The number of the program that has the name in the words, or why there is none.

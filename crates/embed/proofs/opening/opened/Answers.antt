@@ -1,0 +1,10 @@
+use Rattle.std.proofs.Common.{◌∙◌}
+use Rattle.oplog.specs.declared.configuration.OpenError.TheVariants.{NoMemory}
+use Rattle.embed.specs.declared.opening.NotOpened.TheVariants.{Opening}
+use Rattle.embed.proofs.Opened.{is_closed}
+use Rattle.embed.proofs.opening.opened.Goals as goal
+
+pub returns-in_default : goal.returns-in_default
+returns-in_default c =
+    let new = c.new-in_default in
+    record { opened = is_closed c.args.opening.now new.result (Opening NoMemory) new.ensures.own tt (new.ensures.answered ∙ c.answered-in_default.ensures.words) }

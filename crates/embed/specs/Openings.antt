@@ -1,0 +1,90 @@
+-- What a store is opened with, what it is then, and why it is not opened.
+use Rattle.std.specs.Prelude.{◌≡◌, ℕ, ◌<◌, List, None, Some, Result, Ok, MatchOption, length, map}
+use Rattle.std.specs.List.{All}
+use Rattle.std.specs.Str.{IsUtf8}
+use Rattle.std.specs.Arc.{arc_value}
+use Rattle.insn.specs.Refusal.{fault_number as decode_number}
+use Rattle.verifier.specs.Numbers.{fault_number as verify_number}
+use Rattle.loader.specs.CatalogueView.{CatalogueView, with_places}
+use Rattle.loader.specs.Loading.{loaded}
+use Rattle.loader.specs.ProgramFiles.{Files}
+use Rattle.loader.specs.Refusal.{LoadFails, line_of, number_of}
+use Rattle.loader.specs.declared.refusals.LoadError.{LoadError}
+use Rattle.loader.specs.declared.refusals.LoadError.TheVariants as errors
+use Rattle.loader.specs.declared.refusals.LoadFault.{LoadFault}
+use Rattle.loader.specs.declared.refusals.LoadFault.TheVariants as faults
+use Rattle.loader.specs.declared.refusals.LoadRefusal.{LoadRefusal}
+use Rattle.oplog.specs.declared.configuration.Config.{Config}
+use Rattle.oplog.specs.declared.configuration.OpenError.TheVariants.{OutOfLimits, NoMemory}
+use Rattle.oplog.specs.Limits.{IsConfig, open_fault_number}
+use Rattle.store.specs.Sessions.{StoreView, fresh_session}
+use Rattle.store.specs.Shelving.{sessions_of}
+use Rattle.embed.specs.declared.handles.File.{File}
+use Rattle.embed.specs.declared.handles.Opening.{Opening as Sizes}
+use Rattle.embed.specs.declared.handles.StoreAnswered.{StoreAnswered}
+use Rattle.embed.specs.declared.handles.StoreHandle.{StoreHandle}
+use Rattle.embed.specs.declared.opening.NotOpened.{NotOpened}
+use Rattle.embed.specs.declared.opening.NotOpened.TheVariants.{NoText, Loading, Opening}
+use Rattle.embed.specs.declared.pool.Pool.{Pool}
+use Rattle.embed.specs.Statuses.{done, letter_C, letter_D, letter_O, letter_V, no_text, refusal}
+use Rattle.embed.specs.Stores.{seated}
+
+-- ---- what is asked
+
+abbrev pub config_of : Sizes → Config
+config_of o = record { nodes = o.nodes; slots = o.slots; window = o.window; limit = o.limit; spare = o.spare }
+
+-- the files' names and texts
+abbrev pub texts_of : List File → Files
+texts_of files = map (λ f. (f.name.now, f.text.now)) files
+
+-- what the manifest says
+abbrev pub reading_of : Sizes → Result CatalogueView LoadRefusal
+reading_of o = loaded o.manifest.now (texts_of o.files.now)
+
+-- the texts are UTF-8
+abbrev pub AreUtf8 : List File → Type 0
+AreUtf8 files = All (λ f. IsUtf8 f.name.now × IsUtf8 f.text.now) files
+
+-- ---- what is opened
+
+-- a store of these sizes, and of the maps and programs of the manifest
+pub record IsStoreOf (o : Sizes) (s : StoreView) : Type 0 where
+  pub config : s.config ≡ config_of o
+  pub catalogue : CatalogueView
+  pub read : reading_of o ≡ Ok catalogue
+  pub offers : s.catalogue ≡ with_places catalogue o.spare
+
+-- a pool of such a store, with so many sessions a node
+pub record IsPoolOf (o : Sizes) (p : Pool) : Type 0 where
+  pub store : IsStoreOf o (arc_value p.store)
+  pub slots : p.slots ≡ o.slots
+
+-- ---- why it is not opened
+
+abbrev pub IsReason : Sizes → NotOpened → Type 0
+IsReason o NoText = (IsUtf8 o.manifest.now × AreUtf8 o.files.now → ⊥)
+IsReason o (Loading why) = LoadFails why (reading_of o)
+IsReason o (Opening OutOfLimits) = IsConfig (config_of o) → ⊥
+IsReason o (Opening NoMemory) = Unit {0}
+
+-- of the program of a bad line: why the decoder or the verifier refuses it, and at which slot
+abbrev pub inner_in : LoadError → ℕ × ℕ
+inner_in errors.NoMemory = (0, 0)
+inner_in (errors.Refused bad) = elim bad.why as (λ _. ℕ × ℕ) [ faults.Decode why ↦ (refusal letter_D (decode_number why.why), why.slot) | faults.Verify why ↦ (refusal letter_V (verify_number why.why), why.slot) | _ ↦ (0, 0) ]
+
+abbrev pub only : ℕ → StoreAnswered
+only status = record { status = status; line = 0; inner = 0; slot = 0; number = 0 }
+
+-- the words that say it
+abbrev pub words_of : NotOpened → StoreAnswered
+words_of NoText = only no_text
+words_of (Opening why) = only (refusal letter_O (open_fault_number why))
+words_of (Loading why) = record { status = refusal letter_C (number_of why); line = line_of why; inner = (inner_in why).0; slot = (inner_in why).1; number = 0 }
+
+-- ---- the handle
+
+-- it is closed, and says why; or it is open, with a store as it was asked for
+abbrev pub IsOpened : Sizes → StoreHandle → Type 0
+IsOpened o after =
+    MatchOption after.own ((why : NotOpened) × IsReason o why × (after.answered ≡ words_of why)) (λ b. IsPoolOf o b.value × (after.answered ≡ only done))
