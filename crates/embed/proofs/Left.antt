@@ -1,6 +1,6 @@
 -- What is left of a handle that may have been ended.
 use Rattle.std.proofs.Common.{ℕ, None, Some, [], ◌∷◌, refl}
-use Rattle.embed.proofs.Steps.{ent, id⊢, full_share, Fml, fat, Val, ‵, ◌⊛◌, some, ◌$◌, ◌∵◌, !, qed, done, keep, use1, split, pick, Logic, sem, One, part_out, Ura, layout, RattleType, block_ptr, lies_at, room_at}
+use Rattle.embed.proofs.Steps.{ent, id⊢, full_share, Fml, fat, Val, ‵, ◌⊛◌, some, ◌$◌, !, qed, done, keep, use1, split, pick, Logic, sem, One, part_out, Ura, layout, RattleType, block_ptr, lies_at, room_at}
 use Rattle.embed.specs.declared.handles.StoreHandle.{StoreHandle}
 use Rattle.embed.specs.declared.handles.SessionHandle.{SessionHandle}
 use Rattle.embed.specs.contracts.handles.StoreHandle.{the_row as the_store}

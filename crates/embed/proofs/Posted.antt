@@ -1,7 +1,6 @@
 -- A call that posts an update and goes on with it.
 use Rattle.std.proofs.Common.{◌≡◌, ◌≤◌, [], length, refl, None, Some, Option, MatchOption, sym, ap, subst, ◌∙◌}
 use Rattle.oplog.specs.Operations.{Operation}
-use Rattle.combiner.specs.declared.slots.Reply.{Reply}
 use Rattle.combiner.specs.declared.slots.Reply.TheVariants.{Placed, Ended}
 use Rattle.replica.specs.StoreMeaning.{store_meaning}
 use Rattle.replica.specs.declared.refusals.StoreRefused.{StoreRefused}
@@ -15,7 +14,7 @@ use Rattle.store.specs.Polled.{HasPostedFor}
 use Rattle.store.proofs.StoreLaws.{store_laws}
 use Rattle.embed.specs.declared.attached.Told.{Told}
 use Rattle.embed.specs.declared.attached.Told.TheVariants.{Busy, Again, Answered, Refused, NotOpen, IsOut, NoWord}
-use Rattle.embed.specs.Told.{HasGrown, TellsNew, TellsOut, TellsPosting, TellsRefused, TellsUpdate}
+use Rattle.embed.specs.Told.{HasGrown, TellsOut, TellsPosting, TellsRefused, TellsUpdate}
 
 pub none_of : {A : Type 0} (x : Option A) → ((a : A) → x ≡ Some a → ⊥) → x ≡ None
 none_of None never = refl

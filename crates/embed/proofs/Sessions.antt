@@ -1,6 +1,5 @@
 -- What holds of each element of a list, by its index and by where it stands.
-use Rattle.std.proofs.Common.{◌≡◌, ℕ, zero, suc, ◌<◌, List, [], ◌∷◌, length, get_or, refl, subst, arith}
-use mathlib.Core.Option.{some-injective}
+use Rattle.std.proofs.Common.{ℕ, zero, suc, ◌<◌, List, [], ◌∷◌, length, get_or, refl}
 use native.Mathlib.Nat.{not-suc-le-zero, le_of_suc-le-suc}
 use Rattle.std.specs.List.{All}
 use Rattle.ownlock.specs.Seats.{At}

@@ -1,5 +1,5 @@
 -- What the words of a session's handle ask, and what is answered there.
-use Rattle.std.specs.Prelude.{◌≡◌, ℕ, List, None, Some, Option, MatchOption, take, if◌then◌else◌, ◌==◌, nat_le}
+use Rattle.std.specs.Prelude.{◌≡◌, ℕ, List, None, Option, MatchOption, take, if◌then◌else◌, ◌==◌, nat_le}
 use Rattle.oplog.specs.Operations.{Operation}
 use Rattle.insn.specs.Refusal.{fault_number as decode_number}
 use Rattle.verifier.specs.Numbers.{fault_number as verify_number}
@@ -9,7 +9,6 @@ use Rattle.replica.specs.Refusals.{early_refusal, store_fault_number}
 use Rattle.replica.specs.declared.refusals.StoreRefused.{StoreRefused}
 use Rattle.replica.specs.declared.refusals.StoreRefused.TheVariants.{NotDecoded, NotAccepted}
 use Rattle.store.specs.Sessions.{SessionView, StoreView, install_of, install_refused, op_of}
-use Rattle.embed.specs.declared.attached.Attached.{Attached}
 use Rattle.embed.specs.declared.attached.Told.{Told}
 use Rattle.embed.specs.declared.attached.Told.TheVariants.{Busy, Again, Answered as Answers, Refused, NotOpen, IsOut, NoWord}
 use Rattle.embed.specs.declared.handles.Asked.{Asked}

@@ -1,5 +1,5 @@
 -- What a store is opened with, what it is then, and why it is not opened.
-use Rattle.std.specs.Prelude.{◌≡◌, ℕ, ◌<◌, List, None, Some, Result, Ok, MatchOption, length, map}
+use Rattle.std.specs.Prelude.{◌≡◌, ℕ, List, Result, Ok, MatchOption, map}
 use Rattle.std.specs.List.{All}
 use Rattle.std.specs.Str.{IsUtf8}
 use Rattle.std.specs.Arc.{arc_value}
@@ -11,14 +11,12 @@ use Rattle.loader.specs.ProgramFiles.{Files}
 use Rattle.loader.specs.Refusal.{LoadFails, line_of, number_of}
 use Rattle.loader.specs.declared.refusals.LoadError.{LoadError}
 use Rattle.loader.specs.declared.refusals.LoadError.TheVariants as errors
-use Rattle.loader.specs.declared.refusals.LoadFault.{LoadFault}
 use Rattle.loader.specs.declared.refusals.LoadFault.TheVariants as faults
 use Rattle.loader.specs.declared.refusals.LoadRefusal.{LoadRefusal}
 use Rattle.oplog.specs.declared.configuration.Config.{Config}
 use Rattle.oplog.specs.declared.configuration.OpenError.TheVariants.{OutOfLimits, NoMemory}
 use Rattle.oplog.specs.Limits.{IsConfig, open_fault_number}
-use Rattle.store.specs.Sessions.{StoreView, fresh_session}
-use Rattle.store.specs.Shelving.{sessions_of}
+use Rattle.store.specs.Sessions.{StoreView}
 use Rattle.embed.specs.declared.handles.File.{File}
 use Rattle.embed.specs.declared.handles.Opening.{Opening as Sizes}
 use Rattle.embed.specs.declared.handles.StoreAnswered.{StoreAnswered}
@@ -27,7 +25,6 @@ use Rattle.embed.specs.declared.opening.NotOpened.{NotOpened}
 use Rattle.embed.specs.declared.opening.NotOpened.TheVariants.{NoText, Loading, Opening}
 use Rattle.embed.specs.declared.pool.Pool.{Pool}
 use Rattle.embed.specs.Statuses.{done, letter_C, letter_D, letter_O, letter_V, no_text, refusal}
-use Rattle.embed.specs.Stores.{seated}
 
 -- ---- what is asked
 

@@ -1,12 +1,11 @@
 -- What a call on a store's handle tells.
-use Rattle.std.specs.Prelude.{◌≡◌, ◌≢◌, ℕ, ◌<◌, ◌≤◌, ◌/◌, List, Result, Ok, Err, Bool, true, false, None, Some, Option, MatchOption, IsSome, length, get_or, set, take, is_some}
+use Rattle.std.specs.Prelude.{◌≡◌, ℕ, ◌<◌, ◌≤◌, ◌/◌, Result, Ok, Err, Bool, true, false, None, Some, Option, MatchOption, length, get_or, set, take, is_some}
 use Rattle.std.specs.List.{list_all}
 use Rattle.std.specs.Arc.{arc_value}
 use Rattle.std.specs.Str.{IsUtf8}
 use Rattle.std.specs.declared.alloc.Global.{Global}
 use Rattle.std.specs.declared.boxed.Box.{Box}
 use Rattle.loader.specs.CatalogueView.{number_named}
-use Rattle.accounts.specs.declared.sessions.Pending.{Pending}
 use Rattle.embed.specs.declared.attached.Attached.{Attached}
 use Rattle.embed.specs.declared.handles.StoreAnswered.{StoreAnswered}
 use Rattle.embed.specs.declared.handles.StoreHandle.{StoreHandle}

@@ -1,5 +1,5 @@
 -- What a session tells of an update or a read that is asked of it.
-use Rattle.std.specs.Prelude.{◌≡◌, ◌≤◌, length, Some, None, Ok, Option, MatchOption}
+use Rattle.std.specs.Prelude.{◌≡◌, ◌≤◌, length, Some, Ok, Option, MatchOption}
 use Rattle.oplog.specs.Operations.{Operation}
 use Rattle.combiner.specs.declared.slots.Reply.TheVariants.{Placed, Ended}
 use Rattle.replica.specs.StoreMeaning.{store_meaning}

@@ -1,5 +1,5 @@
 -- `nrbpf_raw_open` writes the handle that `opened` gives into the room.
-use Rattle.embed.proofs.Steps.{[], ◌∷◌, ◌++◌, refl, proved, full_share, id⊢, ex, ex_i, ex_e, snd∗, sep, emp, fact, fact_i, ftrue, named, vunit, tables, WpFn, ‵, raw, ◌⊛◌, some, later, prop, ◌$◌, ◌∵◌, !, qed, done, move, drop, use0, use1, use2, split, join, feq_i, pick, await, regoal, suffices, group, sem, enter, of_opd, unit_lit, init, stop, no_more, and_then, assigns, returns, alloc_all, pass_all, free_all, look_at, get, through, sets, lands_as, part_in, RefOf, yes, Is, shows, mem, Ptr, RawPtr, block_ptr, lies_at, room_at, in_a_block, rawptr_vals, rawptr_Tells, ShrRef, shr_vals, shr_Tells, named_lft, plain, nothing, heard, peeks, val, tells, calls_at, ensured, lasts, alive, triple_of, Stays, walk_of, stay_dropped, Goes-dropped, ends_at, framed}
+use Rattle.embed.proofs.Steps.{[], ◌∷◌, ◌++◌, refl, proved, full_share, id⊢, ex, ex_i, ex_e, snd∗, sep, emp, fact, fact_i, ftrue, named, vunit, tables, WpFn, ‵, raw, ◌⊛◌, some, later, prop, ◌$◌, ◌∵◌, !, qed, done, move, drop, use0, use1, use2, split, join, feq_i, pick, await, regoal, suffices, group, sem, enter, of_opd, unit_lit, init, stop, no_more, and_then, assigns, returns, alloc_all, pass_all, free_all, look_at, get, through, sets, lands_as, part_in, RefOf, yes, Is, shows, Ptr, RawPtr, block_ptr, lies_at, room_at, in_a_block, rawptr_vals, rawptr_Tells, ShrRef, shr_vals, shr_Tells, named_lft, plain, nothing, heard, peeks, val, tells, calls_at, ensured, lasts, alive, triple_of, Stays, walk_of, stay_dropped, Goes-dropped, ends_at, framed}
 use Rattle.embed.specs.Openings.{IsOpened}
 use Rattle.embed.specs.contracts.handles.StoreHandle.{the_row as R}
 use Rattle.embed.proofs.handles.StoreHandle.TheLaws as laws
