@@ -3,3 +3,4 @@ mod Left
 mod Sessions
 mod Posted
 mod Opened
+mod Seats

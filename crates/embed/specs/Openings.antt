@@ -1,5 +1,5 @@
 -- What a store is opened with, what it is then, and why it is not opened.
-use Rattle.std.specs.Prelude.{◌≡◌, ℕ, List, Result, Ok, MatchOption, map}
+use Rattle.std.specs.Prelude.{◌≡◌, ℕ, ◌<◌, List, None, Option, Result, Ok, MatchOption, get_or, length, map}
 use Rattle.std.specs.List.{All}
 use Rattle.std.specs.Str.{IsUtf8}
 use Rattle.std.specs.Arc.{arc_value}
@@ -16,7 +16,11 @@ use Rattle.loader.specs.declared.refusals.LoadRefusal.{LoadRefusal}
 use Rattle.oplog.specs.declared.configuration.Config.{Config}
 use Rattle.oplog.specs.declared.configuration.OpenError.TheVariants.{OutOfLimits, NoMemory}
 use Rattle.oplog.specs.Limits.{IsConfig, open_fault_number}
-use Rattle.store.specs.Sessions.{StoreView}
+use Rattle.store.specs.Sessions.{SessionView, StoreView, fresh_session, fresh_sessions}
+use Rattle.store.specs.Shelving.{sessions_of}
+use Rattle.std.specs.declared.alloc.Global.{Global}
+use Rattle.std.specs.declared.boxed.Box.{Box}
+use Rattle.embed.specs.declared.attached.Attached.{Attached}
 use Rattle.embed.specs.declared.handles.File.{File}
 use Rattle.embed.specs.declared.handles.Opening.{Opening as Sizes}
 use Rattle.embed.specs.declared.handles.StoreAnswered.{StoreAnswered}
@@ -25,6 +29,7 @@ use Rattle.embed.specs.declared.opening.NotOpened.{NotOpened}
 use Rattle.embed.specs.declared.opening.NotOpened.TheVariants.{NoText, Loading, Opening}
 use Rattle.embed.specs.declared.pool.Pool.{Pool}
 use Rattle.embed.specs.Statuses.{done, letter_C, letter_D, letter_O, letter_V, no_text, refusal}
+use Rattle.embed.specs.Views.{AttachedView}
 
 -- ---- what is asked
 
@@ -52,10 +57,23 @@ pub record IsStoreOf (o : Sizes) (s : StoreView) : Type 0 where
   pub read : reading_of o ≡ Ok catalogue
   pub offers : s.catalogue ≡ with_places catalogue o.spare
 
--- a pool of such a store, with so many sessions a node
+-- the first sessions of a store, so many, and what is known of the session k
+abbrev pub fresh_of : StoreView → ℕ → List SessionView
+fresh_of s n = fresh_sessions s.id s.config s.catalogue 0 n
+
+abbrev pub fresh_seat : StoreView → ℕ → AttachedView
+fresh_seat s k = record { store = s; place = k; session = fresh_session s.id s.config s.catalogue k }
+
+-- at this place stands the session of its number
+abbrev pub IsSeat : StoreView → List (Option (Box Attached Global)) → ℕ → Type 0
+IsSeat s places k = MatchOption (get_or places k None) ⊥ (λ a. a.value ≡ fresh_seat s k)
+
+-- a pool of such a store, with so many sessions a node, which are all there
 pub record IsPoolOf (o : Sizes) (p : Pool) : Type 0 where
   pub store : IsStoreOf o (arc_value p.store)
   pub slots : p.slots ≡ o.slots
+  pub count : length p.places.items ≡ sessions_of (config_of o)
+  pub seats : (k : ℕ) → k < sessions_of (config_of o) → IsSeat (arc_value p.store) p.places.items k
 
 -- ---- why it is not opened
 

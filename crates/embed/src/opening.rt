@@ -1,11 +1,12 @@
 // Opening a store from texts.
 
-ghost use Rattle.std.specs.Prelude.{◌≡◌, All, IfNone, IfOk, IfSome, MatchOption, MatchResult, Ok};
+ghost use Rattle.std.specs.Prelude.{◌≡◌, ℕ, ◌<◌, Some, length, set, All, IfNone, IfOk, IfSome, MatchOption, MatchResult, Ok};
 ghost use Rattle.std.specs.Arc.{arc_value};
 ghost use Rattle.std.specs.Str.{IsUtf8};
 ghost use Rattle.loader.specs.ProgramFiles.{files_of};
 ghost use Rattle.store.specs.Sessions.{IsOf};
-ghost use Rattle.embed.specs.Openings.{AreUtf8, IsOpened, IsReason, IsStoreOf, inner_in, only, reading_of, texts_of, words_of};
+ghost use Rattle.store.specs.Shelving.{sessions_of};
+ghost use Rattle.embed.specs.Openings.{AreUtf8, IsOpened, IsReason, IsSeat, IsStoreOf, config_of, fresh_of, inner_in, only, reading_of, texts_of, words_of};
 
 use crate::attached::Attached;
 use crate::handles::{File, Opening, StoreAnswered, StoreHandle};
@@ -80,6 +81,8 @@ fn loaded(alloc: Global, opening: &Opening) -> Result<Catalogue, NotOpened>
 fn opened_store(alloc: Global, opening: &Opening) -> Result<(Store, Vec<Session>), NotOpened>
     ensures opened { MatchResult result (λ t. IsStoreOf opening.now t.0) (λ why. IsReason opening.now why) }
     ensures own { IfOk result (λ t. All (IsOf t.0) t.1.items) }
+    ensures fresh { IfOk result (λ t. t.1.items ≡ fresh_of t.0 (length t.1.items)) }
+    ensures count { IfOk result (λ t. length t.1.items ≡ sessions_of (config_of opening.now)) }
 {
     let catalogue = match loaded(alloc, opening) {
         Ok(catalogue) => catalogue,
@@ -107,9 +110,11 @@ fn let_go(mut sessions: Vec<Session>) {
 }
 
 // So many places with nothing there.
-fn empty_places(alloc: Global, count: usize) -> Result<Vec<Option<Box<Attached>>>, AllocError> {
+fn empty_places(alloc: Global, count: usize) -> Result<Vec<Option<Box<Attached>>>, AllocError>
+    ensures count { IfOk result (λ v. length v.items ≡ count) }
+{
     let mut places = Vec::new(alloc);
-    for _ in 0..count {
+    while places.len() < count {
         places.push(None)?;
     }
     Ok(places)
@@ -123,6 +128,7 @@ fn seated(
     session: Session,
 ) -> Result<Box<Attached>, AllocError>
     requires own { IsOf (arc_value store.now) session }
+    ensures seat { IfOk result (λ b. b.value ≡ record { store = arc_value store.now; place = place; session = session }) }
 {
     let session = Polled::new(session);
     let store = Arc::try_clone(store)?;
@@ -130,10 +136,11 @@ fn seated(
 }
 
 // Puts a session at its place.
-fn put(places: &mut Vec<Option<Box<Attached>>>, place: usize, attached: Box<Attached>) {
-    if place < places.len() {
-        places[place] = Some(attached);
-    }
+fn put(places: &mut Vec<Option<Box<Attached>>>, place: usize, attached: Box<Attached>)
+    requires there { place < length places.old.items }
+    ensures put { places.new.items ≡ set places.old.items place (Some attached) }
+{
+    places[place] = Some(attached);
 }
 
 // A place for each session, with it there.
@@ -144,7 +151,10 @@ fn pooled(
     mut sessions: Vec<Session>,
 ) -> Option<Box<Pool>>
     requires own { All (IsOf store) sessions.items }
+    requires fresh { sessions.items ≡ fresh_of store (length sessions.items) }
     ensures store { IfSome result (λ b. (arc_value b.value.store ≡ store) × (b.value.slots ≡ slots)) }
+    ensures count { IfSome result (λ b. length b.value.places.items ≡ length sessions.items) }
+    ensures seats { IfSome result (λ b. (k : ℕ) → k < length sessions.items → IsSeat store b.value.places.items k) }
 {
     let Ok(store) = Arc::new(alloc, store) else {
         let_go(sessions);
