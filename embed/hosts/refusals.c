@@ -1,0 +1,399 @@
+// refusals.c: what a store refuses, each with its status; and then nothing has changed: neither the store nor an answer nor a handle.
+#include "fixture.h"
+#include <pthread.h>
+#include <stdatomic.h>
+#include <time.h>
+
+static counter files;
+static int refused;                             // how many refusals were asked for
+
+// Room for a store or a session in which none was ever opened.
+static _Alignas(64) uint64_t never_opened[64];
+
+// ---- Opening
+
+// What a refused opening tells.
+typedef struct fault {
+    nrbpf_status status, inner;
+    uint32_t line, slot;
+} fault;
+
+// A refusal writes no handle, and nothing but the error.
+static void refuse(const nrbpf_config *config, const char *manifest, size_t len, const nrbpf_file *given, size_t count, fault wanted) {
+    nrbpf_store *const untouched = (nrbpf_store *)never_opened, *store = untouched;
+    nrbpf_error why = {77, 77, 77, 77};
+    EXPECT_STATUS(nrbpf_open(config, manifest, len, given, count, &store, &why), wanted.status);
+    EXPECT(why.status == wanted.status && why.inner == wanted.inner && why.line == wanted.line && why.slot == wanted.slot);
+    EXPECT_STATUS(nrbpf_open(config, manifest, len, given, count, &store, NULL), wanted.status);
+    EXPECT(store == untouched);
+    refused++;
+}
+
+static void refuse_config(nrbpf_config config, nrbpf_status wanted) {
+    refuse(&config, files.manifest, strlen(files.manifest), files.files, programs, (fault){.status = wanted});
+}
+
+// A manifest with the counter's files and a file `other` of this text.
+static void refuse_manifest(const char *manifest, const char *other, fault wanted) {
+    nrbpf_config config = NRBPF_CONFIG(1, 1);
+    nrbpf_file given[] = {files.files[bump], files.files[peek], file_of("other", other)};
+    refuse(&config, manifest, strlen(manifest), given, 3, wanted);
+}
+
+static void configurations(void) {
+    const nrbpf_config good = NRBPF_CONFIG(1, 1);
+    nrbpf_config wrong = good;
+    const uint32_t versions[] = {0, NRBPF_VERSION - 1000, NRBPF_VERSION + 1000, NRBPF_VERSION + 1, UINT32_MAX};
+    for (int i = 0; i < 5; i++) {
+        wrong.version = versions[i];
+        refuse_config(wrong, NRBPF_H8);
+    }
+    const uint32_t outside[][5] = {{0, 1, 16, 1, 0}, {9, 1, 16, 1, 0}, {1, 0, 16, 1, 0}, {1, 17, 16, 1, 0}, {1, 1, 15, 1, 0}, {1, 1, 4097, 1, 0},
+                                   {1, 1, 16, 0, 0}, {1, 1, 16, 1000001, 0}, {1, 1, 16, 1, 17}, {UINT32_MAX, UINT32_MAX, 16, 1, 0}};
+    for (int i = 0; i < 10; i++) {
+        const uint32_t *it = outside[i];
+        refuse_config((nrbpf_config){NRBPF_VERSION, it[0], it[1], it[2], it[3], it[4]}, NRBPF_O1);
+    }
+}
+
+static void manifests(void) {
+    refuse_manifest("", "", (fault){NRBPF_C1, 0, 1, 0});
+    refuse_manifest("map array 08 16\n", "", (fault){NRBPF_C1, 0, 1, 0});
+    refuse_manifest("map array 8 16\nprogram it update 4 none", "", (fault){NRBPF_C1, 0, 2, 0});
+    refuse_manifest("map array 8 16\nprogram it update 4 other\n", "b7 0", (fault){NRBPF_C2, 0, 2, 0});
+    refuse_manifest("map array 8 16\nprogram it update 4 other\n", "", (fault){NRBPF_C3, NRBPF_REFUSAL('D', 2), 2, 0});
+    refuse_manifest("map array 8 16\nprogram it update 4 other\n", "9500000000000000", (fault){NRBPF_C4, NRBPF_REFUSAL('V', 6), 2, 0});
+    refuse_manifest("map array 8 16\nprogram it read 4 " BUMP "\n", "", (fault){NRBPF_C4, NRBPF_REFUSAL('V', 18), 2, 7});
+    refuse_manifest("map array 256 65536\nmap array 1 1\n", "", (fault){NRBPF_C5, 0, 2, 0});
+    refuse_manifest("map array \xff 16\n", "", (fault){.status = NRBPF_H4});
+    refuse_manifest(files.manifest, "b7 \xc3", (fault){.status = NRBPF_H4});
+}
+
+static void null_pointers_of_open(void) {
+    const nrbpf_config config = NRBPF_CONFIG(1, 1);
+    const size_t len = strlen(files.manifest);
+    const nrbpf_file no_name = {NULL, 1, "", 0}, no_text = {"other", 5, NULL, 1};
+    const fault null = {.status = NRBPF_H7};
+    refuse(NULL, files.manifest, len, files.files, programs, null);
+    refuse(&config, NULL, 1, files.files, programs, null);
+    refuse(&config, files.manifest, len, NULL, 1, null);
+    refuse(&config, files.manifest, len, &no_name, 1, null);
+    refuse(&config, files.manifest, len, &no_text, 1, null);
+    refuse(&config, NULL, 0, NULL, 0, (fault){NRBPF_C1, 0, 1, 0});      // no text at all is the empty one
+    EXPECT_STATUS(nrbpf_open(&config, files.manifest, len, files.files, programs, NULL, NULL), NRBPF_H7);
+    refused++;
+}
+
+// A name that is not UTF-8, and a manifest whose last line has no line feed, which is good.
+static void names_and_ends(void) {
+    nrbpf_config config = NRBPF_CONFIG(1, 1);
+    nrbpf_file given[] = {files.files[bump], files.files[peek], file_of("oth\xe9r", "")};
+    refuse(&config, files.manifest, strlen(files.manifest), given, 3, (fault){.status = NRBPF_H4});
+    nrbpf_store *opened;
+    nrbpf_error why = {77, 77, 77, 77};
+    size_t len = strlen(files.manifest) - 1;
+    EXPECT(files.manifest[len] == '\n');
+    EXPECT_STATUS(nrbpf_open(&config, files.manifest, len, files.files, programs, &opened, &why), NRBPF_OK);
+    EXPECT(why.status == 77 && why.inner == 77 && why.line == 77 && why.slot == 77);
+    EXPECT_STATUS(nrbpf_close(opened), NRBPF_OK);
+}
+
+// ---- A store of two nodes with two sessions each, whose counter 3 stands at 1
+
+static nrbpf_store *store;
+static nrbpf_session *sessions[2][2];
+static const uint8_t argument[65] = {3};
+
+// No call that is refused has done anything: the history has one update, and counter 3 is 1, on both nodes.
+static void expect_nothing_changed(void) {
+    for (int node = 0; node < 2; node++) {
+        nrbpf_answer answer;
+        EXPECT_STATUS(nrbpf_read(sessions[node][0], peek, argument, 4, &answer), NRBPF_OK);
+        EXPECT(answer.place == 1 && answer.reply == 1);
+    }
+    refused++;
+}
+
+#define REFUSE(call, wanted)               \
+    do {                                   \
+        EXPECT_STATUS(call, wanted);       \
+        expect_nothing_changed();          \
+    } while (0)
+
+typedef nrbpf_status run(nrbpf_session *, uint16_t, const void *, size_t, nrbpf_answer *);
+
+// What each of the four calls that run a program refuses, and that it writes no answer then.
+static void runs(run *call, uint16_t program, uint16_t of_other_mode) {
+    nrbpf_session *session = sessions[0][0];
+    nrbpf_answer answer = {77, 77};
+    const size_t lengths[] = {0, 3, 5, 64, 65, SIZE_MAX};
+    for (int i = 0; i < 6; i++) REFUSE(call(session, program, argument, lengths[i], &answer), NRBPF_S2);
+    REFUSE(call(session, program, NULL, 0, &answer), NRBPF_S2);
+    REFUSE(call(session, of_other_mode, argument, 4, &answer), NRBPF_S3);
+    REFUSE(call(session, programs + 1, argument, 4, &answer), NRBPF_S1);        // behind the place that is spare
+    REFUSE(call(session, UINT16_MAX, argument, 4, &answer), NRBPF_S1);
+    REFUSE(call(session, program, NULL, 4, &answer), NRBPF_H7);
+    REFUSE(call(session, program, argument, 4, NULL), NRBPF_H7);
+    REFUSE(call(NULL, program, argument, 4, &answer), NRBPF_H7);
+    REFUSE(call((nrbpf_session *)never_opened, program, argument, 4, &answer), NRBPF_H2);
+    EXPECT(answer.place == 77 && answer.reply == 77);
+}
+
+typedef nrbpf_status install(nrbpf_session *, uint32_t, uint32_t, const void *, size_t, nrbpf_answer *, nrbpf_error *);
+
+static void refuse_install(install *call, uint32_t mode, uint32_t argument_len, const void *bytes, size_t len, fault wanted) {
+    nrbpf_answer answer = {77, 77};
+    nrbpf_error why = {77, 77, 77, 77};
+    REFUSE(call(sessions[0][0], mode, argument_len, bytes, len, &answer, &why), wanted.status);
+    EXPECT(why.status == wanted.status && why.inner == wanted.inner && why.line == 0 && why.slot == wanted.slot);
+    REFUSE(call(sessions[0][0], mode, argument_len, bytes, len, &answer, NULL), wanted.status);
+    EXPECT(answer.place == 77 && answer.reply == 77);
+}
+
+static void installs(install *call) {
+    static const uint8_t nothing_in_r0[] = {0x95, 0, 0, 0, 0, 0, 0, 0}, zeros[200];
+    static const uint8_t opcode_13[] = {0xb7, 0, 0, 0, 5, 0, 0, 0, 0x0d, 0, 0, 0, 0, 0, 0, 0};
+    nrbpf_answer answer = {77, 77};
+    refuse_install(call, NRBPF_MODE_UPDATE, 4, zeros, 193, (fault){.status = NRBPF_S6});
+    refuse_install(call, NRBPF_MODE_UPDATE, 4, zeros, SIZE_MAX, (fault){.status = NRBPF_S6});
+    refuse_install(call, NRBPF_MODE_READ, 65, nothing_in_r0, 8, (fault){.status = NRBPF_S6});
+    refuse_install(call, NRBPF_MODE_READ, UINT32_MAX, nothing_in_r0, 8, (fault){.status = NRBPF_S6});
+    refuse_install(call, NRBPF_MODE_READ, 0, NULL, 0, (fault){NRBPF_S7, NRBPF_REFUSAL('D', 2), 0, 0});
+    refuse_install(call, NRBPF_MODE_READ, 0, opcode_13, 16, (fault){NRBPF_S7, NRBPF_REFUSAL('D', 4), 0, 1});
+    refuse_install(call, NRBPF_MODE_READ, 0, nothing_in_r0, 8, (fault){NRBPF_S8, NRBPF_REFUSAL('V', 6), 0, 0});
+    refuse_install(call, 2, 0, nothing_in_r0, 8, (fault){.status = NRBPF_H5});
+    refuse_install(call, NRBPF_MODE_READ, 0, NULL, 8, (fault){.status = NRBPF_H7});
+    REFUSE(call(sessions[0][0], NRBPF_MODE_READ, 0, nothing_in_r0, 8, NULL, NULL), NRBPF_H7);
+    REFUSE(call(NULL, NRBPF_MODE_READ, 0, nothing_in_r0, 8, &answer, NULL), NRBPF_H7);
+    REFUSE(call((nrbpf_session *)never_opened, NRBPF_MODE_READ, 0, nothing_in_r0, 8, &answer, NULL), NRBPF_H2);
+}
+
+static void names(void) {
+    uint16_t number = 77;
+    char long_name[400];
+    memset(long_name, 'a', sizeof long_name);
+    REFUSE(nrbpf_program_number(store, "nope", 4, &number), NRBPF_S1);
+    REFUSE(nrbpf_program_number(store, "bum", 3, &number), NRBPF_S1);
+    REFUSE(nrbpf_program_number(store, "bump ", 5, &number), NRBPF_S1);
+    REFUSE(nrbpf_program_number(store, NULL, 0, &number), NRBPF_S1);
+    REFUSE(nrbpf_program_number(store, long_name, sizeof long_name, &number), NRBPF_S1);
+    REFUSE(nrbpf_program_number(store, "b\xff", 2, &number), NRBPF_H4);
+    REFUSE(nrbpf_program_number(store, NULL, 4, &number), NRBPF_H7);
+    REFUSE(nrbpf_program_number(NULL, "bump", 4, &number), NRBPF_H7);
+    REFUSE(nrbpf_program_number(store, "bump", 4, NULL), NRBPF_H7);
+    REFUSE(nrbpf_program_number((nrbpf_store *)never_opened, "bump", 4, &number), NRBPF_H2);
+    EXPECT(number == 77);
+    EXPECT_STATUS(nrbpf_program_number(store, "peek", 4, &number), NRBPF_OK);
+    EXPECT(number == peek);
+}
+
+// All four sessions are attached.
+static void attaching(void) {
+    nrbpf_session *const untouched = (nrbpf_session *)never_opened, *one = untouched;
+    nrbpf_answer answer = {77, 77};
+    REFUSE(nrbpf_attach(store, 0, &one), NRBPF_H1);
+    REFUSE(nrbpf_attach(store, 1, &one), NRBPF_H1);
+    REFUSE(nrbpf_attach(store, 2, &one), NRBPF_H1);
+    REFUSE(nrbpf_attach(store, UINT32_MAX, &one), NRBPF_H1);
+    REFUSE(nrbpf_attach(NULL, 0, &one), NRBPF_H7);
+    REFUSE(nrbpf_attach(store, 0, NULL), NRBPF_H7);
+    REFUSE(nrbpf_attach((nrbpf_store *)never_opened, 0, &one), NRBPF_H2);
+    REFUSE(nrbpf_detach(NULL), NRBPF_H7);
+    REFUSE(nrbpf_detach((nrbpf_session *)never_opened), NRBPF_H2);
+    EXPECT(one == untouched);
+
+    EXPECT_STATUS(nrbpf_detach(sessions[1][1]), NRBPF_OK);
+    REFUSE(nrbpf_detach(sessions[1][1]), NRBPF_H2);
+    REFUSE(nrbpf_update(sessions[1][1], bump, argument, 4, &answer), NRBPF_H2);
+    REFUSE(nrbpf_read(sessions[1][1], peek, argument, 4, &answer), NRBPF_H2);
+    EXPECT_STATUS(nrbpf_attach(store, 1, &sessions[1][1]), NRBPF_OK);
+    EXPECT(answer.place == 77 && answer.reply == 77);
+}
+
+static void closing(void) {
+    REFUSE(nrbpf_close(store), NRBPF_S5);
+    REFUSE(nrbpf_close(NULL), NRBPF_H7);
+    REFUSE(nrbpf_close((nrbpf_store *)never_opened), NRBPF_H2);
+    for (int i = 1; i < 4; i++) EXPECT_STATUS(nrbpf_detach(sessions[i % 2][i / 2]), NRBPF_OK);
+    EXPECT_STATUS(nrbpf_close(store), NRBPF_S5);
+    EXPECT_STATUS(nrbpf_detach(sessions[0][0]), NRBPF_OK);
+    EXPECT_STATUS(nrbpf_close(store), NRBPF_OK);
+}
+
+static void calls(void) {
+    nrbpf_config config = NRBPF_CONFIG(2, 2);
+    nrbpf_answer answer;
+    config.spare = 1;
+    store = opened(&config);
+    for (uint32_t i = 0; i < 4; i++) EXPECT_STATUS(nrbpf_attach(store, i % 2, &sessions[i % 2][i / 2]), NRBPF_OK);
+    EXPECT_STATUS(nrbpf_update(sessions[1][1], bump, argument, 4, &answer), NRBPF_OK);
+    EXPECT(answer.place == 0 && answer.reply == 1);
+    runs(nrbpf_update, bump, peek);
+    runs(nrbpf_try_update, bump, peek);
+    runs(nrbpf_read, peek, bump);
+    runs(nrbpf_try_read, peek, bump);
+    installs(nrbpf_install);
+    installs(nrbpf_try_install);
+    names();
+    attaching();
+    closing();
+}
+
+// ---- A history that is full, and one with no place for a program
+
+static void full_history(void) {
+    nrbpf_config config = NRBPF_CONFIG(1, 1);
+    nrbpf_session *session;
+    nrbpf_answer answer;
+    static const uint8_t five[] = {0xb7, 0, 0, 0, 5, 0, 0, 0, 0x95, 0, 0, 0, 0, 0, 0, 0};
+    config.limit = 4;
+    config.spare = 1;
+    store = opened(&config);
+    EXPECT_STATUS(nrbpf_attach(store, 0, &session), NRBPF_OK);
+    EXPECT_STATUS(nrbpf_install(session, NRBPF_MODE_READ, 0, five, sizeof five, &answer, NULL), NRBPF_OK);
+    EXPECT(answer.place == 0 && answer.reply == programs);
+    EXPECT_STATUS(nrbpf_install(session, NRBPF_MODE_READ, 0, five, sizeof five, &answer, NULL), NRBPF_OK);
+    EXPECT(answer.place == 1 && answer.reply == UINT64_MAX - 6);
+    EXPECT_STATUS(nrbpf_read(session, programs, NULL, 0, &answer), NRBPF_OK);
+    EXPECT(answer.place == 2 && answer.reply == 5);
+    for (uint64_t place = 2; place < 4; place++) {
+        EXPECT_STATUS(nrbpf_update(session, bump, argument, 4, &answer), NRBPF_OK);
+        EXPECT(answer.place == place && answer.reply == place - 1);
+    }
+    for (int again = 0; again < 2; again++) {
+        answer = (nrbpf_answer){77, 77};
+        EXPECT_STATUS(nrbpf_update(session, bump, argument, 4, &answer), NRBPF_S4);
+        EXPECT_STATUS(nrbpf_try_update(session, bump, argument, 4, &answer), NRBPF_S4);
+        EXPECT_STATUS(nrbpf_install(session, NRBPF_MODE_READ, 0, five, sizeof five, &answer, NULL), NRBPF_S4);
+        EXPECT(answer.place == 77 && answer.reply == 77);
+        EXPECT_STATUS(nrbpf_read(session, peek, argument, 4, &answer), NRBPF_OK);
+        EXPECT(answer.place == 4 && answer.reply == 2);
+        refused += 3;
+    }
+    EXPECT_STATUS(nrbpf_detach(session), NRBPF_OK);
+    EXPECT_STATUS(nrbpf_close(store), NRBPF_OK);
+}
+
+// ---- While an update is out
+
+enum { OTHERS = 3, MOST_TRIED = 50000, MOST_COUNTED = 300000 };
+static pthread_barrier_t start;
+static atomic_int stopped;
+static uint64_t counted[OTHERS];
+
+static void *count(void *at) {
+    nrbpf_session *session;
+    nrbpf_answer answer;
+    EXPECT_STATUS(nrbpf_attach(store, 0, &session), NRBPF_OK);
+    pthread_barrier_wait(&start);
+    uint64_t made = 0;
+    for (; !stopped && made < MOST_COUNTED; made++) EXPECT_STATUS(nrbpf_update(session, bump, argument, 4, &answer), NRBPF_OK);
+    EXPECT_STATUS(nrbpf_detach(session), NRBPF_OK);
+    *(uint64_t *)at = made;
+    return NULL;
+}
+
+// Tries updates beside threads that are in the way, until one is posted and not answered. Adds how many were answered before.
+static int is_posted(nrbpf_session *session, uint64_t *made) {
+    nrbpf_answer answer;
+    for (uint64_t tried = 0; tried < MOST_TRIED;) {
+        nrbpf_status told = nrbpf_try_update(session, bump, argument, 4, &answer);
+        if (told == NRBPF_POSTED) return 1;
+        if (told == NRBPF_BUSY) continue;
+        EXPECT_STATUS(told, NRBPF_OK);
+        tried++;
+        ++*made;
+    }
+    return 0;
+}
+
+static void refuse_others(nrbpf_session *session) {
+    static const uint8_t other[4] = {4}, exits[] = {0x95, 0, 0, 0, 0, 0, 0, 0};
+    nrbpf_answer answer = {77, 77};
+    EXPECT_STATUS(nrbpf_try_read(session, peek, argument, 4, &answer), NRBPF_H3);
+    EXPECT_STATUS(nrbpf_read(session, peek, argument, 4, &answer), NRBPF_H3);
+    EXPECT_STATUS(nrbpf_try_update(session, bump, other, 4, &answer), NRBPF_H3);
+    EXPECT_STATUS(nrbpf_update(session, bump, other, 4, &answer), NRBPF_H3);
+    EXPECT_STATUS(nrbpf_try_install(session, NRBPF_MODE_READ, 0, exits, 8, &answer, NULL), NRBPF_H3);
+    EXPECT_STATUS(nrbpf_detach(session), NRBPF_H3);
+    EXPECT(answer.place == 77 && answer.reply == 77);
+    refused += 6;
+}
+
+// Whether an update was out at all: that takes threads which are in each other's way.
+static int while_out(void) {
+    nrbpf_config config = NRBPF_CONFIG(1, OTHERS + 1);
+    nrbpf_session *session;
+    nrbpf_answer answer;
+    pthread_t threads[OTHERS];
+    uint64_t made = 0;
+    store = opened(&config);
+    stopped = 0;
+    EXPECT(pthread_barrier_init(&start, NULL, OTHERS + 1) == 0);
+    EXPECT_STATUS(nrbpf_attach(store, 0, &session), NRBPF_OK);
+    for (int i = 0; i < OTHERS; i++) EXPECT(pthread_create(&threads[i], NULL, count, &counted[i]) == 0);
+    pthread_barrier_wait(&start);
+    int posted = is_posted(session, &made);
+    stopped = 1;
+    if (posted) {
+        refuse_others(session);
+        EXPECT_STATUS(nrbpf_update(session, bump, argument, 4, &answer), NRBPF_OK);
+        made++;
+    }
+    for (int i = 0; i < OTHERS; i++) {
+        EXPECT(pthread_join(threads[i], NULL) == 0);
+        made += counted[i];
+    }
+    pthread_barrier_destroy(&start);
+    EXPECT_STATUS(nrbpf_read(session, peek, argument, 4, &answer), NRBPF_OK);
+    EXPECT(answer.place == made && answer.reply == made);
+    EXPECT_STATUS(nrbpf_detach(session), NRBPF_OK);
+    EXPECT_STATUS(nrbpf_close(store), NRBPF_OK);
+    return posted;
+}
+
+// ---- Texts
+
+static void texts(void) {
+    const char *const line = "line 2: C4: the program is not accepted: slot 7: V18: a program in Read mode changes a map";
+    nrbpf_error why = {NRBPF_C4, NRBPF_REFUSAL('V', 18), 2, 7};
+    char text[600], cut[10] = "untouched";
+    EXPECT(nrbpf_explain(&why, text, sizeof text) == strlen(line) && strcmp(text, line) == 0);
+    EXPECT(nrbpf_explain(&why, cut, 5) == strlen(line) && strcmp(cut, "line") == 0);
+    EXPECT(nrbpf_explain(&why, NULL, 0) == strlen(line));
+    EXPECT(nrbpf_explain(NULL, text, sizeof text) > 0 && strcmp(text, nrbpf_status_text(NRBPF_H7)) == 0);
+    why = (nrbpf_error){NRBPF_S7, NRBPF_REFUSAL('D', 2), 0, 0};
+    EXPECT(nrbpf_explain(&why, text, sizeof text) && strcmp(text, "S7: the bytes are no program: slot 0: D2: there are no bytes") == 0);
+    why = (nrbpf_error){.status = NRBPF_S1};
+    EXPECT(nrbpf_explain(&why, text, sizeof text) && strcmp(text, "S1: unknown program") == 0);
+
+    // Every refusal has a text of its own that begins with its letter and number, and nothing else has one.
+    static const struct { char letter; int first, last; } letters[] = {{'C', 1, 6}, {'O', 1, 2}, {'S', 1, 8}, {'H', 1, 8}, {'D', 0, 9}, {'V', 0, 18}};
+    const char *unknown = nrbpf_status_text(UINT32_MAX);
+    for (int i = 0; i < 6; i++) {
+        for (int number = 0; number < 256; number++) {
+            const char *told = nrbpf_status_text(NRBPF_REFUSAL(letters[i].letter, number));
+            snprintf(text, sizeof text, "%c%d: ", letters[i].letter, number);
+            int is_one = letters[i].first <= number && number <= letters[i].last;
+            EXPECT(is_one ? strncmp(told, text, strlen(text)) == 0 && told[strlen(text)] : told == unknown);
+        }
+    }
+}
+
+int main(void) {
+    files = counter_files();
+    EXPECT(nrbpf_version() == NRBPF_VERSION);
+    configurations();
+    manifests();
+    null_pointers_of_open();
+    names_and_ends();
+    calls();
+    full_history();
+    int turns = 0;
+    while (!while_out() && turns < 20) turns++;
+    if (turns == 20) printf("no update was ever out: H3 is not tried\n");
+    texts();
+    give_back(&files);
+    printf("%d refusals, each with its status, and nothing changed\n", refused);
+    return 0;
+}
