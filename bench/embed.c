@@ -1,0 +1,231 @@
+/* Times the store through nrbpf.h on 1, 2 and 4 threads and 1 and 2 nodes, with none, 90 and all of 100 calls reads, and prints how many calls a
+   second each makes. Beside it stand a mutex round one session of a store of one node, which is one replica of the same machine, and a mutex
+   round the interpreter of threaded.c, which trusts every program. All threads begin at once, behind a barrier, and a round is long enough
+   that they run beside each other. It runs in the top folder. */
+
+#include "threaded.c"
+
+#include "../embed/hosts/fixture.h"
+#include <pthread.h>
+#include <time.h>
+
+enum { ROUNDS = 5, TRIAL = 20000, MOST_UPDATES = 900000, ENTRIES = 16, MOST_THREADS = 4 };
+
+/* How long a round is at least, in nanoseconds, but where a history ends first. */
+static const double ROUND = 2e8;
+
+struct load {
+    int threads, nodes;
+    uint64_t reads; /* of 100 calls */
+    uint64_t calls; /* of a thread */
+};
+
+/* What is compared: how it is opened, and what a thread does for an update and a read. */
+struct kind {
+    const char *name;
+    void (*open)(struct load load);
+    uint64_t (*update)(int thread, const uint8_t *argument);
+    uint64_t (*read)(int thread, const uint8_t *argument);
+    void (*close)(struct load load);
+};
+
+static double now(void) {
+    struct timespec t;
+    clock_gettime(CLOCK_MONOTONIC, &t);
+    return (double)t.tv_sec * 1e9 + (double)t.tv_nsec;
+}
+
+/* ---- The store: a session a thread, which go round the nodes */
+
+static nrbpf_store *store;
+static nrbpf_session *sessions[MOST_THREADS];
+
+static void open_shared(struct load load) {
+    nrbpf_config config = NRBPF_CONFIG((uint32_t)load.nodes, (uint32_t)((load.threads + load.nodes - 1) / load.nodes));
+    store = opened(&config);
+    for (int i = 0; i < load.threads; i++) EXPECT_STATUS(nrbpf_attach(store, (uint32_t)(i % load.nodes), &sessions[i]), NRBPF_OK);
+}
+
+static void close_shared(struct load load) {
+    for (int i = 0; i < load.threads; i++) EXPECT_STATUS(nrbpf_detach(sessions[i]), NRBPF_OK);
+    EXPECT_STATUS(nrbpf_close(store), NRBPF_OK);
+}
+
+static uint64_t update_shared(int thread, const uint8_t *argument) {
+    nrbpf_answer answer;
+    EXPECT_STATUS(nrbpf_update(sessions[thread], bump, argument, 4, &answer), NRBPF_OK);
+    return answer.reply;
+}
+
+static uint64_t read_shared(int thread, const uint8_t *argument) {
+    nrbpf_answer answer;
+    EXPECT_STATUS(nrbpf_read(sessions[thread], peek, argument, 4, &answer), NRBPF_OK);
+    return answer.reply;
+}
+
+/* ---- A mutex round one session */
+
+static pthread_mutex_t mutex = PTHREAD_MUTEX_INITIALIZER;
+
+static void open_one(struct load load) {
+    (void)load;
+    open_shared((struct load){1, 1, 0, 0});
+}
+
+static void close_one(struct load load) {
+    (void)load;
+    close_shared((struct load){1, 1, 0, 0});
+}
+
+static uint64_t update_one(int thread, const uint8_t *argument) {
+    (void)thread;
+    pthread_mutex_lock(&mutex);
+    uint64_t reply = update_shared(0, argument);
+    pthread_mutex_unlock(&mutex);
+    return reply;
+}
+
+static uint64_t read_one(int thread, const uint8_t *argument) {
+    (void)thread;
+    pthread_mutex_lock(&mutex);
+    uint64_t reply = read_shared(0, argument);
+    pthread_mutex_unlock(&mutex);
+    return reply;
+}
+
+/* ---- A mutex round the interpreter of threaded.c */
+
+static struct instruction code[programs][16];
+static uint64_t counters[ENTRIES];
+static struct array counted = {(uint8_t *)counters, ENTRIES};
+
+/* The bytes of a program file, with the map's address where its number stands. */
+static void load_code(struct instruction *into, const char *path) {
+    char *text = text_of(path), *at = text;
+    for (int i = 0; i < 16; i++) {
+        uint8_t bytes[8];
+        for (int k = 0; k < 8; k++) {
+            unsigned byte;
+            int read = 0;
+            if (sscanf(at, " %2x%n", &byte, &read) != 1) break;
+            bytes[k] = (uint8_t)byte;
+            at += read;
+        }
+        memcpy(&into[i], bytes, 8);
+        if (!*at || !at[1]) break;
+    }
+    free(text);
+    for (int i = 0; i < 15; i++) {
+        if (into[i].opcode != 0x18 || into[i].src != 5) continue;
+        into[i].imm = (int32_t)(uint32_t)(uint64_t)&counted;
+        into[i + 1].imm = (int32_t)((uint64_t)&counted >> 32);
+    }
+}
+
+static void open_interpreter(struct load load) {
+    (void)load;
+    load_code(code[bump], BUMP);
+    load_code(code[peek], PEEK);
+    memset(counters, 0, sizeof counters);
+}
+
+static void close_interpreter(struct load load) { (void)load; }
+
+static uint64_t interpreted(int program, const uint8_t *argument) {
+    pthread_mutex_lock(&mutex);
+    uint64_t reply = run(code[program], argument);
+    pthread_mutex_unlock(&mutex);
+    return reply;
+}
+
+static uint64_t update_interpreted(int thread, const uint8_t *argument) { return (void)thread, interpreted(bump, argument); }
+static uint64_t read_interpreted(int thread, const uint8_t *argument) { return (void)thread, interpreted(peek, argument); }
+
+static const struct kind kinds[] = {
+    {"store", open_shared, update_shared, read_shared, close_shared},
+    {"mutex, session", open_one, update_one, read_one, close_one},
+    {"mutex, threaded", open_interpreter, update_interpreted, read_interpreted, close_interpreter},
+};
+enum { KINDS = sizeof kinds / sizeof *kinds };
+
+/* ---- Rounds */
+
+struct worker {
+    pthread_t thread;
+    const struct kind *kind;
+    struct load load;
+    int number;
+    double from, to;
+    uint64_t sum;
+};
+
+static pthread_barrier_t start;
+
+static void *work(void *of) {
+    struct worker *mine = of;
+    struct load load = mine->load;
+    pthread_barrier_wait(&start);
+    mine->from = now();
+    for (uint64_t i = 0; i < load.calls; i++) {
+        const uint8_t argument[4] = {(uint8_t)(i % ENTRIES)};
+        mine->sum += i % 100 < load.reads ? mine->kind->read(mine->number, argument) : mine->kind->update(mine->number, argument);
+    }
+    mine->to = now();
+    return NULL;
+}
+
+/* How long the threads take, from when the first begins until the last is done. */
+static double time_of(const struct kind *kind, struct load load) {
+    struct worker all[MOST_THREADS];
+    double from, to;
+    kind->open(load);
+    EXPECT(pthread_barrier_init(&start, NULL, (unsigned)load.threads) == 0);
+    for (int i = 0; i < load.threads; i++) {
+        all[i] = (struct worker){.kind = kind, .load = load, .number = i};
+        EXPECT(pthread_create(&all[i].thread, NULL, work, &all[i]) == 0);
+    }
+    for (int i = 0; i < load.threads; i++) EXPECT(pthread_join(all[i].thread, NULL) == 0);
+    pthread_barrier_destroy(&start);
+    kind->close(load);
+    from = all[0].from, to = all[0].to;
+    for (int i = 1; i < load.threads; i++) {
+        from = all[i].from < from ? all[i].from : from;
+        to = all[i].to > to ? all[i].to : to;
+    }
+    return to - from;
+}
+
+/* Millions of calls a second of all threads, in one round. */
+static double rate_of(const struct kind *kind, struct load load) {
+    load.calls = TRIAL;
+    double longer = ROUND / time_of(kind, load);
+    uint64_t updates = (uint64_t)load.threads * (100 - load.reads), most = updates ? 100 * (uint64_t)MOST_UPDATES / updates : UINT64_MAX;
+    load.calls = (uint64_t)(TRIAL * (longer > 1 ? longer : 1));
+    load.calls = load.calls < most ? load.calls : most;
+    return (double)load.threads * (double)load.calls / time_of(kind, load) * 1e3;
+}
+
+int main(void) {
+    const int spreads[][2] = {{1, 1}, {2, 1}, {2, 2}, {4, 1}, {4, 2}};
+    const uint64_t mixes[] = {0, 90, 100};
+    printf("Millions of calls a second, the best of %d rounds\n%-8s%-8s%-8s", ROUNDS, "threads", "nodes", "reads");
+    for (int k = 0; k < KINDS; k++) printf("%18s", kinds[k].name);
+    printf("\n");
+    for (int s = 0; s < 5; s++) {
+        for (int m = 0; m < 3; m++) {
+            struct load load = {spreads[s][0], spreads[s][1], mixes[m], 0};
+            double best[KINDS] = {0};
+            for (int round = 0; round < ROUNDS; round++) {
+                for (int k = 0; k < KINDS; k++) {
+                    double rate = rate_of(&kinds[k], load);
+                    best[k] = rate > best[k] ? rate : best[k];
+                }
+            }
+            printf("%-8d%-8d%-8llu", load.threads, load.nodes, (unsigned long long)load.reads);
+            for (int k = 0; k < KINDS; k++) printf("%18.2f", best[k]);
+            printf("\n");
+            fflush(stdout);
+        }
+    }
+    return 0;
+}
