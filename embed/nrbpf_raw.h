@@ -79,7 +79,7 @@ struct nrbpf_raw_session {
     uint64_t inner;         /* with S7 a refusal of the letter D, with S8 of the letter V; else 0 */
     uint64_t slot;          /* the instruction that is to blame, where inner isn't 0 */
     uint64_t place;         /* update, install: the index in the history, from 0. read: how many operations the read has seen */
-    uint64_t reply;         /* what the program replied there; of an install the number of the program, or 2^64 - 1 where each place is taken */
+    uint64_t reply;         /* what the program replied there; of an install the number of the program, or 2^64 - 7 where each place is taken */
 };
 
 /* ---- the functions */
@@ -107,7 +107,7 @@ void nrbpf_raw_detach(struct nrbpf_raw_store *at, struct nrbpf_raw_session *sess
 void nrbpf_raw_close(struct nrbpf_raw_store *at);
 
 /* Makes the call that the session's words ask for. An update or an install posts where no update is out, and else goes on with the one that is,
- * whatever its words are. Statuses: 0, BUSY, AGAIN, S1 to S4, S6 to S8, H2, H3, H5. */
+ * whatever operation its words name. Statuses: 0, BUSY, AGAIN, S1 to S4, S6 to S8, H2, H3, H5. */
 void nrbpf_raw_call(struct nrbpf_raw_session *session);
 
 /* Writes what a status says, as text without a zero byte behind it, cut off at `room` bytes, and returns how many it wrote. */
