@@ -1,7 +1,8 @@
 //! A store for another program to time: see bench/. Its words are the numbers of nodes and of slots of each node, the log's window, the
 //! number of entries of a map of counters, and the bytes of each value of a second map of as many entries. Each line of standard input
 //! is `update N` or `read N`: the first session makes so many calls, one after another, and the sum of their replies, modulo 2^64, is
-//! written. Or it is `threads R N`: each session makes so many calls on a thread of its own, R of 100 of them reads, and 0 is written.
+//! written. Or it is `threads R N`: each session makes so many calls on a thread of its own, R of 100 of them reads, and 0 is written. At the
+//! first line `reopen N` the store is closed, and a store is opened on the state that it ends in, which goes on; 0 is written.
 #![tactic(auto)]
 
 ghost use Rattle.std.specs.Prelude.{◌≡◌, length, All};
@@ -15,7 +16,7 @@ use std::process::ExitCode;
 use std::sync::Wait;
 use std::thread;
 use std::thread::Threads;
-use store::{Session, Store};
+use store::{Closed, Session, Store};
 
 // Adds one to a counter, and replies what it is then.
 const BUMP: &str =
@@ -153,36 +154,57 @@ fn answer<R: Threads + Wait + Sync>(
     }
 }
 
-// Answers each line, up to the first that can't be answered.
+// Answers each line, up to the first that can't be answered, or that asks to reopen the store; tells whether one does.
 fn serve<R: Threads + Wait + Sync + Input + Print>(
     rt: &R,
     alloc: Global,
     store: &Store,
     sessions: &mut [Session],
-)
+) -> bool
     requires own { All (IsOf store.now) sessions.old }
     ensures own { All (IsOf store.now) sessions.new }
 {
     for line in rt.lines(alloc) {
-        let Ok(line) = line else { return };
+        let Ok(line) = line else { return false };
+        if line.as_str().starts_with("reopen ") {
+            return true;
+        }
         let Some(answered) = answer(rt, store, sessions, line.as_str()) else {
-            return;
+            return false;
         };
         let Ok(()) = println!(rt; "{answered}") else {
-            return;
+            return false;
         };
     }
+    false
 }
 
 // Ends the store, once its sessions are back.
-fn close(store: Store, sessions: Vec<Session>)
+fn close(store: Store, sessions: Vec<Session>) -> Closed
     requires own { All (IsOf store) sessions.items }
     requires all { length sessions.items ≡ sessions_of store.config }
 {
     match store.close(sessions) {
-        Ok(closed) => drop(closed),
+        Ok(closed) => closed,
         Err(_) => unreachable!(),
     }
+}
+
+// Serves in a store on the state that another ended in; tells whether it could be opened.
+fn go_on<R: Threads + Wait + Sync + Input + Print>(
+    rt: &R,
+    alloc: Global,
+    config: Config,
+    closed: Closed,
+) -> bool {
+    let (state, catalogue) = closed.into_state();
+    let Ok((store, mut sessions)) = Store::open_on(alloc, config, catalogue, &state) else {
+        return false;
+    };
+    let _written = println!(rt; "0");
+    let _asks_again = serve(rt, alloc, &store, &mut sessions);
+    let _closed = close(store, sessions);
+    true
 }
 
 // Opens a store, and serves; tells whether it could be opened.
@@ -200,9 +222,9 @@ fn run<R: Threads + Wait + Sync + Input + Print>(rt: &R, alloc: Global, sizes: &
     let Ok((store, mut sessions)) = Store::open(alloc, config, catalogue) else {
         return false;
     };
-    serve(rt, alloc, &store, &mut sessions);
-    close(store, sessions);
-    true
+    let asks = serve(rt, alloc, &store, &mut sessions);
+    let closed = close(store, sessions);
+    !asks || go_on(rt, alloc, config, closed)
 }
 
 fn main(rt: HostRuntime) -> ExitCode {

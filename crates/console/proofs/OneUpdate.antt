@@ -5,10 +5,10 @@ use Rattle.std.proofs.lemmas.List.{length-append}
 use Rattle.std.proofs.lemmas.Option.{same_Some}
 use Rattle.std.proofs.Math.Seq.{drop-append_seam}
 use Rattle.loader.specs.Installed.{InstalledView}
-use Rattle.loader.specs.StoreState.{StoreState, sizes_of, sizes_for}
+use Rattle.loader.specs.StoreState.{StoreState, sizes_of}
 use Rattle.machine.specs.declared.running.Outcome.{Outcome}
 use Rattle.verifier.specs.declared.refusal.Mode.TheVariants.{Update}
-use Rattle.loader.specs.CatalogueView.{CatalogueView}
+use Rattle.loader.specs.CatalogueView.{CatalogueView, sizes_for}
 use Rattle.oplog.specs.declared.configuration.TheConstants.{MAX_LIMIT}
 use Rattle.oplog.specs.Operations.{Operation}
 use Rattle.oplog.specs.declared.records.Record.{Record}

@@ -8,7 +8,7 @@ use Rattle.hex.specs.Hex.{decode_of}
 use Rattle.hex.proofs.HexLemmas.{decode_of-ok}
 use Rattle.maps.specs.Maps.{AreBytes}
 use Rattle.machine.specs.Effects.{Effect as RunEffect}
-use Rattle.loader.specs.StoreState.{StoreState, sizes_for, opened_state}
+use Rattle.loader.specs.StoreState.{StoreState}
 use Rattle.insn.proofs.Slots.{are_bytes}
 use Rattle.verifier.specs.declared.refusal.Mode.{Mode}
 use Rattle.verifier.specs.declared.refusal.Mode.TheVariants.{Update, Read}
@@ -19,7 +19,7 @@ use Rattle.text.specs.Words.{is_name, number_of}
 use Rattle.text.specs.Digits.{good, field_bytes}
 use Rattle.text.proofs.LineReadings.{IsSilent, by_kind_from}
 use Rattle.text.proofs.Cuts.{steps, where_true}
-use Rattle.loader.specs.CatalogueView.{CatalogueView, IsCatalogue, number_named, with_places}
+use Rattle.loader.specs.CatalogueView.{CatalogueView, IsCatalogue, number_named, with_places, opening_state}
 use Rattle.loader.specs.Grammar.{mode_of}
 use Rattle.loader.specs.ProgramFiles.{Files}
 use Rattle.loader.specs.Loading.{nothing_yet, loaded}
@@ -155,7 +155,7 @@ module _ (c : CatalogueView) (is_whole : IsCatalogue c) (h : History) (updates :
   left_behind : (op : Operation) (e : Effect StoreState) → effect_at store_meaning c h (length h) op ≡ Some e → state_after store_meaning c (with_operation h op) (length (with_operation h op)) ≡ e.left
   left_behind op e is =
       let r : Record = record { author = 0; seq = length h; op = op } in
-      whole c (with_operation h op) ∙ after_append store_meaning c (opened_state (sizes_for c)) h (r ∷ []) ∙ ap (λ (s : StoreState). after store_meaning c s (r ∷ [])) (sym (whole c h))
+      whole c (with_operation h op) ∙ after_append store_meaning c (opening_state c) h (r ∷ []) ∙ ap (λ (s : StoreState). after store_meaning c s (r ∷ [])) (sym (whole c h))
       ∙ ap (λ (o : Option (Effect StoreState)). left_by o here) is
 
   abbrev update_of : (call : TheCall) → Turn
@@ -305,7 +305,7 @@ no_updates c k r e = absurd cc
 
 -- a catalogue with places for a run's programs is one
 placed_catalogue : (c : CatalogueView) → IsCatalogue c → IsCatalogue (with_places c RUN_PLACES)
-placed_catalogue c is = record { shapes = is.shapes; accepted = is.accepted; checked = is.checked; distinct = is.distinct; few = is.few; few_places = omega arith }
+placed_catalogue c is = record { shapes = is.shapes; accepted = is.accepted; checked = is.checked; distinct = is.distinct; few = is.few; few_places = omega arith; opening = tt }
 
 pub run_lines_are_runs : RunLinesAreRuns
 run_lines_are_runs manifest files c script e =

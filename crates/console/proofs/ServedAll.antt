@@ -8,7 +8,6 @@ use Rattle.loader.specs.Loading.{Outcome, loaded}
 use Rattle.console.specs.declared.input.InputFault.{InputFault}
 use Rattle.console.specs.declared.input.InputFault.TheVariants as faults
 use Rattle.console.specs.declared.inputs.Inputs.{Inputs}
-use Rattle.console.specs.declared.reporting.Reply.{Reply}
 use Rattle.console.specs.declared.status.Status.{Status}
 use Rattle.console.specs.declared.status.Status.TheVariants as statuses
 use Rattle.console.specs.Files.{Contents, is_text, are_texts, present}
@@ -19,7 +18,7 @@ use Rattle.console.specs.Loaded.{LoadedIs}
 use Rattle.console.specs.Texts.{no_memory_line}
 use Rattle.console.specs.Answer.{Answer, not_text}
 use Rattle.console.specs.Report.{ReportsBytes, Sends, Writes}
-use Rattle.console.specs.ServeAnswer.{Serves, ServesBytes, IsService, served_text, nothing_served, to_serve, are_all_texts, service}
+use Rattle.console.specs.ServeAnswer.{Serves, ServesBytes, IsService, served_text, nothing_served, to_serve, service}
 use Rattle.console.proofs.Reported.{sent, no_memory_sent, none_read}
 use Rattle.console.proofs.Served.{none_served}
 use Rattle.console.proofs.Turned.{appends_none, appends_kept, consumes_none, never_good, no_memory_at}

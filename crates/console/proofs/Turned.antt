@@ -1,5 +1,5 @@
 -- Turn after turn: what was read, and what was written.
-use Rattle.std.proofs.Common.{◌≡◌, ◌⊎◌, inl, inr, ℕ, ◌+◌, ◌<◌, List, [], ◌∷◌, ◌++◌, length, take, Option, Some, None, Result, Ok, Err, refl, sym, ap, subst, ◌∙◌, append_assoc, min}
+use Rattle.std.proofs.Common.{◌≡◌, inl, inr, ℕ, ◌+◌, ◌<◌, List, [], ◌++◌, length, take, Option, Some, None, Result, Ok, Err, refl, sym, ap, subst, ◌∙◌, append_assoc, min}
 use Rattle.std.proofs.Math.Seq.{take-append-add, take-length}
 use Rattle.std.proofs.lemmas.List.{append-nil, take-append-le, take_min}
 use Rattle.std.proofs.Math.Nat.{min-le_right}
@@ -13,7 +13,7 @@ use Rattle.console.specs.Transfer.{AppendsBeginning}
 use Rattle.console.specs.Texts.{no_memory_line}
 use Rattle.console.specs.Report.{Sends}
 use Rattle.console.specs.ServeAnswer.{Serving, Served, served, served_text, nothing_served, AnswersBytes, Serves}
-use Rattle.console.specs.Serving.{Stands, TakesBytes, TurnEnds, Turns, Going}
+use Rattle.console.specs.Serving.{Stands, TakesBytes, Turns, Going}
 use Rattle.console.proofs.Served.{served_parts, none_served}
 
 -- ---- known bytes

@@ -3,9 +3,9 @@ use Rattle.std.proofs.Common.{◌≡◌, ℕ, ◌+◌, true, List, [], ◌∷◌
 use Rattle.std.specs.Prelude.{OnOk}
 use Rattle.std.proofs.lemmas.Bool.{lt-ltb}
 use Rattle.std.proofs.lemmas.List.{length-append, take_all}
-use Rattle.loader.specs.StoreState.{StoreState, sizes_for, opened_state}
+use Rattle.loader.specs.StoreState.{StoreState}
 use Rattle.machine.specs.declared.running.Outcome.{Outcome}
-use Rattle.loader.specs.CatalogueView.{CatalogueView}
+use Rattle.loader.specs.CatalogueView.{CatalogueView, opening_state}
 use Rattle.oplog.specs.declared.configuration.TheConstants.{MAX_LIMIT}
 use Rattle.oplog.specs.Operations.{Operation}
 use Rattle.oplog.specs.Logs.{tail_of}
@@ -21,8 +21,8 @@ after_append E c state [] rs = refl
 after_append E c state (x ∷ h) rs = after_append E c (left_by (E.update c x.op state) state) h rs
 
 -- the state after a whole history
-pub whole : (c : CatalogueView) (h : History) → state_after store_meaning c h (length h) ≡ after store_meaning c (opened_state (sizes_for c)) h
-whole c h = ap (λ (x : History). after store_meaning c (opened_state (sizes_for c)) x) (take_all (length h) h (omega arith))
+pub whole : (c : CatalogueView) (h : History) → state_after store_meaning c h (length h) ≡ after store_meaning c (opening_state c) h
+whole c h = ap (λ (x : History). after store_meaning c (opening_state c) x) (take_all (length h) h (omega arith))
 
 on_ok : {A E : Type 0} (r : Result A E) (P Q : Type 0) → (P → Q) → OnOk r P → OnOk r Q
 on_ok (Ok x) P Q f p = f p
@@ -48,9 +48,9 @@ module _ (c : CatalogueView) (h : History) (n : SingleNode) (follows : Follows c
         let count = follows.count in
         let grown = u.tail in
         let size : length (with_operation h op) ≡ length h + 1 = length-append h (record { author = 0; seq = length h; op = op } ∷ []) in
-        let left : m.own.replica.state ≡ after store_meaning c (opened_state (sizes_for c)) (with_operation h op) =
+        let left : m.own.replica.state ≡ after store_meaning c (opening_state c) (with_operation h op) =
         u.state ∙ sym (ap (λ (e : Option (Effect StoreState)). left_by e n.own.replica.state) u.takes) ∙ ap (λ (x : StoreState). after store_meaning c x (record { author = 0; seq = length h; op = op } ∷ [])) follows.state
-        ∙ sym (after_append store_meaning c (opened_state (sizes_for c)) h (record { author = 0; seq = length h; op = op } ∷ [])) in
+        ∙ sym (after_append store_meaning c (opening_state c) h (record { author = 0; seq = length h; op = op } ∷ [])) in
         record { count = omega (arith, grown, count, size); state = left }
 
   module _ (op : Operation) where

@@ -1,8 +1,8 @@
 -- What is kept while a script is run. Clauses of private functions alone cite this.
 use Rattle.std.specs.Prelude.{◌≡◌, ℕ, ◌+◌, ◌<◌, Bool, true, false, List, ◌++◌, length, Option, Some, None, option_map, Result, IfOk, OnOk}
-use Rattle.loader.specs.StoreState.{StoreState, sizes_of, sizes_for, opened_state}
+use Rattle.loader.specs.StoreState.{StoreState, sizes_of}
 use Rattle.machine.specs.declared.running.Outcome.{Outcome}
-use Rattle.loader.specs.CatalogueView.{CatalogueView}
+use Rattle.loader.specs.CatalogueView.{CatalogueView, sizes_for, opening_state}
 use Rattle.oplog.specs.declared.configuration.TheConstants.{MAX_LIMIT}
 use Rattle.oplog.specs.Operations.{Operation}
 use Rattle.oplog.specs.Logs.{tail_of}
@@ -28,7 +28,7 @@ pub record IsSteady (c : CatalogueView) (n : SingleNode) : Type 0 where
 -- the node has this history behind it: so many updates, and the state that they leave
 pub record Follows (c : CatalogueView) (h : History) (n : SingleNode) : Type 0 where
   pub count : tail_of n.log ≡ length h
-  pub state : n.own.replica.state ≡ after store_meaning c (opened_state (sizes_for c)) h
+  pub state : n.own.replica.state ≡ after store_meaning c (opening_state c) h
 
 -- the node applied one more operation, and answered this
 pub record IsUpdated (c : CatalogueView) (op : Operation) (old new : SingleNode) (o : Outcome) : Type 0 where

@@ -1,6 +1,6 @@
 // The replay of a transcript, line by line.
 
-ghost use Rattle.std.specs.Prelude.{◌≡◌, true, option_map, IfSome, IfNone, IfOk};
+ghost use Rattle.std.specs.Prelude.{◌≡◌, true, option_map, IfSome, IfNone, IfOk, None};
 ghost use Rattle.verifier.specs.declared.refusal.Mode.TheVariants.{Update, Read};
 ghost use Rattle.oplog.specs.declared.records.Op.TheVariants.{Run};
 ghost use Rattle.replica.specs.StoreMeaning.{is_operation};
@@ -114,6 +114,7 @@ fn verdict_of(agrees: bool) -> LineVerdict
 impl Replaying {
     // Takes all room that a replay needs.
     pub(crate) fn open(alloc: Global, catalogue: &Catalogue) -> Result<Replaying, AllocError>
+        requires nothing { catalogue.now.opening ≡ None }
         ensures steady { IfOk result (λ r. IsSteady catalogue.now r.node) }
         ensures nothing { IfOk result (λ r. HasReplayed catalogue.now nothing_replayed r) }
     {

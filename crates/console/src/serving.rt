@@ -1,6 +1,6 @@
 // Lines that are answered as they end.
 
-ghost use Rattle.std.specs.Prelude.{◌≡◌, ◌∷◌, ◌++◌, [], false, Ok, IfOk, OnOk, OnErr};
+ghost use Rattle.std.specs.Prelude.{◌≡◌, ◌∷◌, ◌++◌, [], false, None, Ok, IfOk, OnOk, OnErr};
 ghost use Rattle.console.specs.Running.{IsSteady};
 ghost use Rattle.console.specs.ServeAnswer.{Serving, nothing_served, turn_at, behind_line, with_byte, served};
 ghost use Rattle.console.specs.Serving.{AddsServed, Stands, IsSameLine, TakesLeft, IsAnswered, GoesOn, TakesBytes};
@@ -33,6 +33,7 @@ pub(crate) struct Service {
 impl Service {
     // A new store for the maps and the programs of a catalogue.
     pub(crate) fn open(alloc: Global, catalogue: Catalogue) -> Result<Service, AllocError>
+        requires nothing { catalogue.opening ≡ None }
         ensures catalogue { IfOk result (λ s. s.catalogue ≡ catalogue) }
         ensures steady { IfOk result (λ s. IsSteady s.catalogue s.node) }
         ensures stands { IfOk result (λ s. Stands nothing_served s) }

@@ -1,6 +1,6 @@
 // One replica and one log, on one thread.
 
-ghost use Rattle.std.specs.Prelude.{◌≡◌, ◌<◌, [], true, Some, IfOk, IfSome, IfNone};
+ghost use Rattle.std.specs.Prelude.{◌≡◌, ◌<◌, [], true, None, Some, IfOk, IfSome, IfNone};
 ghost use Rattle.verifier.specs.declared.refusal.Mode.TheVariants.{Update, Read};
 ghost use Rattle.oplog.specs.Logs.{tail_of, room_in};
 ghost use Rattle.oplog.specs.declared.records.Op.TheVariants.{Install};
@@ -10,7 +10,7 @@ ghost use Rattle.console.specs.ScriptShown.{program_of};
 ghost use Rattle.console.specs.Running.{IsSteady, Follows, IsUpdated, HasEnded};
 
 use crate::script::ProgramText;
-use loader::{Catalogue, Installed};
+use loader::{Catalogue, Installed, StoreState};
 use machine::Outcome;
 use node::{NodeReplica, append, finish, reclaim, replay};
 use oplog::{Hand, LogState, MAX_LIMIT, MAX_WINDOW, NewProgram, Op, Record};
@@ -30,18 +30,19 @@ pub(crate) struct SingleNode {
 }
 
 impl SingleNode {
-    // Takes all room that a run needs.
+    // Takes all room that a run needs, on a new state.
     pub(crate) fn open(alloc: Global, catalogue: &Catalogue) -> Result<SingleNode, AllocError>
+        requires nothing { catalogue.now.opening ≡ None }
         ensures steady { IfOk result (λ n. IsSteady catalogue.now n) }
         ensures empty { IfOk result (λ n. Follows catalogue.now [] n) }
     {
-        let (shapes, places) = (catalogue.shapes(), catalogue.places());
-        let log = LogState::open(alloc, shapes, places, MAX_WINDOW, MAX_LIMIT)?;
+        let base = StoreState::opening(alloc, catalogue, None)?;
+        let log = LogState::open(alloc, base, MAX_WINDOW, MAX_LIMIT)?;
         let hand = Hand::open(alloc, MAX_WINDOW)?;
-        let replica = Replica::open(alloc, shapes, places)?;
+        let replica = Replica::open(StoreState::opening(alloc, catalogue, None)?);
         let own = NodeReplica { replica, hand };
         let replies = Replies::new(0, 0);
-        let room = Installed::open(alloc, shapes, 1)?;
+        let room = Installed::open(alloc, catalogue.shapes(), 1)?;
         Ok(SingleNode {
             log,
             own,

@@ -1,6 +1,7 @@
 -- Handles of C: what lies there, and what the calls of a host tell.
 pub mod Statuses
 pub mod Views
+pub mod Codes
 pub mod Told
 pub mod Calls
 pub mod Stores

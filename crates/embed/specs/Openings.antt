@@ -14,7 +14,7 @@ use Rattle.loader.specs.declared.refusals.LoadError.TheVariants as errors
 use Rattle.loader.specs.declared.refusals.LoadFault.TheVariants as faults
 use Rattle.loader.specs.declared.refusals.LoadRefusal.{LoadRefusal}
 use Rattle.oplog.specs.declared.configuration.Config.{Config}
-use Rattle.oplog.specs.declared.configuration.OpenError.TheVariants.{OutOfLimits, NoMemory}
+use Rattle.oplog.specs.declared.configuration.OpenError.TheVariants.{OutOfLimits, NoMemory, OtherState}
 use Rattle.oplog.specs.Limits.{IsConfig, open_fault_number}
 use Rattle.store.specs.Sessions.{SessionView, StoreView, fresh_session, fresh_sessions}
 use Rattle.store.specs.Shelving.{sessions_of}
@@ -82,6 +82,7 @@ IsReason o NoText = (IsUtf8 o.manifest.now × AreUtf8 o.files.now → ⊥)
 IsReason o (Loading why) = LoadFails why (reading_of o)
 IsReason o (Opening OutOfLimits) = IsConfig (config_of o) → ⊥
 IsReason o (Opening NoMemory) = Unit {0}
+IsReason o (Opening OtherState) = ⊥
 
 -- of the program of a bad line: why the decoder or the verifier refuses it, and at which slot
 abbrev pub inner_in : LoadError → ℕ × ℕ

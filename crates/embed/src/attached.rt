@@ -27,8 +27,11 @@ impl Model for Attached {
     ghost use Rattle.std.specs.Arc.{arc_value};
     ghost use Rattle.store.specs.Sessions.{IsOf};
     ghost use Rattle.embed.specs.Views.{AttachedView};
+    ghost use Rattle.embed.specs.Codes.{attached_code};
 
     ghost Value = { AttachedView };
+
+    ghost coded = { attached_code };
 
     ghost view = { λ a. record { store = arc_value a.store; place = a.place; session = a.session } };
 

@@ -12,3 +12,5 @@ pub mod Outcomes
 pub mod Named
 pub mod Installing
 pub mod States
+pub mod Openings
+pub mod SameShapes

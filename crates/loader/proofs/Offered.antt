@@ -9,7 +9,7 @@ use Rattle.maps.specs.declared.shapes.Shape.{Shape}
 use Rattle.maps.specs.declared.shapes.TheConstants.{MAX_MAPS, MAX_TOTAL_BYTES}
 use Rattle.maps.specs.Shapes.{room_of}
 use Rattle.loader.specs.Grammar.{ProgramLine, Meaning, Comment, Map, Program, line_meaning}
-use Rattle.loader.specs.CatalogueView.{Entry, CatalogueView, names_of, with_places}
+use Rattle.loader.specs.CatalogueView.{Entry, CatalogueView, names_of}
 use Rattle.loader.specs.ProgramFiles.{Files, entry_for}
 use Rattle.loader.specs.Loading.{are_few, is_taken, with_map, with_entry, with_program, after_meaning, after_line, nothing_yet}
 use Rattle.loader.specs.Offers.{says_something, Offers}
@@ -62,14 +62,15 @@ pub record Left (fs : Files) (v c : CatalogueView) (ms : List Meaning) (maps : L
   pub maps_first : 0 < length v.programs → maps ≡ []
   pub some_map : 0 < length ps → 0 < length c.shapes
   pub places : v.places ≡ c.places
+  pub opening : v.opening ≡ c.opening
 
 pub done : (fs : Files) (v c : CatalogueView) (maps : List Shape) (ps : List ProgramLine) (es : List Entry) → Left fs v c [] maps ps es → v ≡ c
 done fs v c (s ∷ ss) ps es k = absurd (let e = k.in_order in cc)
 done fs v c [] (p ∷ ps) es k = absurd (let e = k.in_order in cc)
 done fs v c [] [] (x ∷ es) k = absurd (let e = k.checked in cc)
 done fs v c [] [] [] k =
-    ap₂ (λ a b. record { shapes = a; programs = b; places = v.places }) (sym (k.shapes ∙ append-nil v.shapes)) (sym (k.all ∙ append-nil v.programs))
-    ∙ ap (with_places c) k.places
+    ap₂ (λ a b. record { shapes = a; programs = b; places = v.places; opening = v.opening }) (sym (k.shapes ∙ append-nil v.shapes)) (sym (k.all ∙ append-nil v.programs))
+    ∙ ap₂ (λ p o. record c { places = p; opening = o }) k.places k.opening
 
 -- a line's step, and what is then left
 pub record Steps (fs : Files) (v c : CatalogueView) (m : Meaning) (ms : List Meaning) : Type 0 where
@@ -113,6 +114,7 @@ map_next fs v c s t ms ss ps es b k =
             maps_first = λ lt. absurd (omega (arith, lt, ap length none));
             some_map = k.some_map;
             places = k.places;
+            opening = k.opening;
           };
     }
 
@@ -147,6 +149,7 @@ program_next fs v c p q e ms ps es b k =
             maps_first = λ _. refl;
             some_map = λ _. subst (λ x. 0 < length x) (sym shapes) some;
             places = k.places;
+            opening = k.opening;
           };
     }
 
@@ -167,6 +170,7 @@ next fs v c Comment ms maps ps es b k =
             maps_first = k.maps_first;
             some_map = k.some_map;
             places = k.places;
+            opening = k.opening;
           };
     }
 next fs v c (Map s) ms [] [] es b k = absurd (let e = k.in_order in cc)
@@ -204,5 +208,6 @@ offers_to fs ls c o =
       maps_first = λ lt. absurd (omega (arith, lt));
       some_map = o.some_map;
       places = sym o.no_places;
+      opening = sym o.no_opening;
     } in
     passes fs ls o.meanings nothing_yet c c.shapes o.programs c.programs o.each b left

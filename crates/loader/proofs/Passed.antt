@@ -136,4 +136,5 @@ offers_from fs ls c p =
       distinct = s.distinct;
       few_programs = s.few;
       no_places = s.no_places;
+      no_opening = s.no_opening;
     }

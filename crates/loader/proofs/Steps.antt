@@ -1,5 +1,6 @@
 -- What is kept from line to line.
 use Rattle.std.proofs.Common.{◌≡◌, ℕ, ◌<◌, ◌≤◌, Bool, true, false, cond, eqb, ltb, ◌||◌, List, [], ◌∷◌, ◌++◌, length, bytes_eq, Option, Some, None, Result, Ok, Err, refl, sym, ap, subst, arith}
+use Rattle.std.specs.Prelude.{IfSome}
 use Rattle.std.specs.List.{All, IsDistinct, list_any}
 use Rattle.std.proofs.lemmas.Bool.{ltb-true, ltb-false, eqb-false}
 use Rattle.std.proofs.lemmas.List.{length_push, map-append, nil_from_length}
@@ -11,7 +12,8 @@ use Rattle.verifier.specs.Accepted.{IsAccepted}
 use Rattle.loader.specs.Grammar.{ProgramLine, Meaning, Comment, Map, Program, line_meaning}
 use Rattle.maps.specs.Shapes.{IsShapeOk, AreShapesOk}
 use Rattle.std.proofs.lemmas.List.Elements.{All-push}
-use Rattle.loader.specs.CatalogueView.{Entry, CatalogueView, IsCatalogue, AreAccepted, AreFor, names_of}
+use Rattle.loader.specs.CatalogueView.{Entry, CatalogueView, IsCatalogue, AreAccepted, AreFor, names_of, sizes_for}
+use Rattle.loader.specs.StoreState.{IsState}
 use Rattle.loader.specs.ProgramFiles.{Files, entry_for}
 use Rattle.loader.specs.declared.loading.TheConstants.{MAX_PROGRAMS}
 use Rattle.loader.proofs.Entries.{steps, entry_from, entry_accepted}
@@ -93,6 +95,7 @@ with_one_map v s so_far within none few =
       distinct = so_far.distinct;
       few = so_far.few;
       no_places = so_far.no_places;
+      no_opening = so_far.no_opening;
     }
 
 with_one_program : (fs : Files) (v : CatalogueView) (p : ProgramLine) (w : CatalogueView) → IsPartial v → p.arg_len ≤ MAX_ARG_LEN → (a : IsAfterProgram fs v p w) → IsPartial (record v { programs = v.programs ++ a.entry ∷ [] })
@@ -110,6 +113,7 @@ with_one_program fs v p w so_far fits a =
       distinct = subst (IsDistinct bytes_eq) (sym names) (distinct_push (names_of v.programs) a.entry.name so_far.distinct new);
       few = omega (arith, length_push v.programs a.entry, a.few);
       no_places = so_far.no_places;
+      no_opening = so_far.no_opening;
     }
 
 inside_ok : (v w : CatalogueView) → same_result (Ok v) (Ok w) → v ≡ w
@@ -139,8 +143,9 @@ is_catalogue v so_far some =
       distinct = so_far.distinct;
       few = so_far.few;
       few_places = omega (arith, so_far.no_places);
+      opening = subst (λ o. IfSome o (IsState (sizes_for v))) (sym so_far.no_opening) tt;
     }
 
-pub nothing_partial : IsPartial (record { shapes = []; programs = []; places = 0 })
+pub nothing_partial : IsPartial (record { shapes = []; programs = []; places = 0; opening = None })
 unfolding IsDistinct
-nothing_partial = record { within = none_at_all IsShapeOk; few_maps = refl; accepted = none_at_all (λ e. e.checked.shapes ≡ []); checked = none_at_all (λ e. IsAccepted e.checked); distinct = tt; few = omega arith; no_places = refl }
+nothing_partial = record { within = none_at_all IsShapeOk; few_maps = refl; accepted = none_at_all (λ e. e.checked.shapes ≡ []); checked = none_at_all (λ e. IsAccepted e.checked); distinct = tt; few = omega arith; no_places = refl; no_opening = refl }

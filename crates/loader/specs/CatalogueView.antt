@@ -1,26 +1,61 @@
 -- A catalogue as its callers see it.
-use Rattle.std.specs.Prelude.{◌≡◌, ℕ, ◌≤◌, List, length, map, Option, bytes_eq}
+use Rattle.std.specs.Prelude.{◌≡◌, ℕ, ◌≤◌, List, length, map, Option, Some, None, IfSome, option_map, bytes_eq}
+use Rattle.std.specs.Borrow.{Bor}
 use Rattle.std.specs.List.{All, IsDistinct, position_from}
 use Rattle.maps.specs.declared.shapes.Shape.{Shape}
 use Rattle.maps.specs.Shapes.{AreShapesOk}
+use Rattle.maps.specs.Maps.{shapes_of}
 use Rattle.verifier.specs.Accepted.{Checked, IsAccepted}
 use Rattle.loader.specs.declared.installed.TheConstants.{MAX_PLACES}
 use Rattle.loader.specs.declared.loading.TheConstants.{MAX_PROGRAMS}
+use Rattle.loader.specs.StoreState.{StoreState, StateSizes, IsState, opened_state, with_room}
 
 -- an accepted program and its name
 pub record Entry : Type 0 where
   pub name : List ℕ
   pub checked : Checked
 
--- the maps of a store and its programs, in the manifest's order, and how many programs may be installed behind these
+-- the maps of a store and its programs, in the manifest's order, how many programs may be installed behind these, and the state that a
+-- store of it opens on, where that is not a new one
 pub record CatalogueView : Type 0 where
   pub shapes : List Shape
   pub programs : List Entry
   pub places : ℕ
+  pub opening : Option StoreState
 
--- the same, behind whose programs so many may be installed
+-- the same, behind whose programs so many may be installed, and whose stores open on a new state
 abbrev pub with_places : CatalogueView → ℕ → CatalogueView
-with_places c places = record c { places = places }
+with_places c places = record c { places = places; opening = None }
+
+-- the sizes of the states that a store of a catalogue has
+abbrev pub sizes_for : CatalogueView → StateSizes
+sizes_for c = record { shapes = c.shapes; places = c.places }
+
+-- ---- what a store opens on
+
+-- this state, or a new one
+abbrev pub or_new : StateSizes → Option StoreState → StoreState
+or_new z None = opened_state z
+or_new z (Some s) = s
+
+-- the state that a store of a catalogue opens on
+abbrev pub opening_state : CatalogueView → StoreState
+opening_state c = or_new (sizes_for c) c.opening
+
+-- a store of a catalogue may open on a state: it has the catalogue's maps, and no more programs than there may be
+pub record MayOpenOn (c : CatalogueView) (s : StoreState) : Type 0 where
+  pub shapes : shapes_of s.maps ≡ c.shapes
+  pub few : length s.programs ≤ c.places
+
+-- the same catalogue, of which a store opens on this state
+abbrev pub opened_on : CatalogueView → StoreState → CatalogueView
+opened_on c s = record c { opening = Some (with_room s c.places) }
+
+-- what is handed in, if anything, is what a store of a catalogue opens on
+abbrev pub OpensOn : CatalogueView → Option (Bor StoreState) → Type 0
+OpensOn c state = c.opening ≡ option_map (λ s. with_room s.now c.places) state
+
+-- ---- what a catalogue keeps to
 
 -- the names of programs
 abbrev pub names_of : List Entry → List (List ℕ)
@@ -34,8 +69,8 @@ AreFor shapes entries = All (λ e. e.checked.shapes ≡ shapes) entries
 abbrev pub AreAccepted : List Entry → Type 0
 AreAccepted entries = All (λ e. IsAccepted e.checked) entries
 
--- a store may have these maps, each program was accepted, and for them, no name stands twice, and there are at most 256 programs, and 16
--- places behind them
+-- a store may have these maps, each program was accepted, and for them, no name stands twice, there are at most 256 programs, and 16 places
+-- behind them, and a store may open on what it opens on
 pub record IsCatalogue (c : CatalogueView) : Type 0 where
   pub shapes : AreShapesOk c.shapes
   pub accepted : AreFor c.shapes c.programs
@@ -43,6 +78,7 @@ pub record IsCatalogue (c : CatalogueView) : Type 0 where
   pub distinct : IsDistinct bytes_eq (names_of c.programs)
   pub few : length c.programs ≤ MAX_PROGRAMS
   pub few_places : c.places ≤ MAX_PLACES
+  pub opening : IfSome c.opening (IsState (sizes_for c))
 
 -- the number of the first program of this name, from 0
 abbrev pub number_named : List Entry → List ℕ → Option ℕ

@@ -1,6 +1,6 @@
 -- How states are told apart, which a model asks for. No public clause cites this module.
-use Rattle.std.specs.Prelude.{ℕ, List, refl}
-use Rattle.std.specs.Coded.{Coded, code_by, coded×, coded_list, coded_ℕ}
+use Rattle.std.specs.Prelude.{ℕ, List, Option, refl}
+use Rattle.std.specs.Coded.{Coded, code_by, coded×, coded_list, coded_option, coded_ℕ}
 use Rattle.std.specs.FinMap as finite_map
 use Rattle.maps.specs.declared.shapes.Shape.{Shape}
 use Rattle.maps.specs.contracts.shapes.Shape as shape
@@ -8,6 +8,7 @@ use Rattle.maps.specs.Maps.{Maps, MapState, Entries}
 use Rattle.verifier.specs.contracts.accepted.Accepted as program
 use Rattle.verifier.specs.Accepted.{Checked}
 use Rattle.loader.specs.StoreState.{StoreState}
+use Rattle.loader.specs.CatalogueView.{Entry, CatalogueView}
 
 abbrev pub entries_code : Coded Entries
 entries_code = finite_map.code (coded_list coded_ℕ) (coded_list coded_ℕ)
@@ -23,3 +24,12 @@ abbrev pub state_code : Coded StoreState
 state_code =
     code_by (Maps × (List Checked × ℕ)) (coded× maps_code (coded× (coded_list program.the_row.coded) coded_ℕ)) (λ s. (s.maps, (s.programs, s.places)))
     (λ p. record { maps = p.0; programs = p.1.0; places = p.1.1 }) (λ _. refl)
+
+abbrev pub entry_code : Coded Entry
+entry_code = code_by (List ℕ × Checked) (coded× (coded_list coded_ℕ) program.the_row.coded) (λ e. (e.name, e.checked)) (λ p. record { name = p.0; checked = p.1 }) (λ _. refl)
+
+abbrev pub catalogue_code : Coded CatalogueView
+catalogue_code =
+    code_by (List Shape × (List Entry × (ℕ × Option StoreState)))
+    (coded× (coded_list shape.the_row.coded) (coded× (coded_list entry_code) (coded× coded_ℕ (coded_option state_code))))
+    (λ c. (c.shapes, (c.programs, (c.places, c.opening)))) (λ p. record { shapes = p.0; programs = p.1.0; places = p.1.1.0; opening = p.1.1.1 }) (λ _. refl)

@@ -18,3 +18,4 @@ pub mod Spelling
 pub mod LineShown
 pub mod PartialView
 pub mod Numbering
+pub mod Fields

@@ -68,7 +68,7 @@ after_lines files n so_far (l ∷ ls) =
     either (λ why. Err (record { line = n; why = why })) (λ after. after_lines files (next_line n) after ls) (after_line files so_far l)
 
 abbrev pub nothing_yet : CatalogueView
-nothing_yet = record { shapes = []; programs = []; places = 0 }
+nothing_yet = record { shapes = []; programs = []; places = 0; opening = None }
 
 -- the catalogue that a manifest says
 unfoldable pub loaded : List ℕ → Files → Outcome

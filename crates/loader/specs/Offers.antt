@@ -1,5 +1,5 @@
 -- What a whole manifest offers, and where it fails first.
-use Rattle.std.specs.Prelude.{◌≡◌, ◌↔◌, ◌⊎◌, ℕ, ◌<◌, ◌≤◌, Bool, true, false, List, [], ◌∷◌, ◌++◌, length, map, Some, Ok, Err, filter, bytes_eq}
+use Rattle.std.specs.Prelude.{◌≡◌, ◌↔◌, ◌⊎◌, ℕ, ◌<◌, ◌≤◌, Bool, true, false, List, [], ◌∷◌, ◌++◌, length, map, None, Some, Ok, Err, filter, bytes_eq}
 use Rattle.std.specs.List.{IsDistinct, AllZip}
 use Rattle.loader.specs.declared.refusals.LoadFault.TheVariants as faults
 use Rattle.loader.specs.declared.refusals.LoadRefusal.{LoadRefusal}
@@ -36,7 +36,7 @@ pub record IsEntryFor (files : Files) (shapes : List Shape) (line : ProgramLine)
   pub checked_for : e.checked ≡ checked e.checked.program shapes line.arg_len line.mode
   pub typable : IsTypable e.checked.program (signature shapes line.arg_len line.mode)
 
--- these lines are the catalogue's maps and then its programs, beside comments and empty lines; it has no places
+-- these lines are the catalogue's maps and then its programs, beside comments and empty lines; it has no places, and opens on a new state
 pub record Offers (files : Files) (lines : List (List ℕ)) (c : CatalogueView) : Type 0 where
   pub meanings : List Meaning
   pub each : map line_meaning lines ≡ map Some meanings
@@ -48,6 +48,7 @@ pub record Offers (files : Files) (lines : List (List ℕ)) (c : CatalogueView) 
   pub distinct : IsDistinct bytes_eq (names_of c.programs)
   pub few_programs : length c.programs ≤ MAX_PROGRAMS
   pub no_places : c.places ≡ 0
+  pub no_opening : c.opening ≡ None
 
 -- a manifest offers a catalogue of at least one map
 abbrev pub IsOffered : List ℕ → Files → CatalogueView → Type 0

@@ -1,5 +1,5 @@
 -- What is kept of the lines before the one that is read. Clauses of private functions alone cite this.
-use Rattle.std.specs.Prelude.{◌≡◌, ◌≤◌, true, length, bytes_eq}
+use Rattle.std.specs.Prelude.{◌≡◌, ◌≤◌, true, length, None, bytes_eq}
 use Rattle.std.specs.List.{All, IsDistinct}
 use Rattle.loader.specs.declared.loading.PartialCatalogue.{PartialCatalogue}
 use Rattle.loader.specs.CatalogueView.{CatalogueView, AreFor, AreAccepted, names_of}
@@ -9,9 +9,9 @@ use Rattle.loader.specs.Loading.{are_few}
 
 -- the catalogue that they make
 abbrev pub view_of : PartialCatalogue → CatalogueView
-view_of s = record { shapes = s.shapes.items; programs = s.programs.items; places = 0 }
+view_of s = record { shapes = s.shapes.items; programs = s.programs.items; places = 0; opening = None }
 
--- a catalogue without places, but for its first map
+-- a catalogue without places that opens on a new state, but for its first map
 pub record IsPartial (c : CatalogueView) : Type 0 where
   pub within : All IsShapeOk c.shapes
   pub few_maps : are_few c.shapes ≡ true
@@ -20,3 +20,4 @@ pub record IsPartial (c : CatalogueView) : Type 0 where
   pub distinct : IsDistinct bytes_eq (names_of c.programs)
   pub few : length c.programs ≤ MAX_PROGRAMS
   pub no_places : c.places ≡ 0
+  pub no_opening : c.opening ≡ None

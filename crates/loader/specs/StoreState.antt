@@ -4,7 +4,6 @@ use Rattle.maps.specs.declared.shapes.Shape.{Shape}
 use Rattle.maps.specs.Maps.{Maps, HasShapes, shapes_of}
 use Rattle.maps.specs.MapSets.{opening_maps}
 use Rattle.verifier.specs.Accepted.{Checked}
-use Rattle.loader.specs.CatalogueView.{CatalogueView}
 use Rattle.loader.specs.Installed.{InstalledView, IsInstalled}
 
 -- the maps, the programs that were installed, in order, and how many of these there may be
@@ -29,10 +28,6 @@ pub record StateSizes : Type 0 where
 abbrev pub sizes_of : StoreState → StateSizes
 sizes_of s = record { shapes = shapes_of s.maps; places = s.places }
 
--- those that a catalogue asks for
-abbrev pub sizes_for : CatalogueView → StateSizes
-sizes_for c = record { shapes = c.shapes; places = c.places }
-
 -- a state of these sizes: maps of these shapes, and programs that were accepted for them, no more than there may be
 pub record IsState (z : StateSizes) (s : StoreState) : Type 0 where
   pub maps : HasShapes z.shapes s.maps
@@ -42,3 +37,7 @@ pub record IsState (z : StateSizes) (s : StoreState) : Type 0 where
 -- a new state of these sizes: maps as they are opened, and no program is installed
 abbrev pub opened_state : StateSizes → StoreState
 opened_state z = record { maps = opening_maps z.shapes; programs = []; places = z.places }
+
+-- the same state, with room for so many programs
+abbrev pub with_room : StoreState → ℕ → StoreState
+with_room s places = record s { places = places }

@@ -1,12 +1,14 @@
 // The maps and the programs of a store.
 
-ghost use Rattle.std.specs.Prelude.{◌≡◌, ◌≤◌, length, option_map, slice_get, IfSome};
+ghost use Rattle.std.specs.Prelude.{◌≡◌, ◌↔◌, ◌≤◌, length, option_map, slice_get, IfSome, IsTrue, None};
 ghost use Rattle.maps.specs.Shapes.{AreShapesOk};
-ghost use Rattle.loader.specs.CatalogueView.{IsCatalogue, number_named, with_places};
+ghost use Rattle.loader.specs.CatalogueView.{IsCatalogue, MayOpenOn, number_named, opened_on, with_places};
 ghost use Rattle.loader.specs.Numbering.{IsNumbering};
 
 use crate::installed::MAX_PLACES;
 use crate::loading::MAX_PROGRAMS;
+use crate::opened_on::OpenedOn;
+use crate::store_state::StoreState;
 use arrayvec::ArrayString;
 use maps::Shape;
 use std::collections::BTreeMap;
@@ -51,43 +53,50 @@ impl NamedProgram {
 
 /// The maps of a store, and the accepted programs that it offers, numbered from 0 in the
 /// manifest's order. Names are distinct, and there are at most 256 programs. Behind them a number of places stands for programs
-/// that may be installed while the store runs.
+/// that may be installed while the store runs. A store of a catalogue opens on a new state, or on one that the catalogue was said to open
+/// on ([`Catalogue::on`]); of that no copy is kept.
 #[derive(Drop)]
 pub struct Catalogue {
     shapes: Vec<Shape>,
     programs: Vec<NamedProgram>,
     numbers: BTreeMap<String, u16>,
     places: usize,
+    opening: Option<OpenedOn>,
 }
 
 impl Model for Catalogue {
     ghost use Rattle.loader.specs.CatalogueView.{CatalogueView, IsCatalogue};
+    ghost use Rattle.loader.specs.Fields.{catalogue_of};
+    ghost use Rattle.loader.specs.Codes.{catalogue_code};
     ghost use Rattle.loader.specs.Numbering.{IsNumbering};
 
     ghost Value = { CatalogueView };
 
-    ghost view = { λ c. record { shapes = c.shapes.items; programs = c.programs.items; places = c.places } };
+    ghost coded = { catalogue_code };
 
-    ghost invariant = { λ c. IsCatalogue (record { shapes = c.shapes.items; programs = c.programs.items; places = c.places })
+    ghost view = { λ c. catalogue_of c.shapes.items c.programs.items c.places c.opening };
+
+    ghost invariant = { λ c. IsCatalogue (catalogue_of c.shapes.items c.programs.items c.places c.opening)
         × IsNumbering c.numbers c.programs.items };
 }
 
 impl Catalogue {
-    // A catalogue of these maps and programs, with the programs' numbers by their names, and without places.
+    // A catalogue of these maps and programs, with the programs' numbers by their names, without places, on a new state.
     pub(crate) fn new(
         shapes: Vec<Shape>,
         programs: Vec<NamedProgram>,
         numbers: BTreeMap<String, u16>,
     ) -> Catalogue
-        requires catalogue { IsCatalogue (record { shapes = shapes.items; programs = programs.items; places = 0 }) }
+        requires catalogue { IsCatalogue (record { shapes = shapes.items; programs = programs.items; places = 0; opening = None }) }
         requires numbers { IsNumbering numbers programs.items }
-        ensures { result ≡ record { shapes = shapes.items; programs = programs.items; places = 0 } }
+        ensures { result ≡ record { shapes = shapes.items; programs = programs.items; places = 0; opening = None } }
     {
         Catalogue {
             shapes,
             programs,
             numbers,
             places: 0,
+            opening: None,
         }
     }
 
@@ -103,16 +112,36 @@ impl Catalogue {
     pub fn places(&self) -> usize
         ensures places { result ≡ self.now.places }
         ensures few { result ≤ MAX_PLACES }
+        ensures whole { IsCatalogue self.now }
     {
         self.places
     }
 
-    /// The same catalogue, behind whose programs so many may be installed.
+    /// The same catalogue, behind whose programs so many may be installed. Its stores open on a new state.
     pub fn with_places(mut self, places: usize) -> Catalogue
         requires few { places ≤ MAX_PLACES }
         ensures places { result ≡ with_places self places }
     {
         self.places = places;
+        self.opening = None;
+        self
+    }
+
+    /// Whether a store of this catalogue may open on a state: the state has the catalogue's maps, and no more installed programs than there
+    /// may be.
+    pub fn may_open_on(&self, state: &StoreState) -> bool
+        ensures decides { IsTrue result ↔ MayOpenOn self.now state.now }
+    {
+        state.has_shapes(&self.shapes) && state.programs().len() <= self.places
+    }
+
+    /// The same catalogue, whose stores open on this state. What such a store explains begins with the state as it is now; no copy of it is
+    /// kept.
+    pub fn on(mut self, state: &StoreState) -> Catalogue
+        requires fits { MayOpenOn self state.now }
+        ensures opens { result ≡ opened_on self state.now }
+    {
+        self.opening = Some(state.opened_on());
         self
     }
 

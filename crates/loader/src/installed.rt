@@ -97,6 +97,13 @@ impl Installed {
         })
     }
 
+    /// The maps' sizes that the programs are for.
+    pub fn shapes(&self) -> &[Shape]
+        ensures shapes { result.now ≡ self.now.shapes }
+    {
+        &self.shapes
+    }
+
     /// How many programs were installed.
     pub fn len(&self) -> usize
         ensures count { result ≡ length self.now.programs }

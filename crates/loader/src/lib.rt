@@ -9,6 +9,7 @@ mod installed;
 mod laws;
 mod loading;
 mod numbering;
+mod opened_on;
 mod paths;
 mod program_files;
 mod refusals;

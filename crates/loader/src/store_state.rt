@@ -1,14 +1,17 @@
 // What the operations of a store change.
 
-ghost use Rattle.std.specs.Prelude.{◌≡◌, ◌≤◌, length, IfOk};
+ghost use Rattle.std.specs.Prelude.{◌≡◌, ◌↔◌, ◌≤◌, length, IfOk, IsTrue};
 ghost use Rattle.maps.specs.Maps.{HasShapes, shapes_of};
 ghost use Rattle.maps.specs.MapSets.{maps_of};
 ghost use Rattle.loader.specs.declared.installed.TheConstants.{MAX_PLACES};
-ghost use Rattle.loader.specs.StoreState.{installed_in, opened_state, sizes_for, state_of};
+ghost use Rattle.loader.specs.CatalogueView.{OpensOn, opening_state, sizes_for};
+ghost use Rattle.loader.specs.Installed.{IsInstalled};
+ghost use Rattle.loader.specs.StoreState.{installed_in, opened_state, state_of};
 
 use crate::catalogue::Catalogue;
 use crate::installed::{Installed, MAX_PLACES};
-use maps::MapSet;
+use crate::opened_on::OpenedOn;
+use maps::{MapSet, Shape};
 use std::alloc::{AllocError, Global};
 use std::marker::Model;
 
@@ -55,6 +58,26 @@ impl StoreState {
         Ok(StoreState { maps, installed })
     }
 
+    /// The state that a store of this catalogue opens on: a copy of the one that is handed in, which the catalogue was said to open on, with
+    /// room for as many programs as the catalogue has places; or a new one.
+    ///
+    /// # Errors
+    ///
+    /// The system has no memory left.
+    pub fn opening(
+        alloc: Global,
+        catalogue: &Catalogue,
+        state: Option<&StoreState>,
+    ) -> Result<StoreState, AllocError>
+        requires opens { OpensOn catalogue.now state }
+        ensures opened { IfOk result (λ s. s ≡ opening_state catalogue.now) }
+    {
+        match state {
+            None => StoreState::open(alloc, catalogue),
+            Some(state) => StoreState::copy_of(alloc, state, catalogue.places()),
+        }
+    }
+
     /// A state of these maps and of these programs, which were accepted for them.
     pub fn of(maps: MapSet, installed: Installed) -> StoreState
         requires shapes { HasShapes (shapes_of (maps_of maps)) (maps_of maps) }
@@ -98,6 +121,24 @@ impl StoreState {
         &self.installed
     }
 
+    // Whether the maps have these sizes.
+    pub(crate) fn has_shapes(&self, shapes: &[Shape]) -> bool
+        ensures same { IsTrue result ↔ (shapes_of self.now.maps ≡ shapes.now) }
+    {
+        same_shapes(self.installed.shapes(), shapes)
+    }
+
+    // What clauses see of it.
+    pub(crate) fn opened_on(&self) -> OpenedOn
+        ensures value { result.value ≡ self.now }
+        ensures maps { HasShapes (shapes_of self.now.maps) self.now.maps }
+        ensures programs { IsInstalled (installed_in self.now) }
+    {
+        // (the number of places, since the call says that the programs keep to their limits)
+        let _ = self.installed.places();
+        OpenedOn::of(self)
+    }
+
     /// The maps and the programs, to be changed and put together again.
     pub fn into_parts(self) -> (MapSet, Installed)
         ensures maps { maps_of result.0 ≡ self.maps }
@@ -107,4 +148,11 @@ impl StoreState {
         let StoreState { maps, installed } = self;
         (maps, installed)
     }
+}
+
+// Whether two lists of sizes are the same.
+fn same_shapes(first: &[Shape], second: &[Shape]) -> bool
+    ensures same { IsTrue result ↔ (first.now ≡ second.now) }
+{
+    first == second
 }

@@ -1,8 +1,8 @@
 -- The steps of a node's replica on a log: when each may be taken, and what it makes of the two. Where a guard asks what is completed, it is
 -- told how much, since the log itself may know less.
 use Rattle.std.specs.Prelude.{◌≡◌, ℕ, ◌+◌, ◌<◌, ◌≤◌, ◌^◌, Bool, true, false, ◌&&◌, ◌||◌, not, [], ◌∷◌, ◌++◌, length, take, drop, min, max, nat_lt, nat_le, Option, Some, None}
-use Rattle.loader.specs.CatalogueView.{CatalogueView}
-use Rattle.loader.specs.StoreState.{StoreState, sizes_of, sizes_for}
+use Rattle.loader.specs.CatalogueView.{CatalogueView, sizes_for}
+use Rattle.loader.specs.StoreState.{StoreState, sizes_of}
 use Rattle.oplog.specs.Logs.{Log, tail_of, left_of, room_in, records_from}
 use Rattle.oplog.specs.History.{Effect, History, after, left_by}
 use Rattle.replica.specs.StoreMeaning.{store_meaning, outcome_of, AreUpdates}

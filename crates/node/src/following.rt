@@ -1,7 +1,8 @@
 // A node's replica with the records that were copied for it, and its steps on a log.
 
 ghost use Rattle.std.specs.Prelude.{◌≡◌, ◌≤◌, ◌<◌, true, length};
-ghost use Rattle.loader.specs.StoreState.{sizes_of, sizes_for};
+ghost use Rattle.loader.specs.CatalogueView.{sizes_for};
+ghost use Rattle.loader.specs.StoreState.{sizes_of};
 ghost use Rattle.oplog.specs.declared.configuration.TheConstants.{MAX_LIMIT};
 ghost use Rattle.oplog.specs.Logs.{tail_of, records_from, room_in};
 ghost use Rattle.replica.specs.Replaying.{KeepsOutcomes};

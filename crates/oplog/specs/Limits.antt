@@ -3,7 +3,7 @@ use Rattle.std.specs.Prelude.{ℕ, ◌≤◌}
 use Rattle.loader.specs.declared.installed.TheConstants.{MAX_PLACES}
 use Rattle.oplog.specs.declared.configuration.Config.{Config}
 use Rattle.oplog.specs.declared.configuration.OpenError.{OpenError}
-use Rattle.oplog.specs.declared.configuration.OpenError.TheVariants.{OutOfLimits, NoMemory}
+use Rattle.oplog.specs.declared.configuration.OpenError.TheVariants.{OutOfLimits, NoMemory, OtherState}
 use Rattle.oplog.specs.declared.configuration.TheConstants.{MAX_NODES, MAX_NODE_SLOTS, MIN_WINDOW, MAX_WINDOW, MAX_LIMIT}
 
 -- records that a log keeps at once
@@ -26,3 +26,4 @@ pub record IsConfig (c : Config) : Type 0 where
 abbrev pub open_fault_number : OpenError → ℕ
 open_fault_number OutOfLimits = 1
 open_fault_number NoMemory = 2
+open_fault_number OtherState = 3

@@ -1,7 +1,7 @@
 -- The log of operations, and the buffer that its records are copied into, as their users see them.
 use Rattle.std.specs.Prelude.{ℕ, ◌+◌, ◌-◌, ◌≤◌, [], length, drop}
 use Rattle.maps.specs.Maps.{shapes_of, HasShapes}
-use Rattle.loader.specs.StoreState.{StoreState, StateSizes, opened_state}
+use Rattle.loader.specs.StoreState.{StoreState}
 use Rattle.oplog.specs.History.{History}
 use Rattle.oplog.specs.Limits.{IsWindow, IsLimit}
 
@@ -46,10 +46,9 @@ pub record IsLog (g : Log) : Type 0 where
   pub window : IsWindow g.window
   pub limit : IsLimit g.limit
 
--- a new log: no record yet
-abbrev pub opened_log : StateSizes → ℕ → ℕ → Log
-opened_log sizes window limit =
-    record { base = 0; base_state = opened_state sizes; records = []; done = 0; window = window; limit = limit }
+-- a new log on this state: no record yet
+abbrev pub opened_log : StoreState → ℕ → ℕ → Log
+opened_log state window limit = record { base = 0; base_state = state; records = []; done = 0; window = window; limit = limit }
 
 -- a buffer: records, and the index of the first in the history
 pub record HandView : Type 0 where

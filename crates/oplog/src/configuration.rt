@@ -72,16 +72,20 @@ pub enum OpenError {
     /// O2: there is no memory.
     #[error("O2: no memory")]
     NoMemory,
+    /// O3: the state to open on has other maps than the catalogue, or more installed programs than there are places.
+    #[error("O3: the state has other maps, or more programs than there are places")]
+    OtherState,
 }
 
 impl OpenError {
-    /// The number, 1 or 2, that a refusal shows after its letter O.
+    /// The number, 1 to 3, that a refusal shows after its letter O.
     pub fn number(self) -> u8
         ensures number { result ≡ open_fault_number self }
     {
         match self {
             OpenError::OutOfLimits => 1,
             OpenError::NoMemory => 2,
+            OpenError::OtherState => 3,
         }
     }
 }

@@ -1,10 +1,8 @@
 // The log.
 
 ghost use Rattle.std.specs.Prelude.{◌≡◌, ◌↔◌, ◌<◌, ◌≤◌, ◌-◌, ◌++◌, length, take, min, max, vec_capacity, IfOk, IsErr, OnErr};
-ghost use Rattle.maps.specs.Shapes.{AreShapesOk};
 ghost use Rattle.maps.specs.Maps.{HasShapes, shapes_of};
 ghost use Rattle.maps.specs.MapSets.{maps_of};
-ghost use Rattle.loader.specs.declared.installed.TheConstants.{MAX_PLACES};
 ghost use Rattle.loader.specs.StoreState.{installed_in, state_of};
 ghost use Rattle.oplog.specs.declared.configuration.TheConstants.{MAX_LIMIT};
 ghost use Rattle.oplog.specs.Limits.{IsWindow, IsLimit};
@@ -14,8 +12,8 @@ ghost use Rattle.oplog.specs.CopyAnswers.{IfCopied, IfBelow};
 use crate::answers::{Appended, CopyAnswer, Ended};
 use crate::hand::Hand;
 use crate::records::{Record, push_copy};
-use loader::Installed;
-use maps::{MapSet, Shape};
+use loader::{Installed, StoreState};
+use maps::MapSet;
 use std::alloc::{AllocError, Global};
 use std::marker::Model;
 use std::mem::swap;
@@ -54,30 +52,23 @@ impl Model for LogState {
 }
 
 impl LogState {
-    /// A log without a record, over maps of these shapes as they are opened, with places for so many programs and none installed. It keeps
-    /// at most `window` records at once, and its history may have `limit`.
+    /// A log without a record, over this state. It keeps at most `window` records at once, and its history may have `limit`.
     ///
     /// # Errors
     ///
     /// The system has no memory left.
     pub fn open(
         alloc: Global,
-        shapes: &[Shape],
-        places: usize,
+        state: StoreState,
         window: usize,
         limit: usize,
     ) -> Result<LogState, AllocError>
-        requires shapes { AreShapesOk shapes.now }
-        requires places { places ≤ MAX_PLACES }
         requires window { IsWindow window }
         requires limit { IsLimit limit }
-        ensures opened { IfOk result (λ g. g ≡ opened_log (record { shapes = shapes.now; places = places }) window limit) }
+        ensures opened { IfOk result (λ g. g ≡ opened_log state window limit) }
     {
-        let Ok(base_maps) = MapSet::open(alloc, shapes) else {
-            return Err(AllocError);
-        };
-        let base_programs = Installed::open(alloc, shapes, places)?;
         let records = Vec::with_capacity(alloc, window)?;
+        let (base_maps, base_programs) = state.into_parts();
         Ok(LogState {
             base: 0,
             base_maps,
@@ -124,6 +115,20 @@ impl LogState {
         ensures programs { result.now ≡ installed_in self.now.base_state }
     {
         &self.base_programs
+    }
+
+    /// The state before the first record kept, and the records from there on.
+    pub fn into_base(self) -> (StoreState, Vec<Record>)
+        ensures state { result.0 ≡ self.base_state }
+        ensures records { result.1.items ≡ self.records }
+    {
+        let LogState {
+            base_maps,
+            base_programs,
+            records,
+            ..
+        } = self;
+        (StoreState::of(base_maps, base_programs), records)
     }
 
     /// The length of the history.

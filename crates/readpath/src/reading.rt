@@ -1,7 +1,8 @@
 // When a read may answer, and what it answers.
 
 ghost use Rattle.std.specs.Prelude.{◌≡◌, ◌↔◌, ◌≤◌, IsTrue, Some, option_map};
-ghost use Rattle.loader.specs.StoreState.{sizes_for, sizes_of};
+ghost use Rattle.loader.specs.CatalogueView.{sizes_for};
+ghost use Rattle.loader.specs.StoreState.{sizes_of};
 ghost use Rattle.oplog.specs.declared.records.Op.TheVariants.{Run};
 ghost use Rattle.replica.specs.StoreMeaning.{call_of, read_of};
 

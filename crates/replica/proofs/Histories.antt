@@ -11,11 +11,11 @@ use Rattle.verifier.specs.declared.refusal.Mode.TheVariants.{Update, Read}
 use Rattle.verifier.specs.Accepted.{Checked, checked, IsAccepted, signature_of}
 use Rattle.machine.specs.Effects.{effect_of, Effect as RunEffect}
 use Rattle.machine.proofs.EffectsOfRuns.{typable_takes_effect}
-use Rattle.loader.specs.CatalogueView.{CatalogueView, IsCatalogue, Entry}
+use Rattle.loader.specs.CatalogueView.{CatalogueView, IsCatalogue, Entry, sizes_for, opening_state}
 use Rattle.loader.specs.Installed.{installed_program}
-use Rattle.loader.specs.StoreState.{StoreState, sizes_for, opened_state, IsState}
+use Rattle.loader.specs.StoreState.{StoreState, IsState}
 use Rattle.loader.proofs.Installing.{installed_is_accepted, one_more_installed}
-use Rattle.loader.proofs.States.{opened_is_state}
+use Rattle.loader.proofs.Openings.{opening_is_state}
 use Rattle.oplog.specs.Calls.{Call, NewProgram}
 use Rattle.oplog.specs.Operations.{Operation}
 use Rattle.oplog.specs.declared.records.Op.TheVariants.{Run, Install}
@@ -155,8 +155,8 @@ module _ (c : CatalogueView) (whole : IsCatalogue c) where
 
   state_at : (history : History) (k : ℕ) → AreUpdates c history → IsState (sizes_for c) (state_after store_meaning c history k)
   state_at history k updates =
-      states_after (opened_state (sizes_for c)) (take k history) (λ i r e. updates i r (from-take history k i r e))
-      (opened_is_state (sizes_for c) whole.shapes whole.few_places)
+      states_after (opening_state c) (take k history) (λ i r e. updates i r (from-take history k i r e))
+      (opening_is_state c whole)
 
   offered_at : (mode : Mode) (history : History) (k : ℕ) (call : Call) → AreUpdates c history → is_operation mode c (Run call) ≡ true → call.program < length c.programs
       → HasRun mode c call (state_after store_meaning c history k)

@@ -5,9 +5,9 @@ use Rattle.verifier.specs.declared.refusal.Mode.{Mode}
 use Rattle.verifier.specs.declared.refusal.Mode.TheVariants.{Update, Read}
 use Rattle.verifier.specs.Accepted.{Checked}
 use Rattle.machine.specs.Effects.{IsRun, effect_of, Effect as RunEffect}
-use Rattle.loader.specs.CatalogueView.{CatalogueView, IsCatalogue}
+use Rattle.loader.specs.CatalogueView.{CatalogueView, IsCatalogue, sizes_for}
 use Rattle.loader.specs.Installed.{installed_program}
-use Rattle.loader.specs.StoreState.{StoreState, sizes_for, IsState}
+use Rattle.loader.specs.StoreState.{StoreState, IsState}
 use Rattle.oplog.specs.Calls.{Call, NewProgram}
 use Rattle.oplog.specs.Operations.{Operation}
 use Rattle.oplog.specs.declared.records.Op.TheVariants.{Run, Install}

@@ -12,10 +12,10 @@ use Rattle.verifier.specs.Typing.{IsTypable}
 use Rattle.verifier.specs.Accepted.{Checked}
 use Rattle.machine.specs.Effects.{effect, effect_of, Effect as RunEffect}
 use Rattle.machine.specs.declared.running.Outcome.{Outcome}
-use Rattle.loader.specs.CatalogueView.{CatalogueView}
+use Rattle.loader.specs.CatalogueView.{CatalogueView, opening_state}
 use Rattle.loader.specs.Installed.{installed_program}
 use Rattle.loader.specs.declared.installed.InstallRefusal.{InstallRefusal}
-use Rattle.loader.specs.StoreState.{StoreState, sizes_for, opened_state}
+use Rattle.loader.specs.StoreState.{StoreState}
 use Rattle.oplog.specs.Calls.{Call, NewProgram}
 use Rattle.oplog.specs.Operations.{Operation}
 use Rattle.oplog.specs.declared.records.Op.TheVariants.{Run, Install}
@@ -169,10 +169,10 @@ is_operation Read c (Install new) = false
 
 -- ---- together
 
--- a store opens with the opening state of its sizes
+-- a store opens on what its catalogue says
 abbrev pub store_meaning : Meaning CatalogueView StoreState
 store_meaning = record {
-  opening = λ c. opened_state (sizes_for c);
+  opening = opening_state;
   update = updated;
   read = read_of;
   is_update = is_operation Update;

@@ -14,7 +14,7 @@ use crate::replying::Replies;
 use loader::{Catalogue, Installed};
 use machine::{Outcome, run};
 use maps::MapSet;
-use oplog::{Hand, NewProgram, Op};
+use oplog::{Hand, NewProgram, Op, Record};
 use verifier::{Accepted, Mode};
 
 /// What a call replies where no program of its number suits it: -22, as 64 bits.
@@ -154,5 +154,24 @@ pub(crate) fn perform_first(
         let record = hand.record(k);
         let outcome = perform(catalogue, programs, maps, &record.op);
         replies.keep(first + k as u64, outcome);
+    }
+}
+
+// Performs the operations of records, one after the other.
+pub(crate) fn perform_all(
+    catalogue: &Catalogue,
+    programs: &mut Installed,
+    maps: &mut MapSet,
+    records: &[Record],
+)
+    requires shapes { HasShapes catalogue.now.shapes (maps_of maps.old) }
+    requires programs { programs.old.shapes ≡ catalogue.now.shapes }
+    requires allowed { AreUpdates catalogue.now records.now }
+    ensures state { Leaves catalogue.now (state_of (maps_of maps.old) programs.old) records.now (state_of (maps_of maps.new) programs.new) }
+    ensures shapes { HasShapes catalogue.now.shapes (maps_of maps.new) }
+    ensures programs { programs.new.shapes ≡ catalogue.now.shapes }
+{
+    for record in records {
+        perform(catalogue, programs, maps, &record.op);
     }
 }

@@ -1,12 +1,11 @@
 // A replica of the maps, and of the programs that were installed.
 
-ghost use Rattle.std.specs.Prelude.{◌≡◌, ◌+◌, ◌<◌, ◌≤◌, ◌^◌, [], length, take, drop, Some, IfOk};
-ghost use Rattle.maps.specs.Shapes.{AreShapesOk};
+ghost use Rattle.std.specs.Prelude.{◌≡◌, ◌+◌, ◌<◌, ◌≤◌, ◌^◌, [], length, take, drop, Some};
 ghost use Rattle.maps.specs.Maps.{shapes_of, HasShapes};
 ghost use Rattle.maps.specs.MapSets.{maps_of};
 ghost use Rattle.verifier.specs.declared.refusal.Mode.TheVariants.{Read};
-ghost use Rattle.loader.specs.declared.installed.TheConstants.{MAX_PLACES};
-ghost use Rattle.loader.specs.StoreState.{installed_in, opened_state, sizes_for, sizes_of, state_of};
+ghost use Rattle.loader.specs.CatalogueView.{sizes_for};
+ghost use Rattle.loader.specs.StoreState.{installed_in, sizes_of, state_of};
 ghost use Rattle.oplog.specs.History.{after};
 ghost use Rattle.oplog.specs.Logs.{records_from};
 ghost use Rattle.replica.specs.StoreMeaning.{store_meaning, call_of, run_of, ran_to, AreUpdates};
@@ -14,11 +13,10 @@ ghost use Rattle.replica.specs.Replaying.{KeepsOutcomes};
 
 use crate::operations::{perform_first, program_of, run_suitable};
 use crate::replying::Replies;
-use loader::{Catalogue, Installed};
+use loader::{Catalogue, Installed, StoreState};
 use machine::Outcome;
-use maps::{MapSet, Shape};
+use maps::MapSet;
 use oplog::{Hand, LogState};
-use std::alloc::{AllocError, Global};
 use std::marker::Model;
 use verifier::Mode;
 
@@ -48,25 +46,16 @@ impl Model for Replica {
 }
 
 impl Replica {
-    /// The opening maps of these shapes and places for so many programs, before any operation.
-    ///
-    /// # Errors
-    ///
-    /// The system has no memory left.
-    pub fn open(alloc: Global, shapes: &[Shape], places: usize) -> Result<Replica, AllocError>
-        requires shapes { AreShapesOk shapes.now }
-        requires places { places ≤ MAX_PLACES }
-        ensures opened { IfOk result (λ r. r ≡ record { tail = 0; state = opened_state (record { shapes = shapes.now; places = places }) }) }
+    /// A replica of this state, before any operation.
+    pub fn open(state: StoreState) -> Replica
+        ensures opened { result ≡ record { tail = 0; state = state } }
     {
-        let Ok(maps) = MapSet::open(alloc, shapes) else {
-            return Err(AllocError);
-        };
-        let programs = Installed::open(alloc, shapes, places)?;
-        Ok(Replica {
+        let (maps, programs) = state.into_parts();
+        Replica {
             tail: 0,
             maps,
             programs,
-        })
+        }
     }
 
     /// How many operations of the history it has applied.

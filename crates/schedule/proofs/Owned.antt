@@ -4,9 +4,9 @@ use Rattle.std.specs.Prelude.{slice_get, ◌&&◌, ◌||◌, ◌==◌, cond, if�
 use Rattle.std.specs.List.{list_any}
 use Rattle.std.proofs.lemmas.Option.{none-some}
 use Rattle.std.proofs.lemmas.Bool.{false≢true}
-use Rattle.loader.specs.StoreState.{IsState, sizes_of, sizes_for}
+use Rattle.loader.specs.StoreState.{IsState, sizes_of}
 use Rattle.loader.proofs.States.{state_sizes}
-use Rattle.loader.specs.CatalogueView.{CatalogueView}
+use Rattle.loader.specs.CatalogueView.{CatalogueView, sizes_for}
 use Rattle.oplog.specs.declared.configuration.TheConstants.{MAX_LIMIT}
 use Rattle.oplog.specs.History.{History}
 use Rattle.oplog.specs.Logs.{Log}

@@ -18,8 +18,7 @@ use Rattle.schedule.specs.declared.parts.Opening.{Opening}
 use Rattle.schedule.specs.Worlds.{NodeView, WorldView, opened_node, opened_nodes, opened}
 use Rattle.schedule.specs.Steps.{Part, Took, put_part, part_of, node_of, took, world_after, trace_after, world_of, trace_of}
 use Rattle.schedule.specs.Stands.{NodeStands, StageStands, Stands}
-use Rattle.loader.specs.StoreState.{sizes_for}
-use Rattle.loader.specs.CatalogueView.{IsCatalogue}
+use Rattle.loader.specs.CatalogueView.{IsCatalogue, opening_state}
 use Rattle.oplog.specs.Limits.{IsConfig}
 use Rattle.oplog.specs.Logs.{Log, opened_log}
 use Rattle.schedule.specs.Taking.{store_of, IsStanding}
@@ -180,12 +179,12 @@ nodes_next m first (suc count) =
     ap (opened_nodes m first) i ∙ ap (λ ns. opened_node m first ∷ ns) (nodes_next m (suc first) count ∙ ap (λ k. opened_nodes m (suc first) count ++ opened_node m k ∷ []) j)
 
 -- a log and nodes that are new stand for the empty history
-pub new_stands : (m : Opening) (g : Log) (nodes : List NodeView) → IsCatalogue m.catalogue → g ≡ opened_log (sizes_for m.catalogue) m.config.window m.config.limit → nodes ≡ opened_nodes m 0 m.config.nodes
+pub new_stands : (m : Opening) (g : Log) (nodes : List NodeView) → IsCatalogue m.catalogue → g ≡ opened_log (opening_state m.catalogue) m.config.window m.config.limit → nodes ≡ opened_nodes m 0 m.config.nodes
     → Stands m (record { log = g; nodes = nodes }) [] [] []
 new_stands m g nodes whole is are =
     subst (λ k. Stands m (record { log = k; nodes = nodes }) [] [] []) (sym is)
-    (subst (λ ns. Stands m (record { log = opened_log (sizes_for m.catalogue) m.config.window m.config.limit; nodes = ns }) [] [] []) (sym are) (opening_stands m whole))
+    (subst (λ ns. Stands m (record { log = opened_log (opening_state m.catalogue) m.config.window m.config.limit; nodes = ns }) [] [] []) (sym are) (opening_stands m whole))
 
-pub new_is_standing : (m : Opening) (g : Log) (nodes : List NodeView) → IsConfig m.config → IsCatalogue m.catalogue → g ≡ opened_log (sizes_for m.catalogue) m.config.window m.config.limit → nodes ≡ opened_nodes m 0 m.config.nodes
+pub new_is_standing : (m : Opening) (g : Log) (nodes : List NodeView) → IsConfig m.config → IsCatalogue m.catalogue → g ≡ opened_log (opening_state m.catalogue) m.config.window m.config.limit → nodes ≡ opened_nodes m 0 m.config.nodes
     → IsStanding (store_of m g nodes)
 new_is_standing m g nodes config whole is are = record { config = config; history = []; positions = []; trace = []; stands = new_stands m g nodes whole is are }

@@ -1,6 +1,6 @@
 -- A store as one value: its log and its nodes.
 use Rattle.std.specs.Prelude.{ℕ, zero, suc, List, [], ◌∷◌, replicate, Option, None}
-use Rattle.loader.specs.StoreState.{sizes_for}
+use Rattle.loader.specs.CatalogueView.{opening_state}
 use Rattle.oplog.specs.Logs.{Log, HandView, opened_log, opened_hand}
 use Rattle.combiner.specs.Desks.{DeskView, opened_desk}
 use Rattle.replica.specs.StoreMeaning.{store_meaning}
@@ -47,4 +47,4 @@ opened_nodes m n (suc count) = opened_node m n ∷ opened_nodes m (suc n) count
 
 -- a new store: its log is empty, and its nodes are new
 abbrev pub opened : Opening → WorldView
-opened m = record { log = opened_log (sizes_for m.catalogue) m.config.window m.config.limit; nodes = opened_nodes m 0 m.config.nodes }
+opened m = record { log = opened_log (opening_state m.catalogue) m.config.window m.config.limit; nodes = opened_nodes m 0 m.config.nodes }

@@ -1,7 +1,8 @@
 // A node, and its part of each step.
 
 ghost use Rattle.std.specs.Prelude.{◌≡◌, ◌↔◌, IsTrue, ◌+◌, ◌≤◌, ◌<◌, ◌^◌, true, false, length, Some, None, IfOk, replicate, slice_get, option_map, ◌≢◌};
-ghost use Rattle.loader.specs.StoreState.{sizes_of, sizes_for};
+ghost use Rattle.loader.specs.CatalogueView.{OpensOn, sizes_for};
+ghost use Rattle.loader.specs.StoreState.{sizes_of};
 ghost use Rattle.oplog.specs.declared.configuration.TheConstants.{MAX_NODES};
 ghost use Rattle.oplog.specs.Limits.{IsConfig};
 ghost use Rattle.oplog.specs.Logs.{Log};
@@ -19,7 +20,7 @@ ghost use Rattle.schedule.specs.Taking.{IsOfStore, TakesPart, TakesOwnPart, Take
 use crate::parts::{BegunRead, Opening};
 use crate::steps::{Step, StepAnswer};
 use combiner::{Batch, Desk, Stage};
-use loader::{Catalogue, Installed};
+use loader::{Catalogue, Installed, StoreState};
 use node::{NodeBatch, NodeReplica, Written};
 use oplog::{Call, Hand, LogState, NewProgram, Op};
 use readpath::{ReadAnswer, answer};
@@ -96,22 +97,24 @@ fn no_reads(alloc: Global, count: usize) -> Result<Vec<Option<BegunRead>>, Alloc
 }
 
 impl Node {
-    /// A node of a new store.
+    /// A node of a new store, which opens on this state, if any is handed in.
     ///
     /// # Errors
     ///
     /// The system has no memory left.
-    pub(crate) fn open(alloc: Global, opening: &Opening, number: u16) -> Result<Node, AllocError>
+    pub(crate) fn open(
+        alloc: Global,
+        opening: &Opening,
+        state: Option<&StoreState>,
+        number: u16,
+    ) -> Result<Node, AllocError>
         requires config { IsConfig opening.now.config }
+        requires opens { OpensOn opening.now.catalogue state }
         requires number { number < MAX_NODES }
         ensures opened { IfOk result (λ node. node ≡ opened_node opening.now number) }
     {
         let slots = opening.config.slots as usize;
-        let replica = Replica::open(
-            alloc,
-            opening.catalogue.shapes(),
-            opening.catalogue.places(),
-        )?;
+        let replica = Replica::open(StoreState::opening(alloc, &opening.catalogue, state)?);
         let hand = Hand::open(alloc, opening.config.window as usize)?;
         let reads = no_reads(alloc, slots)?;
         Ok(Node {

@@ -1,10 +1,9 @@
 // A store as one value, and its steps.
 
-ghost use Rattle.std.specs.Prelude.{◌≡◌, ◌↔◌, ◌<◌, ◌≤◌, [], ◌∷◌, length, replicate, slice_get, Some, None, option_map, IfOk, IfErr, OnErr};
-ghost use Rattle.maps.specs.Shapes.{AreShapesOk};
-ghost use Rattle.loader.specs.CatalogueView.{IsCatalogue, with_places};
+ghost use Rattle.std.specs.Prelude.{◌≡◌, ◌≢◌, ◌↔◌, ◌<◌, ◌≤◌, [], ◌∷◌, length, replicate, slice_get, Some, None, option_map, IfOk, IfErr, OnErr};
+ghost use Rattle.loader.specs.CatalogueView.{IsCatalogue, MayOpenOn, OpensOn, opened_on, with_places};
 ghost use Rattle.oplog.specs.Limits.{IsConfig};
-ghost use Rattle.oplog.specs.declared.configuration.OpenError.TheVariants.{OutOfLimits};
+ghost use Rattle.oplog.specs.declared.configuration.OpenError.TheVariants.{OtherState, OutOfLimits};
 ghost use Rattle.schedule.specs.Worlds.{opened_node, opened_nodes};
 ghost use Rattle.schedule.specs.Steps.{node_of, took, world_of};
 ghost use Rattle.schedule.specs.Blocking.{blocked, IsTakenUnless};
@@ -16,7 +15,7 @@ use crate::blocking::Blocked;
 use crate::nodes::Node;
 use crate::parts::Opening;
 use crate::steps::{Step, StepAnswer};
-use loader::{Catalogue, Installed};
+use loader::{Catalogue, Installed, StoreState};
 use oplog::{Config, LogState, OpenError};
 use replica::Replica;
 use std::alloc::{AllocError, Global};
@@ -47,15 +46,20 @@ impl Model for World {
     ghost invariant = { λ w. IsStanding (store_of w.opening w.log w.nodes.items) × IsRoomFor w.opening.catalogue.shapes w.room };
 }
 
-// The nodes of a new store.
+// The nodes of a new store, which opens on this state, if any is handed in.
 #[tactic(auto, using(crate::proofs::Runs::nodes_next, crate::proofs::Runs::nodes_count))]
-fn open_nodes(alloc: Global, opening: &Opening) -> Result<Vec<Node>, AllocError>
+fn open_nodes(
+    alloc: Global,
+    opening: &Opening,
+    state: Option<&StoreState>,
+) -> Result<Vec<Node>, AllocError>
     requires config { IsConfig opening.now.config }
+    requires opens { OpensOn opening.now.catalogue state }
     ensures opened { IfOk result (λ nodes. nodes.items ≡ opened_nodes opening.now 0 opening.now.config.nodes) }
 {
     let mut nodes = Vec::with_capacity(alloc, opening.config.nodes as usize)?;
     for number in 0..opening.config.nodes {
-        let node = Node::open(alloc, opening, number as u16)?;
+        let node = Node::open(alloc, opening, state, number as u16)?;
         nodes.push_reserved(node);
     }
     Ok(nodes)
@@ -69,6 +73,7 @@ impl World {
     /// O1 where a number of the configuration is out of its limits, O2 where there is no memory.
     pub fn open(alloc: Global, config: Config, catalogue: Catalogue) -> Result<World, OpenError>
         ensures limits { IfErr result (λ e. (e ≡ OutOfLimits) ↔ (IsConfig config → ⊥)) }
+        ensures other { IfErr result (λ e. e ≢ OtherState) }
         ensures within { IfOk result (λ w. IsConfig config) }
         ensures opened { IfOk result (λ w. w ≡ opened_store (record { config = config; catalogue = with_places catalogue config.spare })) }
         ensures stands { IfOk result (λ w. Stands w.opening w.world [] [] []) }
@@ -76,20 +81,65 @@ impl World {
         if !config.is_within_limits() {
             return Err(OpenError::OutOfLimits);
         }
-        let places = config.spare as usize;
-        let catalogue = catalogue.with_places(places);
-        let shapes = catalogue.shapes();
-        let (window, limit) = (config.window as usize, config.limit as usize);
-        let Ok(log) = LogState::open(alloc, shapes, places, window, limit) else {
-            return Err(OpenError::NoMemory);
-        };
-        let Ok(room) = Installed::open(alloc, shapes, 1) else {
-            return Err(OpenError::NoMemory);
-        };
-        let opening = Opening { config, catalogue };
-        let Ok(nodes) = open_nodes(alloc, &opening) else {
-            return Err(OpenError::NoMemory);
-        };
+        let catalogue = catalogue.with_places(config.spare as usize);
+        match World::opened(alloc, Opening { config, catalogue }, None) {
+            Ok(world) => Ok(world),
+            Err(_) => Err(OpenError::NoMemory),
+        }
+    }
+
+    /// The same store on a state that was taken out of another: its maps have what the state's maps have, and the programs that were
+    /// installed there are installed.
+    ///
+    /// # Errors
+    ///
+    /// O1 where a number of the configuration is out of its limits, then O3 where the state has other maps than the catalogue or more
+    /// programs than the configuration has places, then O2 where there is no memory.
+    pub fn open_on(
+        alloc: Global,
+        config: Config,
+        catalogue: Catalogue,
+        state: &StoreState,
+    ) -> Result<World, OpenError>
+        ensures limits { IfErr result (λ e. (e ≡ OutOfLimits) ↔ (IsConfig config → ⊥)) }
+        ensures other { IfErr result (λ e. (e ≡ OtherState) ↔ IsConfig config × (MayOpenOn (with_places catalogue config.spare) state.now → ⊥)) }
+        ensures within { IfOk result (λ w. IsConfig config × MayOpenOn (with_places catalogue config.spare) state.now) }
+        ensures opened { IfOk result (λ w. w ≡ opened_store (record { config = config; catalogue = opened_on (with_places catalogue config.spare) state.now })) }
+        ensures stands { IfOk result (λ w. Stands w.opening w.world [] [] []) }
+    {
+        if !config.is_within_limits() {
+            return Err(OpenError::OutOfLimits);
+        }
+        let catalogue = catalogue.with_places(config.spare as usize);
+        if !catalogue.may_open_on(state) {
+            return Err(OpenError::OtherState);
+        }
+        let catalogue = catalogue.on(state);
+        match World::opened(alloc, Opening { config, catalogue }, Some(state)) {
+            Ok(world) => Ok(world),
+            Err(_) => Err(OpenError::NoMemory),
+        }
+    }
+
+    // The store of an opening, on what its catalogue opens on.
+    fn opened(
+        alloc: Global,
+        opening: Opening,
+        state: Option<&StoreState>,
+    ) -> Result<World, AllocError>
+        requires config { IsConfig opening.config }
+        requires opens { OpensOn opening.catalogue state }
+        ensures opened { IfOk result (λ w. w ≡ opened_store opening) }
+        ensures stands { IfOk result (λ w. Stands w.opening w.world [] [] []) }
+    {
+        let base = StoreState::opening(alloc, &opening.catalogue, state)?;
+        let (window, limit) = (
+            opening.config.window as usize,
+            opening.config.limit as usize,
+        );
+        let log = LogState::open(alloc, base, window, limit)?;
+        let room = Installed::open(alloc, opening.catalogue.shapes(), 1)?;
+        let nodes = open_nodes(alloc, &opening, state)?;
         Ok(World {
             opening,
             log,

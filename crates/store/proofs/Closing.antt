@@ -3,19 +3,20 @@ use Rattle.std.proofs.Common.{◌≡◌, ℕ, zero, suc, ◌+◌, ◌*◌, ◌<�
 use Rattle.std.proofs.lemmas.List.{length-replicate}
 use Rattle.std.specs.Global.{Box}
 use mathlib.Core.Option.{some-injective}
-use Rattle.loader.specs.StoreState.{sizes_of, sizes_for}
+use Rattle.loader.specs.StoreState.{sizes_of}
 use Rattle.ownlock.specs.Seats.{At}
 use Rattle.ownlock.specs.Knowledge.{AllAgree, Closes}
-use Rattle.loader.specs.CatalogueView.{CatalogueView}
+use Rattle.loader.specs.CatalogueView.{CatalogueView, sizes_for}
 use Rattle.oplog.specs.declared.configuration.Config.{Config}
 use Rattle.oplog.specs.declared.records.Record.{Record}
+use Rattle.oplog.specs.History.{after, state_after}
 use Rattle.oplog.specs.Limits.{IsConfig}
 use Rattle.oplog.specs.Logs.{Log as LogView}
 use Rattle.replica.specs.StoreMeaning.{store_meaning}
 use Rattle.replica.specs.Views.{ReplicaView}
 use Rattle.accounts.specs.declared.sessions.Progress.{Progress}
 use Rattle.accounts.specs.declared.sessions.SessionNote.{SessionNote}
-use Rattle.accounts.specs.Accounts.{Extends}
+use Rattle.accounts.specs.Accounts.{Extends, IsWellFormed}
 use Rattle.accounts.specs.Agreement.{LogAgrees, ReplicaAgrees}
 use Rattle.accounts.specs.LogSteps.{fresh_note}
 use Rattle.accounts.proofs.Ended.{ends}
@@ -29,8 +30,9 @@ use Rattle.store.specs.declared.values.Value.TheVariants.{Log, Replica, Desk}
 use Rattle.store.specs.Shelving.{HasLogSizes, log_value, opening_notes, replica_value, sessions_of, store_rules, view_of}
 use Rattle.store.specs.Sessions.{SessionView, StoreView, known_of}
 use Rattle.store.specs.Standing.{SessionKnown}
-use Rattle.store.specs.Opening.{AreIdle, AreLeft, AreOf, IsClosed, closed_view, known_back, replica_slots, replicas_in}
+use Rattle.store.specs.Opening.{AreIdle, AreLeft, AreOf, IsClosed, IsLogFor, closed_view, known_back, log_in, replica_slots, replicas_in}
 use Rattle.store.proofs.Joined.{back_has, back_is}
+use Rattle.store.proofs.Last.{ends_in, is_log_for}
 use Rattle.store.proofs.StoreLaws.{session_laws}
 
 abbrev L : Type 0
@@ -176,12 +178,22 @@ module _ (store : StoreView) (sessions : List SessionView) (view : List SessionK
       let b = back_is sessions q.0 q.1 (subst (λ z. At q.0 q.1 z) known q.2) in
       (b.0, b.1, b.2, sym q.3 ∙ ap (λ (z : SessionKnown). z.session) b.3)
 
-  pub is_closed : (values : List (Option Value)) → IsLeft l store.config.nodes values → IsClosed store sessions (closed_view values)
-  is_closed values p = subst (λ z. IsClosed store sessions (closed_view z)) (sym p.values_are) (record {
+  well : IsWellFormed store_meaning l
+  well = record { allowed = a.2.allowed; completed = a.2.completed; limit = a.2.limit }
+
+  pub log_for : (values : List (Option Value)) → IsLeft l store.config.nodes values → IsLogFor store.catalogue (log_in values)
+  log_for values p =
+      subst (λ z. IsLogFor z (log_in values)) catalogue_is
+      (subst (λ z. IsLogFor l.catalogue (log_in z)) (sym p.values_are) (is_log_for l p.log.value p.log_is well p.log_sizes.2))
+
+  pub is_closed : (values : List (Option Value)) → IsLeft l store.config.nodes values → IsClosed store sessions (closed_view store.catalogue values)
+  is_closed values p = subst (λ z. IsClosed store sessions (closed_view store.catalogue z)) (sym p.values_are) (record {
     progress = l;
     of = (config_is, catalogue_is);
-    well_formed = record { allowed = a.2.allowed; completed = a.2.completed; limit = a.2.limit };
+    well_formed = well;
     grown = λ j s at. (mine j s at).0;
+    catalogue = refl;
+    last = subst (λ z. after store_meaning z p.log.value.base_state p.log.value.records ≡ state_after store_meaning z l.history (length l.history)) catalogue_is (ends_in l p.log.value p.log_is);
     log_is = p.log_is;
     log_tail = tail_is store_meaning l (log_value p.log.value) a.2.completed p.log_is;
     log_sizes = subst (λ (z : Config × CatalogueView). HasLogSizes z.0 z.1 p.log.value) (λ i. (config_is i, catalogue_is i)) p.log_sizes;

@@ -3,8 +3,7 @@ use Rattle.std.proofs.Common.{◌≡◌, ℕ, zero, suc, ◌+◌, ◌-◌, ◌*�
 use Rattle.std.proofs.lemmas.Bool.{cases_lt}
 use Rattle.ownlock.specs.Seats.{At}
 use Rattle.ownlock.specs.Knowledge.{AllAgree}
-use Rattle.loader.specs.StoreState.{sizes_for}
-use Rattle.loader.specs.CatalogueView.{CatalogueView}
+use Rattle.loader.specs.CatalogueView.{CatalogueView, IsCatalogue, opening_state}
 use Rattle.oplog.specs.declared.configuration.Config.{Config}
 use Rattle.replica.specs.StoreMeaning.{store_meaning}
 use Rattle.accounts.specs.Values.{TheDesk}
@@ -47,8 +46,8 @@ grown old values new n v P is g p = subst (λ z. Grown old (n + 1) P z) (sym is)
 
 -- ---- all values
 
-pub shelved : (config : Config) (c : CatalogueView) (none first second third : List (Option Value)) (log : Value) → none ≡ [] → first ≡ none ++ Some log ∷ [] → IsOpenedLog (sizes_for c) config.window config.limit log
-    → length second ≡ length first + config.nodes → AreKept first second → AreFilled (length first) config.nodes (λ i v. IsOpenedReplica (sizes_for c) config.window v) second
+pub shelved : (config : Config) (c : CatalogueView) (none first second third : List (Option Value)) (log : Value) → none ≡ [] → first ≡ none ++ Some log ∷ [] → IsOpenedLog (opening_state c) config.window config.limit log
+    → length second ≡ length first + config.nodes → AreKept first second → AreFilled (length first) config.nodes (λ i v. IsOpenedReplica (opening_state c) config.window v) second
     → length third ≡ length second + config.nodes → AreKept second third → AreFilled (length second) config.nodes (λ i v. IsOpenedDesk config.slots i v) third → AreShelved config c third
 shelved config c none first second third log empty is opened long kept replicas longer kept2 desks = record {
   count = omega (arith, one, long, longer);
@@ -80,15 +79,15 @@ desk_opens config c node (Replica n) lt is = absurd is
 one_more : (i : ℕ) → 1 + i ≡ suc i
 one_more i = omega arith
 
-pub places_agree : (config : Config) (c : CatalogueView) (values : List (Option Value)) → AreShelved config c values → AllAgree store_rules (first_progress config c) (replicate (sessions_of config) fresh_note) values
-places_agree config c values s p lt = by_place p lt (cases_lt p 1) (cases_lt p (1 + config.nodes))
+pub places_agree : (config : Config) (c : CatalogueView) (values : List (Option Value)) → IsCatalogue c → AreShelved config c values → AllAgree store_rules (first_progress config c) (replicate (sessions_of config) fresh_note) values
+places_agree config c values whole s p lt = by_place p lt (cases_lt p 1) (cases_lt p (1 + config.nodes))
   where
     by_place : (p : ℕ) → p < length values → (p < 1) ⊎ (1 ≤ p) → (p < 1 + config.nodes) ⊎ (1 + config.nodes ≤ p)
         → (x : Value) × At p (Some x) values × store_rules.AgreesWith p (first_progress config c) (replicate (sessions_of config) fresh_note) x
-    by_place zero lt low less = let t = log_opens config c s.log.0 s.log.2 in (s.log.0, s.log.1, (store_opens (desk_store store_meaning) view_of IsSized config c (sessions_of config)).1 s.log.0 t.0 t.1)
+    by_place zero lt low less = let t = log_opens config c whole s.log.0 s.log.2 in (s.log.0, s.log.1, (store_opens (desk_store store_meaning) view_of IsSized config c (sessions_of config)).1 s.log.0 t.0 t.1)
     by_place (suc i) lt low (inl less) =
         let n = s.replicas i (omega (arith, less)) in
-        let t = replica_opens config c n.0 n.2 in
+        let t = replica_opens config c whole n.0 n.2 in
         subst (λ q. (x : Value) × At q (Some x) values × store_rules.AgreesWith q (first_progress config c) (replicate (sessions_of config) fresh_note) x) (one_more i)
         (n.0, n.1, (store_opens (desk_store store_meaning) view_of IsSized config c (sessions_of config)).2 i n.0 (omega (arith, less)) t.0 t.1)
     by_place (suc i) lt low (inr more) =

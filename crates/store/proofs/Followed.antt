@@ -1,8 +1,8 @@
 -- A replica that follows the history, the log of a progress, and what the steps on both leave.
 use Rattle.std.proofs.Common.{◌≡◌, suc, ◌+◌, ◌-◌, ◌<◌, ◌≤◌, ◌&&◌, true, false, [], length, drop, refl, sym, ap, ◌∙◌, subst, arith, Some, slice_get, ⊎_elim}
 use Rattle.std.proofs.lemmas.Bool.{cases_lt, le-leb, le-ltb}
-use Rattle.loader.specs.StoreState.{sizes_of, sizes_for}
-use Rattle.loader.specs.CatalogueView.{CatalogueView}
+use Rattle.loader.specs.StoreState.{sizes_of}
+use Rattle.loader.specs.CatalogueView.{CatalogueView, sizes_for}
 use Rattle.oplog.specs.Logs.{Log as LogView, HandView, records_from}
 use Rattle.oplog.specs.History.{state_after}
 use Rattle.replica.specs.StoreMeaning.{store_meaning, AreUpdates}

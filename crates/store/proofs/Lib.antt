@@ -25,6 +25,7 @@ pub mod Resumed
 pub mod Turning
 pub mod Invoked
 pub mod Between
+pub mod Last
 pub mod Closing
 pub mod Watched
 pub mod EachSession

@@ -1,11 +1,11 @@
 -- A replica applies the records in its hand, and what it has applied is completed.
 use Rattle.std.proofs.Common.{◌≡◌, ℕ, ◌+◌, ◌-◌, ◌≤◌, [], List, length, take, drop, sym, refl, ap, ◌∙◌, subst, arith, Some, slice_get}
 use Rattle.std.proofs.Math.Nat.{le-max_right}
-use Rattle.loader.specs.StoreState.{sizes_of, sizes_for}
+use Rattle.loader.specs.StoreState.{sizes_of}
 use Rattle.ownlock.specs.Rules.{leader}
 use Rattle.ownlock.specs.Seats.{At, with_progress}
 use Rattle.ownlock.specs.Knowledge.{Later, Possible}
-use Rattle.loader.specs.CatalogueView.{CatalogueView}
+use Rattle.loader.specs.CatalogueView.{CatalogueView, sizes_for}
 use Rattle.oplog.specs.Logs.{Log as LogView, HandView}
 use Rattle.oplog.specs.History.{after, state_after}
 use Rattle.replica.specs.StoreMeaning.{store_meaning}

@@ -2,8 +2,8 @@
 use Rattle.std.proofs.Common.{◌≡◌, Bool, true, false, ℕ, zero, suc, ◌+◌, ◌-◌, ◌<◌, ◌≤◌, min, length, drop, refl, sym, ap, ◌∙◌, subst, arith, ⊎_elim}
 use Rattle.std.specs.Prelude.{◌⊎◌}
 use Rattle.std.proofs.Math.Nat.{le-max_right, max-le, min-le_left}
-use Rattle.loader.specs.StoreState.{sizes_of, sizes_for}
-use Rattle.loader.specs.CatalogueView.{CatalogueView}
+use Rattle.loader.specs.StoreState.{sizes_of}
+use Rattle.loader.specs.CatalogueView.{CatalogueView, sizes_for}
 use Rattle.oplog.specs.Logs.{Log as LogView, tail_of, left_of, room_in}
 use Rattle.oplog.specs.declared.configuration.TheConstants.{MAX_LIMIT}
 use Rattle.replica.specs.StoreMeaning.{store_meaning}

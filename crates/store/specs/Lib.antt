@@ -7,6 +7,7 @@ pub mod AtDesk
 -- The values of its shelf, the rules of its sessions there, and what a session knows.
 pub mod Shelving
 pub mod Standing
+pub mod Codes
 pub mod Knowing
 -- What the store's inner functions speak of.
 pub mod Lending

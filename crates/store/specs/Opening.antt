@@ -2,12 +2,14 @@
 use Rattle.std.specs.Prelude.{◌≡◌, ℕ, List, [], ◌∷◌, ◌++◌, length, refl, Option, Some, None}
 use Rattle.std.specs.Coded.{Coded, code_by, coded×, coded_list}
 use Rattle.std.specs.Global.{Box}
-use Rattle.loader.specs.StoreState.{sizes_of, sizes_for}
+use Rattle.loader.specs.StoreState.{StoreState, sizes_of}
 use Rattle.ownlock.specs.Seats.{At}
-use Rattle.loader.specs.CatalogueView.{CatalogueView}
+use Rattle.loader.specs.CatalogueView.{CatalogueView, opening_state, sizes_for}
+use Rattle.loader.specs.Codes.{catalogue_code}
 use Rattle.oplog.specs.declared.records.Record.{Record}
+use Rattle.oplog.specs.History.{after, state_after}
 use Rattle.oplog.specs.Logs.{Log, opened_log, tail_of}
-use Rattle.replica.specs.StoreMeaning.{store_meaning}
+use Rattle.replica.specs.StoreMeaning.{AreUpdates, store_meaning}
 use Rattle.oplog.specs.Codes.{log_code}
 use Rattle.replica.specs.Views.{ReplicaView, replica_code}
 use Rattle.accounts.specs.declared.sessions.Progress.{Progress}
@@ -17,7 +19,7 @@ use Rattle.accounts.specs.Told.{records_of, numbered}
 use Rattle.node.specs.declared.following.NodeReplica.{NodeReplica}
 use Rattle.store.specs.declared.values.Value.{Value}
 use Rattle.store.specs.declared.values.Value.TheVariants.{Log as LogPlace, Replica}
-use Rattle.store.specs.Sessions.{StoreView, SessionView, IsOf, known_of}
+use Rattle.store.specs.Sessions.{StoreView, SessionView, IsOf, known_of, no_catalogue}
 use Rattle.store.specs.Standing.{SessionKnown}
 use Rattle.store.specs.Shelving.{log_value, replica_value, HasLogSizes}
 
@@ -34,10 +36,20 @@ abbrev pub known_back : List SessionView → List SessionKnown
 known_back [] = []
 known_back (s ∷ ss) = known_back ss ++ known_of s ∷ []
 
--- a closed store: its log, and the replica of each node
+-- a closed store: its catalogue, its log, and the replica of each node
 pub record ClosedView : Type 0 where
+  pub catalogue : CatalogueView
   pub log : Log
   pub replicas : List ReplicaView
+
+-- the state after the whole history: what the records that the log keeps leave of its base
+abbrev pub last_state : ClosedView → StoreState
+last_state closed = after store_meaning closed.catalogue closed.log.base_state closed.log.records
+
+-- the log has the sizes of the catalogue, and updates of it
+pub record IsLogFor (c : CatalogueView) (g : Log) : Type 0 where
+  pub sizes : sizes_of g.base_state ≡ sizes_for c
+  pub updates : AreUpdates c g.records
 
 -- the log, and then the replicas
 abbrev pub replica_slots : List (Box NodeReplica) → List (Option Value)
@@ -50,26 +62,31 @@ AreLeft values = (g : Box Log) × (ns : List (Box NodeReplica)) × (values ≡ S
 -- and how they are seen
 abbrev pub log_in : List (Option Value) → Log
 log_in (Some (LogPlace g) ∷ vs) = g.value
-log_in _ = opened_log (record { shapes = []; places = 0 }) 0 0
+log_in _ = opened_log (opening_state no_catalogue) 0 0
 
 abbrev pub replicas_in : List (Option Value) → List ReplicaView
 replicas_in [] = []
 replicas_in (Some (Replica n) ∷ vs) = n.value.replica ∷ replicas_in vs
 replicas_in (v ∷ vs) = replicas_in vs
 
-abbrev pub closed_view : List (Option Value) → ClosedView
-closed_view values = record { log = log_in values; replicas = replicas_in values }
+abbrev pub closed_view : CatalogueView → List (Option Value) → ClosedView
+closed_view c values = record { catalogue = c; log = log_in values; replicas = replicas_in values }
 
 pub closed_code : Coded ClosedView
-closed_code = code_by (Log × List ReplicaView) (coded× log_code (coded_list replica_code)) (λ c. (c.log, c.replicas)) (λ p. record { log = p.0; replicas = p.1 }) (λ _. refl)
+closed_code =
+    code_by (CatalogueView × (Log × List ReplicaView)) (coded× catalogue_code (coded× log_code (coded_list replica_code)))
+    (λ c. (c.catalogue, (c.log, c.replicas))) (λ p. record { catalogue = p.0; log = p.1.0; replicas = p.1.1 }) (λ _. refl)
 
--- what the log and the replicas of a closed store are, by what its sessions bring
+-- what a closed store has, by what its sessions bring
 pub record IsClosed (store : StoreView) (sessions : List SessionView) (closed : ClosedView) : Type 0 where
   -- one history of the store's catalogue within its limit, grown from what each session knew
   pub progress : Progress CatalogueView
   pub of : (progress.config ≡ store.config) × (progress.catalogue ≡ store.catalogue)
   pub well_formed : IsWellFormed store_meaning progress
   pub grown : (a : ℕ) (s : SessionView) → At a s sessions → Extends s.progress progress
+  -- its catalogue is the store's, and its last state that after the whole history
+  pub catalogue : closed.catalogue ≡ store.catalogue
+  pub last : last_state closed ≡ state_after store_meaning store.catalogue progress.history (length progress.history)
   -- the log agrees with it, and has the store's sizes
   pub log_is : LogAgrees store_meaning progress (log_value closed.log)
   pub log_tail : tail_of closed.log ≡ length progress.history

@@ -45,9 +45,13 @@ pub record IsOf (store : StoreView) (s : SessionView) : Type 0 where
   pub config : s.progress.config ≡ store.config
   pub catalogue : s.progress.catalogue ≡ store.catalogue
 
+-- a catalogue of nothing
+abbrev pub no_catalogue : CatalogueView
+no_catalogue = record { shapes = []; programs = []; places = 0; opening = None }
+
 -- the first session of a seat that has any
 abbrev pub nobody : SessionKnown
-nobody = record { session = 0; progress = first_progress (record { nodes = 0; slots = 0; window = 0; limit = 0; spare = 0 }) (record { shapes = []; programs = []; places = 0 }); note = fresh_note; held = []; tails_read = [] }
+nobody = record { session = 0; progress = first_progress (record { nodes = 0; slots = 0; window = 0; limit = 0; spare = 0 }) no_catalogue; note = fresh_note; held = []; tails_read = [] }
 
 abbrev pub first_in : List SessionKnown → SessionKnown
 first_in [] = nobody

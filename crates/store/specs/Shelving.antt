@@ -2,8 +2,8 @@
 use Rattle.std.specs.Prelude.{◌≡◌, ℕ, ◌+◌, ◌*◌, List, [], length, replicate}
 use Rattle.ownlock.specs.Rules.{Rules}
 use Rattle.ownlock.specs.Seats.{Opened, opened_with}
-use Rattle.loader.specs.StoreState.{StoreState, StateSizes, sizes_of, sizes_for, opened_state}
-use Rattle.loader.specs.CatalogueView.{CatalogueView}
+use Rattle.loader.specs.StoreState.{StoreState, sizes_of}
+use Rattle.loader.specs.CatalogueView.{CatalogueView, sizes_for}
 use Rattle.oplog.specs.declared.configuration.Config.{Config}
 use Rattle.oplog.specs.Logs.{Log as LogView, HandView, opened_log, opened_hand}
 use Rattle.replica.specs.Views.{ReplicaView}
@@ -80,16 +80,16 @@ opening_notes s = replicate (sessions_of s.config) fresh_note
 abbrev pub store_opening : Setup → Opened (Progress CatalogueView)
 store_opening s = opened_with (opening_progress s) (places_of s.config) (opening_notes s)
 
--- a new log, and a new replica with its empty hand
-abbrev pub IsOpenedLog : StateSizes → ℕ → ℕ → Value → Type 0
-IsOpenedLog sizes window limit (Log g) = g.value ≡ opened_log sizes window limit
-IsOpenedLog sizes window limit (Replica n) = ⊥
-IsOpenedLog sizes window limit (Desk n) = ⊥
+-- a new log on a state, and a new replica of it with its empty hand
+abbrev pub IsOpenedLog : StoreState → ℕ → ℕ → Value → Type 0
+IsOpenedLog state window limit (Log g) = g.value ≡ opened_log state window limit
+IsOpenedLog state window limit (Replica n) = ⊥
+IsOpenedLog state window limit (Desk n) = ⊥
 
-abbrev pub opened_node : StateSizes → ℕ → NodeReplica
-opened_node sizes window = record { replica = record { tail = 0; state = opened_state sizes }; hand = opened_hand window }
+abbrev pub opened_node : StoreState → ℕ → NodeReplica
+opened_node state window = record { replica = record { tail = 0; state = state }; hand = opened_hand window }
 
-abbrev pub IsOpenedReplica : StateSizes → ℕ → Value → Type 0
-IsOpenedReplica sizes window (Log g) = ⊥
-IsOpenedReplica sizes window (Desk g) = ⊥
-IsOpenedReplica sizes window (Replica n) = n.value ≡ opened_node sizes window
+abbrev pub IsOpenedReplica : StoreState → ℕ → Value → Type 0
+IsOpenedReplica state window (Log g) = ⊥
+IsOpenedReplica state window (Desk g) = ⊥
+IsOpenedReplica state window (Replica n) = n.value ≡ opened_node state window

@@ -1,10 +1,10 @@
 -- What a session knows, and what its calls on the shelf make of that.
 use Rattle.std.specs.Prelude.{◌≡◌, ℕ, ◌+◌, ◌<◌, ◌≤◌, min, List, [], ◌∷◌, length, drop, Some, IsSome, slice_get}
-use Rattle.loader.specs.StoreState.{sizes_of, sizes_for}
+use Rattle.loader.specs.StoreState.{sizes_of}
 use Rattle.ownlock.specs.declared.known.Known.{Known}
 use Rattle.ownlock.specs.Rules.{leader}
 use Rattle.ownlock.specs.Seats.{At, IsSession, SeatView}
-use Rattle.loader.specs.CatalogueView.{CatalogueView}
+use Rattle.loader.specs.CatalogueView.{CatalogueView, sizes_for}
 use Rattle.oplog.specs.declared.records.Record.{Record}
 use Rattle.oplog.specs.declared.configuration.TheConstants.{MAX_LIMIT, MAX_NODES}
 use Rattle.oplog.specs.Logs.{Log as LogView, tail_of, left_of, room_in}

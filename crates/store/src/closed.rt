@@ -1,33 +1,36 @@
 // What a closed store leaves.
 
 ghost use Rattle.std.specs.Prelude.{◌≡◌, Some, option_map, slice_get};
+ghost use Rattle.loader.specs.CatalogueView.{CatalogueView};
 ghost use Rattle.std.specs.Global.{Box};
 ghost use Rattle.node.specs.declared.following.NodeReplica.{NodeReplica as TheNode};
 ghost use Rattle.store.specs.declared.values.Value.TheVariants.{Replica as ReplicaPlace};
-ghost use Rattle.store.specs.Opening.{AreLeft, closed_view};
+ghost use Rattle.store.specs.Opening.{AreLeft, IsLogFor, closed_view, last_state, log_in};
 
 use crate::values::Value;
+use loader::{Catalogue, StoreState};
 use oplog::LogState;
-use replica::Replica;
+use replica::{Replica, last_state};
 use std::marker::Model;
 
-/// What a closed store leaves: its log, and the replica of each node.
+/// What a closed store leaves: its catalogue, its log, and the replica of each node.
 #[derive(Drop)]
 pub struct Closed {
+    catalogue: Catalogue,
     // The log, and then the replicas.
     values: Vec<Option<Value>>,
 }
 
 impl Model for Closed {
-    ghost use Rattle.store.specs.Opening.{ClosedView, AreLeft, closed_code, closed_view};
+    ghost use Rattle.store.specs.Opening.{ClosedView, AreLeft, IsLogFor, closed_code, closed_view, log_in};
 
     ghost Value = { ClosedView };
 
     ghost coded = { closed_code };
 
-    ghost view = { λ c. closed_view c.values.items };
+    ghost view = { λ c. closed_view c.catalogue c.values.items };
 
-    ghost invariant = { λ c. AreLeft c.values.items };
+    ghost invariant = { λ c. AreLeft c.values.items × IsLogFor c.catalogue (log_in c.values.items) };
 }
 
 // The replica that is the value.
@@ -43,11 +46,37 @@ fn replica_in(value: &Option<Value>) -> &Replica
 
 impl Closed {
     // The log, and then the replicas, as the shelf gave them back.
-    pub(crate) fn new(values: Vec<Option<Value>>) -> Closed
+    pub(crate) fn new(catalogue: Catalogue, values: Vec<Option<Value>>) -> Closed
         requires left { AreLeft values.items }
-        ensures closed { result ≡ closed_view values.items }
+        requires log { IsLogFor catalogue (log_in values.items) }
+        ensures closed { result ≡ closed_view catalogue values.items }
     {
-        Closed { values }
+        Closed { catalogue, values }
+    }
+
+    /// The maps and programs that it was opened with.
+    pub fn catalogue(&self) -> &Catalogue
+        ensures catalogue { result.now ≡ self.now.catalogue }
+    {
+        &self.catalogue
+    }
+
+    /// The state after the whole history, which a store of the same catalogue may be opened on, and the catalogue. What the log has not
+    /// dropped is performed once more; no memory is taken.
+    pub fn into_state(self) -> (StoreState, Catalogue)
+        ensures state { result.0 ≡ last_state self }
+        ensures catalogue { result.1 ≡ self.catalogue }
+    {
+        let Closed {
+            catalogue,
+            mut values,
+        } = self;
+        values.truncate(1);
+        let Some(Some(Value::Log(log))) = values.pop() else {
+            unreachable!()
+        };
+        let state = last_state(Box::into_inner(log), &catalogue);
+        (state, catalogue)
     }
 
     /// The log.

@@ -19,7 +19,7 @@ mod values;
 
 pub use answers::Answer;
 pub use closed::Closed;
-pub use loader::{Catalogue, LoadError, load_manifest};
+pub use loader::{Catalogue, LoadError, StoreState, load_manifest};
 pub use node::NodeReplica;
 pub use oplog::{Config, OpenError};
 pub use polled::Polled;

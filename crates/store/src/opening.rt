@@ -3,7 +3,7 @@
 ghost use Rattle.std.specs.Prelude.{◌≡◌, ◌+◌, ◌*◌, ◌<◌, ◌≤◌, [], length, replicate, vec_capacity, IfOk};
 ghost use Rattle.std.specs.List.{All};
 ghost use Rattle.maps.specs.Shapes.{AreShapesOk};
-ghost use Rattle.loader.specs.StoreState.{sizes_for};
+ghost use Rattle.loader.specs.CatalogueView.{IsCatalogue, OpensOn, opening_state};
 ghost use Rattle.replica.specs.Refusals.{IsRoomFor};
 ghost use Rattle.oplog.specs.Limits.{IsConfig, IsWindow};
 ghost use Rattle.oplog.specs.declared.configuration.TheConstants.{MAX_NODES, MAX_NODE_SLOTS};
@@ -18,7 +18,7 @@ use crate::session::Session;
 use crate::steps::Caller;
 use crate::values::{Setup, Value, shelved_log, shelved_replica};
 use combiner::Desk;
-use loader::{Catalogue, Installed};
+use loader::{Catalogue, Installed, StoreState};
 use maps::Shape;
 use oplog::Config;
 use ownlock::{Seat, Shelf};
@@ -33,21 +33,23 @@ fn shelved_desk(alloc: Global, node: u16, slots: usize) -> Result<Value, AllocEr
     Ok(Value::Desk(Box::new(alloc, Desk::new(node, slots))?))
 }
 
-// A new replica for each node, behind the values that there are.
+// A new replica for each node, behind the values that there are, on what the catalogue opens on.
 fn push_replicas(
     alloc: Global,
     values: &mut Vec<Option<Value>>,
     catalogue: &Catalogue,
+    state: Option<&StoreState>,
     window: usize,
     nodes: u16,
 ) -> Result<(), AllocError>
+    requires opens { OpensOn catalogue.now state }
     requires window { IsWindow window }
     ensures count { IfOk result (λ _. length values.new.items ≡ length values.old.items + nodes) }
     ensures kept { IfOk result (λ _. AreKept values.old.items values.new.items) }
-    ensures replicas { IfOk result (λ _. HaveReplicas (length values.old.items) nodes (sizes_for catalogue.now) window values.new.items) }
+    ensures replicas { IfOk result (λ _. HaveReplicas (length values.old.items) nodes (opening_state catalogue.now) window values.new.items) }
 {
     for _node in 0..nodes {
-        values.push(Some(shelved_replica(alloc, catalogue, window)?))?;
+        values.push(Some(shelved_replica(alloc, catalogue, state, window)?))?;
     }
     Ok(())
 }
@@ -76,7 +78,10 @@ pub(crate) fn shelved_places(
     alloc: Global,
     config: &Config,
     catalogue: &Catalogue,
+    state: Option<&StoreState>,
 ) -> Result<Vec<Option<Value>>, AllocError>
+    requires whole { IsCatalogue catalogue.now }
+    requires opens { OpensOn catalogue.now state }
     requires config { IsConfig config.now }
     ensures values { IfOk result (λ v. AreShelved config.now catalogue.now v.items) }
     ensures agree { IfOk result (λ v. AllAgree store_rules (first_progress config.now catalogue.now) (replicate (sessions_of config.now) fresh_note) v.items) }
@@ -84,9 +89,9 @@ pub(crate) fn shelved_places(
     let window = config.window as usize;
     let nodes = config.nodes as u16;
     let mut values = Vec::with_capacity(alloc, 2 * nodes as usize + 1)?;
-    let log = shelved_log(alloc, catalogue, window, config.limit as usize)?;
+    let log = shelved_log(alloc, catalogue, state, window, config.limit as usize)?;
     values.push(Some(log))?;
-    push_replicas(alloc, &mut values, catalogue, window, nodes)?;
+    push_replicas(alloc, &mut values, catalogue, state, window, nodes)?;
     push_desks(alloc, &mut values, nodes, config.slots as usize)?;
     Ok(values)
 }

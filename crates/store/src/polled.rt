@@ -48,7 +48,11 @@ impl Model for Polled {
     ghost use Rattle.store.specs.Sessions.{SessionView, HasRoom, session_view};
     ghost use Rattle.store.specs.Polled.{IsPolled};
 
+    ghost use Rattle.store.specs.Codes.{session_code};
+
     ghost Value = { SessionView };
+
+    ghost coded = { session_code };
 
     ghost view = { λ s. session_view s.seat };
 

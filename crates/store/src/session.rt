@@ -39,8 +39,11 @@ pub struct Session {
 
 impl Model for Session {
     ghost use Rattle.store.specs.Sessions.{SessionView, HasRoom, IsIdle, session_view};
+    ghost use Rattle.store.specs.Codes.{session_code};
 
     ghost Value = { SessionView };
+
+    ghost coded = { session_code };
 
     ghost view = { λ s. session_view s.seat };
 

@@ -1,7 +1,8 @@
 // What a session does on the shelf.
 
 ghost use Rattle.std.specs.Prelude.{◌≡◌, ◌↔◌, ◌⊎◌, ◌+◌, ◌-◌, ◌<◌, ◌≤◌, true, false, min, length, drop, None, IsTrue, IfSome, IfNone, IfOk, IfErr};
-ghost use Rattle.loader.specs.StoreState.{sizes_of, sizes_for};
+ghost use Rattle.loader.specs.CatalogueView.{sizes_for};
+ghost use Rattle.loader.specs.StoreState.{sizes_of};
 ghost use Rattle.oplog.specs.Limits.{IsWindow};
 ghost use Rattle.oplog.specs.Logs.{left_of, records_from, room_in, tail_of};
 ghost use Rattle.oplog.specs.declared.configuration.TheConstants.{MAX_LIMIT};

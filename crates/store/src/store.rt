@@ -1,9 +1,9 @@
 // A store of replicas.
 
 ghost use Rattle.std.specs.Prelude.{◌≡◌, ◌≢◌, ◌↔◌, ◌+◌, ◌<◌, ◌≤◌, length, IfOk, IfErr, MatchResult};
-ghost use Rattle.oplog.specs.declared.configuration.OpenError.TheVariants.{OutOfLimits};
+ghost use Rattle.oplog.specs.declared.configuration.OpenError.TheVariants.{OtherState, OutOfLimits};
 ghost use Rattle.oplog.specs.declared.configuration.TheConstants.{MAX_NODES};
-ghost use Rattle.loader.specs.CatalogueView.{with_places};
+ghost use Rattle.loader.specs.CatalogueView.{MayOpenOn, OpensOn, opened_on, with_places};
 ghost use Rattle.oplog.specs.Limits.{IsConfig};
 ghost use Rattle.store.specs.Shelving.{sessions_of};
 ghost use Rattle.store.specs.Sessions.{fresh_sessions};
@@ -14,10 +14,10 @@ use crate::opening::{push_sessions, session_count, session_rooms, shelved_places
 use crate::session::Session;
 use crate::steps::Shared;
 use crate::values::{Setup, Value};
-use loader::Catalogue;
+use loader::{Catalogue, StoreState};
 use oplog::{Config, OpenError};
 use ownlock::{Seat, Shelf};
-use std::alloc::Global;
+use std::alloc::{AllocError, Global};
 use std::marker::Model;
 
 /// A log of updates, and a replica of the maps for each node. Sessions work on it from any number of threads.
@@ -31,8 +31,11 @@ impl Model for Store {
     ghost use Rattle.std.specs.Prelude.{◌≡◌, ◌+◌};
     ghost use Rattle.oplog.specs.Limits.{IsConfig};
     ghost use Rattle.store.specs.Sessions.{StoreView};
+    ghost use Rattle.store.specs.Codes.{store_code};
 
     ghost Value = { StoreView };
+
+    ghost coded = { store_code };
 
     ghost view = { λ s. record { id = s.shelf.id; config = s.setup.config; catalogue = s.setup.catalogue } };
 
@@ -53,6 +56,7 @@ impl Store {
         catalogue: Catalogue,
     ) -> Result<(Store, Vec<Session>), OpenError>
         ensures limits { IfErr result (λ e. (e ≡ OutOfLimits) ↔ (IsConfig config → ⊥)) }
+        ensures other { IfErr result (λ e. e ≢ OtherState) }
         ensures openable { IfOk result (λ t. IsConfig config) }
         ensures store { IfOk result (λ t. (t.0.config ≡ config) × (t.0.catalogue ≡ with_places catalogue config.spare)) }
         ensures sessions { IfOk result (λ t. t.1.items ≡ fresh_sessions t.0.id config (with_places catalogue config.spare) 0 (sessions_of config)) }
@@ -63,27 +67,74 @@ impl Store {
             return Err(OpenError::OutOfLimits);
         }
         let catalogue = catalogue.with_places(config.spare as usize);
-        let Ok(values) = shelved_places(alloc, &config, &catalogue) else {
-            return Err(OpenError::NoMemory);
-        };
-        let Ok(mut sessions) = Vec::with_capacity(alloc, session_count(&config)) else {
-            return Err(OpenError::NoMemory);
-        };
-        let count = session_count(&config);
-        let Ok(rooms) = session_rooms(alloc, catalogue.shapes(), count) else {
-            sessions.destroy_empty();
-            return Err(OpenError::NoMemory);
-        };
-        let setup = Setup { config, catalogue };
+        match Store::opened(alloc, Setup { config, catalogue }, None) {
+            Ok(opened) => Ok(opened),
+            Err(_) => Err(OpenError::NoMemory),
+        }
+    }
+
+    /// The same store on a state that was taken out of another ([`Closed::into_state`]), or made by hand: its maps have what the state's maps
+    /// have, and the programs that were installed there are installed. All that the store explains begins with this state. The state is
+    /// copied for the log and for each node.
+    ///
+    /// # Errors
+    ///
+    /// O1 where a number of the configuration is out of its limits, then O3 where the state has other maps than the catalogue or more
+    /// programs than the configuration has places, then O2 where there is no memory.
+    pub fn open_on(
+        alloc: Global,
+        config: Config,
+        catalogue: Catalogue,
+        state: &StoreState,
+    ) -> Result<(Store, Vec<Session>), OpenError>
+        ensures limits { IfErr result (λ e. (e ≡ OutOfLimits) ↔ (IsConfig config → ⊥)) }
+        ensures other { IfErr result (λ e. (e ≡ OtherState) ↔ IsConfig config × (MayOpenOn (with_places catalogue config.spare) state.now → ⊥)) }
+        ensures openable { IfOk result (λ t. IsConfig config × MayOpenOn (with_places catalogue config.spare) state.now) }
+        ensures store { IfOk result (λ t. (t.0.config ≡ config) × (t.0.catalogue ≡ opened_on (with_places catalogue config.spare) state.now)) }
+        ensures sessions { IfOk result (λ t. t.1.items ≡ fresh_sessions t.0.id t.0.config t.0.catalogue 0 (sessions_of config)) }
+        ensures count { IfOk result (λ t. length t.1.items ≡ sessions_of config) }
+        ensures own { IfOk result (λ t. AreOf t.0 t.1.items) }
+    {
+        if !config.is_within_limits() {
+            return Err(OpenError::OutOfLimits);
+        }
+        let catalogue = catalogue.with_places(config.spare as usize);
+        if !catalogue.may_open_on(state) {
+            return Err(OpenError::OtherState);
+        }
+        let catalogue = catalogue.on(state);
+        match Store::opened(alloc, Setup { config, catalogue }, Some(state)) {
+            Ok(opened) => Ok(opened),
+            Err(_) => Err(OpenError::NoMemory),
+        }
+    }
+
+    // The store of a setup, on what its catalogue opens on, and its sessions.
+    fn opened(
+        alloc: Global,
+        setup: Setup,
+        state: Option<&StoreState>,
+    ) -> Result<(Store, Vec<Session>), AllocError>
+        requires config { IsConfig setup.config }
+        requires opens { OpensOn setup.catalogue state }
+        ensures store { IfOk result (λ t. (t.0.config ≡ setup.config) × (t.0.catalogue ≡ setup.catalogue)) }
+        ensures sessions { IfOk result (λ t. t.1.items ≡ fresh_sessions t.0.id setup.config setup.catalogue 0 (sessions_of setup.config)) }
+        ensures count { IfOk result (λ t. length t.1.items ≡ sessions_of setup.config) }
+        ensures own { IfOk result (λ t. AreOf t.0 t.1.items) }
+    {
+        let count = session_count(&setup.config);
+        let rooms = session_rooms(alloc, setup.catalogue.shapes(), count)?;
+        let values = shelved_places(alloc, &setup.config, &setup.catalogue, state)?;
+        let mut sessions = Vec::with_capacity(alloc, count)?;
         let Ok((shelf, seat)) = Shelf::open(alloc, values, &setup) else {
             sessions.destroy_empty();
-            return Err(OpenError::NoMemory);
+            return Err(AllocError);
         };
         push_sessions(&shelf, seat, &setup, rooms, &mut sessions);
         Ok((Store { shelf, setup }, sessions))
     }
 
-    /// Ends the store, and gives its log and each node's replica, once all its sessions are back.
+    /// Ends the store, and gives its log, its catalogue and each node's replica, once all its sessions are back.
     ///
     /// # Errors
     ///
@@ -101,7 +152,7 @@ impl Store {
         let Store { shelf, setup } = self;
         let mut values = shelf.close(seat);
         values.truncate(1 + setup.config.nodes as usize);
-        Ok(Closed::new(values))
+        Ok(Closed::new(setup.catalogue, values))
     }
 
     // One seat with all these sessions, the last first.

@@ -1,13 +1,13 @@
 // The values on a store's shelf: the log, and the replica and the desk of each node.
 
 ghost use Rattle.std.specs.Prelude.{◌≡◌, Some, IsSome, IfOk};
-ghost use Rattle.loader.specs.StoreState.{sizes_for};
+ghost use Rattle.loader.specs.CatalogueView.{OpensOn, opening_state};
 ghost use Rattle.oplog.specs.Limits.{IsWindow, IsLimit};
 ghost use Rattle.store.specs.Lending.{log_of, replica_of, desk_of};
 ghost use Rattle.store.specs.Shelving.{IsOpenedLog, IsOpenedReplica};
 
 use combiner::Desk;
-use loader::Catalogue;
+use loader::{Catalogue, StoreState};
 use node::NodeReplica;
 use oplog::{Config, Hand, LogState};
 use ownlock::Shelved;
@@ -107,32 +107,36 @@ impl Shelved for Value {
     ghost laws = { laws_seen (desk_store store_meaning) view_of IsSized };
 }
 
-// A new log, as a value of the shelf.
+// A new log on what the catalogue opens on, as a value of the shelf.
 pub(crate) fn shelved_log(
     alloc: Global,
     catalogue: &Catalogue,
+    state: Option<&StoreState>,
     window: usize,
     limit: usize,
 ) -> Result<Value, AllocError>
+    requires opens { OpensOn catalogue.now state }
     requires window { IsWindow window }
     requires limit { IsLimit limit }
-    ensures log { IfOk result (λ v. IsOpenedLog (sizes_for catalogue.now) window limit v) }
+    ensures log { IfOk result (λ v. IsOpenedLog (opening_state catalogue.now) window limit v) }
 {
-    let (shapes, places) = (catalogue.shapes(), catalogue.places());
-    let log = LogState::open(alloc, shapes, places, window, limit)?;
+    let base = StoreState::opening(alloc, catalogue, state)?;
+    let log = LogState::open(alloc, base, window, limit)?;
     Ok(Value::Log(Box::new(alloc, log)?))
 }
 
-// A new replica with its empty hand, as a value of the shelf.
+// A new replica of it with its empty hand, as a value of the shelf.
 pub(crate) fn shelved_replica(
     alloc: Global,
     catalogue: &Catalogue,
+    state: Option<&StoreState>,
     window: usize,
 ) -> Result<Value, AllocError>
+    requires opens { OpensOn catalogue.now state }
     requires window { IsWindow window }
-    ensures replica { IfOk result (λ v. IsOpenedReplica (sizes_for catalogue.now) window v) }
+    ensures replica { IfOk result (λ v. IsOpenedReplica (opening_state catalogue.now) window v) }
 {
-    let replica = Replica::open(alloc, catalogue.shapes(), catalogue.places())?;
+    let replica = Replica::open(StoreState::opening(alloc, catalogue, state)?);
     let hand = Hand::open(alloc, window)?;
     Ok(Value::Replica(Box::new(alloc, NodeReplica { replica, hand })?))
 }

@@ -1,5 +1,5 @@
 -- What the sessions were told, in the histories that they know, and in one that has grown from all of these.
-use Rattle.std.proofs.Common.{eq-eqb, ne_eqb, eqb, ◌≡◌, ◌∙◌, ◌⊎◌, inl, inr, ⊎_elim, ℕ, zero, suc, ◌+◌, ◌≤◌, ◌<◌, Bool, false, cond, get_or, slice_index_or, List, [], ◌∷◌, ◌++◌, map, length, Option, Some, All, refl, sym, ap, subst, arith}
+use Rattle.std.proofs.Common.{eq-eqb, ne_eqb, eqb, ◌≡◌, ◌∙◌, ◌⊎◌, inl, inr, ⊎_elim, ℕ, zero, suc, ◌+◌, ◌≤◌, ◌<◌, Bool, false, cond, get_or, slice_index_or, List, [], ◌∷◌, ◌++◌, map, length, All, refl, sym, ap, subst, arith}
 use mathlib.Core.Option.{some-injective}
 use native.Mathlib.Decide.{ℕ_discrete}
 use native.Mathlib.Nat.{not-suc-le-zero, le_of_suc-le-suc}

@@ -1,6 +1,6 @@
 // The command `stress`.
 
-ghost use Rattle.std.specs.Prelude.{◌≡◌, ◌⊎◌, All, map, IfOk};
+ghost use Rattle.std.specs.Prelude.{◌≡◌, ◌⊎◌, None, All, map, IfOk};
 ghost use Rattle.oplog.specs.Limits.{IsConfig};
 ghost use Rattle.loader.specs.Loading.{Outcome};
 ghost use Rattle.console.specs.Files.{SomeFile};
@@ -46,6 +46,7 @@ fn calls_reply<R: Threads + Wait + Sync, F: Folder, G: Gate + Sync>(
 ) -> Result<Reply, AllocError>
     requires config { IsConfig trial.now.config }
     requires places { catalogue.places ≡ trial.now.config.spare }
+    requires nothing { catalogue.opening ≡ None }
     requires ready { All (IsReady catalogue) calls.now }
     ensures { IfOk result (λ r. IsTranscript trial.now.config catalogue (map called calls.now) (answer_of r)) }
 {

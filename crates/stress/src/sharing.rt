@@ -1,6 +1,6 @@
 // One store for all threads: it is opened, each session makes its calls on a thread of its own, and it is closed.
 
-ghost use Rattle.std.specs.Prelude.{◌≡◌, ◌-◌, ◌*◌, ◌≤◌, ◌<◌, ◌++◌, List, [], length, Option, All, map, IfOk, MatchResult, vec_capacity};
+ghost use Rattle.std.specs.Prelude.{◌≡◌, ◌-◌, ◌*◌, ◌≤◌, ◌<◌, ◌++◌, List, [], length, None, Option, All, map, IfOk, MatchResult, vec_capacity};
 ghost use Rattle.oplog.specs.Limits.{IsConfig};
 ghost use Rattle.store.specs.Opening.{ClosedView, IsClosed};
 ghost use Rattle.store.specs.Sessions.{IsOf, StoreView};
@@ -31,6 +31,7 @@ fn open(
 ) -> Result<(Store, Vec<Session>), AllocError>
     requires config { IsConfig config }
     requires places { catalogue.places ≡ config.spare }
+    requires nothing { catalogue.opening ≡ None }
     ensures catalogue { IfOk result (λ t. t.0.catalogue ≡ catalogue) }
     ensures sizes { IfOk result (λ t. t.0.config ≡ config) }
     ensures sessions { IfOk result (λ t. AreNew t.0 (config.nodes * config.slots) t.1.items) }
@@ -39,6 +40,7 @@ fn open(
         Ok(opened) => Ok(opened),
         Err(OpenError::NoMemory) => Err(AllocError),
         Err(OpenError::OutOfLimits) => unreachable!(),
+        Err(OpenError::OtherState) => unreachable!(),
     }
 }
 
@@ -184,6 +186,7 @@ pub(crate) fn tell_all<R: Threads + Wait + Sync, F, G: Gate + Sync>(
 ) -> Result<Vec<u8>, AllocError>
     requires config { IsConfig trial.now.config }
     requires places { catalogue.places ≡ trial.now.config.spare }
+    requires nothing { catalogue.opening ≡ None }
     requires ready { All (IsReady catalogue) calls.now }
     ensures told { IfOk result (λ text. IsToldText trial.now.config catalogue calls.now text.items) }
 {

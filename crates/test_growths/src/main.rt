@@ -52,11 +52,17 @@ fn write_calls(rt: &HostRuntime, alloc: Global) -> io::Result<()> {
 }
 
 // Each call on stores, and its number for want of memory.
-fn write_store_calls(rt: &HostRuntime, alloc: Global, store: Ending) -> io::Result<()> {
+fn write_store_calls(
+    rt: &HostRuntime,
+    alloc: Global,
+    opened: Ending,
+    opened_on: Ending,
+) -> io::Result<()> {
     write_ending(rt, "Shelf::open", "K1", library::shelf_opened(alloc))?;
     write_ending(rt, "World::open", "O2", schedules::world_opened(alloc))?;
     write_ending(rt, "run_steps", "no memory", schedules::steps_run(alloc))?;
-    write_ending(rt, "Store::open", "O2", store)
+    write_ending(rt, "Store::open", "O2", opened)?;
+    write_ending(rt, "Store::open_on", "O2", opened_on)
 }
 
 // Each command.
@@ -99,7 +105,8 @@ fn main(rt: HostRuntime) -> io::Result<()> {
     let alloc = rt.alloc();
     let is_for_calls = is_for_calls(&rt);
     write_calls(&rt, alloc)?;
-    write_store_calls(&rt, alloc, stores::opened(&rt, alloc))?;
+    let (opened, opened_on) = (stores::opened(&rt, alloc), stores::opened_on(&rt, alloc));
+    write_store_calls(&rt, alloc, opened, opened_on)?;
     write_commands(&rt, alloc)?;
     if is_for_calls {
         return Ok(());

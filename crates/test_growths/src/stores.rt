@@ -5,7 +5,7 @@ ghost use Rattle.store.specs.Sessions.{IsOf};
 
 use crate::endings::{Ending, judged};
 use crate::served::{BUMP_LINE, MANIFEST, PEEK_LINE};
-use loader::{Catalogue, load_manifest};
+use loader::{Catalogue, StoreState, load_manifest};
 use oplog::{Config, OpenError};
 use readpath::ReadAnswer;
 use std::alloc::Global;
@@ -45,19 +45,47 @@ fn closes(store: Store, session: Session, mut sessions: Vec<Session>) -> bool
     }
 }
 
-/// A store of one node of one slot.
-pub fn opened<R: Wait>(rt: &R, alloc: Global) -> Ending {
-    let Some(catalogue) = catalogue(alloc) else {
-        return Ending::NotReached;
-    };
-    let config = Config {
+// The sizes of a store of one node of one slot.
+fn config() -> Config
+    ensures { (result.nodes ≡ 1) × (result.slots ≡ 1) }
+{
+    Config {
         nodes: 1,
         slots: 1,
         window: 16,
         limit: 100,
         spare: 0,
+    }
+}
+
+/// A store of one node of one slot.
+pub fn opened<R: Wait>(rt: &R, alloc: Global) -> Ending {
+    let Some(catalogue) = catalogue(alloc) else {
+        return Ending::NotReached;
     };
-    match Store::open(alloc, config, catalogue) {
+    match Store::open(alloc, config(), catalogue) {
+        Ok((store, mut sessions)) => {
+            let Some(mut session) = sessions.pop() else {
+                unreachable!()
+            };
+            let is_answered = answers(rt, &store, &mut session);
+            let is_closed = closes(store, session, sessions);
+            judged(is_answered && is_closed)
+        }
+        Err(OpenError::NoMemory) => Ending::NoMemory,
+        Err(_) => Ending::Other,
+    }
+}
+
+/// The same on a state, which is a new one.
+pub fn opened_on<R: Wait>(rt: &R, alloc: Global) -> Ending {
+    let Some(catalogue) = catalogue(alloc) else {
+        return Ending::NotReached;
+    };
+    let Ok(state) = StoreState::open(alloc, &catalogue) else {
+        return Ending::NotReached;
+    };
+    match Store::open_on(alloc, config(), catalogue, &state) {
         Ok((store, mut sessions)) => {
             let Some(mut session) = sessions.pop() else {
                 unreachable!()

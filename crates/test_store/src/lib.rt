@@ -9,6 +9,8 @@ mod lock;
 #[cfg(test)]
 mod meeting;
 #[cfg(test)]
+mod reopening;
+#[cfg(test)]
 mod replicas;
 #[cfg(test)]
 mod single_store;

@@ -1,17 +1,37 @@
 //! A replica, as it opens and as it follows a base.
 
-use maps::{Shape, shapes_ok};
+ghost use Rattle.std.specs.Prelude.{◌≡◌, IfSome};
+ghost use Rattle.loader.specs.StoreState.{opened_state};
+
+use loader::{Installed, StoreState};
+use maps::{MapSet, Shape, shapes_ok};
 use replica::{Replica, Replies};
+use std::alloc::Global;
 
 const SHAPES: [Shape; 1] = [Shape::Array {
     value: 8,
     entries: 4,
 }];
 
+// A new replica of these maps, in which one program may be installed.
+fn opened_replica(alloc: Global) -> Option<Replica>
+    ensures opened { IfSome result (λ r. r ≡ record { tail = 0; state = opened_state (record { shapes = SHAPES; places = 1 }) }) }
+{
+    if shapes_ok(&SHAPES).is_err() {
+        return None;
+    }
+    let Ok(maps) = MapSet::open(alloc, &SHAPES) else {
+        return None;
+    };
+    let Ok(programs) = Installed::open(alloc, &SHAPES, 1) else {
+        return None;
+    };
+    Some(Replica::open(StoreState::of(maps, programs)))
+}
+
 #[test]
 fn opens(rt: HostRuntime) {
-    assert!(&rt; shapes_ok(&SHAPES).is_ok());
-    let replica = Replica::open(rt.alloc(), &SHAPES, 1).expect(&rt, "replica");
+    let replica = opened_replica(rt.alloc()).expect(&rt, "replica");
     assert_eq!(rt; (replica.tail(), replica.maps().len(0)), (0, 4));
 }
 
@@ -23,9 +43,8 @@ fn nothing_is_replayed_yet(rt: HostRuntime) {
 
 #[test]
 fn follows_a_base(rt: HostRuntime) {
-    assert!(&rt; shapes_ok(&SHAPES).is_ok());
-    let mut behind = Replica::open(rt.alloc(), &SHAPES, 1).expect(&rt, "replica");
-    let other = Replica::open(rt.alloc(), &SHAPES, 1).expect(&rt, "other");
+    let mut behind = opened_replica(rt.alloc()).expect(&rt, "replica");
+    let other = opened_replica(rt.alloc()).expect(&rt, "other");
     behind.rebase(16, other.maps(), other.programs());
     assert_eq!(rt; (behind.tail(), behind.maps().len(0)), (16, 4));
 }

@@ -28,7 +28,7 @@ pub(crate) fn counter(alloc: Global) -> Option<Catalogue> {
     load_manifest(alloc, MANIFEST, &files).ok()
 }
 
-fn single(window: u32, limit: u32, spare: u32) -> Config
+pub(crate) fn single(window: u32, limit: u32, spare: u32) -> Config
     ensures { (result.nodes ≡ 1) × (result.slots ≡ 1) }
 {
     Config {
@@ -41,7 +41,7 @@ fn single(window: u32, limit: u32, spare: u32) -> Config
 }
 
 // Ends the store, once its session is back.
-fn close(store: Store, session: Session, mut sessions: Vec<Session>) -> Closed
+pub(crate) fn close(store: Store, session: Session, mut sessions: Vec<Session>) -> Closed
     requires own { IsOf store session }
     requires one { (store.config.nodes ≡ 1) × (store.config.slots ≡ 1) }
     requires room { (sessions.items ≡ []) × (1 ≤ vec_capacity sessions) }

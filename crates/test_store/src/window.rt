@@ -1,16 +1,35 @@
 //! The log with its window, and the hands that its records are copied into.
 
-ghost use Rattle.std.specs.Prelude.{◌≡◌, ◌≤◌};
+ghost use Rattle.std.specs.Prelude.{◌≡◌, ◌≤◌, IfSome};
+ghost use Rattle.loader.specs.StoreState.{opened_state};
+ghost use Rattle.oplog.specs.Logs.{opened_log};
 
-use loader::Installed;
+use loader::{Installed, StoreState};
 use maps::{MapSet, Shape, shapes_ok};
 use oplog::{Appended, Call, Config, CopyAnswer, Ended, Hand, LogState, Op, OpenError, Record};
+use std::alloc::Global;
 use std::test::Fail;
 
 const SHAPES: [Shape; 1] = [Shape::Array {
     value: 8,
     entries: 4,
 }];
+
+// A new log over these maps, with a place for one program. It keeps sixteen records, and its history may have three.
+fn opened_log(alloc: Global) -> Option<LogState>
+    ensures opened { IfSome result (λ g. g ≡ opened_log (opened_state (record { shapes = SHAPES; places = 1 })) 16 3) }
+{
+    if shapes_ok(&SHAPES).is_err() {
+        return None;
+    }
+    let Ok(maps) = MapSet::open(alloc, &SHAPES) else {
+        return None;
+    };
+    let Ok(programs) = Installed::open(alloc, &SHAPES, 1) else {
+        return None;
+    };
+    LogState::open(alloc, StoreState::of(maps, programs), 16, 3).ok()
+}
 
 fn third_program(author: u16, seq: u64) -> Record {
     Record {
@@ -22,8 +41,7 @@ fn third_program(author: u16, seq: u64) -> Record {
 
 #[test]
 fn appends_up_to_the_limit(rt: HostRuntime) {
-    assert!(&rt; shapes_ok(&SHAPES).is_ok());
-    let mut log = LogState::open(rt.alloc(), &SHAPES, 1, 16, 3).expect(&rt, "log");
+    let mut log = opened_log(rt.alloc()).expect(&rt, "log");
     let batch = [third_program(1, 0), third_program(0, 0)];
     assert!(&rt; log.append(&[]) == Ok(Appended { first: 0, count: 0 }));
     assert!(&rt; log.append(&batch) == Ok(Appended { first: 0, count: 2 }));
@@ -37,8 +55,7 @@ fn appends_up_to_the_limit(rt: HostRuntime) {
 
 #[test]
 fn copies_records(rt: HostRuntime) {
-    assert!(&rt; shapes_ok(&SHAPES).is_ok());
-    let mut log = LogState::open(rt.alloc(), &SHAPES, 1, 16, 3).expect(&rt, "log");
+    let mut log = opened_log(rt.alloc()).expect(&rt, "log");
     let mut hand = Hand::open(rt.alloc(), 16).expect(&rt, "hand");
     let batch = [third_program(1, 0), third_program(0, 0)];
     assert!(&rt; log.append(&batch).is_ok());
@@ -59,7 +76,7 @@ fn copies_records(rt: HostRuntime) {
 #[test]
 fn reclaims(rt: HostRuntime) {
     assert!(&rt; shapes_ok(&SHAPES).is_ok());
-    let mut log = LogState::open(rt.alloc(), &SHAPES, 1, 16, 3).expect(&rt, "log");
+    let mut log = opened_log(rt.alloc()).expect(&rt, "log");
     let mut hand = Hand::open(rt.alloc(), 16).expect(&rt, "hand");
     let maps = MapSet::open(rt.alloc(), &SHAPES).expect(&rt, "maps");
     let programs = Installed::open(rt.alloc(), &SHAPES, 1).expect(&rt, "programs");
@@ -79,7 +96,7 @@ fn reclaims(rt: HostRuntime) {
 #[test]
 fn copies_nothing_below_the_base(rt: HostRuntime) {
     assert!(&rt; shapes_ok(&SHAPES).is_ok());
-    let mut log = LogState::open(rt.alloc(), &SHAPES, 1, 16, 3).expect(&rt, "log");
+    let mut log = opened_log(rt.alloc()).expect(&rt, "log");
     let mut hand = Hand::open(rt.alloc(), 16).expect(&rt, "hand");
     let maps = MapSet::open(rt.alloc(), &SHAPES).expect(&rt, "maps");
     let programs = Installed::open(rt.alloc(), &SHAPES, 1).expect(&rt, "programs");
@@ -124,6 +141,11 @@ fn tells_each_refusal(rt: HostRuntime) -> Result<(), Fail> {
             "O1: a number of the configuration is out of its limits",
         ),
         (OpenError::NoMemory, 2, "O2: no memory"),
+        (
+            OpenError::OtherState,
+            3,
+            "O3: the state has other maps, or more programs than there are places",
+        ),
     ] {
         assert_eq!(rt; error.number(), number);
         let shown = format!(in rt.alloc(); "{error}")?;

@@ -4,5 +4,5 @@ use Rattle.store.specs.Sessions.{IsOf}
 use Rattle.store.proofs.EachSession.{all_of_at}
 use Rattle.bench_store.proofs.run.Goals as goal
 
-pub serve-requires-clause-own : goal.serve-requires-clause-own
-serve-requires-clause-own g c κs within = subst (λ xs. All (IsOf c.in-Ok.store) xs) (sym c.deref_mut.ensures.value) (all_of_at (IsOf c.in-Ok.store) c.in-Ok.sessions.items c.in-Ok.ensures.own)
+pub serve-asks-requires-clause-own : goal.serve-asks-requires-clause-own
+serve-asks-requires-clause-own g c κs within = subst (λ xs. All (IsOf c.in-Ok.store) xs) (sym c.deref_mut.ensures.value) (all_of_at (IsOf c.in-Ok.store) c.in-Ok.sessions.items c.in-Ok.ensures.own)

@@ -1,6 +1,6 @@
 // The command `replay`.
 
-ghost use Rattle.std.specs.Prelude.{◌≡◌, ◌⊎◌, IfOk};
+ghost use Rattle.std.specs.Prelude.{◌≡◌, ◌⊎◌, IfOk, None};
 ghost use Rattle.loader.specs.Loading.{Outcome};
 ghost use Rattle.text.specs.Lines.{lines_of};
 ghost use Rattle.console.specs.ReplayAnswer.{transcript_answer, nothing_replayed, placed_answer, replayed, IsReplayAnswer};
@@ -43,6 +43,7 @@ fn transcript_reply(
     transcript: &str,
     notes: &mut Notes,
 ) -> Result<Reply, AllocError>
+    requires nothing { catalogue.now.opening ≡ None }
     ensures quiet { IsQuiet notes.old notes.new }
     ensures answered { IfOk result (λ r. answer_of r ≡ transcript_answer catalogue.now 1 nothing_replayed (lines_of transcript.now)) }
 {

@@ -94,6 +94,7 @@ fn catalogue_reply(
         }
         Err(OpenError::OutOfLimits) => sizes_refused(alloc),
         Err(OpenError::NoMemory) => Err(AllocError),
+        Err(OpenError::OtherState) => unreachable!(),
     }
 }
 

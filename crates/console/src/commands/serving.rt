@@ -107,13 +107,14 @@ fn answer_instead<W: Sink>(writer: &mut W, reply: Result<Reply, AllocError>) -> 
     }
 }
 
-// Serves the programs of a catalogue.
+// Serves the programs of a catalogue, on a new state.
 fn serve_placed<R: Feed, W: Sink>(
     alloc: Global,
     catalogue: Catalogue,
     reader: &mut R,
     writer: &mut W,
 ) -> Status
+    requires nothing { catalogue.opening ≡ None }
     ensures served { Serves catalogue (R.remaining reader.old) (R.remaining reader.new) (W.contents writer.old) (W.contents writer.new) result }
     ensures failed { Failed result (R.has_failed reader.new) (W.has_failed writer.new) }
 {

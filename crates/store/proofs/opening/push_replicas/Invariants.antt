@@ -1,7 +1,7 @@
-use Rattle.loader.specs.StoreState.{sizes_for}
+use Rattle.loader.specs.CatalogueView.{opening_state}
 use Rattle.store.specs.Shelving.{IsOpenedReplica}
 use Rattle.store.proofs.Filled.{Grown}
 use Rattle.store.proofs.opening.push_replicas.Given as goal
 
 abbrev pub invariant-loop-node : goal.invariant-loop-node
-invariant-loop-node l = record { grown : Grown l.initial.values.items l._node (λ i v. IsOpenedReplica (sizes_for l.initial.catalogue) l.initial.window v) l.values.items }
+invariant-loop-node l = record { grown : Grown l.initial.values.items l._node (λ i v. IsOpenedReplica (opening_state l.initial.catalogue) l.initial.window v) l.values.items }

@@ -1,5 +1,5 @@
 use Rattle.std.proofs.Common.{◌≡◌, ◌≤◌, true, length, ap, subst, sym, ◌∙◌, arith}
-use Rattle.loader.specs.StoreState.{sizes_for}
+use Rattle.loader.specs.CatalogueView.{sizes_for}
 use Rattle.ownlock.proofs.Seats.{one_known}
 use Rattle.node.specs.Following.{replayed, copied}
 use Rattle.replica.specs.StoreMeaning.{AreUpdates}

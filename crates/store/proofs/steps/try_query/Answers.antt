@@ -1,5 +1,5 @@
 use Rattle.std.proofs.Common.{sym, ap, refl, subst, ◌+◌, ◌∙◌, ◌≡◌, [], ◌∷◌, ◌≤◌, length, arith}
-use Rattle.loader.specs.StoreState.{sizes_for}
+use Rattle.loader.specs.CatalogueView.{sizes_for}
 use Rattle.ownlock.specs.Seats.{having_read}
 use Rattle.ownlock.proofs.Seats.{one_known}
 use Rattle.store.specs.Standing.{Agrees, IsFree}

@@ -1,10 +1,9 @@
 use Rattle.std.proofs.Common.{◌≡◌, ◌∙◌, None, Some, refl, ap, sym, subst}
 use Rattle.text.specs.Digits.{field_bytes}
 use Rattle.oplog.specs.Operations.{Operation}
-use Rattle.store.specs.Sessions.{SessionView, TellsUpdate, TellsRead}
+use Rattle.store.specs.Sessions.{TellsUpdate, TellsRead}
 use Rattle.verifier.specs.declared.refusal.Mode.{Mode}
 use Rattle.verifier.specs.declared.refusal.Mode.TheVariants.{Update, Read}
-use Rattle.stress.specs.declared.calls.Asked.{Asked}
 use Rattle.stress.specs.declared.calls.Asked.TheVariants as asks
 use Rattle.stress.specs.declared.lines.Told.{Told}
 use Rattle.stress.specs.Calls.{operation_on, asked_refusal}

@@ -5,6 +5,9 @@ use Rattle.stress.specs.Playing.{IsNew, IsNewPlayer}
 use Rattle.stress.proofs.Playing.{each_pop, each_push, IsAt, IsLastAt}
 use Rattle.stress.proofs.sharing.enter.Goals as goal
 
+pub returns-clause-playing : goal.returns-clause-playing
+returns-clause-playing c = λ store all. (c.loop-session.invariant.3 store all).1
+
 pub loop-session-preserved : goal.loop-session-preserved
 loop-session-preserved c =
     let h = c.loop-session.invariant in (

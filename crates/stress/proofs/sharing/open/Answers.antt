@@ -1,10 +1,11 @@
+use Rattle.std.proofs.Common.{◌∙◌, sym}
 use Rattle.store.proofs.EachSession.{all_of_at}
 use Rattle.stress.specs.Playing.{IsNew}
 use Rattle.stress.proofs.OneHistory.{noted_none, numbered_fresh}
 use Rattle.stress.proofs.sharing.open.Goals as goal
 
-pub unreachable-requires : goal.unreachable-requires
-unreachable-requires c = c.in-Err-OutOfLimits.ensures.limits.0 c.in-Err-OutOfLimits.field-0-is c.requires.config
+pub returns-in-Ok-clause-catalogue : goal.returns-in-Ok-clause-catalogue
+returns-in-Ok-clause-catalogue c = c.in-Ok.ensures.store.1 ∙ (λ i. record c.args.catalogue { places = sym c.requires.places i; opening = sym c.requires.nothing i })
 
 pub returns-in-Ok-clause-sessions : goal.returns-in-Ok-clause-sessions
 returns-in-Ok-clause-sessions c =

@@ -1,4 +1,4 @@
-use Rattle.std.proofs.Common.{◌≡◌, refl, rules}
+use Rattle.std.proofs.Common.{◌≡◌, rules}
 use Rattle.oplog.specs.Logs.{tail_of}
 use Rattle.console.proofs.Replays.{submitted}
 use Rattle.console.proofs.replaying.Replaying.update.Goals as goal

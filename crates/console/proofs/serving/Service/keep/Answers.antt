@@ -1,4 +1,4 @@
-use Rattle.std.proofs.Common.{◌≡◌, ◌<◌, ◌≤◌, length, refl, arith, ◌∙◌, rules}
+use Rattle.std.proofs.Common.{◌<◌, ◌≤◌, length, refl, ◌∙◌, rules}
 use Rattle.console.specs.declared.serving.TheConstants.{KEPT_BYTES}
 use Rattle.console.proofs.KeptLines.{kept_more, kept_full}
 use Rattle.console.proofs.serving.Service.keep.Goals as goal

@@ -1,9 +1,9 @@
 use Rattle.std.proofs.Common.{rules, ◌≡◌, ◌+◌, ◌<◌, length, take, sym, ap, ◌∙◌, subst}
 use Rattle.ownlock.specs.Seats.{HoldsNone}
-use Rattle.store.specs.Opening.{AreLeft, AreOf, IsClosed, closed_view}
+use Rattle.store.specs.Opening.{AreLeft, AreOf, IsClosed, IsLogFor, closed_view, log_in}
 use Rattle.store.specs.Sessions.{StoreView}
 use Rattle.store.specs.Shelving.{sessions_of}
-use Rattle.store.proofs.Closing.{all_notes, are_left, is_closed, left_of, some_sessions}
+use Rattle.store.proofs.Closing.{all_notes, are_left, is_closed, left_of, log_for, some_sessions}
 use Rattle.store.proofs.Joined.{back_holds_none, back_long}
 use Rattle.store.proofs.store.Store.close.Goals as goal
 
@@ -25,7 +25,12 @@ new-requires c =
     let a = c.close-values.ensures.values in
     let slots = c.close-values.result.items in
     let p = left_of store ss c.join_seats-seat.result.sessions _ slots own some c.join_seats-seat.ensures.joined c.join_seats-seat.ensures.idle a (c.close-values.ensures.places ∙ c.self.invariant.1) in
-    record { left = subst AreLeft (sym c.truncate.ensures.items) (are_left a.0 store.config.nodes (take (1 + store.config.nodes) slots) p) }
+    record {
+      left = subst AreLeft (sym c.truncate.ensures.items) (are_left a.0 store.config.nodes (take (1 + store.config.nodes) slots) p);
+      log =
+          subst (λ z. IsLogFor store.catalogue (log_in z)) (sym c.truncate.ensures.items)
+          (log_for store ss c.join_seats-seat.result.sessions _ slots own some c.join_seats-seat.ensures.joined c.join_seats-seat.ensures.idle a (take (1 + store.config.nodes) slots) p);
+    }
 
 pub returns-clause-closed : goal.returns-clause-closed
 returns-clause-closed c =
@@ -41,4 +46,4 @@ returns-clause-closed c =
     let idle = c.join_seats-seat.ensures.idle in
     let p = left_of store ss view _ slots own some known idle a (c.close-values.ensures.places ∙ c.self.invariant.1) in
     let closed = is_closed store ss view _ slots own some known idle a (take (1 + store.config.nodes) slots) p in
-    subst (λ z. IsClosed z ss c.new.result) c.self.view_is (subst (λ z. IsClosed store ss z) (ap closed_view (sym c.truncate.ensures.items) ∙ sym c.new.ensures.closed) closed)
+    subst (λ z. IsClosed z ss c.new.result) c.self.view_is (subst (λ z. IsClosed store ss z) (ap (closed_view store.catalogue) (sym c.truncate.ensures.items) ∙ sym c.new.ensures.closed) closed)
