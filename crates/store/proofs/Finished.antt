@@ -2,14 +2,12 @@
 use Rattle.std.proofs.Common.{eq-eqb, if◌then◌else◌, ◌≡◌, ℕ, ◌+◌, ◌<◌, ◌≤◌, List, [], ◌∷◌, length, sym, refl, ap, ◌∙◌, subst, arith, Some, slice_get, option_map}
 use lib.ListN.{get_elem?}
 use Rattle.ownlock.specs.Rules.{leader}
-use Rattle.ownlock.specs.Seats.{At, without, having_read, left_with}
+use Rattle.ownlock.specs.Seats.{At, without, left_with}
 use Rattle.ownlock.specs.Knowledge.{Possible, MayPut}
 use Rattle.machine.specs.declared.running.Outcome.{Outcome}
 use Rattle.loader.specs.CatalogueView.{CatalogueView}
-use Rattle.oplog.specs.Operations.{Operation}
 use Rattle.oplog.specs.declared.records.Record.{Record}
 use Rattle.oplog.specs.History.{reply_at}
-use Rattle.readpath.specs.declared.reading.ReadAnswer.{ReadAnswer}
 use Rattle.replica.specs.StoreMeaning.{store_meaning}
 use Rattle.replica.specs.Views.{RepliesView}
 use Rattle.accounts.specs.declared.sessions.Progress.{Progress}
@@ -17,8 +15,6 @@ use Rattle.accounts.specs.declared.sessions.SessionNote.{SessionNote}
 use Rattle.accounts.specs.Accounts.{Extends}
 use Rattle.accounts.specs.Agreement.{replica_place}
 use Rattle.accounts.specs.Picks.{put_progress, put_note}
-use Rattle.accounts.specs.Told.{ReadTells}
-use Rattle.accounts.proofs.Tellings.{reads_tell}
 use Rattle.accounts.proofs.Picked.{replica_picked, replica_picks, puts_account, same_picked, same_picks}
 use Rattle.accounts.proofs.Finish.{grown_long}
 use Rattle.accounts.proofs.Seen.{sized_on}
@@ -27,10 +23,9 @@ use Rattle.store.specs.declared.values.Value.{Value}
 use Rattle.store.specs.Lending.{with_replica}
 use Rattle.store.specs.Shelving.{view_of, IsSized, session_rules, session_noting, store_rules, replica_value}
 use Rattle.store.specs.Standing.{SessionKnown, Stands, Agrees, HoldsReplica, GoesOn, HasRaised, KeepsOutcomesOf, HasReached}
-use Rattle.store.specs.Sessions.{IsReadBy, RepliesThere}
 use Rattle.store.proofs.StoreLaws.{session_laws, session_notes, store_laws}
 use Rattle.store.proofs.Parts.{replica_put, replica_seen, replica_sizes}
-use Rattle.store.proofs.Taken.{TookReplica, TookLog, own_on, well_formed}
+use Rattle.store.proofs.Taken.{TookReplica, TookLog, own_on}
 use Rattle.store.proofs.Followed.{HasAll}
 use Rattle.store.proofs.Played.{all_agrees}
 
@@ -182,28 +177,3 @@ is_there k n done a s far =
 
 pub far_enough : (k f : K) (n : NodeReplica) (done far : ℕ) → done ≤ far → HasReached k f far n → HasReached k f done n
 far_enough k f n done most low u = let far = u.reached in record { goes = u.goes; note = u.note; agrees = u.agrees; within = u.within; reached = omega (arith, low, far) }
-
-told_read : (l m : L) (n : NodeReplica) (op : Operation) (c : CatalogueView) (begun reply : ℕ) → Extends l m → Agrees l n → n.replica.tail ≤ length l.history → begun ≤ n.replica.tail → RepliesThere c op n reply → l.catalogue ≡ c → ReadTells store_meaning m begun op n.replica.tail reply
-told_read l m n op c begun reply grown a low first is same =
-    let t = a.0.tail in let up = grown.completed in
-    reads_tell store_meaning l m begun reply op (replica_value n.replica) grown low a.0.state (ap (λ z. option_map (λ e. e.reply) (store_meaning.read z op n.replica.state)) same ∙ is) first (omega (arith, t, up))
-
-pub is_read : (p : ℕ) (k t b f : K) (from : L) (w : Value) (n : NodeReplica) (done : ℕ) (op : Operation) (c : CatalogueView) (answer : ReadAnswer) → Extends k.progress from → done ≡ from.completed → TookReplica p (having_read k from done) t w → HasReached t b done n → Back b f
-    → b.progress.catalogue ≡ c → answer.point ≡ n.replica.tail → RepliesThere c op n answer.reply → IsReadBy k f op answer
-is_read p k t b f from w n done op c answer grown is took up end same point reply =
-    let far = up.reached in let rise = grown.completed in
-    record {
-      session = end.session ∙ (up.goes.session ∙ took.session);
-      begun = done;
-      more = [];
-      read = end.tails_read ∙ (up.goes.tails_read ∙ took.tails_read);
-      reached = omega (arith, far, point);
-      held = end.held;
-      note = end.note ∙ (up.note ∙ took.note);
-      well_formed = well_formed f.progress end.stands.notes end.stands.accounts;
-      extends = store_laws.extends_on k.progress from f.progress grown (store_laws.extends_on from t.progress f.progress took.extends (store_laws.extends_on t.progress b.progress f.progress up.goes.extends end.extends));
-      tells = subst (λ z. ReadTells store_meaning f.progress k.progress.completed op z answer.reply) (sym point) (told_read b.progress f.progress n op c k.progress.completed answer.reply end.extends up.agrees up.within (omega (arith, far, rise, is)) reply same);
-    }
-
-pub later_catalogue : (p : ℕ) (k t b : K) (from : L) (w : Value) (n : NodeReplica) (done : ℕ) (c : CatalogueView) → Extends k.progress from → TookReplica p (having_read k from done) t w → HasReached t b done n → k.progress.catalogue ≡ c → b.progress.catalogue ≡ c
-later_catalogue p k t b from w n done c g took up is = sym up.goes.extends.catalogue ∙ (sym took.extends.catalogue ∙ (sym g.catalogue ∙ is))

@@ -20,6 +20,8 @@ pub mod Combined
 pub mod Whole
 pub mod Stretches
 pub mod Tried
+pub mod Ready
+pub mod Numbered
 pub mod Requested
 pub mod Resumed
 pub mod Turning

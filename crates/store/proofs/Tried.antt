@@ -14,6 +14,10 @@ use Rattle.accounts.specs.declared.sessions.SessionNote.{SessionNote}
 use Rattle.node.specs.declared.following.NodeReplica.{NodeReplica}
 use Rattle.store.specs.declared.values.Value.{Value}
 use Rattle.store.specs.Combining.{HasAnswered, HasClaimed, HasCombined}
+use Rattle.store.specs.declared.answers.Scan.{Scan}
+use Rattle.store.specs.declared.steps.Question.{Question}
+use Rattle.store.specs.Questions.{AreReadBy}
+use Rattle.store.specs.Scanning.{HasSeen, IsScannedBy}
 use Rattle.store.specs.Sessions.{IsReadBy, RepliesThere}
 use Rattle.store.specs.Shelving.{store_rules}
 use Rattle.store.specs.Standing.{Agrees, SessionKnown, Stands}
@@ -152,16 +156,46 @@ first_below : (ms : List ℕ) (n low top : ℕ) → BeginsBelow ms low → low �
 first_below [] n low top below up last = last
 first_below (m ∷ ms) n low top below up last = omega (arith, below, up)
 
-module _ (k m f : K) (op : Operation) (answer : ReadAnswer) (s : IsStill k m) where
+module _ (k m f : K) (s : IsStill k m) where
   reads : (n : ℕ) (ns : List ℕ) → f.tails_read ≡ m.tails_read ++ n ∷ ns → f.tails_read ≡ k.tails_read ++ first_read s.more n ∷ later_reads s.more n ns
   reads n ns read = read ∙ (ap (λ z. z ++ n ∷ ns) s.read ∙ (append_assoc k.tails_read s.more (n ∷ ns) ∙ ap (λ z. k.tails_read ++ z) (all_reads s.more n ns)))
 
+  pub seen_since : (point : ℕ) → HasSeen m f point → HasSeen k f point
+  seen_since point r =
+      let up = s.extends.completed in let far = r.far in record {
+        begun = first_read s.more r.begun;
+        more = later_reads s.more r.begun r.more;
+        read = reads r.begun r.more r.read;
+        reached = first_below s.more r.begun m.progress.completed point s.below far r.reached;
+        far = omega (arith, up, far);
+        session = r.session ∙ s.session;
+        held = r.held;
+        note = r.note ∙ s.note;
+        extends = store_laws.extends_on k.progress m.progress f.progress s.extends r.extends;
+        well_formed = r.well_formed;
+      }
+
+  pub scanned_since : (map from key_room value_room : ℕ) (keys values : List ℕ) (scan : Scan) → IsScannedBy m f map from key_room value_room keys values scan → IsScannedBy k f map from key_room value_room keys values scan
+  scanned_since map from key_room value_room keys values scan t =
+      let up = s.extends.completed in let told = t.1.1 in let far = told.point.0 in (
+        seen_since scan.point t.0,
+        (t.1.0, record { point = (omega (arith, up, far), told.point.1); there = told.there; shape = told.shape; scans = told.scans }),
+      )
+
+  pub each_since : (questions : List Question) (point : ℕ) (replies : List ℕ) → AreReadBy m f questions point replies → AreReadBy k f questions point replies
+  each_since questions point replies t =
+      let up = s.extends.completed in let far = t.1.0 in (
+        seen_since point t.0,
+        (omega (arith, up, far), t.1.1, λ i asked is. let r = t.1.2 i asked is in (r.0, r.1, (omega (arith, up, far), r.2.1, r.2.2))),
+      )
+
+module _ (k m f : K) (op : Operation) (answer : ReadAnswer) (s : IsStill k m) where
   pub read_since : IsReadBy m f op answer → IsReadBy k f op answer
   read_since r =
       let up = s.extends.completed in let far = r.tells.0 in record {
         begun = first_read s.more r.begun;
         more = later_reads s.more r.begun r.more;
-        read = reads r.begun r.more r.read;
+        read = reads k m f s r.begun r.more r.read;
         reached = first_below s.more r.begun m.progress.completed answer.point s.below far r.reached;
         session = r.session ∙ s.session;
         held = r.held;
@@ -178,7 +212,7 @@ module _ (k m f : K) (op : Operation) (answer : ReadAnswer) (s : IsStill k m) wh
       let point = r.point in record {
         seen = first_read s.more r.seen;
         more = later_reads s.more r.seen r.more;
-        read = reads r.seen r.more r.read;
+        read = reads k m f s r.seen r.more r.read;
         from = r.from;
         since = store_laws.extends_on k.progress m.progress r.from s.extends r.since;
         begun = first_below s.more r.seen m.progress.completed r.from.completed s.below r.since.completed r.begun;

@@ -1,6 +1,8 @@
 -- What each answer tells its session, what a store is opened with and gives back.
 pub mod Sessions
 pub mod Polled
+pub mod Scanning
+pub mod Questions
 pub mod Opening
 -- The steps at a desk, which the public calls on a lent desk cite.
 pub mod AtDesk
@@ -19,3 +21,5 @@ pub mod Asking
 pub mod Trying
 -- Whole calls as lists of steps.
 pub mod Whole
+-- A replica that is held and has come up.
+pub mod Ready

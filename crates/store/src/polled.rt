@@ -47,7 +47,6 @@ pub struct Polled {
 impl Model for Polled {
     ghost use Rattle.store.specs.Sessions.{SessionView, HasRoom, session_view};
     ghost use Rattle.store.specs.Polled.{IsPolled};
-
     ghost use Rattle.store.specs.Codes.{session_code};
 
     ghost Value = { SessionView };

@@ -1,16 +1,22 @@
 // A session's calls.
 
-ghost use Rattle.std.specs.Prelude.{◌≡◌, [], ◌∷◌, true, None, Some, Err};
+ghost use Rattle.std.specs.Prelude.{◌≡◌, [], ◌∷◌, true, length, None, Some, Err, ◌≤◌};
 ghost use Rattle.verifier.specs.declared.refusal.Mode.TheVariants.{Update, Read};
 ghost use Rattle.accounts.specs.Accounts.{Extends, IsWellFormed};
 ghost use Rattle.replica.specs.StoreMeaning.{store_meaning, is_operation};
 ghost use Rattle.replica.specs.declared.refusals.StoreRefused.{StoreRefused};
 ghost use Rattle.replica.specs.Refusals.{early_refusal};
 ghost use Rattle.store.specs.Requests.{said};
+ghost use Rattle.store.specs.declared.questions.QuestionRefused.{QuestionRefused};
+ghost use Rattle.store.specs.Questions.{EachBegins, TellsEach, first_refused};
+ghost use Rattle.store.specs.declared.scanning.ScanRefused.{ScanRefused};
+ghost use Rattle.store.specs.Scanning.{ScanBegins, TellsScan, scan_refusal};
 ghost use Rattle.store.specs.Sessions.{IsOf, IsIdle, TellsUpdate, TellsRead, BeginsWithin, HasRoom, known_of, install_of, install_refused, op_of, session_view};
 
-use crate::answers::Answer;
+use crate::answers::{Answer, Scan};
+use crate::questions::{QuestionRefused, check_each, read_each_waiting};
 use crate::requests::{complete, post};
+use crate::scanning::{Beginning, ScanRefused, check_scan, scan_waiting};
 use crate::steps::{Caller, Question, query};
 use crate::store::Store;
 use crate::values::Value;
@@ -216,5 +222,75 @@ impl Session {
         check_call(store.catalogue(), Mode::Read, program, argument)?;
         let question = Question { program, argument };
         Ok(query(rt, store.shared(), seat, *caller, question))
+    }
+
+    /// Answers up to 16 questions at one point of the history: each is a read program, which runs on the maps of the session's node, once
+    /// these have seen everything that was completed when the call began. Answers the point; `replies` gets a reply for each question.
+    ///
+    /// # Errors
+    ///
+    /// The first question that [`read`](Session::read) refuses, by S1 to S3: none is answered then, and nothing is done.
+    pub fn read_each<R: Wait>(
+        &mut self,
+        rt: &R,
+        store: &Store,
+        questions: &[Question<'_>],
+        replies: &mut [u64],
+    ) -> Result<u64, QuestionRefused>
+        requires own { IsOf store.now self.old }
+        requires few { length questions.now ≤ 16 }
+        requires room { length replies.old ≡ length questions.now }
+        ensures own { IsOf store.now self.new }
+        ensures same { (self.new.shelf ≡ self.old.shelf) × (self.new.session ≡ self.old.session) × (self.new.note ≡ self.old.note) }
+        ensures grown { Extends self.old.progress self.new.progress }
+        ensures well_formed { IsWellFormed store_meaning self.new.progress }
+        ensures early { (r : QuestionRefused) → first_refused store.now.catalogue 0 questions.now ≡ Some r → (result ≡ Err r)
+            × (self.new ≡ self.old) × (replies.new ≡ replies.old) }
+        ensures begun { first_refused store.now.catalogue 0 questions.now ≡ None → EachBegins self.old self.new result }
+        ensures answered { first_refused store.now.catalogue 0 questions.now ≡ None
+            → TellsEach self.old self.new questions.now replies.new result }
+    {
+        let Session { seat, caller, .. } = self;
+        check_each(store.catalogue(), questions)?;
+        let shared = store.shared();
+        Ok(read_each_waiting(rt, shared, seat, *caller, questions, replies))
+    }
+
+    /// Gives entries of a map from a place on, their keys one after another in `keys` and their values in `values`, as many as both have room
+    /// for: those that stand in the maps of the session's node, once these have seen everything that was completed when the call began. It
+    /// looks at no more than 1,024 places of the map, and 16 more for each entry that there is room for, and takes no memory. A scan that goes
+    /// on from `next` may see a later state.
+    ///
+    /// # Errors
+    ///
+    /// S9 unknown map, S10 unknown place: nothing is done then.
+    pub fn scan<R: Wait>(
+        &mut self,
+        rt: &R,
+        store: &Store,
+        map: u8,
+        from: u32,
+        keys: &mut [u8],
+        values: &mut [u8],
+    ) -> Result<Scan, ScanRefused>
+        requires own { IsOf store.now self.old }
+        ensures own { IsOf store.now self.new }
+        ensures same { (self.new.shelf ≡ self.old.shelf) × (self.new.session ≡ self.old.session) × (self.new.note ≡ self.old.note) }
+        ensures grown { Extends self.old.progress self.new.progress }
+        ensures well_formed { IsWellFormed store_meaning self.new.progress }
+        ensures early { (r : ScanRefused) → scan_refusal store.now.catalogue map from ≡ Some r → (result ≡ Err r)
+            × (self.new ≡ self.old) × (keys.new ≡ keys.old) × (values.new ≡ values.old) }
+        ensures begun { scan_refusal store.now.catalogue map from ≡ None → ScanBegins self.old self.new result }
+        ensures told { scan_refusal store.now.catalogue map from ≡ None
+            → TellsScan self.old self.new map from (length keys.old) (length values.old) keys.new values.new result }
+    {
+        let Session { seat, caller, .. } = self;
+        let begin = Beginning {
+            map: map as usize,
+            from,
+        };
+        check_scan(store.catalogue(), begin)?;
+        let shared = store.shared();
+        Ok(scan_waiting(rt, shared, seat, *caller, begin, keys, values))
     }
 }

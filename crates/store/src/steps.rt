@@ -14,6 +14,8 @@ ghost use Rattle.store.specs.Knowing.{HasLog, HasReplica, IsOn, Knows, Learns, R
 ghost use Rattle.store.specs.Standing.{Stands, IsFree, HasOthers, HasRaised, HasPlace, HasAppended, HasReplayed, HasReached};
 ghost use Rattle.store.specs.Asking.{asked_op};
 ghost use Rattle.store.specs.Trying.{IsStill};
+ghost use Rattle.store.specs.Ready.{HoldsReady};
+ghost use Rattle.ownlock.specs.Held.{held_place};
 ghost use Rattle.store.specs.Rooms.{FreesRoom, Owes, caught_up, with_more};
 ghost use Rattle.store.specs.Whole.{MakesRoom, AppendsAny, ReplaysAnywhere, FollowsBy, ReadsBy};
 
@@ -25,7 +27,7 @@ use node::{
     replay_first,
 };
 use oplog::{LogState, MAX_NODES, Record};
-use ownlock::{LEADER, Seat, Shelf};
+use ownlock::{Held, LEADER, Seat, Shelf};
 use readpath::{ReadAnswer, answer, ready};
 use replica::Replies;
 use std::marker::Brand;
@@ -47,11 +49,13 @@ pub(crate) struct Caller {
     pub(crate) slot: usize,
 }
 
-// What a read asks for: a program, by its number, and its argument.
+/// What a read asks for.
 #[derive(Clone, Copy)]
-pub(crate) struct Question<'a> {
-    pub(crate) program: u16,
-    pub(crate) argument: &'a [u8],
+pub struct Question<'a> {
+    /// A program, by its number.
+    pub program: u16,
+    /// Its argument.
+    pub argument: &'a [u8],
 }
 
 // Raises the completed tail to this one, which the history has reached. The session may hold the log meanwhile.
@@ -344,7 +348,11 @@ fn try_reach(
 }
 
 // What a read answers on the node's state, which it leaves as it was.
-fn answer_there(node: &mut NodeReplica, catalogue: &Catalogue, question: Question<'_>) -> ReadAnswer
+pub(crate) fn answer_there(
+    node: &mut NodeReplica,
+    catalogue: &Catalogue,
+    question: Question<'_>,
+) -> ReadAnswer
     requires sizes { sizes_of node.old.replica.state ≡ sizes_for catalogue.now }
     ensures point { result.point ≡ node.old.replica.tail }
     ensures reply { RepliesThere catalogue.now (op_of question.entry.program question.entry.argument.now) node.old result.reply }
@@ -356,6 +364,35 @@ fn answer_there(node: &mut NodeReplica, catalogue: &Catalogue, question: Questio
         question.program,
         question.argument,
     )
+}
+
+// Takes the replica of the caller's node, and brings it up to the tail that is completed now. Where another session holds the replica, or
+// the log, which a replica that lacks something takes, it answers that place: the session holds nothing then.
+pub(crate) fn try_hold_ready(
+    shared: Shared<'_>,
+    seat: &mut Seat<Value>,
+    caller: Caller,
+) -> Result<Held<Value>, usize>
+    requires own { seat.old.shelf ≡ shared.shelf.now.id }
+    requires idle { Knows seat.old (λ k. IsFree caller k × IsOn shared k) }
+    ensures same { seat.new.shelf ≡ seat.old.shelf }
+    ensures held { IfErr result (λ place. place < shared.entry.shelf.now.places) }
+    ensures stays { IfErr result (λ _. Learns seat.old seat.new IsStill) }
+    ensures place { IfOk result (λ h. held_place h ≡ 1 + caller.node) }
+    ensures there { IfOk result (λ h. held_place h < shared.entry.shelf.now.places) }
+    ensures ready { IfOk result (λ h. Learns seat.old seat.new (λ k after. HoldsReady k after (1 + caller.node) h.value)) }
+{
+    let Shared { shelf, .. } = shared;
+    let done = shelf.done(seat);
+    let Some(mut held) = shelf.try_take(seat, 1 + caller.node) else {
+        return Err(1 + caller.node);
+    };
+    let node = held.value.replica_mut();
+    let Some(()) = try_reach(shared, seat, node, done) else {
+        shelf.put::<Brand>(seat, held);
+        return Err(LEADER);
+    };
+    Ok(held)
 }
 
 // Runs a read program on the replica of the caller's node, once that has reached the tail that is completed now. Where another session
@@ -374,22 +411,10 @@ pub(crate) fn try_query(
     ensures read { IfOk result (λ answer. Learns seat.old seat.new (λ k after. IsReadBy k after (asked_op question.entry) answer)) }
     ensures goes { IfOk result (λ answer. Relates seat.old seat.new (λ k after. ReadsBy k after (asked_op question.entry) answer)) }
 {
-    let Shared {
-        shelf,
-        catalogue,
-        ..
-    } = shared;
-    let done = shelf.done(seat);
-    let Some(mut held) = shelf.try_take(seat, 1 + caller.node) else {
-        return Err(1 + caller.node);
-    };
+    let mut held = try_hold_ready(shared, seat, caller)?;
     let node = held.value.replica_mut();
-    let Some(()) = try_reach(shared, seat, node, done) else {
-        shelf.put::<Brand>(seat, held);
-        return Err(LEADER);
-    };
-    let answer = answer_there(node, catalogue, question);
-    shelf.put::<Brand>(seat, held);
+    let answer = answer_there(node, shared.catalogue, question);
+    shared.shelf.put::<Brand>(seat, held);
     Ok(answer)
 }
 

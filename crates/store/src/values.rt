@@ -59,7 +59,18 @@ impl Value {
         }
     }
 
-    // The node's replica that the value is, with its hand, to change it.
+    // The node's replica that the value is, with its hand.
+    pub(crate) fn replica(&self) -> &NodeReplica
+        requires replica { IsSome (replica_of self.now) }
+        ensures replica { replica_of self.now ≡ Some result.now }
+    {
+        match self {
+            Value::Replica(node) => node,
+            Value::Log(_) | Value::Desk(_) => unreachable!(),
+        }
+    }
+
+    // The same, to change it.
     pub(crate) fn replica_mut(&mut self) -> &mut NodeReplica
         requires replica { IsSome (replica_of self.old) }
         ensures* writes_back { sem 𝓛 (LendsReplica self.entry result) }

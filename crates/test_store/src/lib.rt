@@ -13,6 +13,8 @@ mod reopening;
 #[cfg(test)]
 mod replicas;
 #[cfg(test)]
+mod scans;
+#[cfg(test)]
 mod single_store;
 #[cfg(test)]
 mod two_nodes;

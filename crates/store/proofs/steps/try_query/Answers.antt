@@ -1,152 +1,44 @@
-use Rattle.std.proofs.Common.{sym, ap, refl, subst, ◌+◌, ◌∙◌, ◌≡◌, [], ◌∷◌, ◌≤◌, length, arith}
-use Rattle.loader.specs.CatalogueView.{sizes_for}
-use Rattle.ownlock.specs.Seats.{having_read}
+use Rattle.std.proofs.Common.{subst, ◌+◌, ◌≡◌}
 use Rattle.ownlock.proofs.Seats.{one_known}
-use Rattle.store.specs.Standing.{Agrees, IsFree}
-use Rattle.store.specs.Sessions.{RepliesThere, op_of}
+use Rattle.store.specs.Asking.{asked_op}
 use Rattle.store.specs.Whole.{ReadsBy}
-use Rattle.store.proofs.Taken.{free_on, may_take_replica, took_replica}
-use Rattle.store.proofs.Finished.{holds_on, may_put_replica, back, is_read, later_catalogue, far_enough}
-use Rattle.store.proofs.Stretches.{reads_by}
-use Rattle.store.proofs.Tried.{low_enough, still_back, still_then, still_told}
+use Rattle.store.proofs.Ready.{lent_back, may_put_ready, node_is, read_ready, reads_ready, ready_back}
 use Rattle.store.proofs.steps.try_query.Goals as goal
 
-pub try_take-requires-clause-may : goal.try_take-requires-clause-may
-try_take-requires-clause-may c =
+pub put-requires-clause-may : goal.put-requires-clause-may
+put-requires-clause-may c =
     let i = c.requires.idle in
-    let d = c.done-done.ensures.read i.0 i.1 in
-    (_, d.3, may_take_replica _ c.args.caller (free_on c.args.caller i.0 (having_read i.0 d.0 c.done-done.result) refl i.2.0.held d.1.1.0.0 i.2.0))
-
-pub replica_mut-node-requires : goal.replica_mut-node-requires
-replica_mut-node-requires c =
-    let i = c.requires.idle in
-    let w = c.in-Some.held.value in
-    let d = c.done-done.ensures.read i.0 i.1 in
-    let t = c.in-Some.ensures.taken _ d.3 in
-    let b = took_replica _ t.0 c.args.caller w (free_on c.args.caller i.0 (having_read i.0 d.0 c.done-done.result) refl i.2.0.held d.1.1.0.0 i.2.0) t.1 in
-    record { replica = b.holds.replica }
-
-pub try_reach-requires-clause-holds : goal.try_reach-requires-clause-holds
-try_reach-requires-clause-holds c =
-    let i = c.requires.idle in
-    let w = c.in-Some.held.value in
-    let d = c.done-done.ensures.read i.0 i.1 in
-    let t = c.in-Some.ensures.taken _ d.3 in
-    let b = took_replica _ t.0 c.args.caller w (free_on c.args.caller i.0 (having_read i.0 d.0 c.done-done.result) refl i.2.0.held d.1.1.0.0 i.2.0) t.1 in
-    let same = d.2 in
-    let up = b.extends.completed in
-    (t.0, t.2, (record { value = w; holds = b.holds; agrees = b.agrees c.replica_mut-node.result.now c.replica_mut-node.ensures.replica; stands = b.stands; catalogue = sym b.extends.catalogue ∙ (sym d.1.1.0.0.catalogue ∙ i.2.1.catalogue_is) }, omega (arith, same, up)))
-
-pub answer_there-answer-requires : goal.answer_there-answer-requires
-answer_there-answer-requires c =
-    let i = c.requires.idle in
-    let w = c.in-Some.held.value in
-    let d = c.done-done.ensures.read i.0 i.1 in
-    let t = c.in-Some.ensures.taken _ d.3 in
-    let b = took_replica _ t.0 c.args.caller w (free_on c.args.caller i.0 (having_read i.0 d.0 c.done-done.result) refl i.2.0.held d.1.1.0.0 i.2.0) t.1 in
-    let r = c.in-Some-try_reach.ensures.reached t.0 t.2 in
-    let same = later_catalogue (1 + c.args.caller.node) i.0 t.0 r.0 d.0 w c.try_reach.new.node c.done-done.result c.args.shared.catalogue.now d.1.1.0.0 b r.2 i.2.1.catalogue_is in
-    record { sizes = r.2.agrees.1.0 ∙ ap sizes_for same }
-
-pub put-requires-2-clause-may : goal.put-requires-2-clause-may
-put-requires-2-clause-may c =
-    let i = c.requires.idle in
-    let w = c.in-Some.held.value in
-    let n = c.answer_there-answer.new.node in
-    let stays = sym c.answer_there-answer.ensures.same in
-    let d = c.done-done.ensures.read i.0 i.1 in
-    let t = c.in-Some.ensures.taken _ d.3 in
-    let b = took_replica _ t.0 c.args.caller w (free_on c.args.caller i.0 (having_read i.0 d.0 c.done-done.result) refl i.2.0.held d.1.1.0.0 i.2.0) t.1 in
-    let r = c.in-Some-try_reach.ensures.reached t.0 t.2 in
-    let held = r.2.goes.held ∙ (b.held ∙ ap (λ z. (z, w) ∷ []) (sym c.in-Some.ensures.place)) in
-    (r.0, r.1, may_put_replica r.0 w (holds_on t.0 r.0 w r.2.goes b.holds) c.try_reach.new.seat.sessions r.1 n (subst (Agrees r.0.progress) stays r.2.agrees) (subst (λ z. z.replica.tail ≤ length r.0.progress.history) stays r.2.within) _ held)
+    let v = c.in_ok-held.held.value in
+    let r = c.in_ok-held.ensures.ready i.0 i.1 in
+    let same = lent_back i.0 r.0 (1 + c.args.caller.node) v r.2 c.replica_mut-node.result.now c.answer_there-answer.new.node c.replica_mut-node.ensures.replica c.answer_there-answer.ensures.same in
+    (r.0, r.1, may_put_ready i.0 r.0 (1 + c.args.caller.node) v r.2 c.try_hold_ready.new.seat.sessions r.1 _ same _ c.in_ok-held.ensures.place)
 
 pub returns-clause-read : goal.returns-clause-read
 returns-clause-read c k is =
     let i = c.requires.idle in
-    let w = c.in-Some.held.value in
-    let e = one_known c.args.seat.now i.0 k i.1 is in
-    let free = subst (λ z. IsFree c.args.caller z) e i.2.0 in
-    let same = subst (λ z. z.progress.catalogue ≡ c.args.shared.catalogue.now) e i.2.1.catalogue_is in
-    let d = c.done-done.ensures.read k is in
-    let t = c.in-Some.ensures.taken _ d.3 in
-    let b = took_replica _ t.0 c.args.caller w (free_on c.args.caller k (having_read k d.0 c.done-done.result) refl free.held d.1.1.0.0 free) t.1 in
-    let r = c.in-Some-try_reach.ensures.reached t.0 t.2 in
-    let held = r.2.goes.held ∙ (b.held ∙ ap (λ z. (z, w) ∷ []) (sym c.in-Some.ensures.place)) in
-    let p = c.put-2.ensures.put r.0 r.1 in
-    let v = c.try_reach.new.node in
-    let n = c.answer_there-answer.new.node in
-    let stays = sym c.answer_there-answer.ensures.same in
-    let up = far_enough t.0 r.0 v c.done-done.result _ (omega arith) r.2 in
-    let f = back r.0 w (holds_on t.0 r.0 w r.2.goes b.holds) c.try_reach.new.seat.sessions r.1 n (subst (Agrees r.0.progress) stays r.2.agrees) (subst (λ z. z.replica.tail ≤ length r.0.progress.history) stays r.2.within) _ held p.0 p.1.0 p.1.1 in (
+    let v = c.in_ok-held.held.value in
+    let n = c.replica_mut-node.result.now in
+    let catalogue = subst (λ z. z.progress.catalogue ≡ c.args.shared.catalogue.now) (one_known c.args.seat.now i.0 k i.1 is) i.2.1.catalogue_is in
+    let r = c.in_ok-held.ensures.ready k is in
+    let same = lent_back k r.0 (1 + c.args.caller.node) v r.2 n c.answer_there-answer.new.node c.replica_mut-node.ensures.replica c.answer_there-answer.ensures.same in
+    let p = c.put.ensures.put r.0 r.1 in
+    let b = ready_back k r.0 (1 + c.args.caller.node) v r.2 c.try_hold_ready.new.seat.sessions r.1 _ same _ c.in_ok-held.ensures.place p.0 p.1.0 p.1.1 in (
       _,
       p.2,
-      is_read (1 + c.args.caller.node) k t.0 r.0 _ d.0 w v c.done-done.result (op_of c.args.question.program c.args.question.argument.now) c.args.shared.catalogue.now c.answer_there-answer.result d.1.1.0.0 d.2 b up f
-          (later_catalogue (1 + c.args.caller.node) k t.0 r.0 d.0 w v c.done-done.result c.args.shared.catalogue.now d.1.1.0.0 b up same) c.answer_there-answer.ensures.point c.answer_there-answer.ensures.reply,
+      read_ready k r.0 (1 + c.args.caller.node) v r.2 _ b (asked_op c.args.question) c.answer_there-answer.result c.args.shared.catalogue.now catalogue n (node_is k r.0 (1 + c.args.caller.node) v r.2 n c.replica_mut-node.ensures.replica)
+          c.answer_there-answer.ensures.point c.answer_there-answer.ensures.reply,
     )
 
 pub returns-clause-goes : goal.returns-clause-goes
 returns-clause-goes c k after is now =
     let i = c.requires.idle in
-    let w = c.in-Some.held.value in
-    let e = one_known c.args.seat.now i.0 k i.1 is in
-    let free = subst (λ z. IsFree c.args.caller z) e i.2.0 in
-    let same = subst (λ z. z.progress.catalogue ≡ c.args.shared.catalogue.now) e i.2.1.catalogue_is in
-    let op = op_of c.args.question.program c.args.question.argument.now in
-    let d = c.done-done.ensures.read k is in
-    let t = c.in-Some.ensures.taken _ d.3 in
-    let b = took_replica _ t.0 c.args.caller w (free_on c.args.caller k (having_read k d.0 c.done-done.result) refl free.held d.1.1.0.0 free) t.1 in
-    let r = c.in-Some-try_reach.ensures.reached t.0 t.2 in
-    let held = r.2.goes.held ∙ (b.held ∙ ap (λ z. (z, w) ∷ []) (sym c.in-Some.ensures.place)) in
-    let p = c.put-2.ensures.put r.0 r.1 in
-    let v = c.try_reach.new.node in
-    let n = c.answer_there-answer.new.node in
-    let stays = sym c.answer_there-answer.ensures.same in
-    let up = far_enough t.0 r.0 v c.done-done.result _ (omega arith) r.2 in
-    let f = back r.0 w (holds_on t.0 r.0 w r.2.goes b.holds) c.try_reach.new.seat.sessions r.1 n (subst (Agrees r.0.progress) stays r.2.agrees) (subst (λ z. z.replica.tail ≤ length r.0.progress.history) stays r.2.within) _ held p.0 p.1.0 p.1.1 in
-    subst (λ z. ReadsBy k z op c.answer_there-answer.result) (one_known c.put-2.new.seat _ after p.2 now)
-    (reads_by k t.0 r.0 _ d.0 c.done-done.result c.replica_mut-node.result.now v op c.answer_there-answer.result d.1.1.0.0 d.2 b.extends (b.agrees c.replica_mut-node.result.now c.replica_mut-node.ensures.replica) b.stands (c.in-Some-try_reach.ensures.goes t.0 r.0 t.2 r.1)
-    r.2.goes.extends r.2.agrees r.2.within up.reached f.extends f.stands (f.tails_read ∙ (up.goes.tails_read ∙ b.tails_read)) c.answer_there-answer.ensures.point (subst (λ z. RepliesThere z op v c.answer_there-answer.result.reply) (sym same) c.answer_there-answer.ensures.reply))
-
--- ---- the replica is held
-
-pub returns-in_default-clause-stays : goal.returns-in_default-clause-stays
-returns-in_default-clause-stays c k is =
-    let i = c.requires.idle in
-    let free = subst (λ z. IsFree c.args.caller z) (one_known c.args.seat.now i.0 k i.1 is) i.2.0 in
-    let d = c.done-done.ensures.read k is in
-    (having_read k d.0 c.done-done.result, ap (λ z. z.sessions) c.in_default.ensures.taken ∙ d.3, still_told k d.0 c.done-done.result d.1.0 free.held d.1.1 d.2)
-
--- ---- the log is held
-
-pub put-requires-clause-may : goal.put-requires-clause-may
-put-requires-clause-may c =
-    let i = c.requires.idle in
-    let w = c.in-Some.held.value in
-    let n = c.try_reach.new.node in
-    let d = c.done-done.ensures.read i.0 i.1 in
-    let t = c.in-Some.ensures.taken _ d.3 in
-    let b = took_replica _ t.0 c.args.caller w (free_on c.args.caller i.0 (having_read i.0 d.0 c.done-done.result) refl i.2.0.held d.1.1.0.0 i.2.0) t.1 in
-    let e = c.in_default-try_reach.ensures.stays in
-    let is = ap (λ z. z.sessions) e.0 ∙ t.2 in
-    let held = b.held ∙ ap (λ z. (z, w) ∷ []) (sym c.in-Some.ensures.place) in
-    let agrees = subst (Agrees t.0.progress) (sym e.1) (b.agrees c.replica_mut-node.result.now c.replica_mut-node.ensures.replica) in
-    (t.0, is, may_put_replica t.0 w b.holds c.try_reach.new.seat.sessions is n agrees (low_enough t.0 n agrees b.stands) _ held)
-
-pub returns-in_default-try_reach-clause-stays : goal.returns-in_default-try_reach-clause-stays
-returns-in_default-try_reach-clause-stays c k is0 =
-    let i = c.requires.idle in
-    let w = c.in-Some.held.value in
-    let n = c.try_reach.new.node in
-    let free = subst (λ z. IsFree c.args.caller z) (one_known c.args.seat.now i.0 k i.1 is0) i.2.0 in
-    let d = c.done-done.ensures.read k is0 in
-    let told = having_read k d.0 c.done-done.result in
-    let t = c.in-Some.ensures.taken told d.3 in
-    let b = took_replica told t.0 c.args.caller w (free_on c.args.caller k told refl free.held d.1.1.0.0 free) t.1 in
-    let e = c.in_default-try_reach.ensures.stays in
-    let is = ap (λ z. z.sessions) e.0 ∙ t.2 in
-    let held = b.held ∙ ap (λ z. (z, w) ∷ []) (sym c.in-Some.ensures.place) in
-    let agrees = subst (Agrees t.0.progress) (sym e.1) (b.agrees c.replica_mut-node.result.now c.replica_mut-node.ensures.replica) in
-    let p = c.put.ensures.put t.0 is in
-    let f = back t.0 w b.holds c.try_reach.new.seat.sessions is n agrees (low_enough t.0 n agrees b.stands) c.in-Some.held.place held p.0 p.1.0 p.1.1 in
-    (_, p.2, still_then k told _ (still_told k d.0 c.done-done.result d.1.0 free.held d.1.1 d.2) (still_back (1 + c.args.caller.node) told t.0 _ w b f))
+    let v = c.in_ok-held.held.value in
+    let n = c.replica_mut-node.result.now in
+    let catalogue = subst (λ z. z.progress.catalogue ≡ c.args.shared.catalogue.now) (one_known c.args.seat.now i.0 k i.1 is) i.2.1.catalogue_is in
+    let r = c.in_ok-held.ensures.ready k is in
+    let same = lent_back k r.0 (1 + c.args.caller.node) v r.2 n c.answer_there-answer.new.node c.replica_mut-node.ensures.replica c.answer_there-answer.ensures.same in
+    let p = c.put.ensures.put r.0 r.1 in
+    let b = ready_back k r.0 (1 + c.args.caller.node) v r.2 c.try_hold_ready.new.seat.sessions r.1 _ same _ c.in_ok-held.ensures.place p.0 p.1.0 p.1.1 in
+    subst (λ z. ReadsBy k z (asked_op c.args.question) c.answer_there-answer.result) (one_known c.put.new.seat _ after p.2 now)
+    (reads_ready k r.0 (1 + c.args.caller.node) v r.2 _ b (asked_op c.args.question) c.answer_there-answer.result c.args.shared.catalogue.now catalogue n (node_is k r.0 (1 + c.args.caller.node) v r.2 n c.replica_mut-node.ensures.replica)
+    c.answer_there-answer.ensures.point c.answer_there-answer.ensures.reply)

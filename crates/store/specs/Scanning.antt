@@ -1,0 +1,88 @@
+-- Scans of a map: why one is refused, and what one tells.
+use Rattle.std.specs.Prelude.{◌≡◌, ℕ, ◌≤◌, ◌<◌, ◌++◌, ◌∷◌, List, [], length, Option, Some, None, slice_get, nat_lt, if◌then◌else◌, Result, MatchResult, IfSome}
+use Rattle.maps.specs.declared.shapes.Shape.{Shape}
+use Rattle.maps.specs.Maps.{MapState}
+use Rattle.maps.specs.Shapes.{entry_count}
+use Rattle.maps.specs.Scans.{KeyValue, Scans, given, room_in}
+use Rattle.loader.specs.CatalogueView.{CatalogueView}
+use Rattle.oplog.specs.History.{state_after}
+use Rattle.replica.specs.StoreMeaning.{store_meaning}
+use Rattle.accounts.specs.declared.sessions.Progress.{Progress}
+use Rattle.accounts.specs.Accounts.{Extends, IsWellFormed}
+use Rattle.node.specs.declared.following.NodeReplica.{NodeReplica}
+use Rattle.store.specs.declared.answers.Scan.{Scan}
+use Rattle.store.specs.declared.scanning.ScanRefused.{ScanRefused}
+use Rattle.store.specs.declared.scanning.ScanRefused.TheVariants.{UnknownMap, UnknownPlace}
+use Rattle.store.specs.Sessions.{SessionView}
+use Rattle.store.specs.Standing.{SessionKnown}
+
+-- ---- which scans are refused
+
+-- the number that a refusal shows after its letter S
+abbrev pub scan_fault_number : ScanRefused → ℕ
+scan_fault_number UnknownMap = 9
+scan_fault_number UnknownPlace = 10
+
+-- the refusal of a place, where a map has this shape, or there is none
+abbrev pub place_fault : ℕ → Option Shape → Option ScanRefused
+place_fault from None = Some UnknownMap
+place_fault from (Some shape) = if nat_lt from (entry_count shape) then None else Some UnknownPlace
+
+-- the refusal of a scan from a place on: the store has no map of this number, else the map has no such place
+abbrev pub scan_refusal : CatalogueView → ℕ → ℕ → Option ScanRefused
+scan_refusal c map from = place_fault from (slice_get c.shapes map)
+
+-- ---- what a scan tells
+
+-- a scan of the map m, which has this number, from a place on, began when so many operations were completed: its point lies from there to the
+-- completed tail at its end, m is that map after the operations before that point, and these are entries of m
+pub record ScanTells (l : Progress CatalogueView) (begun map from room : ℕ) (m : MapState) (entries : List KeyValue) (s : Scan) : Type 0 where
+  pub point : (begun ≤ s.point) × (s.point ≤ l.completed)
+  pub there : slice_get (state_after store_meaning l.catalogue l.history s.point).maps map ≡ Some m
+  pub shape : slice_get l.catalogue.shapes map ≡ Some m.shape
+  pub scans : Scans m from room entries s.next
+
+-- the same, where there was room for so many bytes of keys and of values, and these bytes stand there at the end
+abbrev pub ScanGives : Progress CatalogueView → (begun map from key_room value_room : ℕ) → (keys values : List ℕ) → Scan → Type 0
+ScanGives l begun map from key_room value_room keys values s =
+    (m : MapState) × ScanTells l begun map from (room_in m.shape key_room value_room) m (given m.shape s.count keys values) s
+
+-- a scan that was not refused
+abbrev pub TellsScan : (old new : SessionView) → (map from key_room value_room : ℕ) → (keys values : List ℕ) → Result Scan ScanRefused → Type 0
+TellsScan old new map from key_room value_room keys values result =
+    MatchResult result (λ s. ScanGives new.progress old.progress.completed map from key_room value_room keys values s) (λ _. ⊥)
+
+-- within the call the session has read the completed tail, and the scan's point is not below what it was then
+abbrev pub ScanBegins : (old new : SessionView) → Result Scan ScanRefused → Type 0
+ScanBegins old new result =
+    MatchResult result (λ s. (begun : ℕ) × (more : List ℕ) × (new.tails_read ≡ old.tails_read ++ begun ∷ more) × (begun ≤ s.point)) (λ _. ⊥)
+
+-- ---- clauses of private functions alone cite what follows
+
+-- maps of these shapes have one of this number, with such a place
+abbrev pub IsPlaceIn : List Shape → (map from : ℕ) → Type 0
+IsPlaceIn shapes map from = (map < length shapes) × IfSome (slice_get shapes map) (λ shape. from < entry_count shape)
+
+-- the scan is one of that map of the node's, as far as it has come
+abbrev pub GivesThere : NodeReplica → (map from key_room value_room : ℕ) → (keys values : List ℕ) → Scan → Type 0
+GivesThere n map from key_room value_room keys values s =
+    (m : MapState) × (slice_get n.replica.state.maps map ≡ Some m) × Scans m from (room_in m.shape key_room value_room) (given m.shape s.count keys values) s.next
+
+-- what a session has done that looked at its node's replica at this point: it has read the completed tail, and the point is not below what that
+-- was, nor below what was completed that it knew
+pub record HasSeen (k after : SessionKnown) (point : ℕ) : Type 0 where
+  pub begun : ℕ
+  pub more : List ℕ
+  pub read : after.tails_read ≡ k.tails_read ++ begun ∷ more
+  pub reached : begun ≤ point
+  pub far : k.progress.completed ≤ point
+  pub session : after.session ≡ k.session
+  pub held : after.held ≡ []
+  pub note : after.note ≡ k.note
+  pub extends : Extends k.progress after.progress
+  pub well_formed : IsWellFormed store_meaning after.progress
+
+-- a session's scan
+abbrev pub IsScannedBy : (k after : SessionKnown) → (map from key_room value_room : ℕ) → (keys values : List ℕ) → Scan → Type 0
+IsScannedBy k after map from key_room value_room keys values s =
+    HasSeen k after s.point × ScanGives after.progress k.progress.completed map from key_room value_room keys values s
