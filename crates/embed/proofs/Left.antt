@@ -9,7 +9,7 @@ use Rattle.embed.specs.Rooms.{session_left, store_left}
 
 module _ {M : Type 1} {𝓤 : Ura M} (𝓛 : Logic 𝓤) where
   -- what lies there goes, and its memory is room
-  is_room : (R : RattleType) → One R → (b o : ℕ) (h : R.Denot) → ent 𝓤 (sem 𝓛 (lies_at R full_share (block_ptr b o) h)) (sem 𝓛 (room_at R (block_ptr b o)))
+  pub is_room : (R : RattleType) → One R → (b o : ℕ) (h : R.Denot) → ent 𝓤 (sem 𝓛 (lies_at R full_share (block_ptr b o) h)) (sem 𝓛 (room_at R (block_ptr b o)))
   is_room R one b o h =
       qed 𝓛 (‵ (lies_at R full_share (block_ptr b o) h) ∷ []) {P = sem 𝓛 (room_at R (block_ptr b o))} (
       use1 𝓛 (some (λ (v : Val). ‵ (fat full_share (layout R) b o v) ⊛ ‵ (R.own_val h (v ∷ [])))) (part_out 𝓛 R one full_share h b o) $ pick ! (λ v. split ! $ keep ! (0 ∷ []) $

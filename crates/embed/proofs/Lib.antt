@@ -4,3 +4,4 @@ mod Sessions
 mod Posted
 mod Opened
 mod Seats
+mod Gathered

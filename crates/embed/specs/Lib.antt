@@ -6,4 +6,5 @@ pub mod Told
 pub mod Calls
 pub mod Stores
 pub mod Openings
+pub mod Leaving
 pub mod Rooms

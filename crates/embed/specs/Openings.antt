@@ -1,11 +1,13 @@
 -- What a store is opened with, what it is then, and why it is not opened.
-use Rattle.std.specs.Prelude.{◌≡◌, ℕ, ◌<◌, List, None, Option, Result, Ok, MatchOption, get_or, length, map}
+use Rattle.std.specs.Prelude.{◌≡◌, ℕ, ◌<◌, List, None, Some, Option, Result, Ok, MatchOption, IfSome, get_or, length, map, option_map}
+use Rattle.std.specs.Borrow.{Bor}
 use Rattle.std.specs.List.{All}
 use Rattle.std.specs.Str.{IsUtf8}
 use Rattle.std.specs.Arc.{arc_value}
 use Rattle.insn.specs.Refusal.{fault_number as decode_number}
 use Rattle.verifier.specs.Numbers.{fault_number as verify_number}
-use Rattle.loader.specs.CatalogueView.{CatalogueView, with_places}
+use Rattle.loader.specs.CatalogueView.{CatalogueView, MayOpenOn, opened_on, with_places}
+use Rattle.loader.specs.StoreState.{StoreState}
 use Rattle.loader.specs.Loading.{loaded}
 use Rattle.loader.specs.ProgramFiles.{Files}
 use Rattle.loader.specs.Refusal.{LoadFails, line_of, number_of}
@@ -48,14 +50,24 @@ reading_of o = loaded o.manifest.now (texts_of o.files.now)
 abbrev pub AreUtf8 : List File → Type 0
 AreUtf8 files = All (λ f. IsUtf8 f.name.now × IsUtf8 f.text.now) files
 
+-- the state that is lent, if one is
+abbrev pub state_in : Option (Bor StoreState) → Option StoreState
+state_in lent = option_map (λ s. s.now) lent
+
 -- ---- what is opened
 
--- a store of these sizes, and of the maps and programs of the manifest
-pub record IsStoreOf (o : Sizes) (s : StoreView) : Type 0 where
+-- a catalogue whose stores open on this state, or on a new one where there is none
+abbrev pub catalogue_on : CatalogueView → Option StoreState → CatalogueView
+catalogue_on c None = c
+catalogue_on c (Some s) = opened_on c s
+
+-- a store of these sizes, and of the maps and programs of the manifest, on this state, which it may be opened on
+pub record IsStoreOf (o : Sizes) (on : Option StoreState) (s : StoreView) : Type 0 where
   pub config : s.config ≡ config_of o
   pub catalogue : CatalogueView
   pub read : reading_of o ≡ Ok catalogue
-  pub offers : s.catalogue ≡ with_places catalogue o.spare
+  pub may : IfSome on (MayOpenOn (with_places catalogue o.spare))
+  pub offers : s.catalogue ≡ catalogue_on (with_places catalogue o.spare) on
 
 -- the first sessions of a store, so many, and what is known of the session k
 abbrev pub fresh_of : StoreView → ℕ → List SessionView
@@ -69,20 +81,24 @@ abbrev pub IsSeat : StoreView → List (Option (Box Attached Global)) → ℕ �
 IsSeat s places k = MatchOption (get_or places k None) ⊥ (λ a. a.value ≡ fresh_seat s k)
 
 -- a pool of such a store, with so many sessions a node, which are all there
-pub record IsPoolOf (o : Sizes) (p : Pool) : Type 0 where
-  pub store : IsStoreOf o (arc_value p.store)
+pub record IsPoolOf (o : Sizes) (on : Option StoreState) (p : Pool) : Type 0 where
+  pub store : IsStoreOf o on (arc_value p.store)
   pub slots : p.slots ≡ o.slots
   pub count : length p.places.items ≡ sessions_of (config_of o)
   pub seats : (k : ℕ) → k < sessions_of (config_of o) → IsSeat (arc_value p.store) p.places.items k
 
 -- ---- why it is not opened
 
-abbrev pub IsReason : Sizes → NotOpened → Type 0
-IsReason o NoText = (IsUtf8 o.manifest.now × AreUtf8 o.files.now → ⊥)
-IsReason o (Loading why) = LoadFails why (reading_of o)
-IsReason o (Opening OutOfLimits) = IsConfig (config_of o) → ⊥
-IsReason o (Opening NoMemory) = Unit {0}
-IsReason o (Opening OtherState) = ⊥
+-- no store of this catalogue may be opened on the state that there is
+abbrev pub IsOther : CatalogueView → Option StoreState → Type 0
+IsOther c on = MatchOption on ⊥ (λ s. MayOpenOn c s → ⊥)
+
+abbrev pub IsReason : Sizes → Option StoreState → NotOpened → Type 0
+IsReason o on NoText = (IsUtf8 o.manifest.now × AreUtf8 o.files.now → ⊥)
+IsReason o on (Loading why) = LoadFails why (reading_of o)
+IsReason o on (Opening OutOfLimits) = IsConfig (config_of o) → ⊥
+IsReason o on (Opening NoMemory) = Unit {0}
+IsReason o on (Opening OtherState) = IsConfig (config_of o) × ((c : CatalogueView) × (reading_of o ≡ Ok c) × IsOther (with_places c o.spare) on)
 
 -- of the program of a bad line: why the decoder or the verifier refuses it, and at which slot
 abbrev pub inner_in : LoadError → ℕ × ℕ
@@ -100,7 +116,7 @@ words_of (Loading why) = record { status = refusal letter_C (number_of why); lin
 
 -- ---- the handle
 
--- it is closed, and says why; or it is open, with a store as it was asked for
-abbrev pub IsOpened : Sizes → StoreHandle → Type 0
-IsOpened o after =
-    MatchOption after.own ((why : NotOpened) × IsReason o why × (after.answered ≡ words_of why)) (λ b. IsPoolOf o b.value × (after.answered ≡ only done))
+-- it is closed, and says why; or it is open, with a store as it was asked for, on this state, or on a new one where there is none
+abbrev pub IsOpened : Sizes → Option StoreState → StoreHandle → Type 0
+IsOpened o on after =
+    MatchOption after.own ((why : NotOpened) × IsReason o on why × (after.answered ≡ words_of why)) (λ b. IsPoolOf o on b.value × (after.answered ≡ only done))

@@ -60,6 +60,10 @@ no_word = refusal letter_H 5
 abbrev pub not_ours : ℕ
 not_ours = refusal letter_H 6
 
+-- O2: no memory
+abbrev pub no_memory : ℕ
+no_memory = refusal letter_O 2
+
 -- S1: no program has the name. S5: a session is attached
 abbrev pub no_program : ℕ
 no_program = refusal letter_S 1

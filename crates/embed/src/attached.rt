@@ -1,6 +1,6 @@
 // A session that is attached, and its calls.
 
-ghost use Rattle.std.specs.Prelude.{◌≡◌, Some, true, false, MatchOption};
+ghost use Rattle.std.specs.Prelude.{◌≡◌, None, Some, true, false, MatchOption};
 ghost use Rattle.std.specs.Arc.{arc_value};
 ghost use Rattle.verifier.specs.declared.refusal.Mode.TheVariants.{Update, Read};
 ghost use Rattle.accounts.specs.declared.sessions.Pending.{Pending};
@@ -12,7 +12,7 @@ ghost use Rattle.embed.specs.Views.{IsSame};
 use std::alloc::Global;
 use std::marker::Model;
 use std::sync::Arc;
-use store::{Mode, Polled, Store, StoreRefused};
+use store::{Mode, Polled, Session, Store, StoreRefused};
 
 /// A session and the store that it is of.
 #[derive(Drop)]
@@ -67,6 +67,20 @@ impl Attached {
             place,
             session,
         }
+    }
+
+    // The session, for which nothing is out.
+    pub(crate) fn into_session(self) -> Session
+        requires idle { self.session.note.pending ≡ None }
+        ensures session { result ≡ self.session }
+        ensures own { IsOf self.store result }
+    {
+        let Attached {
+            store: _store,
+            place: _place,
+            session,
+        } = self;
+        session.into_session()
     }
 
     // Where it stands in its pool.

@@ -4,6 +4,7 @@ ghost use Rattle.std.specs.Prelude.{◌≡◌};
 
 use crate::attached::Attached;
 use crate::pool::Pool;
+use store::StoreState;
 
 // How many bytes the name of a program may have.
 pub(crate) const NAME_ROOM: usize = 32;
@@ -123,14 +124,22 @@ pub struct SessionHandle {
     pub answered: Answered,
 }
 
+/// What lies at a state's handle. The field is not for the host, and empty where there is no state.
+#[repr(C)]
+#[derive(Drop)]
+pub struct StateHandle {
+    pub(crate) own: Option<StoreState>,
+}
+
 fn crosses<T: Send + Drop>(value: T) {
     drop(value);
 }
 
 // What lies at a handle may go to another thread.
-fn handles_cross(store: StoreHandle, session: SessionHandle) {
+fn handles_cross(store: StoreHandle, session: SessionHandle, state: StateHandle) {
     crosses(store);
     crosses(session);
+    crosses(state);
 }
 
 impl StoreHandle {
@@ -164,6 +173,15 @@ impl StoreAnswered {
             slot: 0,
             number: 0,
         }
+    }
+}
+
+impl StateHandle {
+    // A handle with this state.
+    pub(crate) fn new(own: Option<StoreState>) -> StateHandle
+        ensures own { result.own ≡ own }
+    {
+        StateHandle { own }
     }
 }
 

@@ -1,19 +1,22 @@
 //! A store for programs of other languages. No call waits: one that meets a held place says so. What is exported takes and gives numbers, texts
-//! and memory of the host's, in which its two kinds of handle lie.
+//! and memory of the host's, in which its three kinds of handle lie.
 #![tactic(auto)]
 
-ghost use Rattle.std.specs.Prelude.{◌≡◌, ◌≤◌, length};
-ghost use Rattle.std.specs.Borrow.{full_share, sem};
-ghost use Rattle.std.specs.Ptr.{lies_at, room_at};
+ghost use Rattle.std.specs.Prelude.{◌≡◌, ◌≤◌, None, length};
+ghost use Rattle.std.specs.Borrow.{sem};
+ghost use Rattle.std.specs.Ptr.{room_at};
 ghost use Rattle.embed.specs.Calls.{Goes};
 ghost use Rattle.embed.specs.Stores.{Closes, Finds, Gives, Takes};
+ghost use Rattle.embed.specs.Leaving.{Leaves, MayClose};
 ghost use Rattle.embed.specs.Openings.{IsOpened};
-ghost use Rattle.embed.specs.Rooms.{session_left, store_left};
+ghost use Rattle.embed.specs.Rooms.{holds_session, holds_state, holds_store, session_left, store_left};
 ghost use Rattle.embed.specs.contracts.handles.SessionHandle.{the_row as the_session};
+ghost use Rattle.embed.specs.contracts.handles.StateHandle.{the_row as the_state};
 ghost use Rattle.embed.specs.contracts.handles.StoreHandle.{the_row as the_store};
 
 mod attached;
 mod calls;
+mod closing;
 mod handles;
 mod opening;
 mod pool;
@@ -22,19 +25,20 @@ mod stores;
 mod texts;
 
 use calls::called;
-use handles::{Opening, SessionHandle, StoreHandle};
-use opening::opened;
+use closing::{closed_into, dropped};
+use handles::{Opening, SessionHandle, StateHandle, StoreHandle};
+use opening::{opened, opened_on};
 use std::alloc::Global;
 use stores::{attached, closed, detached, numbered};
 use texts::text_of;
 
 // The interface that a host is compiled for: 1000 times the major number, and the minor one.
-const VERSION: u32 = 1_000;
+const VERSION: u32 = 1_001;
 
 /// The interface: 1000 times its major number, and its minor one.
 #[unsafe(no_mangle)]
 pub extern "C" fn nrbpf_raw_version() -> u32
-    ensures version { result ≡ 1000 }
+    ensures version { result ≡ 1001 }
 {
     VERSION
 }
@@ -51,21 +55,45 @@ pub extern "C" fn nrbpf_raw_session_size() -> usize {
     std::mem::size_of::<SessionHandle>()
 }
 
+/// How many bytes a state's handle takes.
+#[unsafe(no_mangle)]
+pub extern "C" fn nrbpf_raw_state_size() -> usize {
+    std::mem::size_of::<StateHandle>()
+}
+
 /// Opens a store, and writes its handle. It is closed where the store is refused, and its words say why.
 #[unsafe(no_mangle)]
 pub unsafe extern "C" fn nrbpf_raw_open(alloc: Global, opening: &Opening, at: *mut u8)
     requires* { sem 𝓛 (room_at the_store at) }
-    ensures* { ∃ₛ (λ after. sem 𝓛 (lies_at the_store full_share at after) ∗ ⌜ IsOpened opening.now after ⌝) }
+    ensures* { ∃ₛ (λ after. sem 𝓛 (holds_store at after) ∗ ⌜ IsOpened opening.now None after ⌝) }
 {
     std::ptr::write(at as *mut StoreHandle, opened(alloc, opening));
+}
+
+/// The same on the state of a handle, or on a new one where that has none.
+#[unsafe(no_mangle)]
+pub unsafe extern "C" fn nrbpf_raw_open_on(
+    alloc: Global,
+    opening: &Opening,
+    state: *mut u8,
+    at: *mut u8,
+)
+    ghost value: { StateHandle }
+    requires* { sem 𝓛 (holds_state state value) ∗ sem 𝓛 (room_at the_store at) }
+    ensures* { ∃ₛ (λ after. sem 𝓛 (holds_state state value) ∗ sem 𝓛 (holds_store at after) ∗ ⌜ IsOpened opening.now value.own after ⌝) }
+{
+    std::ptr::write(
+        at as *mut StoreHandle,
+        opened_on(alloc, opening, &mut *(state as *mut StateHandle)),
+    );
 }
 
 /// Writes the number of the program that has the name in the store's words.
 #[unsafe(no_mangle)]
 pub unsafe extern "C" fn nrbpf_raw_number(at: *mut u8)
     ghost value: { StoreHandle }
-    requires* { sem 𝓛 (lies_at the_store full_share at value) }
-    ensures* { ∃ₛ (λ after. sem 𝓛 (lies_at the_store full_share at after) ∗ ⌜ Finds value after ⌝) }
+    requires* { sem 𝓛 (holds_store at value) }
+    ensures* { ∃ₛ (λ after. sem 𝓛 (holds_store at after) ∗ ⌜ Finds value after ⌝) }
 {
     numbered(&mut *(at as *mut StoreHandle));
 }
@@ -74,8 +102,8 @@ pub unsafe extern "C" fn nrbpf_raw_number(at: *mut u8)
 #[unsafe(no_mangle)]
 pub unsafe extern "C" fn nrbpf_raw_attach(at: *mut u8, room: *mut u8)
     ghost value: { StoreHandle }
-    requires* { sem 𝓛 (lies_at the_store full_share at value) ∗ sem 𝓛 (room_at the_session room) }
-    ensures* { ∃ₛ (λ after. ∃ₛ (λ given. sem 𝓛 (lies_at the_store full_share at after) ∗ sem 𝓛 (lies_at the_session full_share room given) ∗ ⌜ Gives value after given ⌝)) }
+    requires* { sem 𝓛 (holds_store at value) ∗ sem 𝓛 (room_at the_session room) }
+    ensures* { ∃ₛ (λ after. ∃ₛ (λ given. sem 𝓛 (holds_store at after) ∗ sem 𝓛 (holds_session room given) ∗ ⌜ Gives value after given ⌝)) }
 {
     std::ptr::write(
         room as *mut SessionHandle,
@@ -87,8 +115,8 @@ pub unsafe extern "C" fn nrbpf_raw_attach(at: *mut u8, room: *mut u8)
 #[unsafe(no_mangle)]
 pub unsafe extern "C" fn nrbpf_raw_detach(at: *mut u8, session: *mut u8)
     ghost values: { StoreHandle × SessionHandle }
-    requires* { sem 𝓛 (lies_at the_store full_share at values.0) ∗ sem 𝓛 (lies_at the_session full_share session values.1) }
-    ensures* { ∃ₛ (λ after. ∃ₛ (λ left. sem 𝓛 (lies_at the_store full_share at after) ∗ sem 𝓛 (session_left session left) ∗ ⌜ Takes values.0 values.1 after left ⌝)) }
+    requires* { sem 𝓛 (holds_store at values.0) ∗ sem 𝓛 (holds_session session values.1) }
+    ensures* { ∃ₛ (λ after. ∃ₛ (λ left. sem 𝓛 (holds_store at after) ∗ sem 𝓛 (session_left session left) ∗ ⌜ Takes values.0 values.1 after left ⌝)) }
 {
     detached(
         &mut *(at as *mut StoreHandle),
@@ -100,18 +128,41 @@ pub unsafe extern "C" fn nrbpf_raw_detach(at: *mut u8, session: *mut u8)
 #[unsafe(no_mangle)]
 pub unsafe extern "C" fn nrbpf_raw_close(at: *mut u8)
     ghost value: { StoreHandle }
-    requires* { sem 𝓛 (lies_at the_store full_share at value) }
+    requires* { sem 𝓛 (holds_store at value) }
     ensures* { ∃ₛ (λ left. sem 𝓛 (store_left at left) ∗ ⌜ Closes value left ⌝) }
 {
     closed(&mut *(at as *mut StoreHandle));
+}
+
+/// Ends a store whose sessions are all back, and writes the handle of the state that it ends in. That has none where there is none.
+#[unsafe(no_mangle)]
+pub unsafe extern "C" fn nrbpf_raw_close_into(alloc: Global, at: *mut u8, room: *mut u8)
+    ghost value: { StoreHandle }
+    requires* { sem 𝓛 (holds_store at value) ∗ sem 𝓛 (room_at the_state room) ∗ ⌜ MayClose value ⌝ }
+    ensures* { ∃ₛ (λ left. ∃ₛ (λ given. sem 𝓛 (store_left at left) ∗ sem 𝓛 (holds_state room given) ∗ ⌜ Leaves value left given ⌝)) }
+{
+    std::ptr::write(
+        room as *mut StateHandle,
+        closed_into(alloc, &mut *(at as *mut StoreHandle)),
+    );
+}
+
+/// Gives a state up. Its handle is room then.
+#[unsafe(no_mangle)]
+pub unsafe extern "C" fn nrbpf_raw_drop_state(at: *mut u8)
+    ghost value: { StateHandle }
+    requires* { sem 𝓛 (holds_state at value) }
+    ensures* { sem 𝓛 (room_at the_state at) }
+{
+    dropped(&mut *(at as *mut StateHandle));
 }
 
 /// Makes the call that the session's words ask for.
 #[unsafe(no_mangle)]
 pub unsafe extern "C" fn nrbpf_raw_call(at: *mut u8)
     ghost value: { SessionHandle }
-    requires* { sem 𝓛 (lies_at the_session full_share at value) }
-    ensures* { ∃ₛ (λ after. sem 𝓛 (lies_at the_session full_share at after) ∗ ⌜ Goes value after ⌝) }
+    requires* { sem 𝓛 (holds_session at value) }
+    ensures* { ∃ₛ (λ after. sem 𝓛 (holds_session at after) ∗ ⌜ Goes value after ⌝) }
 {
     called(&mut *(at as *mut SessionHandle));
 }

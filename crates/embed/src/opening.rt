@@ -1,21 +1,26 @@
 // Opening a store from texts.
 
-ghost use Rattle.std.specs.Prelude.{◌≡◌, ℕ, ◌<◌, Some, length, set, All, IfNone, IfOk, IfSome, MatchOption, MatchResult, Ok};
+ghost use Rattle.std.specs.Prelude.{◌≡◌, ℕ, ◌<◌, Some, length, set, All, IfErr, IfNone, IfOk, IfSome, MatchOption, MatchResult, None, Ok, Option};
 ghost use Rattle.std.specs.Arc.{arc_value};
 ghost use Rattle.std.specs.Str.{IsUtf8};
+ghost use Rattle.loader.specs.CatalogueView.{MayOpenOn, with_places};
 ghost use Rattle.loader.specs.ProgramFiles.{files_of};
-ghost use Rattle.store.specs.Sessions.{IsOf};
+ghost use Rattle.loader.specs.StoreState.{StoreState as State};
+ghost use Rattle.oplog.specs.Limits.{IsConfig};
+ghost use Rattle.oplog.specs.declared.configuration.OpenError.TheVariants.{OtherState, OutOfLimits};
+ghost use Rattle.store.specs.Opening.{AreOf};
+ghost use Rattle.store.specs.Sessions.{IsOf, fresh_sessions};
 ghost use Rattle.store.specs.Shelving.{sessions_of};
-ghost use Rattle.embed.specs.Openings.{AreUtf8, IsOpened, IsReason, IsSeat, IsStoreOf, config_of, fresh_of, inner_in, only, reading_of, texts_of, words_of};
+ghost use Rattle.embed.specs.Openings.{AreUtf8, IsOpened, IsOther, IsReason, IsSeat, IsStoreOf, catalogue_on, config_of, fresh_of, inner_in, only, reading_of, state_in, texts_of, words_of};
 
 use crate::attached::Attached;
-use crate::handles::{File, Opening, StoreAnswered, StoreHandle};
+use crate::handles::{File, Opening, StateHandle, StoreAnswered, StoreHandle};
 use crate::pool::Pool;
 use crate::statuses::{DONE, NO_TEXT, refusal};
 use loader::{LoadError, LoadFault};
 use std::alloc::{AllocError, Global};
 use std::sync::Arc;
-use store::{Catalogue, Config, OpenError, Polled, Session, Store, load_manifest};
+use store::{Catalogue, Config, OpenError, Polled, Session, Store, StoreState, load_manifest};
 
 // Why a store is not opened.
 #[derive(Clone, Copy)]
@@ -61,7 +66,7 @@ fn texts<'a>(
 
 // The catalogue that the manifest says.
 fn loaded(alloc: Global, opening: &Opening) -> Result<Catalogue, NotOpened>
-    ensures loaded { MatchResult result (λ c. reading_of opening.now ≡ Ok c) (λ why. IsReason opening.now why) }
+    ensures loaded { MatchResult result (λ c. reading_of opening.now ≡ Ok c) (λ why. (on : Option State) → IsReason opening.now on why) }
 {
     let Ok(manifest) = str::from_utf8(opening.manifest) else {
         return Err(NotOpened::NoText);
@@ -77,9 +82,34 @@ fn loaded(alloc: Global, opening: &Opening) -> Result<Catalogue, NotOpened>
     }
 }
 
-// The store of these texts, and its sessions.
-fn opened_store(alloc: Global, opening: &Opening) -> Result<(Store, Vec<Session>), NotOpened>
-    ensures opened { MatchResult result (λ t. IsStoreOf opening.now t.0) (λ why. IsReason opening.now why) }
+// The store of a catalogue on this state, or on a new one, and its sessions.
+fn store_on(
+    alloc: Global,
+    config: Config,
+    catalogue: Catalogue,
+    state: Option<&StoreState>,
+) -> Result<(Store, Vec<Session>), OpenError>
+    ensures limits { IfErr result (λ e. e ≡ OutOfLimits → IsConfig config → ⊥) }
+    ensures other { IfErr result (λ e. e ≡ OtherState → IsConfig config × IsOther (with_places catalogue config.spare) (state_in state.entry)) }
+    ensures may { IfOk result (λ t. IfSome (state_in state.entry) (MayOpenOn (with_places catalogue config.spare))) }
+    ensures store { IfOk result (λ t. (t.0.config ≡ config) × (t.0.catalogue ≡ catalogue_on (with_places catalogue config.spare) (state_in state.entry))) }
+    ensures sessions { IfOk result (λ t. t.1.items ≡ fresh_sessions t.0.id t.0.config t.0.catalogue 0 (sessions_of config)) }
+    ensures count { IfOk result (λ t. length t.1.items ≡ sessions_of config) }
+    ensures own { IfOk result (λ t. AreOf t.0 t.1.items) }
+{
+    match state {
+        Some(state) => Store::open_on(alloc, config, catalogue, state),
+        None => Store::open(alloc, config, catalogue),
+    }
+}
+
+// The store of these texts, on this state or on a new one, and its sessions.
+fn opened_store(
+    alloc: Global,
+    opening: &Opening,
+    state: Option<&StoreState>,
+) -> Result<(Store, Vec<Session>), NotOpened>
+    ensures opened { MatchResult result (λ t. IsStoreOf opening.now (state_in state.entry) t.0) (λ why. IsReason opening.now (state_in state.entry) why) }
     ensures own { IfOk result (λ t. All (IsOf t.0) t.1.items) }
     ensures fresh { IfOk result (λ t. t.1.items ≡ fresh_of t.0 (length t.1.items)) }
     ensures count { IfOk result (λ t. length t.1.items ≡ sessions_of (config_of opening.now)) }
@@ -95,14 +125,14 @@ fn opened_store(alloc: Global, opening: &Opening) -> Result<(Store, Vec<Session>
         limit: opening.limit,
         spare: opening.spare,
     };
-    match Store::open(alloc, config, catalogue) {
+    match store_on(alloc, config, catalogue, state) {
         Ok(opened) => Ok(opened),
         Err(error) => Err(NotOpened::Opening(error)),
     }
 }
 
 // Lets sessions go: no store is left for them.
-fn let_go(mut sessions: Vec<Session>) {
+pub(crate) fn let_go(mut sessions: Vec<Session>) {
     while let Some(session) = sessions.pop() {
         drop(Polled::new(session));
     }
@@ -213,9 +243,22 @@ fn inner_of(error: LoadError) -> (u64, u64)
 
 // The handle of the store of these texts. It is closed where the store is refused.
 pub(crate) fn opened(alloc: Global, opening: &Opening) -> StoreHandle
-    ensures opened { IsOpened opening.now result }
+    ensures opened { IsOpened opening.now None result }
 {
-    let (store, sessions) = match opened_store(alloc, opening) {
+    opened_with(alloc, opening, None)
+}
+
+// The same, on the state of a handle, or on a new one where that has none.
+pub(crate) fn opened_on(alloc: Global, opening: &Opening, state: &mut StateHandle) -> StoreHandle
+    ensures opened { (state.new ≡ state.old) × IsOpened opening.now state.old.own result }
+{
+    opened_with(alloc, opening, state.own.as_ref())
+}
+
+fn opened_with(alloc: Global, opening: &Opening, state: Option<&StoreState>) -> StoreHandle
+    ensures opened { IsOpened opening.now (state_in state.entry) result }
+{
+    let (store, sessions) = match opened_store(alloc, opening, state) {
         Ok(opened) => opened,
         Err(why) => return StoreHandle::new(None, answered(why)),
     };

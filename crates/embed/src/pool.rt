@@ -78,6 +78,25 @@ impl Pool {
         Ok(())
     }
 
+    // The store, and what stands at its places.
+    pub(crate) fn into_parts(self) -> (Arc<Store, Global>, Vec<Option<Box<Attached>>>)
+        ensures parts { (result.0 ≡ self.store) × (result.1 ≡ self.places) }
+    {
+        let Pool {
+            store,
+            slots: _slots,
+            places,
+        } = self;
+        (store, places)
+    }
+
+    // How many places it has.
+    pub(crate) fn count(&self) -> usize
+        ensures count { result ≡ length self.now.places.items }
+    {
+        self.places.len()
+    }
+
     // Whether no session is attached.
     pub(crate) fn is_whole(&self) -> bool
         ensures whole { result ≡ list_all is_some self.now.places.items }

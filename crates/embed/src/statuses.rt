@@ -30,6 +30,9 @@ pub(crate) const NO_WORD: u64 = 0x4805;
 // H6: the session is of another store.
 pub(crate) const NOT_OURS: u64 = 0x4806;
 
+// O2: no memory.
+pub(crate) const NO_MEMORY: u64 = 0x4f02;
+
 // S1: unknown program.
 pub(crate) const NO_PROGRAM_SO_NAMED: u64 = 0x5301;
 

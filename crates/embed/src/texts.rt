@@ -20,6 +20,7 @@ pub(crate) fn text_of(status: u32) -> &'static str {
         0x4806 => "H6: the session is of another store",
         0x4f01 => "O1: a number of the configuration is out of its limits",
         0x4f02 => "O2: no memory",
+        0x4f03 => "O3: the state has other maps, or more programs than there are places",
         0x5301 => "S1: unknown program",
         0x5302 => "S2: the argument has another length",
         0x5303 => "S3: the program has another mode",

@@ -1,5 +1,6 @@
 -- `nrbpf_raw_open` writes the handle that `opened` gives into the room.
 use Rattle.embed.proofs.Steps.{[], ◌∷◌, ◌++◌, refl, proved, full_share, id⊢, ex, ex_i, ex_e, snd∗, sep, emp, fact, fact_i, ftrue, named, vunit, tables, WpFn, ‵, raw, ◌⊛◌, some, later, prop, ◌$◌, ◌∵◌, !, qed, done, move, drop, use0, use1, use2, split, join, feq_i, pick, await, regoal, suffices, group, sem, enter, of_opd, unit_lit, init, stop, no_more, and_then, assigns, returns, alloc_all, pass_all, free_all, look_at, get, through, sets, lands_as, part_in, RefOf, yes, Is, shows, Ptr, RawPtr, block_ptr, lies_at, room_at, in_a_block, rawptr_vals, rawptr_Tells, ShrRef, shr_vals, shr_Tells, named_lft, plain, nothing, heard, peeks, val, tells, calls_at, ensured, lasts, alive, triple_of, Stays, walk_of, stay_dropped, Goes-dropped, ends_at, framed}
+use Rattle.std.proofs.Common.{None}
 use Rattle.embed.specs.Openings.{IsOpened}
 use Rattle.embed.specs.contracts.handles.StoreHandle.{the_row as R}
 use Rattle.embed.proofs.handles.StoreHandle.TheLaws as laws
@@ -41,7 +42,7 @@ nrbpf_raw_open_spec 𝓤 𝓛 𝓜 𝓡 wired =
     (and_then ! (get ! refl) (and_then ! (get ! refl) (no_more !))) (λ v.
     use1 𝓛 (later (some (λ (h : R.Denot). (raw (alive 𝓛 g.signature κs qs) ⊛ ‵ (R.own_val h (v ∷ []))) ⊛ raw (ensured 𝓛 g.ended (g.clauses 𝓛 𝓜.mem 𝓡.returns) κs z.0.3 tt h)))) (id⊢ 𝓤 _) $
     await ! tt $ pick ! (λ h. split ! $ move ! (1 ∷ []) $
-    use1 𝓛 (raw (fact 𝓤 (IsOpened a.1.0.now h))) (ex_e 𝓤 _ (λ ws. snd∗ 𝓤 (sem 𝓛 (lasts g.ended κs z.0.3 ws)) (fact 𝓤 (IsOpened a.1.0.now h)))) $ heard ! (IsOpened a.1.0.now h) (λ opened. split ! $ move ! (1 ∷ []) $
+    use1 𝓛 (raw (fact 𝓤 (IsOpened a.1.0.now None h))) (ex_e 𝓤 _ (λ ws. snd∗ 𝓤 (sem 𝓛 (lasts g.ended κs z.0.3 ws)) (fact 𝓤 (IsOpened a.1.0.now None h)))) $ heard ! (IsOpened a.1.0.now None h) (λ opened. split ! $ move ! (1 ∷ []) $
     -- [what the handle owns; the tokens; the room; the locals]
     peeks ! R (Is R) (shows 𝓛 R) h (v ∷ []) (λ is.
     let typed = ((laws.the_row_laws).lawful 𝓛).typed h (v ∷ []) is in
@@ -50,8 +51,8 @@ nrbpf_raw_open_spec 𝓤 𝓛 𝓜 𝓡 wired =
     sets ! (of_opd ! (unit_lit !)) refl (tt, tt) $
     returns ! (look_at ! 0 refl) $ free_all ! refl $ move ! (2 ∷ 0 ∷ []) $
     use2 𝓛 (‵ (lies_at R full_share (block_ptr b o) h)) (part_in 𝓛 R refl full_share h b o v) $
-    use0 𝓛 (raw (fact 𝓤 (IsOpened a.1.0.now h))) (fact_i 𝓤 (IsOpened a.1.0.now h) (emp 𝓤) opened) $ move ! (1 ∷ 0 ∷ []) $
-    let Left = λ (x : R.Denot). sep 𝓤 (sem 𝓛 (lies_at R full_share (block_ptr b o) x)) (fact 𝓤 (IsOpened a.1.0.now x)) in
+    use0 𝓛 (raw (fact 𝓤 (IsOpened a.1.0.now None h))) (fact_i 𝓤 (IsOpened a.1.0.now None h) (emp 𝓤) opened) $ move ! (1 ∷ 0 ∷ []) $
+    let Left = λ (x : R.Denot). sep 𝓤 (sem 𝓛 (lies_at R full_share (block_ptr b o) x)) (fact 𝓤 (IsOpened a.1.0.now None x)) in
     use2 𝓛 (raw (ex 𝓤 Left)) (ex_i 𝓤 Left h) $
     suffices ! _ (ends_at 𝓛 f.ended stayed c (y (block_ptr b o)) vunit tt (tt, (tt, (tt, tt))) (tt, (tt, (tt, tt)))) $
     -- [what is left; the tokens]
