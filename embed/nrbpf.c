@@ -25,7 +25,6 @@ struct nrbpf_store {
 };
 
 uint32_t nrbpf_version(void) { return NRBPF_VERSION; }
-
 static void take(nrbpf_store *store) { while (atomic_exchange(&store->is_taken, 1)) sched_yield(); }
 static void put_back(nrbpf_store *store) { atomic_store(&store->is_taken, 0); }
 
@@ -37,8 +36,7 @@ static nrbpf_status refused(nrbpf_error *why, nrbpf_error found) {
 static struct nrbpf_raw_text text_at(const char *text, size_t len) { return (struct nrbpf_raw_text){(const uint8_t *)(text ? text : ""), len}; }
 
 static int has_null(const nrbpf_file *files, size_t count) {
-    for (size_t i = 0; i < count; i++)
-        if ((!files[i].name && files[i].name_len) || (!files[i].text && files[i].text_len)) return 1;
+    for (; count; files++, count--) if ((!files->name && files->name_len) || (!files->text && files->text_len)) return 1;
     return 0;
 }
 
@@ -47,49 +45,69 @@ static int fits(uint32_t version) {
            nrbpf_raw_store_size() == sizeof(struct nrbpf_raw_store) && nrbpf_raw_session_size() == sizeof(struct nrbpf_raw_session);
 }
 
-nrbpf_status nrbpf_open(const nrbpf_config *config, const char *manifest, size_t manifest_len, const nrbpf_file *files, size_t count,
-                        nrbpf_store **out, nrbpf_error *why) {
+// On a state, or on a new one where `state` is null.
+#define TEXTS const nrbpf_config *config, const char *manifest, size_t manifest_len, const nrbpf_file *files, size_t count
+static nrbpf_status opens(TEXTS, struct nrbpf_raw_state *state, nrbpf_store **out, nrbpf_error *why) {
     if (!config || (!manifest && manifest_len) || (!files && count) || has_null(files, count) || !out)
         return refused(why, (nrbpf_error){.status = NRBPF_H7});
     if (!fits(config->version)) return refused(why, (nrbpf_error){.status = NRBPF_H8});
     nrbpf_store *store = aligned_alloc(CACHE_LINE, sizeof *store);
     struct nrbpf_raw_file *given = calloc(count + 1, sizeof *given);
-    if (!store || !given) {
-        free(store), free(given);
-        return refused(why, (nrbpf_error){.status = NRBPF_O2});
-    }
+    if (!store || !given) return free(store), free(given), refused(why, (nrbpf_error){.status = NRBPF_O2});
     for (size_t i = 0; i < count; i++)
         given[i] = (struct nrbpf_raw_file){text_at(files[i].name, files[i].name_len), text_at(files[i].text, files[i].text_len)};
     struct nrbpf_raw_opening opening = {text_at(manifest, manifest_len), given, count,
                                         config->nodes, config->slots, config->window, config->limit, config->spare};
     memset(store, 0, sizeof *store);
-    nrbpf_raw_open(&opening, &store->raw);
+    if (state) nrbpf_raw_open_on(&opening, state, &store->raw);
+    else nrbpf_raw_open(&opening, &store->raw);
     free(given);
     if (store->raw.status) {
         nrbpf_error told = {(nrbpf_status)store->raw.status, (nrbpf_status)store->raw.inner, (uint32_t)store->raw.line, (uint32_t)store->raw.slot};
         free(store);
         return refused(why, told);
     }
-    store->is_open = 1;
-    *out = store;
+    store->is_open = 1, *out = store;
     return NRBPF_OK;
 }
 
-nrbpf_status nrbpf_close(nrbpf_store *store) {
-    if (!store) return NRBPF_H7;
+nrbpf_status nrbpf_open(TEXTS, nrbpf_store **out, nrbpf_error *why) { return opens(config, manifest, manifest_len, files, count, NULL, out, why); }
+
+nrbpf_status nrbpf_open_on(TEXTS, const nrbpf_state *state, nrbpf_store **out, nrbpf_error *why) {
+    struct nrbpf_raw_state *on = (struct nrbpf_raw_state *)state; // which stays what it is
+    return on ? opens(config, manifest, manifest_len, files, count, on, out, why) : refused(why, (nrbpf_error){.status = NRBPF_H7});
+}
+
+static nrbpf_status closed(nrbpf_store *store, struct nrbpf_raw_state *room) {
+    if (room) nrbpf_raw_close_into(&store->raw, room);
+    else nrbpf_raw_close(&store->raw);
+    nrbpf_status status = (nrbpf_status)store->raw.status;
+    if (!status || status == NRBPF_H6) store->is_open = 0, free(store); // H6 ends it too; no call of nrbpf.h leads there
+    return status;
+}
+
+nrbpf_status nrbpf_close(nrbpf_store *store) { return !store ? NRBPF_H7 : !store->is_open ? NRBPF_H2 : closed(store, NULL); }
+
+nrbpf_status nrbpf_close_into(nrbpf_store *store, nrbpf_state **out) {
+    if (!store || !out) return NRBPF_H7;
     if (!store->is_open) return NRBPF_H2;
-    nrbpf_raw_close(&store->raw);
-    if (store->raw.status) return (nrbpf_status)store->raw.status;
-    store->is_open = 0;
-    free(store);
-    return NRBPF_OK;
+    struct nrbpf_raw_state *room = malloc(nrbpf_raw_state_size());
+    nrbpf_status status = room ? closed(store, room) : NRBPF_O2;
+    if (!status) *out = (nrbpf_state *)room;
+    else free(room);
+    return status;
+}
+
+void nrbpf_state_free(nrbpf_state *state) {
+    if (state) nrbpf_raw_drop_state((struct nrbpf_raw_state *)state);
+    free(state);
 }
 
 nrbpf_status nrbpf_program_number(nrbpf_store *store, const char *name, size_t len, uint16_t *out) {
     if (!store || (!name && len) || !out) return NRBPF_H7;
     if (!store->is_open) return NRBPF_H2;
-    struct nrbpf_raw_store *raw = &store->raw;
     take(store);
+    struct nrbpf_raw_store *raw = &store->raw;
     raw->length = len;
     if (len && len <= sizeof raw->name) memcpy(raw->name, name, len);
     nrbpf_raw_number(raw);

@@ -8,11 +8,12 @@
 //     nrbpf_detach(session);
 //     nrbpf_close(store);
 //
-// A call copies its arguments, and writes its answer on success alone. The library takes memory in nrbpf_open alone, starts no thread,
-// has no global state, opens no file, sets no errno of its own and prints nothing. docs/EMBEDDING.md says how it is used and what of it is proved.
+// A call copies its arguments, and writes its answer on success alone. The library takes memory in nrbpf_open, nrbpf_open_on and nrbpf_close_into alone,
+// starts no thread, has no global state, opens no file, sets no errno of its own and prints nothing. docs/EMBEDDING.md says how it is used and what of it
+// is proved.
 //
 // Each function says in brackets when it may be called:
-//     [any]      at any time, by any number of threads at once, but not beside or behind nrbpf_close of the same store
+//     [any]      at any time, by any number of threads at once, but not beside or behind nrbpf_close or nrbpf_close_into of the same store
 //     [session]  as [any], one call at a time on this session: a session is used by one thread, or handed on
 //     [alone]    while no other call is made on this store or its sessions
 // A session is handed to another thread by a mutex, by a thread's start or join, or by a sequentially consistent atomic. Nothing here may
@@ -35,10 +36,11 @@ extern "C" {
 
 typedef struct nrbpf_store nrbpf_store;
 typedef struct nrbpf_session nrbpf_session;     // one slot of one node
+typedef struct nrbpf_state nrbpf_state;         // what a store ended in: all keys, values and installed programs
 
 // The major number changes where a host has to be changed or compiled again, the minor one where something is added.
 #define NRBPF_VERSION_MAJOR 1u
-#define NRBPF_VERSION_MINOR 0u
+#define NRBPF_VERSION_MINOR 1u
 #define NRBPF_VERSION (NRBPF_VERSION_MAJOR * 1000u + NRBPF_VERSION_MINOR)
 
 // The version of the library. [any]
@@ -64,12 +66,13 @@ enum {
     NRBPF_C6,                                   // no memory to load them
     NRBPF_O1 = 'O' << 8 | 1,                    // a number of the configuration is out of its limits
     NRBPF_O2,                                   // no memory for the store
+    NRBPF_O3,                                   // the state has other maps, or more programs than there are places
 
     NRBPF_S1 = 'S' << 8 | 1,                    // unknown program
     NRBPF_S2,                                   // the argument has another length
     NRBPF_S3,                                   // the program has the other mode
     NRBPF_S4,                                   // the history has all its records: reads go on, updates do not
-    NRBPF_S5,                                   // close: sessions are attached
+    NRBPF_S5,                                   // close, close_into: sessions are attached
     NRBPF_S6,                                   // install: the program or its argument is too large
     NRBPF_S7,                                   // install: no program; the inner refusal has the letter D
     NRBPF_S8,                                   // install: not accepted; the inner refusal has the letter V
@@ -125,6 +128,17 @@ NRBPF_MUST_LOOK nrbpf_status nrbpf_open(const nrbpf_config *config, const char *
 
 // Ends a store and gives its memory back. S5, H2, H7. [alone]
 nrbpf_status nrbpf_close(nrbpf_store *store);
+
+// Ends a store, and gives the state that it ends in: all keys, values and installed programs. S5, O2, H2, H7, and then the store is as it was. [alone]
+NRBPF_MUST_LOOK nrbpf_status nrbpf_close_into(nrbpf_store *store, nrbpf_state **out);
+
+// As nrbpf_open, on a state, which stays the host's and may be opened on again; its places in the history count from 0. O3 besides, where the manifest
+// has other maps than the state, or the configuration fewer spare places than it has installed programs. [any], one call at a time on this state
+NRBPF_MUST_LOOK nrbpf_status nrbpf_open_on(const nrbpf_config *config, const char *manifest, size_t manifest_len, const nrbpf_file *files,
+                                           size_t count, const nrbpf_state *state, nrbpf_store **out, nrbpf_error *why);
+
+// Ends a state, if there is one. [any], beside no other call on this state
+void nrbpf_state_free(nrbpf_state *state);
 
 // The number of a program of the manifest. S1, H2, H4, H7. [any]
 NRBPF_MUST_LOOK nrbpf_status nrbpf_program_number(nrbpf_store *store, const char *name, size_t len, uint16_t *out);

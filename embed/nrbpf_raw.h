@@ -1,12 +1,14 @@
-/* What the proved library libembed.a exports, and what lies at its two kinds of handle. A host includes nrbpf.h, not this.
+/* What the proved library libembed.a exports, and what lies at its three kinds of handle. A host includes nrbpf.h, not this.
  *
- * A handle is memory of the host's, of the size and the alignment of its struct. It is room until nrbpf_raw_open or nrbpf_raw_attach has written
- * it, and room again once nrbpf_raw_close or nrbpf_raw_detach has ended it. Between two calls the host writes the words under "asked" and reads
- * those under "answered"; it leaves `own` alone, and moves or copies no handle. Each function takes one call at a time on each handle that is passed to it;
- * calls on different handles may run side by side. No pointer is null, also where nothing lies behind it.
+ * A handle is memory of the host's, of the size and the alignment of its struct. It is room until nrbpf_raw_open, nrbpf_raw_open_on, nrbpf_raw_attach or
+ * nrbpf_raw_close_into has written it, and room again once nrbpf_raw_close, nrbpf_raw_close_into, nrbpf_raw_detach or nrbpf_raw_drop_state has ended it.
+ * Between two calls the host writes the words under "asked" and reads those under "answered"; it leaves `own` alone, and moves or copies no handle. Each
+ * function takes one call at a time on each handle that is passed to it; calls on different handles may run side by side. No pointer is null, also where
+ * nothing lies behind it.
  *
- * No function waits or locks. nrbpf_raw_open takes memory, by the host's malloc, and nrbpf_raw_close gives it back, by free; no other function
- * takes any. What is passed in is copied; nothing of it is read after the function has returned.
+ * No function waits or locks. nrbpf_raw_open, nrbpf_raw_open_on and nrbpf_raw_close_into take memory, by the host's malloc, and nrbpf_raw_close,
+ * nrbpf_raw_close_into and nrbpf_raw_drop_state give it back, by free; no other function takes any. What is passed in is copied; nothing of it is read
+ * after the function has returned.
  *
  * A status is 0, NRBPF_RAW_BUSY, NRBPF_RAW_AGAIN, or a refusal: its letter times 256 and its number, those of docs/REFUSALS.md or of the letter H.
  * With any status but 0 the words place, reply and number are as they were.
@@ -82,15 +84,23 @@ struct nrbpf_raw_session {
     uint64_t reply;         /* what the program replied there; of an install the number of the program, or 2^64 - 7 where each place is taken */
 };
 
+/* ---- a state's handle: of the size that nrbpf_raw_state_size tells, with the alignment of uint64_t; none of its bytes are for the host */
+
+struct nrbpf_raw_state;
+
 /* ---- the functions */
 
 uint32_t nrbpf_raw_version(void);           /* of this interface: 1000 times the major number, and the minor one */
 size_t nrbpf_raw_store_size(void);          /* sizeof(struct nrbpf_raw_store), as the library has it */
 size_t nrbpf_raw_session_size(void);
+size_t nrbpf_raw_state_size(void);          /* how many bytes a state's handle has */
 
 /* Opens a store, and writes its handle into the room at `at`. Statuses: 0, H4, C1 to C6, O1, O2. Where it is refused the handle is closed:
  * each call answers H2, and its memory is as good as room. */
 void nrbpf_raw_open(const struct nrbpf_raw_opening *opening, struct nrbpf_raw_store *at);
+
+/* The same on the state of a handle, which stays what it is; on a new one where the handle has none. O3 besides. */
+void nrbpf_raw_open_on(const struct nrbpf_raw_opening *opening, struct nrbpf_raw_state *state, struct nrbpf_raw_store *at);
 
 /* Writes the number of the program that has this name. Statuses: 0, S1, H2, H4. */
 void nrbpf_raw_number(struct nrbpf_raw_store *at);
@@ -105,6 +115,14 @@ void nrbpf_raw_detach(struct nrbpf_raw_store *at, struct nrbpf_raw_session *sess
 
 /* Ends the store; then its handle is room. Statuses: 0, H2, and S5 where a session is attached: then nothing has changed. */
 void nrbpf_raw_close(struct nrbpf_raw_store *at);
+
+/* Ends a store to which none but its own sessions came back, and writes the handle of the state that it ends in into the room at `state`; then the
+ * store's handle is room. With any status but 0 the state's handle has none, and its memory is as good as room. Statuses: 0, H2, S5 where a session is
+ * attached and O2 where there is no memory, and then nothing has changed; and H6, with which the store is ended: a part of it was elsewhere. */
+void nrbpf_raw_close_into(struct nrbpf_raw_store *at, struct nrbpf_raw_state *state);
+
+/* Gives a state up; then its handle is room. */
+void nrbpf_raw_drop_state(struct nrbpf_raw_state *at);
 
 /* Makes the call that the session's words ask for. An update or an install posts where no update is out, and else goes on with the one that is,
  * whatever operation its words name. Statuses: 0, BUSY, AGAIN, S1 to S4, S6 to S8, H2, H3, H5. */

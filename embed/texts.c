@@ -13,6 +13,7 @@ static const char *const refusals[] = {
     "C6: no memory to load the programs",
     "O1: a number of the configuration is out of its limits",
     "O2: no memory for the store",
+    "O3: the state has other maps, or more programs than there are places",
     "S1: unknown program",
     "S2: the argument has another length",
     "S3: the program has another mode",

@@ -9,7 +9,7 @@ import ctypes as c
 import sys
 import threading
 
-VERSION = 1000
+VERSION = 1001
 UPDATE, READ = 0, 1
 
 

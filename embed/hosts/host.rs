@@ -7,7 +7,7 @@ pub mod nrbpf {
     use std::marker::PhantomData;
     use std::ptr::{NonNull, null_mut};
 
-    const VERSION: u32 = 1_000;
+    const VERSION: u32 = 1_001;
 
     #[repr(C)]
     struct RawFile {

@@ -368,7 +368,7 @@ static void texts(void) {
     EXPECT(nrbpf_explain(&why, text, sizeof text) && strcmp(text, "S1: unknown program") == 0);
 
     // Every refusal has a text of its own that begins with its letter and number, and nothing else has one.
-    static const struct { char letter; int first, last; } letters[] = {{'C', 1, 6}, {'O', 1, 2}, {'S', 1, 8}, {'H', 1, 8}, {'D', 0, 9}, {'V', 0, 18}};
+    static const struct { char letter; int first, last; } letters[] = {{'C', 1, 6}, {'O', 1, 3}, {'S', 1, 8}, {'H', 1, 8}, {'D', 0, 9}, {'V', 0, 18}};
     const char *unknown = nrbpf_status_text(UINT32_MAX);
     for (int i = 0; i < 6; i++) {
         for (int number = 0; number < 256; number++) {
