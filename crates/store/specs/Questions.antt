@@ -12,7 +12,7 @@ use Rattle.store.specs.declared.questions.QuestionRefused.{QuestionRefused}
 use Rattle.store.specs.declared.steps.Question.{Question}
 use Rattle.store.specs.Asking.{asked_op}
 use Rattle.store.specs.Scanning.{HasSeen}
-use Rattle.store.specs.Sessions.{RepliesThere, SessionView}
+use Rattle.store.specs.Sessions.{IsFresh, RepliesThere, SessionView}
 use Rattle.store.specs.Standing.{SessionKnown}
 
 -- ---- which are refused
@@ -44,9 +44,9 @@ EachTells l begun questions point replies =
 abbrev pub TellsEach : (old new : SessionView) → List Question → (replies : List ℕ) → Result ℕ QuestionRefused → Type 0
 TellsEach old new questions replies result = MatchResult result (λ point. EachTells new.progress old.progress.completed questions point replies) (λ _. ⊥)
 
--- within the call the session has read the completed tail, and the point is not below what it was then
+-- their point is not below what was completed when the session looked
 abbrev pub EachBegins : (old new : SessionView) → Result ℕ QuestionRefused → Type 0
-EachBegins old new result = MatchResult result (λ point. (begun : ℕ) × (more : List ℕ) × (new.tails_read ≡ old.tails_read ++ begun ∷ more) × (begun ≤ point)) (λ _. ⊥)
+EachBegins old new result = MatchResult result (λ point. IsFresh old new point) (λ _. ⊥)
 
 -- ---- clauses of private functions alone cite what follows
 

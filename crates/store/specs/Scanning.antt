@@ -13,7 +13,7 @@ use Rattle.node.specs.declared.following.NodeReplica.{NodeReplica}
 use Rattle.store.specs.declared.answers.Scan.{Scan}
 use Rattle.store.specs.declared.scanning.ScanRefused.{ScanRefused}
 use Rattle.store.specs.declared.scanning.ScanRefused.TheVariants.{UnknownMap, UnknownPlace}
-use Rattle.store.specs.Sessions.{SessionView}
+use Rattle.store.specs.Sessions.{IsFresh, SessionView}
 use Rattle.store.specs.Standing.{SessionKnown}
 
 -- ---- which scans are refused
@@ -52,10 +52,9 @@ abbrev pub TellsScan : (old new : SessionView) → (map from key_room value_room
 TellsScan old new map from key_room value_room keys values result =
     MatchResult result (λ s. ScanGives new.progress old.progress.completed map from key_room value_room keys values s) (λ _. ⊥)
 
--- within the call the session has read the completed tail, and the scan's point is not below what it was then
+-- its point is not below what was completed when the session looked
 abbrev pub ScanBegins : (old new : SessionView) → Result Scan ScanRefused → Type 0
-ScanBegins old new result =
-    MatchResult result (λ s. (begun : ℕ) × (more : List ℕ) × (new.tails_read ≡ old.tails_read ++ begun ∷ more) × (begun ≤ s.point)) (λ _. ⊥)
+ScanBegins old new result = MatchResult result (λ s. IsFresh old new s.point) (λ _. ⊥)
 
 -- ---- clauses of private functions alone cite what follows
 

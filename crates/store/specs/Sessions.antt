@@ -146,9 +146,13 @@ TellsEnded old new op refused =
 abbrev pub TellsUpdate : (old new : SessionView) → Operation → Result Answer StoreRefused → Type 0
 TellsUpdate old new op result = MatchResult result (TellsAnswered old new op) (TellsEnded old new op)
 
--- within the call the session has read the completed tail, and the answer's point is not below what it was then
+-- within a call the session has read the completed tail, and this point is not below what it was then
+abbrev pub IsFresh : (old new : SessionView) → ℕ → Type 0
+IsFresh old new point = (begun : ℕ) × (more : List ℕ) × (new.tails_read ≡ old.tails_read ++ begun ∷ more) × (begun ≤ point)
+
+-- so is the point of a read
 abbrev pub BeginsWithin : (old new : SessionView) → Result ReadAnswer StoreRefused → Type 0
-BeginsWithin old new result = MatchResult result (λ a. (begun : ℕ) × (more : List ℕ) × (new.tails_read ≡ old.tails_read ++ begun ∷ more) × (begun ≤ a.point)) (λ _. ⊥)
+BeginsWithin old new result = MatchResult result (λ a. IsFresh old new a.point) (λ _. ⊥)
 
 -- the answer to a read that was not refused
 abbrev pub TellsRead : (old new : SessionView) → Operation → Result ReadAnswer StoreRefused → Type 0

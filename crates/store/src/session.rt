@@ -214,9 +214,9 @@ impl Session {
         ensures well_formed { IsWellFormed store_meaning self.new.progress }
         ensures early { (r : StoreRefused) → early_refusal store.now.catalogue Read program argument.now ≡ Some r → (result ≡ Err r)
             × (self.new ≡ self.old) }
-        ensures begun { early_refusal store.now.catalogue Read program argument.now ≡ None → BeginsWithin self.old self.new result }
         ensures answered { early_refusal store.now.catalogue Read program argument.now ≡ None
             → TellsRead self.old self.new (op_of program argument.now) result }
+        ensures begun { early_refusal store.now.catalogue Read program argument.now ≡ None → BeginsWithin self.old self.new result }
     {
         let Session { seat, caller, .. } = self;
         check_call(store.catalogue(), Mode::Read, program, argument)?;
@@ -246,9 +246,9 @@ impl Session {
         ensures well_formed { IsWellFormed store_meaning self.new.progress }
         ensures early { (r : QuestionRefused) → first_refused store.now.catalogue 0 questions.now ≡ Some r → (result ≡ Err r)
             × (self.new ≡ self.old) × (replies.new ≡ replies.old) }
-        ensures begun { first_refused store.now.catalogue 0 questions.now ≡ None → EachBegins self.old self.new result }
         ensures answered { first_refused store.now.catalogue 0 questions.now ≡ None
             → TellsEach self.old self.new questions.now replies.new result }
+        ensures begun { first_refused store.now.catalogue 0 questions.now ≡ None → EachBegins self.old self.new result }
     {
         let Session { seat, caller, .. } = self;
         check_each(store.catalogue(), questions)?;
@@ -280,9 +280,9 @@ impl Session {
         ensures well_formed { IsWellFormed store_meaning self.new.progress }
         ensures early { (r : ScanRefused) → scan_refusal store.now.catalogue map from ≡ Some r → (result ≡ Err r)
             × (self.new ≡ self.old) × (keys.new ≡ keys.old) × (values.new ≡ values.old) }
-        ensures begun { scan_refusal store.now.catalogue map from ≡ None → ScanBegins self.old self.new result }
         ensures told { scan_refusal store.now.catalogue map from ≡ None
             → TellsScan self.old self.new map from (length keys.old) (length values.old) keys.new values.new result }
+        ensures begun { scan_refusal store.now.catalogue map from ≡ None → ScanBegins self.old self.new result }
     {
         let Session { seat, caller, .. } = self;
         let begin = Beginning {
