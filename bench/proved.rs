@@ -26,7 +26,16 @@ pub struct Proved {
 
 impl Proved {
     pub fn start(path: &str, nodes: usize, slots: usize, sizes: Sizes) -> Proved {
-        let words = [nodes, slots, sizes.window, sizes.entries as usize, sizes.value].map(|word| word.to_string());
+        Proved::start_with(path, &[nodes, slots, sizes.window, sizes.entries as usize, sizes.value])
+    }
+
+    /// A store of one session, with a hash of so many entries besides.
+    pub fn start_with_hash(path: &str, sizes: Sizes, keys: u32) -> Proved {
+        Proved::start_with(path, &[1, 1, sizes.window, sizes.entries as usize, sizes.value, keys as usize])
+    }
+
+    fn start_with(path: &str, words: &[usize]) -> Proved {
+        let words = words.iter().map(|word| word.to_string());
         let mut child = Command::new(path).args(words).stdin(Stdio::piped()).stdout(Stdio::piped()).spawn().expect("the program starts");
         let input = child.stdin.take().expect("a pipe");
         let output = BufReader::new(child.stdout.take().expect("a pipe"));

@@ -1,7 +1,8 @@
 //! Times the proved store (the program crates/bench_store, whose path is the first word) beside stores in plain Rust. On one thread it
 //! checks that all give the same replies, and prints what an update and a ready read cost, an update by the bytes of the maps and the
-//! window, and the longest pause of one; then it prints how many calls a second several threads make. With `replicated` or `locked`, `update` or `read`, and a
-//! number in place of the path it makes so many calls of that twin alone, for a tool that counts processor instructions.
+//! window, the longest pause of one, and what a scan of a hash costs; then it prints how many calls a second several threads make. With
+//! `replicated` or `locked`, `update` or `read`, and a number in place of the path it makes so many calls of that twin alone, for a tool that
+//! counts processor instructions.
 
 mod classic;
 mod host;
@@ -9,6 +10,7 @@ mod interpreter;
 mod pauses;
 mod proved;
 mod rounds;
+mod scans;
 mod threads;
 mod twins;
 
@@ -141,6 +143,7 @@ fn main() {
             print_calls(path);
             print_sizes(path);
             pauses::print(path);
+            scans::print(path);
             threads::print(path);
         }
         [_, twin, call, times] => alone(twin, call, times.parse().expect("a number")),

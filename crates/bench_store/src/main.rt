@@ -1,8 +1,10 @@
 //! A store for another program to time: see bench/. Its words are the numbers of nodes and of slots of each node, the log's window, the
-//! number of entries of a map of counters, and the bytes of each value of a second map of as many entries. Each line of standard input
-//! is `update N` or `read N`: the first session makes so many calls, one after another, and the sum of their replies, modulo 2^64, is
-//! written. Or it is `threads R N`: each session makes so many calls on a thread of its own, R of 100 of them reads, and 0 is written. At the
-//! first line `reopen N` the store is closed, and a store is opened on the state that it ends in, which goes on; 0 is written.
+//! number of entries of a map of counters, and the bytes of each value of a second map of as many entries; a sixth, which may be left out, is the
+//! number of entries of a hash. Each line of standard input is `update N` or `read N`: the first session makes so many calls, one after another,
+//! and the sum of their replies, modulo 2^64, is written. So it is with `put N`, which puts the keys below N into the hash. `scan N` scans the
+//! hash so often from its first place to its last, 16 entries a call, and writes the sum of the keys and values that were given. Or it is `threads R N`: each session
+//! makes so many calls on a thread of its own, R of 100 of them reads, and 0 is written. At the first line `reopen N` the store is closed, and a
+//! store is opened on the state that it ends in, which goes on; 0 is written.
 #![tactic(auto)]
 
 ghost use Rattle.std.specs.Prelude.{◌≡◌, length, All};
@@ -26,7 +28,19 @@ const BUMP: &str =
 const PEEK: &str =
     "bf12000000000000 1851000000000000 0000000000000000 8500000001000000 1500020000000000 7900000000000000 9500000000000000 b7000000ffffffff 9500000000000000";
 
-// The sizes of a store.
+// Puts a key into the hash, with itself as its value.
+const PUT: &str =
+    "bf12000000000000 bf13000000000000 1851000002000000 0000000000000000 b704000000000000 8500000002000000 9500000000000000";
+
+// The number of the hash among the maps, and of its program.
+const HASH: u8 = 2;
+
+const PUT_NUMBER: u16 = 2;
+
+// How many entries a scan of the hash gives.
+const PAGE: usize = 16;
+
+// The sizes of a store; of the hash, where there is one.
 #[derive(Drop)]
 struct Sizes {
     nodes: u32,
@@ -34,6 +48,7 @@ struct Sizes {
     window: u32,
     entries: u32,
     value: u32,
+    keys: Option<u32>,
 }
 
 // Calls of a session: so many, and how many of 100 of them are reads.
@@ -45,24 +60,43 @@ struct Mix {
 
 // The sizes that the words of a command line say, the first of them the program's name.
 fn sizes_in(words: &[String]) -> Option<Sizes> {
-    let [_, nodes, slots, window, entries, value] = words else {
-        return None;
+    let (words, keys) = match words {
+        [_, nodes, slots, window, entries, value] => ([nodes, slots, window, entries, value], None),
+        [_, nodes, slots, window, entries, value, keys] => {
+            (
+                [nodes, slots, window, entries, value],
+                Some(keys.parse().ok()?),
+            )
+        }
+        _ => return None,
     };
+    let [nodes, slots, window, entries, value] = words;
     Some(Sizes {
         nodes: nodes.parse().ok()?,
         slots: slots.parse().ok()?,
         window: window.parse().ok()?,
         entries: entries.parse().ok()?,
         value: value.parse().ok()?,
+        keys,
     })
 }
 
-fn catalogue(alloc: Global, sizes: &Sizes) -> Option<Catalogue> {
+// The manifest of such a store: the hash stands behind the arrays, and its program behind theirs.
+fn manifest(alloc: Global, sizes: &Sizes) -> Option<String> {
     let (entries, value) = (sizes.entries, sizes.value);
-    let manifest = format!(in alloc;
-        "map array 8 {entries}\nmap array {value} {entries}\nprogram bump update 4 bump.hex\nprogram peek read 4 peek.hex\n"
-    ).ok()?;
-    let files = [("bump.hex", BUMP), ("peek.hex", PEEK)];
+    let arrays = format!(in alloc; "map array 8 {entries}\nmap array {value} {entries}\n").ok()?;
+    let programs = "program bump update 4 bump.hex\nprogram peek read 4 peek.hex\n";
+    match sizes.keys {
+        None => format!(in alloc; "{arrays}{programs}").ok(),
+        Some(keys) => format!(in alloc;
+            "{arrays}map hash 4 4 {keys}\n{programs}program put update 4 put.hex\n"
+        ).ok(),
+    }
+}
+
+fn catalogue(alloc: Global, sizes: &Sizes) -> Option<Catalogue> {
+    let manifest = manifest(alloc, sizes)?;
+    let files = [("bump.hex", BUMP), ("peek.hex", PEEK), ("put.hex", PUT)];
     load_manifest(alloc, manifest.as_str(), &files).ok()
 }
 
@@ -84,6 +118,60 @@ fn call_often<R: Wait>(rt: &R, store: &Store, session: &mut Session, mix: Mix) -
             session.invoke(rt, store, 0, &argument(i)).ok()?.reply
         };
         sum = sum.wrapping_add(reply);
+    }
+    Some(sum)
+}
+
+// Puts so many keys into the hash, and adds up the replies: 0 where there is room for them.
+fn put_each<R: Wait>(rt: &R, store: &Store, session: &mut Session, keys: u32) -> Option<u64>
+    requires own { IsOf store.now session.old }
+    ensures own { IsOf store.now session.new }
+{
+    let mut sum = 0u64;
+    for key in 0..keys {
+        let told = session.invoke(rt, store, PUT_NUMBER, &key.to_le_bytes());
+        sum = sum.wrapping_add(told.ok()?.reply);
+    }
+    Some(sum)
+}
+
+// The sum of the first so many of these numbers of four bytes.
+fn total(numbers: &[u8], count: usize) -> u64 {
+    let mut sum = 0u64;
+    for number in numbers.as_chunks::<4>().0.iter().take(count) {
+        sum = sum.wrapping_add(u32::from_le_bytes(*number) as u64);
+    }
+    sum
+}
+
+// Scans the hash from its first place to its last, and adds up the keys and values that are given.
+fn scan_whole<R: Wait>(rt: &R, store: &Store, session: &mut Session) -> Option<u64>
+    requires own { IsOf store.now session.old }
+    ensures own { IsOf store.now session.new }
+{
+    let (mut keys, mut values) = ([0; 4 * PAGE], [0; 4 * PAGE]);
+    let (mut from, mut sum) = (0, 0u64);
+    for _ in rt.forever() {
+        let told = session.scan(rt, store, HASH, from, &mut keys, &mut values);
+        let page = told.ok()?;
+        sum = sum.wrapping_add(total(&keys, page.count));
+        sum = sum.wrapping_add(total(&values, page.count));
+        match page.next {
+            Some(next) => from = next,
+            None => return Some(sum),
+        }
+    }
+    unreachable!()
+}
+
+// The same so often.
+fn scan_often<R: Wait>(rt: &R, store: &Store, session: &mut Session, times: u32) -> Option<u64>
+    requires own { IsOf store.now session.old }
+    ensures own { IsOf store.now session.new }
+{
+    let mut sum = 0u64;
+    for _ in 0..times {
+        sum = sum.wrapping_add(scan_whole(rt, store, session)?);
     }
     Some(sum)
 }
@@ -110,7 +198,7 @@ fn call_all<R: Threads + Wait + Sync>(rt: &R, store: &Store, sessions: &mut [Ses
     );
 }
 
-// What the first session is asked for: so many updates, or so many reads.
+// What the first session is asked for: so many updates, reads, keys of the hash, or scans of it.
 fn first_answer<R: Wait>(rt: &R, store: &Store, sessions: &mut [Session], line: &str) -> Option<u64>
     requires own { All (IsOf store.now) sessions.old }
     ensures own { All (IsOf store.now) sessions.new }
@@ -121,6 +209,8 @@ fn first_answer<R: Wait>(rt: &R, store: &Store, sessions: &mut [Session], line: 
     let reads = match word {
         "update" => 0,
         "read" => 100,
+        "put" => return put_each(rt, store, session, u32::try_from(times).ok()?),
+        "scan" => return scan_often(rt, store, session, u32::try_from(times).ok()?),
         _ => return None,
     };
     call_often(rt, store, session, Mix { reads, times })
