@@ -9,6 +9,10 @@ mod lock;
 #[cfg(test)]
 mod meeting;
 #[cfg(test)]
+mod pages;
+#[cfg(test)]
+mod questions;
+#[cfg(test)]
 mod reopening;
 #[cfg(test)]
 mod replicas;

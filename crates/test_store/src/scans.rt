@@ -56,4 +56,9 @@ fn scans_that_give_nothing(rt: HostRuntime) {
     assert_eq!(rt; nothing, Ok(there));
     assert_eq!(rt; unknown_map, Err(ScanRefused::UnknownMap));
     assert_eq!(rt; unknown_place, Err(ScanRefused::UnknownPlace));
+    let numbers = (
+        ScanRefused::UnknownMap.number(),
+        ScanRefused::UnknownPlace.number(),
+    );
+    assert_eq!(rt; numbers, (9, 10));
 }
