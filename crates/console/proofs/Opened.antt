@@ -13,4 +13,4 @@ pub steady_at : (c : CatalogueView) → IsCatalogue c → (log : Log) (hand : Ha
     → replica ≡ record { tail = 0; state = opening_state c } → room ≡ no_programs c.shapes 1 → IsSteady c (record { log = log; own = record { hand = hand; replica = replica }; replies = replies; room = room })
 steady_at c whole log hand replica replies room l h r o =
     let sizes = state_sizes (opening_is_state c whole) in
-    rw (l, h, r, o) (record { limit = refl; completed = refl; base_sizes = sizes; window = refl; tail = refl; sizes = sizes; room = (refl, omega arith) })
+    rw (l, h, r, o) (record { limit = refl; completed = refl; base_sizes = sizes; base = λ _. refl; window = refl; tail = refl; sizes = sizes; room = (refl, omega arith) })

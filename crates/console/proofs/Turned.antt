@@ -5,14 +5,17 @@ use Rattle.std.proofs.lemmas.List.{append-nil, take-append-le, take_min}
 use Rattle.std.proofs.Math.Nat.{min-le_right}
 use Rattle.std.proofs.lemmas.Option.{same_Some}
 use Rattle.std.specs.Io.KnownBytes.{Appends, Consumes, Keeps, IsAtEnd}
+use Rattle.loader.specs.StoreState.{StoreState}
 use Rattle.loader.specs.CatalogueView.{CatalogueView}
+use Rattle.console.specs.declared.commands.serving.ServeEnd.{ServeEnd}
 use Rattle.console.specs.declared.status.Status.{Status}
 use Rattle.console.specs.declared.status.Status.TheVariants as statuses
 use Rattle.console.specs.declared.serving.Service.{Service}
 use Rattle.console.specs.Transfer.{AppendsBeginning}
 use Rattle.console.specs.Texts.{no_memory_line}
 use Rattle.console.specs.Report.{Sends}
-use Rattle.console.specs.ServeAnswer.{Serving, Served, served, served_text, nothing_served, AnswersBytes, Serves}
+use Rattle.console.specs.KeptRun.{state_left}
+use Rattle.console.specs.ServeAnswer.{Serving, Served, served, served_text, nothing_served, given_back, state_served, AnswersBytes, Serves}
 use Rattle.console.specs.Serving.{Stands, TakesBytes, Turns, Going}
 use Rattle.console.proofs.Served.{served_parts, none_served}
 
@@ -72,6 +75,11 @@ pub never_good : (now new : Option (List ℕ)) (got : Status) → Sends now new 
 never_good now new got (inl whole) good = cc
 never_good now new got (inr broke) good = cc
 
+-- and no state is given back
+pub none_given : (now new : Option (List ℕ)) (got : Status) (s : StoreState) → Sends now new got no_memory_line statuses.NoMemory → None ≡ given_back got s
+none_given now new got s (inl whole) = subst (λ (x : Status). None ≡ given_back x s) (sym whole.0) refl
+none_given now new got s (inr broke) = subst (λ (x : Status). None ≡ given_back x s) (sym broke.0) refl
+
 -- ---- one turn
 
 module _ (c : CatalogueView) (s : Serving) (service : Service) (given left : Option (List ℕ)) where
@@ -81,7 +89,7 @@ module _ (c : CatalogueView) (s : Serving) (service : Service) (given left : Opt
   pub at_end : (old : Option (List ℕ)) (room : List ℕ) (n : ℕ) → n ≡ 0 → 0 < length room → Consumes given left (take n room) × (n ≡ 0 → 0 < length room → IsAtEnd left)
       → Turns c s service given left old old (Some statuses.Good)
   at_end old room n none there some =
-      record { bytes = []; read = subst (λ (k : ℕ). Consumes given left (take k room)) none some.0; whole = λ good. some.1 none there; answers = nothing_written old old (appends_none old) }
+      record { bytes = []; read = subst (λ (k : ℕ). Consumes given left (take k room)) none some.0; whole = λ good. (some.1 none there, refl); answers = nothing_written old old (appends_none old) }
 
   pub unread : (old : Option (List ℕ)) → Keeps given left → Turns c s service given left old old (Some statuses.CannotRead)
   unread old kept =
@@ -161,25 +169,48 @@ module _ (c at_turn : CatalogueView) (same : at_turn ≡ c) (service after : Ser
         stands = subst (λ (t : Served). Stands t.serving after) (sym (served_parts c nothing_served going.bytes turn.bytes)) turn.answers.1;
       }
 
-  pub ends_so : (status : Status) → ((s : Serving) → Stands s service → Turns at_turn s after left rest now new (Some status)) → Serves c given rest old new status
-  ends_so status turns =
+  -- the state that it stands behind
+  stands_at : service.catalogue ≡ c → service.node.own.replica.state ≡ state_served c going.bytes
+  stands_at at =
+      subst (λ (x : CatalogueView). service.node.own.replica.state ≡ state_left x (served c nothing_served going.bytes).serving.history) at going.stands.follows.state
+
+  -- is given back, since nothing was read where all is well
+  back : (status : Status) (bytes : List ℕ) (state : Option StoreState) → service.catalogue ≡ c → (status ≡ statuses.Good → after ≡ service) → (status ≡ statuses.Good → bytes ≡ [])
+      → state ≡ given_back status after.node.own.replica.state → state ≡ given_back status (state_served c (going.bytes ++ bytes))
+  back statuses.Good bytes state at kept none is =
+      is ∙ ap (λ (x : Service). Some x.node.own.replica.state) (kept refl)
+      ∙ ap (λ (x : StoreState). Some x) (stands_at at)
+      ∙ ap (λ (x : List ℕ). Some (state_served c x)) (sym (append-nil going.bytes) ∙ ap (λ (x : List ℕ). going.bytes ++ x) (sym (none refl)))
+  back statuses.Refused bytes state at kept none is = is
+  back statuses.NoMemory bytes state at kept none is = is
+  back statuses.CannotRead bytes state at kept none is = is
+  back statuses.CannotWrite bytes state at kept none is = is
+  back statuses.Differs bytes state at kept none is = is
+
+  pub ends_so : (status : Status) (ended : ServeEnd) → ended.status ≡ status → service.catalogue ≡ c → (Some status ≡ Some statuses.Good → after ≡ service)
+      → ended.state ≡ given_back status after.node.own.replica.state → ((s : Serving) → Stands s service → Turns at_turn s after left rest now new (Some status)) → Serves c given rest old new ended
+  ends_so status ended told at kept given_state turns =
       let turn : Turns c (served c nothing_served going.bytes).serving after left rest now new (Some status) =
       subst (λ (x : CatalogueView). Turns x (served c nothing_served going.bytes).serving after left rest now new (Some status)) same (turns _ going.stands) in
-      record {
+      subst (λ (x : Status). Serves c given rest old new (record { status = x; state = ended.state })) (sym told)
+      (record {
         bytes = going.bytes ++ turn.bytes;
         read = consumes_both given left rest going.bytes turn.bytes going.read turn.read;
-        whole = λ good. turn.whole (ap (λ (x : Status). Some x) good);
+        whole = λ good. (turn.whole (ap (λ (x : Status). Some x) good)).0;
         answers = answers_both c going.bytes old now new turn.bytes going.answers status turn.answers;
-      }
+        state = back status turn.bytes ended.state at (λ good. kept (ap (λ (x : Status). Some x) good)) (λ good. (turn.whole (ap (λ (x : Status). Some x) good)).1) given_state;
+      })
 
 -- past the last turn
-pub ends_last : (c : CatalogueView) (service : Service) (given left old now new : Option (List ℕ)) (got : Status) → Going c service given left old now
-    → Sends now new got no_memory_line statuses.NoMemory → Serves c given left old new got
-ends_last c service given left old now new got going sends =
+pub ends_last : (c : CatalogueView) (service : Service) (given left old now new : Option (List ℕ)) (got : Status) (ended : ServeEnd) → ended ≡ record { status = got; state = None }
+    → Going c service given left old now → Sends now new got no_memory_line statuses.NoMemory → Serves c given left old new ended
+ends_last c service given left old now new got ended told going sends =
+    subst (λ (x : ServeEnd). Serves c given left old new x) (sym told)
     record {
       bytes = going.bytes;
       read = going.read;
       whole = λ good. absurd (never_good now new got sends good);
       answers = no_memory_at old now new got (served_text c) going.bytes (length going.bytes)
           (subst (λ (x : List ℕ). Appends old now (served_text c x)) (sym (take-length going.bytes)) going.answers) sends;
+      state = none_given now new got (state_served c going.bytes) sends;
     }

@@ -10,6 +10,7 @@ pub mod Texts
 pub mod Status
 pub mod Answer
 pub mod Inputs
+pub mod StateAnswer
 pub mod RunAnswer
 pub mod Signed
 pub mod AsmAnswer
@@ -17,7 +18,9 @@ pub mod SlotsAnswer
 pub mod EncodeAnswer
 pub mod ReplayAnswer
 pub mod ScheduleAnswer
+pub mod ReplayOn
 pub mod Notes
+pub mod KeptRun
 pub mod ServeAnswer
 pub mod Known
 pub mod Report
@@ -35,6 +38,7 @@ pub mod ScriptShown
 pub mod Running
 pub mod Input
 pub mod Loaded
+pub mod OpenedState
 pub mod Gathering
 pub mod Replaying
 pub mod Scheduling

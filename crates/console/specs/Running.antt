@@ -11,15 +11,17 @@ use Rattle.replica.specs.StoreMeaning.{outcome_of, store_meaning}
 use Rattle.replica.specs.Refusals.{IsRoomFor}
 use Rattle.console.specs.declared.single_node.SingleNode.{SingleNode}
 use Rattle.console.specs.declared.status.Verdict.{Verdict}
+use Rattle.console.specs.declared.status.Verdict.TheVariants as verdicts
 use Rattle.console.specs.Answer.{Answer}
 use Rattle.console.specs.Script.{Meaning}
 use Rattle.console.specs.RunAnswer.{Turn, called, taken, line_turn, behind}
 
--- the whole history is completed, and the replica has applied it
+-- the whole history is completed, and the replica has applied it; the log's base is the replica's state where it is as far
 pub record IsSteady (c : CatalogueView) (n : SingleNode) : Type 0 where
   pub limit : n.log.limit ≡ MAX_LIMIT
   pub completed : n.log.done ≡ tail_of n.log
   pub base_sizes : sizes_of n.log.base_state ≡ sizes_for c
+  pub base : n.log.base ≡ n.own.replica.tail → n.log.base_state ≡ n.own.replica.state
   pub window : n.own.hand.window ≡ n.log.window
   pub tail : n.own.replica.tail ≡ tail_of n.log
   pub sizes : sizes_of n.own.replica.state ≡ sizes_for c
@@ -73,3 +75,8 @@ TakesLine c line node after old new r = (h : History) → Follows c h node → I
 -- this answer stands behind what was written, and its verdict is told, unless memory runs out
 abbrev pub AnswersBehind : {E : Type 0} → List ℕ → List ℕ → Result Verdict E → Answer → Type 0
 AnswersBehind old new r a = IfOk r (λ verdict. record { text = new; verdict = verdict } ≡ behind old a)
+
+-- all lines are good, and the node has the history behind it that they left; or one is bad
+abbrev pub HasLeft : CatalogueView → SingleNode → Option History → Verdict → Type 0
+HasLeft c n None verdict = verdict ≡ verdicts.Refused
+HasLeft c n (Some h) verdict = (verdict ≡ verdicts.Good) × Follows c h n

@@ -1,20 +1,25 @@
--- What `serve` writes: the answer of each line as soon as it ends, as `run` writes it; a bad line is answered too, and does not end it.
-use Rattle.std.specs.Prelude.{◌≡◌, ◌⊎◌, ℕ, List, [], ◌∷◌, ◌++◌, take, Bool, ◌&&◌, Option, Some, None, Result, Ok, Err, nat_le, ◌==◌, if◌then◌else◌}
+-- What `serve` writes: the answer of each line as soon as it ends, as `run` writes it; a bad line is answered too, and does not end it. And the
+-- state that it leaves.
+use Rattle.std.specs.Prelude.{◌≡◌, ◌⊎◌, ℕ, List, [], ◌∷◌, ◌++◌, take, Option, Some, None, Result, Ok, Err, nat_le, ◌==◌, if◌then◌else◌}
 use Rattle.std.specs.Io.KnownBytes.{Appends, Consumes, IsAtEnd}
 use Rattle.text.specs.Lines.{next_line}
+use Rattle.loader.specs.StoreState.{StoreState}
 use Rattle.loader.specs.CatalogueView.{CatalogueView, with_places}
 use Rattle.loader.specs.declared.installed.TheConstants.{MAX_PLACES}
 use Rattle.loader.specs.NamedFiles.{named_in}
 use Rattle.loader.specs.ProgramFiles.{Files}
 use Rattle.loader.specs.Loading.{Outcome, loaded}
 use Rattle.oplog.specs.History.{History}
+use Rattle.console.specs.declared.commands.serving.ServeEnd.{ServeEnd}
 use Rattle.console.specs.declared.status.Status.{Status}
 use Rattle.console.specs.declared.status.Status.TheVariants as statuses
-use Rattle.console.specs.Files.{Contents, is_text, present, are_texts}
+use Rattle.console.specs.Files.{Contents, is_text, present}
 use Rattle.console.specs.Texts.{no_memory_line}
 use Rattle.console.specs.Answer.{Answer, not_text, refusal_answer}
 use Rattle.console.specs.RunAnswer.{Turn, bad_line_text, line_turn}
-use Rattle.console.specs.Inputs.{IfFilesKnown}
+use Rattle.console.specs.Inputs.{IfTextsKnown, all_texts}
+use Rattle.console.specs.StateAnswer.{on_text}
+use Rattle.console.specs.KeptRun.{state_left}
 use Rattle.console.specs.ScheduleAnswer.{sizes_refused}
 use Rattle.console.specs.Transfer.{AppendsBeginning}
 use Rattle.console.specs.Report.{ReportsBytes}
@@ -81,45 +86,57 @@ AnswersBytes old new statuses.CannotWrite text bytes = AppendsBeginning old new 
 AnswersBytes old new statuses.Refused text bytes = ⊥
 AnswersBytes old new statuses.Differs text bytes = ⊥
 
--- the programs of a catalogue were served an input, from what it had to what it has left, and to its end where all is well
-pub record Serves (c : CatalogueView) (given left : Option (List ℕ)) (old new : Option (List ℕ)) (status : Status) : Type 0 where
+-- a state that is given back where all is well
+abbrev pub given_back : Status → StoreState → Option StoreState
+given_back statuses.Good s = Some s
+given_back statuses.Refused s = None
+given_back statuses.NoMemory s = None
+given_back statuses.CannotRead s = None
+given_back statuses.CannotWrite s = None
+given_back statuses.Differs s = None
+
+-- the state that the lines of an input leave which are answered
+abbrev pub state_served : CatalogueView → List ℕ → StoreState
+state_served c bytes = state_left c (served c nothing_served bytes).serving.history
+
+-- the programs of a catalogue were served an input, from what it had to what it has left, and to its end where all is well; the state is given back then
+pub record Serves (c : CatalogueView) (given left : Option (List ℕ)) (old new : Option (List ℕ)) (ended : ServeEnd) : Type 0 where
   pub bytes : List ℕ
   pub read : Consumes given left bytes
-  pub whole : status ≡ statuses.Good → IsAtEnd left
-  pub answers : AnswersBytes old new status (served_text c) bytes
+  pub whole : ended.status ≡ statuses.Good → IsAtEnd left
+  pub answers : AnswersBytes old new ended.status (served_text c) bytes
+  pub state : ended.state ≡ given_back ended.status (state_served c bytes)
 
 -- ---- the command
 
--- a refused manifest gets only its refusal, too many places only theirs
-abbrev pub to_serve : ℕ → Outcome → Result CatalogueView Answer
-to_serve spare (Ok c) = if nat_le spare MAX_PLACES then Ok (with_places c spare) else Err sizes_refused
-to_serve spare (Err refusal) = Err (refusal_answer refusal)
+-- a refused manifest gets only its refusal, too many places only theirs, a refused state only its
+abbrev pub to_serve : ℕ → Outcome → List ℕ → Result CatalogueView Answer
+to_serve spare (Ok c) state = if nat_le spare MAX_PLACES then on_text (with_places c spare) state else Err sizes_refused
+to_serve spare (Err refusal) state = Err (refusal_answer refusal)
 
-abbrev pub are_all_texts : List ℕ → Contents → Bool
-are_all_texts manifest folder = is_text manifest && are_texts (present folder (named_in manifest))
+-- what is served, with so many places behind the manifest's programs and on a state, or what is answered in its place: all files are read first
+unfoldable pub service : ℕ → List ℕ → Contents → List ℕ → Result CatalogueView Answer
+service spare manifest folder state =
+    if all_texts manifest folder state then to_serve spare (loaded manifest (present folder (named_in manifest))) state else Err not_text
 
--- what is served, with so many places behind the manifest's programs, or what is answered in its place: all files are read first
-unfoldable pub service : ℕ → List ℕ → Contents → Result CatalogueView Answer
-service spare manifest folder =
-    if are_all_texts manifest folder then to_serve spare (loaded manifest (present folder (named_in manifest))) else Err not_text
-
--- what is served, or answered in its place, of some manifest and files
+-- what is served, or answered in its place, of some manifest, files and state
 abbrev pub IsService : ℕ → Result CatalogueView Answer → Type 0
-IsService spare opening = (opening ≡ Err not_text) ⊎ ((manifest : List ℕ) × (files : Files) × (opening ≡ to_serve spare (loaded manifest files)))
+IsService spare opening =
+    (opening ≡ Err not_text) ⊎ ((manifest : List ℕ) × (files : Files) × (state : List ℕ) × (opening ≡ to_serve spare (loaded manifest files) state))
 
 -- the same is so of one of these
 abbrev pub SomeService : ℕ → (Result CatalogueView Answer → Type 0) → Type 0
 SomeService spare P = (opening : Result CatalogueView Answer) × IsService spare opening × P opening
 
--- what `serve` did with its input and its output
-abbrev pub ServesBytes : Result CatalogueView Answer → Option (List ℕ) → Option (List ℕ) → Option (List ℕ) → Option (List ℕ) → Status → Type 0
-ServesBytes (Ok c) given left old new status = Serves c given left old new status
-ServesBytes (Err a) given left old new status = ReportsBytes old new status a
+-- what `serve` did with its input and its output; what is answered in its place leaves no state
+abbrev pub ServesBytes : Result CatalogueView Answer → Option (List ℕ) → Option (List ℕ) → Option (List ℕ) → Option (List ℕ) → ServeEnd → Type 0
+ServesBytes (Ok c) given left old new ended = Serves c given left old new ended
+ServesBytes (Err a) given left old new ended = ReportsBytes old new ended.status a × (ended.state ≡ None)
 
 -- the same of a reader and a writer, by what is known of them
-abbrev pub ServesAll : {R W : Type 0} → (R → Option (List ℕ)) → R → R → (W → Option (List ℕ)) → W → W → Status → Result CatalogueView Answer → Type 0
-ServesAll remaining given left contents old new status opening = ServesBytes opening (remaining given) (remaining left) (contents old) (contents new) status
+abbrev pub ServesAll : {R W : Type 0} → (R → Option (List ℕ)) → R → R → (W → Option (List ℕ)) → W → W → ServeEnd → Result CatalogueView Answer → Type 0
+ServesAll remaining given left contents old new ended opening = ServesBytes opening (remaining given) (remaining left) (contents old) (contents new) ended
 
--- where the bytes of the manifest and of the files are known, this is so of what is served then, or answered in its place
-abbrev pub IfServeKnown : ℕ → Option (List ℕ) → Option Contents → (Result CatalogueView Answer → Type 0) → Type 0
-IfServeKnown spare manifest folder P = IfFilesKnown manifest folder (λ m h. P (service spare m h))
+-- where the bytes of the manifest, of the files and of the state are known, this is so of what is served then, or answered in its place
+abbrev pub IfServeKnown : ℕ → Option (List ℕ) → Option Contents → Option (List ℕ) → (Result CatalogueView Answer → Type 0) → Type 0
+IfServeKnown spare manifest folder state P = IfTextsKnown manifest folder state (λ m h s. P (service spare m h s))

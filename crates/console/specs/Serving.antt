@@ -1,5 +1,5 @@
 -- What is kept while an input is served. Clauses of private functions alone cite this.
-use Rattle.std.specs.Prelude.{◌≡◌, ℕ, Bool, List, ◌++◌, take, Option, Some, None, Result, Ok, Err, IfOk}
+use Rattle.std.specs.Prelude.{◌≡◌, ℕ, Bool, List, [], ◌++◌, take, Option, Some, None, Result, Ok, Err, IfOk}
 use Rattle.std.specs.Io.KnownBytes.{Appends, Consumes, IsAtEnd}
 use Rattle.loader.specs.CatalogueView.{CatalogueView}
 use Rattle.console.specs.declared.status.Status.{Status}
@@ -49,11 +49,11 @@ abbrev pub TurnEnds : CatalogueView → Serving → List ℕ → Service → Opt
 TurnEnds c s bytes service old new None = Appends old new (served c s bytes).text × Stands (served c s bytes).serving service
 TurnEnds c s bytes service old new (Some status) = AnswersBytes old new status (λ b. (served c s b).text) bytes
 
--- a turn of a service that stands so: its input is at its end where it ended well
+-- a turn of a service that stands so: where it ended well, its input is at its end and nothing was read
 pub record Turns (c : CatalogueView) (s : Serving) (service : Service) (given left old new : Option (List ℕ)) (ended : Option Status) : Type 0 where
   pub bytes : List ℕ
   pub read : Consumes given left bytes
-  pub whole : ended ≡ Some statuses.Good → IsAtEnd left
+  pub whole : ended ≡ Some statuses.Good → IsAtEnd left × (bytes ≡ [])
   pub answers : TurnEnds c s bytes service old new ended
 
 -- the same of any state that the service stands in, of a reader and a writer

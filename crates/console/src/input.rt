@@ -80,8 +80,12 @@ pub(crate) fn read_keeping<R: Source>(
     }
 }
 
-// The text that a reader gives.
-pub(crate) fn read_text<R: Source>(alloc: Global, reader: &mut R) -> Result<String, InputFault>
+/// The text that a reader gives.
+///
+/// # Errors
+///
+/// Where a read fails, memory runs out, or what it gives is not UTF-8.
+pub fn read_text<R: Source>(alloc: Global, reader: &mut R) -> Result<String, InputFault>
     ensures text { IfSome (R.remaining reader.old) (TextIs result) }
     ensures failed { IfCannotRead result (R.has_failed reader.new) }
 {

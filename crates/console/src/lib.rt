@@ -26,6 +26,8 @@ mod serve_laws;
 mod serving;
 mod signed_texts;
 mod single_node;
+mod state_texts;
+mod states;
 mod status;
 mod step_lines;
 mod stepping;
@@ -35,8 +37,8 @@ mod transcripts;
 mod transfer;
 
 pub use commands::{
-    Setup, assemble, check, disassemble, disassemble_slots, encode, explain, graph, replay, run,
-    run_signed, schedule, serve,
+    ServeEnd, Setup, assemble, check, disassemble, disassemble_slots, encode, explain, graph,
+    replay, run, run_signed, schedule, serve,
 };
 pub use feeding::{CannotRead, Feed};
 pub use folder::Folder;
@@ -53,14 +55,21 @@ pub use commands::{
     replay_reply, run_reply, run_signed_reply, schedule_reply, slots_reply,
 };
 
+// A run on a state, and the state that it leaves; and a replay on a state.
+pub use commands::{Kept, dump_to, replay_loaded, replay_on_reply, run_on_reply, signed};
+
 // What an engine in a crate of its own is put together from, as `stress` is.
 pub use calls::checked_call;
 pub use catalogues::Loaded;
 pub use commands::sizes_refused;
-pub use input::InputFault;
+pub use input::{InputFault, read_text};
 pub use inputs::{Inputs, read_inputs};
 pub use replay_texts::bad_line;
 pub use reporting::{Reply, report};
-pub use script::{NumberedCall, ProgramCall, ProgramText, ScriptLine, read_line};
+pub use script::{
+    KeyedCall, NumberedCall, ProgramCall, ProgramKey, ProgramText, ScriptLine, read_line,
+};
+pub use state_texts::state_refused;
 pub use status::Verdict;
 pub use texts::{put_number, put_numbered};
+pub use transcripts::{AnsweredCall, AnsweredInstall, TranscriptLine, read_transcript_line};

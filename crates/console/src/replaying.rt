@@ -1,6 +1,7 @@
 // The replay of a transcript, line by line.
 
-ghost use Rattle.std.specs.Prelude.{◌≡◌, true, option_map, IfSome, IfNone, IfOk, None};
+ghost use Rattle.std.specs.Prelude.{◌≡◌, true, option_map, IfSome, IfNone, IfOk};
+ghost use Rattle.loader.specs.CatalogueView.{OpensOn};
 ghost use Rattle.verifier.specs.declared.refusal.Mode.TheVariants.{Update, Read};
 ghost use Rattle.oplog.specs.declared.records.Op.TheVariants.{Run};
 ghost use Rattle.replica.specs.StoreMeaning.{is_operation};
@@ -15,7 +16,7 @@ use crate::script::{KeyedCall, ProgramKey, ProgramText};
 use crate::single_node::SingleNode;
 use crate::status::Verdict;
 use crate::transcripts::{AnsweredCall, AnsweredInstall, TranscriptLine, read_transcript_line};
-use loader::Catalogue;
+use loader::{Catalogue, StoreState};
 use machine::Outcome;
 use oplog::{Call, Op};
 use std::alloc::{AllocError, Global};
@@ -112,14 +113,18 @@ fn verdict_of(agrees: bool) -> LineVerdict
 }
 
 impl Replaying {
-    // Takes all room that a replay needs.
-    pub(crate) fn open(alloc: Global, catalogue: &Catalogue) -> Result<Replaying, AllocError>
-        requires nothing { catalogue.now.opening ≡ None }
+    // Takes all room that a replay needs, on a copy of the state that is handed in, or on a new one.
+    pub(crate) fn open(
+        alloc: Global,
+        catalogue: &Catalogue,
+        opening: Option<&StoreState>,
+    ) -> Result<Replaying, AllocError>
+        requires opens { OpensOn catalogue.now opening }
         ensures steady { IfOk result (λ r. IsSteady catalogue.now r.node) }
         ensures nothing { IfOk result (λ r. HasReplayed catalogue.now nothing_replayed r) }
     {
         Ok(Replaying {
-            node: SingleNode::open(alloc, catalogue)?,
+            node: SingleNode::open(alloc, catalogue, opening)?,
             reads: 0,
             ended: 0,
             due: Due {

@@ -32,15 +32,19 @@ pub struct NumberedCall {
 
 /// A program by its name, or by its number.
 #[derive(Clone, Copy)]
-pub(crate) enum ProgramKey<'a> {
+pub enum ProgramKey<'a> {
+    /// By its name.
     Named(&'a str),
+    /// By its number.
     Numbered(u64),
 }
 
 /// A call of a program by either.
 #[derive(Drop)]
-pub(crate) struct KeyedCall<'a> {
+pub struct KeyedCall<'a> {
+    /// The program.
     pub key: ProgramKey<'a>,
+    /// The bytes of the argument.
     pub argument: ArrayVec<u8, FIELD_BYTES>,
 }
 

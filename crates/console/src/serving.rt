@@ -1,6 +1,7 @@
 // Lines that are answered as they end.
 
-ghost use Rattle.std.specs.Prelude.{◌≡◌, ◌∷◌, ◌++◌, [], false, None, Ok, IfOk, OnOk, OnErr};
+ghost use Rattle.std.specs.Prelude.{◌≡◌, ◌∷◌, ◌++◌, [], false, Ok, IfOk, OnOk, OnErr};
+ghost use Rattle.loader.specs.CatalogueView.{OpensOn};
 ghost use Rattle.console.specs.Running.{IsSteady};
 ghost use Rattle.console.specs.ServeAnswer.{Serving, nothing_served, turn_at, behind_line, with_byte, served};
 ghost use Rattle.console.specs.Serving.{AddsServed, Stands, IsSameLine, TakesLeft, IsAnswered, GoesOn, TakesBytes};
@@ -9,7 +10,7 @@ use crate::calls::take_line;
 use crate::run_texts::put_bad_line;
 use crate::single_node::SingleNode;
 use arrayvec::ArrayVec;
-use loader::Catalogue;
+use loader::{Catalogue, StoreState};
 use std::alloc::{AllocError, Global};
 use std::str;
 use text::FIELD_BYTES;
@@ -31,14 +32,18 @@ pub(crate) struct Service {
 }
 
 impl Service {
-    // A new store for the maps and the programs of a catalogue.
-    pub(crate) fn open(alloc: Global, catalogue: Catalogue) -> Result<Service, AllocError>
-        requires nothing { catalogue.opening ≡ None }
+    // A store for the maps and the programs of a catalogue, on a copy of the state that is handed in, or on a new one.
+    pub(crate) fn open(
+        alloc: Global,
+        catalogue: Catalogue,
+        opening: Option<&StoreState>,
+    ) -> Result<Service, AllocError>
+        requires opens { OpensOn catalogue opening }
         ensures catalogue { IfOk result (λ s. s.catalogue ≡ catalogue) }
         ensures steady { IfOk result (λ s. IsSteady s.catalogue s.node) }
         ensures stands { IfOk result (λ s. Stands nothing_served s) }
     {
-        let node = SingleNode::open(alloc, &catalogue)?;
+        let node = SingleNode::open(alloc, &catalogue, opening)?;
         Ok(Service {
             catalogue,
             node,
@@ -137,5 +142,18 @@ impl Service {
             self.take_byte(*byte, out)?;
         }
         Ok(())
+    }
+
+    // The state that the answered lines leave.
+    pub(crate) fn into_state(self) -> StoreState
+        requires steady { IsSteady self.catalogue self.node }
+        ensures state { result ≡ self.node.own.replica.state }
+    {
+        let Service {
+            catalogue,
+            node,
+            ..
+        } = self;
+        node.into_state(&catalogue)
     }
 }

@@ -1,7 +1,8 @@
 // One replica and one log, on one thread.
 
-ghost use Rattle.std.specs.Prelude.{◌≡◌, ◌<◌, [], true, None, Some, IfOk, IfSome, IfNone};
+ghost use Rattle.std.specs.Prelude.{◌≡◌, ◌<◌, [], true, Some, IfOk, IfSome, IfNone};
 ghost use Rattle.verifier.specs.declared.refusal.Mode.TheVariants.{Update, Read};
+ghost use Rattle.loader.specs.CatalogueView.{OpensOn};
 ghost use Rattle.oplog.specs.Logs.{tail_of, room_in};
 ghost use Rattle.oplog.specs.declared.records.Op.TheVariants.{Install};
 ghost use Rattle.replica.specs.StoreMeaning.{call_of, run_of, ran_to, is_operation};
@@ -30,16 +31,20 @@ pub(crate) struct SingleNode {
 }
 
 impl SingleNode {
-    // Takes all room that a run needs, on a new state.
-    pub(crate) fn open(alloc: Global, catalogue: &Catalogue) -> Result<SingleNode, AllocError>
-        requires nothing { catalogue.now.opening ≡ None }
+    // Takes all room that a run needs, on a copy of the state that is handed in, or on a new one.
+    pub(crate) fn open(
+        alloc: Global,
+        catalogue: &Catalogue,
+        opening: Option<&StoreState>,
+    ) -> Result<SingleNode, AllocError>
+        requires opens { OpensOn catalogue.now opening }
         ensures steady { IfOk result (λ n. IsSteady catalogue.now n) }
         ensures empty { IfOk result (λ n. Follows catalogue.now [] n) }
     {
-        let base = StoreState::opening(alloc, catalogue, None)?;
+        let base = StoreState::opening(alloc, catalogue, opening)?;
         let log = LogState::open(alloc, base, MAX_WINDOW, MAX_LIMIT)?;
         let hand = Hand::open(alloc, MAX_WINDOW)?;
-        let replica = Replica::open(StoreState::opening(alloc, catalogue, None)?);
+        let replica = Replica::open(StoreState::opening(alloc, catalogue, opening)?);
         let own = NodeReplica { replica, hand };
         let replies = Replies::new(0, 0);
         let room = Installed::open(alloc, catalogue.shapes(), 1)?;
@@ -49,6 +54,28 @@ impl SingleNode {
             replies,
             room,
         })
+    }
+
+    // Makes the replica's maps and programs the log's base where that is behind.
+    fn catch_up(&mut self, catalogue: &Catalogue)
+        requires steady { IsSteady catalogue.now self.old }
+        ensures state { self.new.log.base_state ≡ self.old.own.replica.state }
+    {
+        let _tail = self.log.tail();
+        if self.log.base() < self.own.replica.tail() {
+            reclaim(&mut self.log, &self.own);
+        }
+    }
+
+    // The state after all updates so far. Takes no memory.
+    pub(crate) fn into_state(mut self, catalogue: &Catalogue) -> StoreState
+        requires steady { IsSteady catalogue.now self }
+        ensures state { result ≡ self.own.replica.state }
+    {
+        self.catch_up(catalogue);
+        let SingleNode { log, .. } = self;
+        let (state, _) = log.into_base();
+        state
     }
 
     // How many updates there were.

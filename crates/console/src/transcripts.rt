@@ -8,30 +8,42 @@ use crate::script::{KeyedCall, ProgramText, keyed_call, new_program, program_fie
 use text::{LINE_BYTES, LineKind, kind_of, number, split_at_space};
 use verifier::Mode;
 
-// A call that was answered: the number of updates before it, and the reply.
+/// A call that was answered: the number of updates before it, and the reply.
 #[derive(Drop)]
-pub(crate) struct AnsweredCall<'a> {
+pub struct AnsweredCall<'a> {
+    /// Whether it is an update or a read.
     pub mode: Mode,
+    /// The number of updates before it.
     pub index: u64,
+    /// The call.
     pub call: KeyedCall<'a>,
+    /// What it replied.
     pub reply: u64,
 }
 
-// An install that was answered: the number of updates before it, and the reply.
+/// An install that was answered: the number of updates before it, and the reply.
 #[derive(Drop)]
-pub(crate) struct AnsweredInstall {
+pub struct AnsweredInstall {
+    /// The number of updates before it.
     pub index: u64,
+    /// What was to be installed.
     pub program: ProgramText,
+    /// What it replied.
     pub reply: u64,
 }
 
-// What a line says.
+/// What a line of a transcript says.
 #[derive(Drop)]
-pub(crate) enum TranscriptLine<'a> {
+pub enum TranscriptLine<'a> {
+    /// A comment or an empty line.
     Comment,
+    /// An update or a read that was answered.
     Answered(AnsweredCall<'a>),
+    /// An install that was answered.
     Installed(AnsweredInstall),
+    /// An update that was told that the history has ended.
     Ended(KeyedCall<'a>),
+    /// An install that was told so.
     EndedInstall(ProgramText),
 }
 
@@ -116,9 +128,9 @@ fn transcript_words(line: &str) -> Option<TranscriptLine<'_>>
     }
 }
 
-// What a line says; `None` where it is bad.
+/// What a line of a transcript says; `None` where it is bad.
 #[tactic(auto, unfolding(crate::specs::Transcript::transcript_line_meaning))]
-pub(crate) fn read_transcript_line(line: &str) -> Option<TranscriptLine<'_>>
+pub fn read_transcript_line(line: &str) -> Option<TranscriptLine<'_>>
     ensures { option_map told_of result ≡ transcript_line_meaning line.now }
 {
     match kind_of(line) {

@@ -1,65 +1,11 @@
 // The command line.
 
 use crate::disk::DASH;
-use crate::help;
+use crate::tasks::{Call, named_call};
+use crate::{help, store_help};
 use clap::builder::ValueParser;
-use clap::{Arg, ArgAction, ArgMatches, Command, Error};
-use console::Telling;
-use oplog::Config;
+use clap::{Arg, ArgAction, Command, Error};
 use std::alloc::{AllocError, Global};
-
-/// What is to be done.
-#[derive(Clone, Copy)]
-pub enum Task<'a> {
-    /// Check a manifest.
-    Check,
-    /// Explain the programs of a manifest, or the one of this name.
-    Explain(Option<&'a str>),
-    /// Draw them.
-    Graph(Option<&'a str>),
-    /// Assemble a text.
-    Assemble,
-    /// Assemble a text into the file of this path.
-    AssembleInto(&'a str),
-    /// Assemble a text, into the file of this path if there is one, and say what a refused one wants.
-    AssembleTold(Option<&'a str>),
-    /// Disassemble a program file.
-    Disassemble,
-    /// Disassemble a program file, with slots and bytes.
-    DisassembleSlots,
-    /// Write the script of a text of calls.
-    Encode,
-    /// Run a script.
-    Run,
-    /// Run a script, and write negative replies as signed numbers beside.
-    RunSigned,
-    /// Replay a transcript, with so many places behind the programs, and tell this of it.
-    Replay(u32, Telling),
-    /// Take a list of steps on a store of these sizes, and tell this of it.
-    Schedule(Config, Telling),
-    /// Answer lines as they come in, with so many places behind the programs.
-    Serve(u32),
-    /// Make the calls of a script on threads, on a store of these sizes.
-    Stress(Config),
-}
-
-/// What is asked for.
-#[derive(Clone, Copy)]
-pub struct Call<'a> {
-    /// What is to be done.
-    pub task: Task<'a>,
-    /// The path of the manifest, empty where the task reads none.
-    pub manifest: &'a str,
-    /// The path of the other file, empty where the task reads none.
-    pub file: &'a str,
-}
-
-impl Call<'_> {
-    /// Whether both files are standard input, which can be read once.
-    pub fn reads_twice(&self) -> bool {
-        self.manifest == DASH && self.file == DASH
-    }
-}
 
 // What a command is: its help, whether it takes the sizes of a store, and how many programs may be installed, a file to write, whether slots may be asked for, a manifest and then a program's name, which may be
 // left out, the name and the help of the file that it reads besides, and whether standard input stands for that where it is left out.
@@ -80,24 +26,38 @@ struct Row<'a> {
 
 // The sizes of a store that options set, each with what it is by default and its help.
 const SIZES: [(&str, &str, &str); 4] = [
-    ("nodes", "2", help::NODES),
-    ("slots", "2", help::SLOTS),
-    ("window", "64", help::WINDOW),
-    ("limit", "1000000", help::LIMIT),
+    ("nodes", "2", store_help::NODES),
+    ("slots", "2", store_help::SLOTS),
+    ("window", "64", store_help::WINDOW),
+    ("limit", "1000000", store_help::LIMIT),
+];
+
+// Options whose value is a path, each with its command and its help.
+const FILES: [(&str, &str, &str); 9] = [
+    ("run", "load", store_help::LOAD),
+    ("run", "dump", store_help::DUMP),
+    ("serve", "load", store_help::LOAD),
+    ("serve", "dump", store_help::DUMP),
+    ("stress", "load", store_help::LOAD),
+    ("stress", "dump", store_help::DUMP),
+    ("stress", "history", store_help::HISTORY),
+    ("replay", "load", store_help::LOAD),
+    ("replay", "history", store_help::TIMES),
 ];
 
 // What options ask for that have no value, each with its command and its help.
-const FLAGS: [(&str, &str, &str); 6] = [
-    ("run", "signed", help::SIGNED),
-    ("replay", "explain", help::DUE),
-    ("schedule", "explain", help::REASONS),
-    ("schedule", "lanes", help::LANES),
+const FLAGS: [(&str, &str, &str); 7] = [
+    ("run", "signed", store_help::SIGNED),
+    ("replay", "explain", store_help::DUE),
+    ("schedule", "explain", store_help::REASONS),
+    ("schedule", "lanes", store_help::LANES),
     ("explain", "graph", help::GRAPH),
     ("asm", "explain", help::WANTED),
+    ("stress", "stats", store_help::STATS),
 ];
 
 // How many programs may be installed, in the same way.
-const SPARE: (&str, &str, &str) = ("spare", "4", help::SPARE);
+const SPARE: (&str, &str, &str) = ("spare", "4", store_help::SPARE);
 
 // Appends one more.
 fn append<T: Drop>(items: &mut Vec<T>, item: T) -> Result<(), AllocError> {
@@ -148,6 +108,14 @@ fn slots<'a>(alloc: Global) -> Arg<'a> {
         .help(help::SLOTS_AND_BYTES)
 }
 
+// An option whose value is a path.
+fn named_file<'a>(alloc: Global, name: &'a str, help: &'a str) -> Arg<'a> {
+    Arg::new(alloc, name)
+        .long(name)
+        .value_name("FILE")
+        .help(help)
+}
+
 // An option that has no value.
 fn flag<'a>(alloc: Global, name: &'a str, help: &'a str) -> Arg<'a> {
     Arg::new(alloc, name)
@@ -181,6 +149,11 @@ fn list_arguments<'a>(
     }
     if row.has_slots {
         append(arguments, slots(alloc))?;
+    }
+    for &(command, name, help) in &FILES {
+        if command == row.name {
+            append(arguments, named_file(alloc, name, help))?;
+        }
     }
     for &(command, name, help) in &FLAGS {
         if command == row.name {
@@ -285,33 +258,33 @@ fn store_rows<'a>() -> [Row<'a>; 5] {
     [
         Row {
             has_manifest: true,
-            file: Some(("SCRIPT", help::SCRIPT)),
-            ..bare("run", help::RUN, help::AFTER_RUN)
+            file: Some(("SCRIPT", store_help::SCRIPT)),
+            ..bare("run", store_help::RUN, store_help::AFTER_RUN)
         },
         Row {
             has_spare: true,
             has_manifest: true,
-            ..bare("serve", help::SERVE, help::AFTER_SERVE)
+            ..bare("serve", store_help::SERVE, store_help::AFTER_SERVE)
         },
         Row {
             has_spare: true,
             has_manifest: true,
-            file: Some(("TRANSCRIPT", help::TRANSCRIPT)),
-            ..bare("replay", help::REPLAY, help::AFTER_REPLAY)
-        },
-        Row {
-            is_sized: true,
-            has_spare: true,
-            has_manifest: true,
-            file: Some(("STEPS", help::STEPS)),
-            ..bare("schedule", help::SCHEDULE, help::AFTER_SCHEDULE)
+            file: Some(("TRANSCRIPT", store_help::TRANSCRIPT)),
+            ..bare("replay", store_help::REPLAY, store_help::AFTER_REPLAY)
         },
         Row {
             is_sized: true,
             has_spare: true,
             has_manifest: true,
-            file: Some(("SCRIPT", help::SCRIPT)),
-            ..bare("stress", help::STRESS, help::AFTER_STRESS)
+            file: Some(("STEPS", store_help::STEPS)),
+            ..bare("schedule", store_help::SCHEDULE, store_help::AFTER_SCHEDULE)
+        },
+        Row {
+            is_sized: true,
+            has_spare: true,
+            has_manifest: true,
+            file: Some(("SCRIPT", store_help::SCRIPT)),
+            ..bare("stress", store_help::STRESS, store_help::AFTER_STRESS)
         },
     ]
 }
@@ -332,117 +305,6 @@ fn command<'a>(alloc: Global) -> Result<Command<'a>, AllocError> {
         .subcommand_required(true)
         .arg_required_else_help(true)
         .subcommands(commands)
-}
-
-// The sizes that the options name.
-fn config_of(matches: &ArgMatches) -> Option<Config> {
-    Some(Config {
-        nodes: matches.get_one("nodes")?,
-        slots: matches.get_one("slots")?,
-        window: matches.get_one("window")?,
-        limit: matches.get_one("limit")?,
-        spare: matches.get_one("spare")?,
-    })
-}
-
-// Assembling, to standard output or into a file.
-fn assembling<'a>(matches: &ArgMatches<'a>) -> Task<'a> {
-    let path = match matches.get_str("output") {
-        Some(path) if path != DASH => Some(path),
-        _ => None,
-    };
-    match path {
-        _ if matches.get_flag("explain") => Task::AssembleTold(path),
-        Some(path) => Task::AssembleInto(path),
-        None => Task::Assemble,
-    }
-}
-
-// Explaining in words or by a drawing.
-fn explaining<'a>(matches: &ArgMatches<'a>) -> Task<'a> {
-    let name = matches.get_str("NAME");
-    if matches.get_flag("graph") {
-        Task::Graph(name)
-    } else {
-        Task::Explain(name)
-    }
-}
-
-// Disassembling, with slots and bytes or without.
-fn disassembling<'a>(matches: &ArgMatches<'a>) -> Task<'a> {
-    if matches.get_flag("slots-and-bytes") {
-        Task::DisassembleSlots
-    } else {
-        Task::Disassemble
-    }
-}
-
-// Running, with signed numbers beside replies or without.
-fn running<'a>(matches: &ArgMatches<'a>) -> Task<'a> {
-    if matches.get_flag("signed") {
-        Task::RunSigned
-    } else {
-        Task::Run
-    }
-}
-
-// What is told of a run beside its answer.
-fn telling(matches: &ArgMatches) -> Telling {
-    if matches.get_flag("explain") {
-        Telling::Reasons
-    } else {
-        Telling::Nothing
-    }
-}
-
-// What is told of a list of steps beside its answer.
-fn telling_of_steps(matches: &ArgMatches) -> Telling {
-    if matches.get_flag("lanes") {
-        Telling::Lanes
-    } else {
-        telling(matches)
-    }
-}
-
-// What the command of this name does.
-fn task_of<'a>(name: &str, matches: &ArgMatches<'a>) -> Option<Task<'a>> {
-    Some(match name {
-        "check" => Task::Check,
-        "explain" => explaining(matches),
-        "asm" => assembling(matches),
-        "dis" => disassembling(matches),
-        "encode" => Task::Encode,
-        "run" => running(matches),
-        "replay" => Task::Replay(matches.get_one("spare")?, telling(matches)),
-        "schedule" => Task::Schedule(config_of(matches)?, telling_of_steps(matches)),
-        "serve" => Task::Serve(matches.get_one("spare")?),
-        "stress" => Task::Stress(config_of(matches)?),
-        _ => return None,
-    })
-}
-
-// The path of the file that a task reads besides: `serve` reads standard input.
-fn file_of<'a>(task: Task<'a>, matches: &ArgMatches<'a>) -> &'a str {
-    match task {
-        Task::Serve(_) => DASH,
-        _ => matches.get_str("FILE").unwrap_or(""),
-    }
-}
-
-// The call of a command with these arguments.
-fn call_of<'a>(name: &str, matches: &ArgMatches<'a>) -> Option<Call<'a>> {
-    let task = task_of(name, matches)?;
-    Some(Call {
-        task,
-        manifest: matches.get_str("MANIFEST").unwrap_or(""),
-        file: file_of(task, matches),
-    })
-}
-
-// The call that a command line asks for, if it names a command.
-fn named_call<'a>(matches: &ArgMatches<'a>) -> Option<Call<'a>> {
-    let (name, inner) = matches.subcommand()?;
-    call_of(name, inner)
 }
 
 /// The call that the words of a command line ask for, the first of them the program's name. The parser refuses words that name no

@@ -67,11 +67,12 @@ impl<R: Files + AllocGlobal + Eprint> Read for NamedFile<'_, R> {
     }
 }
 
-// A file, or standard input.
+// A file, or standard input, or what has no bytes.
 #[derive(Drop)]
 enum Opened<F: Drop, I: Drop> {
     File(F),
     Input(I),
+    Nothing,
 }
 
 /// A file that is opened when it is first read: what is read before it is judged before it. The path `-` is standard input.
@@ -89,6 +90,18 @@ impl<'a, R: Files + Input + Eprint> LateFile<'a, R> {
             rt,
             path,
             opened: None,
+        }
+    }
+
+    /// The file of this path, if there is one; else one that has no bytes.
+    pub fn of(rt: &'a R, path: Option<&'a str>) -> LateFile<'a, R> {
+        match path {
+            Some(path) => LateFile::new(rt, path),
+            None => LateFile {
+                rt,
+                path: "",
+                opened: Some(Opened::Nothing),
+            },
         }
     }
 
@@ -111,7 +124,7 @@ impl<'a, R: Files + Input + Eprint> LateFile<'a, R> {
         match &mut self.opened {
             Some(Opened::File(file)) => file.read(buf),
             Some(Opened::Input(input)) => input.read(buf),
-            None => Ok(0),
+            Some(Opened::Nothing) | None => Ok(0),
         }
     }
 }

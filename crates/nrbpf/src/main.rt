@@ -4,34 +4,58 @@
 mod command_line;
 mod disk;
 mod help;
+mod keeping;
 mod output;
 mod sizes;
+mod store_help;
+mod stressing;
+mod tasks;
 
-use command_line::{Call, Task};
 use console::{
     Folder, Notes, Setup, Status, assemble, check, disassemble, disassemble_slots, explain, graph,
-    replay, run, run_signed, schedule, serve,
+    run, run_signed, schedule,
 };
 use disk::{Disk, LateFile};
+use keeping::{Inputs, replay_on, run_on, serve_on};
 use output::{Output, assemble_into, assemble_told, encode_or_say, say_text};
 use sizes::say_sizes;
 use std::io::{self, Eprint, Input, Print, Read, Write};
 use std::process::ExitCode;
-use std::rt::Files;
+use std::rt::{Clock, Files};
 use std::sync::Wait;
 use std::thread::Threads;
-use stress::{OpenGate, Trial, stress};
+use stressing::stress_into;
+use tasks::{Call, StateTask, Task};
+
+// Does a task on a store that opens on a state, with what it reads and where it writes.
+fn perform_on_state<
+    R: Files + AllocGlobal + Eprint + Threads + Wait + Clock + Sync,
+    F: Folder,
+    I: Read + Drop,
+    W: Write,
+>(rt: &R, task: StateTask<'_>, folder: &F, inputs: &mut Inputs<I>, writer: &mut W) -> Status {
+    match task {
+        StateTask::Run(files, is_signed) => run_on(rt, files, is_signed, folder, inputs, writer),
+        StateTask::Serve(spare, files) => serve_on(rt, spare, files, folder, inputs, writer),
+        StateTask::Stress(config, beside) => {
+            stress_into(rt, config, beside, folder, inputs, writer)
+        }
+        StateTask::Replay(spare, telling, files) => {
+            let is_timed = files.history.is_some();
+            replay_on(rt, spare, telling, is_timed, folder, inputs, writer)
+        }
+    }
+}
 
 // Does a task, with what it reads and where it writes.
-fn perform<R: Files + AllocGlobal + Eprint + Threads + Wait + Sync, F: Folder, I: Read, W: Write>(
-    rt: &R,
-    task: Task<'_>,
-    folder: &F,
-    manifest: &mut I,
-    file: &mut I,
-    writer: &mut W,
-) -> Status {
+fn perform<
+    R: Files + AllocGlobal + Eprint + Threads + Wait + Clock + Sync,
+    F: Folder,
+    I: Read + Drop,
+    W: Write,
+>(rt: &R, task: Task<'_>, folder: &F, inputs: &mut Inputs<I>, writer: &mut W) -> Status {
     let alloc = rt.alloc();
+    let Inputs { manifest, file, .. } = inputs;
     match task {
         Task::Check => check(alloc, folder, manifest, writer),
         Task::Explain(name) => explain(alloc, folder, manifest, name, writer),
@@ -44,13 +68,6 @@ fn perform<R: Files + AllocGlobal + Eprint + Threads + Wait + Sync, F: Folder, I
         Task::Encode => encode_or_say(rt, file, writer),
         Task::Run => run(alloc, folder, manifest, file, writer),
         Task::RunSigned => run_signed(alloc, folder, manifest, file, writer),
-        Task::Serve(spare) => serve(alloc, folder, spare, manifest, file, writer),
-        Task::Replay(spare, telling) => {
-            let mut notes = Notes::new(alloc, telling);
-            let status = replay(alloc, folder, spare, manifest, file, &mut notes, writer);
-            say_text(rt, notes.text);
-            status
-        }
         Task::Schedule(config, telling) => {
             let mut notes = Notes::new(alloc, telling);
             let setup = Setup { config, folder };
@@ -58,34 +75,24 @@ fn perform<R: Files + AllocGlobal + Eprint + Threads + Wait + Sync, F: Folder, I
             say_text(rt, notes.text);
             status
         }
-        Task::Stress(config) => {
-            let gate = &OpenGate;
-            let trial = Trial {
-                alloc,
-                config,
-                folder,
-                gate,
-            };
-            stress(rt, &trial, manifest, file, writer)
-        }
+        Task::OnState(task) => perform_on_state(rt, task, folder, inputs, writer),
     }
 }
 
 // Answers a call from the files that it names, on standard output, and says on standard error what it could not say there. A file that its
 // task does not read is not opened.
-fn answer<R: Files + Input + Print + Eprint + AllocGlobal + Threads + Wait + Sync>(
+fn answer<R: Files + Input + Print + Eprint + AllocGlobal + Threads + Wait + Clock + Sync>(
     rt: &R,
     call: &Call,
 ) -> Status {
     let mut writer = Output::new(rt, io::writer(rt));
-    let status = perform(
-        rt,
-        call.task,
-        &Disk { rt },
-        &mut LateFile::new(rt, call.manifest),
-        &mut LateFile::new(rt, call.file),
-        &mut writer,
-    );
+    let mut inputs = Inputs {
+        manifest: LateFile::new(rt, call.manifest),
+        file: LateFile::new(rt, call.file),
+        state: LateFile::of(rt, call.state()),
+        times: LateFile::of(rt, call.times()),
+    };
+    let status = perform(rt, call.task, &Disk { rt }, &mut inputs, &mut writer);
     say_sizes(rt, call.task, status);
     if !writer.is_closed {
         complain(rt, status);

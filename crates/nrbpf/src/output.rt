@@ -49,7 +49,7 @@ impl<R: Eprint, W: Write + Drop> Write for Output<'_, R, W> {
 }
 
 // The path of the file that becomes the one of this path.
-fn part_of(alloc: Global, path: &str) -> Result<String, AllocError> {
+pub(crate) fn part_of(alloc: Global, path: &str) -> Result<String, AllocError> {
     let mut part = String::new(alloc);
     part.push_str(path)?;
     part.push_str(".part")?;
@@ -78,7 +78,7 @@ fn is_special<R: Files>(rt: &R, path: &str) -> bool {
 }
 
 // Puts a text where the path is: a plain file is replaced whole, or stays as it was.
-fn save<R: Files + Eprint>(rt: &R, path: &str, part: &str, text: &[u8]) -> Status {
+pub(crate) fn save<R: Files + Eprint>(rt: &R, path: &str, part: &str, text: &[u8]) -> Status {
     let saved = if is_special(rt, path) {
         fs::write(rt, path, text)
     } else {

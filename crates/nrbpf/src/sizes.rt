@@ -1,6 +1,6 @@
 // Which sizes of a store are out of their limits.
 
-use crate::command_line::Task;
+use crate::tasks::{StateTask, Task};
 use console::Status;
 use loader::MAX_PLACES;
 use oplog::{Config, MAX_LIMIT, MAX_NODE_SLOTS, MAX_NODES, MAX_WINDOW, MIN_WINDOW};
@@ -35,11 +35,16 @@ fn say_spare<R: Eprint>(rt: &R, spare: u32) {
 
 /// Says on standard error of a command that is refused which sizes of its store are out of their limits.
 pub fn say_sizes<R: Eprint>(rt: &R, task: Task<'_>, status: Status) {
-    match (task, status) {
-        (Task::Schedule(config, _) | Task::Stress(config), Status::Refused) => {
+    if !matches!(status, Status::Refused) {
+        return;
+    }
+    match task {
+        Task::Schedule(config, _) | Task::OnState(StateTask::Stress(config, _)) => {
             say_each(rt, config)
         }
-        (Task::Replay(spare, _) | Task::Serve(spare), Status::Refused) => say_spare(rt, spare),
+        Task::OnState(StateTask::Replay(spare, _, _) | StateTask::Serve(spare, _)) => {
+            say_spare(rt, spare)
+        }
         _ => {}
     }
 }

@@ -10,3 +10,5 @@ pub mod Sizes
 pub mod Numbered
 pub mod OneHistory
 pub mod Transcripts
+pub mod Loaded
+pub mod GivenBack

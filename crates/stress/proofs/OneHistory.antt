@@ -11,6 +11,7 @@ use Rattle.std.proofs.lemmas.List.Sums.{sum_by-append, sum_by_push}
 use Rattle.std.proofs.lemmas.List.Sorted.{All-permutation, sum_by-IsPermutation}
 use Rattle.ownlock.specs.Seats.{At, ShelfId}
 use Rattle.loader.specs.CatalogueView.{CatalogueView}
+use Rattle.loader.specs.StoreState.{StoreState}
 use Rattle.oplog.specs.declared.configuration.Config.{Config}
 use Rattle.oplog.specs.Operations.{Operation}
 use Rattle.oplog.specs.declared.records.Record.{Record}
@@ -27,16 +28,18 @@ use Rattle.accounts.proofs.Tellings.{reply_on, read_on}
 use Rattle.combiner.specs.declared.slots.Reply.TheVariants.{Placed, Ended}
 use Rattle.readpath.specs.declared.reading.ReadAnswer.{ReadAnswer}
 use Rattle.store.specs.declared.answers.Answer.{Answer}
-use Rattle.store.specs.Opening.{ClosedView, IsClosed}
+use Rattle.store.specs.Opening.{ClosedView, IsClosed, last_state}
 use Rattle.replica.specs.declared.refusals.StoreRefused.{StoreRefused}
 use Rattle.store.specs.Sessions.{SessionView, StoreView, TellsUpdate, request_of, fresh_session, fresh_sessions}
 use Rattle.stress.specs.declared.lines.Told.{Told}
+use Rattle.stress.specs.declared.watching.Noted.{Noted}
 use Rattle.stress.specs.declared.lines.Said.{Said}
 use Rattle.stress.specs.declared.lines.Said.TheVariants as told
 use Rattle.stress.specs.Lines as lines
 use Rattle.stress.specs.Lines.{ToldCall}
 use Rattle.stress.specs.OneHistory.{Asks, Holds, IsSo, IsOfOneHistory, is_at, lines_at}
-use Rattle.stress.specs.Playing.{IsSoIn, AreShown, HasAnswered, IsTold, IsNoted, IsAsked, AreToldIn, AreTold, AreNumbered, update_said}
+use Rattle.stress.specs.Playing.{IsSoIn, AreShown, HasAnswered, IsTold, IsNoted, IsAsked, AreToldIn, AreTold, AreNumbered, EndsIn, update_said}
+use Rattle.stress.specs.Runs.{state_behind}
 use Rattle.stress.specs.Shown.{called, said_of, told_of}
 use Rattle.stress.proofs.Numbered.{is_numbered, one_index}
 
@@ -179,7 +182,7 @@ none_told s none = record { so = All-nil (IsSoIn s.progress); shown = λ q u at.
 module _ (old new : SessionView) (t : Told) (op : Operation) (asks : Asks (called t.call.now) op) (same : new.session ≡ old.session) (grown : Extends old.progress new.progress)
     (well : IsWellFormed store_meaning new.progress) where
   pub updated : (a : Answer) → Tells store_meaning new.progress old.session (length old.note.answered) (request_of old.progress op) (Placed a.index a.reply) × (new.note ≡ note_with old.note a.index op)
-      → IsAsked old new (record { call = t.call; said = told.Updated a })
+      → IsAsked old new (record t { said = told.Updated a })
   updated a h = record {
     session = same;
     grown = grown;
@@ -187,7 +190,7 @@ module _ (old new : SessionView) (t : Told) (op : Operation) (asks : Asks (calle
     noted = (op, ap (λ (n : SessionNote). n.answered) h.1, h.0.1.1);
   }
 
-  pub seen : (a : ReadAnswer) → ReadTells store_meaning new.progress old.progress.completed op a.point a.reply → new.note ≡ old.note → IsAsked old new (record { call = t.call; said = told.Seen a })
+  pub seen : (a : ReadAnswer) → ReadTells store_meaning new.progress old.progress.completed op a.point a.reply → new.note ≡ old.note → IsAsked old new (record t { said = told.Seen a })
   seen a h note = record {
     session = same;
     grown = grown;
@@ -195,7 +198,7 @@ module _ (old new : SessionView) (t : Told) (op : Operation) (asks : Asks (calle
     noted = ap (λ (n : SessionNote). n.answered) note;
   }
 
-  pub ended : Tells store_meaning new.progress old.session (length old.note.answered) (request_of old.progress op) Ended × (new.note ≡ old.note) → IsAsked old new (record { call = t.call; said = told.Ended })
+  pub ended : Tells store_meaning new.progress old.session (length old.note.answered) (request_of old.progress op) Ended × (new.note ≡ old.note) → IsAsked old new (record t { said = told.Ended })
   ended h = record {
     session = same;
     grown = grown;
@@ -204,9 +207,13 @@ module _ (old new : SessionView) (t : Told) (op : Operation) (asks : Asks (calle
   }
 
   -- an update or an install that was not refused early
-  pub told_update : (r : Result Answer StoreRefused) → TellsUpdate old new op r → IsAsked old new (record { call = t.call; said = update_said r })
+  pub told_update : (r : Result Answer StoreRefused) → TellsUpdate old new op r → IsAsked old new (record t { said = update_said r })
   told_update (Ok a) h = updated a h
   told_update (Err e) h = ended (h.1, h.2)
+
+-- whatever is noted of it
+pub noted_too : (old new : SessionView) (t : Told) (noted : Noted) → IsAsked old new t → IsAsked old new (record t { noted = noted })
+noted_too old new t noted h = record { session = h.session; grown = h.grown; so = h.so; noted = h.noted }
 
 -- ---- all sessions together
 
@@ -344,26 +351,40 @@ module _ (store : StoreView) (sessions : List SessionView) (closed : ClosedView)
       let number : r.seq ≡ one.0 = ap (λ (z : Record). z.seq) one.3 ∙ (let e : 0 + one.0 ≡ one.0 = omega arith in e) in
       subst (λ j. lines_at j (map told_of said) ≡ 1) (sym (one_index s.session 0 s.note.answered l.history own i one.1.index r _ at shown.0 author.3 refl number)) shown.1
 
-  pub one_history : IsOfOneHistory store.catalogue store.config.limit (map told_of said)
-  one_history = subst (λ (p : Config × CatalogueView). IsOfOneHistory p.1 p.0.limit (map told_of said)) (λ i. (is.of.0 i, is.of.1 i)) (record {
+  abbrev of_one : IsOfOneHistory l.catalogue l.config.limit (map told_of said)
+  of_one = record {
     history = l.history;
     within = is.well_formed.limit;
     so = all.so;
     shown = λ i below. let r = at_there l.history i below in shown_at i r.0 r.1;
-  })
+  }
+
+  -- and the state after it is what the store ends in
+  pub ends_in : EndsIn store.catalogue store.config.limit (last_state closed) said
+  ends_in =
+      subst (λ (p : Config × CatalogueView). EndsIn p.1 p.0.limit (last_state closed) said) (λ i. (is.of.0 i, is.of.1 i))
+      (of_one, subst (λ c. last_state closed ≡ state_behind c l.history) (sym is.of.1) is.last)
 
 module _ {V E : Type 0} (items : V → List Told) where
-  pub one_left : (c : CatalogueView) (config : Config) (store : StoreView) (sessions : List SessionView) → store.config ≡ config → store.catalogue ≡ c → (closed : ClosedView) × IsClosed store sessions closed
-      → AreNumbered sessions → (all : Result V E) → IfOk all (λ v. AreTold sessions (items v)) → IfOk all (λ v. IsOfOneHistory c config.limit (map told_of (items v)))
-  one_left c config store sessions sizes same closed numbers (Err e) known = tt
-  one_left c config store sessions sizes same closed numbers (Ok v) known =
-      subst (λ (p : Config × CatalogueView). IsOfOneHistory p.1 p.0.limit (map told_of (items v))) (λ i. (sizes i, same i)) (one_history store sessions closed.0 closed.1 (items v) known numbers)
+  pub left_in : (c : CatalogueView) (config : Config) (state : StoreState) (store : StoreView) (sessions : List SessionView) → store.config ≡ config → store.catalogue ≡ c
+      → (closed : ClosedView) × IsClosed store sessions closed × (state ≡ last_state closed)
+      → AreNumbered sessions → (all : Result V E) → IfOk all (λ v. AreTold sessions (items v)) → IfOk all (λ v. EndsIn c config.limit state (items v))
+  left_in c config state store sessions sizes same closed numbers (Err e) known = tt
+  left_in c config state store sessions sizes same closed numbers (Ok v) known =
+      subst (λ (s : StoreState). EndsIn c config.limit s (items v)) (sym closed.2) (
+      subst (λ (p : Config × CatalogueView). EndsIn p.1 p.0.limit (last_state closed.0) (items v)) (λ i. (sizes i, same i))
+      (ends_in store sessions closed.0 closed.1 (items v) known numbers)
+      )
 
 -- in another order
-pub in_order : (c : CatalogueView) (limit : ℕ) (xs ys : List ToldCall) → IsPermutation xs ys → IsOfOneHistory c limit xs → IsOfOneHistory c limit ys
-in_order c limit xs ys same h = record {
-  history = h.history;
-  within = h.within;
-  so = All-permutation (IsSo c limit h.history) xs ys same h.so;
-  shown = λ i below. sum_by-IsPermutation (counted i) xs ys same ∙ h.shown i below;
-}
+pub in_order : (c : CatalogueView) (limit : ℕ) (state : StoreState) (xs ys : List ToldCall) → IsPermutation xs ys → (h : IsOfOneHistory c limit xs) → state ≡ state_behind c h.history
+    → (of_one : IsOfOneHistory c limit ys) × (state ≡ state_behind c of_one.history)
+in_order c limit state xs ys same h ends = (
+  record {
+    history = h.history;
+    within = h.within;
+    so = All-permutation (IsSo c limit h.history) xs ys same h.so;
+    shown = λ i below. sum_by-IsPermutation (counted i) xs ys same ∙ h.shown i below;
+  },
+  ends,
+)

@@ -23,10 +23,10 @@ free_with c bytes want asked e = by (asked_refusal c want bytes) refl asked e
     by None is (Some a) e = let same : a ≡ want = cc in subst (λ x. asked_refusal c x bytes ≡ None) (sym same) is
 
 -- digits that spell the bytes make it a call that is ready
-pub ready_call : (c : CatalogueView) (line bytes spelling : List ℕ) (digits : Bor (List ℕ)) (asked : Option Asked) → (length line ≤ LINE_BYTES) × Spell spelling bytes
-    → length digits.now ≤ length line → digits.now ≡ spelling → IsFree c bytes asked → IfSome asked (λ a. IsReady c (record { asked = a; digits = digits }))
-ready_call c line bytes spelling digits None hex short is free = tt
-ready_call c line bytes spelling digits (Some a) hex short is free =
+pub ready_call : (c : CatalogueView) (n : ℕ) (line bytes spelling : List ℕ) (digits : Bor (List ℕ)) (asked : Option Asked) → (length line ≤ LINE_BYTES) × Spell spelling bytes
+    → length digits.now ≤ length line → digits.now ≡ spelling → IsFree c bytes asked → IfSome asked (λ a. IsReady c (record { line = n; asked = a; digits = digits }))
+ready_call c n line bytes spelling digits None hex short is free = tt
+ready_call c n line bytes spelling digits (Some a) hex short is free =
     let in_line : length line ≤ LINE_BYTES = hex.0 in
     record {
       short = omega arith;
@@ -36,7 +36,7 @@ ready_call c line bytes spelling digits (Some a) hex short is free =
     }
 
 -- what the line says, by what it means
-pub line_said : (c : CatalogueView) (line digits spelling : List ℕ) (m : Option Meaning) (asked want : Option Asked) (got : Option (List Called)) → m ≡ line_meaning line
-    → got ≡ one_call digits asked → digits ≡ spelling → asked ≡ want → one_call spelling want ≡ calls_said c line m → got ≡ line_calls c line
-line_said c line digits spelling m asked want got means is same_digits same_asked said =
-    is ∙ ap (λ d. one_call d asked) same_digits ∙ ap (one_call spelling) same_asked ∙ said ∙ ap (calls_said c line) means
+pub line_said : (c : CatalogueView) (n : ℕ) (line digits spelling : List ℕ) (m : Option Meaning) (asked want : Option Asked) (got : Option (List Called)) → m ≡ line_meaning line
+    → got ≡ one_call n digits asked → digits ≡ spelling → asked ≡ want → one_call n spelling want ≡ calls_said c n line m → got ≡ line_calls c n line
+line_said c n line digits spelling m asked want got means is same_digits same_asked said =
+    is ∙ ap (λ d. one_call n d asked) same_digits ∙ ap (one_call n spelling) same_asked ∙ said ∙ ap (calls_said c n line) means

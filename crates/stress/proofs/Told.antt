@@ -1,11 +1,13 @@
 -- What was told, in its order.
-use Rattle.std.proofs.Common.{◌≡◌, ℕ, zero, suc, ◌<◌, List, [], ◌∷◌, map, length, get_or, refl, subst, arith}
+use Rattle.std.proofs.Common.{◌≡◌, ℕ, zero, suc, ◌<◌, Bool, true, false, List, [], ◌∷◌, map, length, get_or, refl, ap, subst, arith}
 use native.Mathlib.Nat.{not-suc-le-zero, le_of_suc-le-suc}
 use Rattle.std.proofs.Math.ListN.{length-map}
 use Rattle.std.specs.List.Sorted.{IsNonDecreasingBy}
 use Rattle.stress.specs.declared.lines.Told.{Told}
-use Rattle.stress.specs.Lines.{AreOrdered, rank}
-use Rattle.stress.specs.Shown.{said_of, told_of}
+use Rattle.std.specs.Prelude.{filter, if◌then◌else◌}
+use Rattle.stress.specs.Lines.{AreOrdered, ToldCall, Said, rank}
+use Rattle.stress.specs.Timed.{Timed, how_many}
+use Rattle.stress.specs.Shown.{said_of, told_of, timed_of}
 
 -- an element of a mapped list, whatever the defaults
 pub get_map : {A B : Type 0} (f : A → B) (xs : List A) (i : ℕ) (d : B) (e : A) → i < length xs → get_or (map f xs) i d ≡ f (get_or xs i e)
@@ -20,3 +22,19 @@ ordered (x ∷ xs) up i j d low below =
     let inside : j < length all = subst (λ n. j < n) (length-map all told_of) below in
     let before : i < length all = omega (arith, low, inside) in
     rw (get_map told_of all i d x before, get_map told_of all j d x inside) (up i j x low inside)
+
+-- the calls of a history are the calls that were told
+pub of_timed : (xs : List Told) → map (λ (t : Timed). t.told) (map timed_of xs) ≡ map told_of xs
+of_timed [] = refl
+of_timed (x ∷ xs) = ap (λ rest. told_of x ∷ rest) (of_timed xs)
+
+-- as many of the calls were told such a thing
+pub as_many : (is : Said → Bool) (xs : List Told) → length (filter (λ (t : Told). is (said_of t.said)) xs) ≡ how_many is (map told_of xs)
+as_many is [] = refl
+as_many is (x ∷ xs) = by (is (said_of x.said)) (as_many is xs)
+  where
+    by : (b : Bool) → length (filter (λ (t : Told). is (said_of t.said)) xs) ≡ how_many is (map told_of xs)
+        → length (if b then x ∷ filter (λ (t : Told). is (said_of t.said)) xs else filter (λ (t : Told). is (said_of t.said)) xs)
+        ≡ length (if b then told_of x ∷ filter (λ (t : ToldCall). is t.said) (map told_of xs) else filter (λ (t : ToldCall). is t.said) (map told_of xs))
+    by true rest = ap (λ n. suc n) rest
+    by false rest = rest

@@ -10,12 +10,14 @@ use Rattle.oplog.specs.Limits.{IsConfig}
 use Rattle.console.specs.declared.status.Verdict.TheVariants as verdicts
 use Rattle.stress.specs.declared.calls.ScriptCall.{ScriptCall}
 use Rattle.stress.specs.declared.lines.Told.{Told}
+use Rattle.stress.specs.declared.sharing.Left.{Left}
 use Rattle.stress.specs.Calls.{Called, told_as}
 use Rattle.stress.specs.Dealt.{dealt_to}
-use Rattle.stress.specs.Lines.{ToldCall, suits, IsTextOf}
-use Rattle.stress.specs.OneHistory.{IsOfOneHistory}
+use Rattle.stress.specs.Lines.{ToldCall, suits}
+use Rattle.stress.specs.Timed.{IsHistoryIf, AreCounted}
 use Rattle.stress.specs.Shown.{called, said_of, told_call, calls_told, to_be_told, told_of}
-use Rattle.stress.specs.Playing.{IsToldText}
+use Rattle.stress.specs.Playing.{IsLeft, IsWritten, EndsIn}
+use Rattle.stress.specs.Runs.{state_behind}
 use Rattle.stress.specs.StressAnswer.{calls_of, session_count, IsTranscript}
 use Rattle.stress.proofs.Dealt.{each_once, dealt_map}
 use Rattle.stress.proofs.OneHistory.{in_order}
@@ -47,34 +49,43 @@ twice : (script : List ScriptCall) → map (λ c. Some c) (map called script) �
 twice [] = refl
 twice (c ∷ cs) = ap (λ rest. Some (called c) ∷ rest) (twice cs)
 
-pub transcript_of : (config : Config) (c : CatalogueView) → IsConfig config → (script : List ScriptCall) (told : List Told) (text : List ℕ) → calls_told told ≡ dealt_to (session_count config) (to_be_told script)
-    → IsTextOf c (map told_of told) text
-    → IsOfOneHistory c config.limit (map told_of told) → IsTranscript config c (map called script) (record { text = text; verdict = verdicts.Good })
-transcript_of config c sizes script told text dealt written one =
+-- what a run of these calls gives back
+abbrev pub GivesRun : Config → CatalogueView → Bool → List Called → Left → Type 0
+GivesRun config c timed calls left =
+    (t : IsTranscript config c calls (record { text = left.written.transcript.items; verdict = verdicts.Good })) × IsHistoryIf timed t.told left.written.history.items
+    × (left.state ≡ state_behind c t.of_one.history) × AreCounted t.told left.written.counts
+
+pub run_of : (config : Config) (c : CatalogueView) (timed : Bool) → IsConfig config → (script : List ScriptCall) (left : Left) → IsLeft config c timed script left → GivesRun config c timed (map called script) left
+run_of config c timed sizes script left is =
     let calls = map called script in
     let n = session_count config in
-    let asked = map told_of told in
-    let lines = written.0 in
-    let each = so told (dealt_to n calls) (dealt ∙ ap (dealt_to n) (sym (twice script)) ∙ dealt_map (λ c. Some c) n 0 n calls) in
+    let asked = map told_of is.told in
+    let lines = map told_of is.written.lines in
+    let same = IsPermutation-map told_of is.told is.written.lines is.written.same in
+    let each = so is.told (dealt_to n calls) (is.in_turn ∙ ap (dealt_to n) (sym (twice script)) ∙ dealt_map (λ c. Some c) n 0 n calls) in
     let in_turn = each.0 in
     let all = subst (IsPermutation calls) (sym in_turn) (each_once n calls (some_session config sizes)) in
-    record {
-      asked = asked;
-      in_turn = in_turn;
-      suited = each.1;
-      told = lines;
-      same = written.1;
-      ordered = written.2;
-      is = ap (λ t. record { text = t; verdict = verdicts.Good }) written.3;
-      of_one = in_order c config.limit asked lines written.1 one;
-      each_once = IsPermutation-trans calls (calls_of asked) (calls_of lines) all (IsPermutation-map (λ t. t.call) asked lines written.1);
-    }
+    let one = in_order c config.limit left.state asked lines same is.ends.0 is.ends.1 in (
+      record {
+        asked = asked;
+        in_turn = in_turn;
+        suited = each.1;
+        told = lines;
+        same = same;
+        ordered = is.written.ordered;
+        is = ap (λ t. record { text = t; verdict = verdicts.Good }) is.written.transcript;
+        of_one = one.0;
+        each_once = IsPermutation-trans calls (calls_of asked) (calls_of lines) all (IsPermutation-map (λ t. t.call) asked lines same);
+      },
+      is.written.history,
+      one.1,
+      is.written.counts,
+    )
 
--- the same where memory was left
-module _ {V T E : Type 0} (items : V → List Told) (bytes : T → List ℕ) (config : Config) (c : CatalogueView) (script : List ScriptCall) where
-  pub told_text : (told : Result V E) (text : Result T E) → IfOk told (λ v. calls_told (items v) ≡ dealt_to (session_count config) (to_be_told script))
-      → IfOk told (λ v. IsOfOneHistory c config.limit (map told_of (items v)))
-      → IfOk text (λ t. MatchResult told (λ v. IsTextOf c (map told_of (items v)) (bytes t)) (λ _. ⊥)) → IfOk text (λ t. IsToldText config c script (bytes t))
-  told_text told (Err e) dealt one written = tt
-  told_text (Err e) (Ok t) dealt one written = absurd written
-  told_text (Ok v) (Ok t) dealt one written = (items v, dealt, one, written)
+-- what is left of a store, where memory was left
+module _ {V E : Type 0} (items : V → List Told) (config : Config) (c : CatalogueView) (timed : Bool) (script : List ScriptCall) where
+  pub is_left : (told : Result V E) (left : Left) → IfOk told (λ v. calls_told (items v) ≡ dealt_to (session_count config) (to_be_told script))
+      → IfOk told (λ v. EndsIn c config.limit left.state (items v)) → MatchResult told (λ v. IsWritten c timed (items v) left.written) (λ _. ⊥)
+      → IsLeft config c timed script left
+  is_left (Err e) left dealt ends written = absurd written
+  is_left (Ok v) left dealt ends written = record { told = items v; in_turn = dealt; written = written; ends = ends }

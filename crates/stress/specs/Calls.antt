@@ -16,8 +16,9 @@ use Rattle.console.specs.Script.{ProgramCall, Meaning, Comment, Call, InvokeAt, 
 use Rattle.stress.specs.declared.calls.Asked.{Asked}
 use Rattle.stress.specs.declared.calls.Asked.TheVariants as asks
 
--- a call: what it asks for, and HEX, the digits of its bytes
+-- a call: the number of its line in the script, what it asks for, and HEX, the digits of its bytes
 pub record Called : Type 0 where
+  pub line : ℕ
   pub asked : Asked
   pub digits : List ℕ
 
@@ -65,22 +66,22 @@ behind (Some fields) = fields.1
 abbrev pub behind_field : List ℕ → List ℕ
 behind_field text = behind (split_at_space text)
 
--- the call of a line that asks for this
-abbrev pub one_call : List ℕ → Option Asked → Option (List Called)
-one_call digits asked = option_map (λ a. record { asked = a; digits = digits } ∷ []) asked
+-- the call of line n that asks for this
+abbrev pub one_call : ℕ → List ℕ → Option Asked → Option (List Called)
+one_call n digits asked = option_map (λ a. record { line = n; asked = a; digits = digits } ∷ []) asked
 
--- the calls of a line, NAME HEX, invoke K HEX, read K HEX, or install MODE ARGLEN HEX: none for a comment or an empty line; a line that
+-- the calls of line n, NAME HEX, invoke K HEX, read K HEX, or install MODE ARGLEN HEX: none for a comment or an empty line; a line that
 -- no session could be asked for is bad
-abbrev pub calls_said : CatalogueView → List ℕ → Option Meaning → Option (List Called)
-calls_said c line None = None
-calls_said c line (Some Comment) = Some []
-calls_said c line (Some (Call call)) = one_call (behind_field line) (program_named c call)
-calls_said c line (Some (InvokeAt call)) = one_call (behind_field (behind_field line)) (asked_with c call.argument (asks.Run Update call.program))
-calls_said c line (Some (ReadAt call)) = one_call (behind_field (behind_field line)) (asked_with c call.argument (asks.Run Read call.program))
-calls_said c line (Some (Install new)) = one_call (behind_field (behind_field (behind_field line))) (asked_install c new)
+abbrev pub calls_said : CatalogueView → ℕ → List ℕ → Option Meaning → Option (List Called)
+calls_said c n line None = None
+calls_said c n line (Some Comment) = Some []
+calls_said c n line (Some (Call call)) = one_call n (behind_field line) (program_named c call)
+calls_said c n line (Some (InvokeAt call)) = one_call n (behind_field (behind_field line)) (asked_with c call.argument (asks.Run Update call.program))
+calls_said c n line (Some (ReadAt call)) = one_call n (behind_field (behind_field line)) (asked_with c call.argument (asks.Run Read call.program))
+calls_said c n line (Some (Install new)) = one_call n (behind_field (behind_field (behind_field line))) (asked_install c new)
 
-abbrev pub line_calls : CatalogueView → List ℕ → Option (List Called)
-line_calls c line = calls_said c line (line_meaning line)
+abbrev pub line_calls : CatalogueView → ℕ → List ℕ → Option (List Called)
+line_calls c n line = calls_said c n line (line_meaning line)
 
 -- ---- a script
 
@@ -97,4 +98,4 @@ by_line n rest (Some calls) = before calls rest
 -- the calls of the lines from number n on, or the number of the first bad one
 unfoldable pub script_calls : CatalogueView → ℕ → List (List ℕ) → Result (List Called) ℕ
 script_calls c n [] = Ok []
-script_calls c n (l ∷ ls) = by_line n (script_calls c (next_line n) ls) (line_calls c l)
+script_calls c n (l ∷ ls) = by_line n (script_calls c (next_line n) ls) (line_calls c n l)

@@ -1,7 +1,7 @@
 -- The lines of a transcript.
 use Rattle.std.specs.Prelude.{◌≡◌, ℕ, ◌+◌, ◌*◌, ◌^◌, Bool, true, false, List, ◌++◌, Option, Some, None, codes, decimal, slice_get}
 use Rattle.std.specs.List.{flat_map}
-use Rattle.std.specs.List.Sorted.{IsNonDecreasingBy, IsPermutation}
+use Rattle.std.specs.List.Sorted.{IsNonDecreasingBy}
 use Rattle.verifier.specs.declared.refusal.Mode.{Mode}
 use Rattle.verifier.specs.declared.refusal.Mode.TheVariants.{Update, Read}
 use Rattle.loader.specs.CatalogueView.{CatalogueView, Entry}
@@ -75,7 +75,3 @@ told_text c t = said_text c t.call t.said
 
 abbrev pub transcript_text : CatalogueView → List ToldCall → List ℕ
 transcript_text c told = flat_map (told_text c) told
-
--- the lines of these calls, each once, in their order
-abbrev pub IsTextOf : CatalogueView → List ToldCall → List ℕ → Type 0
-IsTextOf c told text = (lines : List ToldCall) × IsPermutation told lines × AreOrdered lines × (text ≡ transcript_text c lines)

@@ -1,7 +1,9 @@
 -- What is kept while sessions make their calls. Clauses of private functions alone cite this.
-use Rattle.std.specs.Prelude.{◌≡◌, ◌⊎◌, ℕ, ◌-◌, ◌<◌, ◌≤◌, List, [], ◌∷◌, ◌++◌, map, length, slice_index_or, Option, Some, None, Result, Ok, Err, IfOk, Vec}
+use Rattle.std.specs.Prelude.{◌≡◌, ◌⊎◌, ℕ, Bool, ◌-◌, ◌<◌, ◌≤◌, List, [], ◌∷◌, ◌++◌, map, length, slice_index_or, Option, Some, None, Result, Ok, Err, IfOk, Vec}
 use Rattle.std.specs.List.{All}
+use Rattle.std.specs.List.Sorted.{IsPermutation}
 use Rattle.loader.specs.CatalogueView.{CatalogueView}
+use Rattle.loader.specs.StoreState.{StoreState}
 use Rattle.text.specs.Digits.{field_bytes}
 use Rattle.text.specs.declared.lines.TheConstants.{LINE_BYTES}
 use Rattle.replica.specs.declared.refusals.StoreRefused.{StoreRefused}
@@ -24,11 +26,15 @@ use Rattle.oplog.specs.Operations.{Operation}
 use Rattle.stress.specs.declared.lines.Told.{Told}
 use Rattle.stress.specs.declared.lines.Said.{Said}
 use Rattle.stress.specs.declared.lines.Said.TheVariants as told
+use Rattle.stress.specs.declared.lines.Written.{Written}
+use Rattle.stress.specs.declared.sharing.Left.{Left}
 use Rattle.oplog.specs.declared.configuration.Config.{Config}
-use Rattle.stress.specs.Lines.{ToldCall, IsTextOf}
+use Rattle.stress.specs.Lines.{ToldCall, AreOrdered, transcript_text}
+use Rattle.stress.specs.Timed.{IsHistoryIf, AreCounted}
 use Rattle.stress.specs.OneHistory.{IsSo, IsOfOneHistory, lines_at}
 use Rattle.stress.specs.Shown.{TellsCalls, calls_told, to_be_told, told_of}
 use Rattle.stress.specs.StressAnswer.{session_count}
+use Rattle.stress.specs.Runs.{state_behind}
 
 -- no session of a store of this catalogue is refused this call before it is made
 pub record IsReady (c : CatalogueView) (call : ScriptCall) : Type 0 where
@@ -59,7 +65,7 @@ abbrev pub AreNumbered : List SessionView → Type 0
 AreNumbered sessions = (k : ℕ) (d : SessionView) → k < length sessions → (slice_index_or sessions k d).session ≡ k
 
 -- the calls that the session of this number makes, as they are to be told
-abbrev pub calls_for : {G : Type 0} → Playground G → ℕ → List (Option Called)
+abbrev pub calls_for : {G C : Type 0} → Playground G C → ℕ → List (Option Called)
 calls_for shared number = dealt shared.sessions number (to_be_told shared.calls.now)
 
 -- these players have the last of n sessions, the last one first
@@ -136,11 +142,27 @@ abbrev pub AreTold : List SessionView → List Told → Type 0
 AreTold sessions told =
     (l : Progress CatalogueView) → ((k : ℕ) (s : SessionView) → At k s sessions → Extends s.progress l × (s.session ≡ k)) → AreToldIn l sessions told
 
--- the text is the transcript of what the sessions of a store of these sizes and this catalogue were told of these calls, by one history
-abbrev pub IsToldText : Config → CatalogueView → List ScriptCall → List ℕ → Type 0
-IsToldText config c calls text =
-    (told : List Told) × (calls_told told ≡ dealt_to (session_count config) (to_be_told calls))
-    × IsOfOneHistory c config.limit (map told_of told) × IsTextOf c (map told_of told) text
+-- ---- what is left
+
+-- what is written of these calls, in the order of their lines
+pub record IsWritten (c : CatalogueView) (timed : Bool) (told : List Told) (w : Written) : Type 0 where
+  pub lines : List Told
+  pub same : IsPermutation told lines
+  pub ordered : AreOrdered (map told_of lines)
+  pub transcript : w.transcript.items ≡ transcript_text c (map told_of lines)
+  pub history : IsHistoryIf timed (map told_of lines) w.history.items
+  pub counts : AreCounted (map told_of lines) w.counts
+
+-- one history is behind these calls, and this is the state after it
+abbrev pub EndsIn : CatalogueView → ℕ → StoreState → List Told → Type 0
+EndsIn c limit state told = (of_one : IsOfOneHistory c limit (map told_of told)) × (state ≡ state_behind c of_one.history)
+
+-- what the sessions of a store of these sizes and this catalogue were told of these calls, in what is left of it
+pub record IsLeft (config : Config) (c : CatalogueView) (timed : Bool) (calls : List ScriptCall) (left : Left) : Type 0 where
+  pub told : List Told
+  pub in_turn : calls_told told ≡ dealt_to (session_count config) (to_be_told calls)
+  pub written : IsWritten c timed told left.written
+  pub ends : EndsIn c config.limit left.state told
 
 abbrev pub IsNewPlayer : StoreView → Player → Type 0
 IsNewPlayer store p = IsNew store p.session

@@ -11,9 +11,10 @@ use Rattle.stress.specs.declared.lines.Said.TheVariants as told
 use Rattle.stress.specs.Calls.{Called, told_as}
 use Rattle.stress.specs.Lines as said
 use Rattle.stress.specs.Lines.{ToldCall, suits}
+use Rattle.stress.specs.Timed.{Timed}
 
 abbrev pub called : ScriptCall → Called
-called c = record { asked = c.asked; digits = c.digits.now }
+called c = record { line = c.line; asked = c.asked; digits = c.digits.now }
 
 -- the calls of a line; a bad one has none
 abbrev pub calls_in : LineCall → Option (List Called)
@@ -35,6 +36,10 @@ said_of told.Ended = said.Ended
 
 abbrev pub told_of : Told → ToldCall
 told_of t = record { call = called t.call.now; said = said_of t.said }
+
+-- the same, and when the call was made
+abbrev pub timed_of : Told → Timed
+timed_of t = record { told = told_of t; session = t.noted.session; begun = t.noted.begun; ended = t.noted.ended }
 
 -- the call of a told one, if what was said suits it
 abbrev pub told_call : Told → Option Called

@@ -29,6 +29,8 @@ pub(crate) enum Asked {
 // A call that no session is refused.
 #[derive(Clone, Copy)]
 pub(crate) struct ScriptCall<'a> {
+    // The number of the line that it stands on.
+    pub line: u32,
     pub asked: Asked,
     // HEX, as it stands in the script.
     pub digits: &'a str,
@@ -98,41 +100,55 @@ fn behind_field(text: &str) -> &str
     }
 }
 
-// The call of a line with these digits that asks for this.
-fn one_call<'a>(digits: &'a str, asked: Option<Asked>) -> LineCall<'a>
-    ensures said { calls_in result ≡ one_call digits.entry.now asked }
-    ensures ready { (c : CatalogueView) → IfSome asked (λ a. IsReady c (record { asked = a; digits = digits.entry })) → IsReadyLine c result }
+// The call of the line of this number, with these digits, that asks for this.
+fn one_call<'a>(number: u32, digits: &'a str, asked: Option<Asked>) -> LineCall<'a>
+    ensures said { calls_in result ≡ one_call number digits.entry.now asked }
+    ensures ready { (c : CatalogueView) → IfSome asked (λ a. IsReady c (record { line = number; asked = a; digits = digits.entry }))
+        → IsReadyLine c result }
 {
     match asked {
         None => LineCall::Bad,
-        Some(asked) => LineCall::Call(ScriptCall { asked, digits }),
+        Some(asked) => LineCall::Call(ScriptCall {
+            line: number,
+            asked,
+            digits,
+        }),
     }
 }
 
-// What a line says. The room is one for programs of the catalogue's maps.
-fn call_of_line<'a>(catalogue: &Catalogue, room: &mut Installed, line: &'a str) -> LineCall<'a>
+// What the line of this number says. The room is one for programs of the catalogue's maps.
+fn call_of_line<'a>(
+    catalogue: &Catalogue,
+    room: &mut Installed,
+    number: u32,
+    line: &'a str,
+) -> LineCall<'a>
     requires room { IsRoomFor catalogue.now.shapes room.old }
     ensures room { IsRoomFor catalogue.now.shapes room.new }
-    ensures said { calls_in result ≡ line_calls catalogue.now line.now }
+    ensures said { calls_in result ≡ line_calls catalogue.now number line.now }
     ensures ready { IsReadyLine catalogue.now result }
 {
     match read_line(line) {
         None => LineCall::Bad,
         Some(ScriptLine::Comment) => LineCall::Comment,
         Some(ScriptLine::Call(call)) => {
-            one_call(behind_field(line), program_named(catalogue, &call))
+            one_call(number, behind_field(line), program_named(catalogue, &call))
         }
         Some(ScriptLine::InvokeAt(call)) => {
             let asked = program_numbered(catalogue, Mode::Update, &call);
-            one_call(behind_field(behind_field(line)), asked)
+            one_call(number, behind_field(behind_field(line)), asked)
         }
         Some(ScriptLine::ReadAt(call)) => {
             let asked = program_numbered(catalogue, Mode::Read, &call);
-            one_call(behind_field(behind_field(line)), asked)
+            one_call(number, behind_field(behind_field(line)), asked)
         }
         Some(ScriptLine::Install(text)) => {
             let asked = program_installed(room, &text);
-            one_call(behind_field(behind_field(behind_field(line))), asked)
+            one_call(
+                number,
+                behind_field(behind_field(behind_field(line))),
+                asked,
+            )
         }
     }
 }
@@ -150,7 +166,7 @@ pub(crate) fn read_calls<'a>(
     let mut calls = Vec::new(alloc);
     let mut lines = NumberedLines::new(script);
     while let Some((number, line)) = lines.take_line() {
-        match call_of_line(catalogue, &mut room, line) {
+        match call_of_line(catalogue, &mut room, number, line) {
             LineCall::Bad => return Ok(ScriptCalls::Bad(number)),
             LineCall::Comment => {}
             LineCall::Call(call) => calls.push(call)?,

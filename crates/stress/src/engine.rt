@@ -14,6 +14,7 @@ ghost use Rattle.stress.specs.Playing.{IsReady};
 use crate::calls::{ScriptCall, ScriptCalls, read_calls};
 use crate::gate::Gate;
 use crate::sharing::tell_all;
+use crate::watching::{NoClock, Watch};
 use console::{
     Folder, InputFault, Loaded, Reply, Sink, Source, Status, Verdict, bad_line, read_inputs,
     report, sizes_refused,
@@ -50,8 +51,13 @@ fn calls_reply<R: Threads + Wait + Sync, F: Folder, G: Gate + Sync>(
     requires ready { All (IsReady catalogue) calls.now }
     ensures { IfOk result (λ r. IsTranscript trial.now.config catalogue (map called calls.now) (answer_of r)) }
 {
+    let watch = Watch {
+        history: false,
+        clock: None::<&NoClock>,
+    };
+    let left = tell_all(rt, trial, &watch, catalogue, None, calls)?;
     Ok(Reply {
-        text: tell_all(rt, trial, catalogue, calls)?,
+        text: left.written.transcript,
         verdict: Verdict::Good,
     })
 }

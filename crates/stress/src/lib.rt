@@ -6,7 +6,11 @@ mod engine;
 mod gate;
 mod lines;
 mod players;
+mod runs;
 mod sharing;
+mod watching;
 
 pub use engine::{Trial, stress};
 pub use gate::{Gate, OpenGate};
+pub use runs::{Stressed, stress_on};
+pub use watching::{Counts, Watch};

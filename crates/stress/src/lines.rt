@@ -1,11 +1,15 @@
 // The lines of the transcript.
 
-ghost use Rattle.std.specs.Prelude.{◌≡◌, ◌++◌, map, slice_get, OnOk, IfOk};
+ghost use Rattle.std.specs.Prelude.{◌≡◌, ◌++◌, map, filter, length, slice_get, OnOk, IfOk};
+ghost use Rattle.std.specs.List.{flat_map};
 ghost use Rattle.loader.specs.Spelling.{mode_word};
-ghost use Rattle.stress.specs.Lines.{IsTextOf, rank, name_or, asked_text, call_text, update_letter, answered_text, told_text};
-ghost use Rattle.stress.specs.Shown.{called, said_of, told_of};
+ghost use Rattle.stress.specs.Lines.{rank, name_or, asked_text, call_text, update_letter, answered_text, told_text, transcript_text};
+ghost use Rattle.stress.specs.Timed.{AreCounted, IsHistoryIf, timed_text, history_text, is_updated, is_seen, is_ended};
+ghost use Rattle.stress.specs.Shown.{called, said_of, told_of, timed_of};
+ghost use Rattle.stress.specs.Playing.{IsWritten};
 
 use crate::calls::{Asked, ScriptCall};
+use crate::watching::{Counts, Noted};
 use console::{put_number, put_numbered};
 use loader::Catalogue;
 use readpath::ReadAnswer;
@@ -21,11 +25,20 @@ pub(crate) enum Said {
     Ended,
 }
 
-// A call, and what its session is told.
+// A call, what its session is told, and what was noted.
 #[derive(Clone, Copy)]
 pub(crate) struct Told<'a> {
     pub call: &'a ScriptCall<'a>,
     pub said: Said,
+    pub noted: Noted,
+}
+
+// What is written of the calls, and how many there are.
+#[derive(Drop)]
+pub(crate) struct Written {
+    pub transcript: Vec<u8>,
+    pub history: Vec<u8>,
+    pub counts: Counts,
 }
 
 // Where a line stands: an update at its index, a read behind the updates that it has seen and before the others, and what has ended
@@ -137,18 +150,120 @@ fn put_told(out: &mut Vec<u8>, catalogue: &Catalogue, told: &Told) -> Result<(),
     }
 }
 
-// The transcript: the calls in the order of their indexes, those of one index in the order in which they come.
-pub(crate) fn transcript(
+// The lines of the calls.
+fn transcript_text(
     alloc: Global,
     catalogue: &Catalogue,
-    mut told: Vec<Told<'_>>,
+    told: &[Told<'_>],
 ) -> Result<Vec<u8>, AllocError>
-    ensures { IfOk result (λ text. IsTextOf catalogue.now (map told_of told.entry.items) text.items) }
+    ensures { IfOk result (λ text. text.items ≡ transcript_text catalogue.now (map told_of told.now)) }
 {
-    told.sort_by_key(|t| rank(t.said))?;
     let mut out = Vec::new(alloc);
-    for one in &told {
+    for one in told {
         put_told(&mut out, catalogue, one)?;
     }
     Ok(out)
+}
+
+// The line SESSION LINE BEGIN END of a call.
+fn put_timed(out: &mut Vec<u8>, told: &Told) -> Result<(), AllocError>
+    ensures { OnOk result (out.new.items ≡ out.old.items ++ timed_text (timed_of told.now)) }
+{
+    let Noted {
+        session,
+        begun,
+        ended,
+        ..
+    } = told.noted;
+    put_number(out, session)?;
+    put_numbered(out, b" ", told.call.line as u64)?;
+    put_numbered(out, b" ", begun)?;
+    put_numbered(out, b" ", ended)?;
+    out.extend_from_slice(b"\n")
+}
+
+// The lines of a history.
+fn history_text(alloc: Global, told: &[Told<'_>]) -> Result<Vec<u8>, AllocError>
+    ensures { IfOk result (λ text. text.items ≡ history_text (map timed_of told.now)) }
+{
+    let mut out = Vec::new(alloc);
+    for one in told {
+        put_timed(&mut out, one)?;
+    }
+    Ok(out)
+}
+
+// The history, if it is wanted.
+fn history_if(alloc: Global, timed: bool, told: &[Told<'_>]) -> Result<Vec<u8>, AllocError>
+    ensures { IfOk result (λ text. IsHistoryIf timed (map told_of told.now) text.items) }
+{
+    if timed {
+        history_text(alloc, told)
+    } else {
+        Ok(Vec::new(alloc))
+    }
+}
+
+// How many of these calls were told an index.
+fn updates_in(told: &[Told<'_>]) -> u64
+    ensures { result ≡ length (filter (λ t. is_updated (said_of t.said)) told.now) }
+{
+    let updates = told.iter().filter(|t| matches!(t.said, Said::Updated(_)));
+    updates.count() as u64
+}
+
+// How many of them are reads.
+fn reads_in(told: &[Told<'_>]) -> u64
+    ensures { result ≡ length (filter (λ t. is_seen (said_of t.said)) told.now) }
+{
+    let reads = told.iter().filter(|t| matches!(t.said, Said::Seen(_)));
+    reads.count() as u64
+}
+
+// How many of them were told that the history has ended.
+fn ended_in(told: &[Told<'_>]) -> u64
+    ensures { result ≡ length (filter (λ t. is_ended (said_of t.said)) told.now) }
+{
+    let ended = told.iter().filter(|t| matches!(t.said, Said::Ended));
+    ended.count() as u64
+}
+
+// The longest wait of these calls, in nanoseconds.
+fn longest_wait(told: &[Told<'_>]) -> u64 {
+    let mut longest = 0;
+    for one in told {
+        longest = one.noted.waited.max(longest);
+    }
+    longest
+}
+
+// How many calls these are, which took so long all together.
+fn counted(told: &[Told<'_>], nanoseconds: u64) -> Counts
+    ensures { AreCounted (map told_of told.now) result }
+{
+    Counts {
+        updates: updates_in(told),
+        reads: reads_in(told),
+        ended: ended_in(told),
+        nanoseconds,
+        longest_wait: longest_wait(told),
+    }
+}
+
+// What is written of the calls in the order of their indexes, those of one index in the order in which they come.
+pub(crate) fn write_told(
+    alloc: Global,
+    catalogue: &Catalogue,
+    timed: bool,
+    mut told: Vec<Told<'_>>,
+    nanoseconds: u64,
+) -> Result<Written, AllocError>
+    ensures { IfOk result (IsWritten catalogue.now timed told.entry.items) }
+{
+    told.sort_by_key(|t| rank(t.said))?;
+    Ok(Written {
+        transcript: transcript_text(alloc, catalogue, &told)?,
+        history: history_if(alloc, timed, &told)?,
+        counts: counted(&told, nanoseconds),
+    })
 }

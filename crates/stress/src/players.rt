@@ -8,18 +8,25 @@ ghost use Rattle.stress.specs.Playing.{IsReady, IsAsked, IsTold, IsToldPlayer, c
 use crate::calls::{Asked, ScriptCall};
 use crate::gate::Gate;
 use crate::lines::{Said, Told};
+use crate::watching::{Noted, nanoseconds_since, tick, time};
 use std::alloc::{AllocError, Global};
+use std::rt::Clock;
 use std::sync::Wait;
+use std::sync::atomic::AtomicU64;
 use store::{Answer, Session, Store, StoreRefused};
 use text::hex_field;
 use verifier::Mode;
 
 // What all threads share.
 #[derive(Drop)]
-pub(crate) struct Playground<'s, 'a, G> {
+pub(crate) struct Playground<'s, 'a, G, C> {
     pub alloc: Global,
     pub store: &'s Store,
     pub gate: &'s G,
+    // What numbers the beginnings and ends of calls, where they are numbered.
+    pub counter: Option<&'s AtomicU64>,
+    // What times calls, where they are timed.
+    pub clock: Option<&'s C>,
     pub calls: &'a [ScriptCall<'a>],
     // How many sessions there are.
     pub sessions: usize,
@@ -41,7 +48,7 @@ fn update_said(answer: Result<Answer, StoreRefused>) -> Said
     }
 }
 
-// Makes one call.
+// Makes one call. Nothing is noted.
 fn ask<'a, R: Wait>(
     rt: &R,
     store: &Store,
@@ -70,7 +77,47 @@ fn ask<'a, R: Wait>(
             update_said(session.install(rt, store, mode, arg_len, bytes))
         }
     };
-    Told { call, said }
+    Told {
+        call,
+        said,
+        noted: Noted {
+            session: 0,
+            begun: 0,
+            ended: 0,
+            waited: 0,
+        },
+    }
+}
+
+// Makes one call as the session of this number, and notes it.
+fn ask_noted<'a, R: Wait, G, C: Clock>(
+    rt: &R,
+    ground: &Playground<'_, 'a, G, C>,
+    session: &mut Session,
+    number: usize,
+    call: &'a ScriptCall<'a>,
+) -> Told<'a>
+    requires own { IsOf ground.now.store.now session.old }
+    requires ready { IsReady ground.now.store.now.catalogue call.now }
+    ensures own { IsOf ground.now.store.now session.new }
+    ensures call { told_call result ≡ Some (called call.now) }
+    ensures told { IsAsked session.old session.new result }
+{
+    let start = time(ground.clock);
+    let begun = tick(ground.counter);
+    let told = ask(rt, ground.store, session, call);
+    let ended = tick(ground.counter);
+    let noted = Noted {
+        session: number as u64,
+        begun,
+        ended,
+        waited: nanoseconds_since(ground.clock, start),
+    };
+    Told {
+        call: told.call,
+        said: told.said,
+        noted,
+    }
 }
 
 // The calls behind the first n.
@@ -82,9 +129,9 @@ fn behind<'a>(calls: &'a [ScriptCall<'a>], n: usize) -> &'a [ScriptCall<'a>]
 }
 
 // Makes the calls of the session of this number: those that are dealt to it.
-fn ask_all<'a, R: Wait, G: Gate>(
+fn ask_all<'a, R: Wait, G: Gate, C: Clock>(
     rt: &R,
-    ground: &Playground<'_, 'a, G>,
+    ground: &Playground<'_, 'a, G, C>,
     session: &mut Session,
     number: usize,
 ) -> Result<Vec<Told<'a>>, AllocError>
@@ -101,16 +148,16 @@ fn ask_all<'a, R: Wait, G: Gate>(
     let mut left = behind(ground.calls, number);
     while let Some((call, rest)) = left.split_first() {
         ground.gate.before(number as u64);
-        told.push(ask(rt, ground.store, session, call))?;
+        told.push(ask_noted(rt, ground, session, number, call))?;
         left = behind(rest, ground.sessions - 1);
     }
     Ok(told)
 }
 
 // Lets the session of this number make its calls.
-pub(crate) fn play<'a, R: Wait, G: Gate>(
+pub(crate) fn play<'a, R: Wait, G: Gate, C: Clock>(
     rt: &R,
-    ground: &Playground<'_, 'a, G>,
+    ground: &Playground<'_, 'a, G, C>,
     number: usize,
     player: &mut Player<'a>,
 )

@@ -1,29 +1,42 @@
 // One store for all threads: it is opened, each session makes its calls on a thread of its own, and it is closed.
 
-ghost use Rattle.std.specs.Prelude.{◌≡◌, ◌-◌, ◌*◌, ◌≤◌, ◌<◌, ◌++◌, List, [], length, None, Option, All, map, IfOk, MatchResult, vec_capacity};
+ghost use Rattle.std.specs.Prelude.{◌≡◌, ◌-◌, ◌*◌, ◌≤◌, ◌<◌, ◌++◌, List, [], length, None, Some, Option, All, IfOk, IfSome, MatchResult, vec_capacity};
+ghost use Rattle.loader.specs.CatalogueView.{MayOpenOn, OpensOn};
+ghost use Rattle.loader.specs.StoreState.{with_room};
 ghost use Rattle.oplog.specs.Limits.{IsConfig};
-ghost use Rattle.store.specs.Opening.{ClosedView, IsClosed};
+ghost use Rattle.store.specs.Opening.{ClosedView, IsClosed, last_state};
 ghost use Rattle.store.specs.Sessions.{IsOf, StoreView};
 ghost use Rattle.stress.specs.Calls.{Called};
 ghost use Rattle.stress.specs.Dealt.{dealt_to};
-ghost use Rattle.stress.specs.Lines.{IsTextOf};
-ghost use Rattle.stress.specs.Shown.{TellsCalls, to_be_told, told_of};
-ghost use Rattle.stress.specs.Playing.{IsReady, AreIn, AreLast, AreNew, AreNumbered, AreTold, IsNew, IsNewPlayer, IsPlaying, IsToldPlayer, IsToldText, TellTheirs, TellsAll, calls_for};
+ghost use Rattle.stress.specs.Shown.{TellsCalls, to_be_told};
+ghost use Rattle.stress.specs.Playing.{IsReady, AreIn, AreLast, AreNew, AreNumbered, AreTold, IsNew, IsNewPlayer, IsPlaying, IsToldPlayer, IsLeft, IsWritten, TellTheirs, TellsAll, calls_for};
 
 use crate::calls::ScriptCall;
 use crate::engine::Trial;
 use crate::gate::Gate;
-use crate::lines::{Told, transcript};
+use crate::lines::{Told, Written, write_told};
 use crate::players::{Player, Playground, play};
-use loader::Catalogue;
+use crate::watching::{Watch, nanoseconds_since, time};
+use loader::{Catalogue, StoreState};
 use oplog::{Config, OpenError};
 use std::alloc::{AllocError, Global};
+use std::rt::Clock;
 use std::sync::Wait;
+use std::sync::atomic::AtomicU64;
 use std::thread;
 use std::thread::Threads;
 use store::{Session, Store};
 
-// A store of these sizes, with a session for each slot of each node.
+// What is left of a store.
+#[derive(Drop)]
+pub(crate) struct Left {
+    // What is written of its calls.
+    pub written: Written,
+    // The state that it ended in.
+    pub state: StoreState,
+}
+
+// A new store of these sizes, with a session for each slot of each node.
 fn open(
     alloc: Global,
     config: Config,
@@ -44,13 +57,60 @@ fn open(
     }
 }
 
-// Ends the store, once all its sessions are back.
-fn close(store: Store, sessions: Vec<Session>)
+// The same on a state that the catalogue may open on, and opens on.
+fn open_on(
+    alloc: Global,
+    config: Config,
+    catalogue: Catalogue,
+    state: &StoreState,
+) -> Result<(Store, Vec<Session>), AllocError>
+    requires config { IsConfig config }
+    requires places { catalogue.places ≡ config.spare }
+    requires fits { MayOpenOn catalogue state.now }
+    requires opens { catalogue.opening ≡ Some (with_room state.now catalogue.places) }
+    ensures catalogue { IfOk result (λ t. t.0.catalogue ≡ catalogue) }
+    ensures sizes { IfOk result (λ t. t.0.config ≡ config) }
+    ensures sessions { IfOk result (λ t. AreNew t.0 (config.nodes * config.slots) t.1.items) }
+{
+    match Store::open_on(alloc, config, catalogue, state) {
+        Ok(opened) => Ok(opened),
+        Err(OpenError::NoMemory) => Err(AllocError),
+        Err(OpenError::OutOfLimits) => unreachable!(),
+        Err(OpenError::OtherState) => unreachable!(),
+    }
+}
+
+// The store on a state, or on a new one.
+fn open_either(
+    alloc: Global,
+    config: Config,
+    catalogue: Catalogue,
+    state: Option<&StoreState>,
+) -> Result<(Store, Vec<Session>), AllocError>
+    requires config { IsConfig config }
+    requires places { catalogue.places ≡ config.spare }
+    requires fits { IfSome state (λ s. MayOpenOn catalogue s.now) }
+    requires opens { OpensOn catalogue state }
+    ensures catalogue { IfOk result (λ t. t.0.catalogue ≡ catalogue) }
+    ensures sizes { IfOk result (λ t. t.0.config ≡ config) }
+    ensures sessions { IfOk result (λ t. AreNew t.0 (config.nodes * config.slots) t.1.items) }
+{
+    match state {
+        None => open(alloc, config, catalogue),
+        Some(state) => open_on(alloc, config, catalogue, state),
+    }
+}
+
+// Ends the store, once all its sessions are back. The state that it ends in.
+fn close(store: Store, sessions: Vec<Session>) -> StoreState
     requires whole { AreIn store (store.config.nodes * store.config.slots) sessions.items }
-    ensures closed { (closed : ClosedView) × IsClosed store sessions.items closed }
+    ensures closed { (closed : ClosedView) × IsClosed store sessions.items closed × (result ≡ last_state closed) }
 {
     match store.close(sessions) {
-        Ok(closed) => drop(closed),
+        Ok(closed) => {
+            let (state, _) = closed.into_state();
+            state
+        }
         Err(_) => unreachable!(),
     }
 }
@@ -111,9 +171,9 @@ fn leave<'a>(
 }
 
 // Lets all players make their calls, each on a thread of its own.
-fn play_together<'a, R: Threads + Wait + Sync, G: Gate + Sync>(
+fn play_together<'a, R: Threads + Wait + Sync, G: Gate + Sync, C: Clock + Sync>(
     rt: &R,
-    ground: &Playground<'_, 'a, G>,
+    ground: &Playground<'_, 'a, G, C>,
     players: &mut [Player<'a>],
 )
     requires some { 0 < ground.now.sessions }
@@ -144,9 +204,9 @@ fn play_together<'a, R: Threads + Wait + Sync, G: Gate + Sync>(
 }
 
 // Lets all sessions make their calls, and gives them back. What they were told, session by session.
-fn play_all<'a, R: Threads + Wait + Sync, G: Gate + Sync>(
+fn play_all<'a, R: Threads + Wait + Sync, G: Gate + Sync, C: Clock + Sync>(
     rt: &R,
-    ground: &Playground<'_, 'a, G>,
+    ground: &Playground<'_, 'a, G, C>,
     sessions: &mut Vec<Session>,
     mut players: Vec<Player<'a>>,
 ) -> Result<Vec<Told<'a>>, AllocError>
@@ -166,46 +226,59 @@ fn play_all<'a, R: Threads + Wait + Sync, G: Gate + Sync>(
     told
 }
 
-// The transcript of what was told, if memory was left.
+// What is written of what was told, if memory was left.
 fn written(
     alloc: Global,
     catalogue: &Catalogue,
+    timed: bool,
     told: Result<Vec<Told<'_>>, AllocError>,
-) -> Result<Vec<u8>, AllocError>
-    ensures { IfOk result (λ text. MatchResult told.entry (λ v. IsTextOf catalogue.now (map told_of v.items) text.items) (λ _. ⊥)) }
+    nanoseconds: u64,
+) -> Result<Written, AllocError>
+    ensures { IfOk result (λ w. MatchResult told.entry (λ v. IsWritten catalogue.now timed v.items w) (λ _. ⊥)) }
 {
-    transcript(alloc, catalogue, told?)
+    write_told(alloc, catalogue, timed, told?, nanoseconds)
 }
 
-// Makes the calls on a new store, and closes it. The transcript of what the sessions were told.
-pub(crate) fn tell_all<R: Threads + Wait + Sync, F, G: Gate + Sync>(
+// Makes the calls on a store that opens on a state, or on a new one, and closes it. What is left of it.
+pub(crate) fn tell_all<R: Threads + Wait + Sync, F, G: Gate + Sync, C: Clock + Sync>(
     rt: &R,
     trial: &Trial<'_, F, G>,
+    watch: &Watch<'_, C>,
     catalogue: Catalogue,
+    state: Option<&StoreState>,
     calls: &[ScriptCall<'_>],
-) -> Result<Vec<u8>, AllocError>
+) -> Result<Left, AllocError>
     requires config { IsConfig trial.now.config }
     requires places { catalogue.places ≡ trial.now.config.spare }
-    requires nothing { catalogue.opening ≡ None }
+    requires fits { IfSome state (λ s. MayOpenOn catalogue s.now) }
+    requires opens { OpensOn catalogue state }
     requires ready { All (IsReady catalogue) calls.now }
-    ensures told { IfOk result (λ text. IsToldText trial.now.config catalogue calls.now text.items) }
+    ensures left { IfOk result (IsLeft trial.now.config catalogue watch.now.history calls.now) }
 {
     let (alloc, config) = (trial.alloc, trial.config);
     let count = (config.nodes * config.slots) as usize;
     let players = Vec::with_capacity(alloc, count)?;
-    let Ok((store, mut sessions)) = open(alloc, config, catalogue) else {
+    let Ok((store, mut sessions)) = open_either(alloc, config, catalogue, state) else {
         players.destroy_empty();
         return Err(AllocError);
     };
+    let counter = AtomicU64::new(0);
     let ground = Playground {
         alloc,
         store: &store,
         gate: trial.gate,
+        counter: if watch.history { Some(&counter) } else { None },
+        clock: watch.clock,
         calls,
         sessions: count,
     };
+    let start = time(watch.clock);
     let told = play_all(rt, &ground, &mut sessions, players);
-    let text = written(alloc, store.catalogue(), told);
-    close(store, sessions);
-    text
+    let nanoseconds = nanoseconds_since(watch.clock, start);
+    let written = written(alloc, store.catalogue(), watch.history, told, nanoseconds);
+    let state = close(store, sessions);
+    Ok(Left {
+        written: written?,
+        state,
+    })
 }

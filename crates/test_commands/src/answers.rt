@@ -1,6 +1,8 @@
 // What a command answers.
 
 use crate::files::Offered;
+use crate::states::{replay_on, run_on, serve_on};
+use crate::timing::timed;
 use console::{
     Notes, Setup, Status, Telling, assemble, check, disassemble, disassemble_slots, encode,
     explain, graph, replay, run, run_signed, schedule, serve,
@@ -50,7 +52,19 @@ fn sized(
     }
     if name == "serve" {
         let spare = text.parse::<u32>().ok()?;
-        return Some(serve(alloc, folder, spare, &mut manifest, &mut other, out));
+        let mut new_state: &[u8] = &[];
+        return Some(
+            serve(
+                alloc,
+                folder,
+                spare,
+                &mut manifest,
+                &mut new_state,
+                &mut other,
+                out,
+            )
+            .status,
+        );
     }
     if name != "schedule" {
         return None;
@@ -186,6 +200,18 @@ pub fn answer_to<R: Threads + Wait + Sync>(
     if command.starts_with("graph") {
         return Some(drawn(alloc, folder, command, text));
     }
+    if let Some(name) = command.strip_prefix("run:on:") {
+        return run_on(alloc, folder, name, text);
+    }
+    if let Some(name) = command.strip_prefix("serve:on:") {
+        return serve_on(alloc, folder, name, text);
+    }
+    if let Some(name) = command.strip_prefix("replay:on:") {
+        return replay_on(alloc, folder, name, text);
+    }
+    if command == "timed" {
+        return timed(alloc, folder, text);
+    }
     if command.starts_with("run") {
         return Some(ran(alloc, folder, command, text));
     }
@@ -208,7 +234,17 @@ pub fn answer_to<R: Threads + Wait + Sync>(
         }
         "serve" => {
             let mut input = folder.other;
-            serve(alloc, folder, 4, &mut text, &mut input, &mut out)
+            let mut new_state: &[u8] = &[];
+            serve(
+                alloc,
+                folder,
+                4,
+                &mut text,
+                &mut new_state,
+                &mut input,
+                &mut out,
+            )
+            .status
         }
         "assembled" => {
             let mut program = Vec::new(alloc);

@@ -4,7 +4,9 @@
 //!
 //! `file NAME TEXT` names a text, and `read PATH` the file of this path under its path, where `data/examples` is the repository's
 //! `examples`; `check MANIFEST`, `explain MANIFEST`, `explain:NAME MANIFEST`, `graph MANIFEST`, `graph:NAME MANIFEST`, `run MANIFEST | SCRIPT`, `run:signed ..`, `replay MANIFEST | TRANSCRIPT` and `replay:SPARE ..`,
-//! `serve MANIFEST | LINES` and `serve:SPARE ..`,
+//! `serve MANIFEST | LINES` and `serve:SPARE ..`, `run:on:NAME ..`, `serve:on:NAME ..` and `replay:on:NAME ..`, which begin on the state whose text has that name, or on a new
+//! one where none has it, the first two of which write the state that they leave behind a line `left`,
+//! `timed MANIFEST | TRANSCRIPT | HISTORY`, which is `replay --history`,
 //! `schedule:NODES:SLOTS:WINDOW:LIMIT MANIFEST | STEPS`, `stress:NODES:SLOTS:WINDOW:LIMIT MANIFEST | SCRIPT`, `stressed:..`, which is
 //! what `replay` answers to the transcript of such a `stress`, `told:schedule:..` and `told:replay:..`,
 //! which is what these tell on standard error, and `lanes:schedule:..`, the picture there, with `:SPARE` behind the limit or without (4), `asm TEXT`, `dis PROGRAM`, `dis:slots PROGRAM` and `encode CALLS` are commands; what stands
@@ -17,6 +19,8 @@ mod answers;
 mod comparing;
 mod files;
 mod spelling;
+mod states;
+mod timing;
 
 use answers::{Answer, answer_to};
 use comparing::is_same;

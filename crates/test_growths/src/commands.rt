@@ -91,8 +91,18 @@ pub fn ended<R: Threads + Wait + Sync>(
         }
         Command::Stress => stressed(rt, alloc, reads, out),
         Command::Serve => {
+            let mut new_state: &[u8] = &[];
             let mut input = Slow::new(SCRIPT, reads);
-            serve(alloc, &folder, 4, &mut manifest, &mut input, out)
+            let end = serve(
+                alloc,
+                &folder,
+                4,
+                &mut manifest,
+                &mut new_state,
+                &mut input,
+                out,
+            );
+            end.status
         }
     }
 }

@@ -5,6 +5,8 @@
 #[cfg(test)]
 mod desk;
 #[cfg(test)]
+mod left;
+#[cfg(test)]
 mod lock;
 #[cfg(test)]
 mod meeting;

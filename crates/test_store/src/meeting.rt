@@ -9,7 +9,7 @@ use stress::{Gate, Trial, stress};
 const BUMP: &[u8] =
     b"bf12000000000000 1851000000000000 0000000000000000 8500000001000000 1500050000000000 7906000000000000 0706000001000000 7b60000000000000 bf60000000000000 9500000000000000 b7000000ffffffff 9500000000000000";
 
-const MANIFEST: &[u8] = b"map array 8 16\nprogram bump update 4 bump.hex\n";
+pub(crate) const MANIFEST: &[u8] = b"map array 8 16\nprogram bump update 4 bump.hex\n";
 
 const SCRIPT: &[u8] =
     b"bump 00000000\nbump 00000000\nbump 00000000\nbump 00000000\nbump 00000000\nbump 00000000\nbump 00000000\nbump 00000000\n";
@@ -19,7 +19,7 @@ const TURNS: u64 = 10_000_000;
 
 // The folder of the one program.
 #[derive(Drop)]
-struct Programs;
+pub(crate) struct Programs;
 
 impl Folder for Programs {
     type File = &'static [u8];

@@ -1,6 +1,7 @@
 // The command `replay`.
 
-ghost use Rattle.std.specs.Prelude.{◌≡◌, ◌⊎◌, IfOk, None};
+ghost use Rattle.std.specs.Prelude.{◌≡◌, ◌⊎◌, IfOk};
+ghost use Rattle.loader.specs.CatalogueView.{OpensOn};
 ghost use Rattle.loader.specs.Loading.{Outcome};
 ghost use Rattle.text.specs.Lines.{lines_of};
 ghost use Rattle.console.specs.ReplayAnswer.{transcript_answer, nothing_replayed, placed_answer, replayed, IsReplayAnswer};
@@ -23,7 +24,7 @@ use crate::replaying::{ReplayEnd, Replaying};
 use crate::reporting::{Reply, report};
 use crate::status::Status;
 use crate::transfer::{Sink, Source};
-use loader::{Catalogue, MAX_PLACES};
+use loader::{Catalogue, MAX_PLACES, StoreState};
 use std::alloc::{AllocError, Global};
 
 // What is answered where a replay ended so.
@@ -36,18 +37,19 @@ fn end_reply(alloc: Global, end: ReplayEnd, replaying: &Replaying) -> Result<Rep
     Ok(Reply { text, verdict })
 }
 
-// What a catalogue's programs answer to a transcript.
-fn transcript_reply(
+// What a catalogue's programs answer to a transcript, on a copy of the state that is handed in, or on a new one.
+pub(crate) fn transcript_reply(
     alloc: Global,
     catalogue: &Catalogue,
+    opening: Option<&StoreState>,
     transcript: &str,
     notes: &mut Notes,
 ) -> Result<Reply, AllocError>
-    requires nothing { catalogue.now.opening ≡ None }
+    requires opens { OpensOn catalogue.now opening }
     ensures quiet { IsQuiet notes.old notes.new }
     ensures answered { IfOk result (λ r. answer_of r ≡ transcript_answer catalogue.now 1 nothing_replayed (lines_of transcript.now)) }
 {
-    let mut replaying = Replaying::open(alloc, catalogue)?;
+    let mut replaying = Replaying::open(alloc, catalogue, opening)?;
     let end = replaying.take_lines(catalogue, transcript);
     notes.tell_end(end)?;
     end_reply(alloc, end, &replaying)
@@ -69,7 +71,7 @@ fn placed_reply(
         return sizes_refused(alloc);
     }
     let catalogue = catalogue.with_places(places);
-    transcript_reply(alloc, &catalogue, transcript, notes)
+    transcript_reply(alloc, &catalogue, None, transcript, notes)
 }
 
 // What a manifest that was loaded and a transcript get.

@@ -8,8 +8,9 @@ ghost use Rattle.console.specs.Files.{SomeFile};
 ghost use Rattle.console.specs.Known.{IfRunKnown};
 ghost use Rattle.console.specs.Report.{answer_of, Failed, Prepares, Reports, ReportsSome};
 ghost use Rattle.console.specs.InputFaults.{IfCannotRead};
+ghost use Rattle.console.specs.KeptRun.{lines_left};
 ghost use Rattle.console.specs.Loaded.{LoadedIs};
-ghost use Rattle.console.specs.Running.{IsSteady, Follows, AnswersBehind};
+ghost use Rattle.console.specs.Running.{IsSteady, Follows, AnswersBehind, HasLeft};
 
 use crate::calls::take_line;
 use crate::catalogues::Loaded;
@@ -26,7 +27,7 @@ use std::alloc::{AllocError, Global};
 use text::{FIELD_BYTES, NumberedLines};
 
 // Runs the lines of a script up to the first bad one, and tells whether the script is good.
-fn take_lines(
+pub(crate) fn take_lines(
     node: &mut SingleNode,
     catalogue: &Catalogue,
     script: &str,
@@ -34,7 +35,9 @@ fn take_lines(
 ) -> Result<Verdict, AllocError>
     requires steady { IsSteady catalogue.now node.old }
     requires nothing { Follows catalogue.now [] node.old }
-    ensures { AnswersBehind out.old.items out.new.items result (lines_answer catalogue.now 1 [] (lines_of script.now)) }
+    ensures steady { IsSteady catalogue.now node.new }
+    ensures left { IfOk result (HasLeft catalogue.now node.new (lines_left catalogue.now [] (lines_of script.now))) }
+    ensures answered { AnswersBehind out.old.items out.new.items result (lines_answer catalogue.now 1 [] (lines_of script.now)) }
 {
     let mut room = [0; FIELD_BYTES];
     let mut lines = NumberedLines::new(script);
@@ -53,7 +56,7 @@ fn script_reply(alloc: Global, catalogue: Catalogue, script: &str) -> Result<Rep
     ensures { IfOk result (λ r. answer_of r ≡ script_answer catalogue script.now) }
 {
     let catalogue = catalogue.with_places(RUN_PLACES);
-    let mut node = SingleNode::open(alloc, &catalogue)?;
+    let mut node = SingleNode::open(alloc, &catalogue, None)?;
     let mut text = Vec::new(alloc);
     let verdict = take_lines(&mut node, &catalogue, script, &mut text)?;
     Ok(Reply { text, verdict })

@@ -16,8 +16,12 @@ use crate::status::Status;
 use crate::transfer::{Sink, Source};
 use std::alloc::{AllocError, Global};
 
-// What `run --signed` answers where `run` answers this.
-fn signed_reply(alloc: Global, plain: Reply) -> Result<Reply, AllocError>
+/// What `run --signed` answers where `run` answers this: the same, and beside each reply that is negative as a signed number, that number.
+///
+/// # Errors
+///
+/// The system has no memory left.
+pub fn signed(alloc: Global, plain: Reply) -> Result<Reply, AllocError>
     ensures { IfOk result (λ r. answer_of r ≡ signed_answer (answer_of plain)) }
 {
     let Reply { text, verdict } = plain;
@@ -37,7 +41,7 @@ pub fn run_signed_reply<F: Folder, R: Source, S: Source>(
     ensures some { IfOk result (λ r. IsSignedAnswer (answer_of r)) }
 {
     match run_reply(alloc, folder, manifest, script) {
-        Ok(plain) => Ok(signed_reply(alloc, plain)?),
+        Ok(plain) => Ok(signed(alloc, plain)?),
         Err(fault) => Err(fault),
     }
 }

@@ -21,14 +21,14 @@ returns-in-Some-Call-clause-ready c =
     let field = c.behind_field in
     let hex = call_hex line call (sym (means line c.in-Some-Call.field-0-is c.in-Some-Call.ensures)) in
     c.one_call.ensures.ready catalogue
-    (ready_call catalogue line call.argument (behind_field line) field.result c.program_named.result hex field.ensures.short field.ensures.behind c.program_named.ensures.ready)
+    (ready_call catalogue c.args.number line call.argument (behind_field line) field.result c.program_named.result hex field.ensures.short field.ensures.behind c.program_named.ensures.ready)
 
 pub returns-in-Some-InvokeAt-clause-said : goal.returns-in-Some-InvokeAt-clause-said
 returns-in-Some-InvokeAt-clause-said c =
     let line = c.args.line.now in
     let is = c.behind_field-in-Some-InvokeAt-2.ensures.behind ∙ ap behind_field c.behind_field-in-Some-InvokeAt.ensures.behind in
     let asked = c.program_numbered-asked in
-    line_said c.args.catalogue.now line _ _ _ asked.result _ _ (means line c.in-Some-InvokeAt.field-0-is c.in-Some-InvokeAt.ensures) c.one_call-in-Some-InvokeAt.ensures.said is asked.ensures.asked refl
+    line_said c.args.catalogue.now c.args.number line _ _ _ asked.result _ _ (means line c.in-Some-InvokeAt.field-0-is c.in-Some-InvokeAt.ensures) c.one_call-in-Some-InvokeAt.ensures.said is asked.ensures.asked refl
 
 pub returns-in-Some-InvokeAt-clause-ready : goal.returns-in-Some-InvokeAt-clause-ready
 returns-in-Some-InvokeAt-clause-ready c =
@@ -43,14 +43,14 @@ returns-in-Some-InvokeAt-clause-ready c =
     let hex = invoke_hex line call (sym (means line c.in-Some-InvokeAt.field-0-is c.in-Some-InvokeAt.ensures)) in
     let free = free_with catalogue call.argument (asks.Run Update call.program) asked.result asked.ensures.asked in
     c.one_call-in-Some-InvokeAt.ensures.ready catalogue
-    (ready_call catalogue line call.argument (behind_field (behind_field line)) second.result asked.result hex short is free)
+    (ready_call catalogue c.args.number line call.argument (behind_field (behind_field line)) second.result asked.result hex short is free)
 
 pub returns-in-Some-ReadAt-clause-said : goal.returns-in-Some-ReadAt-clause-said
 returns-in-Some-ReadAt-clause-said c =
     let line = c.args.line.now in
     let is = c.behind_field-in-Some-ReadAt-2.ensures.behind ∙ ap behind_field c.behind_field-in-Some-ReadAt.ensures.behind in
     let asked = c.program_numbered-asked-in-Some-ReadAt in
-    line_said c.args.catalogue.now line _ _ _ asked.result _ _ (means line c.in-Some-ReadAt.field-0-is c.in-Some-ReadAt.ensures) c.one_call-in-Some-ReadAt.ensures.said is asked.ensures.asked refl
+    line_said c.args.catalogue.now c.args.number line _ _ _ asked.result _ _ (means line c.in-Some-ReadAt.field-0-is c.in-Some-ReadAt.ensures) c.one_call-in-Some-ReadAt.ensures.said is asked.ensures.asked refl
 
 pub returns-in-Some-ReadAt-clause-ready : goal.returns-in-Some-ReadAt-clause-ready
 returns-in-Some-ReadAt-clause-ready c =
@@ -65,7 +65,7 @@ returns-in-Some-ReadAt-clause-ready c =
     let hex = read_hex line call (sym (means line c.in-Some-ReadAt.field-0-is c.in-Some-ReadAt.ensures)) in
     let free = free_with catalogue call.argument (asks.Run Read call.program) asked.result asked.ensures.asked in
     c.one_call-in-Some-ReadAt.ensures.ready catalogue
-    (ready_call catalogue line call.argument (behind_field (behind_field line)) second.result asked.result hex short is free)
+    (ready_call catalogue c.args.number line call.argument (behind_field (behind_field line)) second.result asked.result hex short is free)
 
 pub returns-in-Some-Install-clause-said : goal.returns-in-Some-Install-clause-said
 returns-in-Some-Install-clause-said c =
@@ -73,7 +73,7 @@ returns-in-Some-Install-clause-said c =
     let first = c.behind_field-in-Some-Install.ensures.behind in
     let is = c.behind_field-in-Some-Install-3.ensures.behind ∙ ap behind_field (c.behind_field-in-Some-Install-2.ensures.behind ∙ ap behind_field first) in
     let asked = c.program_installed-asked in
-    line_said c.args.catalogue.now line _ _ _ asked.result _ _ (means line c.in-Some-Install.field-0-is c.in-Some-Install.ensures) c.one_call-in-Some-Install.ensures.said is
+    line_said c.args.catalogue.now c.args.number line _ _ _ asked.result _ _ (means line c.in-Some-Install.field-0-is c.in-Some-Install.ensures) c.one_call-in-Some-Install.ensures.said is
     (asked.ensures.asked c.args.catalogue.now (sym c.requires.room.0)) refl
 
 pub returns-in-Some-Install-clause-ready : goal.returns-in-Some-Install-clause-ready
@@ -90,4 +90,4 @@ returns-in-Some-Install-clause-ready c =
     let hex = install_hex line new (sym (means line c.in-Some-Install.field-0-is c.in-Some-Install.ensures)) in
     let free = free_with catalogue new.bytes (asks.Install new.mode new.arg_len) asked.result (asked.ensures.asked catalogue (sym c.requires.room.0)) in
     c.one_call-in-Some-Install.ensures.ready catalogue
-    (ready_call catalogue line new.bytes (behind_field (behind_field (behind_field line))) third.result asked.result hex short is free)
+    (ready_call catalogue c.args.number line new.bytes (behind_field (behind_field (behind_field line))) third.result asked.result hex short is free)

@@ -15,7 +15,7 @@ use Rattle.stress.proofs.players.ask.Goals.{in-Run+in-Update, in-Run+in-Read+in-
 
 pub returns-clause-told : goal.returns-clause-told
 returns-clause-told g c =
-    let t : Told = record { call = c.args.call; said = c.match-call.said } in
+    let t : Told = record { call = c.args.call; said = c.match-call.said; noted = record { session = 0; begun = 0; ended = 0; waited = 0 } } in
     let call = c.args.call.now in
     let ready = c.requires.ready in
     let catalogue = c.args.store.now.catalogue in

@@ -20,8 +20,8 @@ loop-call-init g c =
       refl,
     )
 
-pub ask-requires-clause-ready : goal.ask-requires-clause-ready
-ask-requires-clause-ready g c =
+pub ask_noted-requires-clause-ready : goal.ask_noted-requires-clause-ready
+ask_noted-requires-clause-ready g c =
     let Ready = IsReady c.args.ground.now.store.now.catalogue in
     All-head Ready c.in-Some.call.now c.in-Some.rest.now (subst (All Ready) c.in-Some.ensures.cases.0 c.loop-call.invariant.1)
 
@@ -33,10 +33,10 @@ loop-call-preserved g c =
     let rest = c.in-Some.rest.now in
     let first = c.in-Some.ensures.cases.0 in
     let ready = All-tail Ready call rest (subst (All Ready) first c.loop-call.invariant.1) in (
-      c.ask.ensures.own,
+      c.ask_noted.ensures.own,
       rw c.behind-left-in-Some.ensures (All-drop Ready (ground.sessions - 1) rest ready),
-      rw c.in_ok-push.ensures.items (one_more ground.sessions c.loop-call.told.items c.ask.result call c.loop-call.left.now rest c.behind-left-in-Some.result.now
-          c.ask.ensures.call first c.behind-left-in-Some.ensures ∙ c.loop-call.invariant.2),
-      rw c.in_ok-push.ensures.items (asked_more c.loop-call.session c.ask.new.session c.loop-call.told.items c.ask.result c.loop-call.invariant.3 c.ask.ensures.told),
-      c.ask.ensures.told.session ∙ c.loop-call.invariant.4,
+      rw c.in_ok-push.ensures.items (one_more ground.sessions c.loop-call.told.items c.ask_noted.result call c.loop-call.left.now rest c.behind-left-in-Some.result.now
+          c.ask_noted.ensures.call first c.behind-left-in-Some.ensures ∙ c.loop-call.invariant.2),
+      rw c.in_ok-push.ensures.items (asked_more c.loop-call.session c.ask_noted.new.session c.loop-call.told.items c.ask_noted.result c.loop-call.invariant.3 c.ask_noted.ensures.told),
+      c.ask_noted.ensures.told.session ∙ c.loop-call.invariant.4,
     )

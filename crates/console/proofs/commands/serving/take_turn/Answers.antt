@@ -1,5 +1,7 @@
 use Rattle.std.proofs.Common.{take, arith}
-use Rattle.console.proofs.Turned.{at_end, unread, unsent, without_memory}
+use Rattle.std.proofs.lemmas.Option.{same_Some}
+use Rattle.console.specs.declared.status.Status.TheVariants as statuses
+use Rattle.console.proofs.Turned.{at_end, never_good, unread, unsent, without_memory}
 use Rattle.console.proofs.commands.serving.take_turn.Goals as goal
 
 pub returns-in-Ok-eq0-clause-served : goal.returns-in-Ok-eq0-clause-served
@@ -24,3 +26,8 @@ returns-in-Err-taken-clause-served g c = λ s stands.
     (g.W.Sink.contents c.args.writer.now) (g.W.Sink.contents c.send.new.self) (g.W.Sink.contents c.end_without_memory.new.writer)
     (take c.in-Ok.n c.read_some.new.room) c.clear.new.self.items c.take-taken.new.out.items c.in-Ok.ensures.some.0 c.clear.ensures.items
     c.end_without_memory.result (c.in-Err-taken.ensures.taken s stands) (rw c.deref.ensures.value at c.in-Ok-send.ensures.sent) c.end_without_memory.ensures.sent
+
+pub returns-in-Err-taken-clause-kept : goal.returns-in-Err-taken-clause-kept
+returns-in-Err-taken-clause-kept g c = λ good.
+    absurd (never_good (g.W.Sink.contents c.send.new.self) (g.W.Sink.contents c.end_without_memory.new.writer) c.end_without_memory.result c.end_without_memory.ensures.sent
+    (same_Some c.end_without_memory.result statuses.Good good))

@@ -1,7 +1,7 @@
 use Rattle.std.proofs.Common.{◌≡◌, map, take}
 use Rattle.stress.specs.Lines.{transcript_text}
 use Rattle.stress.specs.Shown.{told_of}
-use Rattle.stress.proofs.lines.transcript.Given as goal
+use Rattle.stress.proofs.lines.transcript_text.Given as goal
 
 abbrev pub invariant-loop-one : goal.invariant-loop-one
-invariant-loop-one l = l.out.items ≡ transcript_text l.catalogue (map told_of (take l.one-index l.one-items))
+invariant-loop-one l = l.out.items ≡ transcript_text l.catalogue (map told_of (take l.one-index l.told))

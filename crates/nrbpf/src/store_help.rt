@@ -1,0 +1,285 @@
+// What the help says of the commands that run a store.
+
+/// What `run` does, in a line.
+pub const RUN: &str = "Runs a script on the programs of a manifest";
+
+/// What stands behind the arguments of `run`.
+pub const AFTER_RUN: &str = "\
+Opens a new store with the maps and the programs of the manifest (`nrbpf check --help`), runs the calls of the
+script in their order, and writes one line for each.
+
+A script has one call a line, at most 512 bytes a line:
+
+    # a comment; empty lines are skipped too
+    bump 00000000
+    peek 00000000
+
+    NAME HEX                  NAME a program of the manifest; HEX the bytes of the argument, two hexadecimal
+                              digits each, or - for no bytes; one space between
+    install MODE ARGLEN HEX   installs a program while the store runs: update or read, the length of its argument,
+                              and its bytes. It gets the next number; those of the manifest have 0 and on
+    invoke K HEX              calls program K as an update, one of the manifest or one that was installed
+    read K HEX                .. as a read
+
+Writes, for each line:
+    update INDEX reply REPLY steps STEPS    the program may change maps; it is update INDEX, from 0
+    read POINT reply REPLY steps STEPS      the program only reads; POINT updates were before it
+    install INDEX reply K                   it has number K from now on, or 18446744073709551609 (-7), where four
+                                            programs were installed before
+    refused S1                              there is no program of this name, and no place of this number
+    refused S2                              the argument has not the program's length
+    refused S3                              program K is of the other mode
+    refused S4                              an update or an install, after 1000000 of them
+    refused S6                              more than 192 bytes to install, or an ARGLEN above 64
+    refused S7 D.., refused S8 V..          the bytes are no program, or it is not safe: as `nrbpf check` says it
+
+A place where no program stands that has the mode and the argument's length replies 18446744073709551594 (-22) after
+0 steps. A refused line changes nothing, and the run goes on. With the manifest of examples/counter the script above
+writes `update 0 reply 1 steps 9` and `read 1 reply 1 steps 6`.
+
+Replies have no sign: -1 is 18446744073709551615. With `--signed` a line whose reply is 2^63 or more ends with that
+reply as a signed number: `update 2 reply 18446744073709551615 steps 7 = -1`. All else stays as it is.
+
+With `--load FILE` the store begins with the state of FILE in the place of a new one, and with `--dump FILE` the state
+that the script leaves is put into FILE, where no line was bad. A state is a line for each entry of a map, and then one
+for each program that was installed, in a fixed order:
+    MAP KEYHEX VALUEHEX      the map's number from 0, the key, the value; of an array the values that are not zero
+    p MODE ARGLEN HEX        a program
+    nrbpf run --load day1 --dump day2 MANIFEST SCRIPT
+
+Refusals, which end the run:
+    line N bad          line N of the script is none of these, no comment and no empty line; what stands before was run
+    line N: C..         the manifest is refused (`nrbpf check --help`), and nothing is run
+    line N: E..         the state is refused, and nothing is run: E1 no such line, E2 no such map, E3 the key has another
+                        size, E4 the value has, E5 out of order, E6 a zero of an array, E7 too many keys, E8 a program that
+                        is refused, with its D or V, E9 more programs than there are places
+    not UTF-8           the manifest, a program file, the script or the state is not UTF-8, and nothing is run
+
+Exit statuses: 0 all is well, 2 wrong words on the command line, 3 refused, 4 `no memory`,
+5 `cannot read` or `cannot write` (on standard error).";
+
+/// What `--load` names.
+pub const LOAD: &str = "The path of the state to begin with";
+
+/// What `--dump` names.
+pub const DUMP: &str = "The path of the file for the state that is left";
+
+/// What `--signed` does.
+pub const SIGNED: &str = "Writes negative replies as signed numbers beside";
+
+/// What the script's path is.
+pub const SCRIPT: &str = "The path of the script";
+
+/// What `serve` does, in a line.
+pub const SERVE: &str = "Answers the lines of a script as they come in";
+
+/// What stands behind the arguments of `serve`.
+pub const AFTER_SERVE: &str = "\
+Opens a new store with the maps and the programs of the manifest (`nrbpf check --help`), and answers the lines that
+come in from standard input, one after the other, until its end. The lines and their answers are those of a script
+(`nrbpf run --help`), and stand on standard output as soon as a line has ended: before more is read, all lines that
+were read are answered.
+
+    bump 00000000                           update 0 reply 1 steps 9
+    bump                                    line 2 bad
+    peek 00000000                           read 1 reply 1 steps 6
+
+Each line has one answer, but for a comment and an empty line, which have none. What is no line of a script, has more
+than 512 bytes or is not UTF-8 is answered `line N bad`, changes nothing, and the service goes on; lines are counted
+from 1, with comments and empty lines. A last line that has no line feed is not answered, and nothing of it is run:
+a client that goes away in the middle of a line has not asked. A refused line changes nothing; after 1000000 updates
+and installs each further one gets `refused S4`, and reads go on.
+
+With `--load FILE` the store begins with the state of FILE, and with `--dump FILE` its state is put into FILE when
+standard input has ended (`nrbpf run --help`): so a service that has had its updates goes on in the next.
+
+Refusals, before a line is read:
+    refused O1          --spare is not from 0 to 16
+    line N: C..         the manifest is refused (`nrbpf check --help`)
+    line N: E..         the state is refused (`nrbpf run --help`)
+    not UTF-8           the manifest, a program file or the state is not UTF-8
+
+Exit statuses: 0 the end of standard input, 2 wrong words on the command line, 3 refused, 4 `no memory`, behind the
+answers so far, 5 `cannot read` or `cannot write` (on standard error).";
+
+/// What `replay` does, in a line.
+pub const REPLAY: &str = "Replays a transcript on the programs of a manifest";
+
+/// What stands behind the arguments of `replay`.
+pub const AFTER_REPLAY: &str = "\
+Opens a new store with the maps and the programs of the manifest (`nrbpf check --help`), runs the calls of the
+transcript on one replica in their order, and compares what they reply.
+
+A transcript has one answered call a line, at most 512 bytes a line:
+
+    # a comment; empty lines are skipped too
+    u 0 bump 00000000 1
+    r 1 peek 00000000 1
+
+    u INDEX NAME HEX REPLY    an update: its index in the history, from 0, the program, the argument's bytes
+                              as two hexadecimal digits each, or - for no bytes, and what it replied
+    r POINT NAME HEX REPLY    a read, after POINT updates
+    i INDEX MODE ARGLEN HEX REPLY    an install, as in a script of `nrbpf run`; REPLY is the program's number
+    e NAME HEX                an update that was told that the history has ended: it changes nothing
+    e MODE ARGLEN HEX         an install that was told so
+
+In the place of NAME may stand the number of a place, behind the programs of the manifest.
+
+Writes `good U R E`, the numbers of lines u and i, r, and e, if each line agrees: with the manifest of examples/counter the
+transcript above gives `good 1 1 0`. Else one line, for the first line that does not:
+    line N bad          line N is none of these, or names no program of its kind with an argument of its length,
+                        or what it installs would be refused
+    line N differs      INDEX or POINT is not the number of u and i lines before, or the program replies something
+                        else there, or line N is an update past the 1000000th
+    refused O1          --spare is not from 0 to 16
+    line N: ..          the manifest or the state is refused (`nrbpf check --help`, `nrbpf run --help`)
+    not UTF-8           the manifest, a program file, the transcript, the state or the history is not UTF-8
+
+With `--load FILE` the store begins with the state of FILE (`nrbpf run --help`), as that of `nrbpf stress --load` did.
+
+With `--history FILE` the times of the calls are judged too, as `nrbpf stress --history FILE` writes them: a line for
+each call of the transcript, in the same order,
+    SESSION LINE BEGIN END    who made it, on which line of the script, and when it began and ended: the numbers from 0 on
+                              that all calls took from one counter, before and behind
+A call that had ended before another began has to stand before it: an update at the lower index, a read of no higher
+point, a read behind all that were there when it began. Where all agrees but this:
+    history line N bad        line N is no such line, or there is none, or its numbers don't fit with those before
+    history line N differs    the call of line N had ended before one began that stands before it
+
+With `--explain` standard error says of a line that differs what it should tell, or that the history has its updates:
+    line 2: differs: should be point 1 reply 1
+
+Exit statuses: 0 all is well, 2 wrong words on the command line, 3 refused, 4 `no memory`,
+5 `cannot read` or `cannot write` (on standard error), 6 `line N differs` or `history line N differs`.";
+
+/// What `--history` names, of `replay`.
+pub const TIMES: &str = "The path of the times of the calls, which are judged too";
+
+/// What `--explain` asks of `replay`.
+pub const DUE: &str = "Says on standard error what a line that differs should tell";
+
+/// What the transcript's path is.
+pub const TRANSCRIPT: &str = "The path of the transcript";
+
+/// What `schedule` does, in a line.
+pub const SCHEDULE: &str = "Takes a list of steps on a store of several nodes";
+
+/// What stands behind the arguments of `schedule`.
+pub const AFTER_SCHEDULE: &str = "\
+Opens a new store of that many nodes with the maps and the programs of the manifest (`nrbpf check --help`), and
+takes the steps in their order, one line each:
+
+    # a comment; empty lines are skipped too
+    post 0 0 bump 00000000
+    claim 0
+    append 0
+    replay 0
+    finish 0
+    reply 0
+    collect 0 0
+
+    post N S NAME HEX        slot S of node N calls an update      readbegin N S NAME HEX   .. calls a read
+    install N S MODE ARGLEN HEX    .. installs a program, as in a script of `nrbpf run`
+    claim N                  a combiner claims the requests        readanswer N S           the read is answered
+    append N                 they are appended to the log          reclaim N                the log's base becomes
+    replay N                 the replica applies the log                                    node N's replica
+    finish N                 what it applied is completed          rebase N                 node N's replica becomes
+    reply N                  the requests are answered                                      the log's base
+    collect N S              slot S takes its answer
+
+In the place of NAME may stand the number of a program that was installed, behind those of the manifest.
+
+Writes `ok` for a step that is taken, or `ok place I reply R`, `ok ended`, `ok point K reply R` where it answers a
+call, and `notnow` for one that may not be taken now, or names a node, slot or program that is not there: it
+changes nothing. With the manifest of examples/counter the steps above write `ok` six times, and then
+`ok place 0 reply 1`. Behind the last step:
+    log base B tail T done D    how many operations the log has given up, has, and has completed
+    node N tail T               for each node, how many operations its replica has applied
+
+With `--explain` standard error has a line for each `notnow`: the condition that fails, with its numbers, and where
+there is one the step that helps. Standard output stays as it is. With examples/counter/steps:
+    line 16: notnow: tail 0 < noted 2: replay 1
+
+With `--lanes` standard error has a line for each step: in the lane of its node what it did, or x and why it may not be
+taken, and behind the lanes BASE|DONE|TAIL of the log with a sign for each record that it keeps, # completed, - not.
+       # node 0                node 1                log
+       8 append, hand 2                              0|0|2 [--]
+
+Refusals:
+    line N bad          line N is no step, comment or empty line; what stands before was taken
+    refused O1          --nodes is not from 1 to 8, --slots from 1 to 16, --window from 16 to 4096, --limit
+                        from 1 to 1000000 or --spare from 0 to 16
+    line N: ..          the manifest is refused (`nrbpf check --help`)
+    not UTF-8           the manifest, a program file or the steps are not UTF-8
+
+Exit statuses: 0 all is well, 2 wrong words on the command line, 3 refused, 4 `no memory`,
+5 `cannot read` or `cannot write` (on standard error).";
+
+/// What `stress` does, in a line.
+pub const STRESS: &str = "Makes the calls of a script on threads";
+
+/// What stands behind the arguments of `stress`.
+pub const AFTER_STRESS: &str = "\
+Opens a new store of that many nodes with the maps and the programs of the manifest (`nrbpf check --help`), and
+gives the calls of the script (`nrbpf run --help`) to its sessions in turn: call J, from 0, to session J modulo the
+number of sessions, one for each slot of each node. Each session makes its calls on a thread of its own.
+
+Writes a transcript, as `nrbpf replay` reads it:
+    u INDEX NAME HEX REPLY           an update: its index in the history, from 0, and what it replied, in their order
+    i INDEX MODE ARGLEN HEX REPLY    an install, among the updates: it replies the number of its program
+    r POINT NAME HEX REPLY           a read: it has seen the first POINT updates, and stands behind them
+    e NAME HEX                       last, an update that was told that the history has ended: it changed nothing
+    e MODE ARGLEN HEX                the same of an install
+
+A program that was installed stands by its number in the place of NAME.
+
+Which index a call gets is another from run to run; `nrbpf replay` writes `good U R E` for each transcript. With the
+manifest of examples/counter, the script
+
+    bump 00000000
+    bump 00000000
+
+writes `u 0 bump 00000000 1` and `u 1 bump 00000000 2`.
+
+With `--history FILE` the times of the calls are put into FILE, for `nrbpf replay --history FILE`: which calls had ended
+before others began, by one counter that all threads raise, before and behind each call. Raising it keeps the threads in
+step, so it's worth a run with it and one without. `--load` and `--dump` are those of `nrbpf run`; what is loaded is to be
+given to `nrbpf replay --load` too. `--stats` says on standard error how many calls there were, and how long they took.
+
+Refusals, before any thread starts:
+    line N bad          line N is no comment, no empty line, and nothing that a session could be asked for: `run`
+                        would find it bad, or answer it by refused S1 to S3 or S6 to S8
+    refused O1          --nodes is not from 1 to 8, --slots from 1 to 16, --window from 16 to 4096, --limit
+                        from 1 to 1000000 or --spare from 0 to 16
+    line N: C..         the manifest is refused (`nrbpf check --help`)
+    line N: E..         the state is refused (`nrbpf run --help`)
+    not UTF-8           the manifest, a program file, the script or the state is not UTF-8
+
+Exit statuses: 0 all is well, 2 wrong words on the command line, 3 refused, 4 `no memory`,
+5 `cannot read` or `cannot write` (on standard error).";
+
+/// What `--history` names, of `stress`.
+pub const HISTORY: &str = "The path of the file for the times of the calls";
+
+/// What `--stats` asks for.
+pub const STATS: &str = "Says on standard error how many calls there were, and how long they took";
+
+/// What `--explain` asks of `schedule`.
+pub const REASONS: &str = "Says on standard error why steps may not be taken now";
+
+/// What `--lanes` asks of `schedule`.
+pub const LANES: &str = "Draws the steps on standard error, a lane for each node";
+
+/// What the path of the steps is.
+pub const STEPS: &str = "The path of the steps";
+
+/// What the sizes of a store are.
+pub const NODES: &str = "Nodes, each with a replica of the maps";
+
+pub const SLOTS: &str = "Slots of a node";
+
+pub const WINDOW: &str = "Records that the log keeps at once";
+
+pub const LIMIT: &str = "Updates that the store may have in all";
+
+pub const SPARE: &str = "Programs that may be installed behind those of the manifest";

@@ -1,0 +1,121 @@
+// The command `stress`, and what it puts into files and says beside its transcript.
+
+use crate::keeping::{Inputs, Later, state_text};
+use crate::tasks::Beside;
+use console::{Folder, InputFault, Sink, Status, report};
+use loader::StoreState;
+use oplog::Config;
+use std::alloc::{AllocError, Global};
+use std::io::{Eprint, Read, Write};
+use std::rt::{Clock, Files};
+use std::sync::Wait;
+use std::thread::Threads;
+use stress::{Counts, OpenGate, Stressed, Trial, Watch, stress_on};
+
+// The times of calls and the state that they leave, for the files of their paths.
+fn texts<'a>(
+    alloc: Global,
+    beside: Beside<'a>,
+    history: Vec<u8>,
+    state: Option<StoreState>,
+) -> Result<[Option<Later<'a>>; 2], AllocError> {
+    let times = match beside.history {
+        Some(path) => Some(Later::new(alloc, path, history)?),
+        None => None,
+    };
+    Ok([times, state_text(alloc, beside.files.dump, state)?])
+}
+
+// How many calls that is in a second.
+fn in_a_second(calls: u64, nanoseconds: u64) -> u128 {
+    match nanoseconds {
+        0 => 0,
+        _ => calls as u128 * 1_000_000_000 / nanoseconds as u128,
+    }
+}
+
+// Says on standard error how many calls there were, and how long they took.
+fn say_counts<R: Eprint>(rt: &R, counts: Counts) {
+    let Counts {
+        updates,
+        reads,
+        ended,
+        nanoseconds,
+        longest_wait,
+    } = counts;
+    let calls = updates.saturating_add(reads).saturating_add(ended);
+    let rate = in_a_second(calls, nanoseconds);
+    let (all, longest) = (nanoseconds / 1000, longest_wait / 1000);
+    let _ = eprintln!(rt;
+        "calls {calls} in {all} us, {rate} a second, the longest in {longest} us"
+    );
+    let _ = eprintln!(rt;
+        "updates {updates}, reads {reads}, refused since the history has ended {ended}"
+    );
+}
+
+// Puts each text where it belongs, up to the first that can't be put there.
+fn put_each<R: Files + Eprint, W: Sink>(
+    rt: &R,
+    texts: &[Option<Later<'_>>; 2],
+    writer: &mut W,
+) -> Status {
+    for text in texts.iter().flatten() {
+        match text.put(rt, writer) {
+            Status::Good => {}
+            status => return status,
+        }
+    }
+    Status::Good
+}
+
+/// Makes the calls of a script on threads, on the state of a file; puts the times of its calls and the state that it leaves into files, where
+/// all was written, and says how many calls there were.
+pub fn stress_into<
+    R: Files + AllocGlobal + Eprint + Threads + Wait + Clock + Sync,
+    F: Folder,
+    I: Read + Drop,
+    W: Write,
+>(
+    rt: &R,
+    config: Config,
+    beside: Beside<'_>,
+    folder: &F,
+    inputs: &mut Inputs<I>,
+    writer: &mut W,
+) -> Status {
+    let alloc = rt.alloc();
+    let gate = &OpenGate;
+    let trial = Trial {
+        alloc,
+        config,
+        folder,
+        gate,
+    };
+    let watch = Watch {
+        history: beside.history.is_some(),
+        clock: if beside.has_stats { Some(rt) } else { None },
+    };
+    let Inputs {
+        manifest,
+        file,
+        state,
+        ..
+    } = inputs;
+    let stressed = match stress_on(rt, &trial, &watch, manifest, file, state) {
+        Ok(stressed) => stressed,
+        Err(fault) => return report(writer, Err(fault)),
+    };
+    let Ok(texts) = texts(alloc, beside, stressed.history, stressed.state) else {
+        return report(writer, Err(InputFault::NoMemory));
+    };
+    match report(writer, Ok(stressed.reply)) {
+        Status::Good => {
+            if beside.has_stats {
+                say_counts(rt, stressed.counts);
+            }
+            put_each(rt, &texts, writer)
+        }
+        status => status,
+    }
+}

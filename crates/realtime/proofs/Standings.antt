@@ -1,0 +1,16 @@
+-- Where the calls of a transcript stand.
+use Rattle.std.proofs.Common.{◌≡◌, ℕ, List, [], ◌∷◌, ◌++◌, Some, None, refl, sym}
+use Rattle.std.proofs.lemmas.List.{append_assoc, append-nil}
+use Rattle.realtime.specs.declared.ranks.Standing.{Standing}
+use Rattle.realtime.specs.Ranks.{line_standing, standings_of}
+
+-- the lines that are left, behind what the lines before said
+module _ (lines : List (List ℕ)) (l : List ℕ) (rest : List (List ℕ)) (e : lines ≡ l ∷ rest) (before : List Standing) where
+  pub none_here : line_standing l ≡ None → before ++ standings_of lines ≡ before ++ standings_of rest
+  none_here is = rw (e, is) refl
+
+  pub one_here : (s : Standing) → line_standing l ≡ Some s → before ++ standings_of lines ≡ (before ++ s ∷ []) ++ standings_of rest
+  one_here s is = rw (e, is) (sym (append_assoc before (s ∷ []) (standings_of rest)))
+
+pub all_here : (lines : List (List ℕ)) (before : List Standing) → lines ≡ [] → before ++ standings_of lines ≡ before
+all_here lines before e = rw e (append-nil before)

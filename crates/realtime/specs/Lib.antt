@@ -1,0 +1,18 @@
+-- ---- what public clauses cite
+
+-- where the calls of a transcript stand
+pub mod Ranks
+-- the lines of a history
+pub mod Histories
+-- whether calls stand in the order in which they were made
+pub mod RealTime
+-- what is answered to a transcript and its history
+pub mod TimedAnswer
+-- the same, where it is known what is read
+pub mod Known
+-- what these say, in other words
+pub mod Laws
+-- ---- what clauses of private functions alone cite
+
+-- what is kept while a history is judged
+pub mod Judging

@@ -1,0 +1,58 @@
+-- What `replay --history` answers and writes, as a function of the manifest, of the files that are there, of the transcript, of the state that it
+-- begins with, and of its history.
+use Rattle.std.specs.Prelude.{◌≡◌, ◌⊎◌, ℕ, ◌+◌, List, ◌++◌, codes, decimal, Option, Some, None, Result, Ok, Err, if◌then◌else◌}
+use Rattle.text.specs.Lines.{lines_of}
+use Rattle.loader.specs.ProgramFiles.{Files}
+use Rattle.loader.specs.Loading.{loaded}
+use Rattle.console.specs.declared.status.Verdict.{Verdict}
+use Rattle.console.specs.declared.status.Verdict.TheVariants as verdicts
+use Rattle.console.specs.Files.{Contents, is_text}
+use Rattle.console.specs.Answer.{Answer, not_text}
+use Rattle.console.specs.ReplayOn.{replayed_from, replay_on_answer}
+use Rattle.realtime.specs.declared.histories.Timed.{Timed}
+use Rattle.realtime.specs.Histories.{calls_of}
+use Rattle.realtime.specs.RealTime.{first_out_of_turn, first_misplaced}
+use Rattle.realtime.specs.Ranks.{ranks_of}
+
+-- a line of the history is bad, or there is none of this number
+abbrev pub bad_history : ℕ → Answer
+bad_history n = record { text = codes "history line " ++ (decimal n ++ codes " bad\n"); verdict = verdicts.Refused }
+
+-- the call of a line of the history was back before another began, but stands behind it
+abbrev pub differing_history : ℕ → Answer
+differing_history n = record { text = codes "history line " ++ (decimal n ++ codes " differs\n"); verdict = verdicts.Differs }
+
+-- the line of this index has a fault, or none has
+abbrev pub unless_faulty : Option ℕ → (ℕ → Answer) → Answer → Answer
+unless_faulty None fault answer = answer
+unless_faulty (Some k) fault answer = fault (k + 1)
+
+-- first each session must make its calls in turn, then the calls must stand in the order of real time
+abbrev pub calls_answer : Answer → List Timed → Answer
+calls_answer answer calls = unless_faulty (first_out_of_turn calls) bad_history (unless_faulty (first_misplaced calls) differing_history answer)
+
+-- the lines are read before
+abbrev pub history_answer : Answer → Result (List Timed) ℕ → Answer
+history_answer answer (Ok calls) = calls_answer answer calls
+history_answer answer (Err n) = bad_history n
+
+-- an answer to a transcript that isn't good is the whole answer
+abbrev pub where_good : Verdict → Answer → Answer → Answer
+where_good verdicts.Good answer judged = judged
+where_good verdicts.Refused answer judged = answer
+where_good verdicts.Differs answer judged = answer
+
+-- what becomes of the answer to a transcript, by its history
+abbrev pub timed : Answer → List ℕ → List ℕ → Answer
+timed answer transcript history = where_good answer.verdict answer (history_answer answer (calls_of (ranks_of (lines_of transcript)) (lines_of history)))
+
+-- what `replay --history` answers: all files are read first, then the transcript is replayed, then the history is judged
+abbrev pub timed_answer : ℕ → List ℕ → Contents → List ℕ → List ℕ → List ℕ → Answer
+timed_answer spare manifest folder transcript state history =
+    if is_text history then timed (replay_on_answer spare manifest folder transcript state) transcript history else not_text
+
+-- what it answers to some manifest, files, transcript, state and history
+abbrev pub IsTimedAnswer : ℕ → Answer → Type 0
+IsTimedAnswer spare a =
+    (a ≡ not_text)
+    ⊎ ((manifest : List ℕ) × (files : Files) × (transcript state history : List ℕ) × (a ≡ timed (replayed_from spare (loaded manifest files) transcript state) transcript history))

@@ -1,0 +1,57 @@
+-- A history of calls in real time, and how many there are.
+use Rattle.std.specs.Prelude.{◌≡◌, ℕ, Bool, true, false, List, [], ◌++◌, map, filter, length, codes, decimal}
+use Rattle.std.specs.List.{flat_map}
+use Rattle.stress.specs.declared.watching.Counts.{Counts}
+use Rattle.stress.specs.Lines.{Said, Updated, Seen, Ended, ToldCall}
+
+-- a call and what was told, the number of the session that made it, and what the counter that all threads raise was just before it and just
+-- behind it
+pub record Timed : Type 0 where
+  pub told : ToldCall
+  pub session : ℕ
+  pub begun : ℕ
+  pub ended : ℕ
+
+-- SESSION LINE BEGIN END
+abbrev pub timed_text : Timed → List ℕ
+timed_text t =
+    decimal t.session ++ (codes " " ++ (decimal t.told.call.line ++ (codes " " ++ (decimal t.begun ++ (codes " " ++ (decimal t.ended ++ codes "\n"))))))
+
+abbrev pub history_text : List Timed → List ℕ
+history_text timed = flat_map timed_text timed
+
+-- a line for each of these calls, in their order
+abbrev pub IsHistoryOf : List ToldCall → List ℕ → Type 0
+IsHistoryOf told text = (timed : List Timed) × (map (λ t. t.told) timed ≡ told) × (text ≡ history_text timed)
+
+-- the same where it is wanted, and else nothing
+abbrev pub IsHistoryIf : Bool → List ToldCall → List ℕ → Type 0
+IsHistoryIf true told text = IsHistoryOf told text
+IsHistoryIf false told text = text ≡ []
+
+-- ---- how many
+
+abbrev pub is_updated : Said → Bool
+is_updated (Updated index reply) = true
+is_updated (Seen point reply) = false
+is_updated Ended = false
+
+abbrev pub is_seen : Said → Bool
+is_seen (Updated index reply) = false
+is_seen (Seen point reply) = true
+is_seen Ended = false
+
+abbrev pub is_ended : Said → Bool
+is_ended (Updated index reply) = false
+is_ended (Seen point reply) = false
+is_ended Ended = true
+
+-- how many of these calls were told such a thing
+abbrev pub how_many : (Said → Bool) → List ToldCall → ℕ
+how_many is told = length (filter (λ t. is t.said) told)
+
+-- how many updates and installs, reads, and calls behind the end these are; of times nothing is said
+pub record AreCounted (told : List ToldCall) (counts : Counts) : Type 0 where
+  pub updates : counts.updates ≡ how_many is_updated told
+  pub reads : counts.reads ≡ how_many is_seen told
+  pub ended : counts.ended ≡ how_many is_ended told

@@ -1,0 +1,78 @@
+// `run` and `serve` on a state, and the state that they leave; and `replay` on a state.
+
+use crate::answers::Answer;
+use crate::files::{Offered, text_of};
+use console::{
+    Kept, Notes, ServeEnd, Status, Verdict, dump_to, replay_on_reply, run_on_reply, serve,
+};
+use std::alloc::Global;
+
+// The status of a command whose verdict is this.
+fn status_of(verdict: Verdict) -> Status {
+    match verdict {
+        Verdict::Good => Status::Good,
+        Verdict::Refused => Status::Refused,
+        Verdict::Differs => Status::Differs,
+    }
+}
+
+// What `run` answers on the state of this name, or on a new one, and behind `left` the state that it leaves.
+pub fn run_on(alloc: Global, folder: &Offered, name: &str, manifest: &[u8]) -> Option<Answer> {
+    let mut text = manifest;
+    let mut script = folder.other;
+    let mut state = text_of(folder.files, name).unwrap_or(&[]);
+    let kept = run_on_reply(alloc, folder, &mut text, &mut script, &mut state).ok()?;
+    let Kept { reply, state } = kept;
+    let status = status_of(reply.verdict);
+    let mut text = reply.text;
+    if let Some(state) = state {
+        text.extend_from_slice(b"left\n").ok()?;
+        let _ = dump_to(alloc, &state, &mut text);
+    }
+    Some(Answer {
+        status: status.code(),
+        text,
+    })
+}
+
+// The same of `serve`, with four places.
+pub fn serve_on(alloc: Global, folder: &Offered, name: &str, manifest: &[u8]) -> Option<Answer> {
+    let mut text = manifest;
+    let mut input = folder.other;
+    let mut state = text_of(folder.files, name).unwrap_or(&[]);
+    let mut out = Vec::new(alloc);
+    let end = serve(
+        alloc, folder, 4, &mut text, &mut state, &mut input, &mut out,
+    );
+    let ServeEnd { status, state } = end;
+    if let Some(state) = state {
+        out.extend_from_slice(b"left\n").ok()?;
+        let _ = dump_to(alloc, &state, &mut out);
+    }
+    Some(Answer {
+        status: status.code(),
+        text: out,
+    })
+}
+
+// What `replay` answers on the state of this name, or on a new one, with four places.
+pub fn replay_on(alloc: Global, folder: &Offered, name: &str, manifest: &[u8]) -> Option<Answer> {
+    let mut text = manifest;
+    let mut transcript = folder.other;
+    let mut state = text_of(folder.files, name).unwrap_or(&[]);
+    let mut notes = Notes::none(alloc);
+    let reply = replay_on_reply(
+        alloc,
+        folder,
+        4,
+        &mut text,
+        &mut transcript,
+        &mut state,
+        &mut notes,
+    );
+    let reply = reply.ok()?;
+    Some(Answer {
+        status: status_of(reply.verdict).code(),
+        text: reply.text,
+    })
+}
