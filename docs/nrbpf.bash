@@ -16,11 +16,11 @@ _nrbpf() {
         asm) words='-o --output --explain -h --help' ;;
         dis) words='--slots -h --help' ;;
         encode) words='-h --help' ;;
-        run) words='--signed -h --help' ;;
-        serve) words='--spare -h --help' ;;
-        replay) words='--spare --explain -h --help' ;;
+        run) words='--load --dump --signed -h --help' ;;
+        serve) words='--spare --load --dump -h --help' ;;
+        replay) words='--spare --load --history --explain -h --help' ;;
         schedule) words='--nodes --slots --window --limit --spare --explain --lanes -h --help' ;;
-        stress) words='--nodes --slots --window --limit --spare -h --help' ;;
+        stress) words='--nodes --slots --window --limit --spare --load --dump --history --stats -h --help' ;;
         help) words='check explain asm dis encode run serve replay schedule stress' ;;
         *) words= ;;
     esac
