@@ -25,6 +25,5 @@ pub mod LineTurns
 pub mod Turned
 pub mod ServedAll
 pub mod ServedRuns
-pub mod LoadedStates
 pub mod KeptRuns
 pub mod StateTexts

@@ -1,15 +1,12 @@
 // The state that a text says, and the catalogue of which a store opens on it.
 
-ghost use Rattle.std.specs.Prelude.{◌≡◌, IfOk, MatchResult, Ok};
-ghost use Rattle.loader.specs.CatalogueView.{MayOpenOn};
-ghost use Rattle.dumps.specs.Loading.{loaded_state};
-ghost use Rattle.dumps.specs.Refusal.{LoadFails};
+ghost use Rattle.std.specs.Prelude.{IfOk};
 ghost use Rattle.console.specs.StateAnswer.{on_text};
 ghost use Rattle.console.specs.OpenedState.{IsOpened, OpenedIs};
 
 use crate::reporting::Reply;
 use crate::state_texts::state_refused;
-use dumps::DumpError;
+use dumps::{DumpError, load_for};
 use loader::{Catalogue, StoreState};
 use std::alloc::{AllocError, Global};
 
@@ -20,22 +17,12 @@ pub(crate) enum Opened {
     Refused(Reply),
 }
 
-// The state that a text says: the catalogue may open on it.
-fn load(alloc: Global, catalogue: &Catalogue, text: &str) -> Result<StoreState, DumpError>
-    ensures loaded { MatchResult result (λ s. loaded_state catalogue.now.shapes catalogue.now.places text.now ≡ Ok s)
-        (λ e. LoadFails e (loaded_state catalogue.now.shapes catalogue.now.places text.now)) }
-    ensures fits { IfOk result (MayOpenOn catalogue.now) }
-{
-    let places = catalogue.places();
-    dumps::load(alloc, catalogue.shapes(), places, text)
-}
-
 // The same catalogue, on the state that a text says.
 pub(crate) fn open_on(alloc: Global, catalogue: Catalogue, text: &str) -> Result<Opened, AllocError>
     ensures opened { IfOk result IsOpened }
     ensures answered { IfOk result (OpenedIs (on_text catalogue text.now)) }
 {
-    match load(alloc, &catalogue, text) {
+    match load_for(alloc, &catalogue, text) {
         Ok(state) => Ok(Opened::On(catalogue.on(&state), state)),
         Err(DumpError::NoMemory) => Err(AllocError),
         Err(DumpError::Refused(refusal)) => Ok(Opened::Refused(state_refused(alloc, refusal)?)),

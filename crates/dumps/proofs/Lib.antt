@@ -14,3 +14,4 @@ pub mod ProgramBytes
 pub mod Belongs
 pub mod Reread
 pub mod Writing
+pub mod LoadedFor

@@ -10,5 +10,5 @@ mod refusals;
 pub use dumping::dump;
 pub use laws::{dump_is_read, text_is_dumped};
 pub use lines::DUMP_LINE_BYTES;
-pub use loading::load;
+pub use loading::{load, load_for};
 pub use refusals::{DumpError, DumpFault, DumpRefusal};

@@ -6,6 +6,7 @@ ghost use Rattle.maps.specs.Shapes.{AreShapesOk, key_size, value_size};
 ghost use Rattle.maps.specs.Maps.{MapState, AreMaps};
 ghost use Rattle.maps.specs.MapSets.{HasRoom, maps_of, put_value, stored_shapes};
 ghost use Rattle.loader.specs.declared.installed.TheConstants.{MAX_PLACES};
+ghost use Rattle.loader.specs.CatalogueView.{MayOpenOn};
 ghost use Rattle.loader.specs.Installed.{installed_program};
 ghost use Rattle.dumps.specs.Loading.{is_hash, is_zero, is_behind, is_in_order, is_key_for, is_left_out, has_room, entry_fault, without_place, after_entry, after_program, after_line, after_ended, opening, loaded_state};
 ghost use Rattle.dumps.specs.declared.refusals.DumpError.TheVariants.{NoMemory};
@@ -15,7 +16,7 @@ ghost use Rattle.dumps.specs.Shown.{entry_of, program_of, key_of, view_of, Progr
 use crate::lines::{EndedLines, EntryLine, Line, ProgramLine, read_line};
 use crate::refusals::{DumpError, DumpFault, LineError};
 use arrayvec::ArrayVec;
-use loader::{Installed, StoreState};
+use loader::{Catalogue, Installed, StoreState};
 use maps::{MapSet, Shape};
 use std::alloc::Global;
 use text::FIELD_BYTES;
@@ -298,4 +299,18 @@ pub fn load(
         }
     }
     Ok(StoreState::of(so_far.maps, so_far.installed))
+}
+
+/// The state that a dump says, for stores of a catalogue: on its maps, and with as many places as it has.
+///
+/// # Errors
+///
+/// As [`load`].
+pub fn load_for(alloc: Global, catalogue: &Catalogue, text: &str) -> Result<StoreState, DumpError>
+    ensures loaded { MatchResult result (λ s. loaded_state catalogue.now.shapes catalogue.now.places text.now ≡ Ok s)
+        (λ e. LoadFails e (loaded_state catalogue.now.shapes catalogue.now.places text.now)) }
+    ensures fits { IfOk result (MayOpenOn catalogue.now) }
+{
+    let places = catalogue.places();
+    load(alloc, catalogue.shapes(), places, text)
 }

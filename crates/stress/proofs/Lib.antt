@@ -10,5 +10,4 @@ pub mod Sizes
 pub mod Numbered
 pub mod OneHistory
 pub mod Transcripts
-pub mod Loaded
 pub mod GivenBack

@@ -1,15 +1,12 @@
 // The calls of a script on a store that opens on a loaded state, and all that is left of them.
 
-ghost use Rattle.std.specs.Prelude.{◌≡◌, ◌⊎◌, All, map, Ok, Some, IfOk, IfSome, MatchResult};
+ghost use Rattle.std.specs.Prelude.{◌≡◌, ◌⊎◌, All, map, Some, IfOk};
 ghost use Rattle.text.specs.Lines.{lines_of};
 ghost use Rattle.loader.specs.CatalogueView.{MayOpenOn};
 ghost use Rattle.loader.specs.StoreState.{with_room};
 ghost use Rattle.loader.specs.Loading.{Outcome};
-ghost use Rattle.dumps.specs.Loading.{loaded_state};
-ghost use Rattle.dumps.specs.Refusal.{LoadFails};
 ghost use Rattle.oplog.specs.Limits.{IsConfig};
 ghost use Rattle.console.specs.Files.{SomeFile};
-ghost use Rattle.console.specs.Input.{TextIs};
 ghost use Rattle.console.specs.InputFaults.{IfCannotRead};
 ghost use Rattle.console.specs.Loaded.{LoadedIs};
 ghost use Rattle.console.specs.Report.{answer_of};
@@ -25,10 +22,10 @@ use crate::lines::Written;
 use crate::sharing::{Left, tell_all};
 use crate::watching::{Counts, Watch};
 use console::{
-    Folder, InputFault, Inputs, Loaded, ReadFault, Reply, Source, Verdict, bad_line, read_inputs,
+    Folder, InputFault, Inputs, Loaded, Reply, Source, Verdict, bad_line, read_inputs, read_text,
     sizes_refused, state_refused,
 };
-use dumps::{DumpError, load};
+use dumps::{DumpError, load_for};
 use loader::{Catalogue, StoreState};
 use std::alloc::{AllocError, Global};
 use std::rt::Clock;
@@ -120,15 +117,6 @@ fn script_run<R: Threads + Wait + Sync, F: Folder, G: Gate + Sync, C: Clock + Sy
     }
 }
 
-// The state that a text says: the catalogue may open on it.
-fn load_state(alloc: Global, catalogue: &Catalogue, text: &str) -> Result<StoreState, DumpError>
-    ensures loaded { MatchResult result (λ s. loaded_state catalogue.now.shapes catalogue.now.places text.now ≡ Ok s)
-        (λ e. LoadFails e (loaded_state catalogue.now.shapes catalogue.now.places text.now)) }
-    ensures fits { IfOk result (MayOpenOn catalogue.now) }
-{
-    load(alloc, catalogue.shapes(), catalogue.places(), text)
-}
-
 // What a catalogue gives back of a script and of the text of a state.
 fn catalogue_run<R: Threads + Wait + Sync, F: Folder, G: Gate + Sync, C: Clock + Sync>(
     rt: &R,
@@ -145,7 +133,7 @@ fn catalogue_run<R: Threads + Wait + Sync, F: Folder, G: Gate + Sync, C: Clock +
         return Ok(only(alloc, sizes_refused(alloc)?));
     }
     let catalogue = catalogue.with_places(trial.config.spare as usize);
-    match load_state(alloc, &catalogue, state) {
+    match load_for(alloc, &catalogue, state) {
         Ok(state) => script_run(rt, trial, watch, catalogue.on(&state), &state, script),
         Err(DumpError::NoMemory) => Err(AllocError),
         Err(DumpError::Refused(refusal)) => Ok(only(alloc, state_refused(alloc, refusal)?)),
@@ -169,22 +157,6 @@ fn loaded_run<R: Threads + Wait + Sync, F: Folder, G: Gate + Sync, C: Clock + Sy
             catalogue_run(rt, trial, watch, catalogue, script, state)
         }
         Loaded::Refused(reply) => Ok(only(trial.alloc, reply)),
-    }
-}
-
-// The text of a state.
-fn read_state<L: Source>(alloc: Global, state: &mut L) -> Result<String, InputFault>
-    ensures text { IfSome (L.remaining state.old) (TextIs result) }
-    ensures failed { IfCannotRead result (L.has_failed state.new) }
-{
-    let bytes = match state.read_whole(alloc) {
-        Ok(bytes) => bytes,
-        Err(ReadFault::NoMemory) => return Err(InputFault::NoMemory),
-        Err(ReadFault::CannotRead) => return Err(InputFault::CannotRead),
-    };
-    match String::from_utf8(bytes) {
-        Ok(text) => Ok(text),
-        Err(_) => Err(InputFault::NotText),
     }
 }
 
@@ -224,7 +196,7 @@ where
     ensures some { IfOk result (IsSomeRun trial.now.config watch.now.history) }
 {
     let Inputs { loaded, text } = read_inputs(trial.alloc, trial.folder, manifest, script)?;
-    let state = read_state(trial.alloc, state)?;
+    let state = read_text(trial.alloc, state)?;
     let given = loaded_run(rt, trial, watch, loaded, text.as_str(), state.as_str())?;
     Ok(given)
 }

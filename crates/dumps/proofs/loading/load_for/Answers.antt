@@ -1,5 +1,5 @@
-use Rattle.console.proofs.LoadedStates.{all_may_open}
-use Rattle.console.proofs.states.load.Goals as goal
+use Rattle.dumps.proofs.LoadedFor.{all_may_open}
+use Rattle.dumps.proofs.loading.load_for.Goals as goal
 
 pub returns-clause-fits : goal.returns-clause-fits
 returns-clause-fits c =
