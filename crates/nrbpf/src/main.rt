@@ -13,7 +13,7 @@ mod tasks;
 
 use console::{
     Folder, Notes, Setup, Status, assemble, check, disassemble, disassemble_slots, explain, graph,
-    run, run_signed, schedule,
+    replay, run, run_signed, schedule,
 };
 use disk::{Disk, LateFile};
 use keeping::{Inputs, replay_on, run_on, serve_on};
@@ -24,7 +24,7 @@ use std::process::ExitCode;
 use std::rt::{Clock, Files};
 use std::sync::Wait;
 use std::thread::Threads;
-use stressing::stress_into;
+use stressing::{stress_alone, stress_into};
 use tasks::{Call, StateTask, Task};
 
 // Does a task on a store that opens on a state, with what it reads and where it writes.
@@ -68,6 +68,13 @@ fn perform<
         Task::Encode => encode_or_say(rt, file, writer),
         Task::Run => run(alloc, folder, manifest, file, writer),
         Task::RunSigned => run_signed(alloc, folder, manifest, file, writer),
+        Task::Replay(spare, telling) => {
+            let mut notes = Notes::new(alloc, telling);
+            let status = replay(alloc, folder, spare, manifest, file, &mut notes, writer);
+            say_text(rt, notes.text);
+            status
+        }
+        Task::Stress(config) => stress_alone(rt, config, folder, manifest, file, writer),
         Task::Schedule(config, telling) => {
             let mut notes = Notes::new(alloc, telling);
             let setup = Setup { config, folder };

@@ -39,10 +39,11 @@ pub fn say_sizes<R: Eprint>(rt: &R, task: Task<'_>, status: Status) {
         return;
     }
     match task {
-        Task::Schedule(config, _) | Task::OnState(StateTask::Stress(config, _)) => {
-            say_each(rt, config)
-        }
-        Task::OnState(StateTask::Replay(spare, _, _) | StateTask::Serve(spare, _)) => {
+        Task::Schedule(config, _)
+        | Task::Stress(config)
+        | Task::OnState(StateTask::Stress(config, _)) => say_each(rt, config),
+        Task::Replay(spare, _)
+        | Task::OnState(StateTask::Replay(spare, _, _) | StateTask::Serve(spare, _)) => {
             say_spare(rt, spare)
         }
         _ => {}

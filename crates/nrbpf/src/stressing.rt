@@ -10,7 +10,7 @@ use std::io::{Eprint, Read, Write};
 use std::rt::{Clock, Files};
 use std::sync::Wait;
 use std::thread::Threads;
-use stress::{Counts, OpenGate, Stressed, Trial, Watch, stress_on};
+use stress::{Counts, OpenGate, Stressed, Trial, Watch, stress, stress_on};
 
 // The times of calls and the state that they leave, for the files of their paths.
 fn texts<'a>(
@@ -52,6 +52,25 @@ fn say_counts<R: Eprint>(rt: &R, counts: Counts) {
     let _ = eprintln!(rt;
         "updates {updates}, reads {reads}, refused since the history has ended {ended}"
     );
+}
+
+/// Makes the calls of a script on threads, on a new store, and writes its transcript alone.
+pub fn stress_alone<R: AllocGlobal + Threads + Wait + Sync, F: Folder, I: Read, W: Write>(
+    rt: &R,
+    config: Config,
+    folder: &F,
+    manifest: &mut I,
+    file: &mut I,
+    writer: &mut W,
+) -> Status {
+    let gate = &OpenGate;
+    let trial = Trial {
+        alloc: rt.alloc(),
+        config,
+        folder,
+        gate,
+    };
+    stress(rt, &trial, manifest, file, writer)
 }
 
 // Puts each text where it belongs, up to the first that can't be put there.

@@ -41,9 +41,9 @@ pub enum StateTask<'a> {
     Run(StateFiles<'a>, bool),
     /// Answer lines as they come in, with so many places behind the programs, and keep the state that they leave.
     Serve(u32, StateFiles<'a>),
-    /// Make the calls of a script on threads, on a store of these sizes, and write this beside.
+    /// Make the calls of a script on threads, on a store of these sizes, and write this beside the transcript.
     Stress(Config, Beside<'a>),
-    /// Replay a transcript, with so many places behind the programs, on the state of a file or a new one, and tell this of it.
+    /// Replay a transcript, with so many places behind the programs, by these files, and tell this of it.
     Replay(u32, Telling, ReplayFiles<'a>),
 }
 
@@ -72,6 +72,10 @@ pub enum Task<'a> {
     Run,
     /// Run a script, and write negative replies as signed numbers beside.
     RunSigned,
+    /// Replay a transcript, with so many places behind the programs, and tell this of it.
+    Replay(u32, Telling),
+    /// Make the calls of a script on threads, on a store of these sizes.
+    Stress(Config),
     /// Take a list of steps on a store of these sizes, and tell this of it.
     Schedule(Config, Telling),
     /// A task on a store that opens on a state.
@@ -182,20 +186,37 @@ fn running<'a>(matches: &ArgMatches<'a>) -> Task<'a> {
     }
 }
 
-// What `replay` reads beside a transcript.
-fn replay_files<'a>(matches: &ArgMatches<'a>) -> ReplayFiles<'a> {
-    ReplayFiles {
+// Replaying, on a new state or by files.
+fn replaying<'a>(spare: u32, matches: &ArgMatches<'a>) -> Task<'a> {
+    let telling = telling(matches);
+    let files = ReplayFiles {
         load: matches.get_str("load"),
         history: matches.get_str("history"),
+    };
+    match files {
+        ReplayFiles {
+            load: None,
+            history: None,
+        } => Task::Replay(spare, telling),
+        files => Task::OnState(StateTask::Replay(spare, telling, files)),
     }
 }
 
-// What `stress` writes beside a transcript.
-fn beside_of<'a>(matches: &ArgMatches<'a>) -> Beside<'a> {
-    Beside {
-        files: state_files(matches),
-        history: matches.get_str("history"),
-        has_stats: matches.get_flag("stats"),
+// Making calls on threads, on a new state with a transcript alone, or with more beside.
+fn stressing<'a>(config: Config, matches: &ArgMatches<'a>) -> Task<'a> {
+    let files = state_files(matches);
+    let history = matches.get_str("history");
+    let has_stats = matches.get_flag("stats");
+    match (files.load, files.dump, history) {
+        (None, None, None) if !has_stats => Task::Stress(config),
+        _ => Task::OnState(StateTask::Stress(
+            config,
+            Beside {
+                files,
+                history,
+                has_stats,
+            },
+        )),
     }
 }
 
@@ -226,14 +247,10 @@ fn task_of<'a>(name: &str, matches: &ArgMatches<'a>) -> Option<Task<'a>> {
         "dis" => disassembling(matches),
         "encode" => Task::Encode,
         "run" => running(matches),
-        "replay" => Task::OnState(StateTask::Replay(
-            matches.get_one("spare")?,
-            telling(matches),
-            replay_files(matches),
-        )),
+        "replay" => replaying(matches.get_one("spare")?, matches),
         "schedule" => Task::Schedule(config_of(matches)?, telling_of_steps(matches)),
         "serve" => Task::OnState(StateTask::Serve(matches.get_one("spare")?, state_files(matches))),
-        "stress" => Task::OnState(StateTask::Stress(config_of(matches)?, beside_of(matches))),
+        "stress" => stressing(config_of(matches)?, matches),
         _ => return None,
     })
 }
