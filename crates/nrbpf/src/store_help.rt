@@ -244,7 +244,8 @@ writes `u 0 bump 00000000 1` and `u 1 bump 00000000 2`.
 With `--history FILE` the times of the calls are put into FILE, for `nrbpf replay --history FILE`: which calls had ended
 before others began, by one counter that all threads raise, before and behind each call. Raising it keeps the threads in
 step, so it's worth a run with it and one without. `--load` and `--dump` are those of `nrbpf run`; what is loaded is to be
-given to `nrbpf replay --load` too. `--stats` says on standard error how many calls there were, and how long they took.
+given to `nrbpf replay --load` too. `--stats` says on standard error how many calls there were, how long they took, and how many
+updates sessions appended at once, for the sessions of their node.
 
 Refusals, before any thread starts:
     line N bad          line N is no comment, no empty line, and nothing that a session could be asked for: `run`
@@ -262,7 +263,8 @@ Exit statuses: 0 all is well, 2 wrong words on the command line, 3 refused, 4 `n
 pub const HISTORY: &str = "The path of the file for the times of the calls";
 
 /// What `--stats` asks for.
-pub const STATS: &str = "Says on standard error how many calls there were, and how long they took";
+pub const STATS: &str =
+    "Says on standard error how many calls there were, how long they took, and in which batches";
 
 /// What `--explain` asks of `schedule`.
 pub const REASONS: &str = "Says on standard error why steps may not be taken now";

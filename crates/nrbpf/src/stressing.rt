@@ -34,7 +34,18 @@ fn in_a_second(calls: u64, nanoseconds: u64) -> u128 {
     }
 }
 
-// Says on standard error how many calls there were, and how long they took.
+// How many that are each, rounded to a tenth: a whole number, and tenths.
+fn in_tenths(all: u64, count: u64) -> (u64, u64) {
+    match count {
+        0 => (0, 0),
+        _ => {
+            let tenths = (all as u128 * 10 + count as u128 / 2) / count as u128;
+            ((tenths / 10) as u64, (tenths % 10) as u64)
+        }
+    }
+}
+
+// Says on standard error how many calls there were, how long they took, and in how large batches.
 fn say_counts<R: Eprint>(rt: &R, counts: Counts) {
     let Counts {
         updates,
@@ -42,6 +53,7 @@ fn say_counts<R: Eprint>(rt: &R, counts: Counts) {
         ended,
         nanoseconds,
         longest_wait,
+        batches,
     } = counts;
     let calls = updates.saturating_add(reads).saturating_add(ended);
     let rate = in_a_second(calls, nanoseconds);
@@ -51,6 +63,11 @@ fn say_counts<R: Eprint>(rt: &R, counts: Counts) {
     );
     let _ = eprintln!(rt;
         "updates {updates}, reads {reads}, refused since the history has ended {ended}"
+    );
+    let (count, largest) = (batches.count, batches.largest);
+    let (whole, tenth) = in_tenths(batches.requests, count);
+    let _ = eprintln!(rt;
+        "batches {count}, with {whole}.{tenth} requests each, the largest with {largest}"
     );
 }
 

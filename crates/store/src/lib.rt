@@ -19,7 +19,7 @@ mod store;
 mod tests;
 mod values;
 
-pub use answers::{Answer, Scan};
+pub use answers::{Answer, Batches, Scan};
 pub use closed::Closed;
 pub use loader::{Catalogue, LoadError, StoreState, load_manifest};
 pub use node::NodeReplica;

@@ -6,6 +6,7 @@ ghost use Rattle.replica.specs.StoreMeaning.{is_operation};
 ghost use Rattle.replica.specs.declared.refusals.StoreRefused.{StoreRefused as TheRefusal};
 ghost use Rattle.store.specs.Asking.{AwaitsNothing, AwaitsAnswer, SessionPosts, SessionTurns, SessionCompletes, asked_op, update_refusal};
 
+use crate::answers::Batches;
 use crate::combining::combine;
 use crate::desks;
 use crate::desks::Turn;
@@ -150,8 +151,8 @@ fn watch(shelf: &Shelf<Value>, place: usize)
 }
 
 // Waits for the answer to the request that the caller has posted, and collects it. Where nobody combines the requests of its
-// node, the caller does, and has them in the batch meanwhile, and what their programs answer in the replies; else it watches the place of its node's replica, which the one that combines
-// puts back before it hands the answers over.
+// node, the caller does, has them in the batch meanwhile, and what their programs answer in the replies, and counts the batch; else it watches
+// the place of its node's replica, which the one that combines puts back before it hands the answers over.
 pub(crate) fn complete<R: Wait>(
     rt: &R,
     shared: Shared<'_>,
@@ -159,6 +160,7 @@ pub(crate) fn complete<R: Wait>(
     caller: Caller,
     batch: &mut Batch,
     replies: &mut Replies,
+    batches: &mut Batches,
 ) -> Reply
     requires own { seat.old.shelf ≡ shared.shelf.now.id }
     requires asked { AwaitsAnswer seat.old caller shared }
@@ -168,7 +170,10 @@ pub(crate) fn complete<R: Wait>(
     for _ in rt.forever() {
         match turn(rt, shared, seat, caller, batch) {
             Turn::Collects(reply) => return reply,
-            Turn::Combines => combine(rt, shared, seat, caller, batch, replies),
+            Turn::Combines => {
+                combine(rt, shared, seat, caller, batch, replies);
+                *batches = batches.and_one(batch.records().len() as u64);
+            }
             Turn::Waits => watch(shared.shelf, 1 + caller.node),
         }
     }

@@ -13,7 +13,7 @@ ghost use Rattle.store.specs.declared.scanning.ScanRefused.{ScanRefused};
 ghost use Rattle.store.specs.Scanning.{ScanBegins, TellsScan, scan_refusal};
 ghost use Rattle.store.specs.Sessions.{IsOf, IsIdle, TellsUpdate, TellsRead, BeginsWithin, HasRoom, known_of, install_of, install_refused, op_of, session_view};
 
-use crate::answers::{Answer, Scan};
+use crate::answers::{Answer, Batches, Scan};
 use crate::questions::{QuestionRefused, check_each, read_each_waiting};
 use crate::requests::{complete, post};
 use crate::scanning::{Beginning, ScanRefused, check_scan, scan_waiting};
@@ -41,6 +41,8 @@ pub struct Session {
     replies: Replies,
     // Room to find out whether a program may be installed.
     room: Installed,
+    // What it has combined.
+    batches: Batches,
 }
 
 impl Model for Session {
@@ -79,6 +81,7 @@ impl Session {
             batch: Batch::new(),
             replies: Replies::new(0, 0),
             room,
+            batches: Batches::none(),
         }
     }
 
@@ -95,6 +98,7 @@ impl Session {
             batch: _batch,
             replies: _replies,
             room,
+            batches: _batches,
         } = self;
         (seat, caller, room)
     }
@@ -107,6 +111,11 @@ impl Session {
     {
         let (seat, caller, _room) = self.into_room();
         (seat, caller)
+    }
+
+    /// What it has combined since the store was opened, for statistics: no clause speaks of it.
+    pub fn batches(&self) -> Batches {
+        self.batches
     }
 
     // Has an update performed that is not refused, as the next operation of the history.
@@ -128,6 +137,7 @@ impl Session {
             self.caller,
             &mut self.batch,
             &mut self.replies,
+            &mut self.batches,
         );
         answer_of(reply)
     }

@@ -9,7 +9,7 @@ ghost use Rattle.replica.specs.Refusals.{early_refusal};
 ghost use Rattle.store.specs.Sessions.{IsOf, IsThereIn};
 ghost use Rattle.store.specs.Standing.{IsThere};
 
-use crate::answers::Answer;
+use crate::answers::{Answer, Batches};
 use crate::requests::{complete, post_only};
 use crate::session::Session;
 use crate::steps::{Caller, Question, Shared, query};
@@ -150,6 +150,7 @@ fn answered_by_other<R: Wait>(
             caller,
             &mut batch,
             &mut replies,
+            &mut Batches::none(),
         ),
     )
 }

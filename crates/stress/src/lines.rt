@@ -9,7 +9,7 @@ ghost use Rattle.stress.specs.Shown.{called, said_of, told_of, timed_of};
 ghost use Rattle.stress.specs.Playing.{IsWritten};
 
 use crate::calls::{Asked, ScriptCall};
-use crate::watching::{Counts, Noted};
+use crate::watching::{Counts, Noted, Spent};
 use console::{put_number, put_numbered};
 use loader::Catalogue;
 use readpath::ReadAnswer;
@@ -237,16 +237,21 @@ fn longest_wait(told: &[Told<'_>]) -> u64 {
     longest
 }
 
-// How many calls these are, which took so long all together.
-fn counted(told: &[Told<'_>], nanoseconds: u64) -> Counts
+// How many calls these are, and what was spent on them.
+fn counted(told: &[Told<'_>], spent: Spent) -> Counts
     ensures { AreCounted (map told_of told.now) result }
 {
+    let Spent {
+        nanoseconds,
+        batches,
+    } = spent;
     Counts {
         updates: updates_in(told),
         reads: reads_in(told),
         ended: ended_in(told),
         nanoseconds,
         longest_wait: longest_wait(told),
+        batches,
     }
 }
 
@@ -256,7 +261,7 @@ pub(crate) fn write_told(
     catalogue: &Catalogue,
     timed: bool,
     mut told: Vec<Told<'_>>,
-    nanoseconds: u64,
+    spent: Spent,
 ) -> Result<Written, AllocError>
     ensures { IfOk result (IsWritten catalogue.now timed told.entry.items) }
 {
@@ -264,6 +269,6 @@ pub(crate) fn write_told(
     Ok(Written {
         transcript: transcript_text(alloc, catalogue, &told)?,
         history: history_if(alloc, timed, &told)?,
-        counts: counted(&told, nanoseconds),
+        counts: counted(&told, spent),
     })
 }

@@ -31,6 +31,7 @@ use std::alloc::{AllocError, Global};
 use std::rt::Clock;
 use std::sync::Wait;
 use std::thread::Threads;
+use store::Batches;
 
 /// What a run gives back.
 #[derive(Drop)]
@@ -41,7 +42,7 @@ pub struct Stressed {
     pub history: Vec<u8>,
     /// The state that the store ended in; none where no call was made.
     pub state: Option<StoreState>,
-    /// How many calls were made, and how long they took.
+    /// How many calls were made, how long they took, and in which batches.
     pub counts: Counts,
 }
 
@@ -59,6 +60,7 @@ fn only(alloc: Global, reply: Reply) -> Stressed
             ended: 0,
             nanoseconds: 0,
             longest_wait: 0,
+            batches: Batches::none(),
         },
     }
 }

@@ -16,7 +16,7 @@ use crate::engine::Trial;
 use crate::gate::Gate;
 use crate::lines::{Told, Written, write_told};
 use crate::players::{Player, Playground, play};
-use crate::watching::{Watch, nanoseconds_since, time};
+use crate::watching::{Spent, Watch, batches_of, nanoseconds_since, time};
 use loader::{Catalogue, StoreState};
 use oplog::{Config, OpenError};
 use std::alloc::{AllocError, Global};
@@ -232,11 +232,11 @@ fn written(
     catalogue: &Catalogue,
     timed: bool,
     told: Result<Vec<Told<'_>>, AllocError>,
-    nanoseconds: u64,
+    spent: Spent,
 ) -> Result<Written, AllocError>
     ensures { IfOk result (λ w. MatchResult told.entry (λ v. IsWritten catalogue.now timed v.items w) (λ _. ⊥)) }
 {
-    write_told(alloc, catalogue, timed, told?, nanoseconds)
+    write_told(alloc, catalogue, timed, told?, spent)
 }
 
 // Makes the calls on a store that opens on a state, or on a new one, and closes it. What is left of it.
@@ -274,8 +274,11 @@ pub(crate) fn tell_all<R: Threads + Wait + Sync, F, G: Gate + Sync, C: Clock + S
     };
     let start = time(watch.clock);
     let told = play_all(rt, &ground, &mut sessions, players);
-    let nanoseconds = nanoseconds_since(watch.clock, start);
-    let written = written(alloc, store.catalogue(), watch.history, told, nanoseconds);
+    let spent = Spent {
+        nanoseconds: nanoseconds_since(watch.clock, start),
+        batches: batches_of(&sessions),
+    };
+    let written = written(alloc, store.catalogue(), watch.history, told, spent);
     let state = close(store, sessions);
     Ok(Left {
         written: written?,

@@ -4,6 +4,7 @@ use std::io;
 use std::rt::Clock;
 use std::sync::atomic::{AtomicU64, Ordering};
 use std::time::{Duration, Instant};
+use store::{Batches, Session};
 
 /// What is noted of a run beside its transcript.
 #[derive(Drop)]
@@ -14,7 +15,7 @@ pub struct Watch<'a, C> {
     pub clock: Option<&'a C>,
 }
 
-/// How many calls were made, and how long they took.
+/// How many calls were made, how long they took, and in which batches.
 #[derive(Clone, Copy, Drop)]
 pub struct Counts {
     /// Updates and installs that were told an index.
@@ -27,6 +28,16 @@ pub struct Counts {
     pub nanoseconds: u64,
     /// For how many nanoseconds the call waited that waited longest; 0 where nothing is timed.
     pub longest_wait: u64,
+    /// The batches that sessions appended for the sessions of their nodes.
+    pub batches: Batches,
+}
+
+// What no call is told of a run.
+#[derive(Clone, Copy)]
+pub(crate) struct Spent {
+    // How many nanoseconds went by; 0 where nothing is timed.
+    pub nanoseconds: u64,
+    pub batches: Batches,
 }
 
 // What was noted of a call.
@@ -82,4 +93,13 @@ pub(crate) fn nanoseconds_since<C: Clock>(clock: Option<&C>, start: Option<Insta
 // As many as 64 bits hold.
 fn nanoseconds(time: Duration) -> u64 {
     u64::try_from(time.as_nanos()).unwrap_or(u64::MAX)
+}
+
+// What these sessions have combined.
+pub(crate) fn batches_of(sessions: &[Session]) -> Batches {
+    let mut all = Batches::none();
+    for session in sessions {
+        all = all.and(session.batches());
+    }
+    all
 }
