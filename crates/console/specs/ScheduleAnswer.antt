@@ -2,7 +2,7 @@
 -- the steps.
 use Rattle.std.specs.Prelude.{ℕ, suc, Bool, ◌&&◌, List, [], ◌∷◌, ◌++◌, codes, decimal, Option, Some, None, option_map, option_and_then, unwrap_or, slice_get, length, Ok, Err, nat_lt, nat_le, if◌then◌else◌}
 use Rattle.text.specs.Lines.{lines_of, next_line}
-use Rattle.loader.specs.CatalogueView.{CatalogueView, number_named, with_places}
+use Rattle.loader.specs.CatalogueView.{CatalogueView, number_named}
 use Rattle.loader.specs.Loading.{Outcome}
 use Rattle.oplog.specs.Calls.{Call}
 use Rattle.oplog.specs.declared.records.Op.TheVariants.{Run, Install as AnInstall}
@@ -15,7 +15,7 @@ use Rattle.node.specs.Steps.{Appends, Replays, Finishes, Reclaims, Rebases, Repl
 use Rattle.schedule.specs.declared.parts.Opening.{Opening}
 use Rattle.schedule.specs.declared.steps.StepAnswer.{StepAnswer}
 use Rattle.schedule.specs.declared.steps.StepAnswer.TheVariants.{Done, NotNow, Back, ReadBack}
-use Rattle.schedule.specs.Worlds.{NodeView, WorldView, opened}
+use Rattle.schedule.specs.Worlds.{NodeView, WorldView, opened, opening_of}
 use Rattle.schedule.specs.Steps as steps
 use Rattle.schedule.specs.Steps.{Part, Took, put_part, world_after}
 use Rattle.schedule.specs.Taking.{step_answer}
@@ -136,7 +136,7 @@ sizes_refused = record { text = codes "refused O1\n"; verdict = verdicts.Refused
 -- what a catalogue answers to a list of steps, in a store of these sizes, which has so many places behind its programs
 abbrev pub catalogue_answer : Config → CatalogueView → List ℕ → Answer
 catalogue_answer config c text =
-    let opening : Opening = record { config = config; catalogue = with_places c config.spare } in
+    let opening = opening_of config c in
     if are_sizes config then steps_answer opening 1 (opened opening) (lines_of text) else sizes_refused
 
 -- a refused manifest writes only its refusal, sizes out of their limits only theirs

@@ -1,6 +1,8 @@
 -- A store as one value: its log and its nodes.
 use Rattle.std.specs.Prelude.{ℕ, zero, suc, List, [], ◌∷◌, replicate, Option, None}
-use Rattle.loader.specs.CatalogueView.{opening_state}
+use Rattle.loader.specs.CatalogueView.{CatalogueView, opened_on, opening_state, with_places}
+use Rattle.loader.specs.StoreState.{StoreState}
+use Rattle.oplog.specs.declared.configuration.Config.{Config}
 use Rattle.oplog.specs.Logs.{Log, HandView, opened_log, opened_hand}
 use Rattle.combiner.specs.Desks.{DeskView, opened_desk}
 use Rattle.replica.specs.StoreMeaning.{store_meaning}
@@ -29,6 +31,14 @@ pub record WorldView : Type 0 where
   pub nodes : List NodeView
 
 -- ---- the opening
+
+-- what opens a store of these sizes with the maps and programs of a catalogue
+abbrev pub opening_of : Config → CatalogueView → Opening
+opening_of config c = record { config = config; catalogue = with_places c config.spare }
+
+-- the same on a state
+abbrev pub opening_on : Config → CatalogueView → StoreState → Opening
+opening_on config c s = record { config = config; catalogue = opened_on (with_places c config.spare) s }
 
 -- a new node of this number: in the opening state, with nothing copied, nobody at its desk, no batch and no read
 abbrev pub opened_node : Opening → ℕ → NodeView

@@ -1,10 +1,10 @@
 // A store as one value, and its steps.
 
 ghost use Rattle.std.specs.Prelude.{◌≡◌, ◌≢◌, ◌↔◌, ◌<◌, ◌≤◌, [], ◌∷◌, length, replicate, slice_get, Some, None, option_map, IfOk, IfErr, OnErr};
-ghost use Rattle.loader.specs.CatalogueView.{IsCatalogue, MayOpenOn, OpensOn, opened_on, with_places};
+ghost use Rattle.loader.specs.CatalogueView.{IsCatalogue, MayOpenOn, OpensOn, with_places};
 ghost use Rattle.oplog.specs.Limits.{IsConfig};
 ghost use Rattle.oplog.specs.declared.configuration.OpenError.TheVariants.{OtherState, OutOfLimits};
-ghost use Rattle.schedule.specs.Worlds.{opened_node, opened_nodes};
+ghost use Rattle.schedule.specs.Worlds.{opened_node, opened_nodes, opening_of, opening_on};
 ghost use Rattle.schedule.specs.Steps.{node_of, took, world_of};
 ghost use Rattle.schedule.specs.Blocking.{blocked, IsTakenUnless};
 ghost use Rattle.schedule.specs.Stands.{Stands};
@@ -75,7 +75,7 @@ impl World {
         ensures limits { IfErr result (λ e. (e ≡ OutOfLimits) ↔ (IsConfig config → ⊥)) }
         ensures other { IfErr result (λ e. e ≢ OtherState) }
         ensures within { IfOk result (λ w. IsConfig config) }
-        ensures opened { IfOk result (λ w. w ≡ opened_store (record { config = config; catalogue = with_places catalogue config.spare })) }
+        ensures opened { IfOk result (λ w. w ≡ opened_store (opening_of config catalogue)) }
         ensures stands { IfOk result (λ w. Stands w.opening w.world [] [] []) }
     {
         if !config.is_within_limits() {
@@ -104,7 +104,7 @@ impl World {
         ensures limits { IfErr result (λ e. (e ≡ OutOfLimits) ↔ (IsConfig config → ⊥)) }
         ensures other { IfErr result (λ e. (e ≡ OtherState) ↔ IsConfig config × (MayOpenOn (with_places catalogue config.spare) state.now → ⊥)) }
         ensures within { IfOk result (λ w. IsConfig config × MayOpenOn (with_places catalogue config.spare) state.now) }
-        ensures opened { IfOk result (λ w. w ≡ opened_store (record { config = config; catalogue = opened_on (with_places catalogue config.spare) state.now })) }
+        ensures opened { IfOk result (λ w. w ≡ opened_store (opening_on config catalogue state.now)) }
         ensures stands { IfOk result (λ w. Stands w.opening w.world [] [] []) }
     {
         if !config.is_within_limits() {
