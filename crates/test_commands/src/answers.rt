@@ -177,6 +177,86 @@ fn drawn(alloc: Global, folder: &Offered, command: &str, manifest: &[u8]) -> Ans
     }
 }
 
+// What a command on a state or on times answers; nothing where this is none.
+fn on_files(alloc: Global, folder: &Offered, command: &str, text: &[u8]) -> Option<Answer> {
+    if let Some(name) = command.strip_prefix("run:on:") {
+        return run_on(alloc, folder, name, text);
+    }
+    if let Some(name) = command.strip_prefix("serve:on:") {
+        return serve_on(alloc, folder, name, text);
+    }
+    if let Some(name) = command.strip_prefix("replay:on:") {
+        return replay_on(alloc, folder, name, text);
+    }
+    match command {
+        "timed" => timed(alloc, folder, text),
+        _ => None,
+    }
+}
+
+// What `replay` writes.
+fn replayed(alloc: Global, folder: &Offered, mut manifest: &[u8], out: &mut Vec<u8>) -> Status {
+    let mut transcript = folder.other;
+    let mut notes = Notes::none(alloc);
+    replay(
+        alloc,
+        folder,
+        4,
+        &mut manifest,
+        &mut transcript,
+        &mut notes,
+        out,
+    )
+}
+
+// What `serve` writes on a new state.
+fn served(alloc: Global, folder: &Offered, mut manifest: &[u8], out: &mut Vec<u8>) -> Status {
+    let mut input = folder.other;
+    let mut new_state: &[u8] = &[];
+    let end = serve(
+        alloc,
+        folder,
+        4,
+        &mut manifest,
+        &mut new_state,
+        &mut input,
+        out,
+    );
+    end.status
+}
+
+// What `check` writes where the files that the manifest names are what `asm` writes.
+fn assembled(alloc: Global, folder: &Offered, mut manifest: &[u8], out: &mut Vec<u8>) -> Status {
+    let mut program = Vec::new(alloc);
+    let mut source = folder.other;
+    let _ = assemble(alloc, &mut source, &mut program);
+    let other = program.as_slice();
+    let files = folder.files;
+    check(alloc, &Offered { files, other }, &mut manifest, out)
+}
+
+// What a command answers that is neither on a state nor told of.
+fn plain(alloc: Global, folder: &Offered, command: &str, text: &[u8]) -> Option<Answer> {
+    let mut text = text;
+    let mut out = Vec::new(alloc);
+    let mut notes = Notes::none(alloc);
+    let status = match command {
+        "check" => check(alloc, folder, &mut text, &mut out),
+        "replay" => replayed(alloc, folder, text, &mut out),
+        "serve" => served(alloc, folder, text, &mut out),
+        "assembled" => assembled(alloc, folder, text, &mut out),
+        "asm" => assemble(alloc, &mut text, &mut out),
+        "dis" => disassemble(alloc, &mut text, &mut out),
+        "dis:slots" => disassemble_slots(alloc, &mut text, &mut out),
+        "encode" => encode(alloc, &mut text, &mut out),
+        _ => sized(alloc, folder, command, text, &mut notes, &mut out)?,
+    };
+    Some(Answer {
+        status: status.code(),
+        text: out,
+    })
+}
+
 // What a command answers to its text; nothing where there is no such command.
 pub fn answer_to<R: Threads + Wait + Sync>(
     rt: &R,
@@ -200,68 +280,11 @@ pub fn answer_to<R: Threads + Wait + Sync>(
     if command.starts_with("graph") {
         return Some(drawn(alloc, folder, command, text));
     }
-    if let Some(name) = command.strip_prefix("run:on:") {
-        return run_on(alloc, folder, name, text);
-    }
-    if let Some(name) = command.strip_prefix("serve:on:") {
-        return serve_on(alloc, folder, name, text);
-    }
-    if let Some(name) = command.strip_prefix("replay:on:") {
-        return replay_on(alloc, folder, name, text);
-    }
-    if command == "timed" {
-        return timed(alloc, folder, text);
+    if let Some(answer) = on_files(alloc, folder, command, text) {
+        return Some(answer);
     }
     if command.starts_with("run") {
         return Some(ran(alloc, folder, command, text));
     }
-    let mut text = text;
-    let mut out = Vec::new(alloc);
-    let mut notes = Notes::none(alloc);
-    let status = match command {
-        "check" => check(alloc, folder, &mut text, &mut out),
-        "replay" => {
-            let mut transcript = folder.other;
-            replay(
-                alloc,
-                folder,
-                4,
-                &mut text,
-                &mut transcript,
-                &mut notes,
-                &mut out,
-            )
-        }
-        "serve" => {
-            let mut input = folder.other;
-            let mut new_state: &[u8] = &[];
-            serve(
-                alloc,
-                folder,
-                4,
-                &mut text,
-                &mut new_state,
-                &mut input,
-                &mut out,
-            )
-            .status
-        }
-        "assembled" => {
-            let mut program = Vec::new(alloc);
-            let mut source = folder.other;
-            let _ = assemble(alloc, &mut source, &mut program);
-            let other = program.as_slice();
-            let files = folder.files;
-            check(alloc, &Offered { files, other }, &mut text, &mut out)
-        }
-        "asm" => assemble(alloc, &mut text, &mut out),
-        "dis" => disassemble(alloc, &mut text, &mut out),
-        "dis:slots" => disassemble_slots(alloc, &mut text, &mut out),
-        "encode" => encode(alloc, &mut text, &mut out),
-        _ => sized(alloc, folder, command, text, &mut notes, &mut out)?,
-    };
-    Some(Answer {
-        status: status.code(),
-        text: out,
-    })
+    plain(alloc, folder, command, text)
 }

@@ -44,6 +44,51 @@ fn stressed<R: Threads + Wait + Sync>(
     stress(rt, &trial, &mut manifest, &mut calls, out)
 }
 
+// `schedule` on the manifest and its steps.
+fn stepped(alloc: Global, reads: &Turns, out: &mut Narrow<'_>) -> Status {
+    let setup = Setup {
+        config: SIZES,
+        folder: &Programs { turns: reads },
+    };
+    let mut manifest = Slow::new(MANIFEST, reads);
+    let mut steps = Slow::new(STEPS, reads);
+    let mut notes = Notes::none(alloc);
+    schedule(alloc, setup, &mut manifest, &mut steps, &mut notes, out)
+}
+
+// `replay` on the manifest and its transcript.
+fn replayed(alloc: Global, reads: &Turns, out: &mut Narrow<'_>) -> Status {
+    let mut manifest = Slow::new(MANIFEST, reads);
+    let mut transcript = Slow::new(TRANSCRIPT, reads);
+    let mut notes = Notes::none(alloc);
+    replay(
+        alloc,
+        &Programs { turns: reads },
+        4,
+        &mut manifest,
+        &mut transcript,
+        &mut notes,
+        out,
+    )
+}
+
+// `serve` on the manifest and its script, on a new state.
+fn served(alloc: Global, reads: &Turns, out: &mut Narrow<'_>) -> Status {
+    let mut manifest = Slow::new(MANIFEST, reads);
+    let mut new_state: &[u8] = &[];
+    let mut input = Slow::new(SCRIPT, reads);
+    let end = serve(
+        alloc,
+        &Programs { turns: reads },
+        4,
+        &mut manifest,
+        &mut new_state,
+        &mut input,
+        out,
+    );
+    end.status
+}
+
 /// A command on the texts that it is served.
 pub fn ended<R: Threads + Wait + Sync>(
     rt: &R,
@@ -63,47 +108,10 @@ pub fn ended<R: Threads + Wait + Sync>(
         Command::Assemble => assemble(alloc, &mut Slow::new(BUMP_TEXT, reads), out),
         Command::Disassemble => disassemble(alloc, &mut Slow::new(BUMP_LINE, reads), out),
         Command::Slots => disassemble_slots(alloc, &mut Slow::new(BUMP_LINE, reads), out),
-        Command::Schedule => {
-            let config = SIZES;
-            let folder = &folder;
-            let mut steps = Slow::new(STEPS, reads);
-            schedule(
-                alloc,
-                Setup { config, folder },
-                &mut manifest,
-                &mut steps,
-                &mut Notes::none(alloc),
-                out,
-            )
-        }
-        Command::Replay => {
-            let mut transcript = Slow::new(TRANSCRIPT, reads);
-            let mut notes = Notes::none(alloc);
-            replay(
-                alloc,
-                &folder,
-                4,
-                &mut manifest,
-                &mut transcript,
-                &mut notes,
-                out,
-            )
-        }
+        Command::Schedule => stepped(alloc, reads, out),
+        Command::Replay => replayed(alloc, reads, out),
         Command::Stress => stressed(rt, alloc, reads, out),
-        Command::Serve => {
-            let mut new_state: &[u8] = &[];
-            let mut input = Slow::new(SCRIPT, reads);
-            let end = serve(
-                alloc,
-                &folder,
-                4,
-                &mut manifest,
-                &mut new_state,
-                &mut input,
-                out,
-            );
-            end.status
-        }
+        Command::Serve => served(alloc, reads, out),
     }
 }
 
