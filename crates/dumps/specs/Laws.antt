@@ -1,7 +1,7 @@
--- That states and texts are one for one.
-use Rattle.std.specs.Prelude.{◌≡◌, ℕ, List, Ok}
+-- That states and texts are one for one, and which state the empty text says.
+use Rattle.std.specs.Prelude.{◌≡◌, ℕ, List, [], Ok}
 use Rattle.maps.specs.declared.shapes.Shape.{Shape}
-use Rattle.loader.specs.StoreState.{StoreState, IsState}
+use Rattle.loader.specs.StoreState.{StoreState, StateSizes, IsState, opened_state}
 use Rattle.dumps.specs.Loading.{loaded_state}
 use Rattle.dumps.specs.Dumping.{dump}
 
@@ -13,3 +13,7 @@ DumpIsRead =
 -- a text that is loaded as a state is what that state is dumped as
 abbrev pub TextIsDumped : Type 0
 TextIsDumped = (shapes : List Shape) (places : ℕ) (text : List ℕ) (s : StoreState) → loaded_state shapes places text ≡ Ok s → dump s ≡ text
+
+-- an empty text is loaded as a new state
+abbrev pub EmptyIsNew : Type 0
+EmptyIsNew = (z : StateSizes) → loaded_state z.shapes z.places [] ≡ Ok (opened_state z)

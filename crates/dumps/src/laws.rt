@@ -1,6 +1,13 @@
-// That states and texts are one for one, each law proved by the function of its name.
+// That states and texts are one for one, and which state the empty text says: each law proved by the function of its name.
 
-ghost use Rattle.dumps.specs.Laws.{DumpIsRead, TextIsDumped};
+ghost use Rattle.std.specs.Prelude.{◌≡◌};
+ghost use Rattle.dumps.specs.declared.lines.TheConstants.{DUMP_LINE_BYTES};
+ghost use Rattle.dumps.specs.Laws.{DumpIsRead, EmptyIsNew, TextIsDumped};
+
+/// The limit that the definitions cite, as a number.
+pub fn limits()
+    ensures bytes_of_a_line { DUMP_LINE_BYTES ≡ 675 }
+{}
 
 /// What a state is dumped as is loaded as that state, on maps of its shapes and with as many places.
 pub fn dump_is_read()
@@ -10,4 +17,9 @@ pub fn dump_is_read()
 /// A text that is loaded as a state is what that state is dumped as: each state has one text.
 pub fn text_is_dumped()
     ensures { TextIsDumped }
+{}
+
+/// An empty text is loaded as a new state: maps as they are opened, and no program is installed.
+pub fn empty_is_new()
+    ensures { EmptyIsNew }
 {}

@@ -156,8 +156,8 @@ pub fn replay_timed_reply<F: Folder, R: Source, S: Source, L: Source, H: Source>
 /// have a number in common. Else `history line N bad` is written for the first line that is not so behind those before it, or for the
 /// number behind the last where one is lacking. Then of each session the calls must be made one after the other, in the order of LINE: else
 /// it is written for the first line that begins while an earlier call of its session wasn't back, or behind one of a LINE that isn't lower.
-/// Then a call that was back before another began must not stand behind it in the transcript: `history line N differs` is
-/// written for the first that does. Says how it ended. Each file is read whole before anything is written, and where a read
+/// Then a call that was back before another began must have no higher rank, an update at index i 2i + 1 and a read at point p 2p:
+/// `history line N differs` is written for the first that has. Says how it ended. Each file is read whole before anything is written, and where a read
 /// fails, nothing is written. The notes tell what they tell of a replay.
 pub fn replay_timed<F: Folder, R: Source, S: Source, L: Source, H: Source, W: Sink>(
     alloc: Global,

@@ -1,6 +1,13 @@
 // What the definitions of a history say, in other words.
 
+ghost use Rattle.std.specs.Prelude.{◌≡◌};
+ghost use Rattle.realtime.specs.declared.histories.TheConstants.{SESSIONS};
 ghost use Rattle.realtime.specs.Laws.{LinesAreCalls, TurnsAreTaken, PlacesAreReal, MisplacedIsShown, GoodIsReal, DiffersIsShown};
+
+/// The limit that the definitions cite, as a number.
+pub fn limits()
+    ensures sessions { SESSIONS ≡ 128 }
+{}
 
 /// A history whose lines are good has one for each call of its transcript, in its order. Each call began at one number and was back at a
 /// higher one, and no two have a number in common.

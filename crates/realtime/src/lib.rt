@@ -10,4 +10,4 @@ mod turns;
 
 pub use engine::{replay_timed, replay_timed_reply};
 pub use histories::SESSIONS;
-pub use laws::{good_is_real, lines_are_calls, places_are_real, turns_are_taken};
+pub use laws::{good_is_real, limits, lines_are_calls, places_are_real, turns_are_taken};
