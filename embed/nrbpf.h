@@ -87,7 +87,7 @@ enum {
     NRBPF_H8                                    // the host was compiled with a header that this library does not know
 };
 
-// Why nrbpf_open or nrbpf_install refused. What does not apply is 0.
+// Why a call refused that opens or installs. What does not apply is 0.
 typedef struct nrbpf_error {
     nrbpf_status status;
     nrbpf_status inner;                         // of C3, C4, S7 and S8: what is wrong with the program, with the letter D or V

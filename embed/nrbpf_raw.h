@@ -24,14 +24,14 @@ extern "C" {
 #endif
 
 enum {
-    NRBPF_RAW_BUSY = 1,     /* another session held a place, and nothing has changed: call again */
+    NRBPF_RAW_BUSY = 1,     /* another session held a place, and nothing is asked: call again */
     NRBPF_RAW_AGAIN = 2,    /* an update is posted, once, and not answered: call again, and go on soon */
     NRBPF_RAW_H1 = 'H' << 8 | 1, /* attach: no session of this node is free, or there is no such node */
     NRBPF_RAW_H2,           /* the handle is not open: the opening was refused, or the session was not given */
     NRBPF_RAW_H3,           /* a read, or a detach, while an update is out */
     NRBPF_RAW_H4,           /* a text is not UTF-8: the manifest, a file, its name, or the name of a program */
     NRBPF_RAW_H5,           /* a word is none of a call: `call` above 2, `mode` above 1, `length` above 192 */
-    NRBPF_RAW_H6            /* detach: the session is of another store */
+    NRBPF_RAW_H6            /* detach: the session is of another store; close_into: a part of the store is elsewhere, and it is ended */
 };
 
 /* ---- what is passed in */

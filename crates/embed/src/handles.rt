@@ -1,4 +1,4 @@
-// What crosses: what a store is opened with, and what lies at its two kinds of handle.
+// What crosses: what a store is opened with, and what lies at its handles.
 
 ghost use Rattle.std.specs.Prelude.{◌≡◌};
 

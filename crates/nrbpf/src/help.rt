@@ -20,7 +20,8 @@ the file FILE, as hexadecimal digits; its MODE is update or read, and its argume
 `nrbpf check --help` says more, `nrbpf run --help` how programs are called, and `nrbpf asm --help` how they are
 written as text.
 
-A path `-` on the command line is standard input, for one file of a command.
+A path `-` on the command line is standard input, for one file that a command reads, and standard output for one
+that it writes.
 
 Exit statuses: 0 all is well, 2 wrong words on the command line, 3 refused, 4 no memory,
 5 a file cannot be read or the output cannot be written, 6 a transcript differs.";

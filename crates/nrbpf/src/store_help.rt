@@ -141,10 +141,11 @@ With `--history FILE` the times of the calls are judged too, as `nrbpf stress --
 each call of the transcript, in the same order,
     SESSION LINE BEGIN END    who made it, on which line of the script, and when it began and ended: the numbers from 0 on
                               that all calls took from one counter, before and behind
-A call that had ended before another began has to stand before it: an update at the lower index, a read of no higher
-point, a read behind all that were there when it began. Where all agrees but this:
-    history line N bad        line N is no such line, or there is none, or its numbers don't fit with those before
-    history line N differs    the call of line N had ended before one began that stands before it
+A call that had ended before another began may not stand behind it: an update has the lower index, a read no higher
+point, and a read has seen all updates that had ended when it began. Where all agrees but this:
+    history line N bad        line N is no such line, or there is none, its numbers don't fit with those before, or it is
+                              out of its session's turn
+    history line N differs    the call of line N had ended before one began that has to stand behind it, and doesn't
 
 With `--explain` standard error says of a line that differs what it should tell, or that the history has its updates:
     line 2: differs: should be point 1 reply 1
@@ -242,8 +243,8 @@ manifest of examples/counter, the script
 writes `u 0 bump 00000000 1` and `u 1 bump 00000000 2`.
 
 With `--history FILE` the times of the calls are put into FILE, for `nrbpf replay --history FILE`: which calls had ended
-before others began, by one counter that all threads raise, before and behind each call. Raising it keeps the threads in
-step, so it's worth a run with it and one without. `--load` and `--dump` are those of `nrbpf run`; what is loaded is to be
+before others began, by one counter that all threads raise, before and behind each call. Raising it is a memory
+barrier, so it's worth a run with it and one without. `--load` and `--dump` are those of `nrbpf run`; what is loaded is to be
 given to `nrbpf replay --load` too. `--stats` says on standard error how many calls there were, how long they took, and how many
 updates sessions appended at once, for the sessions of their node.
 

@@ -113,7 +113,7 @@ impl Session {
         (seat, caller)
     }
 
-    /// What it has combined since the store was opened, for statistics: no clause speaks of it.
+    /// What it has combined since it was opened, or came back from a [`Polled`](crate::Polled), which counts nothing. For statistics: no clause speaks of it.
     pub fn batches(&self) -> Batches {
         self.batches
     }
