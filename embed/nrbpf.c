@@ -177,11 +177,11 @@ static nrbpf_status ask(nrbpf_session *session, struct asked it, const void *byt
     return go_on(session, out, why);
 }
 
-// Spins for longer from try to try, and then lets another thread run.
+// Spins for longer from try to try, some microseconds in all, and then lets another thread run.
 static nrbpf_status wait_for(nrbpf_session *session, struct asked it, const void *bytes, size_t len, nrbpf_answer *out, nrbpf_error *why) {
     nrbpf_status status = ask(session, it, bytes, len, out, why);
     for (unsigned tries = 0; status == NRBPF_BUSY || status == NRBPF_POSTED; tries++) {
-        if (tries < 7) for (volatile unsigned spin = 0; spin < 1u << tries; spin++) {}
+        if (tries < 9) for (volatile unsigned spin = 0; spin < 16u << tries; spin++) {}
         else sched_yield();
         status = go_on(session, out, why);
     }
