@@ -1,7 +1,8 @@
 /* Times the store through nrbpf.h on 1, 2 and 4 threads and 1 and 2 nodes, with none, 90 and all of 100 calls reads, and prints how many calls a
    second each makes. Beside it stand a mutex round one session of a store of one node, which is one replica of the same machine, and a mutex
    round the interpreter of threaded.c, which trusts every program. All threads begin at once, behind a barrier, and a round is long enough
-   that they run beside each other. It runs in the top folder. */
+   that they run beside each other. With two words, `update N` or `read N`, one session makes so many calls and nothing is timed, to count their
+   processor instructions. It runs in the top folder. */
 
 #include "threaded.c"
 
@@ -164,13 +165,15 @@ static pthread_barrier_t start;
 static void *work(void *of) {
     struct worker *mine = of;
     struct load load = mine->load;
+    uint64_t sum = 0; /* not in *mine, whose cache line another thread may have */
     pthread_barrier_wait(&start);
     mine->from = now();
     for (uint64_t i = 0; i < load.calls; i++) {
         const uint8_t argument[4] = {(uint8_t)(i % ENTRIES)};
-        mine->sum += i % 100 < load.reads ? mine->kind->read(mine->number, argument) : mine->kind->update(mine->number, argument);
+        sum += i % 100 < load.reads ? mine->kind->read(mine->number, argument) : mine->kind->update(mine->number, argument);
     }
     mine->to = now();
+    mine->sum = sum;
     return NULL;
 }
 
@@ -205,7 +208,21 @@ static double rate_of(const struct kind *kind, struct load load) {
     return (double)load.threads * (double)load.calls / time_of(kind, load) * 1e3;
 }
 
-int main(void) {
+/* Makes so many calls of one session. */
+static int make_calls(const char *call, long times) {
+    int is_read = strcmp(call, "read") == 0;
+    open_one((struct load){0});
+    for (long i = 0; i < times; i++) {
+        const uint8_t argument[4] = {(uint8_t)(i % ENTRIES)};
+        if (is_read) read_shared(0, argument);
+        else update_shared(0, argument);
+    }
+    close_one((struct load){0});
+    return 0;
+}
+
+int main(int count, char **words) {
+    if (count == 3) return make_calls(words[1], strtol(words[2], NULL, 10));
     const int spreads[][2] = {{1, 1}, {2, 1}, {2, 2}, {4, 1}, {4, 2}};
     const uint64_t mixes[] = {0, 90, 100};
     printf("Millions of calls a second, the best of %d rounds\n%-8s%-8s%-8s", ROUNDS, "threads", "nodes", "reads");

@@ -54,16 +54,18 @@ static int turn(struct poller *mine, int session, long call) {
 static void *poll(void *of) {
     struct poller *mine = of;
     long made[EACH] = {0}, most = CALLS / mine->load.threads / EACH;
+    long turns = 0; /* not in *mine, whose cache line another thread may have */
     pthread_barrier_wait(&start);
     mine->from = now();
     for (int left = EACH; left > 0;)
         for (int i = 0; i < EACH; i++) {
             if (made[i] == most) continue;
-            mine->turns++;
+            turns++;
             made[i] += turn(mine, i, made[i]);
             left -= made[i] == most;
         }
     mine->to = now();
+    mine->turns = turns;
     return NULL;
 }
 
