@@ -150,8 +150,8 @@ struct asked {
     uint64_t call, program, mode, argument;
 };
 
-static int is_asked(const struct nrbpf_raw_session *raw, struct asked it, const void *bytes, size_t len) {
-    return raw->call == it.call && raw->program == it.program && raw->mode == it.mode && raw->argument == it.argument && raw->length == len &&
+static int is_asked(const struct nrbpf_raw_session *raw, const struct asked *it, const void *bytes, size_t len) {
+    return raw->call == it->call && raw->program == it->program && raw->mode == it->mode && raw->argument == it->argument && raw->length == len &&
            (len == 0 || memcmp(raw->bytes, bytes, len) == 0);
 }
 
@@ -165,20 +165,20 @@ static nrbpf_status go_on(nrbpf_session *session, nrbpf_answer *out, nrbpf_error
     return status;
 }
 
-static nrbpf_status ask(nrbpf_session *session, struct asked it, const void *bytes, size_t len, nrbpf_answer *out, nrbpf_error *why) {
+static nrbpf_status ask(nrbpf_session *session, const struct asked *it, const void *bytes, size_t len, nrbpf_answer *out, nrbpf_error *why) {
     if (!session || (!bytes && len) || !out) return refused(why, (nrbpf_error){.status = NRBPF_H7});
     if (!session->of) return refused(why, (nrbpf_error){.status = NRBPF_H2});
     struct nrbpf_raw_session *raw = &session->raw;
     if (session->is_out) return is_asked(raw, it, bytes, len) ? go_on(session, out, why) : refused(why, (nrbpf_error){.status = NRBPF_H3});
-    if (len > sizeof raw->bytes && it.call == NRBPF_RAW_INSTALL) return refused(why, (nrbpf_error){.status = NRBPF_S6});
-    raw->call = it.call, raw->program = it.program, raw->mode = it.mode, raw->argument = it.argument;
+    if (len > sizeof raw->bytes && it->call == NRBPF_RAW_INSTALL) return refused(why, (nrbpf_error){.status = NRBPF_S6});
+    raw->call = it->call, raw->program = it->program, raw->mode = it->mode, raw->argument = it->argument;
     raw->length = len < sizeof raw->bytes ? len : sizeof raw->bytes; // no argument of a program has as many: S2
     if (len && len <= sizeof raw->bytes) memcpy(raw->bytes, bytes, len);
     return go_on(session, out, why);
 }
 
 // Spins for longer from try to try, some microseconds in all, and then lets another thread run.
-static nrbpf_status wait_for(nrbpf_session *session, struct asked it, const void *bytes, size_t len, nrbpf_answer *out, nrbpf_error *why) {
+static nrbpf_status wait_for(nrbpf_session *session, const struct asked *it, const void *bytes, size_t len, nrbpf_answer *out, nrbpf_error *why) {
     nrbpf_status status = ask(session, it, bytes, len, out, why);
     for (unsigned tries = 0; status == NRBPF_BUSY || status == NRBPF_POSTED; tries++) {
         if (tries < 9) for (volatile unsigned spin = 0; spin < 16u << tries; spin++) {}
@@ -189,11 +189,11 @@ static nrbpf_status wait_for(nrbpf_session *session, struct asked it, const void
 }
 
 #define RUN nrbpf_session *session, uint16_t program, const void *argument, size_t len, nrbpf_answer *out
-nrbpf_status nrbpf_update(RUN) { return wait_for(session, (struct asked){NRBPF_RAW_UPDATE, program, 0, 0}, argument, len, out, NULL); }
-nrbpf_status nrbpf_read(RUN) { return wait_for(session, (struct asked){NRBPF_RAW_READ, program, 0, 0}, argument, len, out, NULL); }
-nrbpf_status nrbpf_try_update(RUN) { return ask(session, (struct asked){NRBPF_RAW_UPDATE, program, 0, 0}, argument, len, out, NULL); }
-nrbpf_status nrbpf_try_read(RUN) { return ask(session, (struct asked){NRBPF_RAW_READ, program, 0, 0}, argument, len, out, NULL); }
+nrbpf_status nrbpf_update(RUN) { return wait_for(session, &(struct asked){NRBPF_RAW_UPDATE, program, 0, 0}, argument, len, out, NULL); }
+nrbpf_status nrbpf_read(RUN) { return wait_for(session, &(struct asked){NRBPF_RAW_READ, program, 0, 0}, argument, len, out, NULL); }
+nrbpf_status nrbpf_try_update(RUN) { return ask(session, &(struct asked){NRBPF_RAW_UPDATE, program, 0, 0}, argument, len, out, NULL); }
+nrbpf_status nrbpf_try_read(RUN) { return ask(session, &(struct asked){NRBPF_RAW_READ, program, 0, 0}, argument, len, out, NULL); }
 
 #define INSTALL nrbpf_session *session, uint32_t mode, uint32_t argument_len, const void *bytes, size_t len, nrbpf_answer *out, nrbpf_error *why
-nrbpf_status nrbpf_install(INSTALL) { return wait_for(session, (struct asked){NRBPF_RAW_INSTALL, 0, mode, argument_len}, bytes, len, out, why); }
-nrbpf_status nrbpf_try_install(INSTALL) { return ask(session, (struct asked){NRBPF_RAW_INSTALL, 0, mode, argument_len}, bytes, len, out, why); }
+nrbpf_status nrbpf_install(INSTALL) { return wait_for(session, &(struct asked){NRBPF_RAW_INSTALL, 0, mode, argument_len}, bytes, len, out, why); }
+nrbpf_status nrbpf_try_install(INSTALL) { return ask(session, &(struct asked){NRBPF_RAW_INSTALL, 0, mode, argument_len}, bytes, len, out, why); }

@@ -44,8 +44,8 @@ impl Batches {
     /// These and those.
     pub fn and(self, others: Batches) -> Batches {
         Batches {
-            count: self.count.saturating_add(others.count),
-            requests: self.requests.saturating_add(others.requests),
+            count: self.count.wrapping_add(others.count),
+            requests: self.requests.wrapping_add(others.requests),
             largest: self.largest.max(others.largest),
         }
     }

@@ -368,6 +368,7 @@ pub(crate) fn answer_there(
 
 // Takes the replica of the caller's node, and brings it up to the tail that is completed now. Where another session holds the replica, or
 // the log, which a replica that lacks something takes, it answers that place: the session holds nothing then.
+#[inline(always)]
 pub(crate) fn try_hold_ready(
     shared: Shared<'_>,
     seat: &mut Seat<Value>,
