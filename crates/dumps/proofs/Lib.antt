@@ -15,3 +15,4 @@ pub mod Belongs
 pub mod Reread
 pub mod Writing
 pub mod LoadedFor
+pub mod Ascii

@@ -1,5 +1,5 @@
 -- That states and texts are one for one, and which state the empty text says.
-use Rattle.std.specs.Prelude.{◌≡◌, ℕ, List, [], Ok}
+use Rattle.std.specs.Prelude.{◌≡◌, ℕ, List, [], Ok, IsUtf8}
 use Rattle.maps.specs.declared.shapes.Shape.{Shape}
 use Rattle.loader.specs.StoreState.{StoreState, StateSizes, IsState, opened_state}
 use Rattle.dumps.specs.Loading.{loaded_state}
@@ -9,6 +9,10 @@ use Rattle.dumps.specs.Dumping.{dump}
 abbrev pub DumpIsRead : Type 0
 DumpIsRead =
     (shapes : List Shape) (places : ℕ) (s : StoreState) → IsState (record { shapes = shapes; places = places }) s → loaded_state shapes places (dump s) ≡ Ok s
+
+-- what a state is dumped as is UTF-8, as all that is loaded has to be
+abbrev pub DumpIsText : Type 0
+DumpIsText = (s : StoreState) → IsUtf8 (dump s)
 
 -- a text that is loaded as a state is what that state is dumped as
 abbrev pub TextIsDumped : Type 0

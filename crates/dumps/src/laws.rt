@@ -2,16 +2,17 @@
 
 ghost use Rattle.std.specs.Prelude.{◌≡◌};
 ghost use Rattle.dumps.specs.declared.lines.TheConstants.{DUMP_LINE_BYTES};
-ghost use Rattle.dumps.specs.Laws.{DumpIsRead, EmptyIsNew, TextIsDumped};
+ghost use Rattle.dumps.specs.Laws.{DumpIsRead, DumpIsText, EmptyIsNew, TextIsDumped};
 
 /// The limit that the definitions cite, as a number.
 pub fn limits()
     ensures bytes_of_a_line { DUMP_LINE_BYTES ≡ 675 }
 {}
 
-/// What a state is dumped as is loaded as that state, on maps of its shapes and with as many places.
+/// What a state is dumped as is text, and is loaded as that state, on maps of its shapes and with as many places.
 pub fn dump_is_read()
-    ensures { DumpIsRead }
+    ensures text { DumpIsText }
+    ensures read { DumpIsRead }
 {}
 
 /// A text that is loaded as a state is what that state is dumped as: each state has one text.
