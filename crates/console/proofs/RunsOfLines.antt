@@ -1,5 +1,5 @@
 -- Each line that a run writes for a call is a run of its program.
-use Rattle.std.proofs.Common.{◌≡◌, ◌⊎◌, inl, inr, ℕ, zero, suc, ◌<◌, Bool, true, false, cond, eqb, ltb, List, [], ◌∷◌, ◌++◌, length, Option, Some, None, Result, Ok, Err, refl, sym, ap, subst, ◌∙◌, arith}
+use Rattle.std.proofs.Common.{◌≡◌, ◌⊎◌, inl, inr, ℕ, zero, suc, ◌<◌, ◌≤◌, Bool, true, false, cond, eqb, ltb, List, [], ◌∷◌, ◌++◌, length, Option, Some, None, Result, Ok, Err, refl, sym, ap, subst, ◌∙◌}
 use Rattle.std.specs.Prelude.{◌-◌, option_map, slice_get, if◌then◌else◌, bytes_eq, codes}
 use Rattle.std.specs.Option.{option_or}
 use Rattle.std.proofs.lemmas.Bool.{ltb-true, lt-ltb, eqb-true, false≢true}
@@ -8,7 +8,7 @@ use Rattle.hex.specs.Hex.{decode_of}
 use Rattle.hex.proofs.HexLemmas.{decode_of-ok}
 use Rattle.maps.specs.Maps.{AreBytes}
 use Rattle.machine.specs.Effects.{Effect as RunEffect}
-use Rattle.loader.specs.StoreState.{StoreState}
+use Rattle.loader.specs.StoreState.{StoreState, IsState}
 use Rattle.insn.proofs.Slots.{are_bytes}
 use Rattle.verifier.specs.declared.refusal.Mode.{Mode}
 use Rattle.verifier.specs.declared.refusal.Mode.TheVariants.{Update, Read}
@@ -19,13 +19,16 @@ use Rattle.text.specs.Words.{is_name, number_of}
 use Rattle.text.specs.Digits.{good, field_bytes}
 use Rattle.text.proofs.LineReadings.{IsSilent, by_kind_from}
 use Rattle.text.proofs.Cuts.{steps, where_true}
-use Rattle.loader.specs.CatalogueView.{CatalogueView, IsCatalogue, number_named, with_places, opening_state}
+use Rattle.loader.specs.CatalogueView.{CatalogueView, IsCatalogue, number_named, opened_on, opening_state, sizes_for, with_places}
+use Rattle.loader.specs.declared.installed.TheConstants.{MAX_PLACES}
 use Rattle.loader.specs.Grammar.{mode_of}
 use Rattle.loader.specs.ProgramFiles.{Files}
 use Rattle.loader.specs.Loading.{nothing_yet, loaded}
 use Rattle.loader.proofs.Outcomes.{ok_from}
 use Rattle.loader.proofs.Passed.{passes_stay}
 use Rattle.loader.proofs.Steps.{is_catalogue, nothing_partial}
+use Rattle.dumps.specs.Loading.{Outcome, loaded_state}
+use Rattle.dumps.proofs.LoadedState.{loaded_is_state}
 use Rattle.oplog.specs.declared.configuration.TheConstants.{MAX_LIMIT}
 use Rattle.oplog.specs.declared.records.Record.{Record}
 use Rattle.oplog.specs.Calls.{Call as TheCall, NewProgram}
@@ -40,11 +43,11 @@ use Rattle.replica.specs.declared.refusals.StoreRefused.TheVariants.{UnknownProg
 use Rattle.replica.proofs.Asked.{is_asked, may_install}
 use Rattle.replica.proofs.Tested.{tests_offered, suits_so, offered_below}
 use Rattle.replica.proofs.Histories.{have_effects}
-use Rattle.console.specs.declared.single_node.TheConstants.{RUN_PLACES}
 use Rattle.console.specs.Answer.{Answer}
 use Rattle.console.specs.Script.{ProgramCall, Meaning, Comment, Call, InvokeAt, ReadAt, Install, named_call, numbered_call, program_fields, new_program, word_meaning, call_meaning, line_meaning}
-use Rattle.console.specs.RunAnswer.{Turn, refused, with_operation, update_line, read_line, install_line, submitted, performed, performed_by, numbered, called, unless_refused, taken, line_turn, behind, bad_line, by_turn, lines_answer, ran}
-use Rattle.console.specs.RunLines.{CallRuns, IsUpdateTurn, IsReadTurn, IsInstallTurn, IsRefusedTurn, MeaningTurn, LineTurn, ScriptRuns, RunLinesAreRuns}
+use Rattle.console.specs.RunAnswer.{Turn, refused, with_operation, update_line, read_line, install_line, submitted, performed, performed_by, numbered, called, unless_refused, taken, line_turn, behind, bad_line, by_turn, lines_answer}
+use Rattle.console.specs.RunLines.{CallRuns, IsUpdateTurn, IsReadTurn, IsInstallTurn, IsRefusedTurn, MeaningTurn, LineTurn, ScriptRuns, LineTurnsAreRuns, RunLinesAreRuns, LoadedIsCatalogue, OpenedIsCatalogue}
+use Rattle.console.specs.StateAnswer.{on_loaded}
 use Rattle.console.proofs.Turns.{after_append, whole}
 
 -- ---- the bytes of a call
@@ -98,7 +101,7 @@ HasBytes (InvokeAt call) = AreBytes call.argument
 HasBytes (ReadAt call) = AreBytes call.argument
 HasBytes (Install new) = AreBytes new.bytes
 
-mapped : {A : Type 0} (f : A → Meaning) (o : Option A) (m : Meaning) → option_map f o ≡ Some m → (x : A) × (o ≡ Some x) × (f x ≡ m)
+mapped : {A B : Type 0} (f : A → B) (o : Option A) (m : B) → option_map f o ≡ Some m → (x : A) × (o ≡ Some x) × (f x ≡ m)
 mapped f None m e = absurd cc
 mapped f (Some x) m e = (x, refl, same_Some (f x) m e)
 
@@ -292,7 +295,7 @@ unfolding lines_answer line_turn
 lines_run c is_whole [] n h updates = refl
 lines_run c is_whole (l ∷ ls) n h updates = line_runs c is_whole l ls n h updates (λ g u. lines_run c is_whole ls (next_line n) g u) (line_meaning l) refl
 
--- ---- the law
+-- ---- the laws
 
 loaded_catalogue : (text : List ℕ) (files : Files) (c : CatalogueView) → loaded text files ≡ Ok c → IsCatalogue c
 unfolding loaded
@@ -300,15 +303,39 @@ loaded_catalogue text files c e =
     let p = ok_from files (lines_of text) 1 nothing_yet c e in
     is_catalogue c (passes_stay files (lines_of text) nothing_yet c nothing_partial p.0) p.1
 
-no_updates : (c : CatalogueView) → AreUpdates c []
-no_updates c k r e = absurd cc
+-- a catalogue with so many places is one
+placed_catalogue : (c : CatalogueView) (places : ℕ) → IsCatalogue c → places ≤ MAX_PLACES → IsCatalogue (with_places c places)
+placed_catalogue c places is few = record { shapes = is.shapes; accepted = is.accepted; checked = is.checked; distinct = is.distinct; few = is.few; few_places = few; opening = tt }
 
--- a catalogue with places for a run's programs is one
-placed_catalogue : (c : CatalogueView) → IsCatalogue c → IsCatalogue (with_places c RUN_PLACES)
-placed_catalogue c is = record { shapes = is.shapes; accepted = is.accepted; checked = is.checked; distinct = is.distinct; few = is.few; few_places = omega arith; opening = tt }
+pub line_turns_are_runs : LineTurnsAreRuns
+unfolding line_turn
+line_turns_are_runs c h line turn is updates e =
+    let m = mapped (taken c h) (line_meaning line) turn e in
+    let g = goes c is h updates m.0 (line_bytes line m.0 m.1) in
+    subst (λ (t : Turn). LineTurn c h line t × AreUpdates c t.history) m.2 ((m.0, m.1, g.0), g.1)
 
 pub run_lines_are_runs : RunLinesAreRuns
-run_lines_are_runs manifest files c script e =
-    let offered : CatalogueView = with_places c RUN_PLACES in
-    subst (λ o. ScriptRuns offered 1 [] (lines_of script) (ran o script)) (sym e)
-    (lines_run offered (placed_catalogue c (loaded_catalogue manifest files c e)) (lines_of script) 1 [] (no_updates offered))
+run_lines_are_runs c n h ls is updates = lines_run c is ls n h updates
+
+pub loaded_is_catalogue : LoadedIsCatalogue
+loaded_is_catalogue manifest files c places e few = placed_catalogue c places (loaded_catalogue manifest files c e) few
+
+pub opened_is_catalogue : OpenedIsCatalogue
+opened_is_catalogue c on state is e = by (loaded_state c.shapes c.places state) refl e
+  where
+    opened : (s : StoreState) → IsState (sizes_for c) s → IsCatalogue (opened_on c s)
+    opened s has = record {
+      shapes = is.shapes;
+      accepted = is.accepted;
+      checked = is.checked;
+      distinct = is.distinct;
+      few = is.few;
+      few_places = is.few_places;
+      opening = record { maps = has.maps; places = refl; programs = has.programs };
+    }
+
+    by : (o : Outcome) → loaded_state c.shapes c.places state ≡ o → on_loaded c o ≡ Ok on → IsCatalogue on
+    by (Err refusal) read h = absurd cc
+    by (Ok s) read h =
+        let same : opened_on c s ≡ on = cc in
+        subst IsCatalogue same (opened s (loaded_is_state c.shapes c.places is.shapes state s is.few_places read))

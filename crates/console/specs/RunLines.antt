@@ -1,11 +1,12 @@
 -- What stands behind the lines that a run writes: each update and each read is a run of its program.
-use Rattle.std.specs.Prelude.{◌≡◌, ◌⊎◌, ℕ, ◌<◌, List, [], ◌∷◌, length, Some, None, Ok}
+use Rattle.std.specs.Prelude.{◌≡◌, ◌⊎◌, ℕ, ◌<◌, ◌≤◌, List, [], ◌∷◌, length, Some, None, Ok}
 use Rattle.verifier.specs.declared.refusal.Mode.{Mode}
 use Rattle.verifier.specs.declared.refusal.Mode.TheVariants.{Update, Read}
 use Rattle.verifier.specs.Accepted.{Checked}
 use Rattle.machine.specs.Effects.{IsRun, Effect as RunEffect}
-use Rattle.text.specs.Lines.{lines_of, next_line}
-use Rattle.loader.specs.CatalogueView.{CatalogueView, number_named, with_places}
+use Rattle.text.specs.Lines.{next_line}
+use Rattle.loader.specs.CatalogueView.{CatalogueView, IsCatalogue, number_named, with_places}
+use Rattle.loader.specs.declared.installed.TheConstants.{MAX_PLACES}
 use Rattle.loader.specs.Installed.{installed_program}
 use Rattle.loader.specs.ProgramFiles.{Files}
 use Rattle.loader.specs.Loading.{loaded}
@@ -13,14 +14,14 @@ use Rattle.oplog.specs.declared.configuration.TheConstants.{MAX_LIMIT}
 use Rattle.oplog.specs.Calls.{Call as TheCall, NewProgram}
 use Rattle.oplog.specs.declared.records.Op.TheVariants.{Run, Install as AnInstall}
 use Rattle.oplog.specs.History.{History, state_after}
-use Rattle.replica.specs.StoreMeaning.{program_at, placed, store_meaning}
+use Rattle.replica.specs.StoreMeaning.{AreUpdates, program_at, placed, store_meaning}
 use Rattle.replica.specs.HistoryLaws.{IsEffectOf}
 use Rattle.replica.specs.declared.refusals.StoreRefused.{StoreRefused}
-use Rattle.console.specs.declared.single_node.TheConstants.{RUN_PLACES}
 use Rattle.console.specs.declared.status.Verdict.TheVariants as verdicts
 use Rattle.console.specs.Answer.{Answer}
 use Rattle.console.specs.Script.{ProgramCall, Meaning, Comment, Call, InvokeAt, ReadAt, Install, line_meaning}
-use Rattle.console.specs.RunAnswer.{Turn, update_text, read_text, install_text, refused_text, with_operation, behind, bad_line, ran}
+use Rattle.console.specs.RunAnswer.{Turn, update_text, read_text, install_text, refused_text, with_operation, behind, bad_line, line_turn, lines_answer}
+use Rattle.console.specs.StateAnswer.{on_text}
 
 -- what a call does on the state after the whole history: the run of its program there, or nothing, with the reply that there is none
 abbrev pub CallDoes : CatalogueView → History → TheCall → Mode → RunEffect → Type 0
@@ -91,7 +92,19 @@ ScriptRuns c n h (l ∷ ls) a =
     ((line_meaning l ≡ None) × (a ≡ bad_line n))
     ⊎ ((turn : Turn) × (rest : Answer) × LineTurn c h l turn × ScriptRuns c (next_line n) turn.history ls rest × (a ≡ behind turn.text rest))
 
--- what a run writes for a manifest that is loaded are the runs of its programs and of those that it installs, from the opening maps on
+-- on any history of a catalogue's updates the turn of a line does what the line says, and leaves such a history
+abbrev pub LineTurnsAreRuns : Type 0
+LineTurnsAreRuns =
+    (c : CatalogueView) (h : History) (line : List ℕ) (turn : Turn) → IsCatalogue c → AreUpdates c h → line_turn c h line ≡ Some turn → LineTurn c h line turn × AreUpdates c turn.history
+
+-- and what lines write from there on are the runs of its programs and of those that are installed, from the state on that a store of it opens on
 abbrev pub RunLinesAreRuns : Type 0
-RunLinesAreRuns =
-    (manifest : List ℕ) (files : Files) (c : CatalogueView) (script : List ℕ) → loaded manifest files ≡ Ok c → ScriptRuns (with_places c RUN_PLACES) 1 [] (lines_of script) (ran (loaded manifest files) script)
+RunLinesAreRuns = (c : CatalogueView) (n : ℕ) (h : History) (ls : List (List ℕ)) → IsCatalogue c → AreUpdates c h → ScriptRuns c n h ls (lines_answer c n h ls)
+
+-- what a manifest is loaded as is a catalogue, with any number of places that a command gives it
+abbrev pub LoadedIsCatalogue : Type 0
+LoadedIsCatalogue = (manifest : List ℕ) (files : Files) (c : CatalogueView) (places : ℕ) → loaded manifest files ≡ Ok c → places ≤ MAX_PLACES → IsCatalogue (with_places c places)
+
+-- and it is one where it opens on the state that a text says
+abbrev pub OpenedIsCatalogue : Type 0
+OpenedIsCatalogue = (c on : CatalogueView) (state : List ℕ) → IsCatalogue c → on_text c state ≡ Ok on → IsCatalogue on

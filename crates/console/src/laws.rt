@@ -1,7 +1,7 @@
 // What the definitions of a run say, in other words.
 
 ghost use Rattle.std.specs.Prelude.{◌≡◌};
-ghost use Rattle.console.specs.RunLines.{RunLinesAreRuns};
+ghost use Rattle.console.specs.RunLines.{LineTurnsAreRuns, LoadedIsCatalogue, OpenedIsCatalogue, RunLinesAreRuns};
 ghost use Rattle.console.specs.SignedLaws.{RepliesAreTold};
 ghost use Rattle.console.specs.declared.single_node.TheConstants.{RUN_PLACES};
 
@@ -10,12 +10,18 @@ pub fn limits()
     ensures places_of_a_run { RUN_PLACES ≡ 4 }
 {}
 
-/// What `run` writes for a manifest that is loaded: each line of the script has its turn, one after the other, until a bad
+/// What the lines of a script write on a catalogue, behind any updates: each line has its turn, one after the other, until a bad
 /// line. A call is refused, or its line has the reply and the steps of the run of its program on the maps after that many
 /// updates, and an update leaves the maps of its run; of a call by number it is the run of what stands there, or -22. An install is
 /// refused, or its line has the number of the program that its bytes spell, or -7.
+///
+/// Such a catalogue is what a manifest is loaded as, with at most 16 places behind its programs, on a new state and on each that a text
+/// says.
 pub fn run_lines_are_runs()
+    ensures turns { LineTurnsAreRuns }
     ensures runs { RunLinesAreRuns }
+    ensures loaded { LoadedIsCatalogue }
+    ensures opened { OpenedIsCatalogue }
 {}
 
 /// `run --signed` finds the reply of each line that `run` writes for an update, a read or an install.

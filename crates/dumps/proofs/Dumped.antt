@@ -48,7 +48,7 @@ unless_ok : {A : Type 0} (x y : A) (fault : Option DumpFault) → unless x fault
 unless_ok x y None h = (cc, refl)
 unless_ok x y (Some fault) h = absurd cc
 
-in_map_ok : (so after : Loading) (e : EntryLine) (o : Option MapState) → in_map so e o ≡ Ok after → (s : MapState) × (o ≡ Some s) × (entry_fault so e s ≡ None) × (with_entry so e ≡ after)
+pub in_map_ok : (so after : Loading) (e : EntryLine) (o : Option MapState) → in_map so e o ≡ Ok after → (s : MapState) × (o ≡ Some s) × (entry_fault so e s ≡ None) × (with_entry so e ≡ after)
 in_map_ok so after e None h = absurd cc
 in_map_ok so after e (Some s) h =
     let parts = unless_ok (with_entry so e) after (entry_fault so e s) h in

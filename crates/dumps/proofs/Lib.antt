@@ -16,3 +16,4 @@ pub mod Reread
 pub mod Writing
 pub mod LoadedFor
 pub mod Ascii
+pub mod LoadedState
