@@ -71,7 +71,7 @@ module _ (spare : ℕ) (given left old new : Option (List ℕ)) (ended : ServeEn
 module _ (given old new : Option (List ℕ)) (got : Status) (ended : ServeEnd) (told : ended ≡ record { status = got; state = None }) where
   -- what was answered in its place
   instead : (a : Answer) → ReportsBytes old new got a → ServesBytes (Err a) given given old new ended
-  instead a wrote = subst (λ (x : ServeEnd). ServesBytes (Err a) given given old new x) (sym told) (wrote, refl)
+  instead a wrote = subst (λ (x : ServeEnd). ServesBytes (Err a) given given old new x) (sym told) (wrote, refl, refl)
 
   pub by_no_memory : (opening : Result CatalogueView Answer) → Sends old new got no_memory_line statuses.NoMemory → ServesBytes opening given given old new ended
   by_no_memory (Ok c) sends = none_opened c given old new got ended told sends

@@ -128,10 +128,11 @@ IsService spare opening =
 abbrev pub SomeService : ℕ → (Result CatalogueView Answer → Type 0) → Type 0
 SomeService spare P = (opening : Result CatalogueView Answer) × IsService spare opening × P opening
 
--- what `serve` did with its input and its output; what is answered in its place leaves no state
+-- what `serve` did with its input and its output; what is answered in its place leaves no state, and nothing of
+-- the input is read then
 abbrev pub ServesBytes : Result CatalogueView Answer → Option (List ℕ) → Option (List ℕ) → Option (List ℕ) → Option (List ℕ) → ServeEnd → Type 0
 ServesBytes (Ok c) given left old new ended = Serves c given left old new ended
-ServesBytes (Err a) given left old new ended = ReportsBytes old new ended.status a × (ended.state ≡ None)
+ServesBytes (Err a) given left old new ended = ReportsBytes old new ended.status a × (ended.state ≡ None) × (left ≡ given)
 
 -- the same of a reader and a writer, by what is known of them
 abbrev pub ServesAll : {R W : Type 0} → (R → Option (List ℕ)) → R → R → (W → Option (List ℕ)) → W → W → ServeEnd → Result CatalogueView Answer → Type 0
