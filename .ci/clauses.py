@@ -285,7 +285,7 @@ class Source:
         """Takes in a function, whose name stands here, and returns where it ends."""
         name = re.compile(r"\s*(\w+)").match(text, at)[1]
         signature, clauses = "", []
-        form = re.compile(r"\b(requires|ensures|decreases)\*?\s*(?:\.\.\s*)?\w*\s*\{|[{;(\[]")
+        form = re.compile(r"\b(requires|ensures|decreases|ghost)\*?\s*(?:\.\.\s*)?\w*\s*:?\s*\{|[{;(\[]")
         while True:
             found = form.search(text, at)
             signature += text[at : found.start()]
@@ -332,7 +332,7 @@ class Repository:
             for name in files_below(f"{folder}/specs", ".antt"):
                 if name != "Lib":
                     self.modules[crate, name] = Module(crate, name, f"{folder}/specs/{name}.antt")
-            if os.path.isfile(f"{folder}/src/lib.rt") and "staticlib" not in kind:
+            if os.path.isfile(f"{folder}/src/lib.rt") and not crate.startswith("bench_"):
                 self.libraries.append(crate)
                 for name in files_below(f"{folder}/src", ".rt"):
                     self.sources[crate, name] = Source(crate, name, f"{folder}/src/{name}.rt")

@@ -1,7 +1,7 @@
 /* What the proved library libembed.a exports, and what lies at its three kinds of handle. A host includes nrbpf.h, not this.
  *
  * A handle is memory of the host's, of the size and the alignment of its struct. It is room until nrbpf_raw_open, nrbpf_raw_open_on, nrbpf_raw_attach or
- * nrbpf_raw_close_into has written it, and room again once nrbpf_raw_close, nrbpf_raw_close_into, nrbpf_raw_detach or nrbpf_raw_drop_state has ended it.
+ * nrbpf_raw_close_into has written it, and as good as room again once nrbpf_raw_close, nrbpf_raw_close_into, nrbpf_raw_detach or nrbpf_raw_drop_state has ended it.
  * Between two calls the host writes the words under "asked" and reads those under "answered"; it leaves `own` alone, and moves or copies no handle. Each
  * function takes one call at a time on each handle that is passed to it; calls on different handles may run side by side. No pointer is null, also where
  * nothing lies behind it.
@@ -31,7 +31,7 @@ enum {
     NRBPF_RAW_H3,           /* a read, or a detach, while an update is out */
     NRBPF_RAW_H4,           /* a text is not UTF-8: the manifest, a file, its name, or the name of a program */
     NRBPF_RAW_H5,           /* a word is none of a call: `call` above 2, `mode` above 1, `length` above 192 */
-    NRBPF_RAW_H6            /* detach: the session is of another store; close_into: a part of the store is elsewhere, and it is ended */
+    NRBPF_RAW_H6            /* detach: the session's place is not empty here; close_into: a part of the store is elsewhere, and it is ended */
 };
 
 /* ---- what is passed in */
@@ -109,15 +109,16 @@ void nrbpf_raw_number(struct nrbpf_raw_store *at);
  * handles: 0, H1, H2. Where it is refused the session's handle is closed. */
 void nrbpf_raw_attach(struct nrbpf_raw_store *at, struct nrbpf_raw_session *session);
 
-/* Takes a session back into the store that it was attached to; then its handle is room. The status stands in the store's handle: 0, H2, and H3
- * where an update of the session is out or H6 where it is of another store: then the session is as it was. */
+/* Takes a session back into the store that it was attached to; then its handle is closed, and its memory is as good as room. The status stands in the
+ * store's handle: 0, H2, and H3 where an update of the session is out or H6 where its place is not empty here: then the session is as it was. Sessions
+ * are told by their places alone, so a session of another store is the host's mistake, which H6 need not notice. */
 void nrbpf_raw_detach(struct nrbpf_raw_store *at, struct nrbpf_raw_session *session);
 
-/* Ends the store; then its handle is room. Statuses: 0, H2, and S5 where a session is attached: then nothing has changed. */
+/* Ends the store; then its handle is closed, and its memory is as good as room. Statuses: 0, H2, and S5 where a session is attached: then nothing has changed. */
 void nrbpf_raw_close(struct nrbpf_raw_store *at);
 
 /* Ends a store to which none but its own sessions came back, and writes the handle of the state that it ends in into the room at `state`; then the
- * store's handle is room. With any status but 0 the state's handle has none, and its memory is as good as room. Statuses: 0, H2, S5 where a session is
+ * store's handle is closed, and as good as room. With any status but 0 the state's handle has none, and its memory is as good as room. Statuses: 0, H2, S5 where a session is
  * attached and O2 where there is no memory, and then nothing has changed; and H6, with which the store is ended: a part of it was elsewhere. */
 void nrbpf_raw_close_into(struct nrbpf_raw_store *at, struct nrbpf_raw_state *state);
 

@@ -5,3 +5,4 @@ mod Posted
 mod Opened
 mod Seats
 mod Gathered
+mod FileTexts

@@ -13,6 +13,7 @@ use Rattle.embed.specs.declared.handles.StateHandle.{StateHandle}
 use Rattle.embed.specs.declared.handles.StoreHandle.{StoreHandle}
 use Rattle.embed.specs.declared.pool.Pool.{Pool}
 use Rattle.embed.specs.Statuses.{done, is_attached, no_memory, not_open, not_ours}
+use Rattle.embed.specs.Stores.{IsStatusAlone}
 
 -- ---- what a host keeps to
 
@@ -66,5 +67,6 @@ LeavesIf false p before left given = (given.own ≡ None) × (left.own ≡ befor
 
 pub record Leaves (before left : StoreHandle) (given : StateHandle) : Type 0 where
   pub asked : left.asked ≡ before.asked
+  pub answered : IsStatusAlone before.answered left.answered
   pub leaves : MatchOption before.own ((given.own ≡ None) × (left.own ≡ None) × (left.answered.status ≡ not_open))
       (λ b. LeavesIf (list_all is_some b.value.places.items) b.value before left given)

@@ -1,5 +1,5 @@
 -- What a store is opened with, what it is then, and why it is not opened.
-use Rattle.std.specs.Prelude.{◌≡◌, ℕ, ◌<◌, List, None, Some, Option, Result, Ok, MatchOption, IfSome, get_or, length, map, option_map}
+use Rattle.std.specs.Prelude.{◌≡◌, ℕ, ◌<◌, List, None, Some, Option, Result, Ok, Err, MatchOption, IfSome, get_or, length, map, option_map}
 use Rattle.std.specs.Borrow.{Bor}
 use Rattle.std.specs.List.{All}
 use Rattle.std.specs.Str.{IsUtf8}
@@ -10,7 +10,7 @@ use Rattle.loader.specs.CatalogueView.{CatalogueView, MayOpenOn, opened_on, with
 use Rattle.loader.specs.StoreState.{StoreState}
 use Rattle.loader.specs.Loading.{loaded}
 use Rattle.loader.specs.ProgramFiles.{Files}
-use Rattle.loader.specs.Refusal.{LoadFails, line_of, number_of}
+use Rattle.loader.specs.Refusal.{line_of, number_of}
 use Rattle.loader.specs.declared.refusals.LoadError.{LoadError}
 use Rattle.loader.specs.declared.refusals.LoadError.TheVariants as errors
 use Rattle.loader.specs.declared.refusals.LoadFault.TheVariants as faults
@@ -46,9 +46,13 @@ texts_of files = map (λ f. (f.name.now, f.text.now)) files
 abbrev pub reading_of : Sizes → Result CatalogueView LoadRefusal
 reading_of o = loaded o.manifest.now (texts_of o.files.now)
 
--- the texts are UTF-8
+-- the files' names and texts are UTF-8
 abbrev pub AreUtf8 : List File → Type 0
 AreUtf8 files = All (λ f. IsUtf8 f.name.now × IsUtf8 f.text.now) files
+
+-- the manifest's text too
+abbrev pub AreTexts : Sizes → Type 0
+AreTexts o = IsUtf8 o.manifest.now × AreUtf8 o.files.now
 
 -- the state that is lent, if one is
 abbrev pub state_in : Option (Bor StoreState) → Option StoreState
@@ -63,6 +67,7 @@ catalogue_on c (Some s) = opened_on c s
 
 -- a store of these sizes, and of the maps and programs of the manifest, on this state, which it may be opened on
 pub record IsStoreOf (o : Sizes) (on : Option StoreState) (s : StoreView) : Type 0 where
+  pub texts : AreTexts o
   pub config : s.config ≡ config_of o
   pub catalogue : CatalogueView
   pub read : reading_of o ≡ Ok catalogue
@@ -94,11 +99,12 @@ abbrev pub IsOther : CatalogueView → Option StoreState → Type 0
 IsOther c on = MatchOption on ⊥ (λ s. MayOpenOn c s → ⊥)
 
 abbrev pub IsReason : Sizes → Option StoreState → NotOpened → Type 0
-IsReason o on NoText = (IsUtf8 o.manifest.now × AreUtf8 o.files.now → ⊥)
-IsReason o on (Loading why) = LoadFails why (reading_of o)
-IsReason o on (Opening OutOfLimits) = IsConfig (config_of o) → ⊥
+IsReason o on NoText = (AreTexts o → ⊥)
+IsReason o on (Loading errors.NoMemory) = Unit {0}
+IsReason o on (Loading (errors.Refused bad)) = AreTexts o × (reading_of o ≡ Err bad)
+IsReason o on (Opening OutOfLimits) = AreTexts o × (IsConfig (config_of o) → ⊥)
 IsReason o on (Opening NoMemory) = Unit {0}
-IsReason o on (Opening OtherState) = IsConfig (config_of o) × ((c : CatalogueView) × (reading_of o ≡ Ok c) × IsOther (with_places c o.spare) on)
+IsReason o on (Opening OtherState) = AreTexts o × IsConfig (config_of o) × ((c : CatalogueView) × (reading_of o ≡ Ok c) × IsOther (with_places c o.spare) on)
 
 -- of the program of a bad line: why the decoder or the verifier refuses it, and at which slot
 abbrev pub inner_in : LoadError → ℕ × ℕ

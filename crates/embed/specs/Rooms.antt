@@ -1,7 +1,6 @@
--- What lies at a handle; and what is left at one that a call may end: room where it is closed, else the handle.
-use Rattle.std.specs.Prelude.{None, Some}
+-- What lies at a handle. Memory at which a closed one lies is as good as room.
 use Rattle.std.specs.Borrow.{full_share}
-use Rattle.std.specs.Ptr.{lies_at, room_at}
+use Rattle.std.specs.Ptr.{lies_at}
 use base.Fml.{Fml}
 use denote.RawPtr.{Ptr}
 use Rattle.embed.specs.declared.handles.StoreHandle.{StoreHandle}
@@ -19,9 +18,3 @@ holds_session p h = lies_at the_session full_share p h
 
 abbrev pub holds_state : Ptr → StateHandle → Fml
 holds_state p h = lies_at the_state full_share p h
-
-abbrev pub session_left : Ptr → SessionHandle → Fml
-session_left p h = elim h.own as (λ _. Fml) [ None ↦ room_at the_session p | Some a ↦ lies_at the_session full_share p h ]
-
-abbrev pub store_left : Ptr → StoreHandle → Fml
-store_left p h = elim h.own as (λ _. Fml) [ None ↦ room_at the_store p | Some a ↦ lies_at the_store full_share p h ]

@@ -41,12 +41,16 @@ abbrev pub IsTaken : (p q : Pool) → ℕ → Box Attached Global → Type 0
 IsTaken p q node a = (k : ℕ) × IsOfNode p node k × (seated p k ≡ Some a) × (q.places.items ≡ set p.places.items k None)
 
 -- the place at which the session stood is there and empty
-abbrev pub IsOurs : Pool → Box Attached Global → Type 0
-IsOurs p a = (a.value.place < length p.places.items) × (seated p a.value.place ≡ None)
+abbrev pub HasPlaceFor : Pool → Box Attached Global → Type 0
+HasPlaceFor p a = (a.value.place < length p.places.items) × (seated p a.value.place ≡ None)
 
 -- and it stands there again
 abbrev pub IsGiven : (p q : Pool) → Box Attached Global → Type 0
-IsGiven p q a = IsOurs p a × (q.places.items ≡ set p.places.items a.value.place (Some a))
+IsGiven p q a = HasPlaceFor p a × (q.places.items ≡ set p.places.items a.value.place (Some a))
+
+-- of the words that are answered, none but the status is another
+abbrev pub IsStatusAlone : (before after : StoreAnswered) → Type 0
+IsStatusAlone before after = after ≡ record before { status = after.status }
 
 -- ---- attach
 
@@ -61,6 +65,7 @@ GivesFrom p q node after given =
 
 pub record Gives (before after : StoreHandle) (given : SessionHandle) : Type 0 where
   pub asked : after.asked ≡ before.asked
+  pub answered : IsStatusAlone before.answered after.answered
   pub gives : MatchOption before.own ((after.own ≡ None) × (given.own ≡ None) × AreAnswered after given not_open)
       (λ b. MatchOption after.own ⊥ (λ b'. GivesFrom b.value b'.value before.asked.node after given))
 
@@ -70,10 +75,10 @@ pub record Gives (before after : StoreHandle) (given : SessionHandle) : Type 0 w
 abbrev pub Stays : (p q : Pool) → StoreHandle → (session left : SessionHandle) → ℕ → Type 0
 Stays p q after session left status = IsUnmoved p q × (left ≡ session) × (after.answered.status ≡ status)
 
--- of a session for which nothing is out: it is back, and its handle is closed, unless it is of another store
+-- of a session for which nothing is out: it is back, and its handle is closed, unless there is no empty place for it
 abbrev pub GoesBack : (p q : Pool) → Box Attached Global → StoreHandle → (session left : SessionHandle) → Type 0
 GoesBack p q a after session left =
-    MatchOption left.own (IsGiven p q a × (left ≡ record session { own = None }) × (after.answered.status ≡ done)) (λ b. (IsOurs p a → ⊥) × Stays p q after session left not_ours)
+    MatchOption left.own (IsGiven p q a × (left ≡ record session { own = None }) × (after.answered.status ≡ done)) (λ b. (HasPlaceFor p a → ⊥) × Stays p q after session left not_ours)
 
 abbrev pub TakesInto : (p q : Pool) → StoreHandle → (session left : SessionHandle) → Type 0
 TakesInto p q after session left =
@@ -82,6 +87,7 @@ TakesInto p q after session left =
 
 pub record Takes (before : StoreHandle) (session : SessionHandle) (after : StoreHandle) (left : SessionHandle) : Type 0 where
   pub asked : after.asked ≡ before.asked
+  pub answered : IsStatusAlone before.answered after.answered
   pub takes : MatchOption before.own ((after.own ≡ None) × (left ≡ session) × (after.answered.status ≡ not_open))
       (λ b. MatchOption after.own ⊥ (λ b'. TakesInto b.value b'.value after session left))
 
@@ -94,6 +100,7 @@ ClosesIf false before left = (left.own ≡ before.own) × (left.answered.status 
 
 pub record Closes (before left : StoreHandle) : Type 0 where
   pub asked : left.asked ≡ before.asked
+  pub answered : IsStatusAlone before.answered left.answered
   pub closes : MatchOption before.own ((left.own ≡ None) × (left.answered.status ≡ not_open)) (λ b. ClosesIf (list_all is_some b.value.places.items) before left)
 
 -- ---- number

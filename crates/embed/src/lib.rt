@@ -4,12 +4,13 @@
 
 ghost use Rattle.std.specs.Prelude.{◌≡◌, ◌≤◌, None, length};
 ghost use Rattle.std.specs.Borrow.{sem};
+ghost use Rattle.std.specs.Mem.{type_size};
 ghost use Rattle.std.specs.Ptr.{room_at};
 ghost use Rattle.embed.specs.Calls.{Goes};
 ghost use Rattle.embed.specs.Stores.{Closes, Finds, Gives, Takes};
 ghost use Rattle.embed.specs.Leaving.{Leaves, MayClose};
 ghost use Rattle.embed.specs.Openings.{IsOpened};
-ghost use Rattle.embed.specs.Rooms.{holds_session, holds_state, holds_store, session_left, store_left};
+ghost use Rattle.embed.specs.Rooms.{holds_session, holds_state, holds_store};
 ghost use Rattle.embed.specs.contracts.handles.SessionHandle.{the_row as the_session};
 ghost use Rattle.embed.specs.contracts.handles.StateHandle.{the_row as the_state};
 ghost use Rattle.embed.specs.contracts.handles.StoreHandle.{the_row as the_store};
@@ -45,19 +46,25 @@ pub extern "C" fn nrbpf_raw_version() -> u32
 
 /// How many bytes a store's handle takes.
 #[unsafe(no_mangle)]
-pub extern "C" fn nrbpf_raw_store_size() -> usize {
+pub extern "C" fn nrbpf_raw_store_size() -> usize
+    ensures size { result ≡ type_size the_store }
+{
     std::mem::size_of::<StoreHandle>()
 }
 
 /// How many bytes a session's handle takes.
 #[unsafe(no_mangle)]
-pub extern "C" fn nrbpf_raw_session_size() -> usize {
+pub extern "C" fn nrbpf_raw_session_size() -> usize
+    ensures size { result ≡ type_size the_session }
+{
     std::mem::size_of::<SessionHandle>()
 }
 
 /// How many bytes a state's handle takes.
 #[unsafe(no_mangle)]
-pub extern "C" fn nrbpf_raw_state_size() -> usize {
+pub extern "C" fn nrbpf_raw_state_size() -> usize
+    ensures size { result ≡ type_size the_state }
+{
     std::mem::size_of::<StateHandle>()
 }
 
@@ -111,12 +118,12 @@ pub unsafe extern "C" fn nrbpf_raw_attach(at: *mut u8, room: *mut u8)
     );
 }
 
-/// Takes a session back into its store. Its handle is room then, and is as it was where the session is refused.
+/// Takes a session back into its store. Its handle is closed then, and is as it was where the session is refused.
 #[unsafe(no_mangle)]
 pub unsafe extern "C" fn nrbpf_raw_detach(at: *mut u8, session: *mut u8)
     ghost values: { StoreHandle × SessionHandle }
     requires* { sem 𝓛 (holds_store at values.0) ∗ sem 𝓛 (holds_session session values.1) }
-    ensures* { ∃ₛ (λ after. ∃ₛ (λ left. sem 𝓛 (holds_store at after) ∗ sem 𝓛 (session_left session left) ∗ ⌜ Takes values.0 values.1 after left ⌝)) }
+    ensures* { ∃ₛ (λ after. ∃ₛ (λ left. sem 𝓛 (holds_store at after) ∗ sem 𝓛 (holds_session session left) ∗ ⌜ Takes values.0 values.1 after left ⌝)) }
 {
     detached(
         &mut *(at as *mut StoreHandle),
@@ -124,12 +131,12 @@ pub unsafe extern "C" fn nrbpf_raw_detach(at: *mut u8, session: *mut u8)
     );
 }
 
-/// Ends a store whose sessions are all back. Its handle is room then, and is as it was where it is refused.
+/// Ends a store whose sessions are all back. Its handle is closed then. Where the call is refused, nothing but its status has changed.
 #[unsafe(no_mangle)]
 pub unsafe extern "C" fn nrbpf_raw_close(at: *mut u8)
     ghost value: { StoreHandle }
     requires* { sem 𝓛 (holds_store at value) }
-    ensures* { ∃ₛ (λ left. sem 𝓛 (store_left at left) ∗ ⌜ Closes value left ⌝) }
+    ensures* { ∃ₛ (λ left. sem 𝓛 (holds_store at left) ∗ ⌜ Closes value left ⌝) }
 {
     closed(&mut *(at as *mut StoreHandle));
 }
@@ -139,7 +146,7 @@ pub unsafe extern "C" fn nrbpf_raw_close(at: *mut u8)
 pub unsafe extern "C" fn nrbpf_raw_close_into(alloc: Global, at: *mut u8, room: *mut u8)
     ghost value: { StoreHandle }
     requires* { sem 𝓛 (holds_store at value) ∗ sem 𝓛 (room_at the_state room) ∗ ⌜ MayClose value ⌝ }
-    ensures* { ∃ₛ (λ left. ∃ₛ (λ given. sem 𝓛 (store_left at left) ∗ sem 𝓛 (holds_state room given) ∗ ⌜ Leaves value left given ⌝)) }
+    ensures* { ∃ₛ (λ left. ∃ₛ (λ given. sem 𝓛 (holds_store at left) ∗ sem 𝓛 (holds_state room given) ∗ ⌜ Leaves value left given ⌝)) }
 {
     std::ptr::write(
         room as *mut StateHandle,

@@ -11,7 +11,7 @@ ghost use Rattle.oplog.specs.declared.configuration.OpenError.TheVariants.{Other
 ghost use Rattle.store.specs.Opening.{AreOf};
 ghost use Rattle.store.specs.Sessions.{IsOf, fresh_sessions};
 ghost use Rattle.store.specs.Shelving.{sessions_of};
-ghost use Rattle.embed.specs.Openings.{AreUtf8, IsOpened, IsOther, IsReason, IsSeat, IsStoreOf, catalogue_on, config_of, fresh_of, inner_in, only, reading_of, state_in, texts_of, words_of};
+ghost use Rattle.embed.specs.Openings.{AreTexts, AreUtf8, IsOpened, IsOther, IsReason, IsSeat, IsStoreOf, catalogue_on, config_of, fresh_of, inner_in, only, reading_of, state_in, texts_of, words_of};
 
 use crate::attached::Attached;
 use crate::handles::{File, Opening, StateHandle, StoreAnswered, StoreHandle};
@@ -36,6 +36,7 @@ pub(crate) enum NotOpened {
 // A program file's name and text. `None` where one is not UTF-8.
 fn text_of<'a>(file: &File<'a>) -> Option<(&'a str, &'a str)>
     ensures unclear { IfNone result (IsUtf8 file.now.name.now × IsUtf8 file.now.text.now → ⊥) }
+    ensures clear { IfSome result (λ _. IsUtf8 file.now.name.now × IsUtf8 file.now.text.now) }
     ensures text { IfSome result (λ t. (t.0.now ≡ file.now.name.now) × (t.1.now ≡ file.now.text.now)) }
 {
     let Ok(name) = str::from_utf8(file.name) else {
@@ -53,6 +54,7 @@ fn texts<'a>(
     files: &[File<'a>],
 ) -> Result<Option<Vec<(&'a str, &'a str)>>, AllocError>
     ensures texts { IfOk result (λ o. MatchOption o (AreUtf8 files.now → ⊥) (λ v. files_of v.items ≡ texts_of files.now)) }
+    ensures clear { IfOk result (λ o. IfSome o (λ _. AreUtf8 files.now)) }
 {
     let mut texts = Vec::new(alloc);
     for k in 0..files.len() {
@@ -66,7 +68,7 @@ fn texts<'a>(
 
 // The catalogue that the manifest says.
 fn loaded(alloc: Global, opening: &Opening) -> Result<Catalogue, NotOpened>
-    ensures loaded { MatchResult result (λ c. reading_of opening.now ≡ Ok c) (λ why. (on : Option State) → IsReason opening.now on why) }
+    ensures loaded { MatchResult result (λ c. AreTexts opening.now × (reading_of opening.now ≡ Ok c)) (λ why. (on : Option State) → IsReason opening.now on why) }
 {
     let Ok(manifest) = str::from_utf8(opening.manifest) else {
         return Err(NotOpened::NoText);

@@ -4,7 +4,7 @@ ghost use Rattle.std.specs.Prelude.{◌≡◌, ◌↔◌, ◌<◌, length, is_so
 ghost use Rattle.std.specs.List.{list_all};
 ghost use Rattle.std.specs.Arc.{arc_value};
 ghost use Rattle.loader.specs.CatalogueView.{number_named};
-ghost use Rattle.embed.specs.Stores.{IsGiven, IsKept, IsOfNode, IsOurs, IsTaken, IsUnmoved, NoneIsFree, seated};
+ghost use Rattle.embed.specs.Stores.{HasPlaceFor, IsGiven, IsKept, IsOfNode, IsTaken, IsUnmoved, NoneIsFree, seated};
 
 use crate::attached::Attached;
 use std::alloc::Global;
@@ -64,11 +64,11 @@ impl Pool {
         self.places[place].take()
     }
 
-    // Puts a session back where it stood.
+    // Puts a session back where it stood, if that place is empty.
     pub(crate) fn give(&mut self, attached: Box<Attached>) -> Result<(), Box<Attached>>
         ensures kept { IsKept self.old self.new }
         ensures given { IfOk result (λ _. IsGiven self.old self.new attached) }
-        ensures back { IfErr result (λ back. (back ≡ attached) × (IsOurs self.old attached → ⊥) × IsUnmoved self.old self.new) }
+        ensures back { IfErr result (λ back. (back ≡ attached) × (HasPlaceFor self.old attached → ⊥) × IsUnmoved self.old self.new) }
     {
         let place = attached.place();
         if place >= self.places.len() || self.places[place].is_some() {

@@ -1,8 +1,6 @@
 -- `nrbpf_raw_close` lends the store to `closed`.
 use Rattle.embed.proofs.Steps.{[], ◌∷◌, refl, ap, MutBor, proved, full_share, id⊢, ex, ex_i, sep, emp, fact, fact_i, ftrue, flft, flent, named, vunit, tables, WpFn, ‵, raw, ◌⊛◌, some, later, prop, ◌$◌, ◌∵◌, !, qed, done, move, keep, drop, use0, use1, use2, use3, split, join, fsplit, feq_i, feq_l, pick, await, regoal, suffices, group, sem, enter, of_opd, unit_lit, addr, stop, no_more, and_then, returns, alloc_all, pass_all, free_all, look_at, get, through, sets, lands_as, Body, lft_new, lft_end, unit, yes, lends_ref, ref_back, mem, Ptr, RawPtr, block_ptr, lies_at, in_a_block, rawptr_vals, rawptr_Tells, MutRef, mut_vals, plain, nothing, heard, only, calls_at, lasts, on_entry, triple_of, Stays, walk_of, stay_dropped, Goes-dropped, ends_at, framed}
 use Rattle.embed.specs.Stores.{Closes}
-use Rattle.embed.specs.Rooms.{store_left}
-use Rattle.embed.proofs.Left.{store_is_left}
 use Rattle.embed.specs.contracts.handles.StoreHandle.{the_row as R}
 use Rattle.embed.specs.contracts.nrbpf_raw_close as f
 use Rattle.embed.proofs.nrbpf_raw_close.Statement.{statement}
@@ -48,8 +46,7 @@ nrbpf_raw_close_spec 𝓤 𝓛 𝓜 𝓡 wired =
     -- [the loan's last value; its borrow; nothing; α is over; nothing; the lender's part; the locals]
     move ! (3 ∷ 5 ∷ 0 ∷ []) $ use3 𝓛 (later (‵ (lies_at R full_share (block_ptr b o) ws.0))) (ref_back 𝓛 R (α ∷ []) γ ws.0 b o) $ await ! tt $
     returns ! (look_at ! 0 refl) $ free_all ! refl $ keep ! (0 ∷ []) $
-    use1 𝓛 (‵ (store_left (block_ptr b o) ws.0)) (store_is_left 𝓛 b o ws.0) $
     use0 𝓛 (raw (fact 𝓤 (Closes value ws.0))) (fact_i 𝓤 (Closes value ws.0) (emp 𝓤) goes) $ move ! (1 ∷ 0 ∷ []) $
-    use2 𝓛 (raw (ex 𝓤 (λ (x : R.Denot). sep 𝓤 (sem 𝓛 (store_left (block_ptr b o) x)) (fact 𝓤 (Closes value x))))) (ex_i 𝓤 (λ (x : R.Denot). sep 𝓤 (sem 𝓛 (store_left (block_ptr b o) x)) (fact 𝓤 (Closes value x))) ws.0) $
+    use2 𝓛 (raw (ex 𝓤 (λ (x : R.Denot). sep 𝓤 (sem 𝓛 (lies_at R full_share (block_ptr b o) x)) (fact 𝓤 (Closes value x))))) (ex_i 𝓤 (λ (x : R.Denot). sep 𝓤 (sem 𝓛 (lies_at R full_share (block_ptr b o) x)) (fact 𝓤 (Closes value x))) ws.0) $
     suffices ! _ (ends_at 𝓛 f.ended stayed c (y (block_ptr b o)) vunit tt (tt, tt) (tt, tt)) $
     feq_i ! _ (vunit ∷ []) _ refl $ nothing ! $ nothing ! $ join ! $ nothing ! $ group ! 3 $ done !))))))))))

@@ -1,9 +1,7 @@
 -- `nrbpf_raw_close_into` lends the store to `closed_into`, and writes the handle that this gives into the room.
-use Rattle.embed.proofs.Steps.{[], ◌∷◌, ◌++◌, refl, MutBor, proved, full_share, id⊢, ex, ex_i, sep, emp, fact, fact_i, ftrue, flft, flent, named, vunit, tables, WpFn, ‵, raw, ◌⊛◌, some, later, prop, ◌$◌, ◌∵◌, !, qed, done, move, keep, drop, use0, use1, use2, use3, split, join, fsplit, feq_i, pick, await, regoal, suffices, group, sem, enter, of_opd, unit_lit, addr, init, stop, no_more, and_then, assigns, returns, alloc_all, pass_all, free_all, look_at, get, through, sets, lands_as, Body, lft_new, lft_end, part_in, yes, Is, shows, lends_ref, ref_back, mem, Ptr, RawPtr, block_ptr, lies_at, room_at, in_a_block, rawptr_vals, rawptr_Tells, MutRef, mut_vals, plain, nothing, heard, peeks, calls_at, lasts, on_entry, triple_of, Stays, walk_of, stay_dropped, Goes-dropped, ends_at, framed}
+use Rattle.embed.proofs.Steps.{[], ◌∷◌, ◌++◌, refl, MutBor, proved, full_share, id⊢, ex, ex_i, sep, emp, fact, fact_i, ftrue, flft, flent, named, vunit, tables, WpFn, ‵, raw, ◌⊛◌, some, later, prop, ◌$◌, ◌∵◌, !, qed, done, move, keep, drop, use0, use1, use2, use3, split, join, fsplit, feq_i, pick, await, regoal, suffices, group, sem, enter, of_opd, unit_lit, addr, init, stop, no_more, and_then, assigns, returns, alloc_all, pass_all, free_all, look_at, get, through, sets, lands_as, Body, lft_new, lft_end, part_in, yes, Is, shows, lends_ref, ref_back, mem, Ptr, RawPtr, block_ptr, lies_at, room_at, in_a_block, rawptr_vals, rawptr_Tells, MutRef, mut_vals, plain, nothing, heard, peeks, calls_at, lasts, triple_of, Stays, walk_of, stay_dropped, Goes-dropped, ends_at, framed}
 use Rattle.embed.proofs.Steps.{alive, ftrue, val, tells}
 use Rattle.embed.specs.Leaving.{Leaves, MayClose}
-use Rattle.embed.specs.Rooms.{store_left}
-use Rattle.embed.proofs.Left.{store_is_left}
 use Rattle.std.specs.contracts.alloc.Global.{the_row as A, the_type as global}
 use Rattle.std.proofs.alloc.Global.TheLaws as global_laws
 use Rattle.embed.specs.contracts.handles.StateHandle.{the_row as R}
@@ -64,10 +62,9 @@ nrbpf_raw_close_into_spec 𝓤 𝓛 𝓜 𝓡 wired =
     -- [the loan's last value; its borrow; nothing; what the session owns; α is over; nothing; the lender's part; the cell; the locals]
     move ! (4 ∷ 6 ∷ 0 ∷ []) $ use3 𝓛 (later (‵ (lies_at S full_share (block_ptr b o) ws.1.0))) (ref_back 𝓛 S (α ∷ []) γ ws.1.0 b o) $ await ! tt $
     returns ! (look_at ! 0 refl) $ free_all ! refl $ keep ! (5 ∷ 3 ∷ 0 ∷ []) $
-    use2 𝓛 (‵ (lies_at R full_share (block_ptr b' o') h)) (part_in 𝓛 R refl full_share h b' o' v) $ move ! (1 ∷ 0 ∷ []) $
-    use1 𝓛 (‵ (store_left (block_ptr b o) ws.1.0)) (store_is_left 𝓛 b o ws.1.0) $ move ! (1 ∷ 0 ∷ []) $
+    use2 𝓛 (‵ (lies_at R full_share (block_ptr b' o') h)) (part_in 𝓛 R refl full_share h b' o' v) $
     use0 𝓛 (raw (fact 𝓤 (Leaves value ws.1.0 h))) (fact_i 𝓤 (Leaves value ws.1.0 h) (emp 𝓤) leaves) $ move ! (1 ∷ 0 ∷ []) $ join ! $ move ! (1 ∷ 0 ∷ []) $ join ! $
-    let Left = λ (x : S.Denot) (h' : R.Denot). sep 𝓤 (sem 𝓛 (store_left (block_ptr b o) x)) (sep 𝓤 (sem 𝓛 (lies_at R full_share (block_ptr b' o') h')) (fact 𝓤 (Leaves value x h'))) in
+    let Left = λ (x : S.Denot) (h' : R.Denot). sep 𝓤 (sem 𝓛 (lies_at S full_share (block_ptr b o) x)) (sep 𝓤 (sem 𝓛 (lies_at R full_share (block_ptr b' o') h')) (fact 𝓤 (Leaves value x h'))) in
     use1 𝓛 (raw (ex 𝓤 (λ (h' : R.Denot). Left ws.1.0 h'))) (ex_i 𝓤 (λ (h' : R.Denot). Left ws.1.0 h') h) $
     use1 𝓛 (raw (ex 𝓤 (λ (x : S.Denot). ex 𝓤 (λ (h' : R.Denot). Left x h')))) (ex_i 𝓤 (λ (x : S.Denot). ex 𝓤 (λ (h' : R.Denot). Left x h')) ws.1.0) $
     suffices ! _ (ends_at 𝓛 f.ended stayed c (y (block_ptr b o) (block_ptr b' o')) vunit tt (tt, (tt, (tt, tt))) (tt, (tt, (tt, tt)))) $

@@ -1,8 +1,6 @@
 -- `nrbpf_raw_detach` lends both handles to `detached`.
 use Rattle.embed.proofs.Steps.{[], ◌∷◌, ◌++◌, refl, ap, MutBor, proved, full_share, id⊢, ex, ex_i, sep, emp, fact, fact_i, ftrue, flft, flent, named, vunit, tables, WpFn, ‵, raw, ◌⊛◌, some, later, prop, ◌$◌, ◌∵◌, !, qed, done, move, keep, drop, use0, use1, use2, use3, split, join, fsplit, feq_i, feq_l, pick, await, regoal, suffices, group, sem, enter, of_opd, unit_lit, addr, stop, no_more, and_then, returns, alloc_all, pass_all, free_all, look_at, get, through, sets, lands_as, Body, lft_new, lft_end, unit, yes, lends_ref, ref_back, mem, Ptr, RawPtr, block_ptr, lies_at, in_a_block, rawptr_vals, rawptr_Tells, MutRef, mut_vals, plain, nothing, heard, only, calls_at, lasts, on_entry, triple_of, Stays, walk_of, stay_dropped, Goes-dropped, ends_at, framed}
 use Rattle.embed.specs.Stores.{Takes}
-use Rattle.embed.specs.Rooms.{session_left}
-use Rattle.embed.proofs.Left.{session_is_left}
 use Rattle.embed.specs.contracts.handles.SessionHandle.{the_row as R}
 use Rattle.embed.specs.contracts.handles.StoreHandle.{the_row as S}
 use Rattle.embed.specs.contracts.nrbpf_raw_detach as f
@@ -64,9 +62,8 @@ nrbpf_raw_detach_spec 𝓤 𝓛 𝓜 𝓡 wired =
     -- [the session; its borrow; nothing; the store's last value; its borrow; nothing; α is over; the lender's part of the store; the locals]
     move ! (6 ∷ 7 ∷ 3 ∷ []) $ use3 𝓛 (later (‵ (lies_at S full_share (block_ptr b o) ws.0))) (ref_back 𝓛 S (α ∷ []) γ ws.0 b o) $ await ! tt $
     returns ! (look_at ! 0 refl) $ free_all ! refl $ keep ! (1 ∷ 0 ∷ []) $
-    use1 𝓛 (‵ (session_left (block_ptr b' o') ws.1.0)) (session_is_left 𝓛 b' o' ws.1.0) $
     use0 𝓛 (raw (fact 𝓤 (Takes values.0 values.1 ws.0 ws.1.0))) (fact_i 𝓤 (Takes values.0 values.1 ws.0 ws.1.0) (emp 𝓤) took) $ move ! (1 ∷ 0 ∷ []) $ join ! $ move ! (1 ∷ 0 ∷ []) $ join ! $
-    let Left = λ (x : S.Denot) (h' : R.Denot). sep 𝓤 (sem 𝓛 (lies_at S full_share (block_ptr b o) x)) (sep 𝓤 (sem 𝓛 (session_left (block_ptr b' o') h')) (fact 𝓤 (Takes values.0 values.1 x h'))) in
+    let Left = λ (x : S.Denot) (h' : R.Denot). sep 𝓤 (sem 𝓛 (lies_at S full_share (block_ptr b o) x)) (sep 𝓤 (sem 𝓛 (lies_at R full_share (block_ptr b' o') h')) (fact 𝓤 (Takes values.0 values.1 x h'))) in
     use1 𝓛 (raw (ex 𝓤 (λ (h' : R.Denot). Left ws.0 h'))) (ex_i 𝓤 (λ (h' : R.Denot). Left ws.0 h') ws.1.0) $
     use1 𝓛 (raw (ex 𝓤 (λ (x : S.Denot). ex 𝓤 (λ (h' : R.Denot). Left x h')))) (ex_i 𝓤 (λ (x : S.Denot). ex 𝓤 (λ (h' : R.Denot). Left x h')) ws.0) $
     suffices ! _ (ends_at 𝓛 f.ended stayed c (y (block_ptr b o) (block_ptr b' o')) vunit tt (tt, (tt, tt)) (tt, (tt, tt))) $

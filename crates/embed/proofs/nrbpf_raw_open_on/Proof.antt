@@ -1,6 +1,6 @@
 -- `nrbpf_raw_open_on` lends the state to `opened_on`, and writes the handle that this gives into the room.
 use Rattle.embed.proofs.Steps.{ent, [], ◌∷◌, ◌++◌, refl, MutBor, proved, full_share, id⊢, ex, ex_i, sep, emp, fact, fact_i, ftrue, flft, flent, named, vunit, tables, WpFn, ‵, raw, ◌⊛◌, some, later, prop, ◌$◌, ◌∵◌, !, qed, done, move, keep, drop, use0, use1, use2, use3, split, join, fsplit, feq_i, pick, await, regoal, suffices, group, sem, enter, of_opd, unit_lit, addr, init, stop, no_more, and_then, assigns, returns, alloc_all, pass_all, free_all, look_at, get, through, sets, lands_as, Body, lft_new, lft_end, part_in, RefOf, yes, Is, shows, lends_ref, ref_back, mem, Ptr, RawPtr, block_ptr, lies_at, room_at, in_a_block, rawptr_vals, rawptr_Tells, MutRef, mut_vals, ShrRef, shr_vals, shr_Tells, named_lft, plain, nothing, heard, peeks, val, tells, calls_at, lasts, alive, triple_of, Stays, walk_of, stay_dropped, Goes-dropped, ends_at, framed}
-use Rattle.std.proofs.Common.{◌≡◌, sym, subst}
+use Rattle.std.proofs.Common.{◌≡◌, subst}
 use Rattle.embed.specs.Openings.{IsOpened}
 use Rattle.embed.specs.declared.handles.StateHandle.{StateHandle}
 use Rattle.embed.specs.contracts.handles.StoreHandle.{the_row as R}

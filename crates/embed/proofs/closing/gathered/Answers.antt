@@ -1,4 +1,4 @@
-use Rattle.std.proofs.Common.{rules, ◌≡◌, ◌++◌, sym, ap, subst, ◌∙◌, arith, IfSome, length, append_assoc, length-append}
+use Rattle.std.proofs.Common.{◌++◌, sym, ap, subst, ◌∙◌, arith, IfSome, length, append_assoc, length-append}
 use Rattle.std.proofs.lemmas.List.Elements.{All-pop}
 use Rattle.embed.specs.Leaving.{IsIdleSeat, IsSeatOf, session_at, sessions_back}
 use Rattle.embed.proofs.Gathered.{at_most_one, back_more}
