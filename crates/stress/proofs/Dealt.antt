@@ -58,7 +58,7 @@ drop_most (suc k) [] = ap (λ n. drop n []) (let e : min (suc k) 0 ≡ 0 = omega
 drop_most (suc k) (x ∷ xs) = ap (λ n. drop n (x ∷ xs)) (let e : min (suc k) (suc (length xs)) ≡ suc (min k (length xs)) = omega arith in e) ∙ drop_most k xs
 
 -- the calls seen otherwise
-one_map : {X Y : Type 0} (f : X → Y) (n skip : ℕ) (cs : List X) → dealt n skip (map f cs) ≡ map f (dealt n skip cs)
+pub one_map : {X Y : Type 0} (f : X → Y) (n skip : ℕ) (cs : List X) → dealt n skip (map f cs) ≡ map f (dealt n skip cs)
 one_map f n skip [] = refl
 one_map f n zero (c ∷ cs) = ap (λ rest. f c ∷ rest) (one_map f n (n - 1) cs)
 one_map f n (suc skip) (c ∷ cs) = one_map f n skip cs

@@ -1,5 +1,5 @@
 -- What a run gives back, from what was read.
-use Rattle.std.proofs.Common.{◌≡◌, ◌⊎◌, inl, inr, ⊎_elim, ℕ, Bool, true, false, ◌&&◌, List, Option, Some, None, Result, Ok, Err, string_bytes, refl, subst}
+use Rattle.std.proofs.Common.{◌≡◌, ◌⊎◌, inl, inr, ⊎_elim, ℕ, Bool, true, false, ◌&&◌, List, Option, Some, None, Ok, Err, string_bytes, refl, subst}
 use Rattle.std.specs.Prelude.{IfSome}
 use Rattle.loader.specs.NamedFiles.{named_in}
 use Rattle.loader.specs.Loading.{Outcome, loaded}

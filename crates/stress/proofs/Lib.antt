@@ -8,6 +8,8 @@ pub mod Dealt
 pub mod Asked
 pub mod Sizes
 pub mod Numbered
+pub mod Steady
 pub mod OneHistory
 pub mod Transcripts
+pub mod Turns
 pub mod GivenBack

@@ -36,12 +36,13 @@ use Rattle.stress.specs.declared.watching.Noted.{Noted}
 use Rattle.stress.specs.declared.lines.Said.{Said}
 use Rattle.stress.specs.declared.lines.Said.TheVariants as told
 use Rattle.stress.specs.Lines as lines
-use Rattle.stress.specs.Lines.{ToldCall}
+use Rattle.stress.specs.Lines.{ToldCall, AreSteady}
 use Rattle.stress.specs.OneHistory.{Asks, Holds, IsSo, IsOfOneHistory, is_at, lines_at}
-use Rattle.stress.specs.Playing.{IsSoIn, AreShown, HasAnswered, IsTold, IsNoted, IsAsked, AreToldIn, AreTold, AreNumbered, EndsIn, update_said}
+use Rattle.stress.specs.Playing.{IsSoIn, AreShown, HasAnswered, IsBefore, IsTold, IsNoted, IsAsked, AreToldIn, AreTold, AreNumbered, EndsIn, update_said}
 use Rattle.stress.specs.Runs.{state_behind}
 use Rattle.stress.specs.Shown.{called, said_of, told_of}
 use Rattle.stress.proofs.Numbered.{is_numbered, one_index}
+use Rattle.stress.proofs.Steady.{none_steady, up_to_on, steady_more}
 
 -- ---- in a history that has grown
 
@@ -61,6 +62,9 @@ module _ (a b : Progress CatalogueView) (grown : Extends a b) where
 
   pub so_on : (t : ToldCall) → IsSoIn a t → IsSoIn b t
   so_on t h = (h.0, h.1, holds_on h.0 t.said h.2)
+
+  before_on : (said : lines.Said) → IsBefore a said → IsBefore b said
+  before_on said h = (up_to_on a.completed b.completed said grown.completed h.0, up_to_on (length a.history) (length b.history) said (grown_long store_meaning a b grown) h.1)
 
   pub shown_on : (s : SessionView) (said : List ToldCall) → AreShown a s said → AreShown b s said
   shown_on s said h q u at = let one = h q u at in (at_on u.index _ one.0, one.1)
@@ -170,12 +174,17 @@ asked_more old new said t known asked =
       so = subst (All (IsSoIn new.progress)) pushed (
           All-push (IsSoIn new.progress) before (told_of t) (All-weaker (IsSoIn old.progress) (IsSoIn new.progress) (so_on old.progress new.progress asked.grown) before known.so) asked.so
           );
+      before = subst (All (λ t. IsBefore new.progress t.said)) pushed (
+          All-push (λ t. IsBefore new.progress t.said) before (told_of t)
+          (All-weaker (λ t. IsBefore old.progress t.said) (λ t. IsBefore new.progress t.said) (λ x. before_on old.progress new.progress asked.grown x.said) before known.before) asked.before
+          );
+      steady = subst AreSteady pushed (steady_more old.progress before (told_of t) known.before known.steady asked.behind);
       shown = subst (AreShown new.progress new) pushed rest.0;
       only = subst (OnlyIts new) pushed rest.1;
     }
 
 pub none_told : (s : SessionView) → s.note.answered ≡ [] → IsTold s []
-none_told s none = record { so = All-nil (IsSoIn s.progress); shown = λ q u at. absurd (at_none q u (subst (At q u) none at)); only = λ i. inl refl }
+none_told s none = record { so = All-nil (IsSoIn s.progress); before = All-nil (λ t. IsBefore s.progress t.said); steady = none_steady; shown = λ q u at. absurd (at_none q u (subst (At q u) none at)); only = λ i. inl refl }
 
 -- ---- what one call is told
 
@@ -187,6 +196,8 @@ module _ (old new : SessionView) (t : Told) (op : Operation) (asks : Asks (calle
     session = same;
     grown = grown;
     so = (op, asks, ((record { author = old.session; seq = length old.note.answered; op = op }, h.0.1.1, refl), h.0.1.2));
+    behind = h.0.0;
+    before = (h.0.1.0, at_below new.progress.history a.index _ h.0.1.1);
     noted = (op, ap (λ (n : SessionNote). n.answered) h.1, h.0.1.1);
   }
 
@@ -195,6 +206,8 @@ module _ (old new : SessionView) (t : Told) (op : Operation) (asks : Asks (calle
     session = same;
     grown = grown;
     so = (op, asks, ((let low = h.1 in let done = well.completed in omega (arith, low, done)), h.2));
+    behind = h.0;
+    before = (h.1, (let low = h.1 in let done = well.completed in omega (arith, low, done)));
     noted = ap (λ (n : SessionNote). n.answered) note;
   }
 
@@ -203,6 +216,8 @@ module _ (old new : SessionView) (t : Told) (op : Operation) (asks : Asks (calle
     session = same;
     grown = grown;
     so = (op, asks, (let all = h.0.0 in let done = well.completed in omega (arith, all, done)));
+    behind = tt;
+    before = (tt, tt);
     noted = ap (λ (n : SessionNote). n.answered) h.1;
   }
 
@@ -213,7 +228,7 @@ module _ (old new : SessionView) (t : Told) (op : Operation) (asks : Asks (calle
 
 -- whatever is noted of it
 pub noted_too : (old new : SessionView) (t : Told) (noted : Noted) → IsAsked old new t → IsAsked old new (record t { noted = noted })
-noted_too old new t noted h = record { session = h.session; grown = h.grown; so = h.so; noted = h.noted }
+noted_too old new t noted h = record { session = h.session; grown = h.grown; so = h.so; behind = h.behind; before = h.before; noted = h.noted }
 
 -- ---- all sessions together
 

@@ -1,9 +1,9 @@
 -- A transcript, from what the sessions were told.
 use Rattle.std.proofs.Common.{◌≡◌, ◌∙◌, ℕ, Bool, true, false, List, [], ◌∷◌, All, map, Some, None, refl, sym, ap, subst}
 use Rattle.std.specs.Prelude.{if◌then◌else◌, Result, Ok, Err, IfOk, MatchResult}
-use Rattle.std.proofs.lemmas.List.Elements.{All-nil, All-cons}
+use Rattle.std.proofs.lemmas.List.Elements.{All-nil, All-cons, All-map}
 use Rattle.std.specs.List.Sorted.{IsPermutation}
-use Rattle.std.proofs.lemmas.List.Sorted.{IsPermutation-trans, IsPermutation-map}
+use Rattle.std.proofs.lemmas.List.Sorted.{All-permutation, IsPermutation-trans, IsPermutation-map}
 use Rattle.loader.specs.CatalogueView.{CatalogueView}
 use Rattle.oplog.specs.declared.configuration.Config.{Config}
 use Rattle.oplog.specs.Limits.{IsConfig}
@@ -13,15 +13,17 @@ use Rattle.stress.specs.declared.lines.Told.{Told}
 use Rattle.stress.specs.declared.sharing.Left.{Left}
 use Rattle.stress.specs.Calls.{Called, told_as}
 use Rattle.stress.specs.Dealt.{dealt_to}
-use Rattle.stress.specs.Lines.{ToldCall, suits}
-use Rattle.stress.specs.Timed.{IsHistoryIf, AreCounted}
-use Rattle.stress.specs.Shown.{called, said_of, told_call, calls_told, to_be_told, told_of}
-use Rattle.stress.specs.Playing.{IsLeft, IsWritten, EndsIn}
+use Rattle.stress.specs.Lines.{ToldCall, AreSteady, suits}
+use Rattle.stress.specs.Timed.{IsHistoryIf, IsInTurn, AreCounted}
+use Rattle.stress.specs.Shown.{called, said_of, told_call, calls_told, to_be_told, told_of, timed_of}
+use Rattle.stress.specs.Playing.{IsLeft, IsWritten, EndsIn, AreSteadyTo, history_if}
 use Rattle.stress.specs.Runs.{state_behind}
 use Rattle.stress.specs.StressAnswer.{calls_of, session_count, IsTranscript}
 use Rattle.stress.proofs.Dealt.{each_once, dealt_map}
 use Rattle.stress.proofs.OneHistory.{in_order}
 use Rattle.stress.proofs.Sizes.{some_session}
+use Rattle.stress.proofs.Told.{of_timed}
+use Rattle.stress.proofs.Steady.{share_map}
 
 abbrev Suits : ToldCall → Type 0
 Suits t = suits (told_as t.call.asked) t.said ≡ true
@@ -34,7 +36,7 @@ one_so t c e = by (suits (told_as t.call.now.asked) (said_of t.said)) refl e
     by true is e = let some : Some (called t.call.now) ≡ Some c = e in let same : called t.call.now ≡ c = cc in (same, is)
     by false is e = absurd cc
 
-so : (told : List Told) (cs : List Called) → calls_told told ≡ map (λ c. Some c) cs → (calls_of (map told_of told) ≡ cs) × All Suits (map told_of told)
+pub so : (told : List Told) (cs : List Called) → calls_told told ≡ map (λ c. Some c) cs → (calls_of (map told_of told) ≡ cs) × All Suits (map told_of told)
 so [] [] e = (refl, All-nil Suits)
 so [] (c ∷ cs) e = absurd cc
 so (t ∷ ts) [] e = absurd cc
@@ -45,14 +47,20 @@ so (t ∷ ts) (c ∷ cs) e =
     let rest = so ts cs tail in
     ((λ i. one.0 i ∷ rest.0 i), All-cons Suits (told_of t) (map told_of ts) one.1 rest.1)
 
-twice : (script : List ScriptCall) → map (λ c. Some c) (map called script) ≡ to_be_told script
+pub twice : (script : List ScriptCall) → map (λ c. Some c) (map called script) ≡ to_be_told script
 twice [] = refl
 twice (c ∷ cs) = ap (λ rest. Some (called c) ∷ rest) (twice cs)
+
+-- the lines of a history, where one is kept
+history_of : (timed : Bool) (n : ℕ) (calls : List Called) (told : List Told) (text : List ℕ) → All (λ t. IsInTurn n calls (timed_of t)) told
+    → text ≡ history_if timed (map timed_of told) → IsHistoryIf timed n calls (map told_of told) text
+history_of true n calls told text turns is = (map timed_of told, of_timed told, All-map (IsInTurn n calls) timed_of told turns, is)
+history_of false n calls told text turns is = is
 
 -- what a run of these calls gives back
 abbrev pub GivesRun : Config → CatalogueView → Bool → List Called → Left → Type 0
 GivesRun config c timed calls left =
-    (t : IsTranscript config c calls (record { text = left.written.transcript.items; verdict = verdicts.Good })) × IsHistoryIf timed t.told left.written.history.items
+    (t : IsTranscript config c calls (record { text = left.written.transcript.items; verdict = verdicts.Good })) × IsHistoryIf timed (session_count config) calls t.told left.written.history.items
     × (left.state ≡ state_behind c t.of_one.history) × AreCounted t.told left.written.counts
 
 pub run_of : (config : Config) (c : CatalogueView) (timed : Bool) → IsConfig config → (script : List ScriptCall) (left : Left) → IsLeft config c timed script left → GivesRun config c timed (map called script) left
@@ -70,6 +78,7 @@ run_of config c timed sizes script left is =
         asked = asked;
         in_turn = in_turn;
         suited = each.1;
+        steady = λ k below. subst AreSteady (sym (share_map called (λ s. Some (called s)) n k script told_of is.told)) (is.steady k below);
         told = lines;
         same = same;
         ordered = is.written.ordered;
@@ -77,7 +86,8 @@ run_of config c timed sizes script left is =
         of_one = one.0;
         each_once = IsPermutation-trans calls (calls_of asked) (calls_of lines) all (IsPermutation-map (λ t. t.call) asked lines same);
       },
-      is.written.history,
+      history_of timed n calls is.written.lines left.written.history.items
+          (All-permutation (λ t. IsInTurn n calls (timed_of t)) is.told is.written.lines is.written.same is.turns) is.written.history,
       one.1,
       is.written.counts,
     )
@@ -85,7 +95,9 @@ run_of config c timed sizes script left is =
 -- what is left of a store, where memory was left
 module _ {V E : Type 0} (items : V → List Told) (config : Config) (c : CatalogueView) (timed : Bool) (script : List ScriptCall) where
   pub is_left : (told : Result V E) (left : Left) → IfOk told (λ v. calls_told (items v) ≡ dealt_to (session_count config) (to_be_told script))
+      → IfOk told (λ v. All (λ t. IsInTurn (session_count config) (map called script) (timed_of t)) (items v))
+      → IfOk told (λ v. AreSteadyTo (session_count config) (session_count config) (to_be_told script) (items v))
       → IfOk told (λ v. EndsIn c config.limit left.state (items v)) → MatchResult told (λ v. IsWritten c timed (items v) left.written) (λ _. ⊥)
       → IsLeft config c timed script left
-  is_left (Err e) left dealt ends written = absurd written
-  is_left (Ok v) left dealt ends written = record { told = items v; in_turn = dealt; written = written; ends = ends }
+  is_left (Err e) left dealt turns steady ends written = absurd written
+  is_left (Ok v) left dealt turns steady ends written = record { told = items v; in_turn = dealt; turns = turns; steady = steady; written = written; ends = ends }

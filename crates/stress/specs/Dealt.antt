@@ -1,5 +1,5 @@
 -- Which calls of a script each session makes: they go to the sessions in turn.
-use Rattle.std.specs.Prelude.{ℕ, zero, suc, ◌-◌, List, [], ◌∷◌, ◌++◌}
+use Rattle.std.specs.Prelude.{ℕ, zero, suc, ◌-◌, List, [], ◌∷◌, ◌++◌, length, take, drop}
 
 -- of calls that go to n sessions in turn, those of the session whose turn comes after `skip` others: from there on each n-th
 abbrev pub dealt : {X : Type 0} → ℕ → ℕ → List X → List X
@@ -15,3 +15,7 @@ dealt_from n k (suc count) calls = dealt n k calls ++ dealt_from n (suc k) count
 -- those of all n sessions
 abbrev pub dealt_to : {X : Type 0} → ℕ → List X → List X
 dealt_to n calls = dealt_from n 0 n calls
+
+-- of what belongs to calls that are dealt to n sessions, one session's behind the other, what belongs to those of session k
+abbrev pub share_of : {X Y : Type 0} → ℕ → ℕ → List X → List Y → List Y
+share_of n k calls all = take (length (dealt n k calls)) (drop (length (dealt_from n 0 k calls)) all)

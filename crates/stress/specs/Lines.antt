@@ -1,5 +1,5 @@
 -- The lines of a transcript.
-use Rattle.std.specs.Prelude.{◌≡◌, ℕ, ◌+◌, ◌*◌, ◌^◌, Bool, true, false, List, ◌++◌, Option, Some, None, codes, decimal, slice_get}
+use Rattle.std.specs.Prelude.{ℕ, ◌+◌, ◌*◌, ◌^◌, Bool, true, false, List, ◌++◌, Option, Some, None, codes, decimal, filter, slice_get}
 use Rattle.std.specs.List.{flat_map}
 use Rattle.std.specs.List.Sorted.{IsNonDecreasingBy}
 use Rattle.verifier.specs.declared.refusal.Mode.{Mode}
@@ -38,6 +38,16 @@ suits mode said = false
 
 abbrev pub AreOrdered : List ToldCall → Type 0
 AreOrdered told = IsNonDecreasingBy (λ t. rank t.said) told
+
+-- whether this is an answer, and not that the history has ended
+abbrev pub is_answer : Said → Bool
+is_answer (Updated index reply) = true
+is_answer (Seen point reply) = true
+is_answer Ended = false
+
+-- the answers to these calls have their lines in this order
+abbrev pub AreSteady : List ToldCall → Type 0
+AreSteady told = AreOrdered (filter (λ t. is_answer t.said) told)
 
 -- ---- the texts
 

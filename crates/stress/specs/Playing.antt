@@ -1,5 +1,5 @@
 -- What is kept while sessions make their calls. Clauses of private functions alone cite this.
-use Rattle.std.specs.Prelude.{◌≡◌, ◌⊎◌, ℕ, Bool, ◌-◌, ◌<◌, ◌≤◌, List, [], ◌∷◌, ◌++◌, map, length, slice_index_or, Option, Some, None, Result, Ok, Err, IfOk, Vec}
+use Rattle.std.specs.Prelude.{◌≡◌, ◌⊎◌, ℕ, Bool, true, false, ◌-◌, ◌<◌, ◌≤◌, List, [], ◌∷◌, ◌++◌, map, length, slice_index_or, Option, Some, None, Result, Ok, Err, IfOk, Vec}
 use Rattle.std.specs.List.{All}
 use Rattle.std.specs.List.Sorted.{IsPermutation}
 use Rattle.loader.specs.CatalogueView.{CatalogueView}
@@ -17,7 +17,7 @@ use Rattle.stress.specs.declared.calls.ScriptCalls.TheVariants as reads
 use Rattle.stress.specs.declared.players.Player.{Player}
 use Rattle.stress.specs.declared.players.Playground.{Playground}
 use Rattle.stress.specs.Calls.{Called, asked_refusal}
-use Rattle.stress.specs.Dealt.{dealt, dealt_to}
+use Rattle.stress.specs.Dealt.{dealt, dealt_to, share_of}
 use Rattle.accounts.specs.declared.sessions.Progress.{Progress}
 use Rattle.accounts.specs.declared.sessions.AnsweredUpdate.{AnsweredUpdate}
 use Rattle.accounts.specs.Accounts.{Extends}
@@ -29,10 +29,11 @@ use Rattle.stress.specs.declared.lines.Said.TheVariants as told
 use Rattle.stress.specs.declared.lines.Written.{Written}
 use Rattle.stress.specs.declared.sharing.Left.{Left}
 use Rattle.oplog.specs.declared.configuration.Config.{Config}
-use Rattle.stress.specs.Lines.{ToldCall, AreOrdered, transcript_text}
-use Rattle.stress.specs.Timed.{IsHistoryIf, AreCounted}
+use Rattle.stress.specs.Lines as said
+use Rattle.stress.specs.Lines.{ToldCall, AreOrdered, AreSteady, transcript_text}
+use Rattle.stress.specs.Timed.{Timed, IsInTurn, AreCounted, history_text}
 use Rattle.stress.specs.OneHistory.{IsSo, IsOfOneHistory, lines_at}
-use Rattle.stress.specs.Shown.{TellsCalls, calls_told, to_be_told, told_of}
+use Rattle.stress.specs.Shown.{TellsCalls, called, calls_told, said_of, to_be_told, told_of, timed_of}
 use Rattle.stress.specs.StressAnswer.{session_count}
 use Rattle.stress.specs.Runs.{state_behind}
 
@@ -77,6 +78,18 @@ abbrev pub TellTheirs : ℕ → List (Option Called) → List Player → Type 0
 TellTheirs n calls players =
     (k : ℕ) (d : Player) → k < length players → TellsCalls (slice_index_or players k d).told (dealt n (n - 1 - k) calls)
 
+-- what was told names the sessions that these calls went to, n of them in turn, unless memory ran out
+abbrev pub NamesTurns : {X E : Type 0} → ℕ → List Called → Result (Vec Told X) E → Type 0
+NamesTurns n calls told = IfOk told (λ v. All (λ t. IsInTurn n calls (timed_of t)) v.items)
+
+-- of what n sessions were told of these calls, one behind the other, the answers of each of the first m have their lines in its order
+abbrev pub AreSteadyTo : ℕ → ℕ → List (Option Called) → List Told → Type 0
+AreSteadyTo n m calls told = (k : ℕ) → k < m → AreSteady (map told_of (share_of n k calls told))
+
+-- the same, unless memory ran out
+abbrev pub TellsSteady : {X E : Type 0} → ℕ → ℕ → List (Option Called) → Result (Vec Told X) E → Type 0
+TellsSteady n m calls told = IfOk told (λ v. AreSteadyTo n m calls v.items)
+
 -- where these players were told the calls that are dealt to their sessions, all of them are told, the first session's first
 abbrev pub TellsAll : {X E : Type 0} → List Player → Result (Vec Told X) E → Type 0
 TellsAll players told =
@@ -98,9 +111,27 @@ AreShown l s lines =
 abbrev pub HasAnswered : ℕ → SessionView → Type 0
 HasAnswered i s = (q : ℕ) × (u : AnsweredUpdate) × At q u s.note.answered × (u.index ≡ i)
 
--- the session was told all this, and no more
+-- none of these answers has its line behind the first n operations
+abbrev pub IsUpTo : ℕ → said.Said → Type 0
+IsUpTo n (said.Updated index reply) = index < n
+IsUpTo n (said.Seen point reply) = point ≤ n
+IsUpTo n said.Ended = Unit {0}
+
+-- it has its line behind what was completed: an update behind the whole history
+abbrev pub IsBehind : Progress CatalogueView → said.Said → Type 0
+IsBehind l (said.Updated index reply) = length l.history ≤ index
+IsBehind l (said.Seen point reply) = l.completed ≤ point
+IsBehind l said.Ended = Unit {0}
+
+-- it has its line before what the session knows now, completed and not
+abbrev pub IsBefore : Progress CatalogueView → said.Said → Type 0
+IsBefore l answer = IsUpTo l.completed answer × IsUpTo (length l.history) answer
+
+-- the session was told all this, and no more, and its answers have their lines in this order
 pub record IsTold (s : SessionView) (told : List Told) : Type 0 where
   pub so : All (IsSoIn s.progress) (map told_of told)
+  pub before : All (λ t. IsBefore s.progress t.said) (map told_of told)
+  pub steady : AreSteady (map told_of told)
   pub shown : AreShown s.progress s (map told_of told)
   pub only : (i : ℕ) → (lines_at i (map told_of told) ≡ 0) ⊎ HasAnswered i s
 
@@ -129,6 +160,8 @@ pub record IsAsked (old new : SessionView) (t : Told) : Type 0 where
   pub session : new.session ≡ old.session
   pub grown : Extends old.progress new.progress
   pub so : IsSoIn new.progress (told_of t)
+  pub behind : IsBehind old.progress (said_of t.said)
+  pub before : IsBefore new.progress (said_of t.said)
   pub noted : IsNoted old new t.said
 
 -- all this is so in this history, each answered update of these sessions has one line, and there are no others
@@ -144,13 +177,18 @@ AreTold sessions told =
 
 -- ---- what is left
 
+-- the lines of a history, where one is kept
+abbrev pub history_if : Bool → List Timed → List ℕ
+history_if true timed = history_text timed
+history_if false timed = []
+
 -- what is written of these calls, in the order of their lines
 pub record IsWritten (c : CatalogueView) (timed : Bool) (told : List Told) (w : Written) : Type 0 where
   pub lines : List Told
   pub same : IsPermutation told lines
   pub ordered : AreOrdered (map told_of lines)
   pub transcript : w.transcript.items ≡ transcript_text c (map told_of lines)
-  pub history : IsHistoryIf timed (map told_of lines) w.history.items
+  pub history : w.history.items ≡ history_if timed (map timed_of lines)
   pub counts : AreCounted (map told_of lines) w.counts
 
 -- one history is behind these calls, and this is the state after it
@@ -161,6 +199,8 @@ EndsIn c limit state told = (of_one : IsOfOneHistory c limit (map told_of told))
 pub record IsLeft (config : Config) (c : CatalogueView) (timed : Bool) (calls : List ScriptCall) (left : Left) : Type 0 where
   pub told : List Told
   pub in_turn : calls_told told ≡ dealt_to (session_count config) (to_be_told calls)
+  pub turns : All (λ t. IsInTurn (session_count config) (map called calls) (timed_of t)) told
+  pub steady : AreSteadyTo (session_count config) (session_count config) (to_be_told calls) told
   pub written : IsWritten c timed told left.written
   pub ends : EndsIn c config.limit left.state told
 

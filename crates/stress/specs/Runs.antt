@@ -23,7 +23,7 @@ use Rattle.stress.specs.declared.engine.Trial.{Trial}
 use Rattle.stress.specs.declared.runs.Stressed.{Stressed}
 use Rattle.stress.specs.Calls.{Called, script_calls}
 use Rattle.stress.specs.Timed.{IsHistoryIf, AreCounted}
-use Rattle.stress.specs.StressAnswer.{IsTranscript, IfKnown}
+use Rattle.stress.specs.StressAnswer.{IsTranscript, IfKnown, session_count}
 
 -- the state after the whole of a history
 abbrev pub state_behind : CatalogueView → History → StoreState
@@ -32,8 +32,8 @@ state_behind c history = state_after store_meaning c history (length history)
 -- a run of these calls by the sessions of a store of these sizes and this catalogue
 pub record IsRun (config : Config) (c : CatalogueView) (timed : Bool) (calls : List Called) (s : Stressed) : Type 0 where
   pub transcript : IsTranscript config c calls (answer_of s.reply)
-  -- a line for each line of the transcript, in its order
-  pub history : IsHistoryIf timed transcript.told s.history.items
+  -- a line for each line of the transcript, in its order, with the session that its call went to
+  pub history : IsHistoryIf timed (session_count config) calls transcript.told s.history.items
   -- the state after the one history that is behind the transcript
   pub state : s.state ≡ Some (state_behind c transcript.of_one.history)
   pub counts : AreCounted transcript.told s.counts

@@ -1,5 +1,5 @@
 -- What `stress` may answer and write. Which of the transcripts it is depends on how the threads run.
-use Rattle.std.specs.Prelude.{◌≡◌, ◌⊎◌, ℕ, ◌*◌, Bool, true, false, List, map, Option, Result, Ok, Err, MatchResult}
+use Rattle.std.specs.Prelude.{◌≡◌, ◌⊎◌, ℕ, ◌*◌, ◌<◌, Bool, true, false, List, map, Option, Result, Ok, Err, MatchResult}
 use Rattle.std.specs.List.{All}
 use Rattle.std.specs.List.Sorted.{IsPermutation}
 use Rattle.std.specs.Io.KnownBytes.{Appends, Keeps}
@@ -26,8 +26,8 @@ use Rattle.console.specs.RunAnswer.{bad_line}
 use Rattle.console.specs.ScheduleAnswer.{are_sizes, sizes_refused}
 use Rattle.stress.specs.declared.engine.Trial.{Trial}
 use Rattle.stress.specs.Calls.{Called, told_as, script_calls}
-use Rattle.stress.specs.Dealt.{dealt_to}
-use Rattle.stress.specs.Lines.{ToldCall, suits, AreOrdered, transcript_text}
+use Rattle.stress.specs.Dealt.{dealt_to, share_of}
+use Rattle.stress.specs.Lines.{ToldCall, suits, AreOrdered, AreSteady, transcript_text}
 use Rattle.stress.specs.OneHistory.{IsOfOneHistory}
 
 -- the calls of these told ones
@@ -44,6 +44,8 @@ pub record IsTranscript (config : Config) (c : CatalogueView) (calls : List Call
   pub asked : List ToldCall
   pub in_turn : calls_of asked ≡ dealt_to (session_count config) calls
   pub suited : All (λ t. suits (told_as t.call.asked) t.said ≡ true) asked
+  -- a session's answers have their lines in the order of its calls
+  pub steady : (k : ℕ) → k < session_count config → AreSteady (share_of (session_count config) k calls asked)
   -- the same in the order of their lines, which are what is written
   pub told : List ToldCall
   pub same : IsPermutation asked told

@@ -1,7 +1,9 @@
 -- A history of calls in real time, and how many there are.
-use Rattle.std.specs.Prelude.{◌≡◌, ℕ, Bool, true, false, List, [], ◌++◌, map, filter, length, codes, decimal}
+use Rattle.std.specs.Prelude.{◌≡◌, ℕ, Bool, true, false, List, [], ◌++◌, map, filter, length, codes, decimal, All, Contains}
 use Rattle.std.specs.List.{flat_map}
 use Rattle.stress.specs.declared.watching.Counts.{Counts}
+use Rattle.stress.specs.Calls.{Called}
+use Rattle.stress.specs.Dealt.{dealt}
 use Rattle.stress.specs.Lines.{Said, Updated, Seen, Ended, ToldCall}
 
 -- a call and what was told, the number of the session that made it, and what the counter that all threads raise was just before it and just
@@ -20,14 +22,18 @@ timed_text t =
 abbrev pub history_text : List Timed → List ℕ
 history_text timed = flat_map timed_text timed
 
--- a line for each of these calls, in their order
-abbrev pub IsHistoryOf : List ToldCall → List ℕ → Type 0
-IsHistoryOf told text = (timed : List Timed) × (map (λ t. t.told) timed ≡ told) × (text ≡ history_text timed)
+-- of the calls that go to n sessions in turn, this is one of those of the session that made it
+abbrev pub IsInTurn : ℕ → List Called → Timed → Type 0
+IsInTurn n calls t = Contains (dealt n t.session calls) t.told.call
+
+-- a line for each of these calls, in their order, which names the session that its call went to; of the counter's numbers nothing is said
+abbrev pub IsHistoryOf : ℕ → List Called → List ToldCall → List ℕ → Type 0
+IsHistoryOf n calls told text = (timed : List Timed) × (map (λ t. t.told) timed ≡ told) × All (IsInTurn n calls) timed × (text ≡ history_text timed)
 
 -- the same where it is wanted, and else nothing
-abbrev pub IsHistoryIf : Bool → List ToldCall → List ℕ → Type 0
-IsHistoryIf true told text = IsHistoryOf told text
-IsHistoryIf false told text = text ≡ []
+abbrev pub IsHistoryIf : Bool → ℕ → List Called → List ToldCall → List ℕ → Type 0
+IsHistoryIf true n calls told text = IsHistoryOf n calls told text
+IsHistoryIf false n calls told text = text ≡ []
 
 -- ---- how many
 

@@ -4,9 +4,9 @@ ghost use Rattle.std.specs.Prelude.{◌≡◌, ◌++◌, map, filter, length, sl
 ghost use Rattle.std.specs.List.{flat_map};
 ghost use Rattle.loader.specs.Spelling.{mode_word};
 ghost use Rattle.stress.specs.Lines.{rank, name_or, asked_text, call_text, update_letter, answered_text, told_text, transcript_text};
-ghost use Rattle.stress.specs.Timed.{AreCounted, IsHistoryIf, timed_text, history_text, is_updated, is_seen, is_ended};
+ghost use Rattle.stress.specs.Timed.{AreCounted, timed_text, history_text, is_updated, is_seen, is_ended};
 ghost use Rattle.stress.specs.Shown.{called, said_of, told_of, timed_of};
-ghost use Rattle.stress.specs.Playing.{IsWritten};
+ghost use Rattle.stress.specs.Playing.{IsWritten, history_if};
 
 use crate::calls::{Asked, ScriptCall};
 use crate::watching::{Counts, Noted, Spent};
@@ -195,7 +195,7 @@ fn history_text(alloc: Global, told: &[Told<'_>]) -> Result<Vec<u8>, AllocError>
 
 // The history, if it is wanted.
 fn history_if(alloc: Global, timed: bool, told: &[Told<'_>]) -> Result<Vec<u8>, AllocError>
-    ensures { IfOk result (λ text. IsHistoryIf timed (map told_of told.now) text.items) }
+    ensures { IfOk result (λ text. text.items ≡ history_if timed (map timed_of told.now)) }
 {
     if timed {
         history_text(alloc, told)

@@ -1,9 +1,9 @@
 // The sessions, each with its own lines of the script.
 
-ghost use Rattle.std.specs.Prelude.{◌≡◌, ◌<◌, [], All, IfOk, drop, Some};
+ghost use Rattle.std.specs.Prelude.{◌≡◌, ◌<◌, [], All, IfOk, drop, map, Some};
 ghost use Rattle.store.specs.Sessions.{IsOf};
 ghost use Rattle.stress.specs.Shown.{TellsCalls, called, told_call};
-ghost use Rattle.stress.specs.Playing.{IsReady, IsAsked, IsTold, IsToldPlayer, calls_for, update_said};
+ghost use Rattle.stress.specs.Playing.{IsReady, IsAsked, IsTold, IsToldPlayer, NamesTurns, calls_for, update_said};
 
 use crate::calls::{Asked, ScriptCall};
 use crate::gate::Gate;
@@ -102,6 +102,7 @@ fn ask_noted<'a, R: Wait, G, C: Clock>(
     ensures own { IsOf ground.now.store.now session.new }
     ensures call { told_call result ≡ Some (called call.now) }
     ensures told { IsAsked session.old session.new result }
+    ensures noted { result.noted.session ≡ number }
 {
     let start = time(ground.clock);
     let begun = tick(ground.counter);
@@ -143,6 +144,7 @@ fn ask_all<'a, R: Wait, G: Gate, C: Clock>(
     ensures calls { TellsCalls result (calls_for ground.now number) }
     ensures told { IfOk result (λ v. IsTold session.new v.items) }
     ensures number { session.new.session ≡ session.old.session }
+    ensures turns { NamesTurns ground.now.sessions (map called ground.now.calls.now) result }
 {
     let mut told = Vec::with_capacity(ground.alloc, ground.calls.len() / ground.sessions + 1)?;
     let mut left = behind(ground.calls, number);
@@ -169,6 +171,7 @@ pub(crate) fn play<'a, R: Wait, G: Gate, C: Clock>(
     ensures calls { TellsCalls player.new.told (calls_for ground.now number) }
     ensures told { IsToldPlayer player.new }
     ensures number { player.new.session.session ≡ player.old.session.session }
+    ensures turns { NamesTurns ground.now.sessions (map called ground.now.calls.now) player.new.told }
 {
     player.told = ask_all(rt, ground, &mut player.session, number);
 }

@@ -1,6 +1,6 @@
 // One store for all threads: it is opened, each session makes its calls on a thread of its own, and it is closed.
 
-ghost use Rattle.std.specs.Prelude.{◌≡◌, ◌-◌, ◌*◌, ◌≤◌, ◌<◌, ◌++◌, List, [], length, None, Some, Option, All, IfOk, IfSome, MatchResult, vec_capacity};
+ghost use Rattle.std.specs.Prelude.{◌≡◌, ℕ, ◌-◌, ◌*◌, ◌≤◌, ◌<◌, ◌++◌, List, [], length, map, None, Some, Option, All, IfOk, IfSome, MatchResult, vec_capacity};
 ghost use Rattle.loader.specs.CatalogueView.{MayOpenOn, OpensOn};
 ghost use Rattle.loader.specs.StoreState.{with_room};
 ghost use Rattle.oplog.specs.Limits.{IsConfig};
@@ -8,8 +8,8 @@ ghost use Rattle.store.specs.Opening.{ClosedView, IsClosed, last_state};
 ghost use Rattle.store.specs.Sessions.{IsOf, StoreView};
 ghost use Rattle.stress.specs.Calls.{Called};
 ghost use Rattle.stress.specs.Dealt.{dealt_to};
-ghost use Rattle.stress.specs.Shown.{TellsCalls, to_be_told};
-ghost use Rattle.stress.specs.Playing.{IsReady, AreIn, AreLast, AreNew, AreNumbered, AreTold, IsNew, IsNewPlayer, IsPlaying, IsToldPlayer, IsLeft, IsWritten, TellTheirs, TellsAll, calls_for};
+ghost use Rattle.stress.specs.Shown.{TellsCalls, called, to_be_told};
+ghost use Rattle.stress.specs.Playing.{IsReady, AreIn, AreLast, AreNew, AreNumbered, AreTold, IsNew, IsNewPlayer, IsPlaying, IsToldPlayer, IsLeft, IsWritten, NamesTurns, TellTheirs, TellsSteady, TellsAll, calls_for};
 
 use crate::calls::ScriptCall;
 use crate::engine::Trial;
@@ -160,6 +160,9 @@ fn leave<'a>(
     ensures told { TellsAll players.old.items result }
     ensures known { All IsToldPlayer players.old.items → IfOk result (λ v. AreTold sessions.new.items v.items) }
     ensures numbers { AreLast (length players.old.items) players.old.items → AreNumbered sessions.new.items }
+    ensures turns { (n : ℕ) (calls : List Called) → All (λ p. NamesTurns n calls p.told) players.old.items → NamesTurns n calls result }
+    ensures steady { (calls : List (Option Called)) → All IsToldPlayer players.old.items → TellTheirs (length players.old.items) calls players.old.items
+        → TellsSteady (length players.old.items) (length players.old.items) calls result }
 {
     let mut all = Ok(Vec::new(alloc));
     while let Some(player) = players.pop() {
@@ -185,6 +188,7 @@ fn play_together<'a, R: Threads + Wait + Sync, G: Gate + Sync, C: Clock + Sync>(
     ensures told { TellTheirs ground.now.sessions (to_be_told ground.now.calls.now) players.new }
     ensures known { All IsToldPlayer players.new }
     ensures numbers { AreLast ground.now.sessions players.new }
+    ensures turns { All (λ p. NamesTurns ground.now.sessions (map called ground.now.calls.now) p.told) players.new }
 {
     thread::for_each_mut(
         rt,
@@ -199,6 +203,7 @@ fn play_together<'a, R: Threads + Wait + Sync, G: Gate + Sync, C: Clock + Sync>(
             ensures calls { TellsCalls player.exit.now.told (calls_for ground.entry.now (ground.entry.now.sessions - 1 - index)) }
             ensures told { IsToldPlayer player.exit.now }
             ensures number { player.exit.now.session.session ≡ ground.entry.now.sessions - 1 - index }
+            ensures turns { NamesTurns ground.entry.now.sessions (map called ground.entry.now.calls.now) player.exit.now.told }
         { play(rt, ground, ground.sessions - 1 - index, player) },
     );
 }
@@ -218,6 +223,8 @@ fn play_all<'a, R: Threads + Wait + Sync, G: Gate + Sync, C: Clock + Sync>(
     ensures told { TellsCalls result (dealt_to ground.now.sessions (to_be_told ground.now.calls.now)) }
     ensures known { IfOk result (λ v. AreTold sessions.new.items v.items) }
     ensures numbers { AreNumbered sessions.new.items }
+    ensures turns { NamesTurns ground.now.sessions (map called ground.now.calls.now) result }
+    ensures steady { TellsSteady ground.now.sessions ground.now.sessions (to_be_told ground.now.calls.now) result }
 {
     enter(ground.alloc, sessions, &mut players);
     play_together(rt, ground, &mut players);

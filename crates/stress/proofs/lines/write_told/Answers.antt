@@ -1,8 +1,9 @@
 use Rattle.std.proofs.Common.{◌∙◌, map, ap, subst, rules}
 use Rattle.std.proofs.lemmas.List.Sorted.{IsNonDecreasingBy-from_sort_by_key}
 use Rattle.stress.specs.Lines.{rank, transcript_text}
-use Rattle.stress.specs.Timed.{AreCounted, IsHistoryIf}
-use Rattle.stress.specs.Shown.{said_of, told_of}
+use Rattle.stress.specs.Timed.{AreCounted}
+use Rattle.stress.specs.Shown.{said_of, told_of, timed_of}
+use Rattle.stress.specs.Playing.{history_if}
 use Rattle.stress.proofs.Told.{ordered}
 use Rattle.stress.proofs.lines.write_told.Goals as goal
 
@@ -15,6 +16,6 @@ returns c =
       same = c.in_ok-sort_by_key.ensures.permutation;
       ordered = ordered sorted up;
       transcript = c.in_ok-transcript_text.ensures ∙ ap (λ xs. transcript_text c.args.catalogue.now (map told_of xs)) c.deref.ensures.value;
-      history = subst (λ xs. IsHistoryIf c.args.timed (map told_of xs) c.in_ok-history_if.field-0.items) c.deref-2.ensures.value c.in_ok-history_if.ensures;
+      history = c.in_ok-history_if.ensures ∙ ap (λ xs. history_if c.args.timed (map timed_of xs)) c.deref-2.ensures.value;
       counts = subst (λ xs. AreCounted (map told_of xs) c.counted.result) c.deref-3.ensures.value c.counted.ensures;
     }

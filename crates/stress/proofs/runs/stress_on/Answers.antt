@@ -3,8 +3,7 @@ use Rattle.std.proofs.lemmas.Result.{err_from_is_err_and}
 use Rattle.console.specs.Files.{is_text}
 use Rattle.console.specs.Inputs.{all_texts}
 use Rattle.console.specs.InputFaults.{FailsAs}
-use Rattle.console.specs.Gathering.{AreInputs, AreRead}
-use Rattle.console.specs.Input.{TextIs}
+use Rattle.console.specs.Gathering.{AreInputs}
 use Rattle.stress.specs.Runs.{GivesBack}
 use Rattle.stress.proofs.GivenBack.{all_known, nothing, inputs_fail, state_fails, gives_back, is_some_run, wider, last}
 use Rattle.stress.proofs.runs.stress_on.Goals as goal

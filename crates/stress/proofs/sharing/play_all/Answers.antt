@@ -1,9 +1,9 @@
-use Rattle.std.proofs.Common.{◌≡◌, ◌∙◌, ◌++◌, take, drop, sym, ap, subst, All, length, rules}
+use Rattle.std.proofs.Common.{◌≡◌, ◌∙◌, ◌++◌, take, drop, map, sym, ap, subst, All, length, rules}
 use Rattle.std.proofs.Math.Seq.{take-append_seam}
 use Rattle.std.specs.Prelude.{IfOk}
 use Rattle.stress.specs.Dealt.{dealt_to}
-use Rattle.stress.specs.Shown.{calls_told, to_be_told}
-use Rattle.stress.specs.Playing.{AreLast, IsPlaying, IsToldPlayer, TellTheirs}
+use Rattle.stress.specs.Shown.{called, calls_told, to_be_told}
+use Rattle.stress.specs.Playing.{AreLast, IsPlaying, IsToldPlayer, NamesTurns, TellTheirs, TellsSteady}
 use Rattle.stress.proofs.sharing.play_all.Goals as goal
 
 pub play_together-requires-clause-playing : goal.play_together-requires-clause-playing
@@ -30,4 +30,8 @@ returns g c =
       told = subst (λ k. IfOk c.leave-told.result (λ v. calls_told v.items ≡ dealt_to k calls)) count (c.leave-told.ensures.told calls (subst (λ k. TellTheirs k calls seen) (sym count) theirs));
       known = c.leave-told.ensures.known (subst (λ xs. All IsToldPlayer xs) (sym left) c.play_together.ensures.known);
       numbers = c.leave-told.ensures.numbers (subst (λ k. AreLast k seen) (sym count) (subst (λ xs. AreLast n xs) (sym left) c.play_together.ensures.numbers));
+      steady = subst (λ k. TellsSteady k k calls c.leave-told.result) count
+          (c.leave-told.ensures.steady calls (subst (λ xs. All IsToldPlayer xs) (sym left) c.play_together.ensures.known) (subst (λ k. TellTheirs k calls seen) (sym count) theirs));
+      turns = let all = map called c.args.ground.now.calls.now in
+          c.leave-told.ensures.turns n all (subst (λ xs. All (λ p. NamesTurns n all p.told) xs) (sym left) c.play_together.ensures.turns);
     }

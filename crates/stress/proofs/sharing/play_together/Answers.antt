@@ -1,7 +1,8 @@
 use Rattle.std.proofs.Common.{◌≡◌, ◌<◌, ◌-◌, sym, subst}
 use Rattle.store.specs.Sessions.{IsOf}
-use Rattle.stress.specs.Shown.{TellsCalls}
-use Rattle.stress.specs.Playing.{IsNew, IsToldPlayer, calls_for}
+use Rattle.std.specs.Prelude.{map}
+use Rattle.stress.specs.Shown.{TellsCalls, called}
+use Rattle.stress.specs.Playing.{IsNew, IsToldPlayer, NamesTurns, calls_for}
 use Rattle.stress.proofs.sharing.play_together.Goals as goal
 
 pub for_each_mut-requires-clause-accepts : goal.for_each_mut-requires-clause-accepts
@@ -26,5 +27,8 @@ returns g c = record {
       subst IsToldPlayer did.left did.call.1.1.0;
   numbers = λ k d below.
       let did = (c.for_each_mut.ensures k d (subst (λ n. k < n) c.for_each_mut.auto.s below)).1 in
-      subst (λ q. q.session.session ≡ c.args.ground.now.sessions - 1 - k) did.left did.call.1.1.1;
+      subst (λ q. q.session.session ≡ c.args.ground.now.sessions - 1 - k) did.left did.call.1.1.1.0;
+  turns = λ k d below.
+      let did = (c.for_each_mut.ensures k d (subst (λ n. k < n) c.for_each_mut.auto.s below)).1 in
+      subst (λ q. NamesTurns c.args.ground.now.sessions (map called c.args.ground.now.calls.now) q.told) did.left did.call.1.1.1.1;
 }

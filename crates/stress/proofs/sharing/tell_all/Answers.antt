@@ -14,7 +14,7 @@ returns g c =
     c.close-state.ensures.closed all.ensures.numbers all.result all.ensures.known in
     record {
       left = is_left (λ v. v.items) config c.args.catalogue c.args.watch.now.history c.args.calls.now all.result (record { written = c.in_ok-written.field-0; state = c.close-state.result })
-          all.ensures.told ends
+          all.ensures.told all.ensures.turns all.ensures.steady ends
           (subst (λ x. MatchResult all.result (λ v. IsWritten x c.args.watch.now.history v.items c.in_ok-written.field-0) (λ _. ⊥))
           (c.catalogue-2.ensures.catalogue ∙ c.in-Ok.ensures.catalogue) c.in_ok-written.ensures);
     }
