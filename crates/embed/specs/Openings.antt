@@ -54,6 +54,10 @@ AreUtf8 files = All (λ f. IsUtf8 f.name.now × IsUtf8 f.text.now) files
 abbrev pub AreTexts : Sizes → Type 0
 AreTexts o = IsUtf8 o.manifest.now × AreUtf8 o.files.now
 
+-- all texts are UTF-8, and the manifest says this catalogue
+abbrev pub Says : Sizes → CatalogueView → Type 0
+Says o c = AreTexts o × (reading_of o ≡ Ok c)
+
 -- the state that is lent, if one is
 abbrev pub state_in : Option (Bor StoreState) → Option StoreState
 state_in lent = option_map (λ s. s.now) lent
@@ -67,10 +71,9 @@ catalogue_on c (Some s) = opened_on c s
 
 -- a store of these sizes, and of the maps and programs of the manifest, on this state, which it may be opened on
 pub record IsStoreOf (o : Sizes) (on : Option StoreState) (s : StoreView) : Type 0 where
-  pub texts : AreTexts o
   pub config : s.config ≡ config_of o
   pub catalogue : CatalogueView
-  pub read : reading_of o ≡ Ok catalogue
+  pub says : Says o catalogue
   pub may : IfSome on (MayOpenOn (with_places catalogue o.spare))
   pub offers : s.catalogue ≡ catalogue_on (with_places catalogue o.spare) on
 
@@ -104,7 +107,7 @@ IsReason o on (Loading errors.NoMemory) = Unit {0}
 IsReason o on (Loading (errors.Refused bad)) = AreTexts o × (reading_of o ≡ Err bad)
 IsReason o on (Opening OutOfLimits) = AreTexts o × (IsConfig (config_of o) → ⊥)
 IsReason o on (Opening NoMemory) = Unit {0}
-IsReason o on (Opening OtherState) = AreTexts o × IsConfig (config_of o) × ((c : CatalogueView) × (reading_of o ≡ Ok c) × IsOther (with_places c o.spare) on)
+IsReason o on (Opening OtherState) = IsConfig (config_of o) × ((c : CatalogueView) × Says o c × IsOther (with_places c o.spare) on)
 
 -- of the program of a bad line: why the decoder or the verifier refuses it, and at which slot
 abbrev pub inner_in : LoadError → ℕ × ℕ

@@ -11,7 +11,7 @@ ghost use Rattle.oplog.specs.declared.configuration.OpenError.TheVariants.{Other
 ghost use Rattle.store.specs.Opening.{AreOf};
 ghost use Rattle.store.specs.Sessions.{IsOf, fresh_sessions};
 ghost use Rattle.store.specs.Shelving.{sessions_of};
-ghost use Rattle.embed.specs.Openings.{AreTexts, AreUtf8, IsOpened, IsOther, IsReason, IsSeat, IsStoreOf, catalogue_on, config_of, fresh_of, inner_in, only, reading_of, state_in, texts_of, words_of};
+ghost use Rattle.embed.specs.Openings.{AreUtf8, IsOpened, IsOther, IsReason, IsSeat, IsStoreOf, Says, catalogue_on, config_of, fresh_of, inner_in, only, state_in, texts_of, words_of};
 
 use crate::attached::Attached;
 use crate::handles::{File, Opening, StateHandle, StoreAnswered, StoreHandle};
@@ -68,7 +68,7 @@ fn texts<'a>(
 
 // The catalogue that the manifest says.
 fn loaded(alloc: Global, opening: &Opening) -> Result<Catalogue, NotOpened>
-    ensures loaded { MatchResult result (λ c. AreTexts opening.now × (reading_of opening.now ≡ Ok c)) (λ why. (on : Option State) → IsReason opening.now on why) }
+    ensures loaded { MatchResult result (Says opening.now) (λ why. (on : Option State) → IsReason opening.now on why) }
 {
     let Ok(manifest) = str::from_utf8(opening.manifest) else {
         return Err(NotOpened::NoText);
