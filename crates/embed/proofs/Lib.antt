@@ -1,8 +1,2 @@
 pub mod Steps
 mod Left
-mod Sessions
-mod Posted
-mod Opened
-mod Seats
-mod Gathered
-mod FileTexts

@@ -1,36 +1,28 @@
-//! A store for programs of other languages. No call waits: one that meets a held place says so. What is exported takes and gives numbers, texts
-//! and memory of the host's, in which its three kinds of handle lie.
+//! A store for programs of other languages: the calls of `host_calls`, exported. They take and give numbers, texts and memory of the host's, in which
+//! three kinds of handle lie.
 #![tactic(auto)]
 
 ghost use Rattle.std.specs.Prelude.{◌≡◌, ◌≤◌, None, length};
 ghost use Rattle.std.specs.Borrow.{sem};
 ghost use Rattle.std.specs.Mem.{type_size};
 ghost use Rattle.std.specs.Ptr.{room_at};
-ghost use Rattle.embed.specs.Calls.{Goes};
-ghost use Rattle.embed.specs.Stores.{Closes, Finds, Gives, Takes};
-ghost use Rattle.embed.specs.Leaving.{Leaves, MayClose};
-ghost use Rattle.embed.specs.Openings.{IsOpened};
-ghost use Rattle.embed.specs.Rooms.{holds_session, holds_state, holds_store};
-ghost use Rattle.embed.specs.contracts.handles.SessionHandle.{the_row as the_session};
-ghost use Rattle.embed.specs.contracts.handles.StateHandle.{the_row as the_state};
-ghost use Rattle.embed.specs.contracts.handles.StoreHandle.{the_row as the_store};
+ghost use Rattle.host_calls.specs.Calls.{Goes};
+ghost use Rattle.host_calls.specs.Stores.{Closes, Finds, Gives, Takes};
+ghost use Rattle.host_calls.specs.Leaving.{Leaves, MayClose};
+ghost use Rattle.host_calls.specs.Openings.{IsOpened};
+ghost use Rattle.host_calls.specs.Rooms.{holds_session, holds_state, holds_store};
+ghost use Rattle.host_calls.specs.contracts.handles.SessionHandle.{the_row as the_session};
+ghost use Rattle.host_calls.specs.contracts.handles.StateHandle.{the_row as the_state};
+ghost use Rattle.host_calls.specs.contracts.handles.StoreHandle.{the_row as the_store};
 
-mod attached;
-mod calls;
-mod closing;
-mod handles;
-mod opening;
-mod pool;
-mod statuses;
-mod stores;
 mod texts;
 
-use calls::called;
-use closing::{closed_into, dropped};
-use handles::{Opening, SessionHandle, StateHandle, StoreHandle};
-use opening::{opened, opened_on};
+use host_calls::calls::called;
+use host_calls::closing::{closed_into, dropped};
+use host_calls::handles::{Opening, SessionHandle, StateHandle, StoreHandle};
+use host_calls::opening::{opened, opened_on};
+use host_calls::stores::{attached, closed, detached, numbered};
 use std::alloc::Global;
-use stores::{attached, closed, detached, numbered};
 use texts::text_of;
 
 // The interface that a host is compiled for: 1000 times the major number, and the minor one.

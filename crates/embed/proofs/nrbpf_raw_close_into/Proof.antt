@@ -1,17 +1,17 @@
 -- `nrbpf_raw_close_into` lends the store to `closed_into`, and writes the handle that this gives into the room.
 use Rattle.embed.proofs.Steps.{[], ◌∷◌, ◌++◌, refl, MutBor, proved, full_share, id⊢, ex, ex_i, sep, emp, fact, fact_i, ftrue, flft, flent, named, vunit, tables, WpFn, ‵, raw, ◌⊛◌, some, later, prop, ◌$◌, ◌∵◌, !, qed, done, move, keep, drop, use0, use1, use2, use3, split, join, fsplit, feq_i, pick, await, regoal, suffices, group, sem, enter, of_opd, unit_lit, addr, init, stop, no_more, and_then, assigns, returns, alloc_all, pass_all, free_all, look_at, get, through, sets, lands_as, Body, lft_new, lft_end, part_in, yes, Is, shows, lends_ref, ref_back, mem, Ptr, RawPtr, block_ptr, lies_at, room_at, in_a_block, rawptr_vals, rawptr_Tells, MutRef, mut_vals, plain, nothing, heard, peeks, calls_at, lasts, triple_of, Stays, walk_of, stay_dropped, Goes-dropped, ends_at, framed}
 use Rattle.embed.proofs.Steps.{alive, ftrue, val, tells}
-use Rattle.embed.specs.Leaving.{Leaves, MayClose}
+use Rattle.host_calls.specs.Leaving.{Leaves, MayClose}
 use Rattle.std.specs.contracts.alloc.Global.{the_row as A, the_type as global}
 use Rattle.std.proofs.alloc.Global.TheLaws as global_laws
-use Rattle.embed.specs.contracts.handles.StateHandle.{the_row as R}
-use Rattle.embed.specs.contracts.handles.StoreHandle.{the_row as S}
-use Rattle.embed.proofs.handles.StateHandle.TheLaws as laws
+use Rattle.host_calls.specs.contracts.handles.StateHandle.{the_row as R}
+use Rattle.host_calls.specs.contracts.handles.StoreHandle.{the_row as S}
+use Rattle.host_calls.proofs.handles.StateHandle.TheLaws as laws
 use Rattle.embed.specs.contracts.nrbpf_raw_close_into as f
 use Rattle.embed.proofs.nrbpf_raw_close_into.Statement.{statement}
 use Rattle.embed.proofs.nrbpf_raw_close_into.Code as code
-use Rattle.embed.specs.contracts.closing.closed_into as g
-use Rattle.embed.proofs.closing.closed_into.Met.{met}
+use Rattle.host_calls.specs.contracts.closing.closed_into as g
+use Rattle.host_calls.proofs.closing.closed_into.Met.{met}
 
 abbrev stayed : Stays f.ended.signature.params f.ended.kept
 stayed = (stay_dropped _ yes, (stay_dropped _ yes, (stay_dropped _ yes, tt)))
@@ -47,7 +47,7 @@ nrbpf_raw_close_into_spec 𝓤 𝓛 𝓜 𝓡 wired =
     let z : G.Ghost = (((α ∷ [], tt), (full_share, tt), tt, (a.0, (r, tt)), (vals a.0, (mut_vals r, tt))), tt) in
     nothing ! $ move ! (1 ∷ 0 ∷ []) $ join ! $ move ! (4 ∷ 0 ∷ []) $ join ! $ nothing ! $ move ! (3 ∷ 0 ∷ []) $ join ! $ join ! $
     use0 𝓛 (raw (fact 𝓤 (MayClose value))) (fact_i 𝓤 (MayClose value) (emp 𝓤) may) $ move ! (1 ∷ 0 ∷ []) $ use2 𝓛 (raw (G.pre z)) (id⊢ 𝓤 _) $
-    calls_at ! (framed 𝓤 𝓛.H 𝓜 (tables 𝓤 𝓛.H 𝓜 𝓡 𝓡.env)) G (met 𝓤 𝓛 𝓜 𝓡 (code.calls-embed::closing::closed_into 𝓡.env wired)) z
+    calls_at ! (framed 𝓤 𝓛.H 𝓜 (tables 𝓤 𝓛.H 𝓜 𝓡 𝓡.env)) G (met 𝓤 𝓛 𝓜 𝓡 (code.calls-host_calls::closing::closed_into 𝓡.env wired)) z
     (and_then ! (get ! refl) (and_then ! (get ! refl) (no_more !))) (λ v.
     use1 𝓛 (later (some (λ (h : R.Denot). ((‵ (flft (α ∷ []) full_share) ⊛ ‵ ftrue) ⊛ ‵ (R.own_val h (v ∷ []))) ⊛
     some (λ (ws : Unit {0} × (S.Denot × Unit {0})). ‵ (lasts g.ended z.0.0 z.0.3 ws) ⊛ raw (fact 𝓤 (Leaves value ws.1.0 h)))))) (id⊢ 𝓤 _) $

@@ -2,12 +2,12 @@
 use Rattle.embed.proofs.Steps.{◌≡◌, room_at, [], ◌∷◌, refl, ap, MutBor, proved, full_share, id⊢, fact, ftrue, flft, flent, named, vunit, tables, WpFn, ‵, raw, ◌⊛◌, some, later, prop, ◌$◌, ◌∵◌, !, qed, done, move, keep, drop, use1, use2, use3, split, join, fsplit, feq_i, feq_l, pick, await, regoal, suffices, group, sem, enter, of_opd, unit_lit, addr, stop, no_more, and_then, returns, alloc_all, pass_all, free_all, look_at, get, through, sets, lands_as, Body, lft_new, lft_end, unit, yes, lends_ref, ref_back, mem, Ptr, RawPtr, block_ptr, lies_at, in_a_block, rawptr_vals, rawptr_Tells, MutRef, mut_vals, plain, nothing, heard, only, calls_at, lasts, on_entry, triple_of, Stays, walk_of, stay_dropped, Goes-dropped, ends_at, framed}
 use Rattle.std.proofs.Common.{None}
 use Rattle.embed.proofs.Left.{is_room}
-use Rattle.embed.specs.contracts.handles.StateHandle.{the_row as R}
+use Rattle.host_calls.specs.contracts.handles.StateHandle.{the_row as R}
 use Rattle.embed.specs.contracts.nrbpf_raw_drop_state as f
 use Rattle.embed.proofs.nrbpf_raw_drop_state.Statement.{statement}
 use Rattle.embed.proofs.nrbpf_raw_drop_state.Code as code
-use Rattle.embed.specs.contracts.closing.dropped as g
-use Rattle.embed.proofs.closing.dropped.Met.{met}
+use Rattle.host_calls.specs.contracts.closing.dropped as g
+use Rattle.host_calls.proofs.closing.dropped.Met.{met}
 
 abbrev stayed : Stays f.ended.signature.params f.ended.kept
 stayed = (stay_dropped _ yes, tt)
@@ -35,7 +35,7 @@ nrbpf_raw_drop_state_spec 𝓤 𝓛 𝓜 𝓡 wired =
     let z : G.Ghost = (((α ∷ [], tt), (full_share, tt), tt, (r, tt), (mut_vals r, tt)), tt) in
     nothing ! $ move ! (1 ∷ 0 ∷ []) $ join ! $ nothing ! $ move ! (3 ∷ 0 ∷ []) $ join ! $ join ! $
     nothing ! $ move ! (1 ∷ 0 ∷ []) $ use2 𝓛 (raw (G.pre z)) (id⊢ 𝓤 _) $
-    calls_at ! (framed 𝓤 𝓛.H 𝓜 (tables 𝓤 𝓛.H 𝓜 𝓡 𝓡.env)) G (met 𝓤 𝓛 𝓜 𝓡 (code.calls-embed::closing::dropped 𝓡.env wired)) z
+    calls_at ! (framed 𝓤 𝓛.H 𝓜 (tables 𝓤 𝓛.H 𝓜 𝓡 𝓡.env)) G (met 𝓤 𝓛 𝓜 𝓡 (code.calls-host_calls::closing::dropped 𝓡.env wired)) z
     (and_then ! (get ! refl) (no_more !)) (λ v.
     use1 𝓛 (later (some (λ (u : Unit {0}). ((‵ (flft (α ∷ []) full_share) ⊛ ‵ ftrue) ⊛ ‵ (unit.own_val u (v ∷ []))) ⊛
     some (λ (ws : R.Denot × Unit {0}). ‵ (lasts g.ended z.0.0 z.0.3 ws) ⊛ raw (fact 𝓤 (ws.0.own ≡ None)))))) (id⊢ 𝓤 _) $

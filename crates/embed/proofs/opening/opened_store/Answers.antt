@@ -1,6 +1,0 @@
-use Rattle.store.specs.Sessions.{IsOf}
-use Rattle.embed.proofs.Sessions.{all_of_at}
-use Rattle.embed.proofs.opening.opened_store.Goals as goal
-
-pub returns-in-Ok-store_on-clause-own : goal.returns-in-Ok-store_on-clause-own
-returns-in-Ok-store_on-clause-own c = all_of_at (IsOf c.in-Ok-store_on.opened.0) c.in-Ok-store_on.opened.1.items c.in-Ok-store_on.ensures.own

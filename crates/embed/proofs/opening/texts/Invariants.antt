@@ -1,7 +1,0 @@
-use Rattle.std.specs.Prelude.{◌≡◌, take}
-use Rattle.loader.specs.ProgramFiles.{files_of}
-use Rattle.embed.specs.Openings.{AreUtf8, texts_of}
-use Rattle.embed.proofs.opening.texts.Given as goal
-
-abbrev pub invariant-loop-k : goal.invariant-loop-k
-invariant-loop-k l = record { texts : files_of l.texts.items ≡ texts_of (take l.k l.initial.files); clear : AreUtf8 (take l.k l.initial.files) }

@@ -1,6 +1,0 @@
-use Rattle.std.specs.Prelude.{◌≡◌, ℕ, ◌<◌, None}
-use Rattle.embed.specs.Stores.{IsOfNode, seated}
-use Rattle.embed.proofs.pool.Pool.free_place.Given as goal
-
-abbrev pub invariant-loop-place : goal.invariant-loop-place
-invariant-loop-place l = (k : ℕ) → k < l.place → IsOfNode l.initial.self l.initial.node k → seated l.initial.self k ≡ None

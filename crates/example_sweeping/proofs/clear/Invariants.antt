@@ -1,5 +1,0 @@
-use Rattle.store.specs.Sessions.{IsOf}
-use Rattle.example_sweeping.proofs.clear.Given as goal
-
-abbrev pub invariant-loop-user : goal.invariant-loop-user
-invariant-loop-user g l = IsOf l.store l.session

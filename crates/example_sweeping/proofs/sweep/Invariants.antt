@@ -1,5 +1,0 @@
-use Rattle.store.specs.Sessions.{IsOf}
-use Rattle.example_sweeping.proofs.sweep.Given as goal
-
-abbrev pub invariant-loop : goal.invariant-loop
-invariant-loop g l = IsOf l.store l.session

@@ -1,6 +1,0 @@
-use Rattle.store.specs.Sessions.{IsOf}
-use Rattle.store.proofs.EachSession.{at_of_all}
-use Rattle.example_threads.proofs.close.Goals as goal
-
-pub close-requires : goal.close-requires
-close-requires c = record { own = at_of_all (IsOf c.args.store) c.args.sessions.items c.requires.sessions.0 }

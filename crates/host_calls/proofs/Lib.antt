@@ -1,0 +1,6 @@
+mod Sessions
+mod Posted
+mod Opened
+mod Seats
+mod Gathered
+mod FileTexts

@@ -1,0 +1,53 @@
+-- A call that posts an update and goes on with it.
+use Rattle.std.proofs.Common.{◌≡◌, ◌≤◌, [], length, refl, None, Some, Option, MatchOption, sym, ap, subst, ◌∙◌}
+use Rattle.oplog.specs.Operations.{Operation}
+use Rattle.combiner.specs.declared.slots.Reply.TheVariants.{Placed, Ended}
+use Rattle.replica.specs.StoreMeaning.{store_meaning}
+use Rattle.replica.specs.declared.refusals.StoreRefused.{StoreRefused}
+use Rattle.accounts.specs.declared.sessions.Pending.{Pending}
+use Rattle.accounts.specs.declared.sessions.SessionNote.{SessionNote}
+use Rattle.accounts.specs.Accounts.{Extends}
+use Rattle.accounts.specs.Moves.{answered_with}
+use Rattle.accounts.specs.Told.{Tells}
+use Rattle.store.specs.Sessions.{SessionView}
+use Rattle.store.specs.Polled.{HasPostedFor}
+use Rattle.store.proofs.StoreLaws.{store_laws}
+use Rattle.host_calls.specs.declared.attached.Told.{Told}
+use Rattle.host_calls.specs.declared.attached.Told.TheVariants.{Busy, Again, Answered, Refused, NotOpen, IsOut, NoWord}
+use Rattle.host_calls.specs.Told.{HasGrown, TellsOut, TellsPosting, TellsRefused, TellsUpdate}
+
+pub none_of : {A : Type 0} (x : Option A) → ((a : A) → x ≡ Some a → ⊥) → x ≡ None
+none_of None never = refl
+none_of (Some a) never = absurd (never a refl)
+
+-- what is told of a request that was posted within the call
+out_from : (old mid new : SessionView) (o : Pending) (told : Told) → mid.session ≡ old.session → mid.note ≡ record old.note { pending = Some o } → TellsOut mid new o told → TellsOut old new o told
+out_from old mid new o Again same note t = (t.0, t.1 ∙ ap (λ (n : SessionNote). n.answered) note)
+out_from old mid new o (Answered place reply) same note t =
+    let at = subst (λ n. Tells store_meaning new.progress mid.session (length n.answered) o (Placed place reply) × (new.note ≡ answered_with (record n { batch = [] }) o.op (Placed place reply))) note t in
+    (subst (λ s. Tells store_meaning new.progress s (length old.note.answered) o (Placed place reply)) same at.0, at.1)
+out_from old mid new o (Refused why) same note t =
+    let at = subst (λ n. Tells store_meaning new.progress mid.session (length n.answered) o Ended × (new.note ≡ answered_with (record n { batch = [] }) o.op Ended)) note t.1 in
+    (t.0, (subst (λ s. Tells store_meaning new.progress s (length old.note.answered) o Ended) same at.0, at.1))
+out_from old mid new o Busy same note t = t
+out_from old mid new o NotOpen same note t = t
+out_from old mid new o IsOut same note t = t
+out_from old mid new o NoWord same note t = t
+
+posting : (op : Operation) (old new : SessionView) (o : Pending) (told : Told) → o.op ≡ op → length old.progress.history ≤ o.seen → TellsOut old new o told → TellsPosting op old new told
+posting op old new o Busy is seen t = absurd t
+posting op old new o Again is seen t = (o, is, seen, t)
+posting op old new o (Answered place reply) is seen t = (o, is, seen, t)
+posting op old new o (Refused why) is seen t = (o, is, seen, t)
+posting op old new o NotOpen is seen t = absurd t
+posting op old new o IsOut is seen t = absurd t
+posting op old new o NoWord is seen t = absurd t
+
+pub posted_then : (op : Operation) (refused : Option StoreRefused) (old mid new : SessionView) (told : Told) → old.note.pending ≡ None → refused ≡ None → HasPostedFor old mid op → mid.session ≡ old.session
+    → Extends old.progress mid.progress → HasGrown mid new → ((o : Pending) → mid.note.pending ≡ Some o → TellsOut mid new o told) → TellsUpdate op refused old new told
+posted_then op refused old mid new told idle none (o, is, seen, note) same grew grown tells =
+    let at = posting op old new o told is seen (out_from old mid new o told same note (tells o (ap (λ (n : SessionNote). n.pending) note))) in (
+      record { grown = store_laws.extends_on _ _ _ grew grown.grown; well_formed = grown.well_formed },
+      subst (λ p. MatchOption p (MatchOption refused (TellsPosting op old new told) (λ why. TellsRefused old new told why)) (λ o'. TellsOut old new o' told)) (sym idle)
+          (subst (λ r. MatchOption r (TellsPosting op old new told) (λ why. TellsRefused old new told why)) (sym none) at),
+    )

@@ -1,0 +1,97 @@
+-- What the words of a session's handle ask, and what is answered there.
+use Rattle.std.specs.Prelude.{◌≡◌, ℕ, List, None, Option, MatchOption, take, if◌then◌else◌, ◌==◌, nat_le}
+use Rattle.oplog.specs.Operations.{Operation}
+use Rattle.insn.specs.Refusal.{fault_number as decode_number}
+use Rattle.verifier.specs.Numbers.{fault_number as verify_number}
+use Rattle.verifier.specs.declared.refusal.Mode.{Mode}
+use Rattle.verifier.specs.declared.refusal.Mode.TheVariants.{Update, Read}
+use Rattle.replica.specs.Refusals.{early_refusal, store_fault_number}
+use Rattle.replica.specs.declared.refusals.StoreRefused.{StoreRefused}
+use Rattle.replica.specs.declared.refusals.StoreRefused.TheVariants.{NotDecoded, NotAccepted}
+use Rattle.store.specs.Sessions.{SessionView, StoreView, install_of, install_refused, op_of}
+use Rattle.host_calls.specs.declared.attached.Told.{Told}
+use Rattle.host_calls.specs.declared.attached.Told.TheVariants.{Busy, Again, Answered as Answers, Refused, NotOpen, IsOut, NoWord}
+use Rattle.host_calls.specs.declared.handles.Asked.{Asked}
+use Rattle.host_calls.specs.declared.handles.Answered.{Answered}
+use Rattle.host_calls.specs.declared.handles.SessionHandle.{SessionHandle}
+use Rattle.host_calls.specs.declared.handles.TheConstants.{CALL_ROOM}
+use Rattle.host_calls.specs.Statuses.{again, busy, done, is_out, no_word, not_open, refusal, letter_D, letter_S, letter_V}
+use Rattle.host_calls.specs.Told.{TellsReading, TellsUpdate}
+use Rattle.host_calls.specs.Views.{AttachedView, IsSame}
+
+-- ---- what is asked
+
+-- an update or a read of an operation, which the store refuses for a reason or doesn't; or nothing that there is
+pub data Asks : Type 0 where
+  Updates : Operation → Option StoreRefused → Asks
+  Reads : Operation → Option StoreRefused → Asks
+  Nothing : Asks
+
+abbrev pub asks_install : StoreView → Mode → ℕ → List ℕ → Asks
+asks_install store mode argument bytes = Updates (install_of mode argument bytes) (install_refused store mode argument bytes)
+
+abbrev pub asks_of : StoreView → Asked → List ℕ → Asks
+asks_of store a bytes =
+    if a.call == 0 then Updates (op_of a.program bytes) (early_refusal store.catalogue Update a.program bytes)
+    else if a.call == 1 then Reads (op_of a.program bytes) (early_refusal store.catalogue Read a.program bytes)
+    else if a.call == 2 then (if a.mode == 0 then asks_install store Update a.argument bytes else if a.mode == 1 then asks_install store Read a.argument bytes else Nothing)
+    else Nothing
+
+-- by the words, whose bytes have room for so many
+abbrev pub asks : StoreView → Asked → Asks
+asks store a = if nat_le a.length CALL_ROOM then asks_of store a (take a.length a.bytes) else Nothing
+
+-- ---- what is told
+
+abbrev pub TellsCall : Asks → (old new : SessionView) → Told → Type 0
+TellsCall (Updates op refused) old new told = TellsUpdate op refused old new told
+TellsCall (Reads op refused) old new told = TellsReading op refused old new told
+TellsCall Nothing old new told = (told ≡ NoWord) × (new ≡ old)
+
+pub record TellsAttached (a : Asked) (old new : AttachedView) (told : Told) : Type 0 where
+  pub same : IsSame old new
+  pub tells : TellsCall (asks old.store a) old.session new.session told
+
+-- ---- what is written
+
+abbrev pub status_of : Told → ℕ
+status_of Busy = busy
+status_of Again = again
+status_of (Answers place reply) = done
+status_of (Refused why) = refusal letter_S (store_fault_number why)
+status_of NotOpen = not_open
+status_of IsOut = is_out
+status_of NoWord = no_word
+
+-- why the decoder or the verifier refuses a program, and at which slot
+abbrev pub inner_of : Told → ℕ × ℕ
+inner_of (Refused (NotDecoded why)) = (refusal letter_D (decode_number why.why), why.slot)
+inner_of (Refused (NotAccepted why)) = (refusal letter_V (verify_number why.why), why.slot)
+inner_of told = (0, 0)
+
+-- the place and the reply of an answer; where there is none, those that stood there
+abbrev pub place_and_reply : Answered → Told → ℕ × ℕ
+place_and_reply before (Answers place reply) = (place, reply)
+place_and_reply before told = (before.place, before.reply)
+
+abbrev pub written : Answered → Told → Answered
+written before told = record {
+  status = status_of told;
+  inner = (inner_of told).0;
+  slot = (inner_of told).1;
+  place = (place_and_reply before told).0;
+  reply = (place_and_reply before told).1;
+}
+
+-- ---- a call
+
+-- on a closed handle it says so; else the session goes on as it tells, and the handle stays open
+abbrev pub TellsHandle : (before after : SessionHandle) → Told → Type 0
+TellsHandle before after told =
+    MatchOption before.own ((told ≡ NotOpen) × (after.own ≡ None)) (λ b. MatchOption after.own ⊥ (λ b'. TellsAttached before.asked b.value b'.value told))
+
+pub record Goes (before after : SessionHandle) : Type 0 where
+  pub asked : after.asked ≡ before.asked
+  pub told : Told
+  pub written : after.answered ≡ written before.answered told
+  pub tells : TellsHandle before after told

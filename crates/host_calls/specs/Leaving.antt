@@ -1,0 +1,72 @@
+-- What a store leaves that is closed into the state that it ends in.
+use Rattle.std.specs.Prelude.{◌≡◌, ◌⊎◌, ◌++◌, List, [], ◌∷◌, Bool, true, false, None, Some, Option, IfSome, MatchOption, All, length, is_some}
+use Rattle.std.specs.List.{list_all}
+use Rattle.std.specs.Arc.{arc_value}
+use Rattle.std.specs.declared.alloc.Global.{Global}
+use Rattle.std.specs.declared.boxed.Box.{Box}
+use Rattle.loader.specs.StoreState.{StoreState}
+use Rattle.store.specs.Opening.{ClosedView, IsClosed, last_state}
+use Rattle.store.specs.Sessions.{SessionView, StoreView}
+use Rattle.store.specs.Shelving.{sessions_of}
+use Rattle.host_calls.specs.declared.attached.Attached.{Attached}
+use Rattle.host_calls.specs.declared.handles.StateHandle.{StateHandle}
+use Rattle.host_calls.specs.declared.handles.StoreHandle.{StoreHandle}
+use Rattle.host_calls.specs.declared.pool.Pool.{Pool}
+use Rattle.host_calls.specs.Statuses.{done, is_attached, no_memory, not_open, not_ours}
+use Rattle.host_calls.specs.Stores.{IsStatusAlone}
+
+-- ---- what a host keeps to
+
+-- the session at this place, if it isn't attached, is one of this store
+abbrev pub IsSeatOf : StoreView → Option (Box Attached Global) → Type 0
+IsSeatOf store place = IfSome place (λ a. a.value.store ≡ store)
+
+-- and no update of it is out
+abbrev pub IsIdleSeat : Option (Box Attached Global) → Type 0
+IsIdleSeat place = IfSome place (λ a. a.value.session.note.pending ≡ None)
+
+-- a pool as it was opened, whose sessions came back to it alone: as many places as its store has sessions, and none but these
+pub record IsInOrder (p : Pool) : Type 0 where
+  pub count : length p.places.items ≡ sessions_of (arc_value p.store).config
+  pub own : All (IsSeatOf (arc_value p.store)) p.places.items
+  pub idle : All IsIdleSeat p.places.items
+
+abbrev pub MayClose : StoreHandle → Type 0
+MayClose h = IfSome h.own (λ b. IsInOrder b.value)
+
+-- ---- the state
+
+-- the session at a place
+abbrev pub session_at : Option (Box Attached Global) → List SessionView
+session_at None = []
+session_at (Some a) = a.value.session ∷ []
+
+-- the sessions at places, the last first
+abbrev pub sessions_back : List (Option (Box Attached Global)) → List SessionView
+sessions_back [] = []
+sessions_back (p ∷ ps) = sessions_back ps ++ session_at p
+
+-- the state after the whole history of a store whose sessions are these
+abbrev pub IsLastOf : StoreView → List SessionView → StoreState → Type 0
+IsLastOf store sessions state = (closed : ClosedView) × IsClosed store sessions closed × (state ≡ last_state closed)
+
+-- ---- closing
+
+-- there is no state: for want of memory, and nothing has changed; or the store is ended, but another has a part of it
+abbrev pub LeavesNone : (before left : StoreHandle) → Type 0
+LeavesNone before left = ((left.own ≡ before.own) × (left.answered.status ≡ no_memory)) ⊎ ((left.own ≡ None) × (left.answered.status ≡ not_ours))
+
+-- the store is ended, and this is the state that it ends in
+abbrev pub LeavesState : Pool → StoreHandle → StoreState → Type 0
+LeavesState p left state = (left.own ≡ None) × (left.answered.status ≡ done) × IsLastOf (arc_value p.store) (sessions_back p.places.items) state
+
+-- of an open store: by whether all its sessions are back
+abbrev pub LeavesIf : Bool → Pool → (before left : StoreHandle) → StateHandle → Type 0
+LeavesIf true p before left given = MatchOption given.own (LeavesNone before left) (LeavesState p left)
+LeavesIf false p before left given = (given.own ≡ None) × (left.own ≡ before.own) × (left.answered.status ≡ is_attached)
+
+pub record Leaves (before left : StoreHandle) (given : StateHandle) : Type 0 where
+  pub asked : left.asked ≡ before.asked
+  pub answered : IsStatusAlone before.answered left.answered
+  pub leaves : MatchOption before.own ((given.own ≡ None) × (left.own ≡ None) × (left.answered.status ≡ not_open))
+      (λ b. LeavesIf (list_all is_some b.value.places.items) b.value before left given)

@@ -1,0 +1,20 @@
+-- What lies at a handle. Memory at which a closed one lies is as good as room.
+use Rattle.std.specs.Borrow.{full_share}
+use Rattle.std.specs.Ptr.{lies_at}
+use base.Fml.{Fml}
+use denote.RawPtr.{Ptr}
+use Rattle.host_calls.specs.declared.handles.StoreHandle.{StoreHandle}
+use Rattle.host_calls.specs.declared.handles.SessionHandle.{SessionHandle}
+use Rattle.host_calls.specs.declared.handles.StateHandle.{StateHandle}
+use Rattle.host_calls.specs.contracts.handles.StateHandle.{the_row as the_state}
+use Rattle.host_calls.specs.contracts.handles.StoreHandle.{the_row as the_store}
+use Rattle.host_calls.specs.contracts.handles.SessionHandle.{the_row as the_session}
+
+abbrev pub holds_store : Ptr → StoreHandle → Fml
+holds_store p h = lies_at the_store full_share p h
+
+abbrev pub holds_session : Ptr → SessionHandle → Fml
+holds_session p h = lies_at the_session full_share p h
+
+abbrev pub holds_state : Ptr → StateHandle → Fml
+holds_state p h = lies_at the_state full_share p h

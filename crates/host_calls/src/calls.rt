@@ -1,0 +1,104 @@
+// The words of a session's handle: which call they ask for, and what is answered there.
+
+ghost use Rattle.std.specs.Prelude.{◌≡◌};
+ghost use Rattle.host_calls.specs.Calls.{Goes, TellsAttached, inner_of, status_of, written};
+
+use crate::attached::{Attached, Told};
+use crate::handles::{Answered, Asked, CALL_ROOM, SessionHandle};
+use crate::statuses::{AGAIN, BUSY, DONE, IS_OUT, NO_WORD, NOT_OPEN, refusal};
+use store::{Mode, StoreRefused};
+
+// An update, as the word `call` has it.
+const UPDATE: u64 = 0;
+
+// A read.
+const READ: u64 = 1;
+
+// An install.
+const INSTALL: u64 = 2;
+
+// A program that updates, as the word `mode` has it.
+const UPDATES: u64 = 0;
+
+// A program that reads.
+const READS: u64 = 1;
+
+// The status of an answer.
+fn status_of(told: Told) -> u64
+    ensures status { result ≡ status_of told }
+{
+    match told {
+        Told::Busy => BUSY,
+        Told::Again => AGAIN,
+        Told::Answered { .. } => DONE,
+        Told::Refused(why) => refusal(b'S', why.number()),
+        Told::NotOpen => NOT_OPEN,
+        Told::IsOut => IS_OUT,
+        Told::NoWord => NO_WORD,
+    }
+}
+
+// Why the decoder or the verifier refuses a program, and at which slot.
+fn inner_of(told: Told) -> (u64, u64)
+    ensures inner { result ≡ inner_of told }
+{
+    match told {
+        Told::Refused(StoreRefused::NotDecoded(why)) => {
+            (refusal(b'D', why.why.number()), why.slot as u64)
+        }
+        Told::Refused(StoreRefused::NotAccepted(why)) => {
+            (refusal(b'V', why.why.number()), why.slot as u64)
+        }
+        _ => (0, 0),
+    }
+}
+
+// Makes the call that the words ask for.
+fn tell(attached: &mut Attached, asked: &Asked) -> Told
+    ensures tells { TellsAttached asked.now attached.old attached.new result }
+{
+    if asked.length > CALL_ROOM as u64 {
+        return Told::NoWord;
+    }
+    let bytes = &asked.bytes[..asked.length as usize];
+    match asked.call {
+        UPDATE => attached.update(asked.program, bytes),
+        READ => attached.read(asked.program, bytes),
+        INSTALL => match asked.mode {
+            UPDATES => attached.install(Mode::Update, asked.argument, bytes),
+            READS => attached.install(Mode::Read, asked.argument, bytes),
+            _ => Told::NoWord,
+        },
+        _ => Told::NoWord,
+    }
+}
+
+// Writes what is told. Without an answer its place and its reply stay what they were.
+fn write(answered: &mut Answered, told: Told)
+    ensures written { answered.new ≡ written answered.old told }
+{
+    let (inner, slot) = inner_of(told);
+    answered.status = status_of(told);
+    answered.inner = inner;
+    answered.slot = slot;
+    if let Told::Answered { place, reply } = told {
+        answered.place = place;
+        answered.reply = reply;
+    }
+}
+
+/// Makes the call that the words ask for, and answers there.
+pub fn called(handle: &mut SessionHandle)
+    ensures goes { Goes handle.old handle.new }
+{
+    let SessionHandle {
+        own,
+        asked,
+        answered,
+    } = handle;
+    let told = match own {
+        None => Told::NotOpen,
+        Some(attached) => tell(attached, asked),
+    };
+    write(answered, told);
+}

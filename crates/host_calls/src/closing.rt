@@ -1,0 +1,100 @@
+// Closing a store into the state that it ends in.
+
+ghost use Rattle.std.specs.Prelude.{◌≡◌, [], ◌++◌, ◌<◌, ◌≤◌, All, IfSome, length, is_some, true, vec_capacity};
+ghost use Rattle.std.specs.List.{list_all};
+ghost use Rattle.std.specs.Arc.{arc_value};
+ghost use Rattle.store.specs.Sessions.{IsOf, StoreView};
+ghost use Rattle.host_calls.specs.Leaving.{IsIdleSeat, IsInOrder, IsLastOf, IsSeatOf, Leaves, MayClose, session_at, sessions_back};
+
+use crate::attached::Attached;
+use crate::handles::{StateHandle, StoreHandle};
+use crate::opening::let_go;
+use crate::pool::Pool;
+use crate::statuses::{DONE, IS_ATTACHED, NO_MEMORY, NOT_OPEN, NOT_OURS};
+use std::alloc::Global;
+use std::sync::Arc;
+use store::{Session, StoreState};
+
+// Takes out the session at a place.
+fn push_session(place: Option<Box<Attached>>, sessions: &mut Vec<Session>)
+    requires idle { IsIdleSeat place }
+    requires room { length sessions.old.items < vec_capacity sessions.old }
+    ensures pushed { sessions.new.items ≡ sessions.old.items ++ session_at place }
+    ensures capacity { vec_capacity sessions.new ≡ vec_capacity sessions.old }
+    ensures own { (store : StoreView) → IsSeatOf store place → All (IsOf store) sessions.old.items → All (IsOf store) sessions.new.items }
+{
+    let Some(attached) = place else {
+        return;
+    };
+    let session = Box::into_inner(attached).into_session();
+    sessions.push_reserved(session);
+}
+
+// The sessions at the places, the last first.
+fn gathered(mut places: Vec<Option<Box<Attached>>>, mut sessions: Vec<Session>) -> Vec<Session>
+    requires idle { All IsIdleSeat places.items }
+    requires room { (sessions.items ≡ []) × (length places.items ≤ vec_capacity sessions) }
+    ensures sessions { result.items ≡ sessions_back places.items }
+    ensures own { (store : StoreView) → All (IsSeatOf store) places.items → All (IsOf store) result.items }
+{
+    while let Some(place) = places.pop() {
+        push_session(place, &mut sessions);
+    }
+    sessions
+}
+
+// The state that the store of a pool ends in. `None` where another has a part of the store, and this one is given up.
+fn ended(pool: Pool, room: Vec<Session>) -> Option<StoreState>
+    requires order { IsInOrder pool }
+    requires whole { list_all is_some pool.places.items ≡ true }
+    requires room { (room.items ≡ []) × (length pool.places.items ≤ vec_capacity room) }
+    ensures state { IfSome result (IsLastOf (arc_value pool.store) (sessions_back pool.places.items)) }
+{
+    let (store, places) = pool.into_parts();
+    let sessions = gathered(places, room);
+    let Ok(store) = Arc::try_unwrap(store) else {
+        let_go(sessions);
+        return None;
+    };
+    match store.close(sessions) {
+        Ok(closed) => {
+            let (state, _catalogue) = closed.into_state();
+            Some(state)
+        }
+        Err(_) => unreachable!(),
+    }
+}
+
+/// Ends the store, where no session is attached, and gives the state that it ends in.
+pub fn closed_into(alloc: Global, handle: &mut StoreHandle) -> StateHandle
+    requires order { MayClose handle.old }
+    ensures leaves { Leaves handle.old handle.new result }
+{
+    let Some(pool) = handle.own.take() else {
+        handle.answered.status = NOT_OPEN;
+        return StateHandle::new(None);
+    };
+    if !pool.is_whole() {
+        handle.own = Some(pool);
+        handle.answered.status = IS_ATTACHED;
+        return StateHandle::new(None);
+    }
+    let Ok(room) = Vec::with_capacity(alloc, pool.count()) else {
+        handle.own = Some(pool);
+        handle.answered.status = NO_MEMORY;
+        return StateHandle::new(None);
+    };
+    let state = ended(Box::into_inner(pool), room);
+    handle.answered.status = match &state {
+        Some(_) => DONE,
+        None => NOT_OURS,
+    };
+    StateHandle::new(state)
+}
+
+/// Gives a state up.
+pub fn dropped(handle: &mut StateHandle)
+    ensures { handle.new.own ≡ None }
+{
+    handle.own = None;
+}

@@ -1,0 +1,215 @@
+// What crosses: what a store is opened with, and what lies at its handles.
+
+ghost use Rattle.std.specs.Prelude.{◌≡◌};
+
+use crate::attached::Attached;
+use crate::pool::Pool;
+use store::StoreState;
+
+/// How many bytes the name of a program may have.
+pub const NAME_ROOM: usize = 32;
+
+/// How many bytes a call may have: those of an argument, or of a program to be installed.
+pub const CALL_ROOM: usize = 192;
+
+/// A program file: its name as the manifest has it, and its text, hexadecimal digits.
+#[repr(C)]
+pub struct File<'a> {
+    /// The name that stands in the manifest.
+    pub name: &'a [u8],
+    /// The digits.
+    pub text: &'a [u8],
+}
+
+/// What a store is opened with.
+#[repr(C)]
+pub struct Opening<'a> {
+    /// The manifest's text.
+    pub manifest: &'a [u8],
+    /// The program files that it names.
+    pub files: &'a [File<'a>],
+    /// Nodes, each with a replica of the maps.
+    pub nodes: u32,
+    /// Slots of a node, each with a session.
+    pub slots: u32,
+    /// Records that the log keeps at once.
+    pub window: u32,
+    /// Records that the history may have in all.
+    pub limit: u32,
+    /// Programs that may be installed.
+    pub spare: u32,
+}
+
+/// What the host asks of a store, in words.
+#[repr(C)]
+#[derive(Clone, Copy)]
+pub struct StoreAsked {
+    /// `attach`: of which node.
+    pub node: u64,
+    /// `number`: how many bytes the name has.
+    pub length: u64,
+    /// `number`: the name of a program.
+    pub name: [u8; NAME_ROOM],
+}
+
+/// What is answered there.
+#[repr(C)]
+#[derive(Clone, Copy)]
+pub struct StoreAnswered {
+    /// What became of the call.
+    pub status: u64,
+    /// `open`: the line of the manifest that is to blame, from 1, and 0 where none is.
+    pub line: u64,
+    /// `open`: why the decoder or the verifier refuses the program, as a status; else 0.
+    pub inner: u64,
+    /// `open`: the slot of the program that is to blame.
+    pub slot: u64,
+    /// `number`: the number of the program.
+    pub number: u64,
+}
+
+/// What lies at a store's handle. The first field is not for the host, and empty where the handle is closed.
+#[repr(C)]
+#[derive(Drop)]
+pub struct StoreHandle {
+    pub own: Option<Box<Pool>>,
+    /// What the host asks.
+    pub asked: StoreAsked,
+    /// What it is answered.
+    pub answered: StoreAnswered,
+}
+
+/// What the host asks of a session, in words.
+#[repr(C)]
+#[derive(Clone, Copy)]
+pub struct Asked {
+    /// 0 an update, 1 a read, 2 an install.
+    pub call: u64,
+    /// An update or a read: the program's number.
+    pub program: u16,
+    /// An install: 0 for a program that updates, 1 for one that reads.
+    pub mode: u64,
+    /// An install: how many bytes the program's arguments have.
+    pub argument: u64,
+    /// How many bytes there are.
+    pub length: u64,
+    /// The argument, or the program to be installed.
+    pub bytes: [u8; CALL_ROOM],
+}
+
+/// What is answered there.
+#[repr(C)]
+#[derive(Clone, Copy)]
+pub struct Answered {
+    /// What became of the call.
+    pub status: u64,
+    /// Why the decoder or the verifier refuses a program, as a status; else 0.
+    pub inner: u64,
+    /// The slot of the program that is to blame.
+    pub slot: u64,
+    /// An update's index in the history, or how many operations a read has seen.
+    pub place: u64,
+    /// What the program replied there.
+    pub reply: u64,
+}
+
+/// What lies at a session's handle. The first field is not for the host, and empty where the handle is closed.
+#[repr(C)]
+#[derive(Drop)]
+pub struct SessionHandle {
+    pub own: Option<Box<Attached>>,
+    /// What the host asks.
+    pub asked: Asked,
+    /// What it is answered.
+    pub answered: Answered,
+}
+
+/// What lies at a state's handle. The field is not for the host, and empty where there is no state.
+#[repr(C)]
+#[derive(Drop)]
+pub struct StateHandle {
+    pub own: Option<StoreState>,
+}
+
+fn crosses<T: Send + Drop>(value: T) {
+    drop(value);
+}
+
+// What lies at a handle may go to another thread.
+fn handles_cross(store: StoreHandle, session: SessionHandle, state: StateHandle) {
+    crosses(store);
+    crosses(session);
+    crosses(state);
+}
+
+impl StoreHandle {
+    /// A handle with nothing asked.
+    pub fn new(own: Option<Box<Pool>>, answered: StoreAnswered) -> StoreHandle
+        ensures own { result.own ≡ own }
+        ensures answered { result.answered ≡ answered }
+    {
+        let asked = StoreAsked {
+            node: 0,
+            length: 0,
+            name: [0; NAME_ROOM],
+        };
+        StoreHandle {
+            own,
+            asked,
+            answered,
+        }
+    }
+}
+
+impl StoreAnswered {
+    /// This status, and nothing else.
+    pub fn of(status: u64) -> StoreAnswered
+        ensures { result ≡ record { status = status; line = 0; inner = 0; slot = 0; number = 0 } }
+    {
+        StoreAnswered {
+            status,
+            line: 0,
+            inner: 0,
+            slot: 0,
+            number: 0,
+        }
+    }
+}
+
+impl StateHandle {
+    /// A handle with this state.
+    pub fn new(own: Option<StoreState>) -> StateHandle
+        ensures own { result.own ≡ own }
+    {
+        StateHandle { own }
+    }
+}
+
+impl SessionHandle {
+    /// A handle with nothing asked, and this status.
+    pub fn new(own: Option<Box<Attached>>, status: u64) -> SessionHandle
+        ensures own { result.own ≡ own }
+        ensures status { result.answered.status ≡ status }
+    {
+        let asked = Asked {
+            call: 0,
+            program: 0,
+            mode: 0,
+            argument: 0,
+            length: 0,
+            bytes: [0; CALL_ROOM],
+        };
+        let answered = Answered {
+            status,
+            inner: 0,
+            slot: 0,
+            place: 0,
+            reply: 0,
+        };
+        SessionHandle {
+            own,
+            asked,
+            answered,
+        }
+    }
+}

@@ -1,0 +1,12 @@
+//! What a call of a host in another language tells, and what it leaves at the three kinds of handle, which lie in memory of the host's. No call
+//! waits: one that meets a held place says so. `embed` exports these calls.
+#![tactic(auto)]
+
+pub mod attached;
+pub mod calls;
+pub mod closing;
+pub mod handles;
+pub mod opening;
+pub mod pool;
+pub mod statuses;
+pub mod stores;

@@ -1,0 +1,272 @@
+// Opening a store from texts.
+
+ghost use Rattle.std.specs.Prelude.{◌≡◌, ℕ, ◌<◌, Some, length, set, All, IfErr, IfNone, IfOk, IfSome, MatchOption, MatchResult, None, Ok, Option};
+ghost use Rattle.std.specs.Arc.{arc_value};
+ghost use Rattle.std.specs.Str.{IsUtf8};
+ghost use Rattle.loader.specs.CatalogueView.{MayOpenOn, with_places};
+ghost use Rattle.loader.specs.ProgramFiles.{files_of};
+ghost use Rattle.loader.specs.StoreState.{StoreState as State};
+ghost use Rattle.oplog.specs.Limits.{IsConfig};
+ghost use Rattle.oplog.specs.declared.configuration.OpenError.TheVariants.{OtherState, OutOfLimits};
+ghost use Rattle.store.specs.Opening.{AreOf};
+ghost use Rattle.store.specs.Sessions.{IsOf, fresh_sessions};
+ghost use Rattle.store.specs.Shelving.{sessions_of};
+ghost use Rattle.host_calls.specs.Openings.{AreUtf8, IsOpened, IsOther, IsReason, IsSeat, IsStoreOf, Says, catalogue_on, config_of, fresh_of, inner_in, only, state_in, texts_of, words_of};
+
+use crate::attached::Attached;
+use crate::handles::{File, Opening, StateHandle, StoreAnswered, StoreHandle};
+use crate::pool::Pool;
+use crate::statuses::{DONE, NO_TEXT, refusal};
+use loader::{LoadError, LoadFault};
+use std::alloc::{AllocError, Global};
+use std::sync::Arc;
+use store::{Catalogue, Config, OpenError, Polled, Session, Store, StoreState, load_manifest};
+
+/// Why a store is not opened.
+#[derive(Clone, Copy)]
+pub enum NotOpened {
+    // A text is not UTF-8.
+    NoText,
+    // The manifest is refused.
+    Loading(LoadError),
+    // The sizes are, or there is no memory.
+    Opening(OpenError),
+}
+
+// A program file's name and text. `None` where one is not UTF-8.
+fn text_of<'a>(file: &File<'a>) -> Option<(&'a str, &'a str)>
+    ensures unclear { IfNone result (IsUtf8 file.now.name.now × IsUtf8 file.now.text.now → ⊥) }
+    ensures clear { IfSome result (λ _. IsUtf8 file.now.name.now × IsUtf8 file.now.text.now) }
+    ensures text { IfSome result (λ t. (t.0.now ≡ file.now.name.now) × (t.1.now ≡ file.now.text.now)) }
+{
+    let Ok(name) = str::from_utf8(file.name) else {
+        return None;
+    };
+    let Ok(text) = str::from_utf8(file.text) else {
+        return None;
+    };
+    Some((name, text))
+}
+
+// The texts of the program files. `None` where one is not UTF-8.
+fn texts<'a>(
+    alloc: Global,
+    files: &[File<'a>],
+) -> Result<Option<Vec<(&'a str, &'a str)>>, AllocError>
+    ensures texts { IfOk result (λ o. MatchOption o (AreUtf8 files.now → ⊥) (λ v. files_of v.items ≡ texts_of files.now)) }
+    ensures clear { IfOk result (λ o. IfSome o (λ _. AreUtf8 files.now)) }
+{
+    let mut texts = Vec::new(alloc);
+    for k in 0..files.len() {
+        let Some(text) = text_of(&files[k]) else {
+            return Ok(None);
+        };
+        texts.push(text)?;
+    }
+    Ok(Some(texts))
+}
+
+// The catalogue that the manifest says.
+fn loaded(alloc: Global, opening: &Opening) -> Result<Catalogue, NotOpened>
+    ensures loaded { MatchResult result (Says opening.now) (λ why. (on : Option State) → IsReason opening.now on why) }
+{
+    let Ok(manifest) = str::from_utf8(opening.manifest) else {
+        return Err(NotOpened::NoText);
+    };
+    let texts = match texts(alloc, opening.files) {
+        Ok(Some(texts)) => texts,
+        Ok(None) => return Err(NotOpened::NoText),
+        Err(_) => return Err(NotOpened::Loading(LoadError::NoMemory)),
+    };
+    match load_manifest(alloc, manifest, texts.as_slice()) {
+        Ok(catalogue) => Ok(catalogue),
+        Err(error) => Err(NotOpened::Loading(error)),
+    }
+}
+
+// The store of a catalogue on this state, or on a new one, and its sessions.
+fn store_on(
+    alloc: Global,
+    config: Config,
+    catalogue: Catalogue,
+    state: Option<&StoreState>,
+) -> Result<(Store, Vec<Session>), OpenError>
+    ensures limits { IfErr result (λ e. e ≡ OutOfLimits → IsConfig config → ⊥) }
+    ensures other { IfErr result (λ e. e ≡ OtherState → IsConfig config × IsOther (with_places catalogue config.spare) (state_in state.entry)) }
+    ensures may { IfOk result (λ t. IfSome (state_in state.entry) (MayOpenOn (with_places catalogue config.spare))) }
+    ensures store { IfOk result (λ t. (t.0.config ≡ config) × (t.0.catalogue ≡ catalogue_on (with_places catalogue config.spare) (state_in state.entry))) }
+    ensures sessions { IfOk result (λ t. t.1.items ≡ fresh_sessions t.0.id t.0.config t.0.catalogue 0 (sessions_of config)) }
+    ensures count { IfOk result (λ t. length t.1.items ≡ sessions_of config) }
+    ensures own { IfOk result (λ t. AreOf t.0 t.1.items) }
+{
+    match state {
+        Some(state) => Store::open_on(alloc, config, catalogue, state),
+        None => Store::open(alloc, config, catalogue),
+    }
+}
+
+// The store of these texts, on this state or on a new one, and its sessions.
+fn opened_store(
+    alloc: Global,
+    opening: &Opening,
+    state: Option<&StoreState>,
+) -> Result<(Store, Vec<Session>), NotOpened>
+    ensures opened { MatchResult result (λ t. IsStoreOf opening.now (state_in state.entry) t.0) (λ why. IsReason opening.now (state_in state.entry) why) }
+    ensures own { IfOk result (λ t. All (IsOf t.0) t.1.items) }
+    ensures fresh { IfOk result (λ t. t.1.items ≡ fresh_of t.0 (length t.1.items)) }
+    ensures count { IfOk result (λ t. length t.1.items ≡ sessions_of (config_of opening.now)) }
+{
+    let catalogue = match loaded(alloc, opening) {
+        Ok(catalogue) => catalogue,
+        Err(why) => return Err(why),
+    };
+    let config = Config {
+        nodes: opening.nodes,
+        slots: opening.slots,
+        window: opening.window,
+        limit: opening.limit,
+        spare: opening.spare,
+    };
+    match store_on(alloc, config, catalogue, state) {
+        Ok(opened) => Ok(opened),
+        Err(error) => Err(NotOpened::Opening(error)),
+    }
+}
+
+/// Lets sessions go: no store is left for them.
+pub fn let_go(mut sessions: Vec<Session>) {
+    while let Some(session) = sessions.pop() {
+        drop(Polled::new(session));
+    }
+    sessions.destroy_empty();
+}
+
+// So many places with nothing there.
+fn empty_places(alloc: Global, count: usize) -> Result<Vec<Option<Box<Attached>>>, AllocError>
+    ensures count { IfOk result (λ v. length v.items ≡ count) }
+{
+    let mut places = Vec::new(alloc);
+    while places.len() < count {
+        places.push(None)?;
+    }
+    Ok(places)
+}
+
+// The session, at its place.
+fn seated(
+    alloc: Global,
+    store: &Arc<Store, Global>,
+    place: usize,
+    session: Session,
+) -> Result<Box<Attached>, AllocError>
+    requires own { IsOf (arc_value store.now) session }
+    ensures seat { IfOk result (λ b. b.value ≡ record { store = arc_value store.now; place = place; session = session }) }
+{
+    let session = Polled::new(session);
+    let store = Arc::try_clone(store)?;
+    Ok(Box::new(alloc, Attached::new(store, place, session))?)
+}
+
+// Puts a session at its place.
+fn put(places: &mut Vec<Option<Box<Attached>>>, place: usize, attached: Box<Attached>)
+    requires there { place < length places.old.items }
+    ensures put { places.new.items ≡ set places.old.items place (Some attached) }
+{
+    places[place] = Some(attached);
+}
+
+// A place for each session, with it there.
+fn pooled(
+    alloc: Global,
+    store: Store,
+    slots: usize,
+    mut sessions: Vec<Session>,
+) -> Option<Box<Pool>>
+    requires own { All (IsOf store) sessions.items }
+    requires fresh { sessions.items ≡ fresh_of store (length sessions.items) }
+    ensures store { IfSome result (λ b. (arc_value b.value.store ≡ store) × (b.value.slots ≡ slots)) }
+    ensures count { IfSome result (λ b. length b.value.places.items ≡ length sessions.items) }
+    ensures seats { IfSome result (λ b. (k : ℕ) → k < length sessions.items → IsSeat store b.value.places.items k) }
+{
+    let Ok(store) = Arc::new(alloc, store) else {
+        let_go(sessions);
+        return None;
+    };
+    let Ok(mut places) = empty_places(alloc, sessions.len()) else {
+        let_go(sessions);
+        return None;
+    };
+    while let Some(session) = sessions.pop() {
+        let place = sessions.len();
+        let Ok(attached) = seated(alloc, &store, place, session) else {
+            let_go(sessions);
+            return None;
+        };
+        put(&mut places, place, attached);
+    }
+    sessions.destroy_empty();
+    match Box::new(alloc, Pool::new(store, slots, places)) {
+        Ok(pool) => Some(pool),
+        Err(_) => None,
+    }
+}
+
+// What is answered where a store is not opened.
+fn answered(why: NotOpened) -> StoreAnswered
+    ensures words { result ≡ words_of why }
+{
+    match why {
+        NotOpened::NoText => StoreAnswered::of(NO_TEXT),
+        NotOpened::Opening(error) => StoreAnswered::of(refusal(b'O', error.number())),
+        NotOpened::Loading(error) => {
+            let mut answered = StoreAnswered::of(refusal(b'C', error.number()));
+            let (inner, slot) = inner_of(error);
+            answered.line = error.line() as u64;
+            answered.inner = inner;
+            answered.slot = slot;
+            answered
+        }
+    }
+}
+
+// Why the decoder or the verifier refuses the program of the bad line, and at which slot.
+fn inner_of(error: LoadError) -> (u64, u64)
+    ensures inner { result ≡ inner_in error }
+{
+    match error {
+        LoadError::Refused(bad) => match bad.why {
+            LoadFault::Decode(why) => (refusal(b'D', why.why.number()), why.slot as u64),
+            LoadFault::Verify(why) => (refusal(b'V', why.why.number()), why.slot as u64),
+            _ => (0, 0),
+        },
+        LoadError::NoMemory => (0, 0),
+    }
+}
+
+/// The handle of the store of these texts. It is closed where the store is refused.
+pub fn opened(alloc: Global, opening: &Opening) -> StoreHandle
+    ensures opened { IsOpened opening.now None result }
+{
+    opened_with(alloc, opening, None)
+}
+
+/// The same, on the state of a handle, or on a new one where that has none.
+pub fn opened_on(alloc: Global, opening: &Opening, state: &mut StateHandle) -> StoreHandle
+    ensures opened { (state.new ≡ state.old) × IsOpened opening.now state.old.own result }
+{
+    opened_with(alloc, opening, state.own.as_ref())
+}
+
+fn opened_with(alloc: Global, opening: &Opening, state: Option<&StoreState>) -> StoreHandle
+    ensures opened { IsOpened opening.now (state_in state.entry) result }
+{
+    let (store, sessions) = match opened_store(alloc, opening, state) {
+        Ok(opened) => opened,
+        Err(why) => return StoreHandle::new(None, answered(why)),
+    };
+    let Some(pool) = pooled(alloc, store, opening.slots as usize, sessions) else {
+        let why = NotOpened::Opening(OpenError::NoMemory);
+        return StoreHandle::new(None, answered(why));
+    };
+    StoreHandle::new(Some(pool), StoreAnswered::of(DONE))
+}
