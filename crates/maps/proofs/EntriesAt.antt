@@ -96,7 +96,7 @@ one_place_more s from place low =
 
 -- ---- the entries at places
 
-keys_once : (ks : List (Option (List ℕ))) (p q : ℕ) (k : List ℕ) → Distinct ks → slice_get ks p ≡ Some (Some k) → slice_get ks q ≡ Some (Some k) → p ≡ q
+pub keys_once : (ks : List (Option (List ℕ))) (p q : ℕ) (k : List ℕ) → Distinct ks → slice_get ks p ≡ Some (Some k) → slice_get ks q ≡ Some (Some k) → p ≡ q
 keys_once [] p q k d a b = absurd cc
 keys_once (None ∷ ks) zero q k d a b = absurd cc
 keys_once (None ∷ ks) (suc p) zero k d a b = absurd cc
@@ -125,7 +125,7 @@ module _ (s : Stored) (d : Distinct s.keys) where
   abbrev value : ℕ → List ℕ
   value p = value_in (value_size s.shape) s.bytes p
 
-  abbrev Stands : KeyValue → Type 0
+  abbrev pub Stands : KeyValue → Type 0
   Stands e = finite_map.get (entries_of s) e.0 ≡ Some e.1
 
   one_stands : (p : ℕ) → AllByRecursion Stands (entry_at s p)
@@ -235,6 +235,7 @@ scans t from room end count place entries next h n = record {
       ap length h.told ∙ ap₂ (λ f p. length (entries_from s f p)) began at ∙ all_places s d;
   ends = λ wide. by_ends wide next refl;
   goes_on = by_next next refl;
+  moves = λ some. by_moves some next refl;
 }
   where
     s : Stored
@@ -272,3 +273,11 @@ scans t from room end count place entries next h n = record {
           omega (arith, at.0, low.1, most),
           ⊎_elim (λ full. inl (omega (arith, full, c))) (λ far. inr (omega (arith, far, most, at.0, at.1))) h.stop,
         )
+
+    by_moves : 1 ≤ room → (o : Option ℕ) → next ≡ o → IfSome o (λ p. from < p)
+    by_moves some None e = tt
+    by_moves some (Some p) e =
+        let at = subst (λ o. IfSome o (λ p. (p ≡ place) × (p < entry_count t.shape))) e n.on in
+        let most = h.last in
+        let low = h.began in
+        ⊎_elim (λ full. omega (arith, full, seen, some, at.0)) (λ far. omega (arith, far, most, at.0, low)) h.stop

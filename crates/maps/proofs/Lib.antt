@@ -11,3 +11,4 @@ pub mod OpeningShapes
 pub mod StoredShapes
 pub mod Exchanged
 pub mod EntriesAt
+pub mod Pages

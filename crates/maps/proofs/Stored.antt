@@ -122,6 +122,12 @@ map_there [] m h = absurd (omega (arith, h))
 map_there (x ∷ c) zero h = (map_of x, refl, refl)
 map_there (x ∷ c) (suc m) h = map_there c m (omega (arith, h))
 
+-- the same, with its places
+pub stored_there : (c : Contents) (m : ℕ) → m < length (stored_shapes c) → (s : Stored) × (slice_get c m ≡ Some s) × (slice_get (maps_of c) m ≡ Some (map_of s))
+stored_there [] m h = absurd (omega (arith, h))
+stored_there (s ∷ c) zero h = (s, refl, refl)
+stored_there (s ∷ c) (suc m) h = stored_there c m (omega (arith, h))
+
 -- the table of an entry's map, and its key
 pub standing : (ts : List Table) (c : Contents) (m place : ℕ) (t : Table) → contents ts ≡ c → AreTables ts → IsSome (key_at c m place) → t ≡ get_or ts m t
     → (at : IsAt c m t) × (k : List ℕ) × (slice_get (keys_at t.shape t.index) place ≡ Some (Some k)) × (key_at c m place ≡ Some k)

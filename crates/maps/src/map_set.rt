@@ -9,7 +9,7 @@ ghost use Rattle.maps.specs.Blocks.{contents, IsTable};
 ghost use Rattle.maps.specs.declared.shapes.MapError.TheVariants.{NoMemory, Refused};
 ghost use Rattle.maps.specs.Maps.{HasShapes, MapState, value_at};
 ghost use Rattle.maps.specs.MapSets.{maps_of, stored_shapes, key_at, key_of, value_of, block_of, HoldsValues, write_value, write_block, PutsValue, PutsOneValue, opened, opening_maps, PutsWritten, put_value, take_key, HasRoom, IsFull};
-ghost use Rattle.maps.specs.Scans.{Scans, given, room_in};
+ghost use Rattle.maps.specs.Scans.{IsPage, Scans, given, room_in};
 
 use crate::entry::{Entry, Inserted, Scanned};
 use crate::shapes::{MapError, Shape, shapes_ok};
@@ -142,6 +142,7 @@ impl MapSet {
         requires place { IfSome (slice_get (stored_shapes self.now) m) (λ s. from < entry_count s) }
         ensures scanned { (s : MapState) → slice_get (maps_of self.now) m ≡ Some s
             → Scans s from (room_in s.shape (length keys.old) (length values.old)) (given s.shape result.count keys.new values.new) result.next }
+        ensures page { IfSome (slice_get self.now m) (λ s. IsPage s from (given s.shape result.count keys.new values.new) result.next) }
     {
         let table = &self.tables[m];
         let room = table.room_in(keys.len(), values.len());

@@ -166,6 +166,7 @@ module _ (k a : K) (p : ℕ) (v : Value) (h : HoldsReady k a p v) where
                 there = ap (λ (z : StoreState). slice_get z.maps map) (sym state_is) ∙ gives.1;
                 shape = ap (λ z. slice_get z map) (sym shapes_are) ∙ (slice_get-map (λ (x : MapState). x.shape) n.replica.state.maps map ∙ ap (option_map (λ (x : MapState). x.shape)) gives.1);
                 scans = gives.2;
+                page = gives.3;
               },
             ),
           )

@@ -179,7 +179,7 @@ module _ (k m f : K) (s : IsStill k m) where
   scanned_since map from key_room value_room keys values scan t =
       let up = s.extends.completed in let told = t.1.1 in let far = told.point.0 in (
         seen_since scan.point t.0,
-        (t.1.0, record { point = (omega (arith, up, far), told.point.1); there = told.there; shape = told.shape; scans = told.scans }),
+        (t.1.0, record { point = (omega (arith, up, far), told.point.1); there = told.there; shape = told.shape; scans = told.scans; page = told.page }),
       )
 
   pub each_since : (questions : List Question) (point : ℕ) (replies : List ℕ) → AreReadBy m f questions point replies → AreReadBy k f questions point replies

@@ -1,9 +1,9 @@
 -- Scans of a map: why one is refused, and what one tells.
 use Rattle.std.specs.Prelude.{◌≡◌, ℕ, ◌≤◌, ◌<◌, ◌++◌, ◌∷◌, List, [], length, Option, Some, None, slice_get, nat_lt, if◌then◌else◌, Result, MatchResult, IfSome}
 use Rattle.maps.specs.declared.shapes.Shape.{Shape}
-use Rattle.maps.specs.Maps.{MapState}
+use Rattle.maps.specs.MapSets.{Stored, map_of}
 use Rattle.maps.specs.Shapes.{entry_count}
-use Rattle.maps.specs.Scans.{KeyValue, Scans, given, room_in}
+use Rattle.maps.specs.Scans.{IsPage, KeyValue, Scans, given, room_in}
 use Rattle.loader.specs.CatalogueView.{CatalogueView}
 use Rattle.oplog.specs.History.{state_after}
 use Rattle.replica.specs.StoreMeaning.{store_meaning}
@@ -34,18 +34,20 @@ scan_refusal c map from = place_fault from (slice_get c.shapes map)
 
 -- ---- what a scan tells
 
--- a scan of the map m, which has this number, from a place on, began when so many operations were completed: its point lies from there to the
--- completed tail at its end, m is that map after the operations before that point, and these are entries of m
-pub record ScanTells (l : Progress CatalogueView) (begun map from room : ℕ) (m : MapState) (entries : List KeyValue) (s : Scan) : Type 0 where
+-- a scan of the map of this number, from a place on, began when so many operations were completed: its point lies from there to the completed
+-- tail at its end, m is that map after the operations before that point, with its keys at their places in the replica of the session's node,
+-- and these entries are the page of m from that place on
+pub record ScanTells (l : Progress CatalogueView) (begun map from room : ℕ) (m : Stored) (entries : List KeyValue) (s : Scan) : Type 0 where
   pub point : (begun ≤ s.point) × (s.point ≤ l.completed)
-  pub there : slice_get (state_after store_meaning l.catalogue l.history s.point).maps map ≡ Some m
+  pub there : slice_get (state_after store_meaning l.catalogue l.history s.point).maps map ≡ Some (map_of m)
   pub shape : slice_get l.catalogue.shapes map ≡ Some m.shape
-  pub scans : Scans m from room entries s.next
+  pub scans : Scans (map_of m) from room entries s.next
+  pub page : IsPage m from entries s.next
 
 -- the same, where there was room for so many bytes of keys and of values, and these bytes stand there at the end
 abbrev pub ScanGives : Progress CatalogueView → (begun map from key_room value_room : ℕ) → (keys values : List ℕ) → Scan → Type 0
 ScanGives l begun map from key_room value_room keys values s =
-    (m : MapState) × ScanTells l begun map from (room_in m.shape key_room value_room) m (given m.shape s.count keys values) s
+    (m : Stored) × ScanTells l begun map from (room_in m.shape key_room value_room) m (given m.shape s.count keys values) s
 
 -- a scan that was not refused
 abbrev pub TellsScan : (old new : SessionView) → (map from key_room value_room : ℕ) → (keys values : List ℕ) → Result Scan ScanRefused → Type 0
@@ -65,7 +67,8 @@ IsPlaceIn shapes map from = (map < length shapes) × IfSome (slice_get shapes ma
 -- the scan is one of that map of the node's, as far as it has come
 abbrev pub GivesThere : NodeReplica → (map from key_room value_room : ℕ) → (keys values : List ℕ) → Scan → Type 0
 GivesThere n map from key_room value_room keys values s =
-    (m : MapState) × (slice_get n.replica.state.maps map ≡ Some m) × Scans m from (room_in m.shape key_room value_room) (given m.shape s.count keys values) s.next
+    (m : Stored) × (slice_get n.replica.state.maps map ≡ Some (map_of m)) × Scans (map_of m) from (room_in m.shape key_room value_room) (given m.shape s.count keys values) s.next
+    × IsPage m from (given m.shape s.count keys values) s.next
 
 -- what a session has done that looked at its node's replica at this point: it has read the completed tail, and the point is not below what that
 -- was, nor below what was completed that it knew
