@@ -224,7 +224,7 @@ def items_of_use(path, before=""):
     yield module, last, (other or last).strip()
 
 
-Function = namedtuple("Function", "is_public signature clauses scope")
+Function = namedtuple("Function", "is_public signature clauses scope is_law")
 Block = namedtuple("Block", "kind name head body")
 
 
@@ -291,7 +291,9 @@ class Source:
             signature += text[at : found.start()]
             if found[0] in "{;":
                 end = closing(text, found.start()) + 1 if found[0] == "{" else found.end()
-                into[name] = Function(is_public, signature, clauses, scope)
+                does_nothing = found[0] == "{" and not text[found.start() + 1 : end - 1].strip()
+                is_law = bool(clauses) and does_nothing and signature.rstrip().endswith("()")
+                into[name] = Function(is_public, signature, clauses, scope, is_law)
                 return end
             at = closing(text, found.end() - 1) + 1
             if found[0] in "([":
@@ -321,11 +323,12 @@ class Source:
 
 class Repository:
     """`cites` leads from each node to those that it cites; `inner` from a type to what only the way cites in which its values lie in memory:
-    the view, the codes and the invariant of its model, or its ghost fields. `calls` are the public calls and types."""
+    the view, the codes and the invariant of its model, or its ghost fields. `calls` are the public calls and types. A law is a function that
+    takes nothing and does nothing, so that its clauses are all that it is; `hidden` are the laws that users of the crate can't name."""
 
     def __init__(self, top):
         self.crates, self.libraries, self.modules, self.sources = [], [], {}, {}
-        self.cites, self.inner, self.calls = defaultdict(set), defaultdict(set), set()
+        self.cites, self.inner, self.calls, self.hidden = defaultdict(set), defaultdict(set), set(), set()
         for crate, kind in re.findall(r"^(\w+)([^:#\n]*):", read(f"{top}/crates.txt"), re.M):
             self.crates.append(crate)
             folder = f"{top}/crates/{crate}"
@@ -438,6 +441,7 @@ class Repository:
         for clause in function.clauses:
             self.cites[node] |= self.cited_in(clause, function.scope, source, parameters, own)
         self.calls |= {node} if is_public else set()
+        self.hidden |= {node} if function.is_law and not is_public else set()
 
     def add_impl(self, source, block):
         head = block.head.replace("->", "").strip()

@@ -15,7 +15,7 @@ pub use arithmetic_laws::{
 pub use effects::{effects_are_runs, typable_programs_take_effect};
 pub use examples::{map_programs_run, programs_run, tables_hold};
 pub use run_laws::{
-    exits_are_final, runs_are_unique, runs_keep_shapes, steps_are_unique, steps_keep_states,
-    stores_are_loaded,
+    bytes_end_spills, exits_are_final, runs_are_unique, runs_keep_shapes, spills_are_loaded,
+    steps_are_unique, steps_keep_states, stores_are_loaded,
 };
 pub use soundness_laws::{accepted_programs_run, typable_programs_run};
