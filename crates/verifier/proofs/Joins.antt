@@ -142,7 +142,7 @@ abbrev pub ComesIn : List Form → Frames → (ℕ → Edge → Type 0) → ℕ 
 ComesIn p J Seen t (Some f) = Says p J Seen t f
 ComesIn p J Seen t None = (t ≢ 0) × ((i : Form) (s : ℕ) (e : Edge) → Leads p i s e t → Seen s e → ⊥)
 
-resaid : (p : List Form) (J : Frames) (Seen Seen' : ℕ → Edge → Type 0) (t : ℕ) (o : Option Frame) → ((i : Form) (s : ℕ) (e : Edge) → Leads p i s e t → Seen' s e → Seen s e) → ((i : Form) (s : ℕ) (e : Edge) → Leads p i s e t → Seen s e → Seen' s e) → ComesIn p J Seen t o → ComesIn p J Seen' t o
+pub resaid : (p : List Form) (J : Frames) (Seen Seen' : ℕ → Edge → Type 0) (t : ℕ) (o : Option Frame) → ((i : Form) (s : ℕ) (e : Edge) → Leads p i s e t → Seen' s e → Seen s e) → ((i : Form) (s : ℕ) (e : Edge) → Leads p i s e t → Seen s e → Seen' s e) → ComesIn p J Seen t o → ComesIn p J Seen' t o
 resaid p J Seen Seen' t None from to c = (c.0, λ i s e h seen. c.1 i s e h (from i s e h seen))
 resaid p J Seen Seen' t (Some f) from to c = record {
   frame = c.frame;

@@ -14,3 +14,4 @@ pub mod Kept
 pub mod ZeroReply
 pub mod Sweep
 pub mod Typed
+pub mod Known

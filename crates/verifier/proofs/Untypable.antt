@@ -16,7 +16,7 @@ use Rattle.verifier.proofs.Slots.{each_standing}
 
 module _ (p : List Form) (l : Signature) (structured : IsStructured p) (all : AllByRecursion HasEncoding p) (F : Frames) (types : IsTyping p l F) (J : Frames) (last : ℕ) (joined : (i : Form) (t : ℕ) → StandsAt p i t → t ≤ last → IsJoin p J t) where
   -- any typing says at most what the joined frames say
-  covered : (n t : ℕ) (x : Form) → StandsAt p x t → t < n → t ≤ last → Covers (F t) (J t)
+  pub covered : (n t : ℕ) (x : Form) → StandsAt p x t → t < n → t ≤ last → Covers (F t) (J t)
   covered zero t x here lt le = absurd (omega arith)
   covered (suc n) t x here lt le =
       (joined x t here le).greatest (F t)

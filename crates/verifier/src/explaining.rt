@@ -1,8 +1,8 @@
 // What the verifier knows before each instruction, also of a program that is refused.
 
-ghost use Rattle.std.specs.Prelude.{◌≡◌, ◌≤◌, ◌↔◌, None, IfOk, IfSome, IsSome};
+ghost use Rattle.std.specs.Prelude.{◌≡◌, ◌≤◌, ◌↔◌, [], length, None, IfOk, IfSome, IsSome};
 ghost use Rattle.insn.specs.Layout.{size};
-ghost use Rattle.flow.specs.Structure.{HasGoodSize};
+ghost use Rattle.flow.specs.Structure.{HasBadSize, HasGoodSize};
 ghost use Rattle.maps.specs.Shapes.{AreShapesOk};
 ghost use Rattle.verifier.specs.Signature.{signature, IsSignatureOk};
 ghost use Rattle.verifier.specs.Known.{AreKnown};
@@ -31,7 +31,7 @@ pub struct Explained {
     /// The refusal that [`verify`](crate::verify) names, if it names one.
     pub refused: Option<Refused>,
     /// The refusal by kinds alone, whatever the structure: edges that don't lead forward are passed over, and so are
-    /// instructions that nothing leads to.
+    /// instructions that nothing leads to. `None` where `frames` is empty.
     pub kinds: Option<Refused>,
 }
 
@@ -54,8 +54,11 @@ pub fn explain(
     // It is the first rule of kinds that a reached instruction breaks.
     ensures kinds { HasGoodSize program.now
         → IfOk result (λ k. k.kinds ≡ lowest_refusal program.now (signature shapes.now arg_len mode) (size program.now)) }
-    // The frames are the joined ones.
+    // The frames are the joined ones, one for each slot.
     ensures frames { HasGoodSize program.now → IfOk result (λ k. AreKnown program.now k.kinds k.frames.items) }
+    ensures slots { HasGoodSize program.now → IfOk result (λ k. length k.frames.items ≡ size program.now) }
+    ensures no_frames { HasBadSize program.now → IfOk result (λ k. k.frames.items ≡ []) }
+    ensures no_kinds { HasBadSize program.now → IfOk result (λ k. k.kinds ≡ None) }
 {
     let l = Signature::new(shapes, arg_len, mode);
     let mut known = explain_kinds(alloc, program, &l)?;
@@ -72,6 +75,9 @@ fn explain_kinds(alloc: Global, program: &[Insn], l: &Signature) -> Result<Expla
     ensures refused { HasGoodSize program.now → IfOk result (λ k. k.refused ≡ lowest_refusal program.now l.now (size program.now)) }
     ensures kinds { HasGoodSize program.now → IfOk result (λ k. k.kinds ≡ lowest_refusal program.now l.now (size program.now)) }
     ensures frames { HasGoodSize program.now → IfOk result (λ k. AreKnown program.now k.kinds k.frames.items) }
+    ensures slots { HasGoodSize program.now → IfOk result (λ k. length k.frames.items ≡ size program.now) }
+    ensures no_frames { HasBadSize program.now → IfOk result (λ k. k.frames.items ≡ []) }
+    ensures no_kinds { HasBadSize program.now → IfOk result (λ k. k.kinds ≡ None) }
 {
     match good_size(program) {
         None => Ok(Explained {

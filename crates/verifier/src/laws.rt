@@ -9,6 +9,7 @@ ghost use Rattle.flow.specs.Structure.{rule_number};
 ghost use Rattle.verifier.specs.declared.refusal.Refused.{Refused};
 ghost use Rattle.verifier.specs.Signature.{Signature};
 ghost use Rattle.verifier.specs.Numbers.{fault_number};
+ghost use Rattle.verifier.specs.Known.{JoinedAreBest, JoinedAreKnown, KnownAreJoined, ReachedAreKnown};
 ghost use Rattle.verifier.specs.Typing.{IsTypable, Refuses, structure_reason};
 ghost use Rattle.verifier.specs.Verdict.{verdict};
 
@@ -30,4 +31,17 @@ pub fn structure_keeps_its_numbers()
 /// A refused program has no typing at all.
 pub fn refused_is_untypable()
     ensures { (p : List Form) (l : Signature) (e : Refused) → AllByRecursion HasEncoding p → Refuses p l e → IsTypable p l → ⊥ }
+{}
+
+/// What [`explain`](crate::explain) says of a slot, of any program: just what all that comes in there has in common, from the entry and from
+/// what is known at the lower slots; nothing where nothing comes in. Only one list of frames is so, and a slot has one where it is reached.
+pub fn frames_are_joins()
+    ensures known { JoinedAreKnown }
+    ensures only { KnownAreJoined }
+    ensures reached { ReachedAreKnown }
+{}
+
+/// Of an accepted program these frames are a typing, and no other typing says more before any instruction.
+pub fn joins_are_best_typing()
+    ensures { JoinedAreBest }
 {}
