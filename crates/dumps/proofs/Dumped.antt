@@ -54,7 +54,7 @@ in_map_ok so after e (Some s) h =
     let parts = unless_ok (with_entry so e) after (entry_fault so e s) h in
     (s, refl, parts.1, parts.0)
 
-in_order : (so : Loading) (e : EntryLine) → is_in_order so e ≡ true → (so.state.programs ≡ []) × (is_behind so.last e.map e.key ≡ true)
+pub in_order : (so : Loading) (e : EntryLine) → is_in_order so e ≡ true → (so.state.programs ≡ []) × (is_behind so.last e.map e.key ≡ true)
 unfolding is_in_order
 in_order so e h =
     let both = and_parts (eqb (length so.state.programs) 0) (is_behind so.last e.map e.key) h in
@@ -85,7 +85,7 @@ entry_grows so after e rising h =
 
 -- ---- a program
 
-in_place_ok : (so after : Loading) (r : Result Checked InstallRefusal) → in_place so r ≡ Ok after → (c : Checked) × (r ≡ Ok c) × (with_program so c ≡ after)
+pub in_place_ok : (so after : Loading) (r : Result Checked InstallRefusal) → in_place so r ≡ Ok after → (c : Checked) × (r ≡ Ok c) × (with_program so c ≡ after)
 in_place_ok so after (Err e) h = absurd cc
 in_place_ok so after (Ok c) h = (c, refl, placed (ltb (length so.state.programs) so.state.places) h)
   where
@@ -114,7 +114,7 @@ program_grows shapes so after p bytes rising h =
     ∙ sym (append_assoc (map Entry (entries_of so.state.maps)) (map (λ (d : Checked). Program (program_line d)) so.state.programs) (Program p ∷ [])) in
     subst (λ a. Grows so a (Program p)) taken.2 (record { lines = lines; rising = rising })
 
-grows : (shapes : List Shape) (so after : Loading) (m : Meaning) → HasBytes m → IsRising so → after_meaning shapes so (Some m) ≡ Ok after → Grows so after m
+pub grows : (shapes : List Shape) (so after : Loading) (m : Meaning) → HasBytes m → IsRising so → after_meaning shapes so (Some m) ≡ Ok after → Grows so after m
 grows shapes so after (Entry e) bytes rising h = entry_grows so after e rising h
 grows shapes so after (Program p) bytes rising h = program_grows shapes so after p bytes rising h
 
@@ -126,7 +126,7 @@ record Taken (so : Loading) (lines : List (Option (List ℕ))) (s : StoreState) 
   spelled : lines ≡ map Some (map text_of said)
   listed : lines_of s ≡ lines_of so.state ++ said
 
-meant : (shapes : List Shape) (so after : Loading) (o : Option Meaning) → after_meaning shapes so o ≡ Ok after → (m : Meaning) × (o ≡ Some m)
+pub meant : (shapes : List Shape) (so after : Loading) (o : Option Meaning) → after_meaning shapes so o ≡ Ok after → (m : Meaning) × (o ≡ Some m)
 meant shapes so after None h = absurd cc
 meant shapes so after (Some m) h = (m, refl)
 

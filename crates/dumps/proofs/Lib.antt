@@ -17,3 +17,6 @@ pub mod Writing
 pub mod LoadedFor
 pub mod Ascii
 pub mod LoadedState
+pub mod CutLines
+pub mod LowestFaults
+pub mod FirstBad

@@ -68,7 +68,7 @@ program_bound text m e =
     let parts = where_true (leb (length bytes.0) (8 * MAX_INSTALLED_SLOTS)) (Program (record { mode = mode.0; arg_len = len.0; bytes = bytes.0 })) m bytes.2 in
     subst IsBound parts.1 (number_bound second.0.0 len.0 len.1, hex_bytes second.0.1 bytes.0 bytes.1, leb-true (length bytes.0) (8 * MAX_INSTALLED_SLOTS) parts.0)
 
-line_bound : (line : List ℕ) (m : Meaning) → line_meaning line ≡ Some m → IsBound m
+pub line_bound : (line : List ℕ) (m : Meaning) → line_meaning line ≡ Some m → IsBound m
 unfolding line_meaning words_meaning
 line_bound line m e =
     let field = steps (split_at_space line) _ m (unless (ltb DUMP_LINE_BYTES (length line)) (words_meaning line) m e).1 in
@@ -114,7 +114,7 @@ module _ (shapes : List Shape) (places : ℕ) (ok : AreShapesOk shapes) where
     meaning_is (Some (Entry e)) bound h = entry_is e (bound (Entry e) refl) h
     meaning_is (Some (Program p)) bound h = program_is p (bound (Program p) refl) (installed_program shapes p.mode p.arg_len p.bytes) refl h
 
-    line_is : (l : Option (List ℕ)) → after_ended shapes so l ≡ Ok after → Is after.state
+    pub line_is : (l : Option (List ℕ)) → after_ended shapes so l ≡ Ok after → Is after.state
     unfolding after_line
     line_is None h = absurd cc
     line_is (Some line) h = meaning_is (line_meaning line) (line_bound line) h

@@ -1,6 +1,8 @@
 -- That states and texts are one for one, and which state the empty text says.
-use Rattle.std.specs.Prelude.{◌≡◌, ℕ, List, [], Ok, IsUtf8}
+use Rattle.std.specs.Prelude.{◌≡◌, ℕ, ◌≤◌, List, [], Ok, IsUtf8}
 use Rattle.maps.specs.declared.shapes.Shape.{Shape}
+use Rattle.maps.specs.Shapes.{AreShapesOk}
+use Rattle.loader.specs.declared.installed.TheConstants.{MAX_PLACES}
 use Rattle.loader.specs.StoreState.{StoreState, StateSizes, IsState, opened_state}
 use Rattle.dumps.specs.Loading.{loaded_state}
 use Rattle.dumps.specs.Dumping.{dump}
@@ -17,6 +19,11 @@ DumpIsText = (s : StoreState) → IsUtf8 (dump s)
 -- a text that is loaded as a state is what that state is dumped as
 abbrev pub TextIsDumped : Type 0
 TextIsDumped = (shapes : List Shape) (places : ℕ) (text : List ℕ) (s : StoreState) → loaded_state shapes places text ≡ Ok s → dump s ≡ text
+
+-- what is loaded is a state of the maps and the places that it was read for
+abbrev pub LoadedIsState : Type 0
+LoadedIsState =
+    (z : StateSizes) (text : List ℕ) (s : StoreState) → AreShapesOk z.shapes → z.places ≤ MAX_PLACES → loaded_state z.shapes z.places text ≡ Ok s → IsState z s
 
 -- an empty text is loaded as a new state
 abbrev pub EmptyIsNew : Type 0

@@ -2,9 +2,10 @@
 pub mod Grammar
 pub mod Loading
 pub mod Refusal
--- A state as text, and that states and texts are one for one.
+-- A state as text, that states and texts are one for one, and which text says none.
 pub mod Dumping
 pub mod Laws
+pub mod FirstBad
 -- What is kept of the lines before the one that is read, and the text map by map. No public clause cites these.
 pub mod Shown
 pub mod Written

@@ -2,7 +2,8 @@
 
 ghost use Rattle.std.specs.Prelude.{◌≡◌};
 ghost use Rattle.dumps.specs.declared.lines.TheConstants.{DUMP_LINE_BYTES};
-ghost use Rattle.dumps.specs.Laws.{DumpIsRead, DumpIsText, EmptyIsNew, TextIsDumped};
+ghost use Rattle.dumps.specs.FirstBad.{RefusedIsFirstBad};
+ghost use Rattle.dumps.specs.Laws.{DumpIsRead, DumpIsText, EmptyIsNew, LoadedIsState, TextIsDumped};
 
 /// The limit that the definitions cite, as a number.
 pub fn limits()
@@ -23,4 +24,15 @@ pub fn text_is_dumped()
 /// An empty text is loaded as a new state: maps as they are opened, and no program is installed.
 pub fn empty_is_new()
     ensures { EmptyIsNew }
+{}
+
+/// A text that is loaded says a state of the maps and the places that it was read for.
+pub fn loaded_is_state()
+    ensures { LoadedIsState }
+{}
+
+/// A text is refused exactly at the first line that is no line of the state which the lines before it say, with the lowest number of what is
+/// wrong with it there.
+pub fn refused_is_first_bad()
+    ensures { RefusedIsFirstBad }
 {}

@@ -8,7 +8,9 @@ mod loading;
 mod refusals;
 
 pub use dumping::dump;
-pub use laws::{dump_is_read, empty_is_new, limits, text_is_dumped};
+pub use laws::{
+    dump_is_read, empty_is_new, limits, loaded_is_state, refused_is_first_bad, text_is_dumped,
+};
 pub use lines::DUMP_LINE_BYTES;
 pub use loading::{load, load_for};
 pub use refusals::{DumpError, DumpFault, DumpRefusal};

@@ -1,6 +1,7 @@
 // What the definitions of a manifest say, in other words.
 
 ghost use Rattle.std.specs.Prelude.{◌≡◌};
+ghost use Rattle.insn.specs.declared.decoding.TheConstants.{MAX_INSTALLED_SLOTS};
 ghost use Rattle.loader.specs.declared.installed.TheConstants.{MAX_PLACES};
 ghost use Rattle.loader.specs.declared.loading.TheConstants.{MAX_PROGRAMS};
 ghost use Rattle.loader.specs.declared.paths.TheConstants.{PATH_BYTES};
@@ -12,6 +13,7 @@ ghost use Rattle.loader.specs.NamedFiles.{NamesAreFiles, NoOtherFile};
 pub fn limits()
     ensures programs_of_a_catalogue { MAX_PROGRAMS ≡ 256 }
     ensures programs_behind_a_catalogue { MAX_PLACES ≡ 16 }
+    ensures slots_of_an_installed_program { MAX_INSTALLED_SLOTS ≡ 24 }
     ensures bytes_of_a_path { PATH_BYTES ≡ 255 }
 {}
 

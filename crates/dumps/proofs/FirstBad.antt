@@ -1,0 +1,226 @@
+-- A text that says no state is refused at its first bad line.
+use Rattle.std.proofs.Common.{append_assoc, append-nil, ◌≡◌, ℕ, ◌+◌, ◌≤◌, ◌-◌, ◌^◌, min, true, List, [], ◌∷◌, ◌++◌, map, length, Option, Some, None, Result, Ok, Err, refl, sym, ap, ap₂, ◌∙◌, subst, arith}
+use Rattle.std.proofs.lemmas.List.{length-map}
+use Rattle.std.specs.Prelude.{slice_get}
+use Rattle.maps.specs.declared.shapes.Shape.{Shape}
+use Rattle.maps.specs.Shapes.{AreShapesOk}
+use Rattle.text.specs.Lines.{next_line}
+use Rattle.loader.specs.declared.installed.TheConstants.{MAX_PLACES}
+use Rattle.loader.specs.Installed.{installed_program}
+use Rattle.loader.specs.StoreState.{StoreState, StateSizes, IsState}
+use Rattle.loader.proofs.Outcomes.{number_behind, numbered}
+use Rattle.loader.proofs.States.{opened_is_state}
+use Rattle.dumps.specs.declared.refusals.DumpFault.{DumpFault}
+use Rattle.dumps.specs.declared.refusals.DumpRefusal.{DumpRefusal}
+use Rattle.dumps.specs.Dumping.{entries_of, lines_of, text_of, dump}
+use Rattle.dumps.specs.FirstBad.{IsFirstBad, IsLowestFault, RefusedIsFirstBad, meaning_of}
+use Rattle.dumps.specs.Grammar.{EntryLine, Meaning, Entry, Program, ended_lines, line_meaning}
+use Rattle.dumps.specs.Loading.{Loading, after_ended, after_line, after_lines, after_meaning, either, is_behind, loaded_state, opening, with_entry, with_program}
+use Rattle.dumps.proofs.CutLines.{appended, cut}
+use Rattle.dumps.proofs.Dumped.{IsRising, entry_listed, grows, in_map_ok, in_place_ok, meant, no_lines, opening_rising, texts}
+use Rattle.dumps.proofs.Entries.{passes}
+use Rattle.dumps.proofs.LoadedState.{line_bound, line_is}
+use Rattle.dumps.proofs.LowestFaults.{Answers, answered, one_lowest}
+use Rattle.dumps.proofs.Placing.{AllBefore, IsBefore, all_parts, behind}
+use Rattle.dumps.proofs.Reread.{dump_is_read}
+use Rattle.dumps.proofs.SpelledLines.{said}
+use Rattle.dumps.proofs.TextLines.{joined}
+
+-- ---- line by line
+
+-- these lines are taken, one after the other
+abbrev pub Goes : List Shape → List (Option (List ℕ)) → Loading → Loading → Type 0
+Goes shapes [] so after = so ≡ after
+Goes shapes (l ∷ ls) so after = (mid : Loading) × (after_ended shapes so l ≡ Ok mid) × Goes shapes ls mid after
+
+-- the number of the line behind these, from that of the first
+abbrev number_after : ℕ → List (Option (List ℕ)) → ℕ
+number_after n [] = n
+number_after n (l ∷ ls) = number_after (next_line n) ls
+
+-- a line in its place
+blank : Option (List ℕ) → List ℕ
+blank l = []
+
+as_lines : (n : ℕ) (ls : List (Option (List ℕ))) → number_after n ls ≡ number_behind n (map blank ls)
+as_lines n [] = refl
+as_lines n (l ∷ ls) = as_lines (next_line n) ls
+
+number_is : (ls : List (Option (List ℕ))) → number_after 1 ls ≡ next_line (length ls)
+number_is ls =
+    as_lines 1 ls
+    ∙ numbered 1 (map blank ls) (omega arith)
+    ∙ ap (λ n. min n (2 ^ 32 - 1)) (let e : length (map blank ls) ≡ length ls = length-map ls blank in let same : 1 + length (map blank ls) ≡ length ls + 1 = omega arith in same)
+
+through : (shapes : List Shape) (front back : List (Option (List ℕ))) (n : ℕ) (so after : Loading) → Goes shapes front so after → after_lines shapes n so (front ++ back) ≡ after_lines shapes (number_after n front) after back
+unfolding after_lines
+through shapes [] back n so after g = ap (λ x. after_lines shapes n x back) g
+through shapes (l ∷ front) back n so after (mid, step, g) = rw step (through shapes front back (next_line n) mid after g)
+
+-- what leads to a state
+goes_from : (shapes : List Shape) (ls : List (Option (List ℕ))) (n : ℕ) (so : Loading) (s : StoreState) → after_lines shapes n so ls ≡ Ok s → (after : Loading) × Goes shapes ls so after × (after.state ≡ s)
+unfolding after_lines
+goes_from shapes [] n so s h = (so, refl, cc)
+goes_from shapes (l ∷ ls) n so s h = by (after_ended shapes so l) refl h (λ mid k. goes_from shapes ls (next_line n) mid s k)
+  where
+    by : (r : Result Loading DumpFault) → after_ended shapes so l ≡ r → either (λ why. Err (record { line = n; why = why })) (λ after. after_lines shapes (next_line n) after ls) r ≡ Ok s
+        → ((mid : Loading) → after_lines shapes (next_line n) mid ls ≡ Ok s → (after : Loading) × Goes shapes ls mid after × (after.state ≡ s)) → (after : Loading) × Goes shapes (l ∷ ls) so after × (after.state ≡ s)
+    by (Err why) is h rest = absurd cc
+    by (Ok mid) is h rest = let r = rest mid h in (r.0, (mid, is, r.1), r.2)
+
+-- what leads to a refusal
+abbrev refusal : ℕ → DumpFault → DumpRefusal
+refusal n why = record { line = n; why = why }
+
+record BadAt (shapes : List Shape) (ls : List (Option (List ℕ))) (n : ℕ) (so : Loading) (e : DumpRefusal) : Type 0 where
+  before : List (Option (List ℕ))
+  line : Option (List ℕ)
+  rest : List (Option (List ℕ))
+  split : ls ≡ before ++ line ∷ rest
+  so_far : Loading
+  good : Goes shapes before so so_far
+  bad : after_ended shapes so_far line ≡ Err e.why
+  number : e.line ≡ number_after n before
+
+bad_from : (shapes : List Shape) (ls : List (Option (List ℕ))) (n : ℕ) (so : Loading) (e : DumpRefusal) → after_lines shapes n so ls ≡ Err e → BadAt shapes ls n so e
+unfolding after_lines
+bad_from shapes [] n so e h = absurd cc
+bad_from shapes (l ∷ ls) n so e h = by (after_ended shapes so l) refl h (λ mid k. bad_from shapes ls (next_line n) mid e k)
+  where
+    by : (r : Result Loading DumpFault) → after_ended shapes so l ≡ r → either (λ why. Err (record { line = n; why = why })) (λ after. after_lines shapes (next_line n) after ls) r ≡ Err e
+        → ((mid : Loading) → after_lines shapes (next_line n) mid ls ≡ Err e → BadAt shapes ls (next_line n) mid e) → BadAt shapes (l ∷ ls) n so e
+    by (Err why) is h rest =
+        let same : refusal n why ≡ e = cc in
+        record { before = []; line = l; rest = ls; split = refl; so_far = so; good = refl; bad = is ∙ ap (λ (x : DumpRefusal). Err x.why) same; number = ap (λ (x : DumpRefusal). x.line) (sym same) }
+    by (Ok mid) is h rest =
+        let b = rest mid h in
+        record { before = l ∷ b.before; line = b.line; rest = b.rest; split = ap (λ x. l ∷ x) b.split; so_far = b.so_far; good = (mid, is, b.good); bad = b.bad; number = b.number }
+
+-- ---- what is kept
+
+-- the last entry is the one that all others stand before
+abbrev IsLast : Loading → Type 0
+IsLast so = (m : ℕ) (k : List ℕ) → AllBefore (entries_of so.state.maps) m k → is_behind so.last m k ≡ true
+
+record Kept (shapes : List Shape) (places : ℕ) (so : Loading) : Type 0 where
+  state : IsState (record { shapes = shapes; places = places }) so.state
+  rising : IsRising so
+  last : IsLast so
+
+last_kept : (shapes : List Shape) (so after : Loading) (m : Meaning) → IsRising so → IsLast so → after_meaning shapes so (Some m) ≡ Ok after → IsLast after
+last_kept shapes so after (Entry e) rising kept h =
+    let taken = in_map_ok so after e (slice_get so.state.maps e.map) h in
+    let p = passes so e taken.0 (sym taken.2) in
+    let listed = entry_listed so e taken.0 rising taken.1 p in
+    let is : IsLast (with_entry so e) = λ m k all. behind e m k (all_parts (λ (d : EntryLine). IsBefore d m k) (entries_of so.state.maps) (e ∷ []) (subst (λ es. AllBefore es m k) listed all)).1.0 in
+    subst IsLast taken.3 is
+last_kept shapes so after (Program p) rising kept h =
+    let taken = in_place_ok so after (installed_program shapes p.mode p.arg_len p.bytes) h in
+    let is : IsLast (with_program so taken.0) = kept in
+    subst IsLast taken.2 is
+
+-- what lines that were taken say
+record Said (so : Loading) (lines : List (Option (List ℕ))) (after : Loading) : Type 0 where
+  said_by : List Meaning
+  spelled : lines ≡ map Some (map text_of said_by)
+  listed : lines_of after.state ≡ lines_of so.state ++ said_by
+
+module _ (shapes : List Shape) (places : ℕ) (ok : AreShapesOk shapes) where
+  one_line : (so after : Loading) (l : Option (List ℕ)) → Kept shapes places so → after_ended shapes so l ≡ Ok after → Kept shapes places after × Said so (l ∷ []) after
+  unfolding after_line
+  one_line so after None kept h = absurd cc
+  one_line so after (Some text) kept h =
+      let means = meant shapes so after (line_meaning text) h in
+      let m = means.0 in
+      let step : after_meaning shapes so (Some m) ≡ Ok after = ap (after_meaning shapes so) (sym means.1) ∙ h in
+      let spelled = said text m means.1 in
+      let grown = grows shapes so after m spelled.1 kept.rising step in (
+        record { state = line_is shapes places ok so after kept.state (Some text) h; rising = grown.rising; last = last_kept shapes so after m kept.rising kept.last step },
+        record { said_by = m ∷ []; spelled = ap (λ u. Some u ∷ []) spelled.0; listed = grown.lines },
+      )
+
+  all_lines : (lines : List (Option (List ℕ))) (so after : Loading) → Kept shapes places so → Goes shapes lines so after → Kept shapes places after × Said so lines after
+  all_lines [] so after kept g =
+      (subst (Kept shapes places) g kept, record { said_by = []; spelled = refl; listed = ap (λ (x : Loading). lines_of x.state) (sym g) ∙ sym (append-nil (lines_of so.state)) })
+  all_lines (l ∷ lines) so after kept (mid, step, g) =
+      let first = one_line so mid l kept step in
+      let rest = all_lines lines mid after first.0 g in (
+        rest.0,
+        record {
+          said_by = first.1.said_by ++ rest.1.said_by;
+          spelled = ap₂ (λ u v. u ++ v) first.1.spelled rest.1.spelled ∙ sym (both first.1.said_by rest.1.said_by);
+          listed = rest.1.listed ∙ ap (λ u. u ++ rest.1.said_by) first.1.listed ∙ append_assoc (lines_of so.state) first.1.said_by rest.1.said_by;
+        },
+      )
+    where
+      both : (xs ys : List Meaning) → map Some (map text_of (xs ++ ys)) ≡ map Some (map text_of xs) ++ map Some (map text_of ys)
+      both [] ys = refl
+      both (x ∷ xs) ys = ap (λ u. Some (text_of x) ∷ u) (both xs ys)
+
+  opened : places ≤ MAX_PLACES → Kept shapes places (opening shapes places)
+  opened few = record { state = opened_is_state (record { shapes = shapes; places = places }) ok few; rising = opening_rising shapes places; last = λ m k all. refl }
+
+  -- what a line is answered, behind these
+  line_answered : (so : Loading) (l : Option (List ℕ)) → Kept shapes places so → Answers so.state (meaning_of l) (after_ended shapes so l)
+  unfolding after_line
+  line_answered so None kept = answered shapes so None (sym kept.state.maps.same) kept.state.maps.each kept.rising kept.last (λ e none. absurd cc)
+  line_answered so (Some text) kept =
+      answered shapes so (line_meaning text) (sym kept.state.maps.same) kept.state.maps.each kept.rising kept.last (λ e means. (line_bound text (Entry e) means).0)
+
+lowest_of : (s : StoreState) (l : Option (List ℕ)) (r : Result Loading DumpFault) (why : DumpFault) → Answers s (meaning_of l) r → r ≡ Err why → IsLowestFault s (meaning_of l) why
+lowest_of s l (Ok after) why a e = absurd cc
+lowest_of s l (Err other) why a e = let same : other ≡ why = cc in subst (IsLowestFault s (meaning_of l)) same a
+
+refused_of : (s : StoreState) (l : Option (List ℕ)) (r : Result Loading DumpFault) (why : DumpFault) → Answers s (meaning_of l) r → IsLowestFault s (meaning_of l) why → r ≡ Err why
+refused_of s l (Ok after) why a low = absurd (a why low.has)
+refused_of s l (Err other) why a low = ap Err (one_lowest s (meaning_of l) other why a low)
+
+-- ---- the text
+
+from_refusal : (z : StateSizes) (text : List ℕ) (e : DumpRefusal) → AreShapesOk z.shapes → z.places ≤ MAX_PLACES → loaded_state z.shapes z.places text ≡ Err e → IsFirstBad z text e
+unfolding loaded_state dump
+from_refusal z text e ok few h =
+    let b = bad_from z.shapes (ended_lines text) 1 (opening z.shapes z.places) e h in
+    let read = all_lines z.shapes z.places ok b.before (opening z.shapes z.places) b.so_far (opened z.shapes z.places ok few) b.good in
+    let kept = read.0 in
+    let said_by = read.1.said_by in
+    let lines : lines_of b.so_far.state ≡ said_by = read.1.listed ∙ ap (λ u. u ++ said_by) (no_lines z.shapes z.places) in
+    let at = cut text (map text_of said_by) (b.line ∷ b.rest) (b.split ∙ ap (λ u. u ++ b.line ∷ b.rest) read.1.spelled) in
+    let text_before : dump b.so_far.state ≡ joined (map text_of said_by) = texts (lines_of b.so_far.state) ∙ ap (λ u. joined (map text_of u)) lines in
+    let count : length b.before ≡ length (lines_of b.so_far.state) = ap length read.1.spelled ∙ length-map (map text_of said_by) Some ∙ length-map said_by text_of ∙ ap length (sym lines) in
+    record {
+      before = b.so_far.state;
+      state = kept.state;
+      rest = at.rest;
+      split = at.split ∙ ap (λ u. u ++ at.rest) (sym text_before);
+      line = b.line;
+      behind = b.rest;
+      first = at.first;
+      fault = lowest_of b.so_far.state b.line (after_ended z.shapes b.so_far b.line) e.why (line_answered z.shapes z.places ok b.so_far b.line kept) b.bad;
+      number = b.number ∙ number_is b.before ∙ ap next_line count;
+    }
+
+at_bad : (shapes : List Shape) (n : ℕ) (so : Loading) (l : Option (List ℕ)) (ls : List (Option (List ℕ))) (e : DumpRefusal) → after_ended shapes so l ≡ Err e.why → n ≡ e.line → after_lines shapes n so (l ∷ ls) ≡ Err e
+unfolding after_lines
+at_bad shapes n so l ls e bad number = rw (bad, number) refl
+
+to_refusal : (z : StateSizes) (text : List ℕ) (e : DumpRefusal) → AreShapesOk z.shapes → z.places ≤ MAX_PLACES → IsFirstBad z text e → loaded_state z.shapes z.places text ≡ Err e
+unfolding loaded_state
+to_refusal z text e ok few b =
+    let good = goes_from z.shapes (ended_lines (dump b.before)) 1 (opening z.shapes z.places) b.before (dump_is_read z.shapes z.places b.before b.state) in
+    let so = good.0 in
+    let read = all_lines z.shapes z.places ok (ended_lines (dump b.before)) (opening z.shapes z.places) so (opened z.shapes z.places ok few) good.1 in
+    let said_by = read.1.said_by in
+    let listed : lines_of b.before ≡ said_by = ap lines_of (sym good.2) ∙ read.1.listed ∙ ap (λ u. u ++ said_by) (no_lines z.shapes z.places) in
+    let lines : ended_lines text ≡ ended_lines (dump b.before) ++ b.line ∷ b.behind =
+    ap ended_lines b.split ∙ appended (dump b.before) b.rest (map text_of said_by) read.1.spelled ∙ ap₂ (λ u v. u ++ v) (sym read.1.spelled) b.first in
+    let low : IsLowestFault so.state (meaning_of b.line) e.why = subst (λ s. IsLowestFault s (meaning_of b.line) e.why) (sym good.2) b.fault in
+    let bad = refused_of so.state b.line (after_ended z.shapes so b.line) e.why (line_answered z.shapes z.places ok so b.line read.0) low in
+    let count : length (ended_lines (dump b.before)) ≡ length (lines_of b.before) = ap length read.1.spelled ∙ length-map (map text_of said_by) Some ∙ length-map said_by text_of ∙ ap length (sym listed) in
+    let number : number_after 1 (ended_lines (dump b.before)) ≡ e.line = number_is (ended_lines (dump b.before)) ∙ ap next_line count ∙ sym b.number in
+    ap (after_lines z.shapes 1 (opening z.shapes z.places)) lines
+    ∙ through z.shapes (ended_lines (dump b.before)) (b.line ∷ b.behind) 1 (opening z.shapes z.places) so good.1
+    ∙ at_bad z.shapes (number_after 1 (ended_lines (dump b.before))) so b.line b.behind e bad number
+
+pub refused_is_first_bad : RefusedIsFirstBad
+refused_is_first_bad z text e ok few = (from_refusal z text e ok few, to_refusal z text e ok few)
