@@ -3,3 +3,7 @@ pub mod FirstWords
 pub mod ReadBack
 pub mod ValueSteps
 pub mod EncodedLines
+pub mod Calls
+pub mod ArgumentBytes
+pub mod WrittenLines
+pub mod NumberTexts

@@ -3,7 +3,8 @@ pub mod Words
 pub mod Values
 pub mod Faults
 pub mod Encoded
--- Laws: what numbers and their bytes are to one another.
+-- Laws: what numbers and their bytes are to one another, and what a line of the script says.
 pub mod Laws
+pub mod Calls
 -- The steps between reading and writing.
 pub mod Shown

@@ -3,6 +3,7 @@
 ghost use Rattle.std.specs.Prelude.{◌≡◌, ◌<◌, ◌^◌, ◌*◌, ℕ, ℤ, pos};
 ghost use Rattle.byteorder.specs.Endian.{little_number, twos_complement};
 ghost use Rattle.encoding.specs.declared.arguments.TheConstants.{ARGUMENT_BYTES};
+ghost use Rattle.encoding.specs.Calls.{CallsAreWritten, LinesAreWritten, NumbersAreSpelled, SignedAreReadBack, SignedHaveBytes, UnsignedAreReadBack, UnsignedHaveBytes};
 ghost use Rattle.encoding.specs.Laws.{IsSize, IsSignedOf};
 ghost use Rattle.encoding.specs.Values.{number_bytes};
 
@@ -15,4 +16,26 @@ pub fn limits()
 pub fn numbers_are_read_back()
     ensures unsigned { (n x : ℕ) → x < 2 ^ (8 * n) → little_number n (number_bytes n (pos x)) ≡ x }
     ensures signed { (n : ℕ) (z : ℤ) → IsSize n → IsSignedOf n z → twos_complement n (little_number n (number_bytes n z)) ≡ z }
+{}
+
+/// Line N of the script is the call of line N of the text: of its name, with the bytes of its values one behind the other, and is read as
+/// that call. An empty line and a comment stay as they are.
+pub fn lines_are_calls()
+    ensures lines { LinesAreWritten }
+    ensures call { CallsAreWritten }
+{}
+
+/// A text says a number exactly where it is spelled so: decimal digits, or `0x` and hexadecimal digits, of a number below 2^64, and `-`
+/// before either for the negative one.
+pub fn numbers_are_spelled()
+    ensures spelled { NumbersAreSpelled }
+{}
+
+/// The bytes of a value of each width, without a sign and with one, are read back as the number that its text says, and each number that
+/// so many bytes hold has its bytes.
+pub fn values_are_read_back()
+    ensures unsigned { UnsignedAreReadBack }
+    ensures signed { SignedAreReadBack }
+    ensures each_unsigned { UnsignedHaveBytes }
+    ensures each_signed { SignedHaveBytes }
 {}

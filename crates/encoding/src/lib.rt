@@ -16,5 +16,7 @@ mod words;
 pub use arguments::ARGUMENT_BYTES;
 pub use faults::{EncodeError, EncodeRefusal, LineFault, Wanted};
 pub use kinds::Kind;
-pub use laws::{limits, numbers_are_read_back};
+pub use laws::{
+    limits, lines_are_calls, numbers_are_read_back, numbers_are_spelled, values_are_read_back,
+};
 pub use lines::encode;
