@@ -155,6 +155,14 @@ impl World {
         &self.opening.catalogue
     }
 
+    /// The sizes that it was opened with. Some history stands for the store, as for each at any time.
+    pub fn config(&self) -> Config
+        ensures config { result ≡ self.now.opening.config }
+        ensures stands { IsStanding self.now }
+    {
+        self.opening.config
+    }
+
     /// The log.
     pub fn log(&self) -> &LogState
         ensures log { result.now ≡ self.now.world.log }
