@@ -1,8 +1,9 @@
 -- Each line that a run writes for a call is a run of its program.
-use Rattle.std.proofs.Common.{◌≡◌, ◌⊎◌, inl, inr, ℕ, zero, suc, ◌<◌, ◌≤◌, Bool, true, false, cond, eqb, ltb, List, [], ◌∷◌, ◌++◌, length, Option, Some, None, Result, Ok, Err, refl, sym, ap, subst, ◌∙◌}
-use Rattle.std.specs.Prelude.{◌-◌, option_map, slice_get, if◌then◌else◌, bytes_eq, codes}
+use Rattle.std.proofs.Common.{◌≡◌, ◌≢◌, ◌⊎◌, inl, inr, ℕ, zero, suc, ◌+◌, ◌<◌, ◌≤◌, Bool, true, false, ◌&&◌, cond, eqb, leb, ltb, List, [], ◌∷◌, ◌++◌, length, Option, Some, None, Result, Ok, Err, refl, sym, ap, subst, ◌∙◌, arith}
+use Rattle.std.specs.Prelude.{◌-◌, option_map, slice_get, if◌then◌else◌, bytes_eq, codes, nat_lt}
+use Rattle.std.specs.List.{position_from}
 use Rattle.std.specs.Option.{option_or}
-use Rattle.std.proofs.lemmas.Bool.{ltb-true, lt-ltb, eqb-true, false≢true}
+use Rattle.std.proofs.lemmas.Bool.{ltb-true, ltb-false, lt-ltb, leb-false, eqb-true, eq-eqb, false≢true}
 use Rattle.std.proofs.lemmas.Option.{same_Some}
 use Rattle.hex.specs.Hex.{decode_of}
 use Rattle.hex.proofs.HexLemmas.{decode_of-ok}
@@ -19,7 +20,11 @@ use Rattle.text.specs.Words.{is_name, number_of}
 use Rattle.text.specs.Digits.{good, field_bytes}
 use Rattle.text.proofs.LineReadings.{IsSilent, by_kind_from}
 use Rattle.text.proofs.Cuts.{steps, where_true}
-use Rattle.loader.specs.CatalogueView.{CatalogueView, IsCatalogue, number_named, opened_on, opening_state, sizes_for, with_places}
+use Rattle.maps.specs.declared.shapes.TheConstants.{MAX_ARG_LEN}
+use Rattle.loader.specs.Installed.{installed_program}
+use Rattle.loader.specs.declared.installed.InstallRefusal.{InstallRefusal}
+use Rattle.loader.specs.declared.installed.InstallRefusal.TheVariants.{Decode, Verify}
+use Rattle.loader.specs.CatalogueView.{CatalogueView, Entry, IsCatalogue, number_named, opened_on, opening_state, sizes_for, with_places}
 use Rattle.loader.specs.declared.installed.TheConstants.{MAX_PLACES}
 use Rattle.loader.specs.Grammar.{mode_of}
 use Rattle.loader.specs.ProgramFiles.{Files}
@@ -37,16 +42,17 @@ use Rattle.oplog.specs.declared.records.Op.TheVariants.{Run, Install as AnInstal
 use Rattle.oplog.specs.History.{Effect, History, left_by, after, state_after, effect_at, read_at}
 use Rattle.replica.specs.StoreMeaning.{program_at, program_in, is_operation, AreUpdates, store_meaning}
 use Rattle.replica.specs.HistoryLaws.{IsEffectOf, HasEffects}
-use Rattle.replica.specs.Refusals.{early_refusal, install_refusal}
+use Rattle.oplog.specs.declared.records.TheConstants.{MAX_INSTALLED_BYTES}
+use Rattle.replica.specs.Refusals.{mode_refusal, program_refusal, offered_refusal, place_refusal, early_refusal, reading_refusal, install_refusal}
 use Rattle.replica.specs.declared.refusals.StoreRefused.{StoreRefused}
-use Rattle.replica.specs.declared.refusals.StoreRefused.TheVariants.{UnknownProgram, ArgumentLength, Ended}
+use Rattle.replica.specs.declared.refusals.StoreRefused.TheVariants.{UnknownProgram, ArgumentLength, WrongMode, Ended, TooLarge, NotDecoded, NotAccepted}
 use Rattle.replica.proofs.Asked.{is_asked, may_install}
-use Rattle.replica.proofs.Tested.{tests_offered, suits_so, offered_below}
+use Rattle.replica.proofs.Tested.{are_tested, tests_offered, suits_so, offered_below}
 use Rattle.replica.proofs.Histories.{have_effects}
 use Rattle.console.specs.Answer.{Answer}
 use Rattle.console.specs.Script.{ProgramCall, Meaning, Comment, Call, InvokeAt, ReadAt, Install, named_call, numbered_call, program_fields, new_program, word_meaning, call_meaning, line_meaning}
 use Rattle.console.specs.RunAnswer.{Turn, refused, with_operation, update_line, read_line, install_line, submitted, performed, performed_by, numbered, called, unless_refused, taken, line_turn, behind, bad_line, by_turn, lines_answer}
-use Rattle.console.specs.RunLines.{CallRuns, IsUpdateTurn, IsReadTurn, IsInstallTurn, IsRefusedTurn, MeaningTurn, LineTurn, ScriptRuns, LineTurnsAreRuns, RunLinesAreRuns, LoadedIsCatalogue, OpenedIsCatalogue}
+use Rattle.console.specs.RunLines.{CallRuns, IsUpdateTurn, IsReadTurn, IsInstallTurn, IsRefusedTurn, IsWhy, IsWhyNamed, IsWhyInstall, MeaningTurn, LineTurn, ScriptRuns, LineTurnsAreRuns, RunLinesAreRuns, LoadedIsCatalogue, OpenedIsCatalogue}
 use Rattle.console.specs.StateAnswer.{on_loaded}
 use Rattle.console.proofs.Turns.{after_append, whole}
 
@@ -59,7 +65,7 @@ good_from (Err why) bytes e = absurd cc
 decoded_bytes : (field bytes : List ℕ) → good (decode_of field) ≡ Some bytes → AreBytes bytes
 decoded_bytes field bytes e = are_bytes bytes (decode_of-ok field bytes (good_from (decode_of field) bytes e)).3
 
-field_are_bytes : (field bytes : List ℕ) → field_bytes field ≡ Some bytes → AreBytes bytes
+pub field_are_bytes : (field bytes : List ℕ) → field_bytes field ≡ Some bytes → AreBytes bytes
 unfolding field_bytes
 field_are_bytes field bytes e = by_tests _ _ e
   where
@@ -142,20 +148,68 @@ pushed c [] r updates is (suc k) s e = absurd cc
 pushed c (x ∷ h) r updates is zero s e = updates 0 s e
 pushed c (x ∷ h) r updates is (suc k) s e = pushed c h r (λ i t f. updates (suc i) t f) is k s e
 
+-- ---- refusals
+
+read_no_update : Read ≡ Update → ⊥
+read_no_update e = cc
+
+update_no_read : Update ≡ Read → ⊥
+update_no_read e = cc
+
+other_mode : (asked mode : Mode) (why : StoreRefused) → mode_refusal asked mode ≡ Some why → (why ≡ WrongMode) × (mode ≢ asked)
+other_mode Update Update why e = absurd cc
+other_mode Read Read why e = absurd cc
+other_mode Update Read why e = (let same : WrongMode ≡ why = cc in sym same, read_no_update)
+other_mode Read Update why e = (let same : WrongMode ≡ why = cc in sym same, update_no_read)
+
+-- a number below that of the programs is one of a program
+none_below : (c : CatalogueView) (k : ℕ) → k < length c.programs → program_at c k ≡ None → ⊥
+none_below c k below none = by c.programs k below none
+  where
+    by : (es : List Entry) (k : ℕ) → k < length es → option_map (λ (e : Entry). e.checked) (slice_get es k) ≡ None → ⊥
+    by [] k below none = absurd (omega (arith, below))
+    by (e ∷ es) zero below none = cc
+    by (e ∷ es) (suc k) below none = by es k (omega (arith, below)) none
+
+-- a name's number is one of a program
+named_at : (name : List ℕ) (es : List Entry) (i k : ℕ) → position_from (λ (e : Entry). bytes_eq e.name name) i es ≡ Some k → (j : ℕ) × (e : Entry) × (k ≡ i + j) × (slice_get es j ≡ Some e)
+named_at name [] i k found = absurd cc
+named_at name (e ∷ es) i k found = by (bytes_eq e.name name) found (named_at name es (i + 1) k)
+  where
+    by : (b : Bool) → cond b (Some i) (position_from (λ (e : Entry). bytes_eq e.name name) (i + 1) es) ≡ Some k
+        → (position_from (λ (e : Entry). bytes_eq e.name name) (i + 1) es ≡ Some k → (j : ℕ) × (d : Entry) × (k ≡ i + 1 + j) × (slice_get es j ≡ Some d))
+        → (j : ℕ) × (d : Entry) × (k ≡ i + j) × (slice_get (e ∷ es) j ≡ Some d)
+    by true f behind = let same : i ≡ k = cc in (0, e, omega (arith, same), refl)
+    by false f behind = let rest = behind f in (suc rest.0, rest.1, omega (arith, rest.2), rest.3)
+
+offered_at : (c : CatalogueView) (name : List ℕ) (k : ℕ) → number_named c.programs name ≡ Some k → program_at c k ≡ None → ⊥
+offered_at c name k found none =
+    let at = named_at name c.programs 0 k found in
+    let here : k ≡ at.0 = omega (arith, at.2) in
+    let some : option_map (λ (e : Entry). e.checked) (slice_get c.programs k) ≡ Some at.1.checked = ap (λ i. option_map (λ (e : Entry). e.checked) (slice_get c.programs i)) here ∙ ap (option_map (λ (e : Entry). e.checked)) at.3 in
+    cc (sym none ∙ some)
+
+-- no program to be installed is refused since the history has ended
+install_goes_on : (small : Bool) (r : Result Checked InstallRefusal) → (if small then reading_refusal r else Some TooLarge) ≡ Some Ended → ⊥
+install_goes_on true (Ok p) e = cc
+install_goes_on true (Err (Decode why)) e = cc
+install_goes_on true (Err (Verify why)) e = cc
+install_goes_on false r e = cc
+
 -- ---- operations that are performed
 
 module _ (c : CatalogueView) (is_whole : IsCatalogue c) (h : History) (updates : AreUpdates c h) where
-  has_effects : HasEffects c h
+  pub has_effects : HasEffects c h
   has_effects = have_effects c is_whole h updates
 
   abbrev here : StoreState
   here = state_after store_meaning c h (length h)
 
   -- the history that an update leaves has updates alone
-  grown : (op : Operation) → is_operation Update c op ≡ true → AreUpdates c (with_operation h op)
+  pub grown : (op : Operation) → is_operation Update c op ≡ true → AreUpdates c (with_operation h op)
   grown op is = pushed c h (record { author = 0; seq = length h; op = op }) updates is
 
-  left_behind : (op : Operation) (e : Effect StoreState) → effect_at store_meaning c h (length h) op ≡ Some e → state_after store_meaning c (with_operation h op) (length (with_operation h op)) ≡ e.left
+  pub left_behind : (op : Operation) (e : Effect StoreState) → effect_at store_meaning c h (length h) op ≡ Some e → state_after store_meaning c (with_operation h op) (length (with_operation h op)) ≡ e.left
   left_behind op e is =
       let r : Record = record { author = 0; seq = length h; op = op } in
       whole c (with_operation h op) ∙ after_append store_meaning c (opening_state c) h (r ∷ []) ∙ ap (λ (s : StoreState). after store_meaning c s (r ∷ [])) (sym (whole c h))
@@ -173,20 +227,65 @@ module _ (c : CatalogueView) (is_whole : IsCatalogue c) (h : History) (updates :
   update_turn : (call : TheCall) → is_operation Update c (Run call) ≡ true → length h < MAX_LIMIT → IsUpdateTurn c h call (update_of call)
   update_turn call is room =
       let u = has_effects.updates (length h) call is in
-      record { done = u.0; does = u.1; room = room; text = ap (update_line (length h)) u.2; next = refl; left = ap (λ (s : StoreState). s.maps) (left_behind (Run call) _ u.2) }
+      record { asked = (are_tested Update c (Run call)).0 is; done = u.0; does = u.1; room = room; text = ap (update_line (length h)) u.2; next = refl; left = ap (λ (s : StoreState). s.maps) (left_behind (Run call) _ u.2) }
 
   read_turn : (call : TheCall) → is_operation Read c (Run call) ≡ true → IsReadTurn c h call (read_of_call call)
   read_turn call is =
       let u = has_effects.reads (length h) call is in
-      record { done = u.0; does = u.1; text = ap (read_line (length h)) u.2; same = refl; left = u.3 }
+      record { asked = (are_tested Read c (Run call)).0 is; done = u.0; does = u.1; text = ap (read_line (length h)) u.2; same = refl; left = u.3 }
 
   install_turn : (new : NewProgram) → is_operation Update c (AnInstall new) ≡ true → length h < MAX_LIMIT → IsInstallTurn c h new (install_of new)
   install_turn new is room =
       let u = has_effects.installs (length h) new is in
-      record { program = u.0; read = u.1; room = room; text = ap (install_line (length h)) u.2; next = refl; left = left_behind (AnInstall new) _ u.2 }
+      record { asked = (are_tested Update c (AnInstall new)).0 is; program = u.0; read = u.1; room = room; text = ap (install_line (length h)) u.2; next = refl; left = left_behind (AnInstall new) _ u.2 }
 
-  stops : (why : StoreRefused) → IsRefusedTurn h (refused h why)
-  stops why = record { why = why; text = refl; same = refl }
+  stops : (Why : StoreRefused → Type 0) (why : StoreRefused) → Why why → IsRefusedTurn Why h (refused h why)
+  stops Why why is = record { why = why; is = is; text = refl; same = refl }
+
+  -- ---- why a call is refused
+
+  module _ (mode : Mode) (call : TheCall) (why : StoreRefused) where
+    abbrev Why : Type 0
+    Why = IsWhy c h mode call why
+
+    short_or : (p : Checked) → program_at c call.program ≡ Some p → (b : Bool) → eqb (length call.argument) p.arg_len ≡ b → (if b then mode_refusal mode p.mode else Some ArgumentLength) ≡ Some why → Why
+    short_or p named true fits e =
+        let other = other_mode mode p.mode why e in
+        subst (IsWhy c h mode call) (sym other.0) (p, named, eqb-true _ _ fits, other.1)
+    short_or p named false fits e =
+        let same : ArgumentLength ≡ why = cc in
+        subst (IsWhy c h mode call) same (inl (p, named, λ equal. false≢true (sym fits ∙ eq-eqb _ _ equal)))
+
+    why_program : (o : Option Checked) → program_at c call.program ≡ o → call.program < length c.programs → program_refusal mode call.argument o ≡ Some why → Why
+    why_program None named below e = absurd (none_below c call.program below named)
+    why_program (Some p) named below e = short_or p named (eqb (length call.argument) p.arg_len) refl e
+
+    why_long : (b : Bool) → leb (length call.argument) MAX_ARG_LEN ≡ b → length c.programs ≤ call.program → call.program < length c.programs + c.places → (if b then None else Some ArgumentLength) ≡ Some why → Why
+    why_long true short behind within e = absurd cc
+    why_long false short behind within e =
+        let same : ArgumentLength ≡ why = cc in
+        subst (IsWhy c h mode call) same (inr (behind, within, leb-false _ _ short))
+
+    why_place : (b : Bool) → ltb call.program (length c.programs + c.places) ≡ b → length c.programs ≤ call.program → (if b then place_refusal call.argument else Some UnknownProgram) ≡ Some why → Why
+    why_place true within behind e = why_long (leb (length call.argument) MAX_ARG_LEN) refl behind (ltb-true _ _ within) e
+    why_place false within behind e = let same : UnknownProgram ≡ why = cc in subst (IsWhy c h mode call) same (ltb-false _ _ within)
+
+    why_number : (b : Bool) → ltb call.program (length c.programs) ≡ b
+        → (if b then offered_refusal c mode call.program call.argument else if nat_lt call.program (length c.programs + c.places) then place_refusal call.argument else Some UnknownProgram) ≡ Some why → Why
+    why_number true below e = why_program (program_at c call.program) refl (ltb-true _ _ below) e
+    why_number false below e = why_place (ltb call.program (length c.programs + c.places)) refl (ltb-false _ _ below) e
+
+    why_early : early_refusal c mode call.program call.argument ≡ Some why → Why
+    why_early e = why_number (ltb call.program (length c.programs)) refl e
+
+  why_install : (new : NewProgram) (why : StoreRefused) → install_refusal c.shapes new ≡ Some why → IsWhyInstall c h new why
+  why_install new UnknownProgram e = e
+  why_install new ArgumentLength e = e
+  why_install new WrongMode e = e
+  why_install new Ended e = absurd (install_goes_on (leb (length new.bytes) MAX_INSTALLED_BYTES && leb new.arg_len MAX_ARG_LEN) (installed_program c.shapes new.mode new.arg_len new.bytes) e)
+  why_install new TooLarge e = e
+  why_install new (NotDecoded why) e = e
+  why_install new (NotAccepted why) e = e
 
   -- ---- by the refusal, or the room that is left
 
@@ -196,7 +295,7 @@ module _ (c : CatalogueView) (is_whole : IsCatalogue c) (h : History) (updates :
 
   invoke_goes : (call : TheCall) → AreBytes call.argument → (o : Option StoreRefused) → early_refusal c Update call.program call.argument ≡ o
       → Goes (InvokeAt call) (unless_refused h (performed c h (Run call) Update) o)
-  invoke_goes call bytes (Some why) e = (inl (stops why), updates)
+  invoke_goes call bytes (Some why) e = (inl (stops (IsWhy c h Update call) why (why_early Update call why e)), updates)
   invoke_goes call bytes None e = by_room (ltb (length h) MAX_LIMIT) refl
     where
       is : is_operation Update c (Run call) ≡ true
@@ -204,16 +303,16 @@ module _ (c : CatalogueView) (is_whole : IsCatalogue c) (h : History) (updates :
 
       by_room : (b : Bool) → ltb (length h) MAX_LIMIT ≡ b → Goes (InvokeAt call) (cond b (update_of call) (refused h Ended))
       by_room true room = (inr (update_turn call is (ltb-true _ _ room)), grown (Run call) is)
-      by_room false room = (inl (stops Ended), updates)
+      by_room false room = (inl (stops (IsWhy c h Update call) Ended (refl, (are_tested Update c (Run call)).0 is, ltb-false _ _ room)), updates)
 
   read_goes : (call : TheCall) → AreBytes call.argument → (o : Option StoreRefused) → early_refusal c Read call.program call.argument ≡ o
       → Goes (ReadAt call) (unless_refused h (performed c h (Run call) Read) o)
-  read_goes call bytes (Some why) e = (inl (stops why), updates)
+  read_goes call bytes (Some why) e = (inl (stops (IsWhy c h Read call) why (why_early Read call why e)), updates)
   read_goes call bytes None e = (inr (read_turn call (is_asked Read c call.program call.argument e bytes)), updates)
 
   install_goes : (new : NewProgram) → AreBytes new.bytes → (o : Option StoreRefused) → install_refusal c.shapes new ≡ o
       → Goes (Install new) (unless_refused h (submitted install_line c h (AnInstall new)) o)
-  install_goes new bytes (Some why) e = (inl (stops why), updates)
+  install_goes new bytes (Some why) e = (inl (stops (IsWhyInstall c h new) why (why_install new why e)), updates)
   install_goes new bytes None e = by_room (ltb (length h) MAX_LIMIT) refl
     where
       is : is_operation Update c (AnInstall new) ≡ true
@@ -221,7 +320,7 @@ module _ (c : CatalogueView) (is_whole : IsCatalogue c) (h : History) (updates :
 
       by_room : (b : Bool) → ltb (length h) MAX_LIMIT ≡ b → Goes (Install new) (cond b (install_of new) (refused h Ended))
       by_room true room = (inr (install_turn new is (ltb-true _ _ room)), grown (AnInstall new) is)
-      by_room false room = (inl (stops Ended), updates)
+      by_room false room = (inl (stops (IsWhyInstall c h new) Ended ((are_tested Update c (AnInstall new)).0 is, ltb-false _ _ room)), updates)
 
   -- ---- a call by its program's name
 
@@ -253,18 +352,18 @@ module _ (c : CatalogueView) (is_whole : IsCatalogue c) (h : History) (updates :
         where
           by_room : (b : Bool) → ltb (length h) MAX_LIMIT ≡ b → Goes (Call call) (cond b (update_of one) (refused h Ended))
           by_room true room = let u = update_turn one (is_of Update m) (ltb-true _ _ room) in (inr (k, numbered_so, inl (u, its_run Update u.done m u.does)), grown (Run one) (is_of Update m))
-          by_room false room = (inl (stops Ended), updates)
+          by_room false room = (inl (stops (IsWhyNamed c h call) Ended (inr (k, program, numbered_so, named, (m, (are_tested Update c (Run one)).0 (is_of Update m), ltb-false _ _ room)))), updates)
 
     by_program : (o : Option Checked) → program_at c k ≡ o → Goes (Call call) (performed_by c h one o)
-    by_program None e = (inl (stops UnknownProgram), updates)
+    by_program None e = absurd (offered_at c call.name k numbered_so e)
     by_program (Some program) e = by_length (eqb (length call.argument) program.arg_len) refl
       where
         by_length : (b : Bool) → eqb (length call.argument) program.arg_len ≡ b → Goes (Call call) (cond b (performed c h (Run one) program.mode) (refused h ArgumentLength))
         by_length true fits = by_mode program e (eqb-true _ _ fits) program.mode refl
-        by_length false fits = (inl (stops ArgumentLength), updates)
+        by_length false fits = (inl (stops (IsWhyNamed c h call) ArgumentLength (inr (k, program, numbered_so, e, inl (program, e, λ same. false≢true (sym fits ∙ eq-eqb _ _ same))))), updates)
 
   by_number : (call : ProgramCall) → AreBytes call.argument → (o : Option ℕ) → number_named c.programs call.name ≡ o → Goes (Call call) (numbered c h call.argument o)
-  by_number call bytes None e = (inl (stops UnknownProgram), updates)
+  by_number call bytes None e = (inl (stops (IsWhyNamed c h call) UnknownProgram (inl (e, refl))), updates)
   by_number call bytes (Some k) e = by_program call bytes k e (program_at c k) refl
 
   pub goes : (m : Meaning) → HasBytes m → Goes m (taken c h m)

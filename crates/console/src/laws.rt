@@ -15,6 +15,10 @@ pub fn limits()
 /// updates, and an update leaves the maps of its run; of a call by number it is the run of what stands there, or -22. An install is
 /// refused, or its line has the number of the program that its bytes spell, or -7.
 ///
+/// A refusal leaves the history, and its number says why: S1, no program and no place is called; S2, the argument has another
+/// length; S3, the program has the other mode; S4, the history has all its updates, and nothing else refuses this one; of an
+/// install, S6 to S8. What isn't refused is an update or a read of the catalogue.
+///
 /// Such a catalogue is what a manifest is loaded as, with at most 16 places behind its programs, on a new state and on each that a text
 /// says.
 pub fn run_lines_are_runs()
