@@ -50,7 +50,7 @@ turn_keeps m w (Rebase n) = took_keeps w n (slice_get w.nodes n) (part_of m (Reb
 
 line_keeps : (m : Opening) (w : WorldView) (line : List ℕ) (turn : StepTurn) → step_line_turn m w line ≡ Some turn → length turn.world.nodes ≡ length w.nodes
 unfolding step_line_turn
-line_keeps m w line turn is = by_meaning (step_line_meaning line) is
+line_keeps m w line turn is = by_meaning (step_line_meaning (length m.catalogue.programs) line) is
   where
     by_meaning : (o : Option StepMeaning) → option_map (step_turn m w) o ≡ Some turn → length turn.world.nodes ≡ length w.nodes
     by_meaning None e = absurd cc

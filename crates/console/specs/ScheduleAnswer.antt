@@ -1,6 +1,6 @@
 -- What `schedule` answers and writes, as a function of the sizes of the store, of the manifest, of the files that are there, and of
 -- the steps.
-use Rattle.std.specs.Prelude.{ℕ, suc, Bool, ◌&&◌, List, [], ◌∷◌, ◌++◌, codes, decimal, Option, Some, None, option_map, option_and_then, unwrap_or, slice_get, length, Ok, Err, nat_lt, nat_le, if◌then◌else◌}
+use Rattle.std.specs.Prelude.{ℕ, suc, Bool, ◌&&◌, List, [], ◌∷◌, ◌++◌, codes, decimal, Option, Some, None, option_map, option_and_then, unwrap_or, slice_get, length, Ok, Err, nat_le, if◌then◌else◌}
 use Rattle.text.specs.Lines.{lines_of, next_line}
 use Rattle.loader.specs.CatalogueView.{CatalogueView, number_named}
 use Rattle.loader.specs.Loading.{Outcome}
@@ -55,10 +55,10 @@ end_text w = log_text w.log ++ nodes_text 0 w.nodes
 
 -- ---- one line
 
--- the number of the program that a line names: one of the catalogue's by its name, or one behind these; else one that no store has
+-- the number of the program that a line names: one of the catalogue's by its name, else one that no store has; or the number that it says
 abbrev pub number_keyed : CatalogueView → ProgramKey → ℕ
 number_keyed c (Named name) = unwrap_or (number_named c.programs name) 65535
-number_keyed c (Numbered k) = if nat_lt k (length c.programs) then 65535 else k
+number_keyed c (Numbered k) = k
 
 -- the call that a line makes
 abbrev pub call_at : CatalogueView → CallAt → Call
@@ -109,7 +109,7 @@ step_turn m w Comment = record { text = []; world = w }
 step_turn m w line = record { text = step_text (step_answer (line_took m w line)); world = world_after w (line_took m w line) }
 
 unfoldable pub step_line_turn : Opening → WorldView → List ℕ → Option StepTurn
-step_line_turn m w line = option_map (step_turn m w) (step_line_meaning line)
+step_line_turn m w line = option_map (step_turn m w) (step_line_meaning (length m.catalogue.programs) line)
 
 -- ---- a list of steps
 

@@ -1,10 +1,10 @@
 -- What one line of a list of steps says.
-use Rattle.std.specs.Prelude.{ℕ, List, Option, Some, None, option_map, if◌then◌else◌, codes, bytes_eq}
+use Rattle.std.specs.Prelude.{ℕ, Bool, true, List, Option, Some, None, option_map, nat_le, if◌then◌else◌, codes, bytes_eq}
 use Rattle.text.specs.Lines.{kind_of, by_kind}
 use Rattle.text.specs.Fields.{split_at_space}
 use Rattle.text.specs.Words.{◌>>=◌, number_of}
 use Rattle.oplog.specs.Calls.{NewProgram}
-use Rattle.console.specs.Script.{KeyedCall, keyed_call, new_program}
+use Rattle.console.specs.Script.{ProgramKey, Named, Numbered, KeyedCall, keyed_call, new_program}
 
 -- a slot of a node
 pub record SlotAt : Type 0 where
@@ -47,16 +47,21 @@ slot_at text = do
   slot ← number_of field.1
   Some (record { node = node; slot = slot })
 
--- N S NAME HEX, or with K in the place of NAME
-unfoldable pub call_at : List ℕ → Option CallAt
-call_at text = do
+-- where n programs have names, a program is named by its name, or by a K that is none of their numbers
+abbrev pub is_named_so : ℕ → ProgramKey → Bool
+is_named_so n (Named name) = true
+is_named_so n (Numbered k) = nat_le n k
+
+-- N S NAME HEX, or with such a K in the place of NAME
+unfoldable pub call_at : ℕ → List ℕ → Option CallAt
+call_at n text = do
   first ← split_at_space text
   second ← split_at_space first.1
   third ← split_at_space second.1
   node ← number_of first.0
   slot ← number_of second.0
   call ← keyed_call third.0 third.1
-  Some (record { node = node; slot = slot; call = call })
+  if is_named_so n call.key then Some (record { node = node; slot = slot; call = call }) else None
 
 -- N S MODE ARGLEN HEX
 unfoldable pub install_at : List ℕ → Option InstallAt
@@ -87,20 +92,20 @@ node_words word text = do
   node_step word node
 
 -- by the first word
-abbrev pub step_words : List ℕ → List ℕ → Option StepMeaning
-step_words word rest =
-    if bytes_eq word (codes "post") then option_map Post (call_at rest)
+abbrev pub step_words : ℕ → List ℕ → List ℕ → Option StepMeaning
+step_words n word rest =
+    if bytes_eq word (codes "post") then option_map Post (call_at n rest)
     else if bytes_eq word (codes "install") then option_map Install (install_at rest)
-    else if bytes_eq word (codes "readbegin") then option_map ReadBegin (call_at rest)
+    else if bytes_eq word (codes "readbegin") then option_map ReadBegin (call_at n rest)
     else if bytes_eq word (codes "collect") then option_map Collect (slot_at rest)
     else if bytes_eq word (codes "readanswer") then option_map ReadAnswer (slot_at rest)
     else node_words word rest
 
-unfoldable pub step_meaning : List ℕ → Option StepMeaning
-step_meaning line = do
+unfoldable pub step_meaning : ℕ → List ℕ → Option StepMeaning
+step_meaning n line = do
   word ← split_at_space line
-  step_words word.0 word.1
+  step_words n word.0 word.1
 
--- a line over 512 bytes is bad whatever it holds; an empty line and one that begins with # say nothing
-unfoldable pub step_line_meaning : List ℕ → Option StepMeaning
-step_line_meaning line = by_kind Comment (step_meaning line) (kind_of line)
+-- what a line says where n programs have names: a line over 512 bytes is bad whatever it holds; an empty line and one that begins with # say nothing
+unfoldable pub step_line_meaning : ℕ → List ℕ → Option StepMeaning
+step_line_meaning n line = by_kind Comment (step_meaning n line) (kind_of line)

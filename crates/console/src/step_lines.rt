@@ -1,10 +1,10 @@
 // The lines of a list of steps.
 
 ghost use Rattle.std.specs.Prelude.{◌≡◌, ◌≤◌, length, option_map};
-ghost use Rattle.console.specs.StepLine.{slot_at, call_at, install_at, node_step, node_words, step_meaning, step_line_meaning};
-ghost use Rattle.console.specs.ScriptShown.{slot_of, slot_call_of, slot_program_of, step_of};
+ghost use Rattle.console.specs.StepLine.{is_named_so, slot_at, call_at, install_at, node_step, node_words, step_meaning, step_line_meaning};
+ghost use Rattle.console.specs.ScriptShown.{key_of, slot_of, slot_call_of, slot_program_of, step_of};
 
-use crate::script::{KeyedCall, ProgramText, keyed_call, new_program};
+use crate::script::{KeyedCall, ProgramKey, ProgramText, keyed_call, new_program};
 use text::{LINE_BYTES, LineKind, kind_of, number, split_at_space};
 
 // A slot of a node.
@@ -59,11 +59,21 @@ fn slot_at(text: &str) -> Option<SlotAt>
     Some(SlotAt { node, slot })
 }
 
+// Whether this names a program where so many have names: by its name, or by a number that is none of theirs.
+fn is_named_so(programs: u64, key: ProgramKey<'_>) -> bool
+    ensures { result ≡ is_named_so programs (key_of key.entry) }
+{
+    match key {
+        ProgramKey::Named(_) => true,
+        ProgramKey::Numbered(number) => programs <= number,
+    }
+}
+
 // N S NAME HEX, or with K in the place of NAME
 #[tactic(auto, unfolding(crate::specs::StepLine::call_at))]
-fn call_at(text: &str) -> Option<CallAt<'_>>
+fn call_at(programs: u64, text: &str) -> Option<CallAt<'_>>
     requires { length text.now ≤ LINE_BYTES }
-    ensures { option_map slot_call_of result ≡ call_at text.now }
+    ensures { option_map slot_call_of result ≡ call_at programs text.now }
 {
     let (node, rest) = split_at_space(text)?;
     let (slot, rest) = split_at_space(rest)?;
@@ -71,7 +81,11 @@ fn call_at(text: &str) -> Option<CallAt<'_>>
     let node = number(node)?;
     let slot = number(slot)?;
     let call = keyed_call(name, digits)?;
-    Some(CallAt { node, slot, call })
+    if is_named_so(programs, call.key) {
+        Some(CallAt { node, slot, call })
+    } else {
+        None
+    }
 }
 
 // N S MODE ARGLEN HEX
@@ -117,17 +131,17 @@ fn node_step(word: &str, node: u64) -> Option<StepLine<'_>>
 
 // The step that the words of a line say.
 #[tactic(auto, unfolding(crate::specs::StepLine::step_meaning, crate::specs::StepLine::node_words))]
-fn step_words(line: &str) -> Option<StepLine<'_>>
+fn step_words(programs: u64, line: &str) -> Option<StepLine<'_>>
     requires { length line.now ≤ LINE_BYTES }
-    ensures { option_map step_of result ≡ step_meaning line.now }
+    ensures { option_map step_of result ≡ step_meaning programs line.now }
 {
     let (word, rest) = split_at_space(line)?;
     if word == "post" {
-        Some(StepLine::Post(call_at(rest)?))
+        Some(StepLine::Post(call_at(programs, rest)?))
     } else if word == "install" {
         Some(StepLine::Install(install_at(rest)?))
     } else if word == "readbegin" {
-        Some(StepLine::ReadBegin(call_at(rest)?))
+        Some(StepLine::ReadBegin(call_at(programs, rest)?))
     } else if word == "collect" {
         Some(StepLine::Collect(slot_at(rest)?))
     } else if word == "readanswer" {
@@ -137,14 +151,14 @@ fn step_words(line: &str) -> Option<StepLine<'_>>
     }
 }
 
-// What a line says; `None` where it is bad.
+// What a line says where so many programs have names; `None` where it is bad.
 #[tactic(auto, unfolding(crate::specs::StepLine::step_line_meaning))]
-pub(crate) fn read_step_line(line: &str) -> Option<StepLine<'_>>
-    ensures { option_map step_of result ≡ step_line_meaning line.now }
+pub(crate) fn read_step_line(programs: u64, line: &str) -> Option<StepLine<'_>>
+    ensures { option_map step_of result ≡ step_line_meaning programs line.now }
 {
     match kind_of(line) {
         LineKind::TooLong => None,
         LineKind::Comment => Some(StepLine::Comment),
-        LineKind::Words => step_words(line),
+        LineKind::Words => step_words(programs, line),
     }
 }

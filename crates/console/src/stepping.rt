@@ -20,7 +20,7 @@ use text::FIELD_BYTES;
 // A number that no store has a program or a place of.
 const NO_NUMBER: u64 = 65_535;
 
-// The number of the program that a line names: of the catalogue by its name, or behind these; else one that no store has.
+// The number of the program that a line names: of the catalogue by its name, else one that no store has; or the number that it says.
 fn number_of(catalogue: &Catalogue, key: ProgramKey<'_>) -> u64
     ensures { result ≡ number_keyed catalogue.now (key_of key.entry) }
 {
@@ -29,13 +29,7 @@ fn number_of(catalogue: &Catalogue, key: ProgramKey<'_>) -> u64
             Some(number) => number as u64,
             None => NO_NUMBER,
         },
-        ProgramKey::Numbered(number) => {
-            if number < catalogue.len() as u64 {
-                NO_NUMBER
-            } else {
-                number
-            }
-        }
+        ProgramKey::Numbered(number) => number,
     }
 }
 
@@ -109,7 +103,8 @@ pub(crate) fn take_step_line(
         StepLineTaken world.old (step_line_turn world.old.opening world.old.world line.now) good world.new out.old.items out.new.items) }
     ensures quiet { IsQuiet notes.old notes.new }
 {
-    let Some(line) = read_step_line(line) else {
+    let programs = world.catalogue().len() as u64;
+    let Some(line) = read_step_line(programs, line) else {
         return Ok(false);
     };
     let Some(step) = step_of(alloc, world.catalogue(), &line)? else {
