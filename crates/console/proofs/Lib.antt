@@ -19,6 +19,10 @@ pub mod StepLines
 pub mod Quiet
 pub mod OneText
 pub mod RunsOfLines
+pub mod Fields
+pub mod SpelledScripts
+pub mod SpelledSteps
+pub mod SpelledTold
 pub mod Served
 pub mod KeptLines
 pub mod LineTurns

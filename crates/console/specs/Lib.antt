@@ -29,6 +29,8 @@ pub mod Graph
 pub mod Transfer
 -- Laws: each line that a run writes for a call is a run of its program.
 pub mod RunLines
+-- Laws: a line of a script, of a list of steps or of a transcript says just what it spells.
+pub mod LineSpelling
 -- Laws: the reply that a line tells, beside which a signed number may stand.
 pub mod SignedLaws
 -- Laws: how an input is cut, and what is served of a text that could be run.

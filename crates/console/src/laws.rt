@@ -1,6 +1,7 @@
 // What the definitions of a run say, in other words.
 
 ghost use Rattle.std.specs.Prelude.{◌≡◌};
+ghost use Rattle.console.specs.LineSpelling.{EachLineIsItsSpelling, EachStepIsItsSpelling, EachToldIsItsSpelling};
 ghost use Rattle.console.specs.RunLines.{LineTurnsAreRuns, LoadedIsCatalogue, OpenedIsCatalogue, RunLinesAreRuns};
 ghost use Rattle.console.specs.SignedLaws.{RepliesAreTold};
 ghost use Rattle.console.specs.declared.single_node.TheConstants.{RUN_PLACES};
@@ -26,6 +27,13 @@ pub fn run_lines_are_runs()
     ensures runs { RunLinesAreRuns }
     ensures loaded { LoadedIsCatalogue }
     ensures opened { OpenedIsCatalogue }
+{}
+
+/// A line of a script, of a list of steps, and of a transcript says this exactly where it is spelled so, in at most 512 bytes.
+pub fn each_line_is_its_spelling()
+    ensures scripts { EachLineIsItsSpelling }
+    ensures steps { EachStepIsItsSpelling }
+    ensures transcripts { EachToldIsItsSpelling }
 {}
 
 /// `run --signed` finds the reply of each line that `run` writes for an update, a read or an install.
