@@ -23,6 +23,7 @@ pub mod Fields
 pub mod SpelledScripts
 pub mod SpelledSteps
 pub mod SpelledTold
+pub mod ReplaysOfLines
 pub mod Served
 pub mod KeptLines
 pub mod LineTurns

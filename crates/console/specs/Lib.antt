@@ -27,8 +27,9 @@ pub mod Report
 pub mod Explanation
 pub mod Graph
 pub mod Transfer
--- Laws: each line that a run writes for a call is a run of its program.
+-- Laws: each line that a run writes for a call is a run of its program, and each line that a replay finds to agree is what its operation does.
 pub mod RunLines
+pub mod ReplayLines
 -- Laws: a line of a script, of a list of steps or of a transcript says just what it spells.
 pub mod LineSpelling
 -- Laws: the reply that a line tells, beside which a signed number may stand.

@@ -2,6 +2,7 @@
 
 ghost use Rattle.std.specs.Prelude.{◌≡◌};
 ghost use Rattle.console.specs.LineSpelling.{EachLineIsItsSpelling, EachStepIsItsSpelling, EachToldIsItsSpelling};
+ghost use Rattle.console.specs.ReplayLines.{AgreeingLinesAreRuns, ReplaysAreRuns};
 ghost use Rattle.console.specs.RunLines.{LineTurnsAreRuns, LoadedIsCatalogue, OpenedIsCatalogue, RunLinesAreRuns};
 ghost use Rattle.console.specs.SignedLaws.{RepliesAreTold};
 ghost use Rattle.console.specs.declared.single_node.TheConstants.{RUN_PLACES};
@@ -27,6 +28,16 @@ pub fn run_lines_are_runs()
     ensures runs { RunLinesAreRuns }
     ensures loaded { LoadedIsCatalogue }
     ensures opened { OpenedIsCatalogue }
+{}
+
+/// What is answered to a transcript on a catalogue, behind any updates: each line that agrees tells what its operation does there,
+/// one after the other, until a line that is bad or differs. An update or an install has the next index, with the reply of the run
+/// of its program, or of the place that its program takes, and the history has it then. A read has seen the whole history, with the
+/// reply of its program's run, and a call that was told of the end is an update; both leave the history. What the history has are
+/// updates.
+pub fn replays_are_runs()
+    ensures lines { AgreeingLinesAreRuns }
+    ensures replays { ReplaysAreRuns }
 {}
 
 /// A line of a script, of a list of steps, and of a transcript says this exactly where it is spelled so, in at most 512 bytes.

@@ -42,7 +42,9 @@ pub use commands::{
 };
 pub use feeding::{CannotRead, Feed};
 pub use folder::Folder;
-pub use laws::{each_line_is_its_spelling, limits, replies_are_told, run_lines_are_runs};
+pub use laws::{
+    each_line_is_its_spelling, limits, replays_are_runs, replies_are_told, run_lines_are_runs,
+};
 pub use memory::{Held, HeldFiles, Page};
 pub use notes::{Notes, Telling};
 pub use serve_laws::{served_in_parts, served_is_run};
