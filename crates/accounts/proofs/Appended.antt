@@ -12,7 +12,7 @@ use Rattle.accounts.proofs.Lists.{at_behind, at_front, at_joined, at_one}
 use Rattle.accounts.proofs.Moved.{claim_accounts, collect_accounts, post_accounts, reply_accounts, some_none}
 use Rattle.accounts.proofs.Parts.{Alike, alike_on, alike_request, batch_back, placed_back, taken_back, taken_on}
 use Rattle.oplog.specs.Sessions.{IsSessionOf, session}
-use Rattle.accounts.specs.Accounts.{Accounts, HasNoRecord, IsInBatch, IsNoted, IsPlacedIn, IsRequest, IsAllowed}
+use Rattle.accounts.specs.Accounts.{Accounts, HasNoRecord, IsInBatch, IsNoted, IsPlacedIn, IsRequest, IsAllowed, IsRecorded}
 use Rattle.accounts.specs.Agreement.{AgreesWith, Answers, DeskAgrees, IsUnclaimed, StageAgrees}
 use Rattle.accounts.specs.Moves.{Claims, Collects, DeskMove, LogMove, Moves, Posts, Replies, placed_from, record_of}
 use Rattle.combiner.specs.Desks.{DeskView}
@@ -34,7 +34,8 @@ module _ {C M : Type 0} (E : Meaning C M) where
       allowed = subst (λ h. (i : ℕ) (r : Record) → At i r h → IsAllowed E l'.catalogue r.op) (sym same) (subst (λ z. (i : ℕ) (r : Record) → At i r l.history → IsAllowed E z r.op) (sym catalogue) w.allowed);
       accounted = subst (λ h. (i : ℕ) (r : Record) → At i r h → (m : SessionNote) × At r.author m ns × IsNoted m i r) (sym same) w.accounted;
       ordered = subst (λ h. (i j : ℕ) (r s : Record) → At i r h → At j s h → i < j → r.author ≡ s.author → r.seq < s.seq) (sym same) w.ordered;
-      answered = subst (λ h. (a : ℕ) (m : SessionNote) (q : ℕ) (u : AnsweredUpdate) → At a m ns → At q u m.answered → At u.index (record { author = a; seq = q; op = u.op }) h) (sym same) w.answered;
+      answered = subst (λ h. (a : ℕ) (m : SessionNote) (q : ℕ) (u : AnsweredUpdate) → At a m ns → At q u m.answered → IsRecorded E l'.catalogue h a q u) (sym same)
+          (subst (λ z. (a : ℕ) (m : SessionNote) (q : ℕ) (u : AnsweredUpdate) → At a m ns → At q u m.answered → IsRecorded E z l.history a q u) (sym catalogue) w.answered);
       pending = subst (λ h. (a : ℕ) (m : SessionNote) (o : Pending) → At a m ns → m.pending ≡ Some o → IsAllowed E l'.catalogue o.op × (o.seen ≤ length h)) (sym same)
           (subst (λ z. (a : ℕ) (m : SessionNote) (o : Pending) → At a m ns → m.pending ≡ Some o → IsAllowed E z o.op × (o.seen ≤ length l.history)) (sym catalogue) w.pending);
       requested = w.requested;

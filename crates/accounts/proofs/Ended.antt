@@ -9,9 +9,9 @@ use Rattle.ownlock.specs.Seats.{At}
 use Rattle.accounts.proofs.Appended.{collected}
 use Rattle.accounts.proofs.Keeps.{some_one}
 use Rattle.accounts.proofs.Lists.{at_below, at_none, at_one}
-use Rattle.accounts.proofs.Moved.{some_none}
+use Rattle.accounts.proofs.Moved.{one_place, some_none}
 use Rattle.accounts.specs.Agreement.{Answers}
-use Rattle.accounts.specs.Told.{DeskTells, Ends, Tells, numbered, records_of}
+use Rattle.accounts.specs.Told.{AnsweredStand, DeskTells, Ends, Tells, numbered, records_of}
 use Rattle.combiner.specs.declared.slots.Reply.{Reply}
 use Rattle.combiner.specs.declared.slots.Reply.TheVariants.{Ended, Placed}
 use Rattle.accounts.specs.declared.sessions.AnsweredUpdate.{AnsweredUpdate}
@@ -116,17 +116,22 @@ module _ {C M : Type 0} (E : Meaning C M) where
       seen : (i : ℕ) → At i (record { author = c; seq = length n.answered; op = o.op }) l.history → o.seen ≤ i
       seen i there =
           let t = w.accounted i _ there in let same : t.0 ≡ n = at_one ns c t.0 n t.1 here in
-          ⊎_elim (λ h. let b = at_below n.answered (length n.answered) _ (subst (λ (z : SessionNote). At (length n.answered) (record { index = i; op = o.op }) z.answered) same h) in absurd (omega (arith, b)))
+          ⊎_elim (λ h. let b = at_below n.answered (length n.answered) _ (subst (λ (z : SessionNote). At (length n.answered) (record { index = i; op = o.op; reply = h.0 }) z.answered) same h.1) in absurd (omega (arith, b)))
           (λ h. subst (λ (z : Pending). z.seen ≤ i) (some_one h.0 o (sym h.1 ∙ (ap (λ (z : SessionNote). z.pending) same ∙ asked))) h.4) t.2
 
       tell : (r : Reply) → Answers E l c (length n.answered) o.op r → Tells E l c (length n.answered) o r
       tell (Placed i reply) h = (seen i h.1, h)
       tell Ended h = h
 
+  pub stand : AnsweredStand E
+  stand l ns w a n q u here at =
+      let t = w.answered a n q u here at in
+      record { there = t.0; reply = t.1; once = λ i r there author seq. one_place E l ns w i u.index r _ there t.0 author seq }
+
   pub ends : Ends E
   ends l ns w = (
     (λ a n here idle. only_list a 0 n.answered (records_of a l.history) (filtered_rises a l.history w.ordered) (each a n here idle)
-        (λ q u e. let at = w.answered a n q u here e in let m = member_on a l.history u.index _ at refl in (m.0, _, m.1, zero_plus q))),
+        (λ q u e. let at = (w.answered a n q u here e).0 in let m = member_on a l.history u.index _ at refl in (m.0, _, m.1, zero_plus q))),
     (λ i r at. let t = w.accounted i r at in at_below ns r.author t.0 t.1),
   )
     where
@@ -139,6 +144,6 @@ module _ {C M : Type 0} (E : Meaning C M) where
           let m = member_back a l.history j r e in let t = w.accounted m.1.0 r m.1.1 in
           let same : t.0 ≡ n = at_one ns a t.0 n (subst (λ z. At z t.0 ns) m.0 t.1) here in (
             m.0,
-            ⊎_elim (λ h. (r.seq, record { index = m.1.0; op = r.op }, zero_plus r.seq, subst (λ (z : SessionNote). At r.seq (record { index = m.1.0; op = r.op }) z.answered) same h, refl))
+            ⊎_elim (λ h. (r.seq, record { index = m.1.0; op = r.op; reply = h.0 }, zero_plus r.seq, subst (λ (z : SessionNote). At r.seq (record { index = m.1.0; op = r.op; reply = h.0 }) z.answered) same h.1, refl))
                 (λ h. absurd (some_none h.0 t.0.pending h.1 (ap (λ (z : SessionNote). z.pending) same ∙ idle))) t.2,
           )

@@ -6,9 +6,9 @@ use Rattle.oplog.specs.History.{Meaning}
 use Rattle.oplog.specs.declared.records.Record.{Record}
 use Rattle.ownlock.specs.Seats.{At}
 use Rattle.accounts.proofs.Lists.{at_below, at_front, at_joined, at_one}
-use Rattle.accounts.proofs.Parts.{Alike, alike_accounts, alike_back, alike_on, note_back, note_else, note_here, same_batches}
+use Rattle.accounts.proofs.Parts.{Alike, alike_accounts, alike_back, alike_on, note_back, note_else, note_here, reply_front, same_batches}
 use Rattle.oplog.specs.Sessions.{IsSessionOf}
-use Rattle.accounts.specs.Accounts.{Accounts, HasNoRecord, IsInBatch, IsNoted, IsPlacedIn, IsRequest, IsAllowed}
+use Rattle.accounts.specs.Accounts.{Accounts, HasNoRecord, IsInBatch, IsNoted, IsPlacedIn, IsRequest, IsAllowed, IsRecorded}
 use Rattle.accounts.specs.declared.sessions.AnsweredUpdate.{AnsweredUpdate}
 use Rattle.accounts.specs.declared.sessions.Claim.{Claim}
 use Rattle.accounts.specs.declared.sessions.Pending.{Pending}
@@ -25,11 +25,11 @@ module _ {C M : Type 0} (E : Meaning C M) where
   below_open l ns w n r s i there asked none at e =
       let t = w.accounted i r at in
       let same : t.0 ≡ n = at_one ns s.author t.0 n (subst (λ z. At z t.0 ns) e t.1) there in
-      ⊎_elim (λ h. low (subst (λ (z : SessionNote). At r.seq (record { index = i; op = r.op }) z.answered) same h))
+      ⊎_elim (λ h. low h.0 (subst (λ (z : SessionNote). At r.seq (record { index = i; op = r.op; reply = h.0 }) z.answered) same h.1))
       (λ h. absurd (none i r at e (h.3 ∙ (ap (λ (z : SessionNote). length z.answered) same ∙ sym asked.3)))) t.2
     where
-      low : At r.seq (record { index = i; op = r.op }) n.answered → r.seq < s.seq
-      low h = let b = at_below n.answered r.seq _ h in let q = asked.3 in omega (arith, b, q)
+      low : (reply : ℕ) → At r.seq (record { index = i; op = r.op; reply = reply }) n.answered → r.seq < s.seq
+      low reply h = let b = at_below n.answered r.seq _ h in let q = asked.3 in omega (arith, b, q)
 
   -- what is asked of new records
   pub record IsNew (l : Progress C) (ns : List SessionNote) (more : List Record) : Type 0 where
@@ -79,10 +79,11 @@ module _ {C M : Type 0} (E : Meaning C M) where
           (λ u. let same = new.apart t.0 u.0 r s t.2 u.2 e in let x = t.1 in let y = u.1 in absurd (omega (arith, same, x, y, lt))) (at_joined l.history more j s at_j))
           (at_joined l.history more i r at_i)
 
-      answered : (a : ℕ) (m : SessionNote) (q : ℕ) (u : AnsweredUpdate) → At a m ns' → At q u m.answered → At u.index (record { author = a; seq = q; op = u.op }) H'
+      answered : (a : ℕ) (m : SessionNote) (q : ℕ) (u : AnsweredUpdate) → At a m ns' → At q u m.answered → IsRecorded E l.catalogue H' a q u
       answered a m q u at h =
           let o = alike_back ns c n n' here unlike a m at in
-          at_front l.history more u.index _ (w.answered a o.0 q u o.1 (subst (λ us. At q u us) o.2.answered h))
+          let was = w.answered a o.0 q u o.1 (subst (λ us. At q u us) o.2.answered h) in
+          (at_front l.history more u.index _ was.0, reply_front E l.catalogue l.history more u.index u.op (let b = at_below l.history u.index _ was.0 in omega (arith, b)) ∙ was.1)
 
       opened : (a : ℕ) (m : SessionNote) (o : Pending) → At a m ns' → m.pending ≡ Some o → IsAllowed E l.catalogue o.op × (o.seen ≤ length H')
       opened a m o at h =
@@ -97,7 +98,8 @@ module _ {C M : Type 0} (E : Meaning C M) where
         allowed = subst (λ h. (i : ℕ) (r : Record) → At i r h → IsAllowed E l'.catalogue r.op) (sym history) (subst (λ z. (i : ℕ) (r : Record) → At i r H' → IsAllowed E z r.op) (sym catalogue) allowed);
         accounted = subst (λ h. (i : ℕ) (r : Record) → At i r h → (m : SessionNote) × At r.author m ns' × IsNoted m i r) (sym history) accounted;
         ordered = subst (λ h. (i j : ℕ) (r s : Record) → At i r h → At j s h → i < j → r.author ≡ s.author → r.seq < s.seq) (sym history) ordered;
-        answered = subst (λ h. (a : ℕ) (m : SessionNote) (q : ℕ) (u : AnsweredUpdate) → At a m ns' → At q u m.answered → At u.index (record { author = a; seq = q; op = u.op }) h) (sym history) answered;
+        answered = subst (λ h. (a : ℕ) (m : SessionNote) (q : ℕ) (u : AnsweredUpdate) → At a m ns' → At q u m.answered → IsRecorded E l'.catalogue h a q u) (sym history)
+            (subst (λ z. (a : ℕ) (m : SessionNote) (q : ℕ) (u : AnsweredUpdate) → At a m ns' → At q u m.answered → IsRecorded E z H' a q u) (sym catalogue) answered);
         pending = subst (λ h. (a : ℕ) (m : SessionNote) (o : Pending) → At a m ns' → m.pending ≡ Some o → IsAllowed E l'.catalogue o.op × (o.seen ≤ length h)) (sym history)
             (subst (λ z. (a : ℕ) (m : SessionNote) (o : Pending) → At a m ns' → m.pending ≡ Some o → IsAllowed E z o.op × (o.seen ≤ length H')) (sym catalogue) opened);
         requested = b.requested;
@@ -112,14 +114,14 @@ module _ {C M : Type 0} (E : Meaning C M) where
     pub request_changes : n'.batch ≡ n.batch
         → ((d k : ℕ) (t : Claim) → IsInBatch ns d k t → t.request.author ≢ c)
         → ((i : ℕ) (r : Record) → At i r l.history → r.author ≡ c → IsNoted n i r → IsNoted n' i r)
-        → ((q : ℕ) (u : AnsweredUpdate) → At q u n'.answered → At u.index (record { author = c; seq = q; op = u.op }) l.history)
+        → ((q : ℕ) (u : AnsweredUpdate) → At q u n'.answered → IsRecorded E l.catalogue l.history c q u)
         → ((o : Pending) → n'.pending ≡ Some o → IsAllowed E l.catalogue o.op × (o.seen ≤ length l.history))
         → Accounts E l (set ns c n')
     request_changes batch unclaimed accounted answered opened = record {
       allowed = w.allowed;
       accounted = λ i r at. let t = w.accounted i r at in on i r at t.0 t.1 t.2 (ℕ_discrete r.author c);
       ordered = w.ordered;
-      answered = λ a m q u at h. ⊎_elim (λ e. subst (λ z. At u.index (record { author = z; seq = q; op = u.op }) l.history) (sym e.0) (answered q u (subst (λ (z : SessionNote). At q u z.answered) (sym e.1) h)))
+      answered = λ a m q u at h. ⊎_elim (λ e. subst (λ z. IsRecorded E l.catalogue l.history z q u) (sym e.0) (answered q u (subst (λ (z : SessionNote). At q u z.answered) (sym e.1) h)))
           (λ e. w.answered a m q u e.1 h) (note_back ns c n n' here a m at);
       pending = λ a m o at h. ⊎_elim (λ e. opened o (ap (λ (z : SessionNote). z.pending) e.1 ∙ h)) (λ e. w.pending a m o e.1 h) (note_back ns c n n' here a m at);
       requested = λ d k t h. let old = back d k t h in let r = w.requested d k t old in (r.0, note_else ns c n n' here t.request.author r.0 (unclaimed d k t old) r.1, r.2);

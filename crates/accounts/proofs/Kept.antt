@@ -14,5 +14,5 @@ module _ {C M : Type 0} (E : Meaning C M) where
   no_next l ns c n w here idle i r at e q =
       let a = w.accounted i r at in
       let same : a.0 ≡ n = at_one ns c a.0 n (subst (λ z. At z a.0 ns) e a.1) here in
-      ⊎_elim (λ h. let b = at_below n.answered r.seq _ (subst (λ (z : SessionNote). At r.seq (record { index = i; op = r.op }) z.answered) same h) in omega (arith, b, q))
+      ⊎_elim (λ h. let b = at_below n.answered r.seq _ (subst (λ (z : SessionNote). At r.seq (record { index = i; op = r.op; reply = h.0 }) z.answered) same h.1) in omega (arith, b, q))
       (λ h. some_none h.0 a.0.pending h.1 (ap (λ (z : SessionNote). z.pending) same ∙ idle)) a.2

@@ -3,7 +3,7 @@ use Rattle.std.proofs.Common.{◌≡◌, ◌≢◌, ℕ, zero, suc, ◌+◌, ◌
 use Rattle.std.proofs.lemmas.Bool.{cases_lt}
 use mathlib.Core.Option.{some-injective}
 use native.Mathlib.Decide.{ℕ_discrete}
-use Rattle.oplog.specs.History.{Meaning}
+use Rattle.oplog.specs.History.{Meaning, reply_at}
 use Rattle.oplog.specs.Operations.{Operation}
 use Rattle.oplog.specs.declared.records.Record.{Record}
 use Rattle.ownlock.specs.Seats.{At}
@@ -11,7 +11,7 @@ use Rattle.accounts.proofs.Keeps.{Batches, IsNew, batch_changes, request_changes
 use Rattle.accounts.proofs.Lists.{at_behind, at_below, at_front, at_joined, at_none, at_one}
 use Rattle.accounts.proofs.Parts.{Alike, alike_on, alike_request, batch_back, posted_back, posted_once, author_is}
 use Rattle.oplog.specs.Sessions.{IsSessionOf, session}
-use Rattle.accounts.specs.Accounts.{Accounts, HasNoRecord, IsInBatch, IsNoted, IsRequest, IsAllowed}
+use Rattle.accounts.specs.Accounts.{Accounts, HasNoRecord, IsInBatch, IsNoted, IsRequest, IsAllowed, IsRecorded}
 use Rattle.accounts.specs.Agreement.{Answers, DeskAgrees, IsUnclaimed, StageAgrees}
 use Rattle.accounts.specs.Moves.{answered_with, unplaced}
 use Rattle.combiner.specs.Desks.{DeskView, batch_of, first_author}
@@ -25,8 +25,8 @@ use Rattle.accounts.specs.declared.sessions.Pending.{Pending}
 use Rattle.accounts.specs.declared.sessions.Progress.{Progress}
 use Rattle.accounts.specs.declared.sessions.SessionNote.{SessionNote}
 
-abbrev updated : ℕ → Pending → AnsweredUpdate
-updated i o = record { index = i; op = o.op }
+abbrev updated : ℕ → Pending → ℕ → AnsweredUpdate
+updated i o reply = record { index = i; op = o.op; reply = reply }
 
 abbrev IsThere : {A : Type 0} → Option A → Type 0
 IsThere (Some b) = Unit {0}
@@ -78,30 +78,34 @@ module _ {C M : Type 0} (E : Meaning C M) where
         accounted i r at e (inr h) = absurd (some_none h.0 n.pending h.1 idle)
 
     -- the session is answered
-    pub placed_accounts : (o : Pending) (i reply : ℕ) → n.pending ≡ Some o → At i (record { author = c; seq = length n.answered; op = o.op }) l.history → IsUnclaimed ns c → Accounts E l (set ns c (answered_with n o.op (Placed i reply)))
-    placed_accounts o i reply asked there free = request_changes E l l ns c n (answered_with n o.op (Placed i reply)) w here refl free accounted answered (λ o2 e. absurd (some_none o2 None e refl))
+    pub placed_accounts : (o : Pending) (i reply : ℕ) → n.pending ≡ Some o → At i (record { author = c; seq = length n.answered; op = o.op }) l.history → reply_at E l.catalogue l.history i o.op ≡ Some reply → IsUnclaimed ns c
+        → Accounts E l (set ns c (answered_with n o.op (Placed i reply)))
+    placed_accounts o i reply asked there told free = request_changes E l l ns c n (answered_with n o.op (Placed i reply)) w here refl free accounted answered (λ o2 e. absurd (some_none o2 None e refl))
       where
         accounted : (j : ℕ) (r : Record) → At j r l.history → r.author ≡ c → IsNoted n j r → IsNoted (answered_with n o.op (Placed i reply)) j r
-        accounted j r at e (inl h) = inl (at_front n.answered _ r.seq _ h)
+        accounted j r at e (inl h) = inl (h.0, at_front n.answered _ r.seq _ h.1)
         accounted j r at e (inr h) =
             let same : h.0 ≡ o = some_one h.0 o (sym h.1 ∙ asked) in
             let place : j ≡ i = one_place l ns w j i r _ at there e h.3 in
-            let it : At (length n.answered + 0) (updated i o) (n.answered ++ updated i o ∷ []) = at_behind n.answered (updated i o ∷ []) 0 (updated i o) refl in
-            inl (subst (λ z. At z (record { index = j; op = r.op }) (n.answered ++ updated i o ∷ [])) (plus_zero (length n.answered) r.seq h.3)
-            (subst (λ (z : AnsweredUpdate). At (length n.answered + 0) z (n.answered ++ updated i o ∷ [])) (λ k. record { index = sym place k; op = (ap (λ (z : Pending). z.op) (sym same) ∙ sym h.2) k }) it))
+            let it : At (length n.answered + 0) (updated i o reply) (n.answered ++ updated i o reply ∷ []) = at_behind n.answered (updated i o reply ∷ []) 0 (updated i o reply) refl in
+            inl (
+              reply,
+              subst (λ z. At z (record { index = j; op = r.op; reply = reply }) (n.answered ++ updated i o reply ∷ [])) (plus_zero (length n.answered) r.seq h.3)
+                  (subst (λ (z : AnsweredUpdate). At (length n.answered + 0) z (n.answered ++ updated i o reply ∷ [])) (λ k. record { index = sym place k; op = (ap (λ (z : Pending). z.op) (sym same) ∙ sym h.2) k; reply = reply }) it),
+            )
           where
             plus_zero : (a b : ℕ) → b ≡ a → a + 0 ≡ b
             plus_zero a b e = omega (arith, e)
 
-        answered : (q : ℕ) (u : AnsweredUpdate) → At q u (n.answered ++ updated i o ∷ []) → At u.index (record { author = c; seq = q; op = u.op }) l.history
-        answered q u h = ⊎_elim (λ old. w.answered c n q u here old) (λ t. last t.0 t.1 t.2) (at_joined n.answered (updated i o ∷ []) q u h)
+        answered : (q : ℕ) (u : AnsweredUpdate) → At q u (n.answered ++ updated i o reply ∷ []) → IsRecorded E l.catalogue l.history c q u
+        answered q u h = ⊎_elim (λ old. w.answered c n q u here old) (λ t. last t.0 t.1 t.2) (at_joined n.answered (updated i o reply ∷ []) q u h)
           where
             plus_zero : (a b : ℕ) → b ≡ a + 0 → a ≡ b
             plus_zero a b e = omega (arith, e)
 
-            last : (j : ℕ) → q ≡ length n.answered + j → At j u (updated i o ∷ []) → At u.index (record { author = c; seq = q; op = u.op }) l.history
-            last zero e g = subst (λ (z : AnsweredUpdate). At z.index (record { author = c; seq = q; op = z.op }) l.history) (some-injective (updated i o) u g)
-                (subst (λ z. At i (record { author = c; seq = z; op = o.op }) l.history) (plus_zero (length n.answered) q e) there)
+            last : (j : ℕ) → q ≡ length n.answered + j → At j u (updated i o reply ∷ []) → IsRecorded E l.catalogue l.history c q u
+            last zero e g = subst (λ (z : AnsweredUpdate). IsRecorded E l.catalogue l.history c q z) (some-injective (updated i o reply) u g)
+                (subst (λ z. At i (record { author = c; seq = z; op = o.op }) l.history) (plus_zero (length n.answered) q e) there, told)
             last (suc j) e g = absurd (at_none j u g)
 
     ended_accounts : (o : Pending) → n.pending ≡ Some o → HasNoRecord l.history c (length n.answered) → IsUnclaimed ns c → Accounts E l (set ns c (answered_with n o.op Ended))
@@ -112,7 +116,7 @@ module _ {C M : Type 0} (E : Meaning C M) where
         accounted j r at e (inr h) = absurd (none j r at e h.3)
 
     pub collect_accounts : (o : Pending) (reply : Reply) → n.pending ≡ Some o → Answers E l c (length n.answered) o.op reply → IsUnclaimed ns c → Accounts E l (set ns c (answered_with n o.op reply))
-    collect_accounts o (Placed i reply) asked h free = placed_accounts o i reply asked h.1 free
+    collect_accounts o (Placed i reply) asked h free = placed_accounts o i reply asked h.1 h.2 free
     collect_accounts o Ended asked h free = ended_accounts o asked h.1 free
 
     -- the posted requests of its desk go to the session's batch

@@ -41,7 +41,7 @@ pub alike_self : (n : SessionNote) → Alike n n
 alike_self n = record { answered = refl; pending = refl }
 
 pub alike_accounts : (n m : SessionNote) (i : ℕ) (r : Record) → Alike n m → IsNoted n i r → IsNoted m i r
-alike_accounts n m i r a (inl h) = inl (subst (λ us. At r.seq (record { index = i; op = r.op }) us) a.answered h)
+alike_accounts n m i r a (inl h) = inl (h.0, subst (λ us. At r.seq (record { index = i; op = r.op; reply = h.0 }) us) a.answered h.1)
 alike_accounts n m i r a (inr h) = inr (h.0, sym a.pending ∙ h.1, h.2, h.3 ∙ ap length a.answered, h.4)
 
 pub alike_request : (n m : SessionNote) (r : Record) → Alike n m → IsRequest n r → IsRequest m r

@@ -136,7 +136,7 @@ module _ {C M : Type 0} (E : Meaning C M) where
         none i r at e q =
             let a = w.accounted i r at in
             let same : a.0 ≡ n = at_one ns c a.0 n (subst (λ z. At z a.0 ns) e a.1) here in
-            ⊎_elim (λ h. let b = at_below n.answered r.seq _ (subst (λ (z : SessionNote). At r.seq (record { index = i; op = r.op }) z.answered) same h) in omega (arith, b, q))
+            ⊎_elim (λ h. let b = at_below n.answered r.seq _ (subst (λ (z : SessionNote). At r.seq (record { index = i; op = r.op; reply = h.0 }) z.answered) same h.1) in omega (arith, b, q))
             (λ h. some_none h.0 a.0.pending h.1 (ap (λ (z : SessionNote). z.pending) same ∙ idle)) a.2
 
         free : IsUnclaimed ns c
@@ -165,7 +165,7 @@ module _ {C M : Type 0} (E : Meaning C M) where
         one_more a b c e f = omega (arith, e, f)
 
         count : (r : Reply) → counted r slot.count ≡ length (answered_with n o.op r).answered
-        count (Placed i r) = one_more slot.count (length n.answered) _ (told s slot (own s is) at).0 (length-append n.answered (record { index = i; op = o.op } ∷ []))
+        count (Placed i r) = one_more slot.count (length n.answered) _ (told s slot (own s is) at).0 (length-append n.answered (record { index = i; op = o.op; reply = r } ∷ []))
         count Ended = (told s slot (own s is) at).0
 
     claim_puts : ((s : ℕ) (slot : Slot) → At s slot x.slots → slot.stage ≢ Claimed) → n.batch ≡ [] → (n' : SessionNote) → n' ≡ record n { batch = unplaced (batch_of x).records } → DeskMove E x c l n n' × DeskAgrees E l (set ns c n') (claimed x)

@@ -2,7 +2,7 @@
 use Rattle.std.specs.Prelude.{◌≡◌, ◌≢◌, ℕ, ◌<◌, ◌≤◌, ◌⊎◌, true, List, ◌++◌, length, Some, None}
 use Rattle.ownlock.specs.Seats.{At}
 use Rattle.oplog.specs.declared.records.Record.{Record}
-use Rattle.oplog.specs.History.{Meaning, History}
+use Rattle.oplog.specs.History.{Meaning, History, reply_at}
 use Rattle.oplog.specs.Operations.{Operation}
 use Rattle.oplog.specs.Sessions.{IsSessionOf}
 use Rattle.accounts.specs.declared.sessions.Progress.{Progress}
@@ -18,7 +18,7 @@ HasNoRecord history author seq = (i : ℕ) (r : Record) → At i r history → r
 -- the session of this note was answered the record r at place i, or waits for it
 abbrev pub IsNoted : SessionNote → ℕ → Record → Type 0
 IsNoted n i r =
-    At r.seq (record { index = i; op = r.op }) n.answered
+    ((reply : ℕ) × At r.seq (record { index = i; op = r.op; reply = reply }) n.answered)
     ⊎ ((o : Pending) × (n.pending ≡ Some o) × (r.op ≡ o.op) × (r.seq ≡ length n.answered) × (o.seen ≤ i))
 
 -- the record is the request that the session of this note waits for
@@ -42,6 +42,10 @@ module _ {C M : Type 0} (E : Meaning C M) where
   abbrev pub IsAllowed : C → Operation → Type 0
   IsAllowed c op = E.is_update c op ≡ true
 
+  -- the q-th update that session a was answered has its record at its index, and its reply is the one that the operation gets there
+  abbrev pub IsRecorded : C → History → ℕ → ℕ → AnsweredUpdate → Type 0
+  IsRecorded c history a q u = At u.index (record { author = a; seq = q; op = u.op }) history × (reply_at E c history u.index u.op ≡ Some u.reply)
+
   -- the progress is one of its catalogue and its sizes: each operation is allowed, and no more is completed than the history has, which is within the limit
   pub record IsWellFormed (l : Progress C) : Type 0 where
     pub allowed : (i : ℕ) (r : Record) → At i r l.history → IsAllowed l.catalogue r.op
@@ -55,8 +59,8 @@ module _ {C M : Type 0} (E : Meaning C M) where
     pub accounted : (i : ℕ) (r : Record) → At i r l.history → (n : SessionNote) × At r.author n ns × IsNoted n i r
     -- the numbers of a session's records rise
     pub ordered : (i j : ℕ) (r s : Record) → At i r l.history → At j s l.history → i < j → r.author ≡ s.author → r.seq < s.seq
-    -- each answered update has its record
-    pub answered : (a : ℕ) (n : SessionNote) (q : ℕ) (u : AnsweredUpdate) → At a n ns → At q u n.answered → At u.index (record { author = a; seq = q; op = u.op }) l.history
+    -- each answered update has its record, and the reply of there
+    pub answered : (a : ℕ) (n : SessionNote) (q : ℕ) (u : AnsweredUpdate) → At a n ns → At q u n.answered → IsRecorded l.catalogue l.history a q u
     -- each request that a session waits for is allowed, and began when the history was no longer than it is
     pub pending : (a : ℕ) (n : SessionNote) (o : Pending) → At a n ns → n.pending ≡ Some o → IsAllowed l.catalogue o.op × (o.seen ≤ length l.history)
     -- each request of a batch is one that its session waits for, and of the node of who combines it

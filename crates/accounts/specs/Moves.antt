@@ -38,7 +38,7 @@ unplaced rs = map (λ r. record { request = r; index = None }) rs
 
 -- the note once the session has its answer
 abbrev pub answered_with : SessionNote → Operation → Reply → SessionNote
-answered_with n op (Placed i reply) = record n { answered = n.answered ++ record { index = i; op = op } ∷ []; pending = None }
+answered_with n op (Placed i reply) = record n { answered = n.answered ++ record { index = i; op = op; reply = reply } ∷ []; pending = None }
 answered_with n op Ended = record n { pending = None }
 
 -- what session c may hold at once, the one taken last first: nothing, the desk of its node alone, the replica of its node, the log, or these two

@@ -3,7 +3,7 @@ use Rattle.std.specs.Prelude.{◌≡◌, ℕ, suc, ◌<◌, ◌≤◌, ◌==◌,
 use Rattle.ownlock.specs.Seats.{At}
 use Rattle.oplog.specs.Operations.{Operation}
 use Rattle.oplog.specs.declared.records.Record.{Record}
-use Rattle.oplog.specs.History.{Meaning, History, read_reply_at}
+use Rattle.oplog.specs.History.{Meaning, History, reply_at, read_reply_at}
 use Rattle.accounts.specs.declared.sessions.Progress.{Progress}
 use Rattle.accounts.specs.declared.sessions.Pending.{Pending}
 use Rattle.accounts.specs.declared.sessions.AnsweredUpdate.{AnsweredUpdate}
@@ -26,9 +26,9 @@ abbrev pub numbered : ℕ → ℕ → List AnsweredUpdate → History
 numbered a seq [] = []
 numbered a seq (u ∷ us) = record { author = a; seq = seq; op = u.op } ∷ numbered a (suc seq) us
 
--- the note, once the session was answered op at place i; it waits for nothing then, and combines nothing
-abbrev pub note_with : SessionNote → ℕ → Operation → SessionNote
-note_with n i op = record { answered = n.answered ++ record { index = i; op = op } ∷ []; pending = None; batch = [] }
+-- the note, once the session was answered op at place i with that reply; it waits for nothing then, and combines nothing
+abbrev pub note_with : SessionNote → ℕ → Operation → ℕ → SessionNote
+note_with n i op reply = record { answered = n.answered ++ record { index = i; op = op; reply = reply } ∷ []; pending = None; batch = [] }
 
 module _ {C M : Type 0} (E : Meaning C M) where
   -- the answer to the request o of session c, its next by this number, is right, and its place is not before the history's length at the call
@@ -40,6 +40,17 @@ module _ {C M : Type 0} (E : Meaning C M) where
   -- end, and the reply is the one after the operations before that point
   abbrev pub ReadTells : Progress C → ℕ → Operation → ℕ → ℕ → Type 0
   ReadTells l begun op point reply = (begun ≤ point) × (point ≤ l.completed) × (read_reply_at E l.catalogue l.history point op ≡ Some reply)
+
+  -- the q-th update u that session a was answered stands once in the history: at its index, with the reply that it gets there, and nowhere else
+  pub record StandsOnce (l : Progress C) (a q : ℕ) (u : AnsweredUpdate) : Type 0 where
+    pub there : At u.index (record { author = a; seq = q; op = u.op }) l.history
+    pub reply : reply_at E l.catalogue l.history u.index u.op ≡ Some u.reply
+    pub once : (i : ℕ) (r : Record) → At i r l.history → r.author ≡ a → r.seq ≡ q → i ≡ u.index
+
+  -- so does each update that any session was answered
+  abbrev pub AnsweredStand : Type 0
+  AnsweredStand =
+      (l : Progress C) (ns : List SessionNote) → Accounts E l ns → (a : ℕ) (n : SessionNote) (q : ℕ) (u : AnsweredUpdate) → At a n ns → At q u n.answered → StandsOnce l a q u
 
   -- what a desk has for a session is so
   abbrev pub DeskTells : Type 0

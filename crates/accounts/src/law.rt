@@ -3,7 +3,7 @@ ghost use Rattle.ownlock.specs.Rules.{Laws};
 ghost use Rattle.accounts.specs.Moves.{desk_rules};
 ghost use Rattle.accounts.specs.DeskSteps.{DeskPuts, DeskMayPut};
 ghost use Rattle.accounts.specs.LogSteps.{LogPuts, ReplicaPuts, Opens, BatchAppends};
-ghost use Rattle.accounts.specs.Told.{DeskTells, Ends};
+ghost use Rattle.accounts.specs.Told.{AnsweredStand, DeskTells, Ends};
 ghost use Rattle.accounts.specs.StoreRules.{IsStoreRules, IsNoting};
 ghost use Rattle.accounts.specs.Tellings.{TailIs, Replays, ReplayedAgrees, PlacedTells, ReadsTell, EndedTells};
 ghost use Rattle.accounts.specs.Putting.{the_rules, StoreOpens, AgreesLog, AgreesReplica, MayTakeFirst, MayTakeSecond, MayTakeDesk, TakesLog, TakesReplica, TakesItsReplica, TakesDesk, SameMayPut, LogMayPut, ReplicaMayPut, SeenDeskMayPut};
@@ -35,10 +35,12 @@ pub fn opens<E: Effects>()
     ensures { Opens E.meaning }
 {}
 
-/// What a desk has for a session is so; and in the end the records of each session are its answered updates in order, and no
-/// record is of anybody else.
+/// What a desk has for a session is so; each update that a session was answered stands once in the history, at its index, with the
+/// reply that it gets there; and in the end the records of each session are its answered updates in order, and no record is of
+/// anybody else.
 pub fn tells<E: Effects>()
     ensures desk { DeskTells E.meaning }
+    ensures stand { AnsweredStand E.meaning }
     ensures ends { Ends E.meaning }
 {}
 

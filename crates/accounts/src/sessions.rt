@@ -20,10 +20,11 @@ pub struct Pending {
     pub seen: u64,
 }
 
-/// An update that a session was answered, and its index in the history.
+/// An update that a session was answered, its index in the history, and the reply that it was answered with.
 pub struct AnsweredUpdate {
     pub index: u64,
     pub op: Op,
+    pub reply: u64,
 }
 
 /// A request of a combiner's batch, and its index in the history once it is appended.

@@ -217,7 +217,7 @@ module _ (old new : S) (caller : Caller) (b : BatchView) (kept : RepliesView) (k
       same_batch Ended = alone
 
       fits : (reply : Reply) → Tells store_meaning m.progress k.session (length k.note.answered) o reply → length (answered_with k.note o.op reply).answered ≤ length m.progress.history
-      fits (Placed i x) t = let more = length-append k.note.answered (record { index = i; op = o.op } ∷ []) in let far = t.0 in let lt = t.1.0 in let top = h.back.stands.accounts.completed in let small = a.before in omega (arith, more, far, lt, top, small)
+      fits (Placed i x) t = let more = length-append k.note.answered (record { index = i; op = o.op; reply = x } ∷ []) in let far = t.0 in let lt = t.1.0 in let top = h.back.stands.accounts.completed in let small = a.before in omega (arith, more, far, lt, top, small)
       fits Ended t = let long = grown_long store_meaning k.progress m.progress h.back.extends in let small = a.within in omega (arith, long, small)
 
 -- ---- a post

@@ -19,7 +19,7 @@ use Rattle.accounts.specs.declared.sessions.SessionNote.{SessionNote}
 use Rattle.accounts.specs.Accounts.{Extends, IsWellFormed}
 use Rattle.accounts.specs.Agreement.{LogAgrees, ReplicaAgrees}
 use Rattle.accounts.specs.LogSteps.{fresh_note}
-use Rattle.accounts.proofs.Ended.{ends}
+use Rattle.accounts.proofs.Ended.{ends, stand}
 use Rattle.accounts.proofs.Lists.{at_none}
 use Rattle.accounts.proofs.Puts.{at_there}
 use Rattle.accounts.proofs.Tellings.{tail_is}
@@ -200,6 +200,7 @@ module _ (store : StoreView) (sessions : List SessionView) (view : List SessionK
     nodes = many_seen p.nodes ∙ p.many;
     replica_is = λ i r at. let m = seen_is p.nodes i r at in subst (λ z. ReplicaAgrees store_meaning l (replica_value z)) m.2 (p.fit i m.0 m.1).0;
     replica_sizes = λ i r at. let m = seen_is p.nodes i r at in ap (λ (z : ReplicaView). sizes_of z.state) (sym m.2) ∙ ((p.fit i m.0 m.1).1 ∙ ap sizes_for catalogue_is);
-    answered = λ j s at. (ends store_meaning l a.1 a.2).0 s.session s.note (mine j s at).1 (idle j s at);
+    records = λ j s at. (ends store_meaning l a.1 a.2).0 s.session s.note (mine j s at).1 (idle j s at);
+    answered = λ j q s u at there. stand store_meaning l a.1 a.2 s.session s.note q u (mine j s at).1 there;
     authors = author_of;
   })

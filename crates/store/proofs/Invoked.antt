@@ -93,7 +93,7 @@ module _ (k f : K) (op : Operation) (reply : Reply) (v : Invoked k f op reply) w
       low = subst (λ (z : K). length z.note.answered ≤ length z.progress.history) same i.within
 
       fits : (reply : Reply) → Tells store_meaning f.progress k.session (length k.note.answered) (request_of k.progress op) reply → length (answered_with k.note op reply).answered ≤ length f.progress.history
-      fits (Placed i x) t = let more = length-append k.note.answered (record { index = i; op = op } ∷ []) in let far = t.0 in let lt = t.1.0 in let top = v.stands.accounts.completed in let small = low in omega (arith, more, far, lt, top, small)
+      fits (Placed i x) t = let more = length-append k.note.answered (record { index = i; op = op; reply = x } ∷ []) in let far = t.0 in let lt = t.1.0 in let top = v.stands.accounts.completed in let small = low in omega (arith, more, far, lt, top, small)
       fits Ended t = let long = grown_long store_meaning k.progress f.progress v.extends in let small = low in omega (arith, long, small)
 
       ap_length : length (answered_with k.note op reply).answered ≤ length f.progress.history → length f.note.answered ≤ length f.progress.history
@@ -132,5 +132,5 @@ module _ (store : StoreView) (old new : SessionView) (id shelf : ShelfId) (k f :
   tells_update free alone = both (λ a b. TellsUpdate a b op (said reply)) (by reply v.tells v.note)
     where
       by : (reply : Reply) → Tells store_meaning f.progress k.session (length k.note.answered) (request_of k.progress op) reply → f.note ≡ answered_with k.note op reply → TellsUpdate (view_known id k) (view_known shelf f) op (said reply)
-      by (Placed i x) t note = (t, note ∙ λ j. record { answered = k.note.answered ++ record { index = i; op = op } ∷ []; pending = None; batch = alone j })
+      by (Placed i x) t note = (t, note ∙ λ j. record { answered = k.note.answered ++ record { index = i; op = op; reply = x } ∷ []; pending = None; batch = alone j })
       by Ended t note = (refl, t, note ∙ λ j. record k.note { pending = sym free j })

@@ -12,10 +12,11 @@ use Rattle.oplog.specs.Logs.{Log, opened_log, tail_of}
 use Rattle.replica.specs.StoreMeaning.{AreUpdates, store_meaning}
 use Rattle.oplog.specs.Codes.{log_code}
 use Rattle.replica.specs.Views.{ReplicaView, replica_code}
+use Rattle.accounts.specs.declared.sessions.AnsweredUpdate.{AnsweredUpdate}
 use Rattle.accounts.specs.declared.sessions.Progress.{Progress}
 use Rattle.accounts.specs.Accounts.{Extends, IsWellFormed}
 use Rattle.accounts.specs.Agreement.{LogAgrees, ReplicaAgrees}
-use Rattle.accounts.specs.Told.{records_of, numbered}
+use Rattle.accounts.specs.Told.{StandsOnce, records_of, numbered}
 use Rattle.node.specs.declared.following.NodeReplica.{NodeReplica}
 use Rattle.store.specs.declared.values.Value.{Value}
 use Rattle.store.specs.declared.values.Value.TheVariants.{Log as LogPlace, Replica}
@@ -95,6 +96,8 @@ pub record IsClosed (store : StoreView) (sessions : List SessionView) (closed : 
   pub nodes : length closed.replicas ≡ store.config.nodes
   pub replica_is : (node : ℕ) (r : ReplicaView) → At node r closed.replicas → ReplicaAgrees store_meaning progress (replica_value r)
   pub replica_sizes : (node : ℕ) (r : ReplicaView) → At node r closed.replicas → sizes_of r.state ≡ sizes_for store.catalogue
-  -- the records of each session are its answered updates in order, and there are no others
-  pub answered : (a : ℕ) (s : SessionView) → At a s sessions → records_of s.session progress.history ≡ numbered s.session 0 s.note.answered
+  -- the records of each session are its answered updates in order, and there are no others; each stands once, at its index, with the reply that
+  -- it gets there
+  pub records : (a : ℕ) (s : SessionView) → At a s sessions → records_of s.session progress.history ≡ numbered s.session 0 s.note.answered
+  pub answered : (a q : ℕ) (s : SessionView) (u : AnsweredUpdate) → At a s sessions → At q u s.note.answered → StandsOnce store_meaning progress s.session q u
   pub authors : (i : ℕ) (r : Record) → At i r progress.history → (a : ℕ) × (s : SessionView) × At a s sessions × (r.author ≡ s.session)

@@ -135,7 +135,7 @@ pub record IsReadBy (k after : SessionKnown) (op : Operation) (answer : ReadAnsw
 -- an answered update: its request has that index in the history and that reply there, and the session counts it
 abbrev pub TellsAnswered : (old new : SessionView) → Operation → Answer → Type 0
 TellsAnswered old new op a =
-    Tells store_meaning new.progress old.session (length old.note.answered) (request_of old.progress op) (Placed a.index a.reply) × (new.note ≡ note_with old.note a.index op)
+    Tells store_meaning new.progress old.session (length old.note.answered) (request_of old.progress op) (Placed a.index a.reply) × (new.note ≡ note_with old.note a.index op a.reply)
 
 -- an ended update: S4, the history has its last record, and none of this request, and the session counts nothing
 abbrev pub TellsEnded : (old new : SessionView) → Operation → StoreRefused → Type 0

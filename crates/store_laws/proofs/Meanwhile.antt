@@ -4,6 +4,8 @@ use Rattle.std.proofs.lemmas.List.{length-replicate}
 use Rattle.ownlock.specs.Invariant.{LockInvariant}
 use Rattle.ownlock.specs.Between.{Between}
 use Rattle.ownlock.proofs.Laws.{between}
+use Rattle.accounts.proofs.Ended.{stand}
+use Rattle.replica.specs.StoreMeaning.{store_meaning}
 use Rattle.store.specs.declared.values.Setup.{Setup}
 use Rattle.store.specs.Shelving.{store_rules, store_opening, sessions_of}
 use Rattle.store_laws.specs.Meanwhile.{StoreState, Meanwhile}
@@ -20,6 +22,7 @@ meanwhile opening s r = told (between store_rules (store_opening opening) s r)
       notes = b.1;
       count = b.5 ∙ length-replicate (sessions_of opening.config) _;
       accounts = b.2;
+      answered = λ a q n u at there. stand store_meaning b.0 b.1 b.2 a n q u at there;
       grown = λ j i v k at_j at_i. (b.7 j i v k at_j at_i).0;
       noted = λ j i v k at_j at_i. (b.7 j i v k at_j at_i).1;
       holds = λ j i v k at_j at_i. (b.7 j i v k at_j at_i).2;

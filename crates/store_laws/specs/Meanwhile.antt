@@ -8,11 +8,13 @@ use Rattle.ownlock.specs.Words.{word_of, completed_word, slot_of}
 use Rattle.ownlock.specs.Seats.{At, View, place_of}
 use Rattle.ownlock.specs.Between.{Holds, HeldByNobody, HeldOnce}
 use Rattle.replica.specs.StoreMeaning.{store_meaning}
+use Rattle.accounts.specs.declared.sessions.AnsweredUpdate.{AnsweredUpdate}
 use Rattle.accounts.specs.declared.sessions.Progress.{Progress}
 use Rattle.accounts.specs.declared.sessions.SessionNote.{SessionNote}
 use Rattle.accounts.specs.Accounts.{Accounts, Extends}
 use Rattle.accounts.specs.Agreement.{AgreesWith, log_place}
 use Rattle.accounts.specs.Moves.{MayHold}
+use Rattle.accounts.specs.Told.{StandsOnce}
 use Rattle.store.specs.declared.values.Setup.{Setup}
 use Rattle.store.specs.declared.values.Value.{Value}
 use Rattle.store.specs.Shelving.{view_of, IsSized, places_of}
@@ -43,6 +45,8 @@ pub record Meanwhile (opening : Setup) (s : StoreState) : Type 0 where
   pub count : length notes ≡ opening.config.nodes * opening.config.slots
   -- they account for one another
   pub accounts : Accounts store_meaning progress notes
+  -- each answered update stands once in the history, at its index, with the reply that it gets there
+  pub answered : (a q : ℕ) (n : SessionNote) (u : AnsweredUpdate) → At a n notes → At q u n.answered → StandsOnce store_meaning progress a q u
   -- the history has grown from what each session knows, whose note is its own, and which holds no more than it may
   pub grown : (j i : ℕ) (v : List StoreKnown) (k : StoreKnown) → At j v s.views → At i k v → Extends k.progress progress
   pub noted : (j i : ℕ) (v : List StoreKnown) (k : StoreKnown) → At j v s.views → At i k v → At k.session k.note notes

@@ -106,7 +106,7 @@ module _ (old new : SessionView) (t : Told) (asked : IsAsked old new t) (before 
 
   module _ (a : Answer) (is : t.said ≡ told.Updated a) (noted : IsNoted old new (told.Updated a)) where
     abbrev one : AnsweredUpdate
-    one = record { index = a.index; op = noted.0 }
+    one = record { index = a.index; op = noted.0; reply = a.reply }
 
     its_line : (i : ℕ) → is_at i (said_of t.said) ≡ eqb a.index i
     its_line i = ap (λ said. is_at i (said_of said)) is
@@ -190,7 +190,7 @@ none_told s none = record { so = All-nil (IsSoIn s.progress); before = All-nil (
 
 module _ (old new : SessionView) (t : Told) (op : Operation) (asks : Asks (called t.call.now) op) (same : new.session ≡ old.session) (grown : Extends old.progress new.progress)
     (well : IsWellFormed store_meaning new.progress) where
-  pub updated : (a : Answer) → Tells store_meaning new.progress old.session (length old.note.answered) (request_of old.progress op) (Placed a.index a.reply) × (new.note ≡ note_with old.note a.index op)
+  pub updated : (a : Answer) → Tells store_meaning new.progress old.session (length old.note.answered) (request_of old.progress op) (Placed a.index a.reply) × (new.note ≡ note_with old.note a.index op a.reply)
       → IsAsked old new (record t { said = told.Updated a })
   updated a h = record {
     session = same;
@@ -360,7 +360,7 @@ module _ (store : StoreView) (sessions : List SessionView) (closed : ClosedView)
   shown_at i r at =
       let author = is.authors i r at in
       let s = author.1 in
-      let own = is.answered author.0 s author.2 in
+      let own = is.records author.0 s author.2 in
       let one = is_numbered s.session 0 s.note.answered l.history own i r at author.3 in
       let shown = all.shown author.0 s author.2 one.0 one.1 one.2 in
       let number : r.seq ≡ one.0 = ap (λ (z : Record). z.seq) one.3 ∙ (let e : 0 + one.0 ≡ one.0 = omega arith in e) in

@@ -148,9 +148,9 @@ abbrev pub update_said : Result Answer StoreRefused → Said
 update_said (Ok a) = told.Updated a
 update_said (Err e) = told.Ended
 
--- the answer to an update is in the session's note, with its record in the history
+-- the answer to an update is in the session's note, with its reply, and its record is in the history
 abbrev pub IsNoted : (old new : SessionView) → Said → Type 0
-IsNoted old new (told.Updated a) = (op : Operation) × (new.note.answered ≡ old.note.answered ++ record { index = a.index; op = op } ∷ [])
+IsNoted old new (told.Updated a) = (op : Operation) × (new.note.answered ≡ old.note.answered ++ record { index = a.index; op = op; reply = a.reply } ∷ [])
     × At a.index (record { author = old.session; seq = length old.note.answered; op = op }) new.progress.history
 IsNoted old new (told.Seen a) = new.note.answered ≡ old.note.answered
 IsNoted old new told.Ended = new.note.answered ≡ old.note.answered
