@@ -2,3 +2,5 @@
 pub mod Meanwhile
 -- Whole calls are steps of the schedule.
 pub mod InOrder
+-- Calls that begin when others have returned.
+pub mod Behind

@@ -2,3 +2,5 @@
 pub mod Meanwhile
 -- What a whole call does, step by step.
 pub mod InOrder
+-- Calls that begin when others have returned.
+pub mod Behind

@@ -4,6 +4,7 @@ ghost use Rattle.ownlock.specs.Invariant.{LockInvariant};
 ghost use Rattle.combiner.specs.Desks.{DeskView};
 ghost use Rattle.schedule.specs.declared.parts.BegunRead.{BegunRead};
 ghost use Rattle.schedule.specs.declared.parts.Opening.{Opening};
+ghost use Rattle.store_laws.specs.Behind.{ReadsStandBehind, UpdatesStandBehind};
 ghost use Rattle.store_laws.specs.InOrder.{CombinesInOrder, ReadsInOrder, WholeCombine, WholeRead};
 ghost use Rattle.store.specs.declared.values.Setup.{Setup};
 ghost use Rattle.store.specs.Shelving.{store_rules, store_opening};
@@ -16,6 +17,14 @@ ghost use Rattle.store_laws.specs.Meanwhile.{Meanwhile, StoreState};
 /// table below the shelf, which each atomic step keeps, says so of any opening: of any number of nodes and slots.
 pub fn between_steps()
     ensures { (opening : Setup) (s : StoreState) → LockInvariant store_rules (store_opening opening) s → Meanwhile opening s }
+{}
+
+/// A call that begins when another has returned stands behind it. An update whose session waits for nothing gets a place behind all
+/// that any other session knows when it begins, so behind the place or the point of each call that had returned to that; and a read
+/// loads a completed tail that is not below what any session then knows to be completed, and answers at no point below it.
+pub fn stands_behind()
+    ensures update { UpdatesStandBehind }
+    ensures read { ReadsStandBehind }
 {}
 
 /// A whole combine, as `store` promises it, is a list of the schedule's steps of its node: it may rebase, it makes room if it must (replay,

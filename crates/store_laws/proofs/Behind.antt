@@ -1,0 +1,49 @@
+-- Calls that begin when others have returned stand behind them.
+use Rattle.std.proofs.Common.{◌≡◌, ℕ, length, None, sym, ap, subst, ⊎_elim, arith}
+use Rattle.std.proofs.lemmas.Bool.{cases_lt}
+use Rattle.ownlock.specs.Seats.{At}
+use Rattle.loader.specs.CatalogueView.{CatalogueView}
+use Rattle.oplog.specs.declared.records.Record.{Record}
+use Rattle.accounts.specs.declared.sessions.Progress.{Progress}
+use Rattle.accounts.specs.Accounts.{Extends}
+use Rattle.accounts.proofs.Kept.{no_next}
+use Rattle.accounts.proofs.Lists.{at_front, at_one}
+use Rattle.accounts.proofs.Puts.{at_there}
+use Rattle.replica.specs.StoreMeaning.{store_meaning}
+use Rattle.store.specs.declared.values.Setup.{Setup}
+use Rattle.store_laws.specs.Meanwhile.{Meanwhile, StoreKnown, StoreState}
+use Rattle.store_laws.specs.Behind.{Knows, ReadsStandBehind, UpdatesStandBehind}
+
+abbrev L : Type 0
+L = Progress CatalogueView
+
+-- a record stands where it stood once the history has grown
+at_grown : (a b : L) → Extends a b → (i : ℕ) (r : Record) → At i r a.history → At i r b.history
+at_grown a b grown i r at = subst (At i r) (sym grown.history.1) (at_front a.history grown.history.0 i r at)
+
+module _ (opening : Setup) (s : StoreState) (m : Meanwhile opening s) where
+  grows : (k : StoreKnown) → Knows s k → Extends k.progress m.progress
+  grows k h = m.grown h.0 h.1 h.2 k h.3 h.4
+
+  -- a session that waits for nothing has no record of its next update
+  no_record : (k : StoreKnown) → Knows s k → k.note.pending ≡ None → (i : ℕ) (r : Record) → At i r m.progress.history → r.author ≡ k.session → r.seq ≡ length k.note.answered → ⊥
+  no_record k h idle = no_next store_meaning m.progress m.notes k.session k.note m.accounts (m.noted h.0 h.1 h.2 k h.3 h.4) idle
+
+-- two records that stand at one place of a later history are one
+same_place : (a b c : L) → Extends a c → Extends b c → (i : ℕ) (r x : Record) → At i r a.history → At i x b.history → x ≡ r
+same_place a b c from_a from_b i r x at there = at_one c.history i x r (at_grown b c from_b i x there) (at_grown a c from_a i r at)
+
+pub updates_stand_behind : UpdatesStandBehind
+updates_stand_behind opening begun last asker k told still a b is_asker is_k is_told is_still on idle place op at =
+    ⊎_elim (λ lt. absurd (earlier (at_there k.progress.history place lt))) (λ le. le) (cases_lt place (length k.progress.history))
+  where
+    -- whatever stood there before is that record
+    earlier : (x : Record) × At place x k.progress.history → ⊥
+    earlier x =
+        let same = same_place told.progress still.progress b.progress (grows opening last b told is_told) (grows opening last b still is_still) place _ x.0 at
+        (at_grown k.progress still.progress on place x.0 x.1) in
+        no_record opening begun a asker is_asker idle place x.0 (at_grown k.progress a.progress (grows opening begun a k is_k) place x.0 x.1)
+        (ap (λ (z : Record). z.author) same) (ap (λ (z : Record). z.seq) same)
+
+pub reads_stand_behind : ReadsStandBehind
+reads_stand_behind opening s k m is = let low = (grows opening s m k is).completed in let word = m.completed in omega (arith, low, word)
