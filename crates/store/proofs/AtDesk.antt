@@ -3,7 +3,7 @@ use Rattle.std.proofs.Common.{◌≡◌, ℕ, suc, ◌+◌, ◌<◌, ◌^◌, []
 use mathlib.Core.Bool.{Bool, true, false}
 use Rattle.std.proofs.lemmas.Bool.{cases_lt}
 use Rattle.std.proofs.lemmas.List.{length-map}
-use Rattle.std.specs.Option.{option_and_then}
+use Rattle.std.specs.Option.{IsSome, option_and_then}
 use Rattle.ownlock.specs.Seats.{At}
 use Rattle.oplog.specs.Operations.{Operation}
 use Rattle.combiner.specs.Slots.{is_empty, slot as slot_with}
@@ -105,14 +105,14 @@ has_one x e = by (has_combiner x) (has_request x) e
 pub claim_turn : (slot : ℕ) (x x2 y : DeskView) (batch : BatchView) (t : Turn) → x2 ≡ x → collected slot x ≡ None → IsClaim x2 y batch t → IsTurn slot x y batch t
 claim_turn slot x x2 y batch (Collects reply) same none c = absurd c
 claim_turn slot x x2 y batch Combines same none c = let t = subst (λ z. (has_combiner z ≡ false) × (has_request z ≡ true) × (y ≡ claimed z) × (batch ≡ batch_of z)) same c in (none, t.0, t.1, t.2, t.3)
-claim_turn slot x x2 y batch Waits same none c = (none, c ∙ same)
+claim_turn slot x x2 y batch Waits same none c = let t = subst (λ z. IsSome (claim_refusal z) × (y ≡ z)) same c in (none, t.0, t.1)
 
 pub turn_steps : (slot : ℕ) (k : SessionKnown) (o : Pending) (x y : DeskView) (batch : BatchView) (t : Turn) → IsTurn slot x y batch t → IsAt slot k x → HasAsked k o → TurnSteps k o x y batch t
 turn_steps slot k o x y batch (Collects reply) t i asked =
     let c = collected_is slot reply x y t in
     (CollectStep slot o reply i.own asked.pending refl t, answered store_meaning k.progress i.notes k.session k.note x slot c.0 o reply i.accounts i.here i.agrees i.own c.1 c.2 asked.pending)
 turn_steps slot k o x y batch Combines t i asked = (ClaimStep t.1 asked.alone (ap (λ b. record k.note { batch = unplaced b.records }) t.4) t.3, subst (λ b. Ascend b.records) (sym t.4) (claims_ascend x))
-turn_steps slot k o x y batch Waits t i asked = t.1
+turn_steps slot k o x y batch Waits t i asked = t.2
 
 -- ---- reply
 

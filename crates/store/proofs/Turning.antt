@@ -183,8 +183,8 @@ module _ (caller : Caller) (k t : K) (p : ℕ) (v w : Value) (o : Pending) (b : 
             steps.1,
           ))
       by Waits i =
-          let same : view_of w ≡ view_of v = isw ∙ (ap TheDesk i.1 ∙ sym b.seen) in
-          let deed = look_deed y isw i.0 i.1 in record {
+          let same : view_of w ≡ view_of v = isw ∙ (ap TheDesk i.2 ∙ sym b.seen) in
+          let deed = look_deed y isw i.0 i.2 in record {
             may = subst (λ d. DeskMayBePut d sessions t p w) (sym deed) (may_put_same_desk caller k t p v b sessions is w same);
             back = λ l ns can.
                 let f = back_same_desk caller k t p v b sessions is w same l ns can in

@@ -1,10 +1,10 @@
 -- A session at its node's desk while that is lent to it: what it may find there, and what its calls are.
-use Rattle.std.specs.Prelude.{◌≡◌, ℕ, suc, ◌+◌, ◌<◌, ◌≤◌, ◌^◌, List, [], map, length, Some, None, slice_get, true, false}
+use Rattle.std.specs.Prelude.{◌≡◌, ℕ, suc, ◌+◌, ◌<◌, ◌≤◌, ◌^◌, List, [], map, length, Some, None, IsSome, slice_get, true, false}
 use Rattle.ownlock.specs.Seats.{At}
 use Rattle.oplog.specs.declared.configuration.TheConstants.{MAX_LIMIT}
 use Rattle.oplog.specs.Operations.{Operation}
 use Rattle.oplog.specs.Sessions.{session}
-use Rattle.combiner.specs.Desks.{DeskView, BatchView, batch_of, claimed, collected, has_combiner, has_request}
+use Rattle.combiner.specs.Desks.{DeskView, BatchView, batch_of, claim_refusal, claimed, collected, has_combiner, has_request}
 use Rattle.combiner.specs.declared.slots.Reply.{Reply}
 use Rattle.replica.specs.StoreMeaning.{store_meaning}
 use Rattle.replica.specs.Views.{RepliesView}
@@ -59,11 +59,11 @@ abbrev pub PostSteps : SessionKnown → Operation → DeskView → DeskView → 
 PostSteps k op x y = Steps k x (record k.note { pending = Some (request_of k.progress op) }) y
 
 -- what a session did that looked for its answer: it collected the one that waits; else it claimed all posted requests, where nobody
--- combines, and the batch has them; else nothing
+-- combines, and the batch has them; else nothing, where nothing may be claimed
 abbrev pub IsTurn : ℕ → DeskView → DeskView → BatchView → Turn → Type 0
 IsTurn slot x y batch (Collects reply) = collected slot x ≡ Some (record { reply = reply; desk = y })
 IsTurn slot x y batch Combines = (collected slot x ≡ None) × (has_combiner x ≡ false) × (has_request x ≡ true) × (y ≡ claimed x) × (batch ≡ batch_of x)
-IsTurn slot x y batch Waits = (collected slot x ≡ None) × (y ≡ x)
+IsTurn slot x y batch Waits = (collected slot x ≡ None) × IsSome (claim_refusal x) × (y ≡ x)
 
 -- which is a step of the session: what it collects it may say of its request, and the batch is by ascending authors
 abbrev pub TurnSteps : SessionKnown → Pending → DeskView → DeskView → BatchView → Turn → Type 0
@@ -75,7 +75,7 @@ TurnSteps k o x y batch Waits = y ≡ x
 abbrev pub IsClaim : DeskView → DeskView → BatchView → Turn → Type 0
 IsClaim x y batch (Collects reply) = ⊥
 IsClaim x y batch Combines = (has_combiner x ≡ false) × (has_request x ≡ true) × (y ≡ claimed x) × (batch ≡ batch_of x)
-IsClaim x y batch Waits = y ≡ x
+IsClaim x y batch Waits = IsSome (claim_refusal x) × (y ≡ x)
 
 -- the lent batch changes only where the session combines
 abbrev pub KeepsBatch : BatchView → BatchView → Turn → Type 0

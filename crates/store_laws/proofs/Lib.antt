@@ -4,3 +4,5 @@ pub mod Meanwhile
 pub mod InOrder
 -- Calls that begin when others have returned.
 pub mod Behind
+-- A desk's steps are the schedule's.
+pub mod AtDesks

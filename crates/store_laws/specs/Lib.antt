@@ -4,3 +4,5 @@ pub mod Meanwhile
 pub mod InOrder
 -- Calls that begin when others have returned.
 pub mod Behind
+-- What a session does at its desk, in the words of the schedule.
+pub mod AtDesks

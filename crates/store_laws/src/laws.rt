@@ -1,9 +1,13 @@
 // The laws.
 ghost use Rattle.std.specs.Prelude.{ℕ, List, Option};
 ghost use Rattle.ownlock.specs.Invariant.{LockInvariant};
+ghost use Rattle.oplog.specs.Logs.{Log};
+ghost use Rattle.oplog.specs.Operations.{Operation};
 ghost use Rattle.combiner.specs.Desks.{DeskView};
 ghost use Rattle.schedule.specs.declared.parts.BegunRead.{BegunRead};
 ghost use Rattle.schedule.specs.declared.parts.Opening.{Opening};
+ghost use Rattle.schedule.specs.Worlds.{NodeView};
+ghost use Rattle.store_laws.specs.AtDesks.{ClaimsThere, CollectsThere, IsItsOwn, PostsThere};
 ghost use Rattle.store_laws.specs.Behind.{ReadsStandBehind, UpdatesStandBehind};
 ghost use Rattle.store_laws.specs.InOrder.{CombinesInOrder, ReadsInOrder, WholeCombine, WholeRead};
 ghost use Rattle.store.specs.declared.values.Setup.{Setup};
@@ -25,6 +29,16 @@ pub fn between_steps()
 pub fn stands_behind()
     ensures update { UpdatesStandBehind }
     ensures read { ReadsStandBehind }
+{}
+
+/// What a session does at its node's desk is what the schedule's steps make of it: a post, the answer that is collected, and the batch
+/// that is claimed; and its tests are the schedule's guards: where it does none of these, the schedule may not either. The node of the
+/// schedule has a batch just where requests are claimed at its desk.
+pub fn desks_are_steps()
+    ensures post { (m : Opening) (s : ℕ) (op : Operation) (g : Log) (node : NodeView) → PostsThere m s op g node }
+    ensures own { (s : ℕ) (node : NodeView) → IsItsOwn s node }
+    ensures collect { (s : ℕ) (g : Log) (node : NodeView) → CollectsThere s g node }
+    ensures claim { (s : ℕ) (g : Log) (node : NodeView) → ClaimsThere s g node }
 {}
 
 /// A whole combine, as `store` promises it, is a list of the schedule's steps of its node: it may rebase, it makes room if it must (replay,
