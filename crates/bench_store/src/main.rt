@@ -9,7 +9,7 @@
 
 ghost use Rattle.std.specs.Prelude.{◌≡◌, length, All};
 ghost use Rattle.store.specs.Sessions.{IsOf};
-ghost use Rattle.store.specs.Shelving.{sessions_of};
+ghost use Rattle.store_steps.specs.Shelving.{sessions_of};
 
 use loader::{Catalogue, load_manifest};
 use oplog::{Config, MAX_LIMIT};

@@ -3,7 +3,7 @@
 
 ghost use Rattle.std.specs.Prelude.{◌≡◌, ◌<◌, length, All, IfSome};
 ghost use Rattle.store.specs.Sessions.{IsOf};
-ghost use Rattle.store.specs.Shelving.{sessions_of};
+ghost use Rattle.store_steps.specs.Shelving.{sessions_of};
 
 use crate::common::{FILES, KEY, MANIFEST, print_read};
 use std::alloc::Global;

@@ -9,9 +9,9 @@ use Rattle.accounts.specs.declared.sessions.SessionNote.{SessionNote}
 use Rattle.accounts.specs.Accounts.{Extends}
 use Rattle.accounts.specs.Moves.{answered_with}
 use Rattle.accounts.specs.Told.{Tells}
-use Rattle.store.specs.Sessions.{SessionView}
+use Rattle.store_steps.specs.Views.{SessionView}
 use Rattle.store.specs.Polled.{HasPostedFor}
-use Rattle.store.proofs.StoreLaws.{store_laws}
+use Rattle.store_steps.proofs.StoreLaws.{store_laws}
 use Rattle.host_calls.specs.declared.attached.Told.{Told}
 use Rattle.host_calls.specs.declared.attached.Told.TheVariants.{Busy, Again, Answered, Refused, NotOpen, IsOut, NoWord}
 use Rattle.host_calls.specs.Told.{HasGrown, TellsOut, TellsPosting, TellsRefused, TellsUpdate}

@@ -3,7 +3,8 @@ use Rattle.std.proofs.Common.{◌≡◌, ◌≢◌, ℕ, zero, suc, ◌+◌, ◌
 use Rattle.std.proofs.lemmas.List.{get_or-set_other, get_or-set_same, length-append}
 use Rattle.std.specs.declared.alloc.Global.{Global}
 use Rattle.std.specs.declared.boxed.Box.{Box}
-use Rattle.store.specs.Sessions.{SessionView, StoreView, fresh_session, fresh_sessions}
+use Rattle.store_steps.specs.Views.{SessionView}
+use Rattle.store.specs.Sessions.{StoreView, fresh_session, fresh_sessions}
 use Rattle.host_calls.specs.declared.attached.Attached.{Attached}
 use Rattle.host_calls.specs.Openings.{IsSeat, fresh_of, fresh_seat}
 use Rattle.host_calls.specs.Views.{AttachedView}

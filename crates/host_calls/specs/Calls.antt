@@ -8,7 +8,8 @@ use Rattle.verifier.specs.declared.refusal.Mode.TheVariants.{Update, Read}
 use Rattle.replica.specs.Refusals.{early_refusal, store_fault_number}
 use Rattle.replica.specs.declared.refusals.StoreRefused.{StoreRefused}
 use Rattle.replica.specs.declared.refusals.StoreRefused.TheVariants.{NotDecoded, NotAccepted}
-use Rattle.store.specs.Sessions.{SessionView, StoreView, install_of, install_refused, op_of}
+use Rattle.store_steps.specs.Views.{SessionView, op_of}
+use Rattle.store.specs.Sessions.{StoreView, install_of, install_refused}
 use Rattle.host_calls.specs.declared.attached.Told.{Told}
 use Rattle.host_calls.specs.declared.attached.Told.TheVariants.{Busy, Again, Answered as Answers, Refused, NotOpen, IsOut, NoWord}
 use Rattle.host_calls.specs.declared.handles.Asked.{Asked}

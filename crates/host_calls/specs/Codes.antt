@@ -2,7 +2,8 @@
 use Rattle.std.specs.Prelude.{ℕ, refl}
 use Rattle.std.specs.Coded.{Coded, code_by, coded×, coded_ℕ}
 use Rattle.store.specs.Codes.{session_code, store_code}
-use Rattle.store.specs.Sessions.{SessionView, StoreView}
+use Rattle.store_steps.specs.Views.{SessionView}
+use Rattle.store.specs.Sessions.{StoreView}
 use Rattle.host_calls.specs.Views.{AttachedView}
 
 abbrev pub attached_code : Coded AttachedView

@@ -6,8 +6,9 @@ use Rattle.std.specs.declared.alloc.Global.{Global}
 use Rattle.std.specs.declared.boxed.Box.{Box}
 use Rattle.loader.specs.StoreState.{StoreState}
 use Rattle.store.specs.Opening.{ClosedView, IsClosed, last_state}
-use Rattle.store.specs.Sessions.{SessionView, StoreView}
-use Rattle.store.specs.Shelving.{sessions_of}
+use Rattle.store_steps.specs.Views.{SessionView}
+use Rattle.store.specs.Sessions.{StoreView}
+use Rattle.store_steps.specs.Shelving.{sessions_of}
 use Rattle.host_calls.specs.declared.attached.Attached.{Attached}
 use Rattle.host_calls.specs.declared.handles.StateHandle.{StateHandle}
 use Rattle.host_calls.specs.declared.handles.StoreHandle.{StoreHandle}

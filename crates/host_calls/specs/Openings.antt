@@ -18,8 +18,9 @@ use Rattle.loader.specs.declared.refusals.LoadRefusal.{LoadRefusal}
 use Rattle.oplog.specs.declared.configuration.Config.{Config}
 use Rattle.oplog.specs.declared.configuration.OpenError.TheVariants.{OutOfLimits, NoMemory, OtherState}
 use Rattle.oplog.specs.Limits.{IsConfig, open_fault_number}
-use Rattle.store.specs.Sessions.{SessionView, StoreView, fresh_session, fresh_sessions}
-use Rattle.store.specs.Shelving.{sessions_of}
+use Rattle.store_steps.specs.Views.{SessionView}
+use Rattle.store.specs.Sessions.{StoreView, fresh_session, fresh_sessions}
+use Rattle.store_steps.specs.Shelving.{sessions_of}
 use Rattle.std.specs.declared.alloc.Global.{Global}
 use Rattle.std.specs.declared.boxed.Box.{Box}
 use Rattle.host_calls.specs.declared.attached.Attached.{Attached}

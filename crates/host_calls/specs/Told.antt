@@ -7,8 +7,9 @@ use Rattle.replica.specs.declared.refusals.StoreRefused.{StoreRefused}
 use Rattle.replica.specs.declared.refusals.StoreRefused.TheVariants.{Ended as TheEnd}
 use Rattle.accounts.specs.declared.sessions.Pending.{Pending}
 use Rattle.accounts.specs.Accounts.{Extends, IsWellFormed}
-use Rattle.store.specs.Sessions.{BeginsWithin, SessionView, TellsRead}
-use Rattle.store.specs.Polled.{TellsDone}
+use Rattle.store_steps.specs.Views.{SessionView}
+use Rattle.store.specs.Sessions.{BeginsWithin, TellsRead}
+use Rattle.store_steps.specs.Stages.{TellsDone}
 use Rattle.host_calls.specs.declared.attached.Told.{Told}
 use Rattle.host_calls.specs.declared.attached.Told.TheVariants.{Busy, Again, Answered, Refused, NotOpen, IsOut, NoWord}
 

@@ -5,7 +5,8 @@ ghost use Rattle.std.specs.Arc.{arc_value};
 ghost use Rattle.verifier.specs.declared.refusal.Mode.TheVariants.{Update, Read};
 ghost use Rattle.accounts.specs.declared.sessions.Pending.{Pending};
 ghost use Rattle.replica.specs.Refusals.{early_refusal};
-ghost use Rattle.store.specs.Sessions.{IsOf, install_of, install_refused, op_of};
+ghost use Rattle.store_steps.specs.Views.{op_of};
+ghost use Rattle.store.specs.Sessions.{IsOf, install_of, install_refused};
 ghost use Rattle.host_calls.specs.Told.{HasGrown, TellsOut, TellsReading, TellsUpdate};
 ghost use Rattle.host_calls.specs.Views.{IsSame};
 

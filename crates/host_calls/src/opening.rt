@@ -10,7 +10,7 @@ ghost use Rattle.oplog.specs.Limits.{IsConfig};
 ghost use Rattle.oplog.specs.declared.configuration.OpenError.TheVariants.{OtherState, OutOfLimits};
 ghost use Rattle.store.specs.Opening.{AreOf};
 ghost use Rattle.store.specs.Sessions.{IsOf, fresh_sessions};
-ghost use Rattle.store.specs.Shelving.{sessions_of};
+ghost use Rattle.store_steps.specs.Shelving.{sessions_of};
 ghost use Rattle.host_calls.specs.Openings.{AreUtf8, IsOpened, IsOther, IsReason, IsSeat, IsStoreOf, Says, catalogue_on, config_of, fresh_of, inner_in, only, state_in, texts_of, words_of};
 
 use crate::attached::Attached;

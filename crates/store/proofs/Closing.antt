@@ -24,16 +24,17 @@ use Rattle.accounts.proofs.Lists.{at_none}
 use Rattle.accounts.proofs.Puts.{at_there}
 use Rattle.accounts.proofs.Tellings.{tail_is}
 use Rattle.node.specs.declared.following.NodeReplica.{NodeReplica}
-use Rattle.store.specs.declared.values.Setup.{Setup}
-use Rattle.store.specs.declared.values.Value.{Value}
-use Rattle.store.specs.declared.values.Value.TheVariants.{Log, Replica, Desk}
-use Rattle.store.specs.Shelving.{HasLogSizes, log_value, opening_notes, replica_value, sessions_of, store_rules, view_of}
-use Rattle.store.specs.Sessions.{SessionView, StoreView, known_of}
-use Rattle.store.specs.Standing.{SessionKnown}
+use Rattle.store_steps.specs.declared.values.Setup.{Setup}
+use Rattle.store_steps.specs.declared.values.Value.{Value}
+use Rattle.store_steps.specs.declared.values.Value.TheVariants.{Log, Replica, Desk}
+use Rattle.store_steps.specs.Shelving.{HasLogSizes, log_value, opening_notes, replica_value, sessions_of, store_rules, view_of}
+use Rattle.store_steps.specs.Views.{SessionView}
+use Rattle.store.specs.Sessions.{StoreView, known_of}
+use Rattle.store_steps.specs.Standing.{SessionKnown}
 use Rattle.store.specs.Opening.{AreIdle, AreLeft, AreOf, IsClosed, IsLogFor, closed_view, known_back, log_in, replica_slots, replicas_in}
 use Rattle.store.proofs.Joined.{back_has, back_is}
 use Rattle.store.proofs.Last.{ends_in, is_log_for}
-use Rattle.store.proofs.StoreLaws.{session_laws}
+use Rattle.store_steps.proofs.StoreLaws.{session_laws}
 
 abbrev L : Type 0
 L = Progress CatalogueView

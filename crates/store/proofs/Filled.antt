@@ -13,10 +13,10 @@ use Rattle.accounts.proofs.Finish.{opens}
 use Rattle.accounts.proofs.Lists.{at_front, at_behind}
 use Rattle.accounts.proofs.Putting.{store_opens}
 use Rattle.accounts.proofs.StoreRules.{desk_store}
-use Rattle.store.specs.declared.values.Value.{Value}
-use Rattle.store.specs.declared.values.Value.TheVariants.{Log, Replica, Desk}
+use Rattle.store_steps.specs.declared.values.Value.{Value}
+use Rattle.store_steps.specs.declared.values.Value.TheVariants.{Log, Replica, Desk}
 use Rattle.store.specs.Places.{AreFilled, AreKept, AreShelved, IsOpenedDesk}
-use Rattle.store.specs.Shelving.{IsOpenedLog, IsOpenedReplica, IsSized, sessions_of, store_rules, view_of}
+use Rattle.store_steps.specs.Shelving.{IsOpenedLog, IsOpenedReplica, IsSized, sessions_of, store_rules, view_of}
 use Rattle.store.proofs.Opened.{log_opens, replica_opens}
 
 -- ---- one value more

@@ -9,12 +9,13 @@ use Rattle.accounts.specs.declared.sessions.Progress.{Progress}
 use Rattle.accounts.specs.declared.sessions.SessionNote.{SessionNote}
 use Rattle.accounts.specs.LogSteps.{first_progress, fresh_note}
 use Rattle.accounts.proofs.Lists.{at_none}
-use Rattle.store.specs.declared.steps.Caller.{Caller}
-use Rattle.store.specs.declared.values.Value.{Value}
+use Rattle.store_steps.specs.declared.steps.Caller.{Caller}
+use Rattle.store_steps.specs.declared.values.Value.{Value}
 use Rattle.store.specs.Opening.{AreOf}
-use Rattle.store.specs.Sessions.{IsIdle, IsOf, SessionView, StoreView, fresh_known, fresh_session, fresh_sessions, session_view}
-use Rattle.store.specs.Shelving.{sessions_of}
-use Rattle.store.specs.Standing.{SessionKnown}
+use Rattle.store_steps.specs.Views.{IsIdle, SessionView, session_view}
+use Rattle.store.specs.Sessions.{IsOf, StoreView, fresh_known, fresh_session, fresh_sessions}
+use Rattle.store_steps.specs.Shelving.{sessions_of}
+use Rattle.store_steps.specs.Standing.{SessionKnown}
 
 abbrev S : Type 0
 S = SeatView (Progress CatalogueView) SessionNote Value

@@ -14,15 +14,17 @@ use Rattle.accounts.specs.Accounts.{Extends, IsWellFormed}
 use Rattle.accounts.specs.Moves.{answered_with}
 use Rattle.accounts.specs.Told.{Tells}
 use Rattle.accounts.proofs.Finish.{grown_long}
-use Rattle.store.specs.declared.steps.Caller.{Caller}
-use Rattle.store.specs.declared.values.Value.{Value}
-use Rattle.store.specs.AtDesk.{HasAsked}
-use Rattle.store.specs.Requests.{HasCompleted, HasPosted, said}
-use Rattle.store.specs.Sessions.{IsIdle, IsOf, SessionView, StoreView, TellsUpdate, request_of, session_view}
-use Rattle.store.specs.Standing.{IsFree, SessionKnown, Stands}
-use Rattle.store.proofs.Resumed.{free_by}
-use Rattle.store.proofs.StoreLaws.{store_laws}
-use Rattle.store.proofs.Taken.{well_formed}
+use Rattle.store_steps.specs.declared.steps.Caller.{Caller}
+use Rattle.store_steps.specs.declared.values.Value.{Value}
+use Rattle.store_steps.specs.AtDesk.{HasAsked}
+use Rattle.store_steps.specs.Requests.{HasCompleted, HasPosted}
+use Rattle.store.specs.Sessions.{said, IsOf, StoreView, TellsUpdate}
+use Rattle.store_steps.specs.Views.{IsIdle, SessionView, request_of}
+use Rattle.store_steps.specs.Standing.{IsFree, SessionKnown, Stands}
+use Rattle.store_steps.proofs.Resumed.{free_by}
+use Rattle.store_steps.proofs.StoreLaws.{store_laws}
+use Rattle.store_steps.proofs.Taken.{well_formed}
+use Rattle.store_steps.proofs.Views.{view_known}
 
 abbrev K : Type 0
 K = SessionKnown
@@ -100,12 +102,6 @@ module _ (k f : K) (op : Operation) (reply : Reply) (v : Invoked k f op reply) w
       ap_length h = subst (λ (n : SessionNote). length n.answered ≤ length f.progress.history) (sym v.note) h
 
 -- ---- as its user sees it
-
-abbrev pub view_known : ShelfId → K → SessionView
-view_known shelf k = record { shelf = shelf; session = k.session; progress = k.progress; note = k.note; tails_read = k.tails_read }
-
-pub seen_as : (s : S) (k : K) → IsSession s k → session_view s ≡ view_known s.shelf k
-seen_as s k is = ap (λ z. session_view (record { shelf = s.shelf; sessions = z })) is
 
 module _ (store : StoreView) (old new : SessionView) (id shelf : ShelfId) (k f : K) (op : Operation) (reply : Reply) (v : Invoked k f op reply) (was : old ≡ view_known id k) (now : new ≡ view_known shelf f) where
   -- what is said of the sessions as they are known holds of them as they are seen

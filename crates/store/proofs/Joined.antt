@@ -7,11 +7,12 @@ use Rattle.accounts.specs.declared.sessions.Progress.{Progress}
 use Rattle.accounts.specs.declared.sessions.Pending.{Pending}
 use Rattle.accounts.specs.declared.sessions.SessionNote.{SessionNote}
 use Rattle.accounts.proofs.Lists.{at_none, at_front, at_behind, at_joined}
-use Rattle.store.specs.declared.steps.Caller.{Caller}
-use Rattle.store.specs.declared.values.Value.{Value}
+use Rattle.store_steps.specs.declared.steps.Caller.{Caller}
+use Rattle.store_steps.specs.declared.values.Value.{Value}
 use Rattle.store.specs.Opening.{AreIdle, AreOf, known_back}
-use Rattle.store.specs.Sessions.{IsIdle, SessionView, StoreView, known_of}
-use Rattle.store.specs.Standing.{SessionKnown}
+use Rattle.store_steps.specs.Views.{IsIdle, SessionView}
+use Rattle.store.specs.Sessions.{StoreView, known_of}
+use Rattle.store_steps.specs.Standing.{SessionKnown}
 
 abbrev S : Type 0
 S = SeatView (Progress CatalogueView) SessionNote Value

@@ -4,8 +4,8 @@ use Rattle.std.proofs.lemmas.Option.{slice_get_past}
 use Rattle.std.specs.Global.{Box}
 use Rattle.replica.specs.Views.{ReplicaView}
 use Rattle.node.specs.declared.following.NodeReplica.{NodeReplica}
-use Rattle.store.specs.declared.values.Value.{Value}
-use Rattle.store.specs.declared.values.Value.TheVariants.{Replica}
+use Rattle.store_steps.specs.declared.values.Value.{Value}
+use Rattle.store_steps.specs.declared.values.Value.TheVariants.{Replica}
 use Rattle.store.specs.Opening.{AreLeft, replica_slots, replicas_in}
 
 -- what stands at a place of the values, and what at a place of the replicas

@@ -9,9 +9,9 @@ use Rattle.replica.specs.StoreMeaning.{store_meaning}
 use Rattle.accounts.specs.Values.{TheLog, TheReplica}
 use Rattle.accounts.specs.LogSteps.{first_log, first_replica}
 use Rattle.node.specs.declared.following.NodeReplica.{NodeReplica}
-use Rattle.store.specs.declared.values.Value.{Value}
-use Rattle.store.specs.declared.values.Value.TheVariants.{Log, Replica, Desk}
-use Rattle.store.specs.Shelving.{view_of, IsSized, HasLogSizes, log_value, replica_value, resting_hand, IsOpenedLog, IsOpenedReplica}
+use Rattle.store_steps.specs.declared.values.Value.{Value}
+use Rattle.store_steps.specs.declared.values.Value.TheVariants.{Log, Replica, Desk}
+use Rattle.store_steps.specs.Shelving.{view_of, IsSized, HasLogSizes, log_value, replica_value, resting_hand, IsOpenedLog, IsOpenedReplica}
 
 pub log_opens : (config : Config) (c : CatalogueView) → IsCatalogue c → (v : Value) → IsOpenedLog (opening_state c) config.window config.limit v → (view_of v ≡ TheLog (first_log store_meaning c)) × IsSized config c v
 log_opens config c whole (Log g) e = (ap (λ z. TheLog (log_value z)) e, subst (λ z. HasLogSizes config c z) (sym e) (refl, refl, state_sizes (opening_is_state c whole)))

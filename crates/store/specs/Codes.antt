@@ -12,7 +12,8 @@ use Rattle.oplog.specs.Codes.{history_code}
 use Rattle.accounts.specs.declared.sessions.Progress.{Progress}
 use Rattle.accounts.specs.declared.sessions.SessionNote.{SessionNote}
 use Rattle.accounts.specs.contracts.sessions.SessionNote as note_row
-use Rattle.store.specs.Sessions.{SessionView, StoreView}
+use Rattle.store_steps.specs.Views.{SessionView}
+use Rattle.store.specs.Sessions.{StoreView}
 
 abbrev pub store_code : Coded StoreView
 store_code =

@@ -18,11 +18,12 @@ use Rattle.accounts.specs.Accounts.{Extends, IsWellFormed}
 use Rattle.accounts.specs.Agreement.{LogAgrees, ReplicaAgrees}
 use Rattle.accounts.specs.Told.{StandsOnce, records_of, numbered}
 use Rattle.node.specs.declared.following.NodeReplica.{NodeReplica}
-use Rattle.store.specs.declared.values.Value.{Value}
-use Rattle.store.specs.declared.values.Value.TheVariants.{Log as LogPlace, Replica}
-use Rattle.store.specs.Sessions.{StoreView, SessionView, IsOf, known_of, no_catalogue}
-use Rattle.store.specs.Standing.{SessionKnown}
-use Rattle.store.specs.Shelving.{log_value, replica_value, HasLogSizes}
+use Rattle.store_steps.specs.declared.values.Value.{Value}
+use Rattle.store_steps.specs.declared.values.Value.TheVariants.{Log as LogPlace, Replica}
+use Rattle.store_steps.specs.Views.{SessionView, no_catalogue}
+use Rattle.store.specs.Sessions.{StoreView, IsOf, known_of}
+use Rattle.store_steps.specs.Standing.{SessionKnown}
+use Rattle.store_steps.specs.Shelving.{log_value, replica_value, HasLogSizes}
 
 -- each of these sessions is one of the store
 abbrev pub AreOf : StoreView → List SessionView → Type 0

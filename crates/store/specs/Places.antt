@@ -5,9 +5,9 @@ use Rattle.ownlock.specs.Seats.{At}
 use Rattle.loader.specs.CatalogueView.{CatalogueView, opening_state}
 use Rattle.oplog.specs.declared.configuration.Config.{Config}
 use Rattle.combiner.specs.Desks.{opened_desk}
-use Rattle.store.specs.declared.values.Value.{Value}
-use Rattle.store.specs.declared.values.Value.TheVariants.{Log, Replica, Desk}
-use Rattle.store.specs.Shelving.{IsOpenedLog, IsOpenedReplica}
+use Rattle.store_steps.specs.declared.values.Value.{Value}
+use Rattle.store_steps.specs.declared.values.Value.TheVariants.{Log, Replica, Desk}
+use Rattle.store_steps.specs.Shelving.{IsOpenedLog, IsOpenedReplica}
 
 -- a node's desk, at which nobody has a request
 abbrev pub IsOpenedDesk : ℕ → ℕ → Value → Type 0

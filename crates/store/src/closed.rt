@@ -4,14 +4,14 @@ ghost use Rattle.std.specs.Prelude.{◌≡◌, Some, option_map, slice_get};
 ghost use Rattle.loader.specs.CatalogueView.{CatalogueView};
 ghost use Rattle.std.specs.Global.{Box};
 ghost use Rattle.node.specs.declared.following.NodeReplica.{NodeReplica as TheNode};
-ghost use Rattle.store.specs.declared.values.Value.TheVariants.{Replica as ReplicaPlace};
+ghost use Rattle.store_steps.specs.declared.values.Value.TheVariants.{Replica as ReplicaPlace};
 ghost use Rattle.store.specs.Opening.{AreLeft, IsLogFor, closed_view, last_state, log_in};
 
-use crate::values::Value;
 use loader::{Catalogue, StoreState};
 use oplog::LogState;
 use replica::{Replica, last_state};
 use std::marker::Model;
+use store_steps::Value;
 
 /// What a closed store leaves: its catalogue, its log, and the replica of each node.
 #[derive(Drop)]

@@ -4,33 +4,20 @@
 
 mod answers;
 mod closed;
-mod combining;
-mod deeds;
-pub mod desks;
 mod opening;
 mod polled;
-mod questions;
-mod requests;
-mod scanning;
 mod session;
-mod steps;
 mod store;
-#[cfg(test)]
-mod tests;
-mod values;
 
-pub use answers::{Answer, Batches, Scan};
+pub use answers::Answer;
 pub use closed::Closed;
 pub use loader::{Catalogue, LoadError, StoreState, load_manifest};
 pub use node::NodeReplica;
 pub use oplog::{Config, OpenError};
 pub use polled::Polled;
-pub use questions::QuestionRefused;
 pub use readpath::ReadAnswer;
 pub use replica::{NO_PLACE, NO_PROGRAM, StoreRefused};
-pub use scanning::ScanRefused;
 pub use session::Session;
-pub use steps::Question;
 pub use store::Store;
-pub use values::{Setup, Value};
+pub use store_steps::{Batches, Question, QuestionRefused, Scan, ScanRefused, Setup, Value, desks};
 pub use verifier::Mode;

@@ -10,19 +10,18 @@ ghost use Rattle.oplog.specs.declared.configuration.TheConstants.{MAX_NODES, MAX
 ghost use Rattle.ownlock.specs.Knowledge.{AllAgree};
 ghost use Rattle.accounts.specs.LogSteps.{first_progress, fresh_note};
 ghost use Rattle.ownlock.specs.Seats.{all_sessions};
-ghost use Rattle.store.specs.Shelving.{IsOpenedReplica, opening_notes, opening_progress, sessions_of, store_rules};
+ghost use Rattle.store_steps.specs.Shelving.{IsOpenedReplica, opening_notes, opening_progress, sessions_of, store_rules};
 ghost use Rattle.store.specs.Sessions.{fresh_sessions};
 ghost use Rattle.store.specs.Places.{AreFilled, HaveReplicas, IsOpenedDesk, AreKept, AreShelved};
 
 use crate::session::Session;
-use crate::steps::Caller;
-use crate::values::{Setup, Value, shelved_log, shelved_replica};
 use combiner::Desk;
 use loader::{Catalogue, Installed, StoreState};
 use maps::Shape;
 use oplog::Config;
 use ownlock::{Seat, Shelf};
 use std::alloc::{AllocError, Global};
+use store_steps::{Caller, Setup, Value, shelved_log, shelved_replica};
 
 // A new desk, as a value of the shelf.
 fn shelved_desk(alloc: Global, node: u16, slots: usize) -> Result<Value, AllocError>

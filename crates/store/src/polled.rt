@@ -7,16 +7,14 @@ ghost use Rattle.accounts.specs.declared.sessions.Pending.{Pending};
 ghost use Rattle.replica.specs.StoreMeaning.{store_meaning, is_operation};
 ghost use Rattle.replica.specs.declared.refusals.StoreRefused.{StoreRefused};
 ghost use Rattle.replica.specs.Refusals.{early_refusal};
-ghost use Rattle.store.specs.Sessions.{IsOf, install_of, install_refused, op_of};
-ghost use Rattle.store.specs.Polled.{HasDone, HasPostedFor, TellsCompleted, TellsPost, TellsTriedRead};
+ghost use Rattle.store_steps.specs.Views.{op_of};
+ghost use Rattle.store.specs.Sessions.{IsOf, install_of, install_refused};
+ghost use Rattle.store_steps.specs.Stages.{HasDone};
+ghost use Rattle.store.specs.Polled.{HasPostedFor, TellsCompleted, TellsPost, TellsTriedRead};
 
 use crate::answers::Answer;
-use crate::deeds::{Deed, Stage, go_on};
-use crate::requests::try_post;
 use crate::session::{Session, answer_of};
-use crate::steps::{Caller, Question, try_query};
 use crate::store::Store;
-use crate::values::Value;
 use combiner::Batch;
 use loader::Installed;
 use oplog::{Call, NewProgram, Op};
@@ -24,6 +22,7 @@ use ownlock::Seat;
 use readpath::ReadAnswer;
 use replica::{Replies, StoreRefused, check_call, check_install};
 use std::marker::Model;
+use store_steps::{Caller, Deed, Question, Stage, Value, go_on, try_post, try_query};
 use verifier::Mode;
 
 // How many deeds a call does at most that goes on with an update. Where nobody else is there it takes four.
@@ -45,8 +44,9 @@ pub struct Polled {
 }
 
 impl Model for Polled {
-    ghost use Rattle.store.specs.Sessions.{SessionView, HasRoom, session_view};
-    ghost use Rattle.store.specs.Polled.{IsPolled};
+    ghost use Rattle.store_steps.specs.Views.{SessionView, session_view};
+    ghost use Rattle.store.specs.Sessions.{HasRoom};
+    ghost use Rattle.store_steps.specs.Stages.{IsPolled};
     ghost use Rattle.store.specs.Codes.{session_code};
 
     ghost Value = { SessionView };

@@ -6,20 +6,18 @@ ghost use Rattle.accounts.specs.Accounts.{Extends, IsWellFormed};
 ghost use Rattle.replica.specs.StoreMeaning.{store_meaning, is_operation};
 ghost use Rattle.replica.specs.declared.refusals.StoreRefused.{StoreRefused};
 ghost use Rattle.replica.specs.Refusals.{early_refusal};
-ghost use Rattle.store.specs.Requests.{said};
-ghost use Rattle.store.specs.declared.questions.QuestionRefused.{QuestionRefused};
-ghost use Rattle.store.specs.Questions.{EachBegins, TellsEach, first_refused};
-ghost use Rattle.store.specs.declared.scanning.ScanRefused.{ScanRefused};
-ghost use Rattle.store.specs.Scanning.{ScanBegins, TellsScan, scan_refusal};
-ghost use Rattle.store.specs.Sessions.{IsOf, IsIdle, TellsUpdate, TellsRead, BeginsWithin, HasRoom, known_of, install_of, install_refused, op_of, session_view};
+ghost use Rattle.store.specs.Sessions.{said};
+ghost use Rattle.store_steps.specs.declared.questions.QuestionRefused.{QuestionRefused};
+ghost use Rattle.store_steps.specs.Questions.{first_refused};
+ghost use Rattle.store.specs.Sessions.{EachBegins, TellsEach};
+ghost use Rattle.store_steps.specs.declared.scanning.ScanRefused.{ScanRefused};
+ghost use Rattle.store_steps.specs.Scanning.{scan_refusal};
+ghost use Rattle.store.specs.Sessions.{ScanBegins, TellsScan};
+ghost use Rattle.store_steps.specs.Views.{IsIdle, op_of, session_view};
+ghost use Rattle.store.specs.Sessions.{IsOf, TellsUpdate, TellsRead, BeginsWithin, HasRoom, known_of, install_of, install_refused};
 
-use crate::answers::{Answer, Batches, Scan};
-use crate::questions::{QuestionRefused, check_each, read_each_waiting};
-use crate::requests::{complete, post};
-use crate::scanning::{Beginning, ScanRefused, check_scan, scan_waiting};
-use crate::steps::{Caller, Question, query};
+use crate::answers::Answer;
 use crate::store::Store;
-use crate::values::Value;
 use combiner::{Batch, Reply};
 use loader::Installed;
 use oplog::{Call, NewProgram, Op};
@@ -28,6 +26,10 @@ use readpath::ReadAnswer;
 use replica::{Replies, StoreRefused, check_call, check_install};
 use std::marker::Model;
 use std::sync::Wait;
+use store_steps::{
+    Batches, Beginning, Caller, Question, QuestionRefused, Scan, ScanRefused, Value, check_each,
+    check_scan, complete, post, query, read_each_waiting, scan_waiting,
+};
 use verifier::Mode;
 
 /// What a thread updates and reads a store with: one slot of one node. It moves to a thread, and has no `Drop`: it ends in
@@ -46,7 +48,8 @@ pub struct Session {
 }
 
 impl Model for Session {
-    ghost use Rattle.store.specs.Sessions.{SessionView, HasRoom, IsIdle, session_view};
+    ghost use Rattle.store_steps.specs.Views.{SessionView, IsIdle, session_view};
+    ghost use Rattle.store.specs.Sessions.{HasRoom};
     ghost use Rattle.store.specs.Codes.{session_code};
 
     ghost Value = { SessionView };
@@ -103,8 +106,9 @@ impl Session {
         (seat, caller, room)
     }
 
-    // Its seat, and its slot.
-    pub(crate) fn into_parts(self) -> (Seat<Value>, Caller)
+    /// Its seat, and its slot, for who makes its steps one by one. A seat that is let go leaves the store without this session, so that it
+    /// can't be closed.
+    pub fn into_parts(self) -> (Seat<Value>, Caller)
         ensures shelf { result.0.shelf ≡ self.shelf }
         ensures known { result.0.sessions ≡ known_of self ∷ [] }
         ensures idle { IsIdle result.0 result.1 }

@@ -5,20 +5,19 @@ ghost use Rattle.oplog.specs.declared.configuration.OpenError.TheVariants.{Other
 ghost use Rattle.oplog.specs.declared.configuration.TheConstants.{MAX_NODES};
 ghost use Rattle.loader.specs.CatalogueView.{MayOpenOn, OpensOn, opened_on, with_places};
 ghost use Rattle.oplog.specs.Limits.{IsConfig};
-ghost use Rattle.store.specs.Shelving.{sessions_of};
+ghost use Rattle.store_steps.specs.Shelving.{sessions_of};
 ghost use Rattle.store.specs.Sessions.{fresh_sessions};
 ghost use Rattle.store.specs.Opening.{AreOf, AreIdle, IsClosed, known_back};
 
 use crate::closed::Closed;
 use crate::opening::{push_sessions, session_count, session_rooms, shelved_places};
 use crate::session::Session;
-use crate::steps::Shared;
-use crate::values::{Setup, Value};
 use loader::{Catalogue, StoreState};
 use oplog::{Config, OpenError};
 use ownlock::{Seat, Shelf};
 use std::alloc::{AllocError, Global};
 use std::marker::Model;
+use store_steps::{Setup, Shared, Value};
 
 /// A log of updates, and a replica of the maps for each node. Sessions work on it from any number of threads.
 #[derive(Drop)]
@@ -175,8 +174,8 @@ impl Store {
         all
     }
 
-    // What its sessions share.
-    pub(crate) fn shared(&self) -> Shared<'_>
+    /// What its sessions share, for who makes the steps of a session one by one.
+    pub fn shared(&self) -> Shared<'_>
         ensures shelf { result.shelf.now.id ≡ self.now.id }
         ensures places { result.shelf.now.places ≡ 1 + self.now.config.nodes + self.now.config.nodes }
         ensures nodes { (result.nodes ≡ self.now.config.nodes) × (self.now.config.nodes ≤ MAX_NODES) }

@@ -18,9 +18,9 @@ use Rattle.schedule.specs.Steps.{Part, is_free, no_batch, no_read, session_at, s
 use Rattle.schedule.specs.Trace.{Back, Call, Updated}
 use Rattle.schedule.specs.Worlds.{NodeView}
 use Rattle.replica.specs.StoreMeaning.{is_operation}
-use Rattle.store.specs.declared.desks.Turn.{Turn}
-use Rattle.store.specs.declared.desks.Turn.TheVariants.{Collects, Combines, Waits}
-use Rattle.store.specs.AtDesk.{IsTurn}
+use Rattle.store_steps.specs.declared.desks.Turn.{Turn}
+use Rattle.store_steps.specs.declared.desks.Turn.TheVariants.{Collects, Combines, Waits}
+use Rattle.store_steps.specs.AtDesk.{IsTurn}
 use Rattle.store_laws.specs.AtDesks.{ClaimIs, ClaimsThere, CollectIs, CollectsThere, IsItsOwn, PostsThere}
 
 -- ---- post

@@ -10,7 +10,7 @@ use Rattle.accounts.proofs.Kept.{no_next}
 use Rattle.accounts.proofs.Lists.{at_front, at_one}
 use Rattle.accounts.proofs.Puts.{at_there}
 use Rattle.replica.specs.StoreMeaning.{store_meaning}
-use Rattle.store.specs.declared.values.Setup.{Setup}
+use Rattle.store_steps.specs.declared.values.Setup.{Setup}
 use Rattle.store_laws.specs.Meanwhile.{Meanwhile, StoreKnown, StoreState}
 use Rattle.store_laws.specs.Behind.{Knows, ReadsStandBehind, UpdatesStandBehind}
 

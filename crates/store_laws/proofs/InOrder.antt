@@ -18,7 +18,7 @@ use Rattle.schedule.specs.Steps.{Part, inner, part_of, put_seen, read_at, sessio
 use Rattle.schedule.specs.declared.steps.Step.TheVariants.{ReadAnswer as Answers}
 use Rattle.schedule.specs.Trace.{Back, ReadBack}
 use Rattle.schedule.specs.Worlds.{NodeView}
-use Rattle.store.specs.Whole.{ReadsBy}
+use Rattle.store_steps.specs.Whole.{ReadsBy}
 use Rattle.store_laws.specs.InOrder.{CombinesInOrder, Ends, Takes, Meets, ReadsInOrder, SeenInOrder, WholeCombine, WholeRead, node_of, read_to, step_of}
 
 -- the part of a step that may be taken

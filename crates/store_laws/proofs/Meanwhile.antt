@@ -6,8 +6,8 @@ use Rattle.ownlock.specs.Between.{Between}
 use Rattle.ownlock.proofs.Laws.{between}
 use Rattle.accounts.proofs.Ended.{stand}
 use Rattle.replica.specs.StoreMeaning.{store_meaning}
-use Rattle.store.specs.declared.values.Setup.{Setup}
-use Rattle.store.specs.Shelving.{store_rules, store_opening, sessions_of}
+use Rattle.store_steps.specs.declared.values.Setup.{Setup}
+use Rattle.store_steps.specs.Shelving.{store_rules, store_opening, sessions_of}
 use Rattle.store_laws.specs.Meanwhile.{StoreState, Meanwhile}
 
 pub meanwhile : (opening : Setup) (s : StoreState) → LockInvariant store_rules (store_opening opening) s → Meanwhile opening s

@@ -11,10 +11,10 @@ use Rattle.schedule.specs.declared.parts.Opening.{Opening}
 use Rattle.schedule.specs.Steps.{claim, collect, no_batch, post, session_at, silent, with_call_or_back}
 use Rattle.schedule.specs.Trace.{Back, Call, Updated}
 use Rattle.schedule.specs.Worlds.{NodeView}
-use Rattle.store.specs.declared.desks.Turn.{Turn}
-use Rattle.store.specs.declared.desks.Turn.TheVariants.{Collects, Combines, Waits}
-use Rattle.store.specs.AtDesk.{IsAt, IsTurn}
-use Rattle.store.specs.Standing.{SessionKnown}
+use Rattle.store_steps.specs.declared.desks.Turn.{Turn}
+use Rattle.store_steps.specs.declared.desks.Turn.TheVariants.{Collects, Combines, Waits}
+use Rattle.store_steps.specs.AtDesk.{IsAt, IsTurn}
+use Rattle.store_steps.specs.Standing.{SessionKnown}
 
 -- ---- post
 

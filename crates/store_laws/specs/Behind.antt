@@ -4,8 +4,8 @@ use Rattle.ownlock.specs.Words.{completed_word}
 use Rattle.ownlock.specs.Seats.{At}
 use Rattle.oplog.specs.Operations.{Operation}
 use Rattle.accounts.specs.Accounts.{Extends}
-use Rattle.store.specs.declared.values.Setup.{Setup}
-use Rattle.store.specs.Shelving.{places_of}
+use Rattle.store_steps.specs.declared.values.Setup.{Setup}
+use Rattle.store_steps.specs.Shelving.{places_of}
 use Rattle.store_laws.specs.Meanwhile.{Meanwhile, StoreKnown, StoreState}
 
 -- in this state a session of the store knows k

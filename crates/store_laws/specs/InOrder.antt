@@ -16,8 +16,8 @@ use Rattle.schedule.specs.declared.steps.Step.TheVariants.{Append, Replay, Finis
 use Rattle.schedule.specs.Steps.{Part, part_of, read_at, seen_of, session_at, with_call_or_back, with_read}
 use Rattle.schedule.specs.Trace.{Back, ReadBack}
 use Rattle.schedule.specs.Worlds.{NodeView}
-use Rattle.store.specs.Standing.{SessionKnown}
-use Rattle.store.specs.Whole.{CombinesBy, ReadsBy, combine_steps, read_steps, sees}
+use Rattle.store_steps.specs.Standing.{SessionKnown}
+use Rattle.store_steps.specs.Whole.{CombinesBy, ReadsBy, combine_steps, read_steps, sees}
 
 -- the schedule's step of the node n
 abbrev pub step_of : ℕ → NodeStep → Step

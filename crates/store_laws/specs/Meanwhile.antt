@@ -15,9 +15,9 @@ use Rattle.accounts.specs.Accounts.{Accounts, Extends}
 use Rattle.accounts.specs.Agreement.{AgreesWith, log_place}
 use Rattle.accounts.specs.Moves.{MayHold}
 use Rattle.accounts.specs.Told.{StandsOnce}
-use Rattle.store.specs.declared.values.Setup.{Setup}
-use Rattle.store.specs.declared.values.Value.{Value}
-use Rattle.store.specs.Shelving.{view_of, IsSized, places_of}
+use Rattle.store_steps.specs.declared.values.Setup.{Setup}
+use Rattle.store_steps.specs.declared.values.Value.{Value}
+use Rattle.store_steps.specs.Shelving.{view_of, IsSized, places_of}
 
 -- what one session knows: the progress that it saw last, its note, and the places that it holds, each with its value as it was taken
 abbrev pub StoreKnown : Type 0

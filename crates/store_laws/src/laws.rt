@@ -10,8 +10,8 @@ ghost use Rattle.schedule.specs.Worlds.{NodeView};
 ghost use Rattle.store_laws.specs.AtDesks.{ClaimsThere, CollectsThere, IsItsOwn, PostsThere};
 ghost use Rattle.store_laws.specs.Behind.{ReadsStandBehind, UpdatesStandBehind};
 ghost use Rattle.store_laws.specs.InOrder.{CombinesInOrder, ReadsInOrder, WholeCombine, WholeRead};
-ghost use Rattle.store.specs.declared.values.Setup.{Setup};
-ghost use Rattle.store.specs.Shelving.{store_rules, store_opening};
+ghost use Rattle.store_steps.specs.declared.values.Setup.{Setup};
+ghost use Rattle.store_steps.specs.Shelving.{store_rules, store_opening};
 ghost use Rattle.store_laws.specs.Meanwhile.{Meanwhile, StoreState};
 
 /// Between any two atomic steps of a store's threads one history, with its completed tail, has grown from what every session knows, and

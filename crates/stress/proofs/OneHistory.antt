@@ -30,7 +30,8 @@ use Rattle.readpath.specs.declared.reading.ReadAnswer.{ReadAnswer}
 use Rattle.store.specs.declared.answers.Answer.{Answer}
 use Rattle.store.specs.Opening.{ClosedView, IsClosed, last_state}
 use Rattle.replica.specs.declared.refusals.StoreRefused.{StoreRefused}
-use Rattle.store.specs.Sessions.{SessionView, StoreView, TellsUpdate, request_of, fresh_session, fresh_sessions}
+use Rattle.store_steps.specs.Views.{SessionView, request_of}
+use Rattle.store.specs.Sessions.{StoreView, TellsUpdate, fresh_session, fresh_sessions}
 use Rattle.stress.specs.declared.lines.Told.{Told}
 use Rattle.stress.specs.declared.watching.Noted.{Noted}
 use Rattle.stress.specs.declared.lines.Said.{Said}

@@ -4,7 +4,7 @@ use Rattle.std.specs.Prelude.{IfOk, IfSome}
 use Rattle.std.specs.Option.{option_to_list}
 use Rattle.std.proofs.lemmas.List.{length-append, length_push, get_or_append_left, get_or_push}
 use Rattle.std.proofs.lemmas.Bool.{cases_lt}
-use Rattle.store.specs.Sessions.{SessionView}
+use Rattle.store_steps.specs.Views.{SessionView}
 use Rattle.stress.specs.declared.players.Player.{Player}
 use Rattle.stress.specs.Calls.{Called}
 use Rattle.stress.specs.Dealt.{dealt, dealt_from}

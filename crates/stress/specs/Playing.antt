@@ -8,7 +8,8 @@ use Rattle.text.specs.Digits.{field_bytes}
 use Rattle.text.specs.declared.lines.TheConstants.{LINE_BYTES}
 use Rattle.replica.specs.declared.refusals.StoreRefused.{StoreRefused}
 use Rattle.store.specs.declared.answers.Answer.{Answer}
-use Rattle.store.specs.Sessions.{StoreView, SessionView, IsOf}
+use Rattle.store_steps.specs.Views.{SessionView}
+use Rattle.store.specs.Sessions.{StoreView, IsOf}
 use Rattle.stress.specs.declared.calls.ScriptCall.{ScriptCall}
 use Rattle.stress.specs.declared.calls.LineCall.{LineCall}
 use Rattle.stress.specs.declared.calls.LineCall.TheVariants as lines

@@ -3,7 +3,11 @@
 #![tactic(auto)]
 
 #[cfg(test)]
+mod answered;
+#[cfg(test)]
 mod desk;
+#[cfg(test)]
+mod held_places;
 #[cfg(test)]
 mod left;
 #[cfg(test)]

@@ -10,7 +10,7 @@ use readpath::ReadAnswer;
 use store::{Answer, Closed, Session, Store};
 
 // The last of the sessions.
-fn last_of(store: &Store, sessions: &mut Vec<Session>) -> Session
+pub(crate) fn last_of(store: &Store, sessions: &mut Vec<Session>) -> Session
     requires own { AreOf store.now sessions.old.items }
     requires some { 0 < length sessions.old.items }
     ensures own { IsOf store.now result }

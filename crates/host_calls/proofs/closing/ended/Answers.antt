@@ -2,7 +2,7 @@ use Rattle.std.proofs.Common.{rules, ◌≡◌, sym, ap, subst, ◌∙◌, lengt
 use Rattle.std.specs.Arc.{arc_value}
 use Rattle.store.specs.Opening.{AreOf}
 use Rattle.store.specs.Sessions.{IsOf, StoreView}
-use Rattle.store.specs.Shelving.{sessions_of}
+use Rattle.store_steps.specs.Shelving.{sessions_of}
 use Rattle.host_calls.specs.Leaving.{sessions_back}
 use Rattle.host_calls.proofs.Sessions.{at_of_all}
 use Rattle.host_calls.proofs.Gathered.{back_whole}

@@ -1,5 +1,5 @@
 use Rattle.loader.specs.CatalogueView.{opening_state}
-use Rattle.store.specs.Shelving.{IsOpenedReplica}
+use Rattle.store_steps.specs.Shelving.{IsOpenedReplica}
 use Rattle.store.proofs.Filled.{Grown}
 use Rattle.store.proofs.opening.push_replicas.Given as goal
 

@@ -3,7 +3,7 @@ use Rattle.std.proofs.lemmas.List.{length-append}
 use Rattle.std.proofs.lemmas.List.Elements.{All-pop}
 use Rattle.replica.specs.Refusals.{IsRoomFor}
 use Rattle.store.specs.Sessions.{HasRoom}
-use Rattle.store.specs.Shelving.{sessions_of}
+use Rattle.store_steps.specs.Shelving.{sessions_of}
 use Rattle.store.proofs.Fresh.{fresh_long, idle_seats, next_seat, seated_more, starts_idle}
 use Rattle.store.proofs.opening.push_sessions.Goals as goal
 

@@ -1,7 +1,7 @@
 use Rattle.std.proofs.Common.{◌≡◌, ◌+◌, length, vec_capacity}
 use Rattle.std.specs.List.{All}
 use Rattle.replica.specs.Refusals.{IsRoomFor}
-use Rattle.store.specs.Shelving.{sessions_of}
+use Rattle.store_steps.specs.Shelving.{sessions_of}
 use Rattle.store.proofs.Fresh.{Seated}
 use Rattle.store.proofs.opening.push_sessions.Given as goal
 

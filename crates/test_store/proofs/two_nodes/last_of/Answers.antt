@@ -1,4 +1,4 @@
-use Rattle.store.proofs.Watched.{last_own, rest_own}
+use Rattle.test_store.proofs.Watched.{last_own, rest_own}
 use Rattle.test_store.proofs.two_nodes.last_of.Goals as goal
 
 pub returns-clause-own : goal.returns-clause-own

@@ -1,5 +1,6 @@
 use Rattle.std.proofs.Common.{rules, ◌≡◌, None, Ok, Option, sym, subst}
-use Rattle.store.specs.Sessions.{SessionView, StoreView, install_of, install_refused}
+use Rattle.store_steps.specs.Views.{SessionView}
+use Rattle.store.specs.Sessions.{StoreView, install_of, install_refused}
 use Rattle.store.specs.Polled.{TellsPost}
 use Rattle.host_calls.specs.Told.{TellsUpdate}
 use Rattle.host_calls.proofs.Posted.{none_of, posted_then}

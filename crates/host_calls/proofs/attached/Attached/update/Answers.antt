@@ -1,7 +1,8 @@
 use Rattle.std.proofs.Common.{rules, ◌≡◌, None, Ok, Option, sym, subst}
 use Rattle.verifier.specs.declared.refusal.Mode.TheVariants.{Update}
 use Rattle.replica.specs.Refusals.{early_refusal}
-use Rattle.store.specs.Sessions.{SessionView, StoreView, op_of}
+use Rattle.store_steps.specs.Views.{SessionView, op_of}
+use Rattle.store.specs.Sessions.{StoreView}
 use Rattle.store.specs.Polled.{TellsPost}
 use Rattle.host_calls.specs.Told.{TellsUpdate}
 use Rattle.host_calls.proofs.Posted.{none_of, posted_then}

@@ -1,8 +1,9 @@
 use Rattle.std.proofs.Common.{sym, ap, subst, ◌∙◌}
 use Rattle.std.proofs.lemmas.Option.{same_Some}
 use Rattle.accounts.specs.Accounts.{Extends}
-use Rattle.store.specs.Polled.{HasDone}
-use Rattle.store.specs.Sessions.{IsOf, SessionView, session_view}
+use Rattle.store_steps.specs.Stages.{HasDone}
+use Rattle.store_steps.specs.Views.{SessionView, session_view}
+use Rattle.store.specs.Sessions.{IsOf}
 use Rattle.store.proofs.Between.{on_at, out_at, own_on, room_on}
 use Rattle.store.proofs.polled.Polled.deed.Goals as goal
 

@@ -1,5 +1,5 @@
 use Rattle.std.proofs.Common.{ap, ◌∙◌}
-use Rattle.store.specs.Sessions.{SessionView}
+use Rattle.store_steps.specs.Views.{SessionView}
 use Rattle.store.proofs.Between.{idle_at}
 use Rattle.store.proofs.polled.Polled.into_session.Goals as goal
 

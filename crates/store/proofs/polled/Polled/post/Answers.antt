@@ -1,10 +1,13 @@
 use Rattle.std.proofs.Common.{sym, ap, subst, ◌∙◌}
 use Rattle.replica.specs.StoreMeaning.{store_meaning}
 use Rattle.accounts.specs.Accounts.{Extends, IsWellFormed}
-use Rattle.store.specs.Polled.{HasPostedFor, IsPolled}
-use Rattle.store.specs.Sessions.{HasRoom, IsOf, SessionView, session_view}
-use Rattle.store.proofs.Between.{idle_at, on_at, on_known, own_on, post_grown, post_session, post_told, post_well, posted_at, room_on, well_at}
-use Rattle.store.proofs.StoreLaws.{store_laws}
+use Rattle.store_steps.specs.Stages.{IsPolled}
+use Rattle.store.specs.Polled.{HasPostedFor}
+use Rattle.store_steps.specs.Views.{SessionView, session_view}
+use Rattle.store.specs.Sessions.{HasRoom, IsOf}
+use Rattle.store_steps.proofs.Gone.{on_known}
+use Rattle.store.proofs.Between.{idle_at, on_at, own_on, post_grown, post_session, post_told, post_well, posted_at, room_on, well_at}
+use Rattle.store_steps.proofs.StoreLaws.{store_laws}
 use Rattle.store.proofs.polled.Polled.post.Goals as goal
 
 pub try_post-requires-clause-idle : goal.try_post-requires-clause-idle

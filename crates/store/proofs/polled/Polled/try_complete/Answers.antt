@@ -1,10 +1,10 @@
 use Rattle.std.proofs.Common.{refl, subst, ◌∙◌}
 use Rattle.replica.specs.StoreMeaning.{store_meaning}
 use Rattle.accounts.specs.Accounts.{IsWellFormed}
-use Rattle.store.specs.Polled.{HasDone}
-use Rattle.store.specs.Sessions.{SessionView}
+use Rattle.store_steps.specs.Stages.{HasDone}
+use Rattle.store_steps.specs.Views.{SessionView}
 use Rattle.store.proofs.Between.{way_then, well_at}
-use Rattle.store.proofs.StoreLaws.{store_laws}
+use Rattle.store_steps.proofs.StoreLaws.{store_laws}
 use Rattle.store.proofs.polled.Polled.try_complete.Goals as goal
 
 pub loop-init : goal.loop-init

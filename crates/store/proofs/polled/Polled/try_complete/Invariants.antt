@@ -2,7 +2,7 @@ use Rattle.std.proofs.Common.{◌≡◌}
 use Rattle.replica.specs.StoreMeaning.{store_meaning}
 use Rattle.accounts.specs.Accounts.{Extends, IsWellFormed}
 use Rattle.store.specs.Sessions.{IsOf}
-use Rattle.store.specs.Polled.{IsOnItsWay}
+use Rattle.store_steps.specs.Stages.{IsOnItsWay}
 use Rattle.store.proofs.polled.Polled.try_complete.Given as goal
 
 abbrev pub invariant-loop : goal.invariant-loop

@@ -1,6 +1,8 @@
 use Rattle.std.proofs.Common.{sym, ap, subst, ◌∙◌}
-use Rattle.store.specs.Sessions.{IsOf, SessionView}
-use Rattle.store.proofs.Between.{idle_at, on_at, on_known}
+use Rattle.store_steps.specs.Views.{SessionView}
+use Rattle.store.specs.Sessions.{IsOf}
+use Rattle.store_steps.proofs.Gone.{on_known}
+use Rattle.store.proofs.Between.{idle_at, on_at}
 use Rattle.store.proofs.polled.Polled.try_read.Goals as goal
 
 pub try_query-requires-clause-idle : goal.try_query-requires-clause-idle

@@ -1,7 +1,7 @@
 use Rattle.std.proofs.Common.{ap, length, sym, subst, ◌∙◌}
-use Rattle.store.specs.Scanning.{ScanGives}
-use Rattle.store.specs.Sessions.{SessionView, first_in}
-use Rattle.store.proofs.Invoked.{seen_as}
+use Rattle.store_steps.specs.Scanning.{ScanGives}
+use Rattle.store_steps.specs.Views.{SessionView, first_in}
+use Rattle.store_steps.proofs.Views.{seen_as}
 use Rattle.store.proofs.session.Session.scan.Goals as goal
 
 pub returns-clause-told : goal.returns-clause-told

@@ -1,7 +1,9 @@
 use Rattle.std.proofs.Common.{sym, ap, ◌∙◌, subst, refl}
 use Rattle.loader.specs.CatalogueView.{CatalogueView}
-use Rattle.store.specs.Sessions.{SessionView, TellsUpdate, session_view}
-use Rattle.store.proofs.Invoked.{has_asked, has_grown, invoked, is_idle, same_session, seen_as, stays_well, still_of, tells_update}
+use Rattle.store_steps.specs.Views.{SessionView, session_view}
+use Rattle.store.specs.Sessions.{TellsUpdate}
+use Rattle.store_steps.proofs.Views.{seen_as}
+use Rattle.store.proofs.Invoked.{has_asked, has_grown, invoked, is_idle, same_session, stays_well, still_of, tells_update}
 use Rattle.store.proofs.session.Session.update.Goals as goal
 
 pub invariant_of-self : goal.invariant_of-self

@@ -2,7 +2,7 @@ use Rattle.std.proofs.Common.{rules, ◌≡◌, ◌+◌, ◌<◌, length, take, 
 use Rattle.ownlock.specs.Seats.{HoldsNone}
 use Rattle.store.specs.Opening.{AreLeft, AreOf, IsClosed, IsLogFor, closed_view, log_in}
 use Rattle.store.specs.Sessions.{StoreView}
-use Rattle.store.specs.Shelving.{sessions_of}
+use Rattle.store_steps.specs.Shelving.{sessions_of}
 use Rattle.store.proofs.Closing.{all_notes, are_left, is_closed, left_of, log_for, some_sessions}
 use Rattle.store.proofs.Joined.{back_holds_none, back_long}
 use Rattle.store.proofs.store.Store.close.Goals as goal

@@ -3,7 +3,7 @@ use Rattle.replica.specs.StoreMeaning.{store_meaning}
 use Rattle.accounts.proofs.Finish.{opens}
 use Rattle.store.specs.Opening.{AreOf}
 use Rattle.store.specs.Sessions.{StoreView}
-use Rattle.store.specs.Shelving.{sessions_of}
+use Rattle.store_steps.specs.Shelving.{sessions_of}
 use Rattle.store.proofs.Fresh.{fresh_long, fresh_of}
 use Rattle.store.proofs.store.Store.opened.Goals as goal
 

@@ -1,7 +1,0 @@
-use Rattle.accounts.specs.DeskNotes.{RepliedThere, desk_noting}
-use Rattle.accounts.specs.Picks.{put_progress, put_note}
-use Rattle.store.specs.Shelving.{view_of}
-use Rattle.store.proofs.combining.try_hand_over.Given as goal
-
-abbrev pub ghosts-put : goal.ghosts-put
-ghosts-put a = record { progress = put_progress a.seat.now.sessions (view_of a.held.value); note = put_note (desk_noting view_of RepliedThere) a.seat.now.sessions (view_of a.held.value) }

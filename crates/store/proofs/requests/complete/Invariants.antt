@@ -1,8 +1,0 @@
-use Rattle.std.proofs.Common.{◌≡◌}
-use Rattle.ownlock.specs.Seats.{IsSession}
-use Rattle.store.specs.Standing.{SessionKnown}
-use Rattle.store.proofs.Resumed.{Resumed}
-use Rattle.store.proofs.requests.complete.Given as goal
-
-abbrev pub invariant-loop : goal.invariant-loop
-invariant-loop g l = (l.seat.shelf ≡ l.initial.seat.shelf) × ((k : SessionKnown) → IsSession l.initial.seat k → (m : SessionKnown) × IsSession l.seat m × Resumed k m)

@@ -1,0 +1,45 @@
+-- Questions, one after another.
+use Rattle.std.proofs.Common.{◌≡◌, ℕ, zero, suc, ◌+◌, ◌<◌, ◌≤◌, Bool, true, false, List, [], ◌∷◌, length, drop, Some, None, slice_get, slice_index_or, slice_set, nat_lt, refl, sym, ◌∙◌, subst, arith}
+use Rattle.std.proofs.lemmas.Bool.{ltb-true, ltb-false}
+use Rattle.std.proofs.lemmas.Option.{same_Some}
+use Rattle.loader.specs.CatalogueView.{CatalogueView}
+use Rattle.node.specs.declared.following.NodeReplica.{NodeReplica}
+use Rattle.replica.proofs.Kept.{get-set_other, get-set_same}
+use Rattle.store_steps.specs.declared.steps.Question.{Question}
+use Rattle.store_steps.specs.Asking.{asked_op}
+use Rattle.store_steps.specs.Questions.{FirstReply, first_refused, question_refusal, refused_or}
+use Rattle.store_steps.specs.Views.{RepliesThere}
+
+-- the first of those that are left, and the others
+pub one_more : (c : CatalogueView) (number n : ℕ) (qs : List Question) (d : Question) → n < length qs
+    → first_refused c number (drop n qs) ≡ refused_or number (question_refusal c (slice_index_or qs n d)) (first_refused c (suc number) (drop (suc n) qs))
+one_more c number n [] d lt = absurd (omega (arith, lt))
+one_more c number zero (q ∷ qs) d lt = refl
+one_more c number (suc n) (q ∷ qs) d lt = one_more c number n qs d (omega (arith, lt))
+
+-- none is left
+pub no_more : (c : CatalogueView) (number n : ℕ) (qs : List Question) → length qs ≤ n → first_refused c number (drop n qs) ≡ None
+no_more c number zero [] le = refl
+no_more c number (suc n) [] le = refl
+no_more c number zero (q ∷ qs) le = absurd (omega (arith, le))
+no_more c number (suc n) (q ∷ qs) le = no_more c number n qs (omega (arith, le))
+
+at_or : (qs : List Question) (n : ℕ) (d q : Question) → slice_get qs n ≡ Some q → slice_index_or qs n d ≡ q
+at_or [] n d q e = absurd cc
+at_or (x ∷ qs) zero d q e = same_Some x q e
+at_or (x ∷ qs) (suc n) d q e = at_or qs n d q e
+
+-- one more has its reply
+pub one_more_reply : (c : CatalogueView) (node : NodeReplica) (qs : List Question) (n : ℕ) (replies : List ℕ) (d : Question) (reply : ℕ) → n < length replies → FirstReply c node qs n replies → (m : NodeReplica) → m ≡ node → RepliesThere c (asked_op (slice_index_or qs n d)) m reply
+    → FirstReply c node qs (n + 1) (slice_set replies n reply)
+one_more_reply c node qs n replies d reply lt first m same_node is i asked low at = by (nat_lt i n) refl
+  where
+    by : (b : Bool) → nat_lt i n ≡ b → (r : ℕ) × (slice_get (slice_set replies n reply) i ≡ Some r) × RepliesThere c (asked_op asked) node r
+    by true e =
+        let below = ltb-true i n e in
+        let r = first i asked below at in
+        (r.0, get-set_other replies n i reply (λ (same : i ≡ n). omega (arith, below, same)) ∙ r.1, r.2)
+    by false e =
+        let above = ltb-false i n e in
+        let same : i ≡ n = omega (arith, above, low) in
+        (reply, subst (λ j. slice_get (slice_set replies n reply) j ≡ Some reply) (sym same) (get-set_same replies n reply lt), subst (λ q. RepliesThere c (asked_op q) node reply) (at_or qs n d asked (subst (λ j. slice_get qs j ≡ Some asked) same at)) (subst (λ z. RepliesThere c (asked_op (slice_index_or qs n d)) z reply) same_node is))

@@ -1,0 +1,323 @@
+-- A session's inner calls as lists of its node's steps, with what others do between them.
+use Rattle.std.proofs.Common.{Bool, true, false, not, ◌&&◌, ◌≡◌, ℕ, ◌<◌, ◌≤◌, List, [], ◌∷◌, ◌++◌, length, refl, sym, ap, ◌∙◌, subst, arith}
+use Rattle.std.specs.Prelude.{nat_le, nat_lt}
+use Rattle.std.proofs.Math.Nat.{le-max_left}
+use Rattle.std.proofs.lemmas.Bool.{le-leb}
+use Rattle.std.proofs.lemmas.List.{append-nil, append_assoc}
+use Rattle.loader.specs.CatalogueView.{CatalogueView}
+use Rattle.oplog.specs.History.{History}
+use Rattle.oplog.specs.Logs.{Log as LogView, HandView}
+use Rattle.oplog.specs.Operations.{Operation}
+use Rattle.combiner.specs.Desks.{BatchView, DeskView, replied}
+use Rattle.replica.specs.Views.{RepliesView}
+use Rattle.accounts.specs.declared.sessions.Progress.{Progress}
+use Rattle.accounts.specs.Accounts.{Extends}
+use Rattle.readpath.specs.declared.reading.ReadAnswer.{ReadAnswer}
+use Rattle.node.specs.Answering.{answered_batch}
+use Rattle.node.specs.Following.{copied, grown, has_next, may_append, may_rebase, no_records, rebased, reclaimed, replayed, replies_after, replies_for, told}
+use Rattle.node.specs.Seen.{Goes, Ends, Meets, OthersDo}
+use Rattle.node.specs.Steps.{NodeStep, Finishes, Replays, Replies, Seen}
+use Rattle.node.proofs.Going.{goes_on}
+use Rattle.node.specs.declared.following.NodeReplica.{NodeReplica}
+use Rattle.node.specs.declared.parts.NodeBatch.{NodeBatch}
+use Rattle.node.specs.declared.parts.NodeBatch.TheVariants.{Absent, Held, InLog}
+use Rattle.store_steps.specs.Standing.{SessionKnown, Agrees, Follows, HasRaised, HoldsLog, IsLogOf, Stands}
+use Rattle.store_steps.specs.Views.{RepliesThere}
+use Rattle.store_steps.specs.Whole.{AnswersBy, AppendsBy, CombinesBy, FollowsBy, HandsOver, MakesRoom, ReadsBy, ReplaysBy, append_steps, if_any, read_steps, replay_steps, sees}
+use Rattle.store_steps.proofs.StoreLaws.{store_laws}
+use Rattle.store_steps.proofs.Followed.{above, kept_up}
+use Rattle.store_steps.proofs.Whole.{agrees_on, append_step, finish_step, follow_step, later, later_is, log_from, log_from_is, others, others_complete, rebase_step, reclaim_step, replay_step, reply_step, still_log}
+
+abbrev K : Type 0
+K = SessionKnown
+
+abbrev L : Type 0
+L = Progress CatalogueView
+
+-- ---- what is the same
+
+module _ {s : Seen} {t : Seen} {xs : List NodeStep} where
+  -- the steps of one catalogue
+  pub under : (c d : CatalogueView) → c ≡ d → Goes c s xs t → Goes d s xs t
+  under c d e goes = subst (λ z. Goes z s xs t) e goes
+
+  -- what is seen last
+  ends_as : (c : CatalogueView) (u : Seen) → t ≡ u → Goes c s xs t → Goes c s xs u
+  ends_as c u e goes = subst (λ z. Goes c s xs z) e goes
+
+-- others come after the last step
+then_others : (c : CatalogueView) (s t u : Seen) (xs : List NodeStep) → Goes c s xs t → OthersDo c t u → Goes c s xs u
+then_others c s t u xs goes others = subst (λ z. Goes c s z u) (append-nil xs) (goes_on goes (Meets t u u [] others (Ends u)))
+
+-- ---- a raise
+
+-- the session saw the log g with the progress l; then it knew k, raised the completed tail, and is after
+module _ (l : L) (k after : K) (g : LogView) (n : NodeReplica) (is : IsLogOf l g) (on : Extends l k.progress) (up : HasRaised k after n.replica.tail) where
+  long_before : up.before.completed ≤ length up.before.history
+  long_before =
+      let all = ap (λ (z : L). length z.history) up.is in let done = ap (λ (z : L). z.completed) up.is in
+      let low = up.stands.accounts.completed in let most = le-max_left up.before.completed n.replica.tail in
+      omega (arith, all, done, low, most)
+
+  pub grows : Extends l after.progress
+  grows = store_laws.extends_on l k.progress after.progress on up.goes.extends
+
+  pub raised_log : IsLogOf after.progress (later after.progress g)
+  raised_log = later_is l after.progress g is grows up.stands.accounts.completed
+
+  then_is : later up.before g ≡ later after.progress g
+  then_is = ap (λ z. later z g) (sym up.is)
+
+  pub raise_part : (c : CatalogueView) (b : NodeBatch) (d : DeskView) → Goes c (sees l g n b d) (if_any (nat_lt up.before.completed n.replica.tail) (Finishes ∷ [])) (sees after.progress (later after.progress g) n b d)
+  raise_part c b d =
+      Meets (sees l g n b d) (sees up.before (later up.before g) n b d) _ _ (others l up.before g is (store_laws.extends_on l k.progress up.before on up.was) long_before c n b d)
+      (subst (λ z. Goes c (sees up.before (later up.before g) n b d) (if_any (nat_lt up.before.completed n.replica.tail) (Finishes ∷ [])) (sees after.progress z n b d)) then_is
+      (finish_step c up.before after.progress (later up.before g) n b d up.is))
+
+-- ---- room is made
+
+module _ (k : K) (g : LogView) (n u : NodeReplica) (is : IsLogOf k.progress g) (f : Follows k.progress n) (behind : may_rebase g n ≡ true → u ≡ rebased g n) (stays : may_rebase g n ≡ false → u ≡ n) where
+  -- there was room
+  pub makes_none : MakesRoom k k g g n u
+  makes_none = record {
+    low = may_rebase g n;
+    full = false;
+    next = false;
+    later = false;
+    goes = λ b d. goes_on (rebase_step k.progress.catalogue k.progress g n u (Held b) d behind stays) (Ends (sees k.progress g u (Held b) d));
+  }
+
+  abbrev c : CatalogueView
+  c = k.progress.catalogue
+
+  keeps : Follows k.progress u × (g.base ≤ u.replica.tail)
+  keeps = kept_up k.progress g n is f u behind stays
+
+  -- the replica comes up, or stays
+  Comes : NodeReplica → Type 0
+  Comes m = (next : Bool) × ((b : BatchView) (d : DeskView) → Goes c (sees k.progress g u (Held b) d) (if_any next (Replays ∷ [])) (sees k.progress g m (Held b) d))
+
+  comes : (m : NodeReplica) (up : Bool) → (up ≡ false → m ≡ u) → (up ≡ true → m ≡ replayed c (copied g u)) → Comes m
+  unfolding Comes
+  comes m false same ran = (false, λ b d. subst (λ z. Goes c (sees k.progress g u (Held b) d) [] (sees k.progress g z (Held b) d)) (sym (same refl)) (Ends (sees k.progress g u (Held b) d)))
+  comes m true same ran = (has_next g u, λ b d. follow_step c k.progress g u m (above k.progress g u is keeps.0 keeps.1) keeps.0 (ran refl) (Held b) d (λ x. refl))
+
+  -- there was none
+  module _ (after : K) (m : NodeReplica) (came : Bool) (same : came ≡ false → m ≡ u) (ran : came ≡ true → m ≡ replayed c (copied g u)) (up : HasRaised k after m.replica.tail) (holds : HoldsLog k) (past : g.base < m.replica.tail) (h : LogView) (log : h ≡ reclaimed m (told m g)) where
+    abbrev ahead : Bool
+    ahead = nat_lt up.before.completed m.replica.tail
+
+    same_log : later after.progress g ≡ g
+    same_log = still_log k.progress after.progress g is up.goes.extends up.stands.accounts.completed (up.still holds)
+
+    raises : (b : BatchView) (d : DeskView) → Goes c (sees k.progress g m (Held b) d) (if_any ahead (Finishes ∷ [])) (sees after.progress g m (Held b) d)
+    raises b d = subst (λ z. Goes c (sees k.progress g m (Held b) d) (if_any ahead (Finishes ∷ [])) (sees after.progress z m (Held b) d)) same_log (raise_part k.progress k after g m is (store_laws.extends_self k.progress) up c (Held b) d)
+
+    pub makes_room : MakesRoom k after g h n m
+    unfolding Comes
+    makes_room = record {
+      low = may_rebase g n;
+      full = true;
+      next = (comes m came same ran).0;
+      later = ahead;
+      goes = λ b d. ends_as c (sees after.progress h m (Held b) d) (ap (λ z. sees after.progress z m (Held b) d) (sym log))
+          (goes_on (rebase_step c k.progress g n u (Held b) d behind stays)
+          (goes_on (goes_on ((comes m came same ran).1 b d) (raises b d)) (reclaim_step c after.progress g m (Held b) d past up.completed)));
+    }
+
+-- ---- the batch is appended
+
+-- the session k took the log g, and is t then, m once there is room in h, and f once it has put it back
+module _ (k t m f : K) (g h h2 : LogView) (n v v2 : NodeReplica) (rs : History) (kept : RepliesView) (took : Extends k.progress t.progress) (log_is : IsLogOf t.progress g) (room : MakesRoom t m g h n v) (may : may_append rs h v ≡ true)
+    (log : h2 ≡ grown rs h) (node : v2 ≡ copied h2 v) (replies : kept ≡ replies_for rs h) (back_is : IsLogOf f.progress h2) (rise : m.progress.completed ≤ f.progress.completed) (low : f.progress.completed ≤ length f.progress.history) where
+  pub appends_by : (b : BatchView) → b.records ≡ rs → AppendsBy k f b n v2 kept
+  appends_by b same = record {
+    from = t.progress;
+    since = took;
+    log = g;
+    back = h2;
+    log_is = log_is;
+    back_is = back_is;
+    low = room.low;
+    full = room.full;
+    next = room.next;
+    later = room.later;
+    goes = λ d. under t.progress.catalogue k.progress.catalogue (sym took.catalogue)
+        (goes_on (room.goes b d)
+        (goes_on (append_step t.progress.catalogue m.progress h h2 v v2 b kept rs d same may log node replies)
+        (Meets _ _ _ [] (others_complete t.progress.catalogue m.progress f.progress h2 v2 (InLog (record { batch = b; replies = kept })) d rise back_is low) (Ends _))));
+  }
+
+-- ---- what was copied is replayed
+
+module _ (k after : K) (g : LogView) (n m : NodeReplica) (old new : RepliesView) (is : IsLogOf k.progress g) (begins : n.hand.begin ≡ n.replica.tail) (own : m ≡ replayed k.progress.catalogue n) (kept : new ≡ replies_after k.progress.catalogue n old) (up : HasRaised k after m.replica.tail) where
+  pub replays_by : ReplaysBy k after g n m old new
+  replays_by = record {
+    log = later after.progress g;
+    log_is = raised_log k.progress k after g m is (store_laws.extends_self k.progress) up;
+    more = not (no_records n.hand.records);
+    ahead = nat_lt up.before.completed m.replica.tail;
+    goes = λ b d. goes_on (replay_step k.progress.catalogue k.progress g n m b old new d begins own kept)
+        (raise_part k.progress k after g m is (store_laws.extends_self k.progress) up k.progress.catalogue (InLog (record { batch = b; replies = new })) d);
+  }
+
+-- ---- the answers are handed over
+
+pub hands_over : (k after : K) (g : LogView) (n : NodeReplica) (b : BatchView) (kept : RepliesView) (d : DeskView) → IsLogOf k.progress g → Agrees k.progress n → Extends k.progress after.progress → after.progress.completed ≤ length after.progress.history → HandsOver k after g n b kept
+hands_over k after g n b kept d is a grown low =
+    let tail = a.0.tail in let rise = grown.completed in record {
+      log = later after.progress g;
+      log_is = later_is k.progress after.progress g is grown low;
+      desk = d;
+      goes = Meets _ _ _ _ (others k.progress after.progress g is grown low k.progress.catalogue n (InLog (record { batch = b; replies = kept })) d)
+          (reply_step k.progress.catalogue after.progress (later after.progress g) n b kept d (ap (λ (z : HandView). z.records) a.1.1) (omega (arith, tail, rise)));
+    }
+
+-- the answers are kept, and the replica is back
+module _ (k t a r f : K) (b : BatchView) (n v m : NodeReplica) (old new : RepliesView) (took : Extends k.progress t.progress) (found : Agrees t.progress n) (stands : Stands t) (first : AppendsBy t a b n v old)
+    (then : ReplaysBy a r first.back v m old new) (since : Extends t.progress a.progress) (up : Extends a.progress r.progress) (agrees : Agrees r.progress m) (back : Extends r.progress f.progress) (stands_f : Stands f) (within : m.replica.tail ≤ length r.progress.history) where
+  abbrev c0 : CatalogueView
+  c0 = k.progress.catalogue
+
+  low_f : f.progress.completed ≤ length f.progress.history
+  low_f = stands_f.accounts.completed
+
+  to_a : k.progress.catalogue ≡ a.progress.catalogue
+  to_a = took.catalogue ∙ since.catalogue
+
+  pub answers_by : AnswersBy k f b new
+  answers_by = record {
+    from = first.from;
+    since = store_laws.extends_on k.progress t.progress first.from took first.since;
+    log = first.log;
+    back = later f.progress then.log;
+    log_is = first.log_is;
+    back_is = later_is r.progress f.progress then.log then.log_is back low_f;
+    own = n;
+    left = m;
+    own_is = agrees_on t.progress first.from n first.since (let tail = found.0.tail in let low = stands.accounts.completed in omega (arith, tail, low)) found;
+    left_is = agrees_on r.progress f.progress m back within agrees;
+    low = first.low;
+    full = first.full;
+    next = first.next;
+    later = first.later;
+    more = then.more;
+    ahead = then.ahead;
+    goes = λ d. goes_on (under t.progress.catalogue c0 (sym took.catalogue) (first.goes d))
+        (then_others c0 _ _ _ (replay_steps then.more then.ahead) (under a.progress.catalogue c0 (sym to_a) (then.goes b d))
+        (others r.progress f.progress then.log then.log_is back low_f c0 m (InLog (record { batch = b; replies = new })) d));
+  }
+
+-- the whole combine: the session k was f when its answers were kept, and z once it had handed them over
+module _ (k f z : K) (b : BatchView) (kept : RepliesView) (first : AnswersBy k f b kept) (last : HandsOver f z first.back first.left b kept) (on : Extends k.progress f.progress) (end : Extends f.progress z.progress) (stands : Stands f) where
+  abbrev began : Seen
+  began = sees first.from first.log first.own (Held b) last.desk
+
+  abbrev ended : Seen
+  ended = sees z.progress last.log first.left Absent (replied (answered_batch kept b) last.desk)
+
+  within_f : first.left.replica.tail ≤ length f.progress.history
+  within_f = let tail = first.left_is.0.tail in let low = stands.accounts.completed in omega (arith, tail, low)
+
+  pub combines_by : (answered : BatchView) → answered ≡ answered_batch kept b → CombinesBy k z b answered
+  combines_by answered answers = record {
+    from = first.from;
+    since = first.since;
+    log = first.log;
+    back = last.log;
+    log_is = first.log_is;
+    back_is = last.log_is;
+    own = first.own;
+    left = first.left;
+    own_is = first.own_is;
+    left_is = agrees_on f.progress z.progress first.left end within_f first.left_is;
+    kept = kept;
+    answers = answers;
+    desk = last.desk;
+    low = first.low;
+    full = first.full;
+    next = first.next;
+    later = first.later;
+    more = first.more;
+    ahead = first.ahead;
+    goes = subst (λ xs. Goes k.progress.catalogue began xs ended) (append_assoc (append_steps first.low first.full first.next first.later) (replay_steps first.more first.ahead) (Replies ∷ []))
+        (goes_on (first.goes last.desk) (under f.progress.catalogue k.progress.catalogue (sym on.catalogue) last.goes));
+  }
+
+-- ---- a read
+
+-- a replica that is ready follows nothing
+pub follows_none : (k : K) (n : NodeReplica) → Agrees k.progress n → Stands k → FollowsBy k k n n
+follows_none k n a stands = record {
+  from = k.progress;
+  since = store_laws.extends_self k.progress;
+  log = log_from k.progress n;
+  back = log_from k.progress n;
+  log_is = log_from_is k.progress n stands.accounts.completed a;
+  back_is = log_from_is k.progress n stands.accounts.completed a;
+  low = false;
+  next = false;
+  later = false;
+  goes = λ d. Ends (sees k.progress (log_from k.progress n) n Absent d);
+}
+
+-- the session k took the log g and is t then, f once it has put it back, and after once it has raised the completed tail
+module _ (k t f after : K) (g : LogView) (n u m : NodeReplica) (took : Extends k.progress t.progress) (is : IsLogOf t.progress g) (follows : Follows t.progress n) (behind : may_rebase g n ≡ true → u ≡ rebased g n) (stays : may_rebase g n ≡ false → u ≡ n)
+    (ran : m ≡ replayed t.progress.catalogue (copied g u)) (on : Extends t.progress f.progress) (up : HasRaised f after m.replica.tail) where
+  keeps_up : Follows t.progress u × (g.base ≤ u.replica.tail)
+  keeps_up = kept_up t.progress g n is follows u behind stays
+
+  abbrev c1 : CatalogueView
+  c1 = t.progress.catalogue
+
+  pub follows_by : FollowsBy k after n m
+  follows_by = record {
+    from = t.progress;
+    since = took;
+    log = g;
+    back = later after.progress g;
+    log_is = is;
+    back_is = raised_log t.progress f after g m is on up;
+    low = may_rebase g n;
+    next = has_next g u;
+    later = nat_lt up.before.completed m.replica.tail;
+    goes = λ d. under c1 k.progress.catalogue (sym took.catalogue)
+        (goes_on (rebase_step c1 t.progress g n u Absent d behind stays)
+        (goes_on (follow_step c1 t.progress g u m (above t.progress g u is keeps_up.0 keeps_up.1) keeps_up.0 ran Absent d (λ x. refl)) (raise_part t.progress f after g m is on up c1 Absent d)));
+  }
+
+-- the whole read: the session k loaded the completed tail, which was done with the progress p, took its replica and is t then, r once that has come up, and f once it has put it back
+module _ (k t r f : K) (p : L) (done : ℕ) (n m : NodeReplica) (op : Operation) (answer : ReadAnswer) (grown : Extends k.progress p) (done_is : done ≡ p.completed) (took : Extends p t.progress) (found : Agrees t.progress n) (stands : Stands t) (first : FollowsBy t r n m)
+    (up : Extends t.progress r.progress) (agrees : Agrees r.progress m) (within : m.replica.tail ≤ length r.progress.history) (reached : done ≤ m.replica.tail) (back : Extends r.progress f.progress) (stands_f : Stands f) where
+  abbrev c2 : CatalogueView
+  c2 = k.progress.catalogue
+
+  to_t : k.progress.catalogue ≡ t.progress.catalogue
+  to_t = grown.catalogue ∙ took.catalogue
+
+  pub reads_by : f.tails_read ≡ k.tails_read ++ done ∷ [] → answer.point ≡ m.replica.tail → RepliesThere k.progress.catalogue op m answer.reply → ReadsBy k f op answer
+  reads_by read point reply =
+      let tail = agrees.0.tail in let rise = back.completed in let rise_t = took.completed in let rise_s = first.since.completed in record {
+        seen = done;
+        more = [];
+        read = read;
+        from = first.from;
+        since = store_laws.extends_on k.progress t.progress first.from (store_laws.extends_on k.progress p t.progress grown took) first.since;
+        begun = omega (arith, done_is, rise_t, rise_s);
+        log = first.log;
+        back = later f.progress first.back;
+        log_is = first.log_is;
+        back_is = later_is r.progress f.progress first.back first.back_is back stands_f.accounts.completed;
+        own = n;
+        left = m;
+        own_is = agrees_on t.progress first.from n first.since (let tail = found.0.tail in let low = stands.accounts.completed in omega (arith, tail, low)) found;
+        left_is = agrees_on r.progress f.progress m back within agrees;
+        low = first.low;
+        next = first.next;
+        later = first.later;
+        goes = λ d. then_others c2 _ _ _ (read_steps first.low first.next first.later) (under t.progress.catalogue c2 (sym to_t) (first.goes d))
+            (others r.progress f.progress first.back first.back_is back stands_f.accounts.completed c2 m Absent d);
+        may = ap (λ z. z && nat_le m.replica.tail f.progress.completed) (le-leb done m.replica.tail reached) ∙ le-leb m.replica.tail f.progress.completed (omega (arith, tail, rise));
+        point = point;
+        reply = reply;
+      }

@@ -1,0 +1,234 @@
+-- A session that found a place held: what it was free to do it still is, and what its last try tells holds from its first one on.
+use Rattle.std.proofs.Common.{◌≡◌, ℕ, ◌≤◌, List, [], ◌∷◌, ◌++◌, length, append-nil, append_assoc, sym, refl, ap, ◌∙◌, subst, arith}
+use Rattle.std.specs.Prelude.{nat_le}
+use Rattle.std.proofs.lemmas.Bool.{and_from, and_parts, le-leb, leb-true}
+use Rattle.ownlock.specs.Seats.{having_read}
+use Rattle.ownlock.specs.Knowledge.{Possible}
+use Rattle.loader.specs.CatalogueView.{CatalogueView}
+use Rattle.oplog.specs.Operations.{Operation}
+use Rattle.combiner.specs.Desks.{BatchView}
+use Rattle.readpath.specs.declared.reading.ReadAnswer.{ReadAnswer}
+use Rattle.replica.specs.Views.{RepliesView}
+use Rattle.accounts.specs.declared.sessions.Progress.{Progress}
+use Rattle.accounts.specs.declared.sessions.SessionNote.{SessionNote}
+use Rattle.node.specs.declared.following.NodeReplica.{NodeReplica}
+use Rattle.store_steps.specs.declared.values.Value.{Value}
+use Rattle.store_steps.specs.Combining.{HasAnswered, HasClaimed, HasCombined}
+use Rattle.store_steps.specs.declared.scanning.Scan.{Scan}
+use Rattle.store_steps.specs.declared.steps.Question.{Question}
+use Rattle.store_steps.specs.Questions.{AreReadBy}
+use Rattle.store_steps.specs.Scanning.{HasSeen, IsScannedBy}
+use Rattle.store_steps.specs.Views.{IsReadBy, RepliesThere}
+use Rattle.store_steps.specs.Shelving.{store_rules}
+use Rattle.store_steps.specs.Standing.{Agrees, SessionKnown, Stands}
+use Rattle.store_steps.specs.Trying.{BeginsBelow, IsStill}
+use Rattle.store_steps.specs.Whole.{AnswersBy, ReadsBy}
+use Rattle.store_steps.proofs.Finished.{Back}
+use Rattle.store_steps.proofs.StoreLaws.{store_laws}
+use Rattle.store_steps.proofs.Stretches.{under}
+use Rattle.store_steps.proofs.Taken.{TookReplica, well_formed}
+
+abbrev K : Type 0
+K = SessionKnown
+
+abbrev L : Type 0
+L = Progress CatalogueView
+
+pub low_enough : (k : K) (n : NodeReplica) → Agrees k.progress n → Stands k → n.replica.tail ≤ length k.progress.history
+low_enough k n a s = let low = a.0.tail in let all = s.accounts.completed in omega (arith, low, all)
+
+-- ---- it stays still
+
+pub still_self : (k : K) → k.held ≡ [] → IsStill k k
+still_self k none = record {
+  session = refl;
+  held = none;
+  note = refl;
+  extends = store_laws.extends_self k.progress;
+  well_formed = λ w. w;
+  more = [];
+  read = sym (append-nil k.tails_read);
+  below = tt;
+}
+
+-- its node's replica was put back as it was taken
+pub still_back : (p : ℕ) (k t f : K) (w : Value) → TookReplica p k t w → Back t f → IsStill k f
+still_back p k t f w b e = record {
+  session = e.session ∙ b.session;
+  held = e.held;
+  note = e.note ∙ b.note;
+  extends = store_laws.extends_on k.progress t.progress f.progress b.extends e.extends;
+  well_formed = λ _. well_formed f.progress e.stands.notes e.stands.accounts;
+  more = [];
+  read = e.tails_read ∙ (b.tails_read ∙ sym (append-nil k.tails_read));
+  below = tt;
+}
+
+-- it has read the completed tail alone, which is that of the progress l
+pub still_told : (k : K) (l : L) (n : ℕ) (ns : List SessionNote) → k.held ≡ [] → Possible store_rules k l ns → n ≡ l.completed → IsStill k (having_read k l n)
+still_told k l n ns none can is = record {
+  session = refl;
+  held = none;
+  note = refl;
+  extends = can.0.0;
+  well_formed = λ _. well_formed l ns can.2;
+  more = n ∷ [];
+  read = refl;
+  below = omega (arith, is);
+}
+
+begins_on : (ms ns : List ℕ) (low high : ℕ) → low ≤ high → BeginsBelow ms low → BeginsBelow ns high → BeginsBelow (ms ++ ns) high
+begins_on [] ns low high up first next = next
+begins_on (m ∷ ms) ns low high up first next = omega (arith, up, first)
+
+pub still_then : (k t f : K) → IsStill k t → IsStill t f → IsStill k f
+still_then k t f a b = record {
+  session = b.session ∙ a.session;
+  held = b.held;
+  note = b.note ∙ a.note;
+  extends = store_laws.extends_on k.progress t.progress f.progress a.extends b.extends;
+  well_formed = λ w. b.well_formed (a.well_formed w);
+  more = a.more ++ b.more;
+  read = b.read ∙ (ap (λ z. z ++ b.more) a.read ∙ append_assoc k.tails_read a.more b.more);
+  below = begins_on a.more b.more t.progress.completed f.progress.completed b.extends.completed a.below b.below;
+}
+
+-- ---- and then its try went well
+
+pub claimed_still : (k m : K) (b : BatchView) → IsStill k m → HasClaimed k b → HasClaimed m b
+claimed_still k m b s c = record { noted = ap (λ (n : SessionNote). n.batch) s.note ∙ c.noted; some = c.some; ascend = c.ascend }
+
+pub answered_since : (k m f : K) (b : BatchView) (kept : RepliesView) → IsStill k m → HasAnswered m f b kept → HasAnswered k f b kept
+answered_since k m f b kept s a = record {
+  session = a.session ∙ s.session;
+  held = a.held;
+  note = a.note ∙ ap (λ (n : SessionNote). record n { batch = [] }) s.note;
+  extends = store_laws.extends_on k.progress m.progress f.progress s.extends a.extends;
+  ready = a.ready;
+  stands = a.stands;
+}
+
+pub answers_since : (k m f : K) (b : BatchView) (kept : RepliesView) → IsStill k m → AnswersBy m f b kept → AnswersBy k f b kept
+answers_since k m f b kept s a = record {
+  from = a.from;
+  since = store_laws.extends_on k.progress m.progress a.from s.extends a.since;
+  log = a.log;
+  back = a.back;
+  log_is = a.log_is;
+  back_is = a.back_is;
+  own = a.own;
+  left = a.left;
+  own_is = a.own_is;
+  left_is = a.left_is;
+  low = a.low;
+  full = a.full;
+  next = a.next;
+  later = a.later;
+  more = a.more;
+  ahead = a.ahead;
+  goes = λ d. under m.progress.catalogue k.progress.catalogue (sym s.extends.catalogue) (a.goes d);
+}
+
+pub combined_then : (k f z : K) (b : BatchView) (kept : RepliesView) → HasAnswered k f b kept → HasCombined f z → HasCombined k z
+combined_then k f z b kept a c = record {
+  session = c.session ∙ a.session;
+  held = c.held;
+  note = c.note ∙ a.note;
+  extends = store_laws.extends_on k.progress f.progress z.progress a.extends c.extends;
+  stands = c.stands;
+}
+
+-- ---- a read, of all whose tries the first read of the completed tail counts
+
+abbrev first_read : List ℕ → ℕ → ℕ
+first_read [] n = n
+first_read (m ∷ ms) n = m
+
+abbrev later_reads : List ℕ → ℕ → List ℕ → List ℕ
+later_reads [] n ns = ns
+later_reads (m ∷ ms) n ns = ms ++ n ∷ ns
+
+all_reads : (ms : List ℕ) (n : ℕ) (ns : List ℕ) → ms ++ n ∷ ns ≡ first_read ms n ∷ later_reads ms n ns
+all_reads [] n ns = refl
+all_reads (m ∷ ms) n ns = refl
+
+first_below : (ms : List ℕ) (n low top : ℕ) → BeginsBelow ms low → low ≤ top → n ≤ top → first_read ms n ≤ top
+first_below [] n low top below up last = last
+first_below (m ∷ ms) n low top below up last = omega (arith, below, up)
+
+module _ (k m f : K) (s : IsStill k m) where
+  reads : (n : ℕ) (ns : List ℕ) → f.tails_read ≡ m.tails_read ++ n ∷ ns → f.tails_read ≡ k.tails_read ++ first_read s.more n ∷ later_reads s.more n ns
+  reads n ns read = read ∙ (ap (λ z. z ++ n ∷ ns) s.read ∙ (append_assoc k.tails_read s.more (n ∷ ns) ∙ ap (λ z. k.tails_read ++ z) (all_reads s.more n ns)))
+
+  pub seen_since : (point : ℕ) → HasSeen m f point → HasSeen k f point
+  seen_since point r =
+      let up = s.extends.completed in let far = r.far in record {
+        begun = first_read s.more r.begun;
+        more = later_reads s.more r.begun r.more;
+        read = reads r.begun r.more r.read;
+        reached = first_below s.more r.begun m.progress.completed point s.below far r.reached;
+        far = omega (arith, up, far);
+        session = r.session ∙ s.session;
+        held = r.held;
+        note = r.note ∙ s.note;
+        extends = store_laws.extends_on k.progress m.progress f.progress s.extends r.extends;
+        well_formed = r.well_formed;
+      }
+
+  pub scanned_since : (map from key_room value_room : ℕ) (keys values : List ℕ) (scan : Scan) → IsScannedBy m f map from key_room value_room keys values scan → IsScannedBy k f map from key_room value_room keys values scan
+  scanned_since map from key_room value_room keys values scan t =
+      let up = s.extends.completed in let told = t.1.1 in let far = told.point.0 in (
+        seen_since scan.point t.0,
+        (t.1.0, record { point = (omega (arith, up, far), told.point.1); there = told.there; shape = told.shape; scans = told.scans; page = told.page }),
+      )
+
+  pub each_since : (questions : List Question) (point : ℕ) (replies : List ℕ) → AreReadBy m f questions point replies → AreReadBy k f questions point replies
+  each_since questions point replies t =
+      let up = s.extends.completed in let far = t.1.0 in (
+        seen_since point t.0,
+        (omega (arith, up, far), t.1.1, λ i asked is. let r = t.1.2 i asked is in (r.0, r.1, (omega (arith, up, far), r.2.1, r.2.2))),
+      )
+
+module _ (k m f : K) (op : Operation) (answer : ReadAnswer) (s : IsStill k m) where
+  pub read_since : IsReadBy m f op answer → IsReadBy k f op answer
+  read_since r =
+      let up = s.extends.completed in let far = r.tells.0 in record {
+        begun = first_read s.more r.begun;
+        more = later_reads s.more r.begun r.more;
+        read = reads k m f s r.begun r.more r.read;
+        reached = first_below s.more r.begun m.progress.completed answer.point s.below far r.reached;
+        session = r.session ∙ s.session;
+        held = r.held;
+        note = r.note ∙ s.note;
+        extends = store_laws.extends_on k.progress m.progress f.progress s.extends r.extends;
+        well_formed = r.well_formed;
+        tells = (omega (arith, up, far), r.tells.1, r.tells.2);
+      }
+
+  pub reads_since : m.progress.completed ≤ answer.point → ReadsBy m f op answer → ReadsBy k f op answer
+  reads_since far r =
+      let may = and_parts (nat_le r.seen r.left.replica.tail) (nat_le r.left.replica.tail f.progress.completed) r.may in
+      let low = leb-true r.seen r.left.replica.tail may.0 in
+      let point = r.point in record {
+        seen = first_read s.more r.seen;
+        more = later_reads s.more r.seen r.more;
+        read = reads k m f s r.seen r.more r.read;
+        from = r.from;
+        since = store_laws.extends_on k.progress m.progress r.from s.extends r.since;
+        begun = first_below s.more r.seen m.progress.completed r.from.completed s.below r.since.completed r.begun;
+        log = r.log;
+        back = r.back;
+        log_is = r.log_is;
+        back_is = r.back_is;
+        own = r.own;
+        left = r.left;
+        own_is = r.own_is;
+        left_is = r.left_is;
+        low = r.low;
+        next = r.next;
+        later = r.later;
+        goes = λ d. under m.progress.catalogue k.progress.catalogue (sym s.extends.catalogue) (r.goes d);
+        may = and_from _ _ (le-leb (first_read s.more r.seen) r.left.replica.tail (first_below s.more r.seen m.progress.completed r.left.replica.tail s.below (omega (arith, far, point)) low)) may.1;
+        point = point;
+        reply = subst (λ c. RepliesThere c op r.left answer.reply) (sym s.extends.catalogue) r.reply;
+      }

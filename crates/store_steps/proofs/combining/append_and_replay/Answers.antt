@@ -1,0 +1,41 @@
+use Rattle.std.proofs.Common.{refl, subst, ◌∙◌}
+use Rattle.ownlock.proofs.Seats.{one_known}
+use Rattle.store_steps.specs.Standing.{IsFree}
+use Rattle.store_steps.proofs.Taken.{free_on, shelf_on}
+use Rattle.store_steps.proofs.Tried.{answered_since, answers_since, claimed_still, still_self, still_then}
+use Rattle.store_steps.proofs.combining.append_and_replay.Goals as goal
+
+pub loop-init : goal.loop-init
+loop-init g c = (
+  refl,
+  λ k is.
+      let i = c.requires.claimed in
+      let free = subst (λ z. IsFree c.args.caller z) (one_known c.args.seat.now i.0 k i.1 is) i.2.0 in
+      (k, is, still_self k free.held),
+)
+
+pub try_combine-requires-clause-claimed : goal.try_combine-requires-clause-claimed
+try_combine-requires-clause-claimed g c =
+    let i = c.requires.claimed in
+    let m = c.loop.invariant.1 i.0 i.1 in
+    (m.0, m.1, (free_on c.args.caller i.0 m.0 m.2.session m.2.held m.2.extends i.2.0, claimed_still i.0 m.0 c.args.batch.now m.2 i.2.1, shelf_on _ _ _ i.0 m.0 m.2.extends i.2.2))
+
+pub returns-in-Ok-clause-combined : goal.returns-in-Ok-clause-combined
+returns-in-Ok-clause-combined g c k is =
+    let m = c.loop.invariant.1 k is in
+    let t = c.in-Ok.ensures.combined m.0 m.1 in
+    (t.0, t.1, answered_since k m.0 t.0 c.args.batch.now c.try_combine.new.replies m.2 t.2)
+
+pub returns-in-Ok-clause-goes : goal.returns-in-Ok-clause-goes
+returns-in-Ok-clause-goes g c k after is now =
+    let m = c.loop.invariant.1 k is in
+    answers_since k m.0 after c.args.batch.now c.try_combine.new.replies m.2 (c.in-Ok.ensures.goes m.0 after m.1 now)
+
+pub loop-preserved : goal.loop-preserved
+loop-preserved g c = (
+  c.try_combine.ensures.same ∙ c.loop.invariant.0,
+  λ k is.
+      let m = c.loop.invariant.1 k is in
+      let t = c.in-Err.ensures.stays m.0 m.1 in
+      (t.0, t.1, still_then k m.0 t.0 m.2 t.2),
+)

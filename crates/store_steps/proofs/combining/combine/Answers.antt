@@ -1,0 +1,30 @@
+use Rattle.std.proofs.Common.{subst}
+use Rattle.ownlock.proofs.Seats.{one_known}
+use Rattle.store_steps.specs.Whole.{CombinesBy}
+use Rattle.store_steps.proofs.Stretches.{combines_by}
+use Rattle.store_steps.proofs.Taken.{free_on, shelf_on}
+use Rattle.store_steps.proofs.Tried.{combined_then}
+use Rattle.store_steps.proofs.combining.combine.Goals as goal
+
+pub hand_over-requires-clause-ready : goal.hand_over-requires-clause-ready
+hand_over-requires-clause-ready g c =
+    let i = c.requires.claimed in
+    let a = c.append_and_replay.ensures.combined i.0 i.1 in
+    (a.0, a.1, (free_on c.args.caller i.0 a.0 a.2.session a.2.held a.2.extends i.2.0, a.2.ready, shelf_on _ _ _ i.0 a.0 a.2.extends i.2.2, a.2.stands))
+
+pub returns-clause-combined : goal.returns-clause-combined
+returns-clause-combined g c k is =
+    let a = c.append_and_replay.ensures.combined k is in
+    let z = c.hand_over.ensures.combined a.0 a.1 in
+    (z.0, z.1, combined_then k a.0 z.0 c.args.batch.now c.append_and_replay.new.replies a.2 z.2)
+
+pub returns-clause-goes : goal.returns-clause-goes
+returns-clause-goes g c k after is now =
+    let b = c.args.batch.now in
+    let kept = c.append_and_replay.new.replies in
+    let a = c.append_and_replay.ensures.combined k is in
+    let first = c.append_and_replay.ensures.goes k a.0 is a.1 in
+    let z = c.hand_over.ensures.combined a.0 a.1 in
+    let last = c.hand_over.ensures.handed a.0 z.0 a.1 z.1 first.back first.left first.back_is first.left_is in
+    subst (λ s. CombinesBy k s b c.hand_over.new.batch) (one_known c.hand_over.new.seat z.0 after z.1 now)
+    (combines_by k a.0 z.0 b kept first last a.2.extends z.2.extends a.2.stands c.hand_over.new.batch c.hand_over.ensures.answered)

@@ -1,0 +1,19 @@
+use Rattle.std.proofs.Common.{ap, ◌∙◌}
+use Rattle.store_steps.proofs.requests.post.Goals as goal
+
+pub try_post-requires-clause-own : goal.try_post-requires-clause-own
+try_post-requires-clause-own g c = ap (λ s. s.shelf) c.loop.invariant ∙ c.requires.own
+
+pub try_post-requires-clause-idle : goal.try_post-requires-clause-idle
+try_post-requires-clause-idle g c =
+    let i = c.requires.idle in
+    (i.0, ap (λ s. s.sessions) c.loop.invariant ∙ i.1, i.2, i.3, i.4)
+
+pub returns-in-Some-try_post-clause-same : goal.returns-in-Some-try_post-clause-same
+returns-in-Some-try_post-clause-same g c = c.try_post.ensures.same ∙ ap (λ s. s.shelf) c.loop.invariant
+
+pub returns-in-Some-try_post-clause-posted : goal.returns-in-Some-try_post-clause-posted
+returns-in-Some-try_post-clause-posted g c k is = c.in-Some-try_post.ensures.posted k (ap (λ s. s.sessions) c.loop.invariant ∙ is)
+
+pub loop-preserved : goal.loop-preserved
+loop-preserved g c = c.in_default.ensures.stays ∙ c.loop.invariant

@@ -1,0 +1,23 @@
+use Rattle.std.proofs.Common.{◌+◌}
+use Rattle.store_steps.proofs.Ready.{may_put_ready, node_is, ready_back, scanned_ready}
+use Rattle.store_steps.proofs.scanning.try_scan.Goals as goal
+
+pub put-requires-clause-may : goal.put-requires-clause-may
+put-requires-clause-may c =
+    let i = c.requires.idle in
+    let v = c.in_ok-held.held.value in
+    let r = c.in_ok-held.ensures.ready i.0 i.1 in
+    (r.0, r.1, may_put_ready i.0 r.0 (1 + c.args.caller.node) v r.2 c.try_hold_ready.new.seat.sessions r.1 v r.2.is _ c.in_ok-held.ensures.place)
+
+pub returns-clause-scanned : goal.returns-clause-scanned
+returns-clause-scanned c k is =
+    let v = c.in_ok-held.held.value in
+    let n = c.replica.result.now in
+    let r = c.in_ok-held.ensures.ready k is in
+    let p = c.put.ensures.put r.0 r.1 in
+    let b = ready_back k r.0 (1 + c.args.caller.node) v r.2 c.try_hold_ready.new.seat.sessions r.1 v r.2.is _ c.in_ok-held.ensures.place p.0 p.1.0 p.1.1 in (
+      _,
+      p.2,
+      scanned_ready k r.0 (1 + c.args.caller.node) v r.2 _ b c.args.begin.map c.args.begin.from _ _ c.scan_there-scan.new.keys c.scan_there-scan.new.values c.scan_there-scan.result n (node_is k r.0 (1 + c.args.caller.node) v r.2 n c.replica.ensures.replica)
+          c.scan_there-scan.ensures.point c.scan_there-scan.ensures.gives,
+    )

@@ -1,0 +1,30 @@
+use Rattle.std.proofs.Common.{◌≤◌, subst, arith}
+use Rattle.ownlock.proofs.Seats.{one_known}
+use Rattle.store_steps.specs.Standing.{Agrees, Stands}
+use Rattle.store_steps.specs.Whole.{FollowsBy}
+use Rattle.store_steps.proofs.Finished.{is_there, far_enough}
+use Rattle.store_steps.proofs.Stretches.{follows_none}
+use Rattle.store_steps.proofs.steps.try_reach.Goals as goal
+
+pub try_follow_and_raise-requires-clause-holds : goal.try_follow_and_raise-requires-clause-holds
+try_follow_and_raise-requires-clause-holds c = let i = c.requires.holds in (i.0, i.1, i.2.0)
+
+pub returns-then-ready-clause-reached : goal.returns-then-ready-clause-reached
+returns-then-ready-clause-reached c k is =
+    let i = c.requires.holds in
+    let e = one_known c.args.seat.now i.0 k i.1 is in
+    let far = c.ready.ensures.reached.0 c.if-ready.true in
+    (k, is, is_there k c.args.node.now c.args.done (subst (λ z. Agrees z.progress c.args.node.now) e i.2.0.agrees) (subst (λ z. Stands z) e i.2.0.stands) (omega (arith, far)))
+
+pub returns-clause-reached : goal.returns-clause-reached
+returns-clause-reached c k is =
+    let i = c.requires.holds in
+    let e = one_known c.args.seat.now i.0 k i.1 is in
+    let r = c.in-Some.ensures.reached k is in
+    (r.0, r.1, far_enough k r.0 c.try_follow_and_raise.new.node c.args.done k.progress.completed (subst (λ z. c.args.done ≤ z.progress.completed) e i.2.1) r.2)
+
+pub returns-then-ready-clause-goes : goal.returns-then-ready-clause-goes
+returns-then-ready-clause-goes c k after is now =
+    let i = c.requires.holds in
+    let e = one_known c.args.seat.now i.0 k i.1 is in
+    subst (λ z. FollowsBy k z c.args.node.now c.args.node.now) (one_known c.args.seat.now k after is now) (follows_none k c.args.node.now (subst (λ z. Agrees z.progress c.args.node.now) e i.2.0.agrees) (subst (λ z. Stands z) e i.2.0.stands))

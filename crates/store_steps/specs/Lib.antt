@@ -1,0 +1,23 @@
+-- The values of a store's shelf, the rules of its sessions there, and what a session knows.
+pub mod Shelving
+pub mod Standing
+pub mod Knowing
+pub mod Views
+-- What scans and several reads are refused, and what they tell.
+pub mod Scanning
+pub mod Questions
+-- The steps at a desk, which the public calls on a lent desk cite.
+pub mod AtDesk
+-- An update from its post to its answer, by calls that wait, and by deeds that don't.
+pub mod Requests
+pub mod Asking
+pub mod Stages
+-- What the inner functions speak of.
+pub mod Lending
+pub mod Rooms
+pub mod Combining
+pub mod Trying
+-- Whole calls as lists of steps.
+pub mod Whole
+-- A replica that is held and has come up.
+pub mod Ready

@@ -1,0 +1,39 @@
+-- A session that holds its node's replica, once that has come up.
+use Rattle.std.specs.Prelude.{◌≡◌, ℕ, ◌≤◌, [], ◌∷◌, ◌++◌, length}
+use Rattle.loader.specs.CatalogueView.{CatalogueView}
+use Rattle.accounts.specs.declared.sessions.Progress.{Progress}
+use Rattle.accounts.specs.Accounts.{Extends}
+use Rattle.node.specs.declared.following.NodeReplica.{NodeReplica}
+use Rattle.store_steps.specs.declared.values.Value.{Value}
+use Rattle.store_steps.specs.Lending.{with_replica}
+use Rattle.store_steps.specs.Standing.{SessionKnown, Stands, Agrees, HoldsReplica}
+use Rattle.store_steps.specs.Whole.{FollowsBy}
+
+-- the session has read the completed tail, and has taken the replica of its node, which is the value v now that it has come up to that tail
+pub record HoldsReady (k after : SessionKnown) (place : ℕ) (v : Value) : Type 0 where
+  -- the tail, which was that of this progress
+  pub begun : ℕ
+  pub loaded : Progress CatalogueView
+  pub begun_is : begun ≡ loaded.completed
+  pub grown : Extends k.progress loaded
+  -- what the session knew once it had taken the replica, and what that was
+  pub taking : SessionKnown
+  pub since : Extends loaded taking.progress
+  pub stands : Stands taking
+  pub value : Value
+  pub own : NodeReplica
+  pub own_is : Agrees taking.progress own
+  -- what the replica has become
+  pub node : NodeReplica
+  pub on : Extends taking.progress after.progress
+  pub follows : FollowsBy taking after own node
+  pub agrees : Agrees after.progress node
+  pub within : node.replica.tail ≤ length after.progress.history
+  pub reached : begun ≤ node.replica.tail
+  pub is : v ≡ with_replica value node
+  -- what the session is
+  pub holds : HoldsReplica after value
+  pub held : after.held ≡ (place, value) ∷ []
+  pub session : after.session ≡ k.session
+  pub note : after.note ≡ k.note
+  pub read : after.tails_read ≡ k.tails_read ++ begun ∷ []

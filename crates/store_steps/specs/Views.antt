@@ -1,0 +1,77 @@
+-- A session as it is seen between its calls, and what a read tells it.
+use Rattle.std.specs.Prelude.{◌≡◌, ℕ, ◌≤◌, List, [], ◌∷◌, ◌++◌, length, Some, None, option_map}
+use Rattle.ownlock.specs.Seats.{IsSession, ShelfId}
+use Rattle.loader.specs.CatalogueView.{CatalogueView}
+use Rattle.oplog.specs.Operations.{Operation}
+use Rattle.oplog.specs.declared.records.Op.TheVariants.{Run}
+use Rattle.readpath.specs.declared.reading.ReadAnswer.{ReadAnswer}
+use Rattle.replica.specs.StoreMeaning.{store_meaning}
+use Rattle.accounts.specs.declared.sessions.Progress.{Progress}
+use Rattle.accounts.specs.declared.sessions.Pending.{Pending}
+use Rattle.accounts.specs.declared.sessions.SessionNote.{SessionNote}
+use Rattle.accounts.specs.Accounts.{Extends, IsWellFormed}
+use Rattle.accounts.specs.LogSteps.{first_progress, fresh_note}
+use Rattle.accounts.specs.Told.{ReadTells}
+use Rattle.store_steps.specs.declared.steps.Caller.{Caller}
+use Rattle.node.specs.declared.following.NodeReplica.{NodeReplica}
+use Rattle.store_steps.specs.Standing.{SessionKnown, StoreSeat, IsFree}
+
+-- a session: the shelf of its store, its number, the progress that it saw last, its note, and each completed tail that it has read
+pub record SessionView : Type 0 where
+  pub shelf : ShelfId
+  pub session : ℕ
+  pub progress : Progress CatalogueView
+  pub note : SessionNote
+  pub tails_read : List ℕ
+
+-- a catalogue of nothing
+abbrev pub no_catalogue : CatalogueView
+no_catalogue = record { shapes = []; programs = []; places = 0; opening = None }
+
+-- the first session of a seat that has any
+abbrev pub nobody : SessionKnown
+nobody = record { session = 0; progress = first_progress (record { nodes = 0; slots = 0; window = 0; limit = 0; spare = 0 }) no_catalogue; note = fresh_note; held = []; tails_read = [] }
+
+abbrev pub first_in : List SessionKnown → SessionKnown
+first_in [] = nobody
+first_in (k ∷ ks) = k
+
+abbrev pub session_view : StoreSeat → SessionView
+session_view s = let k = first_in s.sessions in record { shelf = s.shelf; session = k.session; progress = k.progress; note = k.note; tails_read = k.tails_read }
+
+-- between its calls the session of that slot holds nothing, waits for nothing, and combines for nobody
+pub record IsIdle (s : StoreSeat) (caller : Caller) : Type 0 where
+  pub known : SessionKnown
+  pub is : IsSession s known
+  pub free : IsFree caller known
+  pub pending : known.note.pending ≡ None
+  pub batch : known.note.batch ≡ []
+  -- what the session knows is a history of the store's catalogue, within its limit
+  pub well_formed : IsWellFormed store_meaning known.progress
+  -- each answered update has its index in the history
+  pub within : length known.note.answered ≤ length known.progress.history
+
+-- the run of this program on this argument, as an operation
+abbrev pub op_of : ℕ → List ℕ → Operation
+op_of program argument = Run (record { program = program; argument = argument })
+
+-- the operation as a request of this session
+abbrev pub request_of : Progress CatalogueView → Operation → Pending
+request_of known op = record { op = op; seen = length known.history }
+
+-- the operation replies this on the node's state
+abbrev pub RepliesThere : CatalogueView → Operation → NodeReplica → ℕ → Type 0
+RepliesThere c op n reply = option_map (λ e. e.reply) (store_meaning.read c op n.replica.state) ≡ Some reply
+
+-- a session's read: within it the completed tail was read, and the answer's point is not below what it was
+pub record IsReadBy (k after : SessionKnown) (op : Operation) (answer : ReadAnswer) : Type 0 where
+  pub begun : ℕ
+  pub more : List ℕ
+  pub read : after.tails_read ≡ k.tails_read ++ begun ∷ more
+  pub reached : begun ≤ answer.point
+  pub session : after.session ≡ k.session
+  pub held : after.held ≡ []
+  pub note : after.note ≡ k.note
+  pub extends : Extends k.progress after.progress
+  pub well_formed : IsWellFormed store_meaning after.progress
+  pub tells : ReadTells store_meaning after.progress k.progress.completed op answer.point answer.reply

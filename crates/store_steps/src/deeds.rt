@@ -1,0 +1,139 @@
+// The deeds of an update, each of which tries once and waits for nobody. Between two of them the update stands in one of four stages,
+// and the session holds nothing.
+
+ghost use Rattle.std.specs.Prelude.{◌≡◌};
+ghost use Rattle.replica.specs.Views.{RepliesView};
+ghost use Rattle.store_steps.specs.Knowing.{IsOn, Knows};
+ghost use Rattle.store_steps.specs.Stages.{HasGone, IsAsked, IsOut, IsPolled};
+ghost use Rattle.store_steps.specs.declared.deeds.Stage.TheVariants.{Asked, Claimed, Ready};
+
+use crate::combining::{try_combine, try_hand_over};
+use crate::desks::Turn;
+use crate::requests::try_turn;
+use crate::steps::{Caller, Shared};
+use crate::values::Value;
+use combiner::{Batch, Reply};
+use ownlock::Seat;
+use replica::Replies;
+
+/// How far an update of the session has come.
+#[derive(Clone, Copy, Drop)]
+pub enum Stage {
+    /// There is none.
+    Idle,
+    /// It is posted.
+    Asked,
+    /// The session combines, and has claimed the requests of its node.
+    Claimed,
+    /// These have run, and their answers are still to be handed over.
+    Ready,
+}
+
+/// What became of a deed.
+pub enum Deed {
+    /// Another session holds a place that it takes, or combines for this one.
+    Busy,
+    /// It is done, and the next one is due.
+    Went,
+    /// The answer to the update was collected.
+    Collected(Reply),
+}
+
+// A turn of an update that is posted: collects its answer, or claims the requests of its node.
+fn take_turn(
+    shared: Shared<'_>,
+    seat: &mut Seat<Value>,
+    caller: Caller,
+    batch: &mut Batch,
+    stage: &mut Stage,
+) -> Deed
+    requires own { seat.old.shelf ≡ shared.shelf.now.id }
+    requires on { Knows seat.old (IsOn shared) }
+    requires asked { stage.old ≡ Asked }
+    requires polled { IsAsked seat.old caller }
+    ensures same { seat.new.shelf ≡ seat.old.shelf }
+    ensures gone { (kept : RepliesView) → HasGone seat.old seat.new caller batch.new kept stage.new result }
+{
+    match try_turn(shared, seat, caller, batch) {
+        None => Deed::Busy,
+        Some(Turn::Waits) => Deed::Busy,
+        Some(Turn::Combines) => {
+            *stage = Stage::Claimed;
+            Deed::Went
+        }
+        Some(Turn::Collects(reply)) => {
+            *stage = Stage::Idle;
+            Deed::Collected(reply)
+        }
+    }
+}
+
+// Runs the requests that the session has claimed.
+fn run_claimed(
+    shared: Shared<'_>,
+    seat: &mut Seat<Value>,
+    caller: Caller,
+    batch: &Batch,
+    replies: &mut Replies,
+    stage: &mut Stage,
+) -> Deed
+    requires own { seat.old.shelf ≡ shared.shelf.now.id }
+    requires on { Knows seat.old (IsOn shared) }
+    requires claimed { stage.old ≡ Claimed }
+    requires polled { IsPolled seat.old caller batch.now replies.old Claimed }
+    ensures same { seat.new.shelf ≡ seat.old.shelf }
+    ensures gone { HasGone seat.old seat.new caller batch.now replies.new stage.new result }
+{
+    let Ok(()) = try_combine(shared, seat, caller, batch, replies) else {
+        return Deed::Busy;
+    };
+    *stage = Stage::Ready;
+    Deed::Went
+}
+
+// Hands over the answers to the requests that have run.
+fn give_answers(
+    shared: Shared<'_>,
+    seat: &mut Seat<Value>,
+    caller: Caller,
+    batch: &mut Batch,
+    replies: &Replies,
+    stage: &mut Stage,
+) -> Deed
+    requires own { seat.old.shelf ≡ shared.shelf.now.id }
+    requires on { Knows seat.old (IsOn shared) }
+    requires ready { stage.old ≡ Ready }
+    requires polled { IsPolled seat.old caller batch.old replies.now Ready }
+    ensures same { seat.new.shelf ≡ seat.old.shelf }
+    ensures gone { HasGone seat.old seat.new caller batch.new replies.now stage.new result }
+{
+    let Some(()) = try_hand_over(shared, seat, caller, batch, replies) else {
+        return Deed::Busy;
+    };
+    *stage = Stage::Asked;
+    Deed::Went
+}
+
+/// The next deed of an update that is out.
+pub fn go_on(
+    shared: Shared<'_>,
+    seat: &mut Seat<Value>,
+    caller: Caller,
+    batch: &mut Batch,
+    replies: &mut Replies,
+    stage: &mut Stage,
+) -> Deed
+    requires own { seat.old.shelf ≡ shared.shelf.now.id }
+    requires on { Knows seat.old (IsOn shared) }
+    requires polled { IsPolled seat.old caller batch.old replies.old stage.old }
+    requires out { IsOut stage.old }
+    ensures same { seat.new.shelf ≡ seat.old.shelf }
+    ensures gone { HasGone seat.old seat.new caller batch.new replies.new stage.new result }
+{
+    match *stage {
+        Stage::Idle => unreachable!(),
+        Stage::Asked => take_turn(shared, seat, caller, batch, stage),
+        Stage::Claimed => run_claimed(shared, seat, caller, batch, replies, stage),
+        Stage::Ready => give_answers(shared, seat, caller, batch, replies, stage),
+    }
+}

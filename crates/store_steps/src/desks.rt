@@ -1,0 +1,76 @@
+//! What a session does at its node's desk while that is lent to it: each call is a step of the desk. No call here takes a lock or
+//! memory.
+
+ghost use Rattle.std.specs.Prelude.{◌≡◌, ℕ, [], Some, None};
+ghost use Rattle.combiner.specs.Desks.{posted, replied};
+ghost use Rattle.replica.specs.StoreMeaning.{store_meaning};
+ghost use Rattle.accounts.specs.Accounts.{IsAllowed};
+ghost use Rattle.accounts.specs.declared.sessions.Pending.{Pending};
+ghost use Rattle.node.specs.Answering.{answered_batch};
+ghost use Rattle.store_steps.specs.AtDesk.{IsAt, IsClaim, IsReady, HasAsked, IsTurn, PostSteps, TurnSteps, KeepsBatch, Steps};
+ghost use Rattle.store_steps.specs.Standing.{SessionKnown};
+
+use combiner::{Batch, Desk, Reply};
+use node::answer_batch;
+use oplog::Op;
+use replica::Replies;
+
+/// What a session did that looked for the answer to its request.
+#[derive(Drop)]
+pub enum Turn {
+    /// It collected the answer.
+    Collects(Reply),
+    /// It combines the requests of its node, which are in the batch that was lent.
+    Combines,
+    /// It waits for another that does.
+    Waits,
+}
+
+/// Posts an update of the store's catalogue in the session's slot. The session waits for no other answer.
+pub fn post(desk: &mut Desk, slot: usize, op: Op)
+    requires own { (k : SessionKnown) × IsAt slot k desk.old × (k.note.pending ≡ None) × IsAllowed store_meaning k.progress.catalogue op }
+    ensures posted { posted slot op desk.old ≡ Some desk.new }
+    ensures step { (k : SessionKnown) → IsAt slot k desk.old → IsAllowed store_meaning k.progress.catalogue op → PostSteps k op desk.old desk.new }
+{
+    match desk.post(slot, op) {
+        Ok(()) => {}
+        Err(_) => unreachable!(),
+    }
+}
+
+/// Collects the answer that waits in the session's slot. Where there is none, claims the posted requests, if nobody combines:
+/// the batch has these then, and is as it was otherwise.
+pub fn look(desk: &mut Desk, slot: usize, batch: &mut Batch) -> Turn
+    requires own { (k : SessionKnown) × (o : Pending) × IsAt slot k desk.old × HasAsked k o }
+    ensures turn { IsTurn slot desk.old desk.new batch.new result }
+    ensures kept { KeepsBatch batch.old batch.new result }
+    ensures step { (k : SessionKnown) (o : Pending) → IsAt slot k desk.old → HasAsked k o → TurnSteps k o desk.old desk.new batch.new result }
+{
+    match desk.collect(slot) {
+        Some(reply) => Turn::Collects(reply),
+        None => claim(desk, batch),
+    }
+}
+
+/// Sets the answer of each request of the batch that the session combines, by the outcomes that were kept of those that have a
+/// place, and hands the answers to the slots of these requests.
+pub fn reply(desk: &mut Desk, batch: &mut Batch, replies: &Replies)
+    requires own { (k : SessionKnown) × (slot : ℕ) × IsAt slot k desk.old × IsReady k batch.old replies.now }
+    ensures answered { batch.new ≡ answered_batch replies.now batch.old }
+    ensures replied { desk.new ≡ replied batch.new desk.old }
+    ensures step { (k : SessionKnown) → IsReady k batch.old replies.now → Steps k desk.old (record k.note { batch = [] }) desk.new }
+{
+    answer_batch(batch, replies);
+    desk.reply(batch);
+}
+
+// Claims the posted requests, if nobody combines.
+fn claim(desk: &mut Desk, batch: &mut Batch) -> Turn
+    ensures claims { IsClaim desk.old desk.new batch.new result }
+    ensures kept { KeepsBatch batch.old batch.new result }
+{
+    match desk.claim(batch) {
+        Ok(()) => Turn::Combines,
+        Err(_) => Turn::Waits,
+    }
+}

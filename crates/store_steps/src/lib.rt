@@ -1,0 +1,21 @@
+//! What a session of a store does on the shelf: while it is lent the log, its node's replica or its node's desk, and what it takes and puts
+//! back in a call. `store` makes these calls for its sessions.
+#![tactic(auto)]
+
+mod batches;
+mod combining;
+mod deeds;
+pub mod desks;
+mod questions;
+mod requests;
+mod scanning;
+mod steps;
+mod values;
+
+pub use batches::Batches;
+pub use deeds::{Deed, Stage, go_on};
+pub use questions::{QuestionRefused, check_each, read_each_waiting};
+pub use requests::{complete, post, try_post};
+pub use scanning::{Beginning, Scan, ScanRefused, check_scan, scan_waiting};
+pub use steps::{Caller, Question, Shared, query, try_query};
+pub use values::{Setup, Value, shelved_log, shelved_replica};

@@ -1,0 +1,449 @@
+// What a session does on the shelf.
+
+ghost use Rattle.std.specs.Prelude.{◌≡◌, ◌↔◌, ◌⊎◌, ◌+◌, ◌-◌, ◌<◌, ◌≤◌, true, false, min, length, drop, None, IsTrue, IfSome, IfNone, IfOk, IfErr};
+ghost use Rattle.loader.specs.CatalogueView.{sizes_for};
+ghost use Rattle.loader.specs.StoreState.{sizes_of};
+ghost use Rattle.oplog.specs.Limits.{IsWindow};
+ghost use Rattle.oplog.specs.Logs.{left_of, records_from, room_in, tail_of};
+ghost use Rattle.oplog.specs.declared.configuration.TheConstants.{MAX_LIMIT};
+ghost use Rattle.replica.specs.StoreMeaning.{AreUpdates};
+ghost use Rattle.node.specs.Following.{Fits, IsNext, copied, exchanged, is_above, may_rebase, rebased, reclaimed, replayed, replayed_first, told};
+ghost use Rattle.accounts.specs.Moves.{unplaced};
+ghost use Rattle.store_steps.specs.Views.{IsReadBy, RepliesThere, op_of};
+ghost use Rattle.store_steps.specs.Knowing.{HasLog, HasReplica, IsOn, Knows, Learns, Relates};
+ghost use Rattle.store_steps.specs.Standing.{Stands, IsFree, HasOthers, HasRaised, HasPlace, HasAppended, HasReplayed, HasReached};
+ghost use Rattle.store_steps.specs.Asking.{asked_op};
+ghost use Rattle.store_steps.specs.Trying.{IsStill};
+ghost use Rattle.store_steps.specs.Ready.{HoldsReady};
+ghost use Rattle.ownlock.specs.Held.{held_place};
+ghost use Rattle.store_steps.specs.Rooms.{FreesRoom, Owes, caught_up, with_more};
+ghost use Rattle.store_steps.specs.Whole.{MakesRoom, AppendsAny, ReplaysAnywhere, FollowsBy, ReadsBy};
+
+use crate::values::Value;
+use loader::Catalogue;
+use maps::Shape;
+use node::{
+    NodeReplica, append_only, copy, exchange, follow, may_rebase, rebase, reclaim, replay,
+    replay_first,
+};
+use oplog::{LogState, MAX_NODES, Record};
+use ownlock::{Held, LEADER, Seat, Shelf};
+use readpath::{ReadAnswer, answer, ready};
+use replica::Replies;
+use std::marker::Brand;
+use std::sync::Wait;
+
+/// What all sessions of a store share.
+#[derive(Clone, Copy)]
+pub struct Shared<'a> {
+    /// Its shelf.
+    pub shelf: &'a Shelf<Value>,
+    /// Its catalogue.
+    pub catalogue: &'a Catalogue,
+    /// How many nodes it has.
+    pub nodes: usize,
+    /// How many slots each has.
+    pub slots: usize,
+}
+
+/// A slot of a node: the session that works there.
+#[derive(Clone, Copy)]
+pub struct Caller {
+    /// The node, from 0.
+    pub node: usize,
+    /// The slot there, from 0.
+    pub slot: usize,
+}
+
+/// What a read asks for.
+#[derive(Clone, Copy)]
+pub struct Question<'a> {
+    /// A program, by its number.
+    pub program: u16,
+    /// Its argument.
+    pub argument: &'a [u8],
+}
+
+// Raises the completed tail to this one, which the history has reached. The session may hold the log meanwhile.
+fn raise_to(shelf: &Shelf<Value>, seat: &mut Seat<Value>, tail: u64)
+    requires own { seat.old.shelf ≡ shelf.now.id }
+    requires known { Knows seat.old (λ k. tail ≤ length k.progress.history) }
+    ensures same { seat.new.shelf ≡ seat.old.shelf }
+    ensures raised { Learns seat.old seat.new (λ k after. HasRaised k after tail) }
+{
+    shelf.raise(seat, tail);
+}
+
+// Makes the log's base the replica, where that lies behind it. The hand is empty.
+fn rebase_if_behind(log: &LogState, node: &mut NodeReplica)
+    requires sizes { sizes_of log.now.base_state ≡ sizes_of node.old.replica.state }
+    ensures behind { may_rebase log.now node.old ≡ true → node.new ≡ rebased log.now node.old }
+    ensures above { may_rebase log.now node.old ≡ false → node.new ≡ node.old }
+{
+    if may_rebase(log, node) {
+        rebase(log, node);
+    }
+}
+
+// Whether the log has no room for so many records, of those that the history may still have.
+fn lacks_room(log: &LogState, want: usize) -> bool
+    ensures lacks { IsTrue result ↔ (room_in log.now < min want (left_of log.now)) }
+    ensures window { IsWindow log.now.window }
+{
+    log.room() < want.min(log.left())
+}
+
+// Whether more than half of the window are records before the replica, and there is room for so many without them.
+fn frees_room(log: &LogState, node: &NodeReplica, want: usize) -> bool
+    requires above { is_above log.now node.now ≡ true }
+    requires fits { Fits log.now node.now }
+    ensures frees { result ≡ true → FreesRoom want log.now node.now }
+{
+    let dropped = (node.replica.tail() - log.base()) as usize;
+    let kept = (log.tail() - node.replica.tail()) as usize;
+    kept + log.room() < dropped && want.min(log.left()) <= log.room() + dropped
+}
+
+// Whether each other node has appended something since the replica came up, so that no replica of a node that appends is behind it.
+fn is_last(log: &LogState, node: &NodeReplica, shared: Shared<'_>) -> bool
+    requires above { is_above log.now node.now ≡ true }
+    requires fits { Fits log.now node.now }
+{
+    let mut appended = [false; MAX_NODES as usize];
+    let mut others = 0usize;
+    for record in log.records_from(node.replica.tail()) {
+        let author = record.author as usize / shared.slots.max(1);
+        if author < appended.len() && !appended[author] {
+            appended[author] = true;
+            others = others.saturating_add(1);
+        }
+    }
+    shared.nodes <= others.saturating_add(1)
+}
+
+// Whether the log's base is to move: where the log has no room for so many records, of those that the history may still have, or before that
+// where the base may change places with a replica that no other is behind.
+fn is_base_due(log: &LogState, node: &NodeReplica, shared: Shared<'_>, want: usize) -> bool
+    requires above { is_above log.now node.now ≡ true }
+    requires fits { Fits log.now node.now }
+    ensures due { result ≡ true → (room_in log.now < min want (left_of log.now)) ⊎ FreesRoom want log.now node.now }
+    ensures room { result ≡ false → min want (left_of log.now) ≤ room_in log.now }
+    ensures window { IsWindow log.now.window }
+{
+    if lacks_room(log, want) {
+        return true;
+    }
+    frees_room(log, node, want)
+        && is_exchange_cheaper(log, shared.catalogue)
+        && is_last(log, node, shared)
+}
+
+// Brings the replica up to the log's end, where the log has no room for so many without the records that it has applied. Answers whether
+// it did.
+fn come_up(log: &LogState, node: &mut NodeReplica, catalogue: &Catalogue, want: usize) -> bool
+    requires above { is_above log.now node.old ≡ true }
+    requires fits { Fits log.now node.old }
+    requires sizes { sizes_of node.old.replica.state ≡ sizes_for catalogue.now }
+    requires updates { AreUpdates catalogue.now (records_from log.now node.old.replica.tail) }
+    ensures stays { result ≡ false → (node.new ≡ node.old) × FreesRoom want log.now node.old }
+    ensures follows { result ≡ true → node.new ≡ replayed catalogue.now (copied log.now node.old) }
+    ensures sizes { sizes_of node.new.replica.state ≡ sizes_of node.old.replica.state }
+{
+    if frees_room(log, node, want) {
+        return false;
+    }
+    follow(log, node, catalogue);
+    true
+}
+
+// As many bytes of maps are copied in about the time in which a record is copied once more and applied.
+const BYTES_A_RECORD: usize = 1_000;
+
+// The bytes that the values of a map have, and the keys of a hash.
+fn bytes_of(shape: Shape) -> usize {
+    let each = match shape {
+        Shape::Array { .. } => shape.value_bytes(),
+        Shape::Hash { .. } => shape.value_bytes().saturating_add(shape.key_bytes()),
+    };
+    each.saturating_mul(shape.entry_count())
+}
+
+// Whether it costs less to apply a window of records once more than to copy the maps.
+fn is_exchange_cheaper(log: &LogState, catalogue: &Catalogue) -> bool {
+    let mut bytes = 0usize;
+    for shape in catalogue.shapes() {
+        bytes = bytes.saturating_add(bytes_of(*shape));
+    }
+    let window = log
+        .room()
+        .saturating_add((log.tail() - log.base()) as usize);
+    window < bytes / BYTES_A_RECORD
+}
+
+// Makes the replica, all of which is completed, the log's base: where the maps are small by a copy of them, else the replica and the base
+// change places. The hand gets the records that the replica has then to apply to be what it was, which are counted, and those that it
+// lacked before.
+fn bring_base(log: &mut LogState, node: &mut NodeReplica, catalogue: &Catalogue) -> usize
+    requires above { log.old.base < node.old.replica.tail }
+    requires fits { Fits log.old node.old }
+    requires sizes { sizes_of node.old.replica.state ≡ sizes_of log.old.base_state }
+    ensures log { log.new ≡ reclaimed node.old (told node.old log.old) }
+    ensures copied { result ≡ 0 → node.new ≡ copied log.new node.old }
+    ensures exchanged { 0 < result → (node.new ≡ exchanged log.old node.old) × (result ≡ node.old.replica.tail - log.old.base) }
+    ensures within { tail_of log.new ≤ MAX_LIMIT }
+{
+    if is_exchange_cheaper(log, catalogue) {
+        let dropped = (node.replica.tail() - log.base()) as usize;
+        exchange(log, node);
+        let _tail = log.tail();
+        return dropped;
+    }
+    reclaim(log, node);
+    copy(log, node);
+    0
+}
+
+// While the log is held: a replica behind its base becomes the base, and a log without room for so many records gets the replica
+// as its base, once all that it has applied is completed. The hand has the records that the replica lacks then; where it changed places
+// with the base, those that lead back to what it was come before them, and are counted.
+fn make_room(
+    shared: Shared<'_>,
+    seat: &mut Seat<Value>,
+    log: &mut LogState,
+    node: &mut NodeReplica,
+    want: usize,
+) -> usize
+    requires own { seat.old.shelf ≡ shared.shelf.now.id }
+    requires few { want ≤ 16 }
+    requires holds { Knows seat.old (λ k. HasLog k log.old node.old shared.catalogue.now) }
+    ensures same { seat.new.shelf ≡ seat.old.shelf }
+    ensures owes { Owes shared.entry.catalogue.now log.new node.new result }
+    ensures room { Learns seat.old seat.new (λ k after. HasPlace k after want log.old log.new (caught_up shared.entry.catalogue.now result node.new)) }
+    ensures goes { Relates seat.old seat.new (λ k after. MakesRoom k after log.old log.new node.old (caught_up shared.entry.catalogue.now result node.new)) }
+{
+    let Shared {
+        shelf,
+        catalogue,
+        ..
+    } = shared;
+    rebase_if_behind(log, node);
+    if is_base_due(log, node, shared, want) {
+        come_up(log, node, catalogue, want);
+        raise_to(shelf, seat, node.replica.tail());
+        bring_base(log, node, catalogue)
+    } else {
+        copy(log, node);
+        0
+    }
+}
+
+// Applies the first of the records in the hand to the replica, so many, and puts these behind the others.
+fn come_back(node: &mut NodeReplica, catalogue: &Catalogue, owed: usize, appended: &[Record])
+    requires next { IsNext catalogue.now node.old }
+    requires owed { owed ≤ length node.old.hand.records }
+    requires room { length (drop owed node.old.hand.records) + length appended.now ≤ node.old.hand.window }
+    ensures node { node.new ≡ with_more appended.now (replayed_first catalogue.now owed node.old) }
+{
+    if owed > 0 {
+        replay_first(node, catalogue, owed);
+    }
+    node.hand.extend(appended);
+}
+
+// Takes the log, makes room and appends as many of the records as the history may still have, and puts the log back. The hand has what
+// the replica has still to apply then. The replies that are lent keep the places of those that were appended. A replica that changed
+// places with the log's base is brought back to what it was, once the log is put back. Where another session holds the log it answers
+// `None`, and nothing has changed.
+pub(crate) fn try_append_and_copy(
+    shared: Shared<'_>,
+    seat: &mut Seat<Value>,
+    node: &mut NodeReplica,
+    records: &[Record],
+    replies: &mut Replies,
+) -> Option<()>
+    requires own { seat.old.shelf ≡ shared.shelf.now.id }
+    requires there { 0 < shared.shelf.now.places }
+    requires few { length records.now ≤ 16 }
+    requires holds { Knows seat.old (λ k. HasReplica k node.old shared.catalogue.now × (k.note.batch ≡ unplaced records.now)) }
+    ensures same { seat.new.shelf ≡ seat.old.shelf }
+    ensures stays { IfNone result ((seat.new ≡ seat.old) × (node.new ≡ node.old)) }
+    ensures appended { IfSome result (λ _. Learns seat.old seat.new (λ k after. HasAppended k after records.now replies.new node.new)) }
+    ensures goes { IfSome result (λ _. Relates seat.old seat.new (λ k after. AppendsAny k after records.now node.old node.new replies.new)) }
+{
+    let Some(mut held) = shared.shelf.try_take(seat, LEADER) else {
+        return None;
+    };
+    let log = held.value.log_mut();
+    let owed = make_room(shared, seat, log, node, records.len());
+    append_only(log, records, replies);
+    shared.shelf.put::<Brand>(seat, held);
+    come_back(node, shared.catalogue, owed, &records[..replies.len()]);
+    Some(())
+}
+
+// Replays the records in the hand, and raises the completed tail to the replica's.
+pub(crate) fn replay_and_raise(
+    shelf: &Shelf<Value>,
+    seat: &mut Seat<Value>,
+    node: &mut NodeReplica,
+    catalogue: &Catalogue,
+    replies: &mut Replies,
+)
+    requires own { seat.old.shelf ≡ shelf.now.id }
+    requires known { Knows seat.old (λ k. HasOthers k.progress node.old × Stands k × (k.progress.catalogue ≡ catalogue.now)) }
+    ensures same { seat.new.shelf ≡ seat.old.shelf }
+    ensures replayed { Learns seat.old seat.new (λ k after. HasReplayed k after node.old node.new replies.old replies.new) }
+    ensures goes { Relates seat.old seat.new (λ k after. ReplaysAnywhere k after node.old node.new replies.old replies.new) }
+{
+    replay(node, catalogue, replies);
+    let replayed = node.replica.tail();
+    raise_to(shelf, seat, replayed);
+}
+
+// Takes the log, brings the replica up to its end while it is held, puts it back, and raises the completed tail to the replica's.
+// Where another session holds the log it answers `None`, and nothing has changed.
+fn try_follow_and_raise(
+    shelf: &Shelf<Value>,
+    seat: &mut Seat<Value>,
+    node: &mut NodeReplica,
+    catalogue: &Catalogue,
+) -> Option<()>
+    requires own { seat.old.shelf ≡ shelf.now.id }
+    requires there { 0 < shelf.now.places }
+    requires holds { Knows seat.old (λ k. HasReplica k node.old catalogue.now) }
+    ensures same { seat.new.shelf ≡ seat.old.shelf }
+    ensures stays { IfNone result ((seat.new ≡ seat.old) × (node.new ≡ node.old)) }
+    ensures reached { IfSome result (λ _. Learns seat.old seat.new (λ k after. HasReached k after k.progress.completed node.new)) }
+    ensures goes { IfSome result (λ _. Relates seat.old seat.new (λ k after. FollowsBy k after node.old node.new)) }
+{
+    let Some(held) = shelf.try_take(seat, LEADER) else {
+        return None;
+    };
+    let log = held.value.log();
+    rebase_if_behind(log, node);
+    follow(log, node, catalogue);
+    shelf.put::<Brand>(seat, held);
+    let followed = node.replica.tail();
+    raise_to(shelf, seat, followed);
+    Some(())
+}
+
+// Brings the replica up to that completed tail, where it has not reached it. Where another session holds the log, which that takes, it
+// answers `None`, and nothing has changed.
+fn try_reach(
+    shared: Shared<'_>,
+    seat: &mut Seat<Value>,
+    node: &mut NodeReplica,
+    done: u64,
+) -> Option<()>
+    requires own { seat.old.shelf ≡ shared.shelf.now.id }
+    requires there { 0 < shared.shelf.now.places }
+    requires holds { Knows seat.old (λ k. HasReplica k node.old shared.catalogue.now × (done ≤ k.progress.completed)) }
+    ensures same { seat.new.shelf ≡ seat.old.shelf }
+    ensures stays { IfNone result ((seat.new ≡ seat.old) × (node.new ≡ node.old)) }
+    ensures reached { IfSome result (λ _. Learns seat.old seat.new (λ k after. HasReached k after done node.new)) }
+    ensures goes { IfSome result (λ _. Relates seat.old seat.new (λ k after. FollowsBy k after node.old node.new)) }
+{
+    if ready(&node.replica, done) {
+        return Some(());
+    }
+    let Some(()) = try_follow_and_raise(shared.shelf, seat, node, shared.catalogue) else {
+        return None;
+    };
+    Some(())
+}
+
+// What a read answers on the node's state, which it leaves as it was.
+pub(crate) fn answer_there(
+    node: &mut NodeReplica,
+    catalogue: &Catalogue,
+    question: Question<'_>,
+) -> ReadAnswer
+    requires sizes { sizes_of node.old.replica.state ≡ sizes_for catalogue.now }
+    ensures point { result.point ≡ node.old.replica.tail }
+    ensures reply { RepliesThere catalogue.now (op_of question.entry.program question.entry.argument.now) node.old result.reply }
+    ensures same { node.new ≡ node.old }
+{
+    answer(
+        catalogue,
+        &mut node.replica,
+        question.program,
+        question.argument,
+    )
+}
+
+// Takes the replica of the caller's node, and brings it up to the tail that is completed now. Where another session holds the replica, or
+// the log, which a replica that lacks something takes, it answers that place: the session holds nothing then.
+#[inline(always)]
+pub(crate) fn try_hold_ready(
+    shared: Shared<'_>,
+    seat: &mut Seat<Value>,
+    caller: Caller,
+) -> Result<Held<Value>, usize>
+    requires own { seat.old.shelf ≡ shared.shelf.now.id }
+    requires idle { Knows seat.old (λ k. IsFree caller k × IsOn shared k) }
+    ensures same { seat.new.shelf ≡ seat.old.shelf }
+    ensures held { IfErr result (λ place. place < shared.entry.shelf.now.places) }
+    ensures stays { IfErr result (λ _. Learns seat.old seat.new IsStill) }
+    ensures place { IfOk result (λ h. held_place h ≡ 1 + caller.node) }
+    ensures there { IfOk result (λ h. held_place h < shared.entry.shelf.now.places) }
+    ensures ready { IfOk result (λ h. Learns seat.old seat.new (λ k after. HoldsReady k after (1 + caller.node) h.value)) }
+{
+    let Shared { shelf, .. } = shared;
+    let done = shelf.done(seat);
+    let Some(mut held) = shelf.try_take(seat, 1 + caller.node) else {
+        return Err(1 + caller.node);
+    };
+    let node = held.value.replica_mut();
+    let Some(()) = try_reach(shared, seat, node, done) else {
+        shelf.put::<Brand>(seat, held);
+        return Err(LEADER);
+    };
+    Ok(held)
+}
+
+/// Runs a read program on the replica of the caller's node, once that has reached the tail that is completed now. Where another session
+/// holds the replica, or the log, which a replica that lacks something takes, it answers that place: the session holds nothing then.
+pub fn try_query(
+    shared: Shared<'_>,
+    seat: &mut Seat<Value>,
+    caller: Caller,
+    question: Question<'_>,
+) -> Result<ReadAnswer, usize>
+    requires own { seat.old.shelf ≡ shared.shelf.now.id }
+    requires idle { Knows seat.old (λ k. IsFree caller k × IsOn shared k) }
+    ensures same { seat.new.shelf ≡ seat.old.shelf }
+    ensures held { IfErr result (λ place. place < shared.entry.shelf.now.places) }
+    ensures stays { IfErr result (λ _. Learns seat.old seat.new IsStill) }
+    ensures read { IfOk result (λ answer. Learns seat.old seat.new (λ k after. IsReadBy k after (asked_op question.entry) answer)) }
+    ensures goes { IfOk result (λ answer. Relates seat.old seat.new (λ k after. ReadsBy k after (asked_op question.entry) answer)) }
+{
+    let mut held = try_hold_ready(shared, seat, caller)?;
+    let node = held.value.replica_mut();
+    let answer = answer_there(node, shared.catalogue, question);
+    shared.shelf.put::<Brand>(seat, held);
+    Ok(answer)
+}
+
+/// The same, but waits for the place that another session holds.
+pub fn query<R: Wait>(
+    rt: &R,
+    shared: Shared<'_>,
+    seat: &mut Seat<Value>,
+    caller: Caller,
+    question: Question<'_>,
+) -> ReadAnswer
+    requires own { seat.old.shelf ≡ shared.shelf.now.id }
+    requires idle { Knows seat.old (λ k. IsFree caller k × IsOn shared k) }
+    ensures same { seat.new.shelf ≡ seat.old.shelf }
+    ensures read { Learns seat.old seat.new (λ k after. IsReadBy k after (op_of question.entry.program question.entry.argument.now) result) }
+    ensures goes { Relates seat.old seat.new (λ k after. ReadsBy k after (op_of question.entry.program question.entry.argument.now) result) }
+{
+    for _ in rt.forever() {
+        match try_query(shared, seat, caller, question) {
+            Ok(answer) => return answer,
+            Err(place) => shared.shelf.wait(rt, place),
+        }
+    }
+    unreachable!()
+}

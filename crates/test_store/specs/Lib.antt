@@ -1,0 +1,2 @@
+-- Whose seat a test has.
+pub mod Held
