@@ -9,7 +9,7 @@ use Rattle.maps.specs.declared.entry.Entry.{Entry}
 use Rattle.maps.specs.Shapes.{IsHash, value_size, entry_count}
 use Rattle.maps.specs.Maps.{MapState, value_at}
 use Rattle.maps.specs.MapSets.{Stored, Contents, value_in, entries_of, maps_of, key_at, change_at, write_value, put_value, PutsWritten, HasRoom, IsFull}
-use Rattle.maps.specs.Blocks.{keys_at, stored, contents, HasFreePlace, AreTables}
+use Rattle.maps.specs.Blocks.{keys_at, stored, contents, HasFreePlace, IsTable, AreTables}
 use Rattle.maps.specs.Lent.{with_bytes}
 use Rattle.maps.proofs.Placed.{len_placed}
 use Rattle.maps.proofs.Stored.{IsAt, is_at, many_tables, map_at, key_stands, of_shape, distinct, present, missing}
@@ -47,14 +47,18 @@ pub record IsExchanged (ts : List Table) (c : Contents) (m : ℕ) (t u : Table) 
 pub within_tables : (ts : List Table) (c : Contents) (m : ℕ) (t u : Table) → IsExchanged ts c m t u → m < length ts
 within_tables ts c m t u h = many_tables ts c m h.view h.inside
 
--- the key stands in the set
-pub entry_stands : (ts : List Table) (c : Contents) (m : ℕ) (t u : Table) (key : List ℕ) (place : ℕ) → IsExchanged ts c m t u → IsClaimed t u key place → key_at (contents (slice_set ts m u)) m place ≡ Some key
-entry_stands ts c m t u key place h is =
+-- the other table is there now
+pub now_there : (ts : List Table) (c : Contents) (m : ℕ) (t u : Table) → IsExchanged ts c m t u → u.shape ≡ t.shape → IsTable u → IsAt (contents (slice_set ts m u)) m u
+now_there ts c m t u h same fits =
     let low = within_tables ts c m t u h in
     let us = slice_set ts m u in
-    let tables = tables_kept ts m t u h.tables h.at is.shape is.table in
+    let tables = tables_kept ts m t u h.tables h.at same fits in
     let inside : m < length (contents us) = let a = length-map us stored in let b = length_set ts m u in omega (arith, low, a, b) in
-    key_stands (contents us) m place u key (is_at us (contents us) m u refl tables inside (set_there ts m u low)) is.claimed.stands
+    is_at us (contents us) m u refl tables inside (set_there ts m u low)
+
+-- the key stands in the set
+pub entry_stands : (ts : List Table) (c : Contents) (m : ℕ) (t u : Table) (key : List ℕ) (place : ℕ) → IsExchanged ts c m t u → IsClaimed t u key place → key_at (contents (slice_set ts m u)) m place ≡ Some key
+entry_stands ts c m t u key place h is = key_stands (contents (slice_set ts m u)) m place u key (now_there ts c m t u h is.shape is.table) is.claimed.stands
 
 -- a value written there
 pub puts_written : (ts : List Table) (c : Contents) (m : ℕ) (t u : Table) (key : List ℕ) (e : Entry) → IsExchanged ts c m t u → IsClaimed t u key e.place → e.map ≡ m → PutsWritten c (contents (slice_set ts m u)) m key e

@@ -12,3 +12,4 @@ pub mod StoredShapes
 pub mod Exchanged
 pub mod EntriesAt
 pub mod Pages
+pub mod Kept

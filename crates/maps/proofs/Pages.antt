@@ -2,7 +2,6 @@
 use Rattle.std.proofs.Common.{append-nil, append_assoc, ◌≡◌, ℕ, zero, suc, ◌+◌, ◌-◌, ◌<◌, ◌≤◌, ⊎_elim, List, [], ◌∷◌, ◌++◌, map, length, Option, Some, None, refl, sym, ap, ◌∙◌, arith, subst, bytes_eq}
 use Rattle.std.specs.Prelude.{slice_get, IfSome, IfNone}
 use Rattle.std.specs.List.{IsDistinct, flat_map}
-use Rattle.std.specs.FinMap as finite_map
 use Rattle.std.proofs.lemmas.Bool.{cases_eq}
 use Rattle.std.proofs.lemmas.Option.{slice_get_within}
 use Rattle.keyindex.specs.declared.index.KeyIndex.{KeyIndex}
@@ -10,9 +9,9 @@ use Rattle.maps.specs.declared.shapes.Shape.{Shape}
 use Rattle.maps.specs.declared.shapes.Shape.TheVariants.{Array, Hash}
 use Rattle.maps.specs.declared.table.Table.{Table}
 use Rattle.maps.specs.Shapes.{IsShapeOk, entry_count, value_size}
-use Rattle.maps.specs.MapSets.{Stored, entries_of, flat, map_of, value_in}
+use Rattle.maps.specs.MapSets.{Stored, flat, map_of, value_in}
 use Rattle.maps.specs.Blocks.{FitsIndex, IsTable, keys_at, stored}
-use Rattle.maps.specs.Scans.{ArePages, GivesAll, HasIndices, HasPlaces, IsPage, KeyValue, Page, PagesGiveAll, PagesJoin, entries_from, entry_at, page_end, standing}
+use Rattle.maps.specs.Scans.{ArePages, GivesAll, HasIndices, IsPage, KeyValue, Page, PagesGiveAll, PagesJoin, entries_from, entry_at, page_end, standing}
 use Rattle.maps.proofs.Placed.{Distinct, found_at}
 use Rattle.maps.proofs.KeysChanged.{distinct_once}
 use Rattle.maps.proofs.Stored.{all_get, distinct, many_places}

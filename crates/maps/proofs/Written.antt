@@ -98,6 +98,11 @@ module _ (bytes : List ℕ) (p s : ℕ) (w : List ℕ) (fits : p * s + s ≤ len
   pub written_at : value_in s (write_over bytes (p * s) w) p ≡ w
   written_at = ap (λ b. take s (drop (p * s) b)) after ∙ in_place p s x w z length_x many
 
+  -- what stands there, written over itself
+  pub written_same : w ≡ take s (drop (p * s) bytes) → write_over bytes (p * s) w ≡ bytes
+  unfolding y
+  written_same same = after ∙ (ap (λ v. x ++ (v ++ z)) same ∙ sym parts)
+
   pub kept_at : (i : ℕ) → i ≢ p → value_in s (write_over bytes (p * s) w) i ≡ value_in s bytes i
   kept_at i ne = ap (λ b. take s (drop (i * s) b)) after ∙ (same_elsewhere i p s x y w z length_x length_y many ne ∙ ap (λ b. take s (drop (i * s) b)) (sym parts))
 

@@ -7,7 +7,7 @@ ghost use Rattle.std.specs.Borrow.{sem};
 ghost use Rattle.maps.specs.Shapes.{key_size, value_size, entry_count, block_size, first_shape_fault, IsShapeOk, IsHash};
 ghost use Rattle.maps.specs.Blocks.{contents, IsTable};
 ghost use Rattle.maps.specs.declared.shapes.MapError.TheVariants.{NoMemory, Refused};
-ghost use Rattle.maps.specs.Maps.{HasShapes, MapState, value_at};
+ghost use Rattle.maps.specs.Maps.{AreBytes, HasShapes, MapState, value_at};
 ghost use Rattle.maps.specs.MapSets.{maps_of, stored_shapes, key_at, key_of, value_of, block_of, HoldsValues, write_value, write_block, PutsValue, PutsOneValue, opened, opening_maps, PutsWritten, put_value, take_key, HasRoom, IsFull};
 ghost use Rattle.maps.specs.Scans.{IsPage, Scans, given, room_in};
 
@@ -18,7 +18,8 @@ use std::alloc::{AllocError, Global};
 use std::marker::Model;
 
 /// Maps of fixed shapes. All their room is taken when they are opened, one flat block of bytes for each map; no later
-/// call takes memory. An array has all its keys, a hash those that were put in.
+/// call takes memory. An array has all its keys, a hash those that were put in. Maps of some shapes stay maps of these
+/// shapes through each change, as the clauses `maps` say.
 #[derive(Drop)]
 pub struct MapSet {
     tables: Vec<Table>,
@@ -38,6 +39,7 @@ impl Model for MapSet {
 
 impl MapSet {
     ghost use Rattle.maps.specs.LentValue.{LendsValue, LendsValues};
+    ghost use Rattle.maps.specs.declared.shapes.Shape.{Shape};
     ghost use Rattle.maps.specs.declared.entry.Entry.{Entry};
 
     /// Maps of these shapes: arrays of zeros, hashes without a key. Refused as by [`shapes_ok`], or with
@@ -140,9 +142,9 @@ impl MapSet {
     pub fn scan(&self, m: usize, from: u32, keys: &mut [u8], values: &mut [u8]) -> Scanned
         requires map { m < length (stored_shapes self.now) }
         requires place { IfSome (slice_get (stored_shapes self.now) m) (λ s. from < entry_count s) }
+        ensures page { IfSome (slice_get self.now m) (λ s. IsPage s from (given s.shape result.count keys.new values.new) result.next) }
         ensures scanned { (s : MapState) → slice_get (maps_of self.now) m ≡ Some s
             → Scans s from (room_in s.shape (length keys.old) (length values.old)) (given s.shape result.count keys.new values.new) result.next }
-        ensures page { IfSome (slice_get self.now m) (λ s. IsPage s from (given s.shape result.count keys.new values.new) result.next) }
     {
         let table = &self.tables[m];
         let room = table.room_in(keys.len(), values.len());
@@ -162,6 +164,8 @@ impl MapSet {
         // Bytes as many as the value has become the value of the entry's key. Every other key of every map keeps its
         // value, and each place its key.
         ensures written { PutsValue self.old entry (length result.now) }
+        ensures maps { (shapes : List Shape) (w : List ℕ) → HasShapes shapes (maps_of self.old) → AreBytes w → length w ≡ length result.now
+            → HasShapes shapes (maps_of (write_value self.old entry w)) }
         ensures places { (w : List ℕ) (other : Entry) → key_of (write_value self.old entry w) other ≡ key_of self.old other }
         ensures shapes { (w : List ℕ) → stored_shapes (write_value self.old entry w) ≡ stored_shapes self.old }
     {
@@ -213,6 +217,7 @@ impl MapSet {
         requires value { IfSome (slice_get (stored_shapes self.old) m) (λ s. length value.now ≡ value_size s) }
         requires room { HasRoom (maps_of self.old) m key.now }
         ensures updated { maps_of self.new ≡ put_value (maps_of self.old) m key.now value.now }
+        ensures maps { (shapes : List Shape) → HasShapes shapes (maps_of self.old) → HasShapes shapes (maps_of self.new) }
         ensures others { (n : ℕ) → n ≢ m → slice_get self.new n ≡ slice_get self.old n }
         ensures shapes { stored_shapes self.new ≡ stored_shapes self.old }
     {
@@ -231,6 +236,7 @@ impl MapSet {
         ensures found { IfSome result (λ r. is_some (value_at (maps_of self.old) m key.now) ≡ not r.is_new) }
         ensures kept { IfSome result (λ r. r.is_new ≡ false → self.new ≡ self.old) }
         ensures room { IfSome result (λ _. HasRoom (maps_of self.old) m key.now) }
+        ensures maps { (shapes : List Shape) → HasShapes shapes (maps_of self.old) → HasShapes shapes (maps_of self.new) }
 
         // No entry is told where the key isn't there and can't be put.
         ensures absent { IfNone result (IsNone (value_at (maps_of self.old) m key.now)) }
@@ -241,6 +247,7 @@ impl MapSet {
     {
         let table = &mut self.tables[m];
         let claimed = table.claim(key)?;
+        let _bytes = table.bytes();
         let entry = Entry {
             map: m as u8,
             place: claimed.place,
@@ -257,6 +264,7 @@ impl MapSet {
         requires hash { IfSome (slice_get (stored_shapes self.old) m) IsHash }
         requires key { IfSome (slice_get (stored_shapes self.old) m) (λ s. length key.now ≡ key_size s) }
         ensures removed { maps_of self.new ≡ take_key (maps_of self.old) m key.now }
+        ensures maps { (shapes : List Shape) → HasShapes shapes (maps_of self.old) → HasShapes shapes (maps_of self.new) }
         ensures was { result ≡ is_some (value_at (maps_of self.old) m key.now) }
         ensures unchanged { result ≡ false → self.new ≡ self.old }
         ensures others { (n : ℕ) → n ≢ m → slice_get self.new n ≡ slice_get self.old n }

@@ -6,7 +6,7 @@ ghost use Rattle.std.specs.FinMap as finite_map;
 ghost use Rattle.std.specs.Borrow.{sem};
 ghost use Rattle.maps.specs.declared.shapes.Shape.{Shape};
 ghost use Rattle.maps.specs.Shapes.{key_size, value_size, entry_count, IsShapeOk, IsHash};
-ghost use Rattle.maps.specs.Maps.{index_key};
+ghost use Rattle.maps.specs.Maps.{AreBytes, index_key};
 ghost use Rattle.maps.specs.MapSets.{stored_shapes, entries_of, opening_keys, opened_map};
 ghost use Rattle.maps.specs.Blocks.{keys_at, stored, contents, FitsIndex, IsTable, HasRoomFor, HasFreePlace, HasClaimed, AreTables};
 ghost use Rattle.keyindex.specs.Places.{filled};
@@ -123,6 +123,14 @@ impl Table {
                 None => false,
             },
         }
+    }
+
+    /// The bytes of the block, also of places where no key stands: as all bytes they are numbers below 256.
+    pub(crate) fn bytes(&self) -> &[u8]
+        ensures bytes { result.now ≡ self.now.block.items }
+        ensures are_bytes { AreBytes result.now }
+    {
+        as_bytes(&self.block)
     }
 
     /// So many bytes of the block, from `start` on, to be written.
@@ -255,6 +263,15 @@ fn copy_index(alloc: Global, index: &Option<KeyIndex>) -> Result<Option<KeyIndex
             Ok(Some(copy))
         }
     }
+}
+
+/// The same bytes: as all that are read, they are numbers below 256.
+fn as_bytes(bytes: &[u8]) -> &[u8]
+    ensures same { result.now ≡ bytes.now }
+    ensures are_bytes { AreBytes result.now }
+{
+    let _len = bytes.len();
+    bytes
 }
 
 /// The index that a key of an array is.

@@ -1,13 +1,14 @@
 use Rattle.std.proofs.Common.{◌≡◌, ◌∙◌, ◌<◌, length, refl, sym, ap, subst}
 use Rattle.std.specs.Prelude.{slice_get, slice_set, is_some, IfSome, IfNone, IsNone}
 use Rattle.maps.specs.Shapes.{key_size, entry_count}
-use Rattle.maps.specs.Maps.{value_at}
+use Rattle.maps.specs.Maps.{AreBytes, HasShapes, value_at}
 use Rattle.maps.specs.MapSets.{maps_of, stored_shapes, IsFull}
 use Rattle.maps.specs.Blocks.{stored, contents}
 use Rattle.maps.proofs.Stored.{within, is_at, for_shape, of_shape, below, missing}
 use Rattle.maps.proofs.Written.{kept_shapes, tables_kept, others_kept, view_exchanged}
 use Rattle.maps.proofs.TableKeys.{IsClaimed}
 use Rattle.maps.proofs.Exchanged.{IsExchanged, within_tables, entry_stands, puts_written, exchanged_same, was_found, has_room, is_full}
+use Rattle.maps.proofs.Kept.{are_bytes, fits_room, put_has_shapes, there_now}
 use Rattle.maps.proofs.map_set.MapSet.insert.Goals as goal
 
 pub claim-requires-clause-shape : goal.claim-requires-clause-shape
@@ -150,3 +151,31 @@ returns-clause-room c =
     let inside = within before m c.requires.map in
     let at = is_at ts before m t c.self.view_is c.self.invariant inside e in
     has_room before m c.in_ok-claimed.claimed.place t key c.in_ok-claimed.claimed.is_new at c.in_ok-claimed.ensures.found c.in_ok-claimed.ensures.room
+
+pub returns-in_err-claimed-clause-maps : goal.returns-in_err-claimed-clause-maps
+returns-in_err-claimed-clause-maps c = λ shapes has.
+    let ts = c.self.inside.tables.items in let t = c.index_mut-table.result.now in let u = c.claim.new.self in
+    let before = c.args.self.now in let m = c.args.m in
+    let e = c.index_mut-table.ensures.value in
+    let inside = within before m c.requires.map in
+    let at = is_at ts before m t c.self.view_is c.self.invariant inside e in
+    let x : IsExchanged ts before m t u = record { tables = c.self.invariant; view = c.self.view_is; inside = inside; at = e; there = at } in
+    let h = c.in_err-claimed.ensures in
+    subst (λ y. HasShapes shapes (maps_of y)) (sym (exchanged_same ts before m t u x h.shape h.block h.unchanged)) has
+
+pub returns-clause-maps : goal.returns-clause-maps
+returns-clause-maps c = λ shapes has.
+    let ts = c.self.inside.tables.items in let t = c.index_mut-table.result.now in let u = c.claim.new.self in
+    let before = c.args.self.now in let m = c.args.m in let key = c.args.key.now in
+    let e = c.index_mut-table.ensures.value in
+    let inside = within before m c.requires.map in
+    let at = is_at ts before m t c.self.view_is c.self.invariant inside e in
+    let x : IsExchanged ts before m t u = record { tables = c.self.invariant; view = c.self.view_is; inside = inside; at = e; there = at } in
+    let h = c.in_ok-claimed.ensures in
+    let place = c.in_ok-claimed.claimed.place in
+    let is : IsClaimed t u key place = record { shape = h.shape; block = h.block; table = h.table; claimed = h.claimed } in
+    let stands = there_now ts before m t u key (record { map = m; place = place }) x is refl in
+    let bytes : AreBytes u.block.items = subst AreBytes c.bytes-bytes.ensures.bytes c.bytes-bytes.ensures.are_bytes in
+    let room = has_room before m place t key c.in_ok-claimed.claimed.is_new at h.found h.room in
+    let fits = fits_room before m key stands.0 room (are_bytes key c.type_inv.key) (stands.2 bytes) c.requires.key stands.3 in
+    subst (HasShapes shapes) (sym stands.1) (put_has_shapes (maps_of before) m key stands.0 fits shapes has)

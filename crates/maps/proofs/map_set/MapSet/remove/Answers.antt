@@ -1,13 +1,14 @@
-use Rattle.std.proofs.Common.{◌≡◌, ◌∙◌, length, ap}
+use Rattle.std.proofs.Common.{◌≡◌, ◌∙◌, length, ap, subst, sym}
 use Rattle.std.specs.Prelude.{slice_get}
 use Rattle.std.specs.FinMap as finite_map
 use Rattle.maps.specs.Shapes.{key_size, IsHash}
-use Rattle.maps.specs.Maps.{MapState}
+use Rattle.maps.specs.Maps.{HasShapes, MapState}
 use Rattle.maps.specs.MapSets.{maps_of, entries_of, stored_shapes}
 use Rattle.maps.specs.Blocks.{stored}
 use Rattle.maps.proofs.Stored.{within, many_tables, is_at, for_shape}
 use Rattle.maps.proofs.Written.{kept_shapes, tables_kept, view_exchanged, maps_exchanged, others_kept}
 use Rattle.maps.proofs.Exchanged.{IsExchanged, was_there, exchanged_stored}
+use Rattle.maps.proofs.Kept.{of_map, take_has_shapes}
 use Rattle.maps.proofs.map_set.MapSet.remove.Goals as goal
 
 pub take_out-requires-clause-shape : goal.take_out-requires-clause-shape
@@ -95,3 +96,9 @@ returns-clause-unchanged c =
     let at = is_at ts before m t c.self.view_is c.self.invariant inside e in
     let x : IsExchanged ts before m t u = record { tables = c.self.invariant; view = c.self.view_is; inside = inside; at = e; there = at } in
     λ gone. exchanged_stored ts before m t u x (c.take_out.ensures.unchanged gone)
+
+pub returns-clause-maps : goal.returns-clause-maps
+returns-clause-maps c = λ shapes has.
+    let before = c.args.self.now in
+    let m = c.args.m in
+    subst (HasShapes shapes) (sym (returns-clause-removed c)) (take_has_shapes (maps_of before) m c.args.key.now (λ s there. of_map IsHash before m s there c.requires.hash) shapes has)

@@ -30,6 +30,21 @@ scan-count-requires-clause-from c =
     let end = c.scan_end-end.ensures.end in
     omega (arith, low, end)
 
+pub returns-clause-page : goal.returns-clause-page
+returns-clause-page c =
+    let t = c.index-table.result.now in
+    let at = is_at c.self.inside.tables.items c.args.self.now c.args.m t c.self.view_is c.self.invariant (within c.args.self.now c.args.m c.requires.map) c.index-table.ensures in
+    let keys = c.scan-count.new.keys in
+    let values = c.scan-count.new.values in
+    let count = c.scan-count.result.0 in
+    let place = c.scan-count.result.1 in
+    let next = c.next_place-next.result in
+    let ended = c.scan-count.ensures.place in
+    let last = c.scan_end-end.ensures.end in
+    let far : place ≤ entry_count t.shape = omega (arith, ended.1, last) in
+    let page = is_page t c.args.from place (given t.shape count keys values) next at.ok at.table (ended.0, far) c.scan-count.ensures.given (record { on = c.next_place-next.ensures.on; done = c.next_place-next.ensures.done }) in
+    subst (λ o. IfSome o (λ (y : Stored). IsPage y c.args.from (given y.shape count keys values) next)) (sym at.there) page
+
 pub returns-clause-scanned : goal.returns-clause-scanned
 returns-clause-scanned c =
     let t = c.index-table.result.now in
@@ -48,18 +63,3 @@ returns-clause-scanned c =
     let same : map_of s ≡ x = (let both : Some (map_of s) ≡ Some x = sym (map_at c.args.self.now c.args.m s at.there) ∙ is in cc) in
     subst (λ (y : MapState). Scans y c.args.from (room_in y.shape (length c.args.keys.now) (length c.args.values.now)) (given y.shape count keys values) next) same
     (subst (λ r. Scans (map_of s) c.args.from r (given t.shape count keys values) next) c.room_in-room.ensures.room told)
-
-pub returns-clause-page : goal.returns-clause-page
-returns-clause-page c =
-    let t = c.index-table.result.now in
-    let at = is_at c.self.inside.tables.items c.args.self.now c.args.m t c.self.view_is c.self.invariant (within c.args.self.now c.args.m c.requires.map) c.index-table.ensures in
-    let keys = c.scan-count.new.keys in
-    let values = c.scan-count.new.values in
-    let count = c.scan-count.result.0 in
-    let place = c.scan-count.result.1 in
-    let next = c.next_place-next.result in
-    let ended = c.scan-count.ensures.place in
-    let last = c.scan_end-end.ensures.end in
-    let far : place ≤ entry_count t.shape = omega (arith, ended.1, last) in
-    let page = is_page t c.args.from place (given t.shape count keys values) next at.ok at.table (ended.0, far) c.scan-count.ensures.given (record { on = c.next_place-next.ensures.on; done = c.next_place-next.ensures.done }) in
-    subst (λ o. IfSome o (λ (y : Stored). IsPage y c.args.from (given y.shape count keys values) next)) (sym at.there) page

@@ -1,13 +1,14 @@
-use Rattle.std.proofs.Common.{◌≡◌, ◌∙◌, length, ap}
+use Rattle.std.proofs.Common.{◌≡◌, ◌∙◌, length, ap, subst, sym}
 use Rattle.std.specs.Prelude.{slice_get}
 use Rattle.std.specs.FinMap as finite_map
 use Rattle.maps.specs.Shapes.{key_size, value_size}
-use Rattle.maps.specs.Maps.{MapState}
+use Rattle.maps.specs.Maps.{HasShapes, MapState}
 use Rattle.maps.specs.MapSets.{maps_of, entries_of, stored_shapes}
 use Rattle.maps.specs.Blocks.{stored}
 use Rattle.maps.proofs.Stored.{within, many_tables, is_at, for_shape}
 use Rattle.maps.proofs.Written.{kept_shapes, tables_kept, view_exchanged, maps_exchanged, others_kept}
 use Rattle.maps.proofs.TableKeys.{room_for}
+use Rattle.maps.proofs.Kept.{are_bytes, fits_room, put_has_shapes}
 use Rattle.maps.proofs.map_set.MapSet.update.Goals as goal
 
 pub put-requires-clause-shape : goal.put-requires-clause-shape
@@ -87,3 +88,12 @@ returns-clause-others c = λ n ne.
 pub returns-clause-shapes : goal.returns-clause-shapes
 returns-clause-shapes c =
     kept_shapes c.self.inside.tables.items c.args.m c.index_mut-table.result.now c.put.new.self c.index_mut-table.ensures.value c.put.ensures.shape ∙ ap stored_shapes c.self.view_is
+
+pub returns-clause-maps : goal.returns-clause-maps
+returns-clause-maps c = λ shapes has.
+    let before = c.args.self.now in
+    let m = c.args.m in
+    let key = c.args.key.now in
+    let value = c.args.value.now in
+    let fits = fits_room before m key value c.requires.room (are_bytes key c.type_inv.key) (are_bytes value c.type_inv.value) c.requires.key c.requires.value in
+    subst (HasShapes shapes) (sym (returns-clause-updated c)) (put_has_shapes (maps_of before) m key value fits shapes has)

@@ -2,9 +2,11 @@ use Rattle.std.proofs.Common.{◌≡◌, ◌*◌, ◌<◌, length, Some, refl, s
 use Rattle.std.proofs.lemmas.List.{length-map}
 use Rattle.std.proofs.lemmas.Option.{slice_get_within}
 use Rattle.maps.specs.Shapes.{value_size}
-use Rattle.maps.specs.MapSets.{Contents}
+use Rattle.maps.specs.Maps.{HasShapes}
+use Rattle.maps.specs.MapSets.{Contents, maps_of}
 use Rattle.maps.specs.Blocks.{stored}
-use Rattle.maps.proofs.Stored.{size_is, bounds, value_is, standing}
+use Rattle.maps.proofs.Kept.{fits_there, put_has_shapes}
+use Rattle.maps.proofs.Stored.{size_is, bounds, present, value_is, standing}
 use Rattle.maps.proofs.Written.{view_written, full_written, maps_written, keys_kept, shapes_kept}
 use Rattle.maps.proofs.map_set.MapSet.value_mut.Goals as goal
 
@@ -38,6 +40,13 @@ returns c =
         value = is ∙ ap Some (sym c.bytes_mut.ensures.value);
         size = size_is c.args.self.now c.args.entry.map (length c.bytes_mut.result.now) (stored t) at.0.there many;
         written = λ key w has same. maps_written ts c.args.self.now c.args.entry t key w c.self.view_is c.self.invariant c.index_mut-table.ensures.value has (same ∙ many);
+        maps = λ shapes w has bytes same.
+            let before = c.args.self.now in
+            let m = c.args.entry.map in
+            let key = at.1 in
+            let full : length w ≡ value_size t.shape = same ∙ many in
+            let fits = fits_there before m key _ w (present before m c.args.entry.place t key at.0 at.2) bytes (size_is before m (length w) (stored t) at.0.there full) in
+            subst (HasShapes shapes) (sym (maps_written ts before c.args.entry t key w c.self.view_is c.self.invariant c.index_mut-table.ensures.value at.3 full)) (put_has_shapes (maps_of before) m key w fits shapes has);
         places = λ w other. keys_kept c.args.self.now c.args.entry w other;
         shapes = λ w. shapes_kept c.args.self.now c.args.entry w;
       },
