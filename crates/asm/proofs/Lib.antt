@@ -9,3 +9,5 @@ pub mod Parts
 pub mod RoundTrip
 pub mod ReadBack
 pub mod PlainWords
+pub mod Spaces
+pub mod Distances

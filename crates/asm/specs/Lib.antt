@@ -9,5 +9,6 @@ pub mod Operands
 pub mod Labels
 pub mod Forms
 pub mod Assembled
+pub mod Unlabelled
 -- Laws: what text and programs are to one another.
 pub mod Laws

@@ -1,5 +1,5 @@
 -- The parts of a line: tokens, and operands between commas.
-use Rattle.std.specs.Prelude.{ℕ, Bool, not, ◌||◌, ◌==◌, List, [], take, drop, slice_index, Result, Ok, Err, if◌then◌else◌}
+use Rattle.std.specs.Prelude.{ℕ, Bool, not, ◌||◌, ◌==◌, List, [], ◌∷◌, ◌++◌, take, drop, slice_index, Result, Ok, Err, if◌then◌else◌}
 use Rattle.std.specs.Borrow.{Bor}
 use Rattle.std.specs.List.{position_or_len}
 use Rattle.asm.specs.declared.refusals.AsmFault.{AsmFault}
@@ -81,3 +81,22 @@ operands_of count text =
     else if count == 1 then Ok (parts (operand_of text).0 [] [] (operand_of text).1)
     else (next_operand_of (operand_of text).1
     >>= (λ second. if count == 2 then Ok (parts (operand_of text).0 second.0 [] second.1) else third_operand (operand_of text).0 second))
+
+-- ---- the tokens of a line
+
+-- a token, if it has a byte, before others
+abbrev pub closed : List ℕ → List (List ℕ) → List (List ℕ)
+closed [] tokens = tokens
+closed (c ∷ cs) tokens = (c ∷ cs) ∷ tokens
+
+-- the tokens of a text behind the beginning of one: white space and commas end a token, and a comma is a token
+abbrev pub tokens_behind : List ℕ → List ℕ → List (List ℕ)
+tokens_behind token [] = closed token []
+tokens_behind token (c ∷ cs) =
+    if is_blank c then closed token (tokens_behind [] cs)
+    else if c == 44 then closed token ((44 ∷ []) ∷ tokens_behind [] cs)
+    else tokens_behind (token ++ c ∷ []) cs
+
+-- the tokens of a line up to its comment
+abbrev pub tokens_of : List ℕ → List (List ℕ)
+tokens_of line = tokens_behind [] (before Semicolon line)

@@ -16,5 +16,7 @@ mod words;
 
 pub use assembling::assemble;
 pub use disassembling::disassemble;
-pub use laws::{assemble_inverts_disassemble, each_word_is_its_spelling};
+pub use laws::{
+    assemble_inverts_disassemble, each_word_is_its_spelling, labels_are_distances, tokens_say_all,
+};
 pub use refusals::{AsmError, AsmFault, AsmRefusal};
