@@ -32,3 +32,4 @@ pub mod ServedAll
 pub mod ServedRuns
 pub mod KeptRuns
 pub mod StateTexts
+pub mod EncodedMeanings

@@ -32,6 +32,8 @@ pub mod RunLines
 pub mod ReplayLines
 -- Laws: a line of a script, of a list of steps or of a transcript says just what it spells.
 pub mod LineSpelling
+-- Laws: what the script that `encode` writes means.
+pub mod EncodedCalls
 -- Laws: the reply that a line tells, beside which a signed number may stand.
 pub mod SignedLaws
 -- Laws: how an input is cut, and what is served of a text that could be run.

@@ -6,6 +6,7 @@ mod blocked_texts;
 mod calls;
 mod catalogues;
 mod commands;
+mod encode_laws;
 mod encode_texts;
 mod feeding;
 mod folder;
@@ -40,6 +41,7 @@ pub use commands::{
     ServeEnd, Setup, assemble, check, disassemble, disassemble_slots, encode, explain, graph,
     replay, run, run_signed, schedule, serve,
 };
+pub use encode_laws::encoded_lines_are_calls;
 pub use feeding::{CannotRead, Feed};
 pub use folder::Folder;
 pub use laws::{
