@@ -7,8 +7,9 @@ ghost use Rattle.accounts.specs.declared.sessions.Pending.{Pending};
 ghost use Rattle.replica.specs.StoreMeaning.{store_meaning, is_operation};
 ghost use Rattle.replica.specs.declared.refusals.StoreRefused.{StoreRefused};
 ghost use Rattle.replica.specs.Refusals.{early_refusal};
-ghost use Rattle.store_steps.specs.Views.{op_of};
+ghost use Rattle.store.specs.Going.{TriedReadGoes};
 ghost use Rattle.store.specs.Sessions.{IsOf, install_of, install_refused};
+ghost use Rattle.store_steps.specs.Views.{op_of};
 ghost use Rattle.store_steps.specs.Stages.{HasDone};
 ghost use Rattle.store.specs.Polled.{HasPostedFor, TellsCompleted, TellsPost, TellsTriedRead};
 
@@ -259,6 +260,8 @@ impl Polled {
             × (self.new ≡ self.old) }
         ensures answered { early_refusal store.now.catalogue Read program argument.now ≡ None
             → TellsTriedRead self.old self.new (op_of program argument.now) result }
+        ensures goes { early_refusal store.now.catalogue Read program argument.now ≡ None
+            → TriedReadGoes self.old self.new (op_of program argument.now) result }
     {
         let Polled { seat, caller, .. } = self;
         check_call(store.catalogue(), Mode::Read, program, argument)?;

@@ -6,15 +6,16 @@ ghost use Rattle.accounts.specs.Accounts.{Extends, IsWellFormed};
 ghost use Rattle.replica.specs.StoreMeaning.{store_meaning, is_operation};
 ghost use Rattle.replica.specs.declared.refusals.StoreRefused.{StoreRefused};
 ghost use Rattle.replica.specs.Refusals.{early_refusal};
+ghost use Rattle.store.specs.Going.{EachGoes, ReadGoes, ScanGoes};
 ghost use Rattle.store.specs.Sessions.{said};
 ghost use Rattle.store_steps.specs.declared.questions.QuestionRefused.{QuestionRefused};
-ghost use Rattle.store_steps.specs.Questions.{first_refused};
 ghost use Rattle.store.specs.Sessions.{EachBegins, TellsEach};
+ghost use Rattle.store_steps.specs.Questions.{first_refused};
 ghost use Rattle.store_steps.specs.declared.scanning.ScanRefused.{ScanRefused};
-ghost use Rattle.store_steps.specs.Scanning.{scan_refusal};
 ghost use Rattle.store.specs.Sessions.{ScanBegins, TellsScan};
-ghost use Rattle.store_steps.specs.Views.{IsIdle, op_of, session_view};
+ghost use Rattle.store_steps.specs.Scanning.{scan_refusal};
 ghost use Rattle.store.specs.Sessions.{IsOf, TellsUpdate, TellsRead, BeginsWithin, HasRoom, known_of, install_of, install_refused};
+ghost use Rattle.store_steps.specs.Views.{IsIdle, op_of, session_view};
 
 use crate::answers::Answer;
 use crate::store::Store;
@@ -231,6 +232,8 @@ impl Session {
         ensures answered { early_refusal store.now.catalogue Read program argument.now ≡ None
             → TellsRead self.old self.new (op_of program argument.now) result }
         ensures begun { early_refusal store.now.catalogue Read program argument.now ≡ None → BeginsWithin self.old self.new result }
+        ensures goes { early_refusal store.now.catalogue Read program argument.now ≡ None
+            → ReadGoes self.old self.new (op_of program argument.now) result }
     {
         let Session { seat, caller, .. } = self;
         check_call(store.catalogue(), Mode::Read, program, argument)?;
@@ -263,6 +266,7 @@ impl Session {
         ensures answered { first_refused store.now.catalogue 0 questions.now ≡ None
             → TellsEach self.old self.new questions.now replies.new result }
         ensures begun { first_refused store.now.catalogue 0 questions.now ≡ None → EachBegins self.old self.new result }
+        ensures goes { first_refused store.now.catalogue 0 questions.now ≡ None → EachGoes self.old self.new questions.now replies.new result }
     {
         let Session { seat, caller, .. } = self;
         check_each(store.catalogue(), questions)?;
@@ -297,6 +301,8 @@ impl Session {
         ensures told { scan_refusal store.now.catalogue map from ≡ None
             → TellsScan self.old self.new map from (length keys.old) (length values.old) keys.new values.new result }
         ensures begun { scan_refusal store.now.catalogue map from ≡ None → ScanBegins self.old self.new result }
+        ensures goes { scan_refusal store.now.catalogue map from ≡ None
+            → ScanGoes self.old self.new map from (length keys.old) (length values.old) keys.new values.new result }
     {
         let Session { seat, caller, .. } = self;
         let begin = Beginning {

@@ -14,7 +14,7 @@ use Rattle.combiner.specs.declared.slots.Stage.TheVariants.{Posted}
 use Rattle.accounts.proofs.Parts.{author_is}
 use Rattle.node.specs.declared.parts.NodeBatch.TheVariants.{Held}
 use Rattle.schedule.specs.declared.parts.Opening.{Opening}
-use Rattle.schedule.specs.Steps.{Part, is_free, no_batch, no_read, session_at, silent, with_call_or_back}
+use Rattle.schedule.specs.Steps.{Part, is_free, no_read, session_at, silent, with_call_or_back}
 use Rattle.schedule.specs.Trace.{Back, Call, Updated}
 use Rattle.schedule.specs.Worlds.{NodeView}
 use Rattle.replica.specs.StoreMeaning.{is_operation}

@@ -18,8 +18,9 @@ use Rattle.schedule.specs.Steps.{Part, inner, part_of, put_seen, read_at, sessio
 use Rattle.schedule.specs.declared.steps.Step.TheVariants.{ReadAnswer as Answers}
 use Rattle.schedule.specs.Trace.{Back, ReadBack}
 use Rattle.schedule.specs.Worlds.{NodeView}
-use Rattle.store_steps.specs.Whole.{ReadsBy}
-use Rattle.store_laws.specs.InOrder.{CombinesInOrder, Ends, Takes, Meets, ReadsInOrder, SeenInOrder, WholeCombine, WholeRead, node_of, read_to, step_of}
+use Rattle.store_steps.specs.Views.{RepliesThere}
+use Rattle.store_steps.specs.Whole.{LooksBy}
+use Rattle.store_laws.specs.InOrder.{CombinesInOrder, Ends, Takes, Meets, ReadsInOrder, SeenInOrder, WholeCombine, WholeLook, look_to, node_of, step_of}
 
 -- the part of a step that may be taken
 module _ (m : Opening) (n : ℕ) (reads : List (Option BegunRead)) where
@@ -53,18 +54,12 @@ replied_with : (o : Option ReadEffect) (F : ℕ → Part) (reply : ℕ) → opti
 replied_with (Some e) F reply is = ap (option_map F) is
 replied_with None F reply is = ap (option_map F) is
 
-module _ (m : Opening) (n s : ℕ) (reads : List (Option BegunRead)) (w : WholeRead m) (d : DeskView) where
-  abbrev call : Call
-  call = w.call
-
-  abbrev answer : ReadAnswer
-  answer = w.answer
-
-  abbrev c : ReadsBy w.k w.after (Run call) answer
+module _ (m : Opening) (n s : ℕ) (reads : List (Option BegunRead)) (w : WholeLook m) (d : DeskView) where
+  abbrev c : LooksBy w.k w.after w.point
   c = w.by
 
   abbrev t : Seen
-  t = read_to w d
+  t = look_to w d
 
   abbrev last : NodeView
   last = node_of t reads
@@ -78,15 +73,16 @@ module _ (m : Opening) (n s : ℕ) (reads : List (Option BegunRead)) (w : WholeR
   abbrev given : BegunRead → Option Part
   given read = cond (may_answer read.seen w.after.progress.completed c.left) (option_map (λ e. told_reply e.reply) (store_meaning.read m.catalogue (Run read.call) c.left.replica.state)) None
 
-  replies : option_map (λ e. told_reply e.reply) (store_meaning.read m.catalogue (Run call) c.left.replica.state) ≡ Some (told_reply answer.reply)
-  replies = replied_with (store_meaning.read m.catalogue (Run call) c.left.replica.state) told_reply answer.reply
-      (ap (λ z. option_map (λ e. e.reply) (store_meaning.read z (Run call) c.left.replica.state)) w.same ∙ c.reply)
+  module _ (call : Call) (reply : ℕ) (there : RepliesThere w.k.progress.catalogue (Run call) c.left reply) where
+    replies : option_map (λ e. told_reply e.reply) (store_meaning.read m.catalogue (Run call) c.left.replica.state) ≡ Some (told_reply reply)
+    replies = replied_with (store_meaning.read m.catalogue (Run call) c.left.replica.state) told_reply reply
+        (ap (λ z. option_map (λ e. e.reply) (store_meaning.read z (Run call) c.left.replica.state)) w.same ∙ there)
 
-  answered_there : read_at last s ≡ Some (record { call = call; seen = c.seen }) → part_of m (Answers n s) t.log last ≡ Some (told answer)
-  answered_there begun =
-      ap (option_and_then given) begun
-      ∙ (ap (λ q. (let p : Option Part = cond q (option_map (λ e. told_reply e.reply) (store_meaning.read m.catalogue (Run call) c.left.replica.state)) None in p)) c.may
-      ∙ (replies ∙ ap (λ z. Some (told (record { point = z; reply = answer.reply }))) (sym c.point)))
+    answered_there : read_at last s ≡ Some (record { call = call; seen = c.seen }) → part_of m (Answers n s) t.log last ≡ Some (told (record { point = w.point; reply = reply }))
+    answered_there begun =
+        ap (option_and_then given) begun
+        ∙ (ap (λ q. (let p : Option Part = cond q (option_map (λ e. told_reply e.reply) (store_meaning.read m.catalogue (Run call) c.left.replica.state)) None in p)) c.may
+        ∙ (replies ∙ ap (λ z. Some (told (record { point = z; reply = reply }))) (sym c.at)))
 
   pub reads_in_order : ReadsInOrder m n s reads w d
   reads_in_order = record {

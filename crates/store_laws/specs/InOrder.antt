@@ -16,8 +16,9 @@ use Rattle.schedule.specs.declared.steps.Step.TheVariants.{Append, Replay, Finis
 use Rattle.schedule.specs.Steps.{Part, part_of, read_at, seen_of, session_at, with_call_or_back, with_read}
 use Rattle.schedule.specs.Trace.{Back, ReadBack}
 use Rattle.schedule.specs.Worlds.{NodeView}
+use Rattle.store_steps.specs.Views.{RepliesThere}
 use Rattle.store_steps.specs.Standing.{SessionKnown}
-use Rattle.store_steps.specs.Whole.{CombinesBy, ReadsBy, combine_steps, read_steps, sees}
+use Rattle.store_steps.specs.Whole.{CombinesBy, LooksBy, combine_steps, read_steps, sees}
 
 -- the schedule's step of the node n
 abbrev pub step_of : ℕ → NodeStep → Step
@@ -63,25 +64,25 @@ CombinesInOrder m n reads w = let c = w.by in
 abbrev pub IsAnsweredThere : Opening → (n s : ℕ) → Log → NodeView → ReadAnswer → Type 0
 IsAnsweredThere m n s g node answer = part_of m (Answers n s) g node ≡ Some (with_call_or_back (Back (session_at node s) (ReadBack answer)) g (with_read node s None))
 
--- a whole read on a store with the catalogue of this opening, as store promises it: what its session knew, and knows after it; the call, and
--- its answer
-pub record WholeRead (m : Opening) : Type 0 where
+-- a whole look at a node's replica on a store with the catalogue of this opening, as store promises it of a read, of several at one point and of a scan: what
+-- its session knew, and knows after it; and at which point of the history it looks
+pub record WholeLook (m : Opening) : Type 0 where
   pub k : SessionKnown
   pub same : m.catalogue ≡ k.progress.catalogue
   pub after : SessionKnown
-  pub call : Call
-  pub answer : ReadAnswer
-  pub by : ReadsBy k after (Run call) answer
+  pub point : ℕ
+  pub by : LooksBy k after point
 
 -- what is seen where it begins, and where it answers, at this desk
-abbrev pub read_from : {m : Opening} → WholeRead m → DeskView → Seen
-read_from w d = let c = w.by in sees c.from c.log c.own Absent d
+abbrev pub look_from : {m : Opening} → WholeLook m → DeskView → Seen
+look_from w d = let c = w.by in sees c.from c.log c.own Absent d
 
-abbrev pub read_to : {m : Opening} → WholeRead m → DeskView → Seen
-read_to w d = let c = w.by in sees w.after.progress c.back c.left Absent d
+abbrev pub look_to : {m : Opening} → WholeLook m → DeskView → Seen
+look_to w d = let c = w.by in sees w.after.progress c.back c.left Absent d
 
--- its steps, and then the schedule's own answer to a read that was begun at the slot s, with the completed tail as the call loaded it
-pub record ReadsInOrder (m : Opening) (n s : ℕ) (reads : List (Option BegunRead)) (w : WholeRead m) (d : DeskView) : Type 0 where
-  pub steps : SeenInOrder m n reads (read_from w d) (read_steps w.by.low w.by.next w.by.later) (read_to w d)
-  pub answered : (let t = read_to w d in
-      read_at (node_of t reads) s ≡ Some (record { call = w.call; seen = w.by.seen }) → IsAnsweredThere m n s t.log (node_of t reads) w.answer)
+-- its steps, and then the schedule's own answer to each read that was begun at the slot s, with the completed tail as the call loaded it: the reply of there
+pub record ReadsInOrder (m : Opening) (n s : ℕ) (reads : List (Option BegunRead)) (w : WholeLook m) (d : DeskView) : Type 0 where
+  pub steps : SeenInOrder m n reads (look_from w d) (read_steps w.by.low w.by.next w.by.later) (look_to w d)
+  pub answered : (call : Call) (reply : ℕ) → RepliesThere w.k.progress.catalogue (Run call) w.by.left reply
+      → (let t = look_to w d in
+      read_at (node_of t reads) s ≡ Some (record { call = call; seen = w.by.seen }) → IsAnsweredThere m n s t.log (node_of t reads) (record { point = w.point; reply = reply }))

@@ -9,7 +9,7 @@ ghost use Rattle.schedule.specs.declared.parts.Opening.{Opening};
 ghost use Rattle.schedule.specs.Worlds.{NodeView};
 ghost use Rattle.store_laws.specs.AtDesks.{ClaimsThere, CollectsThere, IsItsOwn, PostsThere};
 ghost use Rattle.store_laws.specs.Behind.{ReadsStandBehind, UpdatesStandBehind};
-ghost use Rattle.store_laws.specs.InOrder.{CombinesInOrder, ReadsInOrder, WholeCombine, WholeRead};
+ghost use Rattle.store_laws.specs.InOrder.{CombinesInOrder, ReadsInOrder, WholeCombine, WholeLook};
 ghost use Rattle.store_steps.specs.declared.values.Setup.{Setup};
 ghost use Rattle.store_steps.specs.Shelving.{store_rules, store_opening};
 ghost use Rattle.store_laws.specs.Meanwhile.{Meanwhile, StoreState};
@@ -42,11 +42,11 @@ pub fn desks_are_steps()
 {}
 
 /// A whole combine, as `store` promises it, is a list of the schedule's steps of its node: it may rebase, it makes room if it must (replay,
-/// finish, reclaim), it appends, replays and finishes if something is left for it, and replies. A whole read is such a list without a
-/// batch (rebase, replay, finish), and then the schedule's read that was begun with the completed tail that the call loaded may be answered,
-/// with what the call answers. Each step may be taken when it is, on the log as it is seen together with the completed tail. Between
+/// finish, reclaim), it appends, replays and finishes if something is left for it, and replies. A whole read, several reads at one point and a
+/// scan are such a list without a batch (rebase, replay, finish), and then each read of the schedule that was begun with the completed tail that
+/// the call loaded may be answered, with what the call answers. Each step may be taken when it is, on the log as it is seen together with the completed tail. Between
 /// two steps others may append, complete and reclaim.
 pub fn whole_calls_are_steps()
     ensures combine { (m : Opening) (n : ℕ) (reads : List (Option BegunRead)) (w : WholeCombine m) → CombinesInOrder m n reads w }
-    ensures read { (m : Opening) (n s : ℕ) (reads : List (Option BegunRead)) (w : WholeRead m) (d : DeskView) → ReadsInOrder m n s reads w d }
+    ensures read { (m : Opening) (n s : ℕ) (reads : List (Option BegunRead)) (w : WholeLook m) (d : DeskView) → ReadsInOrder m n s reads w d }
 {}

@@ -33,10 +33,11 @@ use Rattle.store_steps.specs.Scanning.{GivesThere, HasSeen, IsPlaceIn, IsScanned
 use Rattle.store_steps.specs.Views.{IsReadBy, RepliesThere}
 use Rattle.store_steps.specs.Shelving.{replica_value, store_rules}
 use Rattle.store_steps.specs.Standing.{Agrees, SessionKnown}
-use Rattle.store_steps.specs.Whole.{ReadsBy}
+use Rattle.store_steps.specs.Going.{EachReadsBy, ScansBy}
+use Rattle.store_steps.specs.Whole.{LooksBy, ReadsBy}
 use Rattle.store_steps.proofs.Finished.{Back, Picked, back, may_put_replica, put_back}
 use Rattle.store_steps.proofs.StoreLaws.{store_laws}
-use Rattle.store_steps.proofs.Stretches.{reads_by}
+use Rattle.store_steps.proofs.Stretches.{looks_by}
 use Rattle.store_steps.proofs.Taken.{well_formed}
 use Rattle.store_steps.proofs.Whole.{agrees_on}
 
@@ -115,6 +116,10 @@ module _ (k a : K) (p : ℕ) (v : Value) (h : HoldsReady k a p v) where
           well_formed = well_formed f.progress b.stands.notes b.stands.accounts;
         }
 
+    -- it has looked at that replica
+    looks_ready : (point : ℕ) → point ≡ h.node.replica.tail → (by : LooksBy k f point) × (by.left ≡ h.node)
+    looks_ready point at = looks_by k h.taking a f h.loaded h.begun h.own h.node point h.grown h.begun_is h.since h.own_is h.stands h.follows h.on h.agrees h.within h.reached b.extends b.stands (b.tails_read ∙ h.read) at
+
     agrees_now : Agrees f.progress h.node
     agrees_now = agrees_on a.progress f.progress h.node b.extends h.within h.agrees
 
@@ -142,8 +147,9 @@ module _ (k a : K) (p : ℕ) (v : Value) (h : HoldsReady k a p v) where
           }
 
       pub reads_ready : ReadsBy k f op answer
-      reads_ready = reads_by k h.taking a f h.loaded h.begun h.own h.node op answer h.grown h.begun_is h.since h.own_is h.stands h.follows h.on h.agrees h.within h.reached b.extends b.stands (b.tails_read ∙ h.read) point_is
-          (subst (λ z. RepliesThere z op h.node answer.reply) (sym same) reply_is)
+      reads_ready =
+          let t = looks_ready answer.point point_is in
+          (t.0, subst (λ (z : CatalogueView × NodeReplica). RepliesThere z.0 op z.1 answer.reply) (λ i. (sym same i, sym t.1 i)) reply_is)
 
     module _ (map from key_room value_room : ℕ) (keys values : List ℕ) (s : Scan) (n : NodeReplica) (n_is : n ≡ h.node) (point : s.point ≡ n.replica.tail) (gives : GivesThere n map from key_room value_room keys values s) where
       here_is : s.point ≡ h.node.replica.tail
@@ -154,6 +160,9 @@ module _ (k a : K) (p : ℕ) (v : Value) (h : HoldsReady k a p v) where
 
       shapes_are : shapes_of n.replica.state.maps ≡ f.progress.catalogue.shapes
       shapes_are = ap (λ (z : NodeReplica). shapes_of z.replica.state.maps) n_is ∙ ap (λ (z : StateSizes). z.shapes) agrees_now.1.0
+
+      pub scans_ready : ScansBy k f map from key_room value_room keys values s
+      scans_ready = let t = looks_ready s.point here_is in (t.0, subst (λ z. GivesThere z map from key_room value_room keys values s) (n_is ∙ sym t.1) gives)
 
       pub scanned_ready : IsScannedBy k f map from key_room value_room keys values s
       scanned_ready =
@@ -178,6 +187,11 @@ module _ (k a : K) (p : ℕ) (v : Value) (h : HoldsReady k a p v) where
       one_ready : (asked : Question) (reply : ℕ) → RepliesThere c (asked_op asked) n reply → ReadTells store_meaning f.progress k.progress.completed (asked_op asked) point reply
       one_ready asked reply is = subst (λ z. ReadTells store_meaning f.progress k.progress.completed (asked_op asked) z reply) (sym at_point)
           (told_read a.progress f.progress h.node (asked_op asked) c k.progress.completed reply b.extends h.agrees h.within has_seen.far (subst (λ z. RepliesThere c (asked_op asked) z reply) n_is is) (sym all_along.catalogue ∙ same))
+
+      pub each_goes_ready : EachReadsBy k f questions point replies
+      each_goes_ready =
+          let t = looks_ready point at_point in
+          (t.0, subst (λ (z : CatalogueView × NodeReplica). FirstReply z.0 z.1 questions (length questions) replies) (λ i. (sym same i, (n_is ∙ sym t.1) i)) each)
 
       pub each_ready : AreReadBy k f questions point replies
       each_ready =

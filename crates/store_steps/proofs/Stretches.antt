@@ -7,12 +7,13 @@ use Rattle.std.proofs.lemmas.List.{append-nil, append_assoc}
 use Rattle.loader.specs.CatalogueView.{CatalogueView}
 use Rattle.oplog.specs.History.{History}
 use Rattle.oplog.specs.Logs.{Log as LogView, HandView}
-use Rattle.oplog.specs.Operations.{Operation}
-use Rattle.combiner.specs.Desks.{BatchView, DeskView, replied}
+use Rattle.oplog.specs.declared.configuration.Config.{Config}
+use Rattle.oplog.specs.Sessions.{IsSessionOf}
+use Rattle.combiner.specs.Desks.{BatchView, DeskView, IsBatchOf, replied}
+use Rattle.accounts.specs.Moves.{unplaced}
 use Rattle.replica.specs.Views.{RepliesView}
 use Rattle.accounts.specs.declared.sessions.Progress.{Progress}
 use Rattle.accounts.specs.Accounts.{Extends}
-use Rattle.readpath.specs.declared.reading.ReadAnswer.{ReadAnswer}
 use Rattle.node.specs.Answering.{answered_batch}
 use Rattle.node.specs.Following.{copied, grown, has_next, may_append, may_rebase, no_records, rebased, reclaimed, replayed, replies_after, replies_for, told}
 use Rattle.node.specs.Seen.{Goes, Ends, Meets, OthersDo}
@@ -22,8 +23,7 @@ use Rattle.node.specs.declared.following.NodeReplica.{NodeReplica}
 use Rattle.node.specs.declared.parts.NodeBatch.{NodeBatch}
 use Rattle.node.specs.declared.parts.NodeBatch.TheVariants.{Absent, Held, InLog}
 use Rattle.store_steps.specs.Standing.{SessionKnown, Agrees, Follows, HasRaised, HoldsLog, IsLogOf, Stands}
-use Rattle.store_steps.specs.Views.{RepliesThere}
-use Rattle.store_steps.specs.Whole.{AnswersBy, AppendsBy, CombinesBy, FollowsBy, HandsOver, MakesRoom, ReadsBy, ReplaysBy, append_steps, if_any, read_steps, replay_steps, sees}
+use Rattle.store_steps.specs.Whole.{AnswersBy, AppendsBy, CombinesBy, FollowsBy, HandsOver, LooksBy, MakesRoom, ReplaysBy, append_steps, if_any, read_steps, replay_steps, sees}
 use Rattle.store_steps.proofs.StoreLaws.{store_laws}
 use Rattle.store_steps.proofs.Followed.{above, kept_up}
 use Rattle.store_steps.proofs.Whole.{agrees_on, append_step, finish_step, follow_step, later, later_is, log_from, log_from_is, others, others_complete, rebase_step, reclaim_step, replay_step, reply_step, still_log}
@@ -163,12 +163,15 @@ module _ (k after : K) (g : LogView) (n m : NodeReplica) (old new : RepliesView)
 
 -- ---- the answers are handed over
 
-pub hands_over : (k after : K) (g : LogView) (n : NodeReplica) (b : BatchView) (kept : RepliesView) (d : DeskView) → IsLogOf k.progress g → Agrees k.progress n → Extends k.progress after.progress → after.progress.completed ≤ length after.progress.history → HandsOver k after g n b kept
-hands_over k after g n b kept d is a grown low =
+pub hands_over : (k after : K) (g : LogView) (n : NodeReplica) (b : BatchView) (kept : RepliesView) (d : DeskView) → IsLogOf k.progress g → Agrees k.progress n → Extends k.progress after.progress → after.progress.completed ≤ length after.progress.history
+    → IsSessionOf k.progress.config d.node k.session → IsBatchOf d b → HandsOver k after g n b kept
+hands_over k after g n b kept d is a grown low mine claimed =
     let tail = a.0.tail in let rise = grown.completed in record {
       log = later after.progress g;
       log_is = later_is k.progress after.progress g is grown low;
       desk = d;
+      mine = mine;
+      claimed = claimed;
       goes = Meets _ _ _ _ (others k.progress after.progress g is grown low k.progress.catalogue n (InLog (record { batch = b; replies = kept })) d)
           (reply_step k.progress.catalogue after.progress (later after.progress g) n b kept d (ap (λ (z : HandView). z.records) a.1.1) (omega (arith, tail, rise)));
     }
@@ -219,8 +222,9 @@ module _ (k f z : K) (b : BatchView) (kept : RepliesView) (first : AnswersBy k f
   within_f : first.left.replica.tail ≤ length f.progress.history
   within_f = let tail = first.left_is.0.tail in let low = stands.accounts.completed in omega (arith, tail, low)
 
-  pub combines_by : (answered : BatchView) → answered ≡ answered_batch kept b → CombinesBy k z b answered
-  combines_by answered answers = record {
+  pub combines_by : (answered : BatchView) → answered ≡ answered_batch kept b → k.note.batch ≡ unplaced b.records → f.session ≡ k.session → CombinesBy k z b answered
+  combines_by answered answers noted same = record {
+    noted = noted;
     from = first.from;
     since = first.since;
     log = first.log;
@@ -234,6 +238,8 @@ module _ (k f z : K) (b : BatchView) (kept : RepliesView) (first : AnswersBy k f
     kept = kept;
     answers = answers;
     desk = last.desk;
+    mine = subst (λ (z : Config × ℕ). IsSessionOf z.0 last.desk.node z.1) (λ i. (sym on.config i, same i)) last.mine;
+    claimed = last.claimed;
     low = first.low;
     full = first.full;
     next = first.next;
@@ -286,8 +292,8 @@ module _ (k t f after : K) (g : LogView) (n u m : NodeReplica) (took : Extends k
         (goes_on (follow_step c1 t.progress g u m (above t.progress g u is keeps_up.0 keeps_up.1) keeps_up.0 ran Absent d (λ x. refl)) (raise_part t.progress f after g m is on up c1 Absent d)));
   }
 
--- the whole read: the session k loaded the completed tail, which was done with the progress p, took its replica and is t then, r once that has come up, and f once it has put it back
-module _ (k t r f : K) (p : L) (done : ℕ) (n m : NodeReplica) (op : Operation) (answer : ReadAnswer) (grown : Extends k.progress p) (done_is : done ≡ p.completed) (took : Extends p t.progress) (found : Agrees t.progress n) (stands : Stands t) (first : FollowsBy t r n m)
+-- the whole look: the session k loaded the completed tail, which was done with the progress p, took its replica and is t then, r once that has come up, and f once it has put it back
+module _ (k t r f : K) (p : L) (done : ℕ) (n m : NodeReplica) (point : ℕ) (grown : Extends k.progress p) (done_is : done ≡ p.completed) (took : Extends p t.progress) (found : Agrees t.progress n) (stands : Stands t) (first : FollowsBy t r n m)
     (up : Extends t.progress r.progress) (agrees : Agrees r.progress m) (within : m.replica.tail ≤ length r.progress.history) (reached : done ≤ m.replica.tail) (back : Extends r.progress f.progress) (stands_f : Stands f) where
   abbrev c2 : CatalogueView
   c2 = k.progress.catalogue
@@ -295,29 +301,32 @@ module _ (k t r f : K) (p : L) (done : ℕ) (n m : NodeReplica) (op : Operation)
   to_t : k.progress.catalogue ≡ t.progress.catalogue
   to_t = grown.catalogue ∙ took.catalogue
 
-  pub reads_by : f.tails_read ≡ k.tails_read ++ done ∷ [] → answer.point ≡ m.replica.tail → RepliesThere k.progress.catalogue op m answer.reply → ReadsBy k f op answer
-  reads_by read point reply =
-      let tail = agrees.0.tail in let rise = back.completed in let rise_t = took.completed in let rise_s = first.since.completed in record {
-        seen = done;
-        more = [];
-        read = read;
-        from = first.from;
-        since = store_laws.extends_on k.progress t.progress first.from (store_laws.extends_on k.progress p t.progress grown took) first.since;
-        begun = omega (arith, done_is, rise_t, rise_s);
-        log = first.log;
-        back = later f.progress first.back;
-        log_is = first.log_is;
-        back_is = later_is r.progress f.progress first.back first.back_is back stands_f.accounts.completed;
-        own = n;
-        left = m;
-        own_is = agrees_on t.progress first.from n first.since (let tail = found.0.tail in let low = stands.accounts.completed in omega (arith, tail, low)) found;
-        left_is = agrees_on r.progress f.progress m back within agrees;
-        low = first.low;
-        next = first.next;
-        later = first.later;
-        goes = λ d. then_others c2 _ _ _ (read_steps first.low first.next first.later) (under t.progress.catalogue c2 (sym to_t) (first.goes d))
-            (others r.progress f.progress first.back first.back_is back stands_f.accounts.completed c2 m Absent d);
-        may = ap (λ z. z && nat_le m.replica.tail f.progress.completed) (le-leb done m.replica.tail reached) ∙ le-leb m.replica.tail f.progress.completed (omega (arith, tail, rise));
-        point = point;
-        reply = reply;
-      }
+  -- the replica that it looked at is m
+  pub looks_by : f.tails_read ≡ k.tails_read ++ done ∷ [] → point ≡ m.replica.tail → (by : LooksBy k f point) × (by.left ≡ m)
+  looks_by read at =
+      let tail = agrees.0.tail in let rise = back.completed in let rise_t = took.completed in let rise_s = first.since.completed in (
+        record {
+          seen = done;
+          more = [];
+          read = read;
+          from = first.from;
+          since = store_laws.extends_on k.progress t.progress first.from (store_laws.extends_on k.progress p t.progress grown took) first.since;
+          begun = omega (arith, done_is, rise_t, rise_s);
+          log = first.log;
+          back = later f.progress first.back;
+          log_is = first.log_is;
+          back_is = later_is r.progress f.progress first.back first.back_is back stands_f.accounts.completed;
+          own = n;
+          left = m;
+          own_is = agrees_on t.progress first.from n first.since (let tail = found.0.tail in let low = stands.accounts.completed in omega (arith, tail, low)) found;
+          left_is = agrees_on r.progress f.progress m back within agrees;
+          low = first.low;
+          next = first.next;
+          later = first.later;
+          goes = λ d. then_others c2 _ _ _ (read_steps first.low first.next first.later) (under t.progress.catalogue c2 (sym to_t) (first.goes d))
+              (others r.progress f.progress first.back first.back_is back stands_f.accounts.completed c2 m Absent d);
+          may = ap (λ z. z && nat_le m.replica.tail f.progress.completed) (le-leb done m.replica.tail reached) ∙ le-leb m.replica.tail f.progress.completed (omega (arith, tail, rise));
+          at = at;
+        },
+        refl,
+      )

@@ -16,13 +16,14 @@ use Rattle.store_steps.specs.declared.values.Value.{Value}
 use Rattle.store_steps.specs.Combining.{HasAnswered, HasClaimed, HasCombined}
 use Rattle.store_steps.specs.declared.scanning.Scan.{Scan}
 use Rattle.store_steps.specs.declared.steps.Question.{Question}
-use Rattle.store_steps.specs.Questions.{AreReadBy}
-use Rattle.store_steps.specs.Scanning.{HasSeen, IsScannedBy}
+use Rattle.store_steps.specs.Questions.{AreReadBy, FirstReply}
+use Rattle.store_steps.specs.Scanning.{GivesThere, HasSeen, IsScannedBy}
 use Rattle.store_steps.specs.Views.{IsReadBy, RepliesThere}
 use Rattle.store_steps.specs.Shelving.{store_rules}
 use Rattle.store_steps.specs.Standing.{Agrees, SessionKnown, Stands}
 use Rattle.store_steps.specs.Trying.{BeginsBelow, IsStill}
-use Rattle.store_steps.specs.Whole.{AnswersBy, ReadsBy}
+use Rattle.store_steps.specs.Going.{EachReadsBy, ScansBy}
+use Rattle.store_steps.specs.Whole.{AnswersBy, LooksBy, ReadsBy}
 use Rattle.store_steps.proofs.Finished.{Back}
 use Rattle.store_steps.proofs.StoreLaws.{store_laws}
 use Rattle.store_steps.proofs.Stretches.{under}
@@ -205,30 +206,49 @@ module _ (k m f : K) (op : Operation) (answer : ReadAnswer) (s : IsStill k m) wh
         tells = (omega (arith, up, far), r.tells.1, r.tells.2);
       }
 
-  pub reads_since : m.progress.completed ≤ answer.point → ReadsBy m f op answer → ReadsBy k f op answer
-  reads_since far r =
+module _ (k m f : K) (s : IsStill k m) where
+  -- it looked at the same replica
+  pub looks_since : (point : ℕ) → m.progress.completed ≤ point → (r : LooksBy m f point) → (by : LooksBy k f point) × (by.left ≡ r.left)
+  looks_since point far r =
       let may = and_parts (nat_le r.seen r.left.replica.tail) (nat_le r.left.replica.tail f.progress.completed) r.may in
       let low = leb-true r.seen r.left.replica.tail may.0 in
-      let point = r.point in record {
-        seen = first_read s.more r.seen;
-        more = later_reads s.more r.seen r.more;
-        read = reads k m f s r.seen r.more r.read;
-        from = r.from;
-        since = store_laws.extends_on k.progress m.progress r.from s.extends r.since;
-        begun = first_below s.more r.seen m.progress.completed r.from.completed s.below r.since.completed r.begun;
-        log = r.log;
-        back = r.back;
-        log_is = r.log_is;
-        back_is = r.back_is;
-        own = r.own;
-        left = r.left;
-        own_is = r.own_is;
-        left_is = r.left_is;
-        low = r.low;
-        next = r.next;
-        later = r.later;
-        goes = λ d. under m.progress.catalogue k.progress.catalogue (sym s.extends.catalogue) (r.goes d);
-        may = and_from _ _ (le-leb (first_read s.more r.seen) r.left.replica.tail (first_below s.more r.seen m.progress.completed r.left.replica.tail s.below (omega (arith, far, point)) low)) may.1;
-        point = point;
-        reply = subst (λ c. RepliesThere c op r.left answer.reply) (sym s.extends.catalogue) r.reply;
-      }
+      let at = r.at in (
+        record {
+          seen = first_read s.more r.seen;
+          more = later_reads s.more r.seen r.more;
+          read = reads k m f s r.seen r.more r.read;
+          from = r.from;
+          since = store_laws.extends_on k.progress m.progress r.from s.extends r.since;
+          begun = first_below s.more r.seen m.progress.completed r.from.completed s.below r.since.completed r.begun;
+          log = r.log;
+          back = r.back;
+          log_is = r.log_is;
+          back_is = r.back_is;
+          own = r.own;
+          left = r.left;
+          own_is = r.own_is;
+          left_is = r.left_is;
+          low = r.low;
+          next = r.next;
+          later = r.later;
+          goes = λ d. under m.progress.catalogue k.progress.catalogue (sym s.extends.catalogue) (r.goes d);
+          may = and_from _ _ (le-leb (first_read s.more r.seen) r.left.replica.tail (first_below s.more r.seen m.progress.completed r.left.replica.tail s.below (omega (arith, far, at)) low)) may.1;
+          at = at;
+        },
+        refl,
+      )
+
+  pub reads_since : (op : Operation) (answer : ReadAnswer) → m.progress.completed ≤ answer.point → ReadsBy m f op answer → ReadsBy k f op answer
+  reads_since op answer far r =
+      let t = looks_since answer.point far r.0 in
+      (t.0, subst (λ (z : CatalogueView × NodeReplica). RepliesThere z.0 op z.1 answer.reply) (λ i. (sym s.extends.catalogue i, sym t.1 i)) r.1)
+
+  pub each_goes_since : (questions : List Question) (point : ℕ) (replies : List ℕ) → m.progress.completed ≤ point → EachReadsBy m f questions point replies → EachReadsBy k f questions point replies
+  each_goes_since questions point replies far r =
+      let t = looks_since point far r.0 in
+      (t.0, subst (λ (z : CatalogueView × NodeReplica). FirstReply z.0 z.1 questions (length questions) replies) (λ i. (sym s.extends.catalogue i, sym t.1 i)) r.1)
+
+  pub scan_goes_since : (map from key_room value_room : ℕ) (keys values : List ℕ) (scan : Scan) → m.progress.completed ≤ scan.point → ScansBy m f map from key_room value_room keys values scan → ScansBy k f map from key_room value_room keys values scan
+  scan_goes_since map from key_room value_room keys values scan far r =
+      let t = looks_since scan.point far r.0 in
+      (t.0, subst (λ z. GivesThere z map from key_room value_room keys values scan) (sym t.1) r.1)

@@ -40,7 +40,7 @@ EachTells l begun questions point replies =
     (begun ≤ point) × (point ≤ l.completed)
     × ((i : ℕ) (asked : Question) → slice_get questions i ≡ Some asked → (reply : ℕ) × (slice_get replies i ≡ Some reply) × ReadTells store_meaning l begun (asked_op asked) point reply)
 
--- ---- clauses of private functions alone cite what follows
+-- ---- by what a node has, and by what a session knows
 
 -- each of the first n questions has its reply on the node's state
 abbrev pub FirstReply : CatalogueView → NodeReplica → List Question → (n : ℕ) → (replies : List ℕ) → Type 0

@@ -48,7 +48,7 @@ abbrev pub ScanGives : Progress CatalogueView → (begun map from key_room value
 ScanGives l begun map from key_room value_room keys values s =
     (m : Stored) × ScanTells l begun map from (room_in m.shape key_room value_room) m (given m.shape s.count keys values) s
 
--- ---- clauses of private functions alone cite what follows
+-- ---- by what a node has, and by what a session knows
 
 -- maps of these shapes have one of this number, with such a place
 abbrev pub IsPlaceIn : List Shape → (map from : ℕ) → Type 0

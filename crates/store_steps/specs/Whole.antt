@@ -4,11 +4,13 @@ use Rattle.loader.specs.CatalogueView.{CatalogueView}
 use Rattle.oplog.specs.Logs.{Log as LogView}
 use Rattle.oplog.specs.History.{History}
 use Rattle.oplog.specs.Operations.{Operation}
-use Rattle.combiner.specs.Desks.{BatchView, DeskView, replied}
+use Rattle.oplog.specs.Sessions.{IsSessionOf}
+use Rattle.combiner.specs.Desks.{BatchView, DeskView, IsBatchOf, replied}
 use Rattle.replica.specs.Views.{RepliesView}
 use Rattle.readpath.specs.declared.reading.ReadAnswer.{ReadAnswer}
 use Rattle.accounts.specs.declared.sessions.Progress.{Progress}
 use Rattle.accounts.specs.Accounts.{Extends}
+use Rattle.accounts.specs.Moves.{unplaced}
 use Rattle.node.specs.Answering.{answered_batch}
 use Rattle.node.specs.Following.{may_answer}
 use Rattle.node.specs.declared.following.NodeReplica.{NodeReplica}
@@ -91,11 +93,13 @@ pub record ReplaysBy (k after : SessionKnown) (g : LogView) (n m : NodeReplica) 
 abbrev pub ReplaysAnywhere : (k after : SessionKnown) → (n m : NodeReplica) → (old new : RepliesView) → Type 0
 ReplaysAnywhere k after n m old new = (g : LogView) → IsLogOf k.progress g → ReplaysBy k after g n m old new
 
--- it has handed over the answers of the batch
+-- it has handed over the answers of the batch at the desk of its own node, where just its requests are claimed
 pub record HandsOver (k after : SessionKnown) (g : LogView) (n : NodeReplica) (b : BatchView) (kept : RepliesView) : Type 0 where
   pub log : LogView
   pub log_is : IsLogOf after.progress log
   pub desk : DeskView
+  pub mine : IsSessionOf k.progress.config desk.node k.session
+  pub claimed : IsBatchOf desk b
   pub goes : Goes k.progress.catalogue (sees k.progress g n (InLog (record { batch = b; replies = kept })) desk) (Replies ∷ [])
       (sees after.progress log n Absent (replied (answered_batch kept b) desk))
 
@@ -139,8 +143,10 @@ pub record AnswersBy (k after : SessionKnown) (b : BatchView) (kept : RepliesVie
   pub goes : (d : DeskView) → Goes k.progress.catalogue (sees from log own (Held b) d) (append_steps low full next later ++ replay_steps more ahead)
       (sees after.progress back left (InLog (record { batch = b; replies = kept })) d)
 
--- a combine of the batch b: from the log and the replica as the session found them, with the batch claimed, to its answers at the desk
+-- a combine of the batch b, whose requests the session had claimed: from the log and the replica as the session found them, to its answers at the desk
+-- of the session's own node, where just these requests are claimed
 pub record CombinesBy (k after : SessionKnown) (b answered : BatchView) : Type 0 where
+  pub noted : k.note.batch ≡ unplaced b.records
   pub from : Progress CatalogueView
   pub since : Extends k.progress from
   pub log : LogView
@@ -154,6 +160,8 @@ pub record CombinesBy (k after : SessionKnown) (b answered : BatchView) : Type 0
   pub kept : RepliesView
   pub answers : answered ≡ answered_batch kept b
   pub desk : DeskView
+  pub mine : IsSessionOf k.progress.config desk.node k.session
+  pub claimed : IsBatchOf desk b
   pub low : Bool
   pub full : Bool
   pub next : Bool
@@ -163,8 +171,9 @@ pub record CombinesBy (k after : SessionKnown) (b answered : BatchView) : Type 0
   pub goes : Goes k.progress.catalogue (sees from log own (Held b) desk) (combine_steps low full next later more ahead)
       (sees after.progress back left Absent (replied (answered_batch kept b) desk))
 
--- a read: the completed tail is loaded, and the replica comes up with it, if it has not; then it may answer, and does so at its own tail
-pub record ReadsBy (k after : SessionKnown) (op : Operation) (answer : ReadAnswer) : Type 0 where
+-- a look at its node's replica, at this point of the history: the completed tail is loaded, and the replica comes up with it, if it has not; then a
+-- read may be answered there, at the replica's own tail
+pub record LooksBy (k after : SessionKnown) (point : ℕ) : Type 0 where
   pub seen : ℕ
   pub more : List ℕ
   pub read : after.tails_read ≡ k.tails_read ++ seen ∷ more
@@ -184,5 +193,8 @@ pub record ReadsBy (k after : SessionKnown) (op : Operation) (answer : ReadAnswe
   pub later : Bool
   pub goes : (d : DeskView) → Goes k.progress.catalogue (sees from log own Absent d) (read_steps low next later) (sees after.progress back left Absent d)
   pub may : may_answer seen after.progress.completed left ≡ true
-  pub point : answer.point ≡ left.replica.tail
-  pub reply : RepliesThere k.progress.catalogue op left answer.reply
+  pub at : point ≡ left.replica.tail
+
+-- a read: it looks, and answers with the reply of there
+abbrev pub ReadsBy : (k after : SessionKnown) → Operation → ReadAnswer → Type 0
+ReadsBy k after op answer = (by : LooksBy k after answer.point) × RepliesThere k.progress.catalogue op by.left answer.reply

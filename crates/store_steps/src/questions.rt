@@ -3,7 +3,8 @@
 ghost use Rattle.std.specs.Prelude.{◌≡◌, ◌<◌, ◌≤◌, length, None, Some, IfOk, IfErr, MatchResult};
 ghost use Rattle.loader.specs.CatalogueView.{sizes_for};
 ghost use Rattle.loader.specs.StoreState.{sizes_of};
-ghost use Rattle.store_steps.specs.Knowing.{IsOn, Knows, Learns};
+ghost use Rattle.store_steps.specs.Going.{EachReadsBy};
+ghost use Rattle.store_steps.specs.Knowing.{IsOn, Knows, Learns, Relates};
 ghost use Rattle.store_steps.specs.Questions.{AreReadBy, FirstReply, first_refused};
 ghost use Rattle.store_steps.specs.Standing.{IsFree};
 ghost use Rattle.store_steps.specs.Trying.{IsStill};
@@ -80,6 +81,7 @@ fn try_read_each(
     ensures stays { IfErr result (λ _. Learns seat.old seat.new IsStill) }
     ensures kept { IfErr result (λ _. replies.new ≡ replies.old) }
     ensures read { IfOk result (λ point. Learns seat.old seat.new (λ k after. AreReadBy k after questions.now point replies.new)) }
+    ensures goes { IfOk result (λ point. Relates seat.old seat.new (λ k after. EachReadsBy k after questions.now point replies.new)) }
 {
     let mut held = try_hold_ready(shared, seat, caller)?;
     let node = held.value.replica_mut();
@@ -104,6 +106,7 @@ pub fn read_each_waiting<R: Wait>(
     requires room { length replies.old ≡ length questions.now }
     ensures same { seat.new.shelf ≡ seat.old.shelf }
     ensures read { Learns seat.old seat.new (λ k after. AreReadBy k after questions.now result replies.new) }
+    ensures goes { Relates seat.old seat.new (λ k after. EachReadsBy k after questions.now result replies.new) }
 {
     for _ in rt.forever() {
         match try_read_each(shared, seat, caller, questions, replies) {

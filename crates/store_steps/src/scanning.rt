@@ -2,7 +2,8 @@
 
 ghost use Rattle.std.specs.Prelude.{◌≡◌, ◌<◌, length, None, Some, IfOk, IfErr, MatchResult};
 ghost use Rattle.maps.specs.Maps.{shapes_of};
-ghost use Rattle.store_steps.specs.Knowing.{IsOn, Knows, Learns};
+ghost use Rattle.store_steps.specs.Going.{ScansBy};
+ghost use Rattle.store_steps.specs.Knowing.{IsOn, Knows, Learns, Relates};
 ghost use Rattle.store_steps.specs.Scanning.{GivesThere, IsPlaceIn, IsScannedBy, scan_fault_number, scan_refusal};
 ghost use Rattle.store_steps.specs.Standing.{IsFree};
 ghost use Rattle.store_steps.specs.Trying.{IsStill};
@@ -112,6 +113,8 @@ fn try_scan(
     ensures kept { IfErr result (λ _. (keys.new ≡ keys.old) × (values.new ≡ values.old)) }
     ensures scanned { IfOk result (λ s. Learns seat.old seat.new (λ k after.
         IsScannedBy k after begin.map begin.from (length keys.old) (length values.old) keys.new values.new s)) }
+    ensures goes { IfOk result (λ s. Relates seat.old seat.new (λ k after.
+        ScansBy k after begin.map begin.from (length keys.old) (length values.old) keys.new values.new s)) }
 {
     let held = try_hold_ready(shared, seat, caller)?;
     let scan = scan_there(held.value.replica(), begin, keys, values);
@@ -136,6 +139,8 @@ pub fn scan_waiting<R: Wait>(
     ensures same { seat.new.shelf ≡ seat.old.shelf }
     ensures scanned { Learns seat.old seat.new (λ k after.
         IsScannedBy k after begin.map begin.from (length keys.old) (length values.old) keys.new values.new result) }
+    ensures goes { Relates seat.old seat.new (λ k after.
+        ScansBy k after begin.map begin.from (length keys.old) (length values.old) keys.new values.new result) }
 {
     for _ in rt.forever() {
         match try_scan(shared, seat, caller, begin, keys, values) {

@@ -1,9 +1,12 @@
-use Rattle.std.proofs.Common.{◌+◌, sym, ap, subst}
+use Rattle.std.proofs.Common.{ℕ, ◌+◌, sym, ap, subst}
 use Rattle.ownlock.proofs.Seats.{one_known}
+use Rattle.oplog.specs.Sessions.{IsSessionOf}
+use Rattle.oplog.specs.declared.configuration.Config.{Config}
 use Rattle.store_steps.specs.AtDesk.{IsReady}
 use Rattle.store_steps.specs.Lending.{with_desk}
 use Rattle.store_steps.specs.Standing.{IsFree, IsOnShelf, Stands}
 use Rattle.store_steps.specs.Whole.{HandsOver}
+use Rattle.store_steps.proofs.AtDesk.{is_batch}
 use Rattle.store_steps.proofs.Stretches.{hands_over}
 use Rattle.store_steps.proofs.Combined.{handed, puts_replied, ready_on}
 use Rattle.store_steps.proofs.Parts.{desk_put}
@@ -81,6 +84,9 @@ returns-clause-handed c k after is now log node log_is agrees =
     let same = same_desk c.args.caller k t.0 place v b x c.desk_mut.ensures.desk in
     let puts = puts_replied c.args.caller k t.0 place v c.args.batch.now c.args.replies.now b ready c.reply.new.batch x y same c.reply.ensures.answered c.reply.ensures.replied (with_desk v y) (desk_put v x y c.desk_mut.ensures.desk) c.try_take.new.seat.sessions t.2 c.in-Some.held.place c.in-Some.ensures.place in
     let p = c.put.ensures.put t.0 t.2 in
+    let at = is_at c.args.caller k t.0 place v b x c.desk_mut.ensures.desk in
     let f = handed k t.0 _ b.note (puts.back p.0 p.1.0 p.1.1) in
     subst (λ z. HandsOver k z log node c.args.batch.now c.args.replies.now) (one_known c.put.new.seat _ after p.2 now)
-    (hands_over k _ log node c.args.batch.now c.args.replies.now x log_is agrees f.extends f.stands.accounts.completed)
+    (hands_over k _ log node c.args.batch.now c.args.replies.now x log_is agrees f.extends f.stands.accounts.completed
+    (subst (λ (z : Config × ℕ). IsSessionOf z.0 x.node z.1) (λ j. (sym b.extends.config j, b.session j)) (c.args.caller.slot, at.within, at.own, at.near))
+    (is_batch t.0 c.args.batch.now c.args.replies.now ready c.args.caller.slot x at))

@@ -2,7 +2,7 @@ use Rattle.std.proofs.Common.{refl, subst, ◌∙◌}
 use Rattle.ownlock.proofs.Seats.{one_known}
 use Rattle.store_steps.specs.Standing.{IsFree}
 use Rattle.store_steps.proofs.Taken.{free_on, shelf_on}
-use Rattle.store_steps.proofs.Tried.{each_since, still_self, still_then}
+use Rattle.store_steps.proofs.Tried.{each_goes_since, each_since, still_self, still_then}
 use Rattle.store_steps.proofs.questions.read_each_waiting.Goals as goal
 
 pub loop-init : goal.loop-init
@@ -26,6 +26,12 @@ returns-in-Ok-clause-read g c k is =
     let m = c.loop.invariant.1 k is in
     let t = c.in-Ok.ensures.read m.0 m.1 in
     (t.0, t.1, each_since k m.0 t.0 m.2 c.args.questions.now c.in-Ok.point c.try_read_each.new.replies t.2)
+
+pub returns-in-Ok-clause-goes : goal.returns-in-Ok-clause-goes
+returns-in-Ok-clause-goes g c k after is now =
+    let m = c.loop.invariant.1 k is in
+    let t = c.in-Ok.ensures.read m.0 m.1 in
+    each_goes_since k m.0 after m.2 c.args.questions.now c.in-Ok.point c.try_read_each.new.replies t.2.1.0 (c.in-Ok.ensures.goes m.0 after m.1 now)
 
 pub loop-preserved : goal.loop-preserved
 loop-preserved g c = (

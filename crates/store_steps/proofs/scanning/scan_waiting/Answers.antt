@@ -1,9 +1,10 @@
 use Rattle.std.proofs.Common.{refl, subst, length, ◌∙◌}
 use Rattle.ownlock.proofs.Seats.{one_known}
+use Rattle.store_steps.specs.Going.{ScansBy}
 use Rattle.store_steps.specs.Scanning.{IsScannedBy}
 use Rattle.store_steps.specs.Standing.{IsFree}
 use Rattle.store_steps.proofs.Taken.{free_on, shelf_on}
-use Rattle.store_steps.proofs.Tried.{scanned_since, still_self, still_then}
+use Rattle.store_steps.proofs.Tried.{scan_goes_since, scanned_since, still_self, still_then}
 use Rattle.store_steps.proofs.scanning.scan_waiting.Goals as goal
 
 pub loop-init : goal.loop-init
@@ -33,6 +34,14 @@ returns-in-Ok-clause-scanned g c k is =
           (subst (λ xs. IsScannedBy m.0 t.0 c.args.begin.map c.args.begin.from (length xs) (length c.args.values.now) c.try_scan.new.keys c.try_scan.new.values c.in-Ok.scan) c.loop.invariant.2
           (subst (λ xs. IsScannedBy m.0 t.0 c.args.begin.map c.args.begin.from (length c.loop.keys) (length xs) c.try_scan.new.keys c.try_scan.new.values c.in-Ok.scan) c.loop.invariant.3 t.2)),
     )
+
+pub returns-in-Ok-clause-goes : goal.returns-in-Ok-clause-goes
+returns-in-Ok-clause-goes g c k after is now =
+    let m = c.loop.invariant.1 k is in
+    let t = c.in-Ok.ensures.scanned m.0 m.1 in
+    scan_goes_since k m.0 after m.2 c.args.begin.map c.args.begin.from (length c.args.keys.now) (length c.args.values.now) c.try_scan.new.keys c.try_scan.new.values c.in-Ok.scan t.2.1.1.point.0
+    (subst (λ xs. ScansBy m.0 after c.args.begin.map c.args.begin.from (length xs) (length c.args.values.now) c.try_scan.new.keys c.try_scan.new.values c.in-Ok.scan) c.loop.invariant.2
+    (subst (λ xs. ScansBy m.0 after c.args.begin.map c.args.begin.from (length c.loop.keys) (length xs) c.try_scan.new.keys c.try_scan.new.values c.in-Ok.scan) c.loop.invariant.3 (c.in-Ok.ensures.goes m.0 after m.1 now)))
 
 pub loop-preserved : goal.loop-preserved
 loop-preserved g c = (

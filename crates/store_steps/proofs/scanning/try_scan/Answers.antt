@@ -1,5 +1,7 @@
-use Rattle.std.proofs.Common.{◌+◌}
-use Rattle.store_steps.proofs.Ready.{may_put_ready, node_is, ready_back, scanned_ready}
+use Rattle.std.proofs.Common.{◌+◌, length, subst}
+use Rattle.ownlock.proofs.Seats.{one_known}
+use Rattle.store_steps.specs.Going.{ScansBy}
+use Rattle.store_steps.proofs.Ready.{may_put_ready, node_is, ready_back, scanned_ready, scans_ready}
 use Rattle.store_steps.proofs.scanning.try_scan.Goals as goal
 
 pub put-requires-clause-may : goal.put-requires-clause-may
@@ -21,3 +23,14 @@ returns-clause-scanned c k is =
       scanned_ready k r.0 (1 + c.args.caller.node) v r.2 _ b c.args.begin.map c.args.begin.from _ _ c.scan_there-scan.new.keys c.scan_there-scan.new.values c.scan_there-scan.result n (node_is k r.0 (1 + c.args.caller.node) v r.2 n c.replica.ensures.replica)
           c.scan_there-scan.ensures.point c.scan_there-scan.ensures.gives,
     )
+
+pub returns-clause-goes : goal.returns-clause-goes
+returns-clause-goes c k after is now =
+    let v = c.in_ok-held.held.value in
+    let n = c.replica.result.now in
+    let r = c.in_ok-held.ensures.ready k is in
+    let p = c.put.ensures.put r.0 r.1 in
+    let b = ready_back k r.0 (1 + c.args.caller.node) v r.2 c.try_hold_ready.new.seat.sessions r.1 v r.2.is _ c.in_ok-held.ensures.place p.0 p.1.0 p.1.1 in
+    subst (λ z. ScansBy k z c.args.begin.map c.args.begin.from (length c.args.keys.now) (length c.args.values.now) c.scan_there-scan.new.keys c.scan_there-scan.new.values c.scan_there-scan.result) (one_known c.put.new.seat _ after p.2 now)
+    (scans_ready k r.0 (1 + c.args.caller.node) v r.2 _ b c.args.begin.map c.args.begin.from _ _ c.scan_there-scan.new.keys c.scan_there-scan.new.values c.scan_there-scan.result n (node_is k r.0 (1 + c.args.caller.node) v r.2 n c.replica.ensures.replica)
+    c.scan_there-scan.ensures.point c.scan_there-scan.ensures.gives)

@@ -31,7 +31,7 @@ pub returns-in-Ok-clause-goes : goal.returns-in-Ok-clause-goes
 returns-in-Ok-clause-goes g c k after is now =
     let m = c.loop.invariant.1 k is in
     let t = c.in-Ok.ensures.read m.0 m.1 in
-    reads_since k m.0 after (op_of c.args.question.program c.args.question.argument.now) c.in-Ok.answer m.2 t.2.tells.0 (c.in-Ok.ensures.goes m.0 after m.1 now)
+    reads_since k m.0 after m.2 (op_of c.args.question.program c.args.question.argument.now) c.in-Ok.answer t.2.tells.0 (c.in-Ok.ensures.goes m.0 after m.1 now)
 
 pub loop-preserved : goal.loop-preserved
 loop-preserved g c = (

@@ -1,0 +1,32 @@
+-- Of which steps the calls of a session are made that look at its node's replica, as their users see them.
+use Rattle.std.specs.Prelude.{ℕ, List, length, Option, Result, IfOk, IfSome}
+use Rattle.oplog.specs.Operations.{Operation}
+use Rattle.readpath.specs.declared.reading.ReadAnswer.{ReadAnswer}
+use Rattle.replica.specs.declared.refusals.StoreRefused.{StoreRefused}
+use Rattle.store_steps.specs.declared.scanning.Scan.{Scan}
+use Rattle.store_steps.specs.declared.questions.QuestionRefused.{QuestionRefused}
+use Rattle.store_steps.specs.declared.scanning.ScanRefused.{ScanRefused}
+use Rattle.store_steps.specs.declared.steps.Question.{Question}
+use Rattle.store_steps.specs.Questions.{FirstReply}
+use Rattle.store_steps.specs.Scanning.{GivesThere}
+use Rattle.store_steps.specs.Views.{SessionView}
+use Rattle.store.specs.Sessions.{known_of}
+use Rattle.store_steps.specs.Standing.{SessionKnown}
+use Rattle.store_steps.specs.Whole.{ReadsBy}
+use Rattle.store_steps.specs.Going.{EachReadsBy, ScansBy}
+
+-- of a call that was not refused
+
+abbrev pub ReadGoes : (old new : SessionView) → Operation → Result ReadAnswer StoreRefused → Type 0
+ReadGoes old new op result = IfOk result (λ a. ReadsBy (known_of old) (known_of new) op a)
+
+-- and that found no place held
+abbrev pub TriedReadGoes : (old new : SessionView) → Operation → Result (Option ReadAnswer) StoreRefused → Type 0
+TriedReadGoes old new op result = IfOk result (λ o. IfSome o (λ a. ReadsBy (known_of old) (known_of new) op a))
+
+abbrev pub EachGoes : (old new : SessionView) → List Question → (replies : List ℕ) → Result ℕ QuestionRefused → Type 0
+EachGoes old new questions replies result = IfOk result (λ point. EachReadsBy (known_of old) (known_of new) questions point replies)
+
+abbrev pub ScanGoes : (old new : SessionView) → (map from key_room value_room : ℕ) → (keys values : List ℕ) → Result Scan ScanRefused → Type 0
+ScanGoes old new map from key_room value_room keys values result =
+    IfOk result (λ s. ScansBy (known_of old) (known_of new) map from key_room value_room keys values s)

@@ -1,0 +1,23 @@
+-- Of which steps the calls of a session are made that look at its node's replica.
+use Rattle.std.specs.Prelude.{ℕ, List, length, Option, Result, IfOk, IfSome}
+use Rattle.oplog.specs.Operations.{Operation}
+use Rattle.readpath.specs.declared.reading.ReadAnswer.{ReadAnswer}
+use Rattle.replica.specs.declared.refusals.StoreRefused.{StoreRefused}
+use Rattle.store_steps.specs.declared.scanning.Scan.{Scan}
+use Rattle.store_steps.specs.declared.questions.QuestionRefused.{QuestionRefused}
+use Rattle.store_steps.specs.declared.scanning.ScanRefused.{ScanRefused}
+use Rattle.store_steps.specs.declared.steps.Question.{Question}
+use Rattle.store_steps.specs.Questions.{FirstReply}
+use Rattle.store_steps.specs.Scanning.{GivesThere}
+use Rattle.store_steps.specs.Views.{SessionView}
+use Rattle.store.specs.Sessions.{known_of}
+use Rattle.store_steps.specs.Standing.{SessionKnown}
+use Rattle.store_steps.specs.Whole.{LooksBy, ReadsBy}
+
+-- several reads: one look, and each question has the reply of there
+abbrev pub EachReadsBy : (k after : SessionKnown) → List Question → (point : ℕ) → (replies : List ℕ) → Type 0
+EachReadsBy k after questions point replies = (by : LooksBy k after point) × FirstReply k.progress.catalogue by.left questions (length questions) replies
+
+-- a scan: one look, and it gives what the replica's map has
+abbrev pub ScansBy : (k after : SessionKnown) → (map from key_room value_room : ℕ) → (keys values : List ℕ) → Scan → Type 0
+ScansBy k after map from key_room value_room keys values s = (by : LooksBy k after s.point) × GivesThere by.left map from key_room value_room keys values s
