@@ -42,7 +42,8 @@ module _ {C M : Type 0} (E : Meaning C M) where
   abbrev pub IsAllowed : C → Operation → Type 0
   IsAllowed c op = E.is_update c op ≡ true
 
-  -- the q-th update that session a was answered has its record at its index, and its reply is the one that the operation gets there
+  -- the q-th update that session a was answered has its record at its index, and its reply is the one that the
+  -- operation gets there
   abbrev pub IsRecorded : C → History → ℕ → ℕ → AnsweredUpdate → Type 0
   IsRecorded c history a q u = At u.index (record { author = a; seq = q; op = u.op }) history × (reply_at E c history u.index u.op ≡ Some u.reply)
 

@@ -26,7 +26,8 @@ abbrev pub numbered : ℕ → ℕ → List AnsweredUpdate → History
 numbered a seq [] = []
 numbered a seq (u ∷ us) = record { author = a; seq = seq; op = u.op } ∷ numbered a (suc seq) us
 
--- the note, once the session was answered op at place i with that reply; it waits for nothing then, and combines nothing
+-- the note, once the session was answered op at place i with that reply; it waits for nothing then, and combines
+-- nothing
 abbrev pub note_with : SessionNote → ℕ → Operation → ℕ → SessionNote
 note_with n i op reply = record { answered = n.answered ++ record { index = i; op = op; reply = reply } ∷ []; pending = None; batch = [] }
 
@@ -41,7 +42,8 @@ module _ {C M : Type 0} (E : Meaning C M) where
   abbrev pub ReadTells : Progress C → ℕ → Operation → ℕ → ℕ → Type 0
   ReadTells l begun op point reply = (begun ≤ point) × (point ≤ l.completed) × (read_reply_at E l.catalogue l.history point op ≡ Some reply)
 
-  -- the q-th update u that session a was answered stands once in the history: at its index, with the reply that it gets there, and nowhere else
+  -- the q-th update u that session a was answered stands once in the history: at its index, with the reply that it gets
+  -- there, and nowhere else
   pub record StandsOnce (l : Progress C) (a q : ℕ) (u : AnsweredUpdate) : Type 0 where
     pub there : At u.index (record { author = a; seq = q; op = u.op }) l.history
     pub reply : reply_at E l.catalogue l.history u.index u.op ≡ Some u.reply

@@ -35,9 +35,9 @@ pub fn opens<E: Effects>()
     ensures { Opens E.meaning }
 {}
 
-/// What a desk has for a session is so; each update that a session was answered stands once in the history, at its index, with the
-/// reply that it gets there; and in the end the records of each session are its answered updates in order, and no record is of
-/// anybody else.
+/// What a desk has for a session is so; each update that a session was answered stands once in the history, at its
+/// index, with the reply that it gets there; and in the end the records of each session are its answered updates in
+/// order, and no record is of anybody else.
 pub fn tells<E: Effects>()
     ensures desk { DeskTells E.meaning }
     ensures stand { AnsweredStand E.meaning }

@@ -97,8 +97,8 @@ pub record IsClosed (store : StoreView) (sessions : List SessionView) (closed : 
   pub nodes : length closed.replicas ≡ store.config.nodes
   pub replica_is : (node : ℕ) (r : ReplicaView) → At node r closed.replicas → ReplicaAgrees store_meaning progress (replica_value r)
   pub replica_sizes : (node : ℕ) (r : ReplicaView) → At node r closed.replicas → sizes_of r.state ≡ sizes_for store.catalogue
-  -- the records of each session are its answered updates in order, and there are no others; each stands once, at its index, with the reply that
-  -- it gets there
+  -- the records of each session are its answered updates in order, and there are no others; each stands once, at its
+  -- index, with the reply that it gets there
   pub records : (a : ℕ) (s : SessionView) → At a s sessions → records_of s.session progress.history ≡ numbered s.session 0 s.note.answered
   pub answered : (a q : ℕ) (s : SessionView) (u : AnsweredUpdate) → At a s sessions → At q u s.note.answered → StandsOnce store_meaning progress s.session q u
   pub authors : (i : ℕ) (r : Record) → At i r progress.history → (a : ℕ) × (s : SessionView) × At a s sessions × (r.author ≡ s.session)

@@ -18,8 +18,9 @@ use Rattle.store_steps.specs.Standing.{SessionKnown}
 
 -- ---- post
 
--- a session's post at the desk is the schedule's: of an operation that the catalogue allows, at a slot without a read that was begun, it may be taken
--- just where the slot is empty, and makes the same desk; the call is that of the session of the slot
+-- a session's post at the desk is the schedule's: of an operation that the catalogue allows, at a slot without a read
+-- that was begun, it may be taken just where the slot is empty, and makes the same desk; the call is that of the
+-- session of the slot
 abbrev pub PostsThere : Opening → (s : ℕ) → Operation → Log → NodeView → Type 0
 PostsThere m s op g node =
     slice_get node.reads s ≡ Some None → IsAllowed store_meaning m.catalogue op
@@ -31,7 +32,8 @@ IsItsOwn s node = (k : SessionKnown) → IsAt s k node.desk → session_at node 
 
 -- ---- collect
 
--- of a turn at the desk, after which it is y: the answer that is collected is the one that the schedule's collect gives; else that may not be taken
+-- of a turn at the desk, after which it is y: the answer that is collected is the one that the schedule's collect
+-- gives; else that may not be taken
 abbrev pub CollectIs : (s : ℕ) → Log → NodeView → (y : DeskView) → Turn → Type 0
 CollectIs s g node y (Collects reply) = collect s g node ≡ Some (with_call_or_back (Back (session_at node s) (Updated reply)) g (record node { desk = y }))
 CollectIs s g node y Combines = collect s g node ≡ None
@@ -42,7 +44,8 @@ CollectsThere s g node = (y : DeskView) (batch : BatchView) (turn : Turn) → Is
 
 -- ---- claim
 
--- and where none is collected: the batch that is claimed is the one that the schedule's claim makes; else that may not be taken
+-- and where none is collected: the batch that is claimed is the one that the schedule's claim makes; else that may not
+-- be taken
 abbrev pub ClaimIs : Log → NodeView → (y : DeskView) → BatchView → Turn → Type 0
 ClaimIs g node y batch (Collects reply) = Unit {0}
 ClaimIs g node y batch Combines = claim g node ≡ Some (silent g (record node { desk = y; batch = Held batch }))

@@ -12,8 +12,9 @@ use Rattle.store_laws.specs.Meanwhile.{Meanwhile, StoreKnown, StoreState}
 abbrev pub Knows : StoreState → StoreKnown → Type 0
 Knows s k = (j i : ℕ) × (v : List StoreKnown) × At j v s.views × At i k v
 
--- A session that knows `asker` waits for no answer when another knows k. Later, when a session knows `told` and the other has come to know `still`,
--- the next update of the asker has a place in what was told: that place is behind all that the other knew.
+-- A session that knows `asker` waits for no answer when another knows k. Later, when a session knows `told` and the
+-- other has come to know `still`, the next update of the asker has a place in what was told: that place is behind all
+-- that the other knew.
 abbrev pub UpdatesStandBehind : Type 0
 UpdatesStandBehind =
     (opening : Setup) (begun later : StoreState) (asker k told still : StoreKnown) → Meanwhile opening begun → Meanwhile opening later

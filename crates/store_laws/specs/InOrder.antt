@@ -64,8 +64,9 @@ CombinesInOrder m n reads w = let c = w.by in
 abbrev pub IsAnsweredThere : Opening → (n s : ℕ) → Log → NodeView → ReadAnswer → Type 0
 IsAnsweredThere m n s g node answer = part_of m (Answers n s) g node ≡ Some (with_call_or_back (Back (session_at node s) (ReadBack answer)) g (with_read node s None))
 
--- a whole look at a node's replica on a store with the catalogue of this opening, as store promises it of a read, of several at one point and of a scan: what
--- its session knew, and knows after it; and at which point of the history it looks
+-- a whole look at a node's replica on a store with the catalogue of this opening, as store promises it of a read, of
+-- several at one point and of a scan: what its session knew, and knows after it; and at which point of the history it
+-- looks
 pub record WholeLook (m : Opening) : Type 0 where
   pub k : SessionKnown
   pub same : m.catalogue ≡ k.progress.catalogue
@@ -80,7 +81,8 @@ look_from w d = let c = w.by in sees c.from c.log c.own Absent d
 abbrev pub look_to : {m : Opening} → WholeLook m → DeskView → Seen
 look_to w d = let c = w.by in sees w.after.progress c.back c.left Absent d
 
--- its steps, and then the schedule's own answer to each read that was begun at the slot s, with the completed tail as the call loaded it: the reply of there
+-- its steps, and then the schedule's own answer to each read that was begun at the slot s, with the completed tail as
+-- the call loaded it: the reply of there
 pub record ReadsInOrder (m : Opening) (n s : ℕ) (reads : List (Option BegunRead)) (w : WholeLook m) (d : DeskView) : Type 0 where
   pub steps : SeenInOrder m n reads (look_from w d) (read_steps w.by.low w.by.next w.by.later) (look_to w d)
   pub answered : (call : Call) (reply : ℕ) → RepliesThere w.k.progress.catalogue (Run call) w.by.left reply

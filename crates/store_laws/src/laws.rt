@@ -23,17 +23,18 @@ pub fn between_steps()
     ensures { (opening : Setup) (s : StoreState) → LockInvariant store_rules (store_opening opening) s → Meanwhile opening s }
 {}
 
-/// A call that begins when another has returned stands behind it. An update whose session waits for nothing gets a place behind all
-/// that any other session knows when it begins, so behind the place or the point of each call that had returned to that; and a read
-/// loads a completed tail that is not below what any session then knows to be completed, and answers at no point below it.
+/// A call that begins when another has returned stands behind it. An update whose session waits for nothing gets a
+/// place behind all that any other session knows when it begins, so behind the place or the point of each call that had
+/// returned to that; and a read loads a completed tail that is not below what any session then knows to be completed,
+/// and answers at no point below it.
 pub fn stands_behind()
     ensures update { UpdatesStandBehind }
     ensures read { ReadsStandBehind }
 {}
 
-/// What a session does at its node's desk is what the schedule's steps make of it: a post, the answer that is collected, and the batch
-/// that is claimed; and its tests are the schedule's guards: where it does none of these, the schedule may not either. The node of the
-/// schedule has a batch just where requests are claimed at its desk.
+/// What a session does at its node's desk is what the schedule's steps make of it: a post, the answer that is
+/// collected, and the batch that is claimed; and its tests are the schedule's guards: where it does none of these, the
+/// schedule may not either. The node of the schedule has a batch just where requests are claimed at its desk.
 pub fn desks_are_steps()
     ensures post { (m : Opening) (s : ℕ) (op : Operation) (g : Log) (node : NodeView) → PostsThere m s op g node }
     ensures own { (s : ℕ) (node : NodeView) → IsItsOwn s node }
@@ -41,10 +42,11 @@ pub fn desks_are_steps()
     ensures claim { (s : ℕ) (g : Log) (node : NodeView) → ClaimsThere s g node }
 {}
 
-/// A whole combine, as `store` promises it, is a list of the schedule's steps of its node: it may rebase, it makes room if it must (replay,
-/// finish, reclaim), it appends, replays and finishes if something is left for it, and replies. A whole read, several reads at one point and a
-/// scan are such a list without a batch (rebase, replay, finish), and then each read of the schedule that was begun with the completed tail that
-/// the call loaded may be answered, with what the call answers. Each step may be taken when it is, on the log as it is seen together with the completed tail. Between
+/// A whole combine, as `store` promises it, is a list of the schedule's steps of its node: it may rebase, it makes room
+/// if it must (replay, finish, reclaim), it appends, replays and finishes if something is left for it, and replies. A
+/// whole read, several reads at one point and a scan are such a list without a batch (rebase, replay, finish), and then
+/// each read of the schedule that was begun with the completed tail that the call loaded may be answered, with what the
+/// call answers. Each step may be taken when it is, on the log as it is seen together with the completed tail. Between
 /// two steps others may append, complete and reclaim.
 pub fn whole_calls_are_steps()
     ensures combine { (m : Opening) (n : ℕ) (reads : List (Option BegunRead)) (w : WholeCombine m) → CombinesInOrder m n reads w }

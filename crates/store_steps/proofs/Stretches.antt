@@ -292,7 +292,8 @@ module _ (k t f after : K) (g : LogView) (n u m : NodeReplica) (took : Extends k
         (goes_on (follow_step c1 t.progress g u m (above t.progress g u is keeps_up.0 keeps_up.1) keeps_up.0 ran Absent d (λ x. refl)) (raise_part t.progress f after g m is on up c1 Absent d)));
   }
 
--- the whole look: the session k loaded the completed tail, which was done with the progress p, took its replica and is t then, r once that has come up, and f once it has put it back
+-- the whole look: the session k loaded the completed tail, which was done with the progress p, took its replica and is
+-- t then, r once that has come up, and f once it has put it back
 module _ (k t r f : K) (p : L) (done : ℕ) (n m : NodeReplica) (point : ℕ) (grown : Extends k.progress p) (done_is : done ≡ p.completed) (took : Extends p t.progress) (found : Agrees t.progress n) (stands : Stands t) (first : FollowsBy t r n m)
     (up : Extends t.progress r.progress) (agrees : Agrees r.progress m) (within : m.replica.tail ≤ length r.progress.history) (reached : done ≤ m.replica.tail) (back : Extends r.progress f.progress) (stands_f : Stands f) where
   abbrev c2 : CatalogueView

@@ -143,8 +143,8 @@ pub record AnswersBy (k after : SessionKnown) (b : BatchView) (kept : RepliesVie
   pub goes : (d : DeskView) → Goes k.progress.catalogue (sees from log own (Held b) d) (append_steps low full next later ++ replay_steps more ahead)
       (sees after.progress back left (InLog (record { batch = b; replies = kept })) d)
 
--- a combine of the batch b, whose requests the session had claimed: from the log and the replica as the session found them, to its answers at the desk
--- of the session's own node, where just these requests are claimed
+-- a combine of the batch b, whose requests the session had claimed: from the log and the replica as the session found
+-- them, to its answers at the desk of the session's own node, where just these requests are claimed
 pub record CombinesBy (k after : SessionKnown) (b answered : BatchView) : Type 0 where
   pub noted : k.note.batch ≡ unplaced b.records
   pub from : Progress CatalogueView
@@ -171,8 +171,8 @@ pub record CombinesBy (k after : SessionKnown) (b answered : BatchView) : Type 0
   pub goes : Goes k.progress.catalogue (sees from log own (Held b) desk) (combine_steps low full next later more ahead)
       (sees after.progress back left Absent (replied (answered_batch kept b) desk))
 
--- a look at its node's replica, at this point of the history: the completed tail is loaded, and the replica comes up with it, if it has not; then a
--- read may be answered there, at the replica's own tail
+-- a look at its node's replica, at this point of the history: the completed tail is loaded, and the replica comes up
+-- with it, if it has not; then a read may be answered there, at the replica's own tail
 pub record LooksBy (k after : SessionKnown) (point : ℕ) : Type 0 where
   pub seen : ℕ
   pub more : List ℕ
