@@ -3,34 +3,10 @@
 //! wrong and what is wanted there. A program can be drawn, too.
 #![tactic(auto)]
 
-mod accesses;
-mod assembly;
-mod calls;
 mod files;
-mod graph;
-mod knowledge;
-mod lines;
-mod listing;
-mod manifest;
-mod memory;
-mod operand_kinds;
-mod operands;
-mod operations;
-mod probes;
+mod programs;
 mod refusals;
 mod sentences;
-mod stack_words;
-mod strangers;
-mod structural;
-mod study;
-mod subject;
-mod unreadable;
-mod ways;
-mod words;
 
-pub use assembly::explain_assembly;
-pub use graph::graph_manifest;
-pub use listing::explain_program;
-pub use manifest::{Explanation, explain_manifest};
-pub use strangers::explain_stranger;
-pub use subject::Subject;
+pub use files::{explain_assembly, explain_manifest, explain_stranger, graph_manifest};
+pub use programs::{Subject, explain_program};

@@ -1,8 +1,11 @@
 // Programs as graphs, in the language of Graphviz: a node for each piece of a program that is run from its first instruction to its last, and an edge
 // for each way on. What is quoted are names of programs and words of the assembler, in which no sign asks for a backslash.
 
+use crate::files::text_of;
+use crate::programs::successor;
+use crate::sentences::{Word, Written, put};
 use asm::disassemble;
-use insn::{DecodeError, Edge, Form, Insn, MAX_SLOTS, decode};
+use insn::{DecodeError, Edge, Form, Insn, decode};
 use loader::{Line, ProgramLine, read_line};
 use std::alloc::{AllocError, Global};
 use std::fmt::Write;
@@ -15,15 +18,6 @@ struct Spot {
     leads: bool,
     // What begins there: the second half of a wide instruction begins nothing.
     form: Option<Form>,
-}
-
-// The slot to which an instruction leads by an edge.
-fn successor(form: Form, slot: usize, edge: Edge) -> Option<usize> {
-    if slot < MAX_SLOTS {
-        form.successor(slot, edge)
-    } else {
-        None
-    }
 }
 
 // A slot as a number that may be below 0, too.
@@ -43,10 +37,16 @@ fn target(form: Form, slot: usize, edge: Edge) -> Option<i64> {
     }
 }
 
-// Notes that a node begins at a slot, if the program has it.
-fn mark(spots: &mut Vec<Spot>, slot: usize) {
-    if let Some(spot) = spots.get_mut(slot) {
-        spot.leads = true;
+// Notes that nodes begin where jumps lead.
+fn mark(spots: &mut [Spot], program: &[Insn]) {
+    let mut slot = 0usize;
+    for insn in program {
+        if let Some(to) = successor(insn.form(), slot, Edge::Jump) {
+            if let Some(spot) = spots.get_mut(to) {
+                spot.leads = true;
+            }
+        }
+        slot = slot.saturating_add(insn.slot_count());
     }
 }
 
@@ -55,26 +55,16 @@ fn spots_of(alloc: Global, program: &[Insn]) -> Result<Vec<Spot>, AllocError> {
     let mut spots = Vec::new(alloc);
     let mut leads = true;
     for insn in program {
-        let form = insn.form();
-        spots.push(Spot {
-            leads,
-            form: Some(form),
-        })?;
+        let form = Some(insn.form());
+        spots.push(Spot { leads, form })?;
         if insn.slot_count() == 2 {
-            spots.push(Spot {
-                leads: false,
-                form: None,
-            })?;
+            let (leads, form) = (false, None);
+            spots.push(Spot { leads, form })?;
         }
+        let form = insn.form();
         leads = form.displacement().is_some() || !form.falls_through();
     }
-    let mut slot = 0usize;
-    for insn in program {
-        if let Some(to) = successor(insn.form(), slot, Edge::Jump) {
-            mark(&mut spots, to);
-        }
-        slot = slot.saturating_add(insn.slot_count());
-    }
+    mark(&mut spots, program);
     Ok(spots)
 }
 
@@ -86,11 +76,6 @@ struct Drawing<'a> {
 }
 
 impl Drawing<'_> {
-    // Adds the name of the node that begins at a slot.
-    fn put_node(&self, out: &mut String, slot: i64) -> Result<(), AllocError> {
-        write!(out, "\"{}.{slot}\"", self.name)
-    }
-
     // What begins at a slot, if the program has it.
     fn spot_at(&self, slot: i64) -> Option<&Spot> {
         match usize::try_from(slot) {
@@ -99,24 +84,17 @@ impl Drawing<'_> {
         }
     }
 
-    // Adds a node for a slot to which an instruction leads, where none begins.
-    fn put_missing(&self, out: &mut String, slot: i64) -> Result<(), AllocError> {
-        out.push_str("    ")?;
-        self.put_node(out, slot)?;
-        writeln!(
+    // Adds a text in whose gaps stand the name, the slot of a node, and that to which an edge leads.
+    fn put(&self, out: &mut String, text: &str, node: usize, to: i64) -> Written {
+        put(
             out,
-            " [shape=plaintext, label=\"no instruction at slot {slot}\"];"
+            text,
+            &[Word::Text(self.name), Word::Count(node), Word::Number(to)],
         )
     }
 
-    // Adds an edge from a node, unless it leads to the next instruction of the same node.
-    fn put_edge(
-        &self,
-        out: &mut String,
-        node: usize,
-        to: i64,
-        edge: Edge,
-    ) -> Result<(), AllocError> {
+    // Adds an edge from a node, unless it leads to the next instruction of the same node, and a node where none begins.
+    fn put_edge(&self, out: &mut String, node: usize, to: i64, edge: Edge) -> Written {
         match self.spot_at(to) {
             Some(
                 Spot {
@@ -125,20 +103,21 @@ impl Drawing<'_> {
                 },
             ) => return Ok(()),
             Some(Spot { form: Some(_), .. }) => {}
-            _ => self.put_missing(out, to)?,
+            _ => {
+                let missing =
+                    "    \"{0}.{2}\" [shape=plaintext, label=\"no instruction at slot {2}\"];\n";
+                self.put(out, missing, node, to)?;
+            }
         }
-        out.push_str("    ")?;
-        self.put_node(out, number_of(node))?;
-        out.push_str(" -> ")?;
-        self.put_node(out, to)?;
-        match edge {
-            Edge::Jump => out.push_str(" [label=\"jump\"];\n"),
-            Edge::Fall => out.push_str(";\n"),
-        }
+        let text = match edge {
+            Edge::Jump => "    \"{0}.{1}\" -> \"{0}.{2}\" [label=\"jump\"];\n",
+            Edge::Fall => "    \"{0}.{1}\" -> \"{0}.{2}\";\n",
+        };
+        self.put(out, text, node, to)
     }
 
     // Adds the nodes, each with its instructions in the words of the assembler.
-    fn put_nodes(&self, out: &mut String, words: &str) -> Result<(), AllocError> {
+    fn put_nodes(&self, out: &mut String, words: &str) -> Written {
         let mut lines = words.lines();
         for (slot, spot) in self.spots.iter().enumerate() {
             if spot.form.is_none() {
@@ -146,8 +125,7 @@ impl Drawing<'_> {
             }
             if spot.leads {
                 out.push_str(if slot == 0 { "    " } else { "\"];\n    " })?;
-                self.put_node(out, number_of(slot))?;
-                out.push_str(" [label=\"")?;
+                self.put(out, "\"{0}.{1}\" [label=\"", slot, 0)?;
             }
             write!(out, "{slot:>4}  {}\\l", lines.next().unwrap_or(""))?;
         }
@@ -155,7 +133,7 @@ impl Drawing<'_> {
     }
 
     // Adds the edges between them.
-    fn put_edges(&self, out: &mut String) -> Result<(), AllocError> {
+    fn put_edges(&self, out: &mut String) -> Written {
         let mut node = 0usize;
         for (slot, spot) in self.spots.iter().enumerate() {
             if let Some(form) = spot.form {
@@ -174,21 +152,13 @@ impl Drawing<'_> {
 }
 
 // Adds the graph of a program.
-fn put_program(
-    alloc: Global,
-    out: &mut String,
-    name: &str,
-    program: &[Insn],
-) -> Result<(), AllocError> {
-    let drawing = Drawing {
-        name,
-        spots: spots_of(alloc, program)?,
-    };
+fn put_program(out: &mut String, name: &str, program: &[Insn]) -> Written {
+    let alloc = *out.allocator();
+    let spots = spots_of(alloc, program)?;
+    let drawing = Drawing { name, spots };
     let words = disassemble(alloc, program)?;
-    writeln!(
-        out,
-        "  subgraph \"cluster_{name}\" {{\n    label=\"{name}\";"
-    )?;
+    let head = "  subgraph \"cluster_{0}\" {1}\n    label=\"{0}\";\n";
+    put(out, head, &[Word::Text(name), Word::Text("{")])?;
     drawing.put_nodes(out, words.as_str())?;
     drawing.put_edges(out)?;
     out.push_str("  }\n")
@@ -200,36 +170,36 @@ fn program_of(
     line: ProgramLine<'_>,
     files: &[(&str, &str)],
 ) -> Result<Option<Vec<Insn>>, AllocError> {
-    for file in files {
-        if file.0 == line.file {
-            let Some(bytes) = spaced_hex(alloc, file.1)? else {
-                return Ok(None);
-            };
-            return match decode(alloc, &bytes) {
-                Ok(program) => Ok(Some(program)),
-                Err(DecodeError::NoMemory) => Err(AllocError),
-                Err(DecodeError::Refused(_)) => Ok(None),
-            };
-        }
+    let Some(text) = text_of(files, line.file) else {
+        return Ok(None);
+    };
+    let Some(bytes) = spaced_hex(alloc, text)? else {
+        return Ok(None);
+    };
+    match decode(alloc, &bytes) {
+        Ok(program) => Ok(Some(program)),
+        Err(DecodeError::NoMemory) => Err(AllocError),
+        Err(DecodeError::Refused(_)) => Ok(None),
     }
-    Ok(None)
 }
 
 // Adds the graph of the program of a line, or a remark that it has none.
 fn put_line(
-    alloc: Global,
     out: &mut String,
     number: u32,
     line: ProgramLine<'_>,
     files: &[(&str, &str)],
-) -> Result<(), AllocError> {
-    match program_of(alloc, line, files)? {
-        Some(program) => put_program(alloc, out, line.name, &program),
-        None => writeln!(
-            out,
-            "  // line {number}: {} has no instructions to draw",
-            line.name
-        ),
+) -> Written {
+    match program_of(*out.allocator(), line, files)? {
+        Some(program) => put_program(out, line.name, &program),
+        None => {
+            let words = [Word::Field(u64::from(number)), Word::Text(line.name)];
+            put(
+                out,
+                "  // line {0}: {1} has no instructions to draw\n",
+                &words,
+            )
+        }
     }
 }
 
@@ -251,7 +221,7 @@ pub fn graph_manifest(
     while let Some((number, line)) = lines.take_line() {
         if let Some(Line::Program(line)) = read_line(line) {
             if name.is_none() || name == Some(line.name) {
-                put_line(alloc, &mut out, number, line, files)?;
+                put_line(&mut out, number, line, files)?;
             }
         }
     }

@@ -1,6 +1,6 @@
 // What the assembler says of single words and operands.
 
-use crate::operand_kinds::OperandKind;
+use crate::files::operand_kinds::OperandKind;
 use asm::{AsmError, AsmFault, assemble};
 use std::alloc::{AllocError, Global};
 

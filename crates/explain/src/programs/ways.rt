@@ -1,12 +1,12 @@
 // Ways through a program.
 
-use crate::operands::{copied, written};
-use crate::stack_words::is_marked;
-use crate::study::{Step, Study, kind_in};
-use insn::Form;
+use crate::programs::knowledge::{Byte, byte_in};
+use crate::programs::operands::{copied, written};
+use crate::programs::study::{Step, Study, kind_in};
+use crate::sentences::{Word, Written, put};
+use insn::{Edge, Form};
 use regkind::{Frame, Kind};
-use std::alloc::{AllocError, Global};
-use std::fmt::Write;
+use std::alloc::AllocError;
 
 // What is missing at the end of a way.
 #[derive(Clone, Copy)]
@@ -23,8 +23,16 @@ impl Lack {
     fn is_in(self, frame: &Frame) -> bool {
         match self {
             Lack::Nothing => true,
-            Lack::Register(register) => kind_in(frame, register) == Kind::Unreadable,
-            Lack::Byte(byte) => !is_marked(frame, byte),
+            Lack::Register(register) => kind_in(Some(frame), register) == Kind::Unreadable,
+            Lack::Byte(byte) => byte_in(Some(frame), byte) != Byte::Number,
+        }
+    }
+
+    // Whether it is missing along an edge.
+    fn is_along(self, study: &Study<'_>, step: Step) -> bool {
+        match study.along(step) {
+            Some(frame) => self.is_in(&frame),
+            None => false,
         }
     }
 }
@@ -42,20 +50,12 @@ pub(crate) struct Way {
     pub parted: Option<usize>,
 }
 
-// Whether something is missing along an edge.
-fn lacks(study: &Study<'_>, step: Step, lack: Lack) -> bool {
-    match study.along(step) {
-        Some(frame) => lack.is_in(&frame),
-        None => false,
-    }
-}
-
 // The first edge along which it is missing; and whether it isn't along another.
 fn lacking(study: &Study<'_>, steps: &[Step], lack: Lack) -> (Option<Step>, bool) {
     let mut first = None;
     let mut is_elsewhere = false;
     for step in steps {
-        if !lacks(study, *step, lack) {
+        if !lack.is_along(study, *step) {
             is_elsewhere = true;
         } else if first.is_none() {
             first = Some(*step);
@@ -65,19 +65,14 @@ fn lacking(study: &Study<'_>, steps: &[Step], lack: Lack) -> (Option<Step>, bool
 }
 
 // The way to a slot on which something is missing, and where there is a choice the lowest one.
-pub(crate) fn way_to(
-    alloc: Global,
-    study: &Study<'_>,
-    end: usize,
-    missing: Lack,
-) -> Result<Way, AllocError> {
-    let mut steps = Vec::new(alloc);
+pub(crate) fn way_to(study: &Study<'_>, end: usize, missing: Lack) -> Result<Way, AllocError> {
+    let mut steps = Vec::new(study.alloc);
     let (mut meeting, mut parted) = (None, None);
     let mut lack = missing;
     let mut at = end;
     for _slot in 0..study.slots() {
-        let into = study.steps_into(alloc, at)?;
-        let (chosen, is_elsewhere) = lacking(study, &into, lack);
+        let into = study.steps_into(at);
+        let (chosen, is_elsewhere) = lacking(study, into, lack);
         let step = match (chosen, into.first()) {
             (Some(step), _) => step,
             (None, Some(lowest)) => {
@@ -103,40 +98,33 @@ pub(crate) fn way_to(
 }
 
 impl Way {
-    // The last instruction of the way before this step that writes a register, with its place among the steps.
-    fn writer(&self, study: &Study<'_>, register: u8, before: usize) -> Option<(usize, Form)> {
+    // The last instruction of the way before this step that writes a register, with its place among the steps and its slot.
+    fn writer(
+        &self,
+        study: &Study<'_>,
+        register: u8,
+        before: usize,
+    ) -> Option<(usize, usize, Form)> {
         let mut found = None;
-        for (k, step) in self.steps.iter().enumerate() {
-            if k >= before {
-                break;
-            }
+        for (k, step) in self.steps.iter().enumerate().take(before) {
             if let Some(form) = study.form_at(step.from) {
                 if written(form) == Some(register) {
-                    found = Some((k, form));
+                    found = Some((k, step.from, form));
                 }
             }
         }
         found
     }
 
-    // The slot of a step.
-    fn slot_of(&self, k: usize) -> usize {
-        match self.steps.get(k) {
-            Some(step) => step.from,
-            None => self.end,
-        }
-    }
-
     // The slot of the instruction from which a register has its value where the way has taken so many steps; copies are followed back.
     pub(crate) fn origin(&self, study: &Study<'_>, register: u8, before: usize) -> Option<usize> {
-        let mut register = register;
-        let mut before = before;
+        let (mut register, mut before) = (register, before);
         let mut found = None;
         for _copy in 0..self.steps.len() {
-            let Some((k, form)) = self.writer(study, register, before) else {
+            let Some((k, slot, form)) = self.writer(study, register, before) else {
                 break;
             };
-            found = Some(self.slot_of(k));
+            found = Some(slot);
             let Some(source) = copied(form) else {
                 break;
             };
@@ -151,26 +139,26 @@ impl Way {
         self.origin(study, register, self.steps.len())
     }
 
-    // Adds its slots, and of a long way those between which nothing is left out.
-    pub(crate) fn put(&self, out: &mut String) -> Result<(), AllocError> {
-        if self.steps.len() > 40 {
-            return self.put_runs(out);
-        }
+    // Adds its slots, and of a long way those between which nothing is left out: the first and the last of each piece without a jump.
+    pub(crate) fn put(&self, out: &mut String) -> Written {
+        let is_long = self.steps.len() > 40;
+        let mut first = match self.steps.first() {
+            Some(step) => step.from,
+            None => self.end,
+        };
         for step in &self.steps {
-            write!(out, "{} ", step.from)?;
-        }
-        write!(out, "{}", self.end)
-    }
-
-    // Adds the first and the last slot of each piece without a jump.
-    fn put_runs(&self, out: &mut String) -> Result<(), AllocError> {
-        let mut first = self.slot_of(0);
-        for step in &self.steps {
-            if step.edge == insn::Edge::Jump {
-                write!(out, "{first} to {}, ", step.from)?;
+            if !is_long {
+                put(out, "{0} ", &[Word::Count(step.from)])?;
+            } else if step.edge == Edge::Jump {
+                put(
+                    out,
+                    "{0} to {1}, ",
+                    &[Word::Count(first), Word::Count(step.from)],
+                )?;
                 first = step.from;
             }
         }
-        write!(out, "{first} to {}", self.end)
+        let text = if is_long { "{0} to {1}" } else { "{1}" };
+        put(out, text, &[Word::Count(first), Word::Count(self.end)])
     }
 }

@@ -1,11 +1,10 @@
 // Where a line of assembler text is wrong, and what is wanted there.
 
-use crate::operand_kinds::{OperandKind, kinds_of};
-use crate::probes::{fault_of, is_word};
-use crate::sentences::{Sentence, Word, of_two, plain};
+use crate::files::operand_kinds::{OperandKind, kinds_of};
+use crate::files::probes::{fault_of, is_word};
+use crate::sentences::{Told, Word, Written, none, one, put, say_that};
 use asm::{AsmError, AsmFault, AsmRefusal, assemble};
 use std::alloc::{AllocError, Global};
-use std::fmt::Write;
 use text::NumberedLines;
 
 // A part of a line: from a byte up to another one.
@@ -28,7 +27,7 @@ struct Parts<'a> {
 #[derive(Clone, Copy)]
 struct Wanted<'a> {
     at: usize,
-    what: Sentence<'a>,
+    what: Told<'a>,
 }
 
 fn is_blank(byte: u8) -> bool {
@@ -108,26 +107,31 @@ impl<'a> Parts<'a> {
     }
 }
 
+// What is wanted at a place, in a text with no gap.
+fn plain_at<'a>(at: usize, text: &'a str) -> Wanted<'a> {
+    let what = say_that(text, none());
+    Wanted { at, what }
+}
+
 // What is wanted in place of a word.
-fn wanted_word(alloc: Global, word: &str) -> Result<Sentence<'_>, AllocError> {
+fn wanted_word(alloc: Global, word: &str) -> Result<Told<'_>, AllocError> {
     let wide = format!(in alloc; "{word}64")?;
     if is_word(alloc, wide.as_str())? {
-        return Ok(of_two(
-            "a word with a width: `{}64`, or `{}32` for the lower half",
-            Word::Text(word),
-            Word::Text(word),
+        return Ok(say_that(
+            "a word with a width: `{0}64`, or `{0}32` for the lower half",
+            one(Word::Text(word)),
         ));
     }
     let mut lower = String::new(alloc);
     for byte in word.as_bytes() {
         lower.push(char::from(byte.to_ascii_lowercase()))?;
     }
-    if is_word(alloc, lower.as_str())? {
-        return Ok(plain("the word in lower case"));
-    }
-    Ok(plain(
-        "the word of an instruction (docs/LANGUAGE.md has them), or a label and a colon; `;` begins a comment",
-    ))
+    let what = if is_word(alloc, lower.as_str())? {
+        "the word in lower case"
+    } else {
+        "the word of an instruction (docs/LANGUAGE.md has them), or a label and a colon; `;` begins a comment"
+    };
+    Ok(say_that(what, none()))
 }
 
 // The operand that is wrong in this way, and what is wanted there.
@@ -141,39 +145,27 @@ fn wanted_operand<'a>(
     for (k, span) in parts.operands.iter().enumerate() {
         if let Some(kind) = kinds.get(k) {
             if fault_of(alloc, word, kinds, k, parts.text(*span))? == Some(why) {
-                return Ok(Wanted {
-                    at: span.begin,
-                    what: kind.wanted(word, why),
-                });
+                return Ok(plain_at(span.begin, kind.wanted(word, why)));
             }
         }
     }
-    Ok(Wanted {
-        at: parts.end(),
-        what: match kinds.get(parts.operands.len()) {
-            Some(kind) if parts.operands.is_empty() => kind.wanted(word, why),
-            _ => plain("a comma, and one more operand"),
-        },
-    })
+    let what = match kinds.get(parts.operands.len()) {
+        Some(kind) if parts.operands.is_empty() => kind.wanted(word, why),
+        _ => "a comma, and one more operand",
+    };
+    Ok(plain_at(parts.end(), what))
 }
 
-// What is wanted where a jump leads to.
-fn wanted_target<'a>(parts: &Parts<'a>, what: Sentence<'a>) -> Wanted<'a> {
-    let at = match parts.operands.last() {
+// The place of what a jump leads to.
+fn target_at(parts: &Parts<'_>) -> usize {
+    match parts.operands.last() {
         Some(operand) => operand.begin,
         None => parts.end(),
-    };
-    Wanted { at, what }
+    }
 }
 
-// What is wanted behind the end of an instruction or a label: nothing.
-fn wanted_end<'a>(parts: &Parts<'a>, is_label: bool) -> Wanted<'a> {
-    if !is_label {
-        return Wanted {
-            at: visible(parts.code, parts.end()),
-            what: plain("the end of the line: one instruction stands there; `;` begins a comment"),
-        };
-    }
+// The place behind the colon of a label.
+fn behind_label(parts: &Parts<'_>) -> usize {
     let mut at = parts.word.begin;
     for byte in parts.code.as_bytes().iter().skip(at) {
         at = at.saturating_add(1);
@@ -181,54 +173,57 @@ fn wanted_end<'a>(parts: &Parts<'a>, is_label: bool) -> Wanted<'a> {
             break;
         }
     }
-    Wanted {
-        at: visible(parts.code, at),
-        what: plain("the end of the line: an instruction stands on a line behind its label"),
-    }
+    at
+}
+
+// What is wanted behind the end of an instruction or a label: nothing.
+fn wanted_end<'a>(parts: &Parts<'a>) -> Wanted<'a> {
+    let is_label = parts.text(parts.word).split_once(':').is_some();
+    let (at, what) = if is_label {
+        let what = "the end of the line: an instruction stands on a line behind its label";
+        (behind_label(parts), what)
+    } else {
+        let what = "the end of the line: one instruction stands there; `;` begins a comment";
+        (parts.end(), what)
+    };
+    plain_at(visible(parts.code, at), what)
 }
 
 // What is wanted in a line that is wrong in this way.
 fn wanted_in<'a>(alloc: Global, line: &'a str, why: AsmFault) -> Result<Wanted<'a>, AllocError> {
     let first = Parts::of(alloc, line, 0)?;
     let word = first.text(first.word);
-    let is_label = word.split_once(':').is_some();
     let kinds = kinds_of(word);
     let parts = Parts::of(alloc, line, kinds.len())?;
     let at = parts.word.begin;
     Ok(match why {
-        AsmFault::UnknownWord => Wanted {
-            at,
-            what: wanted_word(alloc, word)?,
-        },
+        AsmFault::UnknownWord => {
+            let what = wanted_word(alloc, word)?;
+            Wanted { at, what }
+        }
         AsmFault::BadOperand | AsmFault::OutOfRange => wanted_operand(alloc, &parts, kinds, why)?,
-        AsmFault::UnknownLabel => wanted_target(
-            &parts,
-            plain("a label that stands in the text, with a colon, on a line of its own"),
+        AsmFault::UnknownLabel => plain_at(
+            target_at(&parts),
+            "a label that stands in the text, with a colon, on a line of its own",
         ),
-        AsmFault::LabelTwice => Wanted {
-            at,
-            what: plain("another name: a line above has this label too"),
-        },
-        AsmFault::JumpTooFar => wanted_target(
-            &parts,
-            plain("a slot that is nearer: 32768 slots back to 32767 on (`ja32` goes farther)"),
+        AsmFault::LabelTwice => plain_at(at, "another name: a line above has this label too"),
+        AsmFault::JumpTooFar => plain_at(
+            target_at(&parts),
+            "a slot that is nearer: 32768 slots back to 32767 on (`ja32` goes farther)",
         ),
-        AsmFault::TooLong => Wanted {
-            at,
-            what: plain("the end of the text: a program has at most 4096 slots"),
-        },
-        AsmFault::TextBehind => wanted_end(&parts, is_label),
+        AsmFault::TooLong => plain_at(at, "the end of the text: a program has at most 4096 slots"),
+        AsmFault::TextBehind => wanted_end(&parts),
     })
 }
 
 // Adds white space up to a place of a line, so that what follows stands below it.
-fn put_below(out: &mut String, line: &str, at: usize) -> Result<(), AllocError> {
+fn put_below(out: &mut String, line: &str, at: usize) -> Written {
     for byte in line.as_bytes().iter().take(at) {
-        match *byte {
-            b'\t' => out.push_str("\t")?,
-            0x80..=0xbf => {}
-            _ => out.push_str(" ")?,
-        }
+        out.push_str(match *byte {
+            b'\t' => "\t",
+            0x80..=0xbf => "",
+            _ => " ",
+        })?;
     }
     Ok(())
 }
@@ -246,14 +241,15 @@ fn line_at(text: &str, wanted: u32) -> &str {
 
 // What is said of a refused text.
 fn told(alloc: Global, text: &str, refusal: AsmRefusal) -> Result<String, AllocError> {
-    let AsmRefusal { line: number, why } = refusal;
-    let line = line_at(text, number);
-    let Wanted { at, what } = wanted_in(alloc, line, why)?;
-    let column = at.saturating_add(1);
+    let line = line_at(text, refusal.line);
+    let Wanted { at, what } = wanted_in(alloc, line, refusal.why)?;
     let mut out = String::new(alloc);
-    writeln!(out, "line {number} column {column}: wanted {what}")?;
-    writeln!(out, "    {}", line.strip_suffix('\r').unwrap_or(line))?;
-    out.push_str("    ")?;
+    let number = Word::Field(u64::from(refusal.line));
+    let column = Word::Count(at.saturating_add(1));
+    put(&mut out, "line {0} column {1}: wanted ", &[number, column])?;
+    what.put(&mut out, "")?;
+    let shown = Word::Text(line.strip_suffix('\r').unwrap_or(line));
+    put(&mut out, "    {0}\n    ", &[shown])?;
     put_below(&mut out, line, at)?;
     out.push_str("^\n")?;
     Ok(out)

@@ -1,6 +1,5 @@
 // What the operands of an instruction are, by its word.
 
-use crate::sentences::{Sentence, plain};
 use asm::AsmFault;
 
 #[derive(Clone, Copy)]
@@ -58,8 +57,8 @@ impl OperandKind {
     }
 
     // What is wanted in its place, where an operand is wrong in this way.
-    pub(crate) fn wanted(self, word: &str, why: AsmFault) -> Sentence<'static> {
-        plain(match (self, why) {
+    pub(crate) fn wanted(self, word: &str, why: AsmFault) -> &'static str {
+        match (self, why) {
             (Address, AsmFault::OutOfRange) => "an offset from -32768 to 32767",
             (Bits, _) if word == "movsx32" => "a number of bits: 8 or 16",
             (Bits, _) => "a number of bits: 8, 16 or 32",
@@ -76,6 +75,6 @@ impl OperandKind {
             }
             (Address, _) => "an address: `[rN+off]` or `[rN-off]`, also where off is 0",
             (Target, _) => "a label, or `+n` or `-n`: so many slots from the next instruction",
-        })
+        }
     }
 }

@@ -1,0 +1,158 @@
+// Why a register can't be read: V6.
+
+use crate::programs::{Step, Study, Way, kind_in, reads, written};
+use crate::sentences::{Told, Word, one, say, three, two};
+use insn::{Edge, Form};
+use regkind::Kind;
+
+// The first register that the instruction at a slot reads and of which nothing is known.
+pub(crate) fn unreadable_at(study: &Study<'_>, slot: usize) -> Option<u8> {
+    let registers = reads(study.form_at(slot)?);
+    for register in registers.iter().flatten() {
+        if study.kind_at(slot, *register) == Kind::Unreadable {
+            return Some(*register);
+        }
+    }
+    None
+}
+
+// What an edge brings in a register.
+fn brought(study: &Study<'_>, step: Step, register: u8) -> Kind {
+    let frame = study.along(step);
+    kind_in(frame.as_ref(), register)
+}
+
+// What leads along an edge.
+fn leads(step: Step) -> Word<'static> {
+    Word::Text(match step.edge {
+        Edge::Jump => "the jump at slot",
+        Edge::Fall => "slot",
+    })
+}
+
+// What is told where two edges bring different things to a slot; nothing where all bring the same.
+fn differing(study: &Study<'_>, at: usize, register: u8) -> Option<Told<'static>> {
+    let (first, rest) = study.steps_into(at).split_first()?;
+    let one = brought(study, *first, register);
+    for step in rest {
+        let other = brought(study, *step, register);
+        if other != one {
+            let is_lookup = matches!(
+                (one, other),
+                (Kind::ValueOrNull(_), _) | (_, Kind::ValueOrNull(_))
+            );
+            let fix = if is_lookup {
+                "Test {2} for null before the ways part."
+            } else {
+                "Do on each way what uses {2}, or make it the same on both."
+            };
+            return Some(say(
+                "After {0} {1} {2} is {3}; after {4} {5} it is {6}. So nothing is known of it where they meet, at slot {7}.",
+                fix,
+                [
+                    leads(*first),
+                    Word::Count(first.from),
+                    Word::Register(register),
+                    Word::Known(one),
+                    leads(*step),
+                    Word::Count(step.from),
+                    Word::Known(other),
+                    Word::Count(at),
+                    Word::Nothing,
+                    Word::Nothing,
+                ],
+            ));
+        }
+    }
+    None
+}
+
+// The last instruction of a way at which what a register has is lost, and what that was.
+fn lost(study: &Study<'_>, way: &Way, register: u8) -> Option<(usize, Kind)> {
+    let mut found = None;
+    for step in &way.steps {
+        let kind = study.kind_at(step.from, register);
+        let is_lost = match study.along(*step) {
+            Some(frame) => kind_in(Some(&frame), register) == Kind::Unreadable,
+            None => false,
+        };
+        if kind != Kind::Unreadable && is_lost {
+            found = Some((step.from, kind));
+        }
+    }
+    found
+}
+
+// Whether an instruction of the way but a call writes a register.
+fn is_written(study: &Study<'_>, way: &Way, register: u8) -> bool {
+    for step in &way.steps {
+        match study.form_at(step.from) {
+            Some(Form::Call { .. }) | None => {}
+            Some(form) if written(form) == Some(register) => return true,
+            Some(_) => {}
+        }
+    }
+    false
+}
+
+// What is told where on this way nothing sets a register, but on another to a slot.
+fn not_set_here(register: u8, at: usize) -> Told<'static> {
+    say(
+        "On this way nothing sets {0}; on another to slot {1} something does.",
+        "Set {0} before the ways part. In C: a variable without a first value.",
+        two(Word::Register(register), Word::Count(at)),
+    )
+}
+
+// What is told where a register was lost at a slot.
+fn told_of_lost(register: u8, at: usize, kind: Kind) -> Told<'static> {
+    let (name, slot) = (Word::Register(register), Word::Count(at));
+    match kind {
+        _ if register >= 1 && register <= 5 => say(
+            "{0} was lost at the call at slot {1}: a call takes r1 to r5.",
+            "Keep it in r6, r7, r8 or r9 before the call.",
+            two(name, slot),
+        ),
+        Kind::Value(map, _) | Kind::ValueOrNull(map) => say(
+            "{0} pointed into a value of map {1}, and the call at slot {2} may have moved its values.",
+            "Look the key up again behind that call.",
+            three(name, Word::Small(map), slot),
+        ),
+        _ => not_set_here(register, at),
+    }
+}
+
+// What is told where nothing sets a register.
+fn never_set(study: &Study<'_>, way: &Way, register: u8) -> Told<'static> {
+    let fix = match study.form_at(way.end) {
+        Some(Form::Exit) if !is_written(study, way, register) => {
+            return say(
+                "The reply is {0}, and nothing on the way puts a number there.",
+                "Put `mov64 r0, 0` before `exit`. In C: a function that returns nothing; let it return a number.",
+                one(Word::Register(register)),
+            );
+        }
+        Some(Form::Call { .. }) => {
+            "Set {0} first: a call takes a map in r1, the address of a key in r2, and an update that of a value in r3 and flags in r4 (0 for any key)."
+        }
+        _ => "Set {0} first.",
+    };
+    say(
+        "Nothing on the way sets {0}: at the entry r1 (the argument) and r10 (the stack's end) alone can be read.",
+        fix,
+        one(Word::Register(register)),
+    )
+}
+
+// Why nothing is known of a register at the end of a way.
+pub(crate) fn unreadable(study: &Study<'_>, way: &Way) -> Option<Told<'static>> {
+    let register = unreadable_at(study, way.end)?;
+    if let Some(told) = way.meeting.and_then(|at| differing(study, at, register)) {
+        return Some(told);
+    }
+    Some(match (lost(study, way, register), way.parted) {
+        (Some((at, kind)), _) => told_of_lost(register, at, kind),
+        (None, Some(at)) => not_set_here(register, at),
+        (None, None) => never_set(study, way, register),
+    })
+}
