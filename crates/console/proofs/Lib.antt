@@ -18,6 +18,11 @@ pub mod TranscriptLines
 pub mod StepLines
 pub mod Quiet
 pub mod OneText
+pub mod Known
+pub mod FoundTexts
+pub mod GatheredFiles
+pub mod Gatherings
+pub mod Reports
 pub mod RunsOfLines
 pub mod Fields
 pub mod SpelledScripts

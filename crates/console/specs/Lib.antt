@@ -3,6 +3,7 @@ pub mod Files
 pub mod Memory
 pub mod ReadFaults
 pub mod InputFaults
+pub mod Reading
 pub mod Script
 pub mod StepLine
 pub mod Transcript
@@ -24,6 +25,7 @@ pub mod KeptRun
 pub mod ServeAnswer
 pub mod Known
 pub mod Report
+pub mod Engine
 pub mod Explanation
 pub mod Graph
 pub mod Transfer
@@ -41,6 +43,7 @@ pub mod ServeLaws
 -- The steps between reading and writing.
 pub mod ScriptShown
 pub mod Running
+pub mod Unread
 pub mod Input
 pub mod Loaded
 pub mod OpenedState

@@ -9,21 +9,40 @@ ghost use Rattle.console.specs.RunAnswer.{run_answer};
 ghost use Rattle.console.specs.ReplayAnswer.{replay_answer};
 ghost use Rattle.console.specs.ScheduleAnswer.{schedule_answer};
 ghost use Rattle.console.specs.InputFaults.{IfCannotRead};
-ghost use Rattle.console.specs.Memory.{found_file, Never, SettlesAs};
+ghost use Rattle.console.specs.Memory.{found_file, held, Never, SettlesAs};
+ghost use Rattle.console.specs.Reading.{read};
 ghost use Rattle.console.specs.Report.{answer_of};
 
 use crate::commands::{
     Setup, asm_reply, check_reply, dis_reply, encode_reply, explain_reply, replay_reply, run_reply,
     schedule_reply,
 };
+use crate::engine::{Command, prepare};
 use crate::input::InputFault;
 use crate::memory::{Held, HeldFiles};
 use crate::notes::Notes;
+use crate::reading::Inputs;
 use crate::reporting::Reply;
 use crate::status::Verdict;
 use crate::texts::not_text;
+use crate::transfer::ReadFault;
 use oplog::Config;
 use std::alloc::{AllocError, Global};
+
+/// What a command makes of texts in memory.
+pub fn make<C: Command>(
+    alloc: Global,
+    command: &C,
+    mut inputs: Inputs<'_, HeldFiles<'_>, Held<'_>>,
+) -> Result<C::Made, AllocError>
+    ensures { IfOk result (C.may_make command.now (read (held inputs.entry))) }
+{
+    match prepare(alloc, command, &mut inputs, &mut Notes::none(alloc)) {
+        Ok(made) => Ok(made),
+        Err(ReadFault::NoMemory) => Err(AllocError),
+        Err(ReadFault::CannotRead) => unreachable!(),
+    }
+}
 
 // What is answered where no read failed.
 fn settled(alloc: Global, prepared: Result<Reply, InputFault>) -> Result<Reply, AllocError>

@@ -1,10 +1,10 @@
 // What a command answers, written.
 
-ghost use Rattle.std.specs.Prelude.{◌≡◌, ◌⊎◌, Err};
-ghost use Rattle.console.specs.declared.status.Status.TheVariants as statuses;
+ghost use Rattle.std.specs.Prelude.{◌≡◌, Err};
 ghost use Rattle.console.specs.declared.input.InputFault.TheVariants as faults;
-ghost use Rattle.console.specs.Report.{Failed, Sends, Writes};
+ghost use Rattle.console.specs.Report.{Failed, Writes};
 
+use crate::engine::write_text;
 use crate::input::InputFault;
 use crate::status::{Status, Verdict, status_of};
 use crate::texts::{no_memory, not_text};
@@ -17,17 +17,6 @@ pub struct Reply {
     pub text: Vec<u8>,
     /// Whether what was read is good.
     pub verdict: Verdict,
-}
-
-// Writes a text, and ends so.
-fn write_text<W: Sink>(writer: &mut W, text: &[u8], status: Status) -> Status
-    ensures sent { Sends (W.contents writer.old) (W.contents writer.new) result text.now status }
-    ensures failed { (result ≡ status) ⊎ ((result ≡ statuses.CannotWrite) × W.has_failed writer.new) }
-{
-    match writer.send(text) {
-        Ok(()) => status,
-        Err(_) => Status::CannotWrite,
-    }
 }
 
 /// Writes what a command answers, whole, after all is read. Says how it ended.

@@ -1,5 +1,5 @@
 use Rattle.std.proofs.Common.{inl, inr, refl}
-use Rattle.console.proofs.reporting.write_text.Goals as goal
+use Rattle.console.proofs.engine.write_text.Goals as goal
 
 pub returns-in-Ok : goal.returns-in-Ok
 returns-in-Ok g c = record { sent = inl (refl, c.in-Ok.ensures.sent); failed = inl refl }
