@@ -1,19 +1,16 @@
 -- The maps after a call: the other keys, and the shapes.
-use Rattle.std.proofs.Common.{◌≡◌, ◌≢◌, ℕ, ◌+◌, ◌-◌, ◌<◌, ◌≤◌, Bool, true, false, cond, List, length, Option, Some, None, refl, sym, ap, ◌∙◌, inl, inr, ⊎_elim, arith, subst}
-use Rattle.std.specs.Prelude.{◌⊎◌, slice_get, is_some, ◌==◌, nat_lt, nat_le}
+use Rattle.std.proofs.Common.{◌≡◌, ◌≢◌, ℕ, ◌<◌, Bool, true, false, cond, List, length, Option, Some, None, refl, sym, ap, ◌∙◌, inl, inr, ⊎_elim, arith, subst}
+use Rattle.std.specs.Prelude.{◌⊎◌, slice_get, ◌==◌, nat_lt, nat_le}
 use Rattle.std.proofs.lemmas.Bool.Decides.{eqb_tells, nat_tests}
-use Rattle.std.specs.Ordering.{nat_cmp, eq_by_cmp}
-use Rattle.std.specs.Cmp.Lexicographic.{slice_cmp, nat_list_cmp_total}
 use Rattle.std.specs.FinMap as finite_map
-use Rattle.std.specs.FinMap.{get-insert, get-remove, len-insert, len-remove}
 use Rattle.maps.specs.declared.shapes.Shape.{Shape}
 use Rattle.maps.specs.declared.shapes.Shape.TheVariants.{Array, Hash}
-use Rattle.maps.specs.Shapes.{key_size}
-use Rattle.maps.specs.Maps.{Maps, MapState, Entries, AreBytes, IsKeyOf, IsValueOf, HasEntryCount, IsMapState, HasShapes, index_key, value_at}
+use Rattle.maps.specs.Shapes.{IsHash, entry_count, key_size}
+use Rattle.maps.specs.Maps.{Maps, MapState, Entries, AreBytes, IsValueOf, IsMapState, HasShapes, value_at}
 use Rattle.maps.specs.Values.{MachineValue, Num, IsMachineValue}
 use Rattle.helpers.specs.Helpers.{enoent, e2big, eexist, einval, noexist, exist, found, update_error, delete_error, changed_unless, with_entries, update_answer, delete_answer, HelperCall, LookupCall, UpdateCall, DeleteCall, HelperAnswer, HelperAnswers}
 use Rattle.helpers.specs.Laws.{Names, FitsMaps}
-use Rattle.maps.proofs.Keys.{key_same}
+use Rattle.maps.proofs.Kept.{MayPut, put_keeps, put_key, take_keeps}
 use Rattle.maps.proofs.Stored.{all_get}
 use Rattle.maps.proofs.Written.{all_set}
 use Rattle.helpers.proofs.Places.{map_set, option_map_some}
@@ -78,75 +75,25 @@ hash_room false false first false entries keys e = inr (refl, free (nat_le entri
     free true p h = absurd cc
     free false p h = grind (arith, nat_tests)
 
--- ---- entries after an insert and a remove
-
-pub has_inserted : (c : Entries) (key value q : List ℕ) → finite_map.contains_key c q ≡ true → finite_map.contains_key (finite_map.insert c key value) q ≡ true
-has_inserted c key value q h = ap is_some (get-insert nat_list_cmp_total c key value q) ∙ by (eq_by_cmp (slice_cmp nat_cmp) q key)
-  where
-    by : (b : Bool) → is_some (cond b (Some value) (finite_map.get c q)) ≡ true
-    by true = refl
-    by false = h
-
--- a value of the entries after is the one inserted, or was there
-pub from_insert : (c : Entries) (key value q v : List ℕ) → finite_map.get (finite_map.insert c key value) q ≡ Some v → ((q ≡ key) × (v ≡ value)) ⊎ (finite_map.get c q ≡ Some v)
-from_insert c key value q v e = by (eq_by_cmp (slice_cmp nat_cmp) q key) refl (sym (get-insert nat_list_cmp_total c key value q) ∙ e)
-  where
-    by : (b : Bool) → eq_by_cmp (slice_cmp nat_cmp) q key ≡ b → cond b (Some value) (finite_map.get c q) ≡ Some v → ((q ≡ key) × (v ≡ value)) ⊎ (finite_map.get c q ≡ Some v)
-    by true p h = inl (key_same q key p, cc)
-    by false p h = inr h
-
-pub from_remove : (c : Entries) (key q v : List ℕ) → finite_map.get (finite_map.remove c key) q ≡ Some v → finite_map.get c q ≡ Some v
-from_remove c key q v e = by (eq_by_cmp (slice_cmp nat_cmp) q key) (sym (get-remove nat_list_cmp_total c key q) ∙ e)
-  where
-    by : (b : Bool) → cond b None (finite_map.get c q) ≡ Some v → finite_map.get c q ≡ Some v
-    by true h = absurd cc
-    by false h = h
-
-some_of : (o : Option (List ℕ)) → is_some o ≡ true → (v : List ℕ) × (o ≡ Some v)
-some_of None h = absurd cc
-some_of (Some v) h = (v, refl)
-
-has : (o : Option (List ℕ)) (v : List ℕ) → o ≡ Some v → is_some o ≡ true
-has o v e = ap is_some e
-
-shorter : (b : Bool) (n : ℕ) → cond b (n - 1) n ≤ n
-shorter true n = omega arith
-shorter false n = omega arith
-
 -- ---- a map keeps its shape
 
-insert_count : (shape : Shape) (c : Entries) (key value : List ℕ) (flags : ℕ) → update_error shape (finite_map.contains_key c key) (finite_map.len c) flags ≡ None → HasEntryCount shape c → HasEntryCount shape (finite_map.insert c key value)
-insert_count (Array size entries) c key value flags e h = λ n lt. has_inserted c key value (index_key n) (h n lt)
-insert_count (Hash size width entries) c key value flags e h = ⊎_elim
-    (λ p. let l = len-insert nat_list_cmp_total c key value ∙ ap (λ b. cond b (finite_map.len c) (finite_map.len c + 1)) p in subst (λ n. n ≤ entries) (sym l) h)
-    (λ p. let l = len-insert nat_list_cmp_total c key value ∙ ap (λ b. cond b (finite_map.len c) (finite_map.len c + 1)) p.0 in let room = p.1 in subst (λ n. n ≤ entries) (sym l) (omega arith))
-    (hash_room (nat_lt exist flags) (finite_map.contains_key c key) (flags == noexist) (flags == exist) entries (finite_map.len c) e)
-
-insert_key : (shape : Shape) (c : Entries) (key : List ℕ) (flags : ℕ) → update_error shape (finite_map.contains_key c key) (finite_map.len c) flags ≡ None
-    → ((k : List ℕ) → finite_map.contains_key c k ≡ true → IsKeyOf shape k) → (length key ≡ key_size shape) × AreBytes key → IsKeyOf shape key
-insert_key (Array size entries) c key flags e each fits = each key (array_has (nat_lt exist flags) (finite_map.contains_key c key) (flags == noexist) e)
-insert_key (Hash size width entries) c key flags e each fits = fits
+-- a key whose update is not refused may be put
+may_insert : (s : MapState) (key : List ℕ) (flags : ℕ) → update_error s.shape (finite_map.contains_key s.entries key) (finite_map.len s.entries) flags ≡ None → MayPut s key
+may_insert s key flags e = by s.shape e
+  where
+    by : (shape : Shape) → update_error shape (finite_map.contains_key s.entries key) (finite_map.len s.entries) flags ≡ None
+        → (finite_map.contains_key s.entries key ≡ true) ⊎ (IsHash shape × (finite_map.len s.entries < entry_count shape))
+    by (Array size entries) e = inl (array_has (nat_lt exist flags) (finite_map.contains_key s.entries key) (flags == noexist) e)
+    by (Hash size width entries) e =
+        ⊎_elim (λ p. inl p) (λ p. inr (tt, p.1)) (hash_room (nat_lt exist flags) (finite_map.contains_key s.entries key) (flags == noexist) (flags == exist) entries (finite_map.len s.entries) e)
 
 pub insert_keeps : (s : MapState) (key value : List ℕ) (flags : ℕ) → IsMapState s → update_error s.shape (finite_map.contains_key s.entries key) (finite_map.len s.entries) flags ≡ None
     → (length key ≡ key_size s.shape) × AreBytes key → IsValueOf s.shape value → IsMapState (record { shape = s.shape; entries = finite_map.insert s.entries key value })
-insert_keeps s key value flags is e fits v = record {
-  count = insert_count s.shape s.entries key value flags e is.count;
-  each_key = λ k h.
-      let o = some_of (finite_map.get (finite_map.insert s.entries key value) k) h in
-      ⊎_elim (λ p. subst (IsKeyOf s.shape) (sym p.0) (insert_key s.shape s.entries key flags e is.each_key fits)) (λ p. is.each_key k (has _ o.0 p)) (from_insert s.entries key value k o.0 o.1);
-  each_value = λ k w h. ⊎_elim (λ p. subst (IsValueOf s.shape) (sym p.1) v) (λ p. is.each_value k w p) (from_insert s.entries key value k w h);
-}
+insert_keeps s key value flags is e fits v = let may = may_insert s key flags e in put_keeps s key value is may (put_key s.shape s.entries key may is.each_key fits) v
 
-remove_count : (shape : Shape) (c : Entries) (key : List ℕ) → delete_error shape (finite_map.contains_key c key) ≡ None → HasEntryCount shape c → HasEntryCount shape (finite_map.remove c key)
-remove_count (Array size entries) c key e h = absurd cc
-remove_count (Hash size width entries) c key e h = let l = len-remove nat_list_cmp_total c key in let less = shorter (finite_map.contains_key c key) (finite_map.len c) in omega arith
-
-pub remove_keeps : (s : MapState) (key : List ℕ) → IsMapState s → delete_error s.shape (finite_map.contains_key s.entries key) ≡ None → IsMapState (record { shape = s.shape; entries = finite_map.remove s.entries key })
-remove_keeps s key is e = record {
-  count = remove_count s.shape s.entries key e is.count;
-  each_key = λ k h. let o = some_of (finite_map.get (finite_map.remove s.entries key) k) h in is.each_key k (has _ o.0 (from_remove s.entries key k o.0 o.1));
-  each_value = λ k w h. is.each_value k w (from_remove s.entries key k w h);
-}
+deletes_from : (shape : Shape) (present : Bool) → delete_error shape present ≡ None → IsHash shape
+deletes_from (Array size entries) present e = absurd cc
+deletes_from (Hash size width entries) present e = tt
 
 -- ---- all maps keep their shapes
 
@@ -177,6 +124,6 @@ keep_shapes shapes (DeleteCall m key) maps maps' r h fits e =
     let o = option_map_some (delete_answer maps m key) (slice_get maps m) _ e in
     let after = finite_map.remove o.0.entries key in
     ⊎_elim
-    (λ t. (subst (HasShapes shapes) (sym t.2) (entries_kept shapes maps m o.0 after h o.1 (remove_keeps o.0 key (all_get IsMapState maps m o.0 h.each o.1) t.0)), subst IsMachineValue (sym t.1) (omega arith)))
+    (λ t. (subst (HasShapes shapes) (sym t.2) (entries_kept shapes maps m o.0 after h o.1 (take_keeps o.0 key (all_get IsMapState maps m o.0 h.each o.1) (deletes_from o.0.shape (finite_map.contains_key o.0.entries key) t.0))), subst IsMachineValue (sym t.1) (omega arith)))
     (λ t. (subst (HasShapes shapes) (sym t.1) h, t.0))
     (outcome _ maps maps' m o.0 after r (delete_errno o.0.shape (finite_map.contains_key o.0.entries key)) o.2)
