@@ -1,7 +1,13 @@
 use Rattle.std.proofs.lemmas.Result.{err_from_is_err_and}
 use Rattle.console.specs.Reading.{named_texts}
-use Rattle.console.proofs.Gatherings.{file_failed, state_failed, history_failed, all_read}
+use Rattle.console.proofs.Gatherings.{files_failed, file_failed, state_failed, history_failed, all_read}
 use Rattle.console.proofs.reading.gather_texts.Goals as goal
+
+pub returns-in_err-files-clause-read : goal.returns-in_err-files-clause-read
+returns-in_err-files-clause-read g c =
+    let p = err_from_is_err_and c.from_residual-in_err-files.result c.from_residual-in_err-files.ensures.1 in
+    rw (p.1, p.2) (files_failed g.F.Folder.holds g.R.Source.remaining c.args.inputs.now c.in_ok-manifest.manifest c.in_ok-manifest.ensures.text c.in_err-files.field-0.0
+    (rw c.as_str.ensures.value at c.in_err-files.ensures.gathered))
 
 pub returns-in_err-file-clause-read : goal.returns-in_err-file-clause-read
 returns-in_err-file-clause-read g c =
