@@ -3,6 +3,7 @@ pub mod Digits
 pub mod Ready
 mod Texts
 pub mod Playing
+mod Ranks
 mod Told
 pub mod Dealt
 pub mod Asked

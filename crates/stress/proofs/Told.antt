@@ -1,13 +1,16 @@
 -- What was told, in its order.
-use Rattle.std.proofs.Common.{◌≡◌, ℕ, zero, suc, ◌<◌, Bool, true, false, List, [], ◌∷◌, map, length, get_or, refl, ap, subst, arith}
+use Rattle.std.proofs.Common.{◌≡◌, ◌∙◌, ℕ, zero, suc, ◌<◌, Bool, true, false, List, [], ◌∷◌, map, length, get_or, refl, sym, ap, subst, arith}
+use Rattle.std.specs.List.Sorted.{IsStableByKey}
+use Rattle.std.specs.Ordering.{nat_cmp}
 use native.Mathlib.Nat.{not-suc-le-zero, le_of_suc-le-suc}
 use Rattle.std.proofs.Math.ListN.{length-map}
 use Rattle.std.specs.List.Sorted.{IsNonDecreasingBy}
 use Rattle.stress.specs.declared.lines.Told.{Told}
-use Rattle.std.specs.Prelude.{filter, if◌then◌else◌}
-use Rattle.stress.specs.Lines.{AreOrdered, ToldCall, Said, rank}
+use Rattle.std.specs.Prelude.{filter, if◌then◌else◌, ◌==◌}
+use Rattle.stress.specs.Lines.{AreOrdered, ToldCall, Said, at_rank, rank}
 use Rattle.stress.specs.Timed.{Timed, how_many}
 use Rattle.stress.specs.Shown.{said_of, told_of, timed_of}
+use Rattle.stress.proofs.Ranks.{stays}
 
 -- an element of a mapped list, whatever the defaults
 pub get_map : {A B : Type 0} (f : A → B) (xs : List A) (i : ℕ) (d : B) (e : A) → i < length xs → get_or (map f xs) i d ≡ f (get_or xs i e)
@@ -22,6 +25,23 @@ ordered (x ∷ xs) up i j d low below =
     let inside : j < length all = subst (λ n. j < n) (length-map all told_of) below in
     let before : i < length all = omega (arith, low, inside) in
     rw (get_map told_of all i d x before, get_map told_of all j d x inside) (up i j x low inside)
+
+-- the calls of one rank, as they are told
+abbrev at_one : ℕ → List Told → List Told
+at_one r xs = filter (λ t. rank (said_of t.said) == r) xs
+
+at_rank_map : (r : ℕ) (xs : List Told) → at_rank r (map told_of xs) ≡ map told_of (at_one r xs)
+at_rank_map r [] = refl
+at_rank_map r (x ∷ xs) = by (rank (said_of x.said) == r) (at_rank_map r xs)
+  where
+    by : (b : Bool) → at_rank r (map told_of xs) ≡ map told_of (at_one r xs)
+        → (if b then told_of x ∷ at_rank r (map told_of xs) else at_rank r (map told_of xs)) ≡ map told_of (if b then x ∷ at_one r xs else at_one r xs)
+    by true rest = ap (λ ts. told_of x ∷ ts) rest
+    by false rest = rest
+
+-- a stable sort by ranks leaves the calls of each rank in their order
+pub still : (xs ys : List Told) → IsStableByKey (λ (t : Told). rank (said_of t.said)) nat_cmp xs ys → (r : ℕ) → at_rank r (map told_of ys) ≡ at_rank r (map told_of xs)
+still xs ys stable r = at_rank_map r ys ∙ ap (map told_of) (stays (λ (t : Told). rank (said_of t.said)) xs ys stable r) ∙ sym (at_rank_map r xs)
 
 -- the calls of a history are the calls that were told
 pub of_timed : (xs : List Told) → map (λ (t : Timed). t.told) (map timed_of xs) ≡ map told_of xs

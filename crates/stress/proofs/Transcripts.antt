@@ -82,6 +82,7 @@ run_of config c timed sizes script left is =
         told = lines;
         same = same;
         ordered = is.written.ordered;
+        by_session = is.written.stable;
         is = ap (λ t. record { text = t; verdict = verdicts.Good }) is.written.transcript;
         of_one = one.0;
         each_once = IsPermutation-trans calls (calls_of asked) (calls_of lines) all (IsPermutation-map (λ t. t.call) asked lines same);

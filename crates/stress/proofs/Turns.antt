@@ -27,13 +27,13 @@ one_of told k d below =
     (Contains-get_or calls k one.call here)
 
 -- where a session was told its calls, and what was noted has its number, the lines name it
-pub in_turn : (n number : ℕ) (calls : List ScriptCall) (told : List Told) → calls_told told ≡ dealt n number (to_be_told calls) → All (λ t. t.noted.session ≡ number) told
+pub in_turn : (n number : ℕ) → number < n → (calls : List ScriptCall) (told : List Told) → calls_told told ≡ dealt n number (to_be_told calls) → All (λ t. t.noted.session ≡ number) told
     → All (λ t. IsInTurn n (map called calls) (timed_of t)) told
-in_turn n number calls told is by k d below =
+in_turn n number one calls told is by k d below =
     let all = map called calls in
     let theirs = (so told (dealt n number all) (is ∙ ap (dealt n number) (sym (twice calls)) ∙ one_map (λ c. Some c) n number all)).0 in
     let t = get_or told k d in
-    subst (λ s. Contains (dealt n s all) (called t.call.now)) (sym (by k d below)) (subst (λ cs. Contains cs (called t.call.now)) theirs (one_of told k d below))
+    subst (λ s. (s < n) × Contains (dealt n s all) (called t.call.now)) (sym (by k d below)) (one, subst (λ cs. Contains cs (called t.call.now)) theirs (one_of told k d below))
 
 abbrev AreInTurn : ℕ → List Called → List Told → Type 0
 AreInTurn n calls told = All (λ t. IsInTurn n calls (timed_of t)) told

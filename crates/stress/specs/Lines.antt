@@ -1,5 +1,5 @@
 -- The lines of a transcript.
-use Rattle.std.specs.Prelude.{ℕ, ◌+◌, ◌*◌, ◌^◌, Bool, true, false, List, ◌++◌, Option, Some, None, codes, decimal, filter, slice_get}
+use Rattle.std.specs.Prelude.{ℕ, ◌+◌, ◌*◌, ◌^◌, Bool, true, false, List, ◌++◌, Option, Some, None, codes, decimal, filter, slice_get, ◌==◌}
 use Rattle.std.specs.List.{flat_map}
 use Rattle.std.specs.List.Sorted.{IsNonDecreasingBy}
 use Rattle.verifier.specs.declared.refusal.Mode.{Mode}
@@ -38,6 +38,10 @@ suits mode said = false
 
 abbrev pub AreOrdered : List ToldCall → Type 0
 AreOrdered told = IsNonDecreasingBy (λ t. rank t.said) told
+
+-- those whose lines stand at this rank
+abbrev pub at_rank : ℕ → List ToldCall → List ToldCall
+at_rank r told = filter (λ t. rank t.said == r) told
 
 -- whether this is an answer, and not that the history has ended
 abbrev pub is_answer : Said → Bool

@@ -31,7 +31,7 @@ use Rattle.stress.specs.declared.lines.Written.{Written}
 use Rattle.stress.specs.declared.sharing.Left.{Left}
 use Rattle.oplog.specs.declared.configuration.Config.{Config}
 use Rattle.stress.specs.Lines as said
-use Rattle.stress.specs.Lines.{ToldCall, AreOrdered, AreSteady, transcript_text}
+use Rattle.stress.specs.Lines.{ToldCall, AreOrdered, AreSteady, at_rank, transcript_text}
 use Rattle.stress.specs.Timed.{Timed, IsInTurn, AreCounted, history_text}
 use Rattle.stress.specs.OneHistory.{IsSo, IsOfOneHistory, lines_at}
 use Rattle.stress.specs.Shown.{TellsCalls, called, calls_told, said_of, to_be_told, told_of, timed_of}
@@ -188,6 +188,7 @@ pub record IsWritten (c : CatalogueView) (timed : Bool) (told : List Told) (w : 
   pub lines : List Told
   pub same : IsPermutation told lines
   pub ordered : AreOrdered (map told_of lines)
+  pub stable : (r : ℕ) → at_rank r (map told_of lines) ≡ at_rank r (map told_of told)
   pub transcript : w.transcript.items ≡ transcript_text c (map told_of lines)
   pub history : w.history.items ≡ history_if timed (map timed_of lines)
   pub counts : AreCounted (map told_of lines) w.counts

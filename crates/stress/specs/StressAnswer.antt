@@ -27,7 +27,7 @@ use Rattle.console.specs.ScheduleAnswer.{are_sizes, sizes_refused}
 use Rattle.stress.specs.declared.engine.Trial.{Trial}
 use Rattle.stress.specs.Calls.{Called, told_as, script_calls}
 use Rattle.stress.specs.Dealt.{dealt_to, share_of}
-use Rattle.stress.specs.Lines.{ToldCall, suits, AreOrdered, AreSteady, transcript_text}
+use Rattle.stress.specs.Lines.{ToldCall, suits, AreOrdered, AreSteady, at_rank, transcript_text}
 use Rattle.stress.specs.OneHistory.{IsOfOneHistory}
 
 -- the calls of these told ones
@@ -50,6 +50,8 @@ pub record IsTranscript (config : Config) (c : CatalogueView) (calls : List Call
   pub told : List ToldCall
   pub same : IsPermutation asked told
   pub ordered : AreOrdered told
+  -- those of one rank stand session by session, and those of one session in its order
+  pub by_session : (r : ℕ) → at_rank r told ≡ at_rank r asked
   pub is : a ≡ record { text = transcript_text c told; verdict = verdicts.Good }
   -- so each call of the script has one line
   pub each_once : IsPermutation calls (calls_of told)

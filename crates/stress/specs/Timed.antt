@@ -1,5 +1,5 @@
 -- A history of calls in real time, and how many there are.
-use Rattle.std.specs.Prelude.{◌≡◌, ℕ, Bool, true, false, List, [], ◌++◌, map, filter, length, codes, decimal, All, Contains}
+use Rattle.std.specs.Prelude.{◌≡◌, ℕ, ◌<◌, Bool, true, false, List, [], ◌++◌, map, filter, length, codes, decimal, All, Contains}
 use Rattle.std.specs.List.{flat_map}
 use Rattle.stress.specs.declared.watching.Counts.{Counts}
 use Rattle.stress.specs.Calls.{Called}
@@ -22,9 +22,9 @@ timed_text t =
 abbrev pub history_text : List Timed → List ℕ
 history_text timed = flat_map timed_text timed
 
--- of the calls that go to n sessions in turn, this is one of those of the session that made it
+-- it names one of n sessions, and its call is one of those that go to this session, where they go to all n in turn
 abbrev pub IsInTurn : ℕ → List Called → Timed → Type 0
-IsInTurn n calls t = Contains (dealt n t.session calls) t.told.call
+IsInTurn n calls t = (t.session < n) × Contains (dealt n t.session calls) t.told.call
 
 -- a line for each of these calls, in their order, which names the session that its call went to; of the counter's numbers nothing is said
 abbrev pub IsHistoryOf : ℕ → List Called → List ToldCall → List ℕ → Type 0

@@ -139,7 +139,7 @@ fn ask_all<'a, R: Wait, G: Gate, C: Clock>(
     requires own { IsOf ground.now.store.now session.old }
     requires new { session.old.note.answered ≡ [] }
     requires ready { All (IsReady ground.now.store.now.catalogue) ground.now.calls.now }
-    requires some { 0 < ground.now.sessions }
+    requires one { number < ground.now.sessions }
     ensures own { IsOf ground.now.store.now session.new }
     ensures calls { TellsCalls result (calls_for ground.now number) }
     ensures told { IfOk result (λ v. IsTold session.new v.items) }
@@ -166,7 +166,7 @@ pub(crate) fn play<'a, R: Wait, G: Gate, C: Clock>(
     requires own { IsOf ground.now.store.now player.old.session }
     requires new { player.old.session.note.answered ≡ [] }
     requires ready { All (IsReady ground.now.store.now.catalogue) ground.now.calls.now }
-    requires some { 0 < ground.now.sessions }
+    requires one { number < ground.now.sessions }
     ensures own { IsOf ground.now.store.now player.new.session }
     ensures calls { TellsCalls player.new.told (calls_for ground.now number) }
     ensures told { IsToldPlayer player.new }

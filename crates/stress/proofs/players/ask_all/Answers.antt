@@ -55,4 +55,4 @@ returns-clause-turns g c =
     let all =
     sym (append-nil (calls_told told)) ∙ ap (λ (left : List ScriptCall). calls_told told ++ dealt ground.sessions 0 (to_be_told left)) (sym empty)
     ∙ c.loop-call.invariant.2 in
-    in_turn ground.sessions c.args.number ground.calls.now told all c.loop-call.invariant.5
+    in_turn ground.sessions c.args.number c.requires.one ground.calls.now told all c.loop-call.invariant.5
