@@ -14,3 +14,5 @@ pub mod OneHistory
 pub mod Transcripts
 pub mod Turns
 pub mod GivenBack
+pub mod Places
+pub mod Agreeing

@@ -4,6 +4,7 @@
 mod calls;
 mod engine;
 mod gate;
+mod laws;
 mod lines;
 mod players;
 mod runs;
@@ -12,5 +13,6 @@ mod watching;
 
 pub use engine::{Trial, stress};
 pub use gate::{Gate, OpenGate};
+pub use laws::transcripts_agree;
 pub use runs::{Stressed, stress_on};
 pub use watching::{Counts, Watch};
