@@ -1,5 +1,9 @@
 // Where a line of assembler text is wrong, and what is wanted there.
 
+ghost use Rattle.std.specs.Prelude.{◌≡◌, ◌<◌, [], length, IfOk, IsOk, IsErr};
+ghost use Rattle.std.specs.String.{string_bytes};
+ghost use Rattle.asm.specs.Assembled.{assembled};
+
 use crate::files::operand_kinds::{OperandKind, kinds_of};
 use crate::files::probes::{fault_of, is_word};
 use crate::sentences::{Told, Word, Written, none, one, put, say_that};
@@ -240,7 +244,9 @@ fn line_at(text: &str, wanted: u32) -> &str {
 }
 
 // What is said of a refused text.
-fn told(alloc: Global, text: &str, refusal: AsmRefusal) -> Result<String, AllocError> {
+fn told(alloc: Global, text: &str, refusal: AsmRefusal) -> Result<String, AllocError>
+    ensures { IfOk result (λ s. 0 < length (string_bytes s)) }
+{
     let line = line_at(text, refusal.line);
     let Wanted { at, what } = wanted_in(alloc, line, refusal.why)?;
     let mut out = String::new(alloc);
@@ -261,7 +267,10 @@ fn told(alloc: Global, text: &str, refusal: AsmRefusal) -> Result<String, AllocE
 /// # Errors
 ///
 /// The system has no memory left.
-pub fn explain_assembly(alloc: Global, text: &str) -> Result<String, AllocError> {
+pub fn explain_assembly(alloc: Global, text: &str) -> Result<String, AllocError>
+    ensures quiet { IsOk (assembled text.now) → IfOk result (λ s. string_bytes s ≡ []) }
+    ensures told { IsErr (assembled text.now) → IfOk result (λ s. 0 < length (string_bytes s)) }
+{
     match assemble(alloc, text) {
         Ok(_) => Ok(String::new(alloc)),
         Err(AsmError::NoMemory) => Err(AllocError),
