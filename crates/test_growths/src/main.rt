@@ -8,6 +8,7 @@ mod endings;
 mod library;
 mod schedules;
 mod served;
+mod settlements;
 mod stores;
 mod streams;
 mod transfers;
@@ -61,6 +62,13 @@ fn write_store_calls(
     write_ending(rt, "Shelf::open", "K1", library::shelf_opened(alloc))?;
     write_ending(rt, "World::open", "O2", schedules::world_opened(alloc))?;
     write_ending(rt, "run_steps", "no memory", schedules::steps_run(alloc))?;
+    write_ending(
+        rt,
+        "settle_node",
+        "no memory",
+        settlements::node_settled(alloc),
+    )?;
+    write_ending(rt, "settle", "no memory", settlements::store_settled(alloc))?;
     write_ending(rt, "Store::open", "O2", opened)?;
     write_ending(rt, "Store::open_on", "O2", opened_on)
 }

@@ -25,6 +25,8 @@ mod replicas;
 #[cfg(test)]
 mod scans;
 #[cfg(test)]
+mod settlements;
+#[cfg(test)]
 mod single_store;
 #[cfg(test)]
 mod two_nodes;
