@@ -18,7 +18,7 @@ use std::process::ExitCode;
 use std::sync::Wait;
 use std::thread;
 use std::thread::Threads;
-use store::{Closed, Session, Store};
+use store::{Beginning, Closed, Session, Store};
 
 // Adds one to a counter, and replies what it is then.
 const BUMP: &str =
@@ -33,7 +33,7 @@ const PUT: &str =
     "bf12000000000000 bf13000000000000 1851000002000000 0000000000000000 b704000000000000 8500000002000000 9500000000000000";
 
 // The number of the hash among the maps, and of its program.
-const HASH: u8 = 2;
+const HASH: usize = 2;
 
 const PUT_NUMBER: u16 = 2;
 
@@ -152,7 +152,8 @@ fn scan_whole<R: Wait>(rt: &R, store: &Store, session: &mut Session) -> Option<u
     let (mut keys, mut values) = ([0; 4 * PAGE], [0; 4 * PAGE]);
     let (mut from, mut sum) = (0, 0u64);
     for _ in rt.forever() {
-        let told = session.scan(rt, store, HASH, from, &mut keys, &mut values);
+        let begin = Beginning { map: HASH, from };
+        let told = session.scan(rt, store, begin, &mut keys, &mut values);
         let page = told.ok()?;
         sum = sum.wrapping_add(total(&keys, page.count));
         sum = sum.wrapping_add(total(&values, page.count));

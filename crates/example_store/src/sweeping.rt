@@ -7,7 +7,7 @@ use crate::common::close;
 use std::alloc::Global;
 use std::io;
 use std::sync::Wait;
-use store::{Config, Scan, Session, Store, load_manifest};
+use store::{Beginning, Config, Scan, Session, Store, load_manifest};
 
 // A hash of eight users at most, each with the minute in which it was last seen. Both are numbers of four bytes, and the programs' argument.
 const MANIFEST: &str =
@@ -22,7 +22,7 @@ const FORGET_HEX: &str =
     "bf16000000000000 bf12000000000000 1851000000000000 0000000000000000 8500000001000000 1500090000000000 6101000000000000 6162040000000000 3d21060000000000 bf62000000000000 1851000000000000 0000000000000000 8500000003000000 b700000001000000 9500000000000000 b700000000000000 9500000000000000";
 
 // The numbers of the map and of the programs, in the manifest's order.
-const USERS: u8 = 0;
+const USERS: usize = 0;
 
 const VISIT: u16 = 0;
 
@@ -55,7 +55,8 @@ fn clear<R: Wait>(rt: &R, store: &Store, session: &mut Session, from: u32) -> Op
     ensures own { IsOf store.now session.new }
 {
     let (mut keys, mut values) = ([0; 4 * PAGE], [0; 4 * PAGE]);
-    let told = session.scan(rt, store, USERS, from, &mut keys, &mut values);
+    let begin = Beginning { map: USERS, from };
+    let told = session.scan(rt, store, begin, &mut keys, &mut values);
     let page = told.ok()?;
     let mut gone = 0u64;
     let (users, minutes) = (keys.as_chunks::<4>().0, values.as_chunks::<4>().0);

@@ -19,5 +19,7 @@ pub use readpath::ReadAnswer;
 pub use replica::{NO_PLACE, NO_PROGRAM, StoreRefused};
 pub use session::Session;
 pub use store::Store;
-pub use store_steps::{Batches, Question, QuestionRefused, Scan, ScanRefused, Setup, Value, desks};
+pub use store_steps::{
+    Batches, Beginning, Question, QuestionRefused, Scan, ScanRefused, Setup, Value, desks,
+};
 pub use verifier::Mode;

@@ -5,7 +5,7 @@ ghost use Rattle.std.specs.List.{All};
 ghost use Rattle.maps.specs.Shapes.{AreShapesOk};
 ghost use Rattle.loader.specs.CatalogueView.{IsCatalogue, OpensOn, opening_state};
 ghost use Rattle.replica.specs.Refusals.{IsRoomFor};
-ghost use Rattle.oplog.specs.Limits.{IsConfig, IsWindow};
+ghost use Rattle.oplog.specs.Limits.{IsConfig};
 ghost use Rattle.oplog.specs.declared.configuration.TheConstants.{MAX_NODES, MAX_NODE_SLOTS};
 ghost use Rattle.ownlock.specs.Knowledge.{AllAgree};
 ghost use Rattle.accounts.specs.LogSteps.{first_progress, fresh_note};
@@ -36,18 +36,18 @@ fn shelved_desk(alloc: Global, node: u16, slots: usize) -> Result<Value, AllocEr
 fn push_replicas(
     alloc: Global,
     values: &mut Vec<Option<Value>>,
+    config: &Config,
     catalogue: &Catalogue,
     state: Option<&StoreState>,
-    window: usize,
-    nodes: u16,
 ) -> Result<(), AllocError>
     requires opens { OpensOn catalogue.now state }
-    requires window { IsWindow window }
-    ensures count { IfOk result (λ _. length values.new.items ≡ length values.old.items + nodes) }
+    requires config { IsConfig config.now }
+    ensures count { IfOk result (λ _. length values.new.items ≡ length values.old.items + config.now.nodes) }
     ensures kept { IfOk result (λ _. AreKept values.old.items values.new.items) }
-    ensures replicas { IfOk result (λ _. HaveReplicas (length values.old.items) nodes (opening_state catalogue.now) window values.new.items) }
+    ensures replicas { IfOk result (λ _. HaveReplicas (length values.old.items) config.now.nodes (opening_state catalogue.now) config.now.window values.new.items) }
 {
-    for _node in 0..nodes {
+    let window = config.window as usize;
+    for _node in 0..config.nodes {
         values.push(Some(shelved_replica(alloc, catalogue, state, window)?))?;
     }
     Ok(())
@@ -90,7 +90,7 @@ pub(crate) fn shelved_places(
     let mut values = Vec::with_capacity(alloc, 2 * nodes as usize + 1)?;
     let log = shelved_log(alloc, catalogue, state, window, config.limit as usize)?;
     values.push(Some(log))?;
-    push_replicas(alloc, &mut values, catalogue, state, window, nodes)?;
+    push_replicas(alloc, &mut values, config, catalogue, state)?;
     push_desks(alloc, &mut values, nodes, config.slots as usize)?;
     Ok(values)
 }

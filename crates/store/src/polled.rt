@@ -23,7 +23,7 @@ use ownlock::Seat;
 use readpath::ReadAnswer;
 use replica::{Replies, StoreRefused, check_call, check_install};
 use std::marker::Model;
-use store_steps::{Caller, Deed, Question, Stage, Value, go_on, try_post, try_query};
+use store_steps::{Caller, Deed, Here, Question, Stage, Value, go_on, try_post, try_query};
 use verifier::Mode;
 
 // How many deeds a call does at most that goes on with an update. Where nobody else is there it takes four.
@@ -120,7 +120,11 @@ impl Polled {
             stage,
             ..
         } = self;
-        let Some(()) = try_post(shared, seat, *caller, &op) else {
+        let here = Here {
+            shared,
+            caller: *caller,
+        };
+        let Some(()) = try_post(here, seat, &op) else {
             return None;
         };
         *stage = Stage::Asked;
@@ -209,7 +213,11 @@ impl Polled {
             stage,
             ..
         } = self;
-        go_on(shared, seat, *caller, batch, replies, stage)
+        let here = Here {
+            shared,
+            caller: *caller,
+        };
+        go_on(here, seat, batch, replies, stage)
     }
 
     /// Goes on with the update that is out, as far as nobody holds a place that it takes. `None` where it is to be called again: the update is
@@ -266,7 +274,11 @@ impl Polled {
         let Polled { seat, caller, .. } = self;
         check_call(store.catalogue(), Mode::Read, program, argument)?;
         let question = Question { program, argument };
-        let Ok(answer) = try_query(store.shared(), seat, *caller, question) else {
+        let here = Here {
+            shared: store.shared(),
+            caller: *caller,
+        };
+        let Ok(answer) = try_query(here, seat, question) else {
             return Ok(None);
         };
         Ok(Some(answer))

@@ -19,17 +19,17 @@ ghost use Rattle.store_steps.specs.Views.{IsIdle, op_of, session_view};
 
 use crate::answers::Answer;
 use crate::store::Store;
-use combiner::{Batch, Reply};
+use combiner::Reply;
 use loader::Installed;
 use oplog::{Call, NewProgram, Op};
 use ownlock::Seat;
 use readpath::ReadAnswer;
-use replica::{Replies, StoreRefused, check_call, check_install};
+use replica::{StoreRefused, check_call, check_install};
 use std::marker::Model;
 use std::sync::Wait;
 use store_steps::{
-    Batches, Beginning, Caller, Question, QuestionRefused, Scan, ScanRefused, Value, check_each,
-    check_scan, complete, post, query, read_each_waiting, scan_waiting,
+    Batches, Beginning, Caller, Here, Question, QuestionRefused, Room, Scan, ScanRefused, Value,
+    check_each, check_scan, complete, post, query, read_each_waiting, scan_waiting,
 };
 use verifier::Mode;
 
@@ -38,14 +38,10 @@ use verifier::Mode;
 pub struct Session {
     seat: Seat<Value>,
     caller: Caller,
-    // Room for the requests that it combines.
-    batch: Batch,
-    // Room for what their programs answer.
-    replies: Replies,
+    // Room for what it combines, and what it has combined.
+    combining: Room,
     // Room to find out whether a program may be installed.
     room: Installed,
-    // What it has combined.
-    batches: Batches,
 }
 
 impl Model for Session {
@@ -82,10 +78,8 @@ impl Session {
         Session {
             seat,
             caller,
-            batch: Batch::new(),
-            replies: Replies::new(0, 0),
+            combining: Room::new(),
             room,
-            batches: Batches::none(),
         }
     }
 
@@ -99,10 +93,8 @@ impl Session {
         let Session {
             seat,
             caller,
-            batch: _batch,
-            replies: _replies,
+            combining: _combining,
             room,
-            batches: _batches,
         } = self;
         (seat, caller, room)
     }
@@ -120,7 +112,7 @@ impl Session {
 
     /// What it has combined since it was opened, or came back from a [`Polled`](crate::Polled), which counts nothing. For statistics: no clause speaks of it.
     pub fn batches(&self) -> Batches {
-        self.batches
+        self.combining.batches
     }
 
     // Has an update performed that is not refused, as the next operation of the history.
@@ -134,16 +126,12 @@ impl Session {
         ensures answered { TellsUpdate self.old self.new op result }
     {
         let shared = store.shared();
-        post(rt, shared, &mut self.seat, self.caller, op);
-        let reply = complete(
-            rt,
+        let here = Here {
             shared,
-            &mut self.seat,
-            self.caller,
-            &mut self.batch,
-            &mut self.replies,
-            &mut self.batches,
-        );
+            caller: self.caller,
+        };
+        post(rt, here, &mut self.seat, op);
+        let reply = complete(rt, here, &mut self.seat, &mut self.combining);
         answer_of(reply)
     }
 
@@ -238,7 +226,12 @@ impl Session {
         let Session { seat, caller, .. } = self;
         check_call(store.catalogue(), Mode::Read, program, argument)?;
         let question = Question { program, argument };
-        Ok(query(rt, store.shared(), seat, *caller, question))
+        let shared = store.shared();
+        let here = Here {
+            shared,
+            caller: *caller,
+        };
+        Ok(query(rt, here, seat, question))
     }
 
     /// Answers up to 16 questions at one point of the history: each is a read program, which runs on the maps of the session's node, once
@@ -271,7 +264,11 @@ impl Session {
         let Session { seat, caller, .. } = self;
         check_each(store.catalogue(), questions)?;
         let shared = store.shared();
-        Ok(read_each_waiting(rt, shared, seat, *caller, questions, replies))
+        let here = Here {
+            shared,
+            caller: *caller,
+        };
+        Ok(read_each_waiting(rt, here, seat, questions, replies))
     }
 
     /// Gives entries of a map from a place on, their keys one after another in `keys` and their values in `values`, as many as both have room
@@ -286,8 +283,7 @@ impl Session {
         &mut self,
         rt: &R,
         store: &Store,
-        map: u8,
-        from: u32,
+        begin: Beginning,
         keys: &mut [u8],
         values: &mut [u8],
     ) -> Result<Scan, ScanRefused>
@@ -296,21 +292,21 @@ impl Session {
         ensures same { (self.new.shelf ≡ self.old.shelf) × (self.new.session ≡ self.old.session) × (self.new.note ≡ self.old.note) }
         ensures grown { Extends self.old.progress self.new.progress }
         ensures well_formed { IsWellFormed store_meaning self.new.progress }
-        ensures early { (r : ScanRefused) → scan_refusal store.now.catalogue map from ≡ Some r → (result ≡ Err r)
+        ensures early { (r : ScanRefused) → scan_refusal store.now.catalogue begin.map begin.from ≡ Some r → (result ≡ Err r)
             × (self.new ≡ self.old) × (keys.new ≡ keys.old) × (values.new ≡ values.old) }
-        ensures told { scan_refusal store.now.catalogue map from ≡ None
-            → TellsScan self.old self.new map from (length keys.old) (length values.old) keys.new values.new result }
-        ensures begun { scan_refusal store.now.catalogue map from ≡ None → ScanBegins self.old self.new result }
-        ensures goes { scan_refusal store.now.catalogue map from ≡ None
-            → ScanGoes self.old self.new map from (length keys.old) (length values.old) keys.new values.new result }
+        ensures told { scan_refusal store.now.catalogue begin.map begin.from ≡ None
+            → TellsScan self.old self.new begin.map begin.from (length keys.old) (length values.old) keys.new values.new result }
+        ensures begun { scan_refusal store.now.catalogue begin.map begin.from ≡ None → ScanBegins self.old self.new result }
+        ensures goes { scan_refusal store.now.catalogue begin.map begin.from ≡ None
+            → ScanGoes self.old self.new begin.map begin.from (length keys.old) (length values.old) keys.new values.new result }
     {
         let Session { seat, caller, .. } = self;
-        let begin = Beginning {
-            map: map as usize,
-            from,
-        };
         check_scan(store.catalogue(), begin)?;
         let shared = store.shared();
-        Ok(scan_waiting(rt, shared, seat, *caller, begin, keys, values))
+        let here = Here {
+            shared,
+            caller: *caller,
+        };
+        Ok(scan_waiting(rt, here, seat, begin, keys, values))
     }
 }

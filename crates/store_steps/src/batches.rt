@@ -1,4 +1,38 @@
-// What a session counts.
+// Room for what a session does for its node, and what it counts.
+
+ghost use Rattle.std.specs.Prelude.{◌≡◌};
+
+use combiner::Batch;
+use replica::Replies;
+
+/// Room for what a session does for its node.
+#[derive(Drop)]
+pub struct Room {
+    /// For the requests that it combines.
+    pub batch: Batch,
+    /// For what their programs answer.
+    pub replies: Replies,
+    /// What it has combined.
+    pub batches: Batches,
+}
+
+impl Room {
+    /// Room with nothing in it.
+    pub fn new() -> Room {
+        Room {
+            batch: Batch::new(),
+            replies: Replies::new(0, 0),
+            batches: Batches::none(),
+        }
+    }
+
+    // Counts the batch that is in it.
+    pub(crate) fn count(&mut self)
+        ensures room { (self.new.batch ≡ self.old.batch) × (self.new.replies ≡ self.old.replies) }
+    {
+        self.batches = self.batches.and_one(self.batch.records().len() as u64);
+    }
+}
 
 /// How many batches a session has combined, and how large they were: the requests of its node that it appended together.
 #[derive(Clone, Copy, Debug, PartialEq, Eq)]

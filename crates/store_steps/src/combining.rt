@@ -10,7 +10,7 @@ ghost use Rattle.store_steps.specs.Trying.{IsStill};
 ghost use Rattle.store_steps.specs.Whole.{AnswersBy, CombinesBy, HandsOverAnywhere};
 
 use crate::desks;
-use crate::steps::{Caller, Shared, replay_and_raise, try_append_and_copy};
+use crate::steps::{Here, Shared, replay_and_raise, try_append_and_copy};
 use crate::values::Value;
 use combiner::Batch;
 use ownlock::{LEADER, Seat};
@@ -22,16 +22,15 @@ use std::sync::Wait;
 // their programs answer. It goes on with `hand_over`. Where another session holds the replica or the log, it answers that place: the
 // session holds nothing then, and its requests are as they were.
 pub(crate) fn try_combine(
-    shared: Shared<'_>,
+    here: Here<'_>,
     seat: &mut Seat<Value>,
-    caller: Caller,
     batch: &Batch,
     replies: &mut Replies,
 ) -> Result<(), usize>
-    requires own { seat.old.shelf ≡ shared.shelf.now.id }
-    requires claimed { Knows seat.old (λ k. IsFree caller k × HasClaimed k batch.now × IsOn shared k) }
+    requires own { seat.old.shelf ≡ here.shared.shelf.now.id }
+    requires claimed { Knows seat.old (λ k. IsFree here.caller k × HasClaimed k batch.now × IsOn here.shared k) }
     ensures same { seat.new.shelf ≡ seat.old.shelf }
-    ensures held { IfErr result (λ place. place < shared.entry.shelf.now.places) }
+    ensures held { IfErr result (λ place. place < here.entry.shared.shelf.now.places) }
     ensures stays { IfErr result (λ _. Learns seat.old seat.new IsStill) }
     ensures combined { IfOk result (λ _. Learns seat.old seat.new (λ k after. HasAnswered k after batch.now replies.new)) }
     ensures goes { IfOk result (λ _. Relates seat.old seat.new (λ k after. AnswersBy k after batch.now replies.new)) }
@@ -40,12 +39,12 @@ pub(crate) fn try_combine(
         shelf,
         catalogue,
         ..
-    } = shared;
-    let Some(mut held) = shelf.try_take(seat, 1 + caller.node) else {
-        return Err(1 + caller.node);
+    } = here.shared;
+    let Some(mut held) = shelf.try_take(seat, 1 + here.caller.node) else {
+        return Err(1 + here.caller.node);
     };
     let node = held.value.replica_mut();
-    let Some(()) = try_append_and_copy(shared, seat, node, batch.records(), replies) else {
+    let Some(()) = try_append_and_copy(here.shared, seat, node, batch.records(), replies) else {
         shelf.put::<Brand>(seat, held);
         return Err(LEADER);
     };
@@ -57,22 +56,21 @@ pub(crate) fn try_combine(
 // The same, but waits for the place that another session holds.
 fn append_and_replay<R: Wait>(
     rt: &R,
-    shared: Shared<'_>,
+    here: Here<'_>,
     seat: &mut Seat<Value>,
-    caller: Caller,
     batch: &Batch,
     replies: &mut Replies,
 )
-    requires own { seat.old.shelf ≡ shared.shelf.now.id }
-    requires claimed { Knows seat.old (λ k. IsFree caller k × HasClaimed k batch.now × IsOn shared k) }
+    requires own { seat.old.shelf ≡ here.shared.shelf.now.id }
+    requires claimed { Knows seat.old (λ k. IsFree here.caller k × HasClaimed k batch.now × IsOn here.shared k) }
     ensures same { seat.new.shelf ≡ seat.old.shelf }
     ensures combined { Learns seat.old seat.new (λ k after. HasAnswered k after batch.now replies.new) }
     ensures goes { Relates seat.old seat.new (λ k after. AnswersBy k after batch.now replies.new) }
 {
     for _ in rt.forever() {
-        match try_combine(shared, seat, caller, batch, replies) {
+        match try_combine(here, seat, batch, replies) {
             Ok(()) => return,
-            Err(place) => shared.shelf.wait(rt, place),
+            Err(place) => here.shared.shelf.wait(rt, place),
         }
     }
     unreachable!()
@@ -82,68 +80,71 @@ fn append_and_replay<R: Wait>(
 // answers to the slots of its desk. The replies are room for what their programs answer.
 pub(crate) fn combine<R: Wait>(
     rt: &R,
-    shared: Shared<'_>,
+    here: Here<'_>,
     seat: &mut Seat<Value>,
-    caller: Caller,
     batch: &mut Batch,
     replies: &mut Replies,
 )
-    requires own { seat.old.shelf ≡ shared.shelf.now.id }
-    requires claimed { Knows seat.old (λ k. IsFree caller k × HasClaimed k batch.old × IsOn shared k) }
+    requires own { seat.old.shelf ≡ here.shared.shelf.now.id }
+    requires claimed { Knows seat.old (λ k. IsFree here.caller k × HasClaimed k batch.old × IsOn here.shared k) }
     ensures same { seat.new.shelf ≡ seat.old.shelf }
     ensures combined { Learns seat.old seat.new HasCombined }
     ensures goes { Relates seat.old seat.new (λ k after. CombinesBy k after batch.old batch.new) }
 {
-    append_and_replay(rt, shared, seat, caller, batch, replies);
-    hand_over(rt, shared, seat, caller, batch, replies);
+    append_and_replay(rt, here, seat, batch, replies);
+    hand_over(rt, here, seat, batch, replies);
 }
 
 // Takes the desk of the caller's node, answers the requests of the batch there, by the outcomes that were kept of it, and puts the
 // desk back. Where another session holds the desk it answers `None`, and nothing has changed.
 pub(crate) fn try_hand_over(
-    shared: Shared<'_>,
+    here: Here<'_>,
     seat: &mut Seat<Value>,
-    caller: Caller,
     batch: &mut Batch,
     replies: &Replies,
 ) -> Option<()>
-    requires own { seat.old.shelf ≡ shared.shelf.now.id }
-    requires ready { Knows seat.old (λ k. IsFree caller k × IsReady k batch.old replies.now × IsOn shared k × Stands k) }
+    requires own { seat.old.shelf ≡ here.shared.shelf.now.id }
+    requires ready { Knows seat.old (λ k. IsFree here.caller k × IsReady k batch.old replies.now × IsOn here.shared k × Stands k) }
     ensures same { seat.new.shelf ≡ seat.old.shelf }
     ensures stays { IfNone result ((seat.new ≡ seat.old) × (batch.new ≡ batch.old)) }
     ensures combined { IfSome result (λ _. Learns seat.old seat.new HasCombined) }
     ensures answered { IfSome result (λ _. batch.new ≡ answered_batch replies.now batch.old) }
     ensures handed { IfSome result (λ _. Relates seat.old seat.new (λ k after. HandsOverAnywhere k after batch.old replies.now)) }
 {
-    let Some(mut held) = shared.shelf.try_take(seat, 1 + shared.nodes + caller.node) else {
+    let Some(mut held) = here
+        .shared
+        .shelf
+        .try_take(seat, 1 + here.shared.nodes + here.caller.node)
+    else {
         return None;
     };
     desks::reply(held.value.desk_mut(), batch, replies);
-    shared.shelf.put::<Brand>(seat, held);
+    here.shared.shelf.put::<Brand>(seat, held);
     Some(())
 }
 
 // The same, but waits while another session holds the desk.
 fn hand_over<R: Wait>(
     rt: &R,
-    shared: Shared<'_>,
+    here: Here<'_>,
     seat: &mut Seat<Value>,
-    caller: Caller,
     batch: &mut Batch,
     replies: &Replies,
 )
-    requires own { seat.old.shelf ≡ shared.shelf.now.id }
-    requires ready { Knows seat.old (λ k. IsFree caller k × IsReady k batch.old replies.now × IsOn shared k × Stands k) }
+    requires own { seat.old.shelf ≡ here.shared.shelf.now.id }
+    requires ready { Knows seat.old (λ k. IsFree here.caller k × IsReady k batch.old replies.now × IsOn here.shared k × Stands k) }
     ensures same { seat.new.shelf ≡ seat.old.shelf }
     ensures combined { Learns seat.old seat.new HasCombined }
     ensures answered { batch.new ≡ answered_batch replies.now batch.old }
     ensures handed { Relates seat.old seat.new (λ k after. HandsOverAnywhere k after batch.old replies.now) }
 {
     for _ in rt.forever() {
-        if let Some(()) = try_hand_over(shared, seat, caller, batch, replies) {
+        if let Some(()) = try_hand_over(here, seat, batch, replies) {
             return;
         }
-        shared.shelf.wait(rt, 1 + shared.nodes + caller.node);
+        here.shared
+            .shelf
+            .wait(rt, 1 + here.shared.nodes + here.caller.node);
     }
     unreachable!()
 }

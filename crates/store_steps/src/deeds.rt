@@ -10,7 +10,7 @@ ghost use Rattle.store_steps.specs.declared.deeds.Stage.TheVariants.{Asked, Clai
 use crate::combining::{try_combine, try_hand_over};
 use crate::desks::Turn;
 use crate::requests::try_turn;
-use crate::steps::{Caller, Shared};
+use crate::steps::Here;
 use crate::values::Value;
 use combiner::{Batch, Reply};
 use ownlock::Seat;
@@ -40,21 +40,15 @@ pub enum Deed {
 }
 
 // A turn of an update that is posted: collects its answer, or claims the requests of its node.
-fn take_turn(
-    shared: Shared<'_>,
-    seat: &mut Seat<Value>,
-    caller: Caller,
-    batch: &mut Batch,
-    stage: &mut Stage,
-) -> Deed
-    requires own { seat.old.shelf ≡ shared.shelf.now.id }
-    requires on { Knows seat.old (IsOn shared) }
+fn take_turn(here: Here<'_>, seat: &mut Seat<Value>, batch: &mut Batch, stage: &mut Stage) -> Deed
+    requires own { seat.old.shelf ≡ here.shared.shelf.now.id }
+    requires on { Knows seat.old (IsOn here.shared) }
     requires asked { stage.old ≡ Asked }
-    requires polled { IsAsked seat.old caller }
+    requires polled { IsAsked seat.old here.caller }
     ensures same { seat.new.shelf ≡ seat.old.shelf }
-    ensures gone { (kept : RepliesView) → HasGone seat.old seat.new caller batch.new kept stage.new result }
+    ensures gone { (kept : RepliesView) → HasGone seat.old seat.new here.entry.caller batch.new kept stage.new result }
 {
-    match try_turn(shared, seat, caller, batch) {
+    match try_turn(here, seat, batch) {
         None => Deed::Busy,
         Some(Turn::Waits) => Deed::Busy,
         Some(Turn::Combines) => {
@@ -70,21 +64,20 @@ fn take_turn(
 
 // Runs the requests that the session has claimed.
 fn run_claimed(
-    shared: Shared<'_>,
+    here: Here<'_>,
     seat: &mut Seat<Value>,
-    caller: Caller,
     batch: &Batch,
     replies: &mut Replies,
     stage: &mut Stage,
 ) -> Deed
-    requires own { seat.old.shelf ≡ shared.shelf.now.id }
-    requires on { Knows seat.old (IsOn shared) }
+    requires own { seat.old.shelf ≡ here.shared.shelf.now.id }
+    requires on { Knows seat.old (IsOn here.shared) }
     requires claimed { stage.old ≡ Claimed }
-    requires polled { IsPolled seat.old caller batch.now replies.old Claimed }
+    requires polled { IsPolled seat.old here.caller batch.now replies.old Claimed }
     ensures same { seat.new.shelf ≡ seat.old.shelf }
-    ensures gone { HasGone seat.old seat.new caller batch.now replies.new stage.new result }
+    ensures gone { HasGone seat.old seat.new here.entry.caller batch.now replies.new stage.new result }
 {
-    let Ok(()) = try_combine(shared, seat, caller, batch, replies) else {
+    let Ok(()) = try_combine(here, seat, batch, replies) else {
         return Deed::Busy;
     };
     *stage = Stage::Ready;
@@ -93,21 +86,20 @@ fn run_claimed(
 
 // Hands over the answers to the requests that have run.
 fn give_answers(
-    shared: Shared<'_>,
+    here: Here<'_>,
     seat: &mut Seat<Value>,
-    caller: Caller,
     batch: &mut Batch,
     replies: &Replies,
     stage: &mut Stage,
 ) -> Deed
-    requires own { seat.old.shelf ≡ shared.shelf.now.id }
-    requires on { Knows seat.old (IsOn shared) }
+    requires own { seat.old.shelf ≡ here.shared.shelf.now.id }
+    requires on { Knows seat.old (IsOn here.shared) }
     requires ready { stage.old ≡ Ready }
-    requires polled { IsPolled seat.old caller batch.old replies.now Ready }
+    requires polled { IsPolled seat.old here.caller batch.old replies.now Ready }
     ensures same { seat.new.shelf ≡ seat.old.shelf }
-    ensures gone { HasGone seat.old seat.new caller batch.new replies.now stage.new result }
+    ensures gone { HasGone seat.old seat.new here.entry.caller batch.new replies.now stage.new result }
 {
-    let Some(()) = try_hand_over(shared, seat, caller, batch, replies) else {
+    let Some(()) = try_hand_over(here, seat, batch, replies) else {
         return Deed::Busy;
     };
     *stage = Stage::Asked;
@@ -116,24 +108,23 @@ fn give_answers(
 
 /// The next deed of an update that is out.
 pub fn go_on(
-    shared: Shared<'_>,
+    here: Here<'_>,
     seat: &mut Seat<Value>,
-    caller: Caller,
     batch: &mut Batch,
     replies: &mut Replies,
     stage: &mut Stage,
 ) -> Deed
-    requires own { seat.old.shelf ≡ shared.shelf.now.id }
-    requires on { Knows seat.old (IsOn shared) }
-    requires polled { IsPolled seat.old caller batch.old replies.old stage.old }
+    requires own { seat.old.shelf ≡ here.shared.shelf.now.id }
+    requires on { Knows seat.old (IsOn here.shared) }
+    requires polled { IsPolled seat.old here.caller batch.old replies.old stage.old }
     requires out { IsOut stage.old }
     ensures same { seat.new.shelf ≡ seat.old.shelf }
-    ensures gone { HasGone seat.old seat.new caller batch.new replies.new stage.new result }
+    ensures gone { HasGone seat.old seat.new here.entry.caller batch.new replies.new stage.new result }
 {
     match *stage {
         Stage::Idle => unreachable!(),
-        Stage::Asked => take_turn(shared, seat, caller, batch, stage),
-        Stage::Claimed => run_claimed(shared, seat, caller, batch, replies, stage),
-        Stage::Ready => give_answers(shared, seat, caller, batch, replies, stage),
+        Stage::Asked => take_turn(here, seat, batch, stage),
+        Stage::Claimed => run_claimed(here, seat, batch, replies, stage),
+        Stage::Ready => give_answers(here, seat, batch, replies, stage),
     }
 }

@@ -12,10 +12,10 @@ mod scanning;
 mod steps;
 mod values;
 
-pub use batches::Batches;
+pub use batches::{Batches, Room};
 pub use deeds::{Deed, Stage, go_on};
 pub use questions::{QuestionRefused, check_each, read_each_waiting};
 pub use requests::{complete, post, try_post};
 pub use scanning::{Beginning, Scan, ScanRefused, check_scan, scan_waiting};
-pub use steps::{Caller, Question, Shared, query, try_query};
+pub use steps::{Caller, Here, Question, Shared, query, try_query};
 pub use values::{Setup, Value, shelved_log, shelved_replica};

@@ -9,7 +9,7 @@ ghost use Rattle.store_steps.specs.Questions.{AreReadBy, FirstReply, first_refus
 ghost use Rattle.store_steps.specs.Standing.{IsFree};
 ghost use Rattle.store_steps.specs.Trying.{IsStill};
 
-use crate::steps::{Caller, Question, Shared, answer_there, try_hold_ready};
+use crate::steps::{Here, Question, answer_there, try_hold_ready};
 use crate::values::Value;
 use loader::Catalogue;
 use node::NodeReplica;
@@ -67,27 +67,26 @@ fn answer_each(
 // Answers the questions on the replica of the caller's node, once that has reached the tail that is completed now. Where another session
 // holds the replica, or the log, which a replica that lacks something takes, it answers that place: the session holds nothing then.
 fn try_read_each(
-    shared: Shared<'_>,
+    here: Here<'_>,
     seat: &mut Seat<Value>,
-    caller: Caller,
     questions: &[Question<'_>],
     replies: &mut [u64],
 ) -> Result<u64, usize>
-    requires own { seat.old.shelf ≡ shared.shelf.now.id }
-    requires idle { Knows seat.old (λ k. IsFree caller k × IsOn shared k) }
+    requires own { seat.old.shelf ≡ here.shared.shelf.now.id }
+    requires idle { Knows seat.old (λ k. IsFree here.caller k × IsOn here.shared k) }
     requires room { length replies.old ≡ length questions.now }
     ensures same { seat.new.shelf ≡ seat.old.shelf }
-    ensures held { IfErr result (λ place. place < shared.entry.shelf.now.places) }
+    ensures held { IfErr result (λ place. place < here.entry.shared.shelf.now.places) }
     ensures stays { IfErr result (λ _. Learns seat.old seat.new IsStill) }
     ensures kept { IfErr result (λ _. replies.new ≡ replies.old) }
     ensures read { IfOk result (λ point. Learns seat.old seat.new (λ k after. AreReadBy k after questions.now point replies.new)) }
     ensures goes { IfOk result (λ point. Relates seat.old seat.new (λ k after. EachReadsBy k after questions.now point replies.new)) }
 {
-    let mut held = try_hold_ready(shared, seat, caller)?;
+    let mut held = try_hold_ready(here, seat)?;
     let node = held.value.replica_mut();
     let point = node.replica.tail();
-    answer_each(node, shared.catalogue, questions, replies);
-    shared.shelf.put::<Brand>(seat, held);
+    answer_each(node, here.shared.catalogue, questions, replies);
+    here.shared.shelf.put::<Brand>(seat, held);
     Ok(point)
 }
 
@@ -95,23 +94,22 @@ fn try_read_each(
 /// waits for the place that another session holds.
 pub fn read_each_waiting<R: Wait>(
     rt: &R,
-    shared: Shared<'_>,
+    here: Here<'_>,
     seat: &mut Seat<Value>,
-    caller: Caller,
     questions: &[Question<'_>],
     replies: &mut [u64],
 ) -> u64
-    requires own { seat.old.shelf ≡ shared.shelf.now.id }
-    requires idle { Knows seat.old (λ k. IsFree caller k × IsOn shared k) }
+    requires own { seat.old.shelf ≡ here.shared.shelf.now.id }
+    requires idle { Knows seat.old (λ k. IsFree here.caller k × IsOn here.shared k) }
     requires room { length replies.old ≡ length questions.now }
     ensures same { seat.new.shelf ≡ seat.old.shelf }
     ensures read { Learns seat.old seat.new (λ k after. AreReadBy k after questions.now result replies.new) }
     ensures goes { Relates seat.old seat.new (λ k after. EachReadsBy k after questions.now result replies.new) }
 {
     for _ in rt.forever() {
-        match try_read_each(shared, seat, caller, questions, replies) {
+        match try_read_each(here, seat, questions, replies) {
             Ok(point) => return point,
-            Err(place) => shared.shelf.wait(rt, place),
+            Err(place) => here.shared.shelf.wait(rt, place),
         }
     }
     unreachable!()

@@ -5,94 +5,94 @@ ghost use Rattle.verifier.specs.declared.refusal.Mode.TheVariants.{Update};
 ghost use Rattle.replica.specs.StoreMeaning.{is_operation};
 ghost use Rattle.store_steps.specs.Asking.{AwaitsNothing, AwaitsAnswer, SessionPosts, SessionTurns, SessionCompletes};
 
-use crate::batches::Batches;
+use crate::batches::Room;
 use crate::combining::combine;
 use crate::desks;
 use crate::desks::Turn;
-use crate::steps::{Caller, Shared};
+use crate::steps::Here;
 use crate::values::Value;
 use combiner::{Batch, Reply};
 use crossbeam_utils::Backoff;
 use oplog::Op;
 use ownlock::{Seat, Shelf};
-use replica::Replies;
 use std::marker::Brand;
 use std::sync::Wait;
 
 /// Posts an operation at the desk of the caller's node, unless another session holds the desk: `None` then, and nothing has changed.
-pub fn try_post(shared: Shared<'_>, seat: &mut Seat<Value>, caller: Caller, op: &Op) -> Option<()>
-    requires own { seat.old.shelf ≡ shared.shelf.now.id }
-    requires idle { AwaitsNothing seat.old caller shared }
-    requires update { is_operation Update shared.catalogue.now op.now ≡ true }
+pub fn try_post(here: Here<'_>, seat: &mut Seat<Value>, op: &Op) -> Option<()>
+    requires own { seat.old.shelf ≡ here.shared.shelf.now.id }
+    requires idle { AwaitsNothing seat.old here.caller here.shared }
+    requires update { is_operation Update here.shared.catalogue.now op.now ≡ true }
     ensures same { seat.new.shelf ≡ seat.old.shelf }
     ensures stays { IfNone result (seat.new ≡ seat.old) }
     ensures posted { IfSome result (λ _. SessionPosts seat.old seat.new op.now) }
 {
-    let Some(mut held) = shared.shelf.try_take(seat, 1 + shared.nodes + caller.node) else {
+    let Some(mut held) = here
+        .shared
+        .shelf
+        .try_take(seat, 1 + here.shared.nodes + here.caller.node)
+    else {
         return None;
     };
-    desks::post(held.value.desk_mut(), caller.slot, *op);
-    shared.shelf.put::<Brand>(seat, held);
+    desks::post(held.value.desk_mut(), here.caller.slot, *op);
+    here.shared.shelf.put::<Brand>(seat, held);
     Some(())
 }
 
 /// The same, but waits while another session holds the desk.
-pub fn post<R: Wait>(rt: &R, shared: Shared<'_>, seat: &mut Seat<Value>, caller: Caller, op: Op)
-    requires own { seat.old.shelf ≡ shared.shelf.now.id }
-    requires idle { AwaitsNothing seat.old caller shared }
-    requires update { is_operation Update shared.catalogue.now op ≡ true }
+pub fn post<R: Wait>(rt: &R, here: Here<'_>, seat: &mut Seat<Value>, op: Op)
+    requires own { seat.old.shelf ≡ here.shared.shelf.now.id }
+    requires idle { AwaitsNothing seat.old here.caller here.shared }
+    requires update { is_operation Update here.shared.catalogue.now op ≡ true }
     ensures same { seat.new.shelf ≡ seat.old.shelf }
     ensures posted { SessionPosts seat.old seat.new op }
 {
     for _ in rt.forever() {
-        if let Some(()) = try_post(shared, seat, caller, &op) {
+        if let Some(()) = try_post(here, seat, &op) {
             return;
         }
-        shared.shelf.wait(rt, 1 + shared.nodes + caller.node);
+        here.shared
+            .shelf
+            .wait(rt, 1 + here.shared.nodes + here.caller.node);
     }
     unreachable!()
 }
 
 // One turn at the desk of the caller's node: collects the answer that waits there; else claims the posted requests into the batch,
 // where nobody combines; else nothing. Where another session holds the desk it answers `None`, and nothing has changed.
-pub(crate) fn try_turn(
-    shared: Shared<'_>,
-    seat: &mut Seat<Value>,
-    caller: Caller,
-    batch: &mut Batch,
-) -> Option<Turn>
-    requires own { seat.old.shelf ≡ shared.shelf.now.id }
-    requires asked { AwaitsAnswer seat.old caller shared }
+pub(crate) fn try_turn(here: Here<'_>, seat: &mut Seat<Value>, batch: &mut Batch) -> Option<Turn>
+    requires own { seat.old.shelf ≡ here.shared.shelf.now.id }
+    requires asked { AwaitsAnswer seat.old here.caller here.shared }
     ensures same { seat.new.shelf ≡ seat.old.shelf }
     ensures stays { IfNone result ((seat.new ≡ seat.old) × (batch.new ≡ batch.old)) }
     ensures turned { IfSome result (λ turn. SessionTurns seat.old seat.new batch.new turn) }
 {
-    let Some(mut held) = shared.shelf.try_take(seat, 1 + shared.nodes + caller.node) else {
+    let Some(mut held) = here
+        .shared
+        .shelf
+        .try_take(seat, 1 + here.shared.nodes + here.caller.node)
+    else {
         return None;
     };
-    let turn = desks::look(held.value.desk_mut(), caller.slot, batch);
-    shared.shelf.put::<Brand>(seat, held);
+    let turn = desks::look(held.value.desk_mut(), here.caller.slot, batch);
+    here.shared.shelf.put::<Brand>(seat, held);
     Some(turn)
 }
 
 // The same, but waits while another session holds the desk.
-fn turn<R: Wait>(
-    rt: &R,
-    shared: Shared<'_>,
-    seat: &mut Seat<Value>,
-    caller: Caller,
-    batch: &mut Batch,
-) -> Turn
-    requires own { seat.old.shelf ≡ shared.shelf.now.id }
-    requires asked { AwaitsAnswer seat.old caller shared }
+fn turn<R: Wait>(rt: &R, here: Here<'_>, seat: &mut Seat<Value>, batch: &mut Batch) -> Turn
+    requires own { seat.old.shelf ≡ here.shared.shelf.now.id }
+    requires asked { AwaitsAnswer seat.old here.caller here.shared }
     ensures same { seat.new.shelf ≡ seat.old.shelf }
     ensures turned { SessionTurns seat.old seat.new batch.new result }
 {
     for _ in rt.forever() {
-        if let Some(turn) = try_turn(shared, seat, caller, batch) {
+        if let Some(turn) = try_turn(here, seat, batch) {
             return turn;
         }
-        shared.shelf.wait(rt, 1 + shared.nodes + caller.node);
+        here.shared
+            .shelf
+            .wait(rt, 1 + here.shared.nodes + here.caller.node);
     }
     unreachable!()
 }
@@ -117,30 +117,22 @@ fn watch(shelf: &Shelf<Value>, place: usize)
 }
 
 /// Waits for the answer to the request that the caller has posted, and collects it. Where nobody combines the requests of its
-/// node, the caller does, has them in the batch meanwhile, and what their programs answer in the replies, and counts the batch; else it watches
+/// node, the caller does, in the room that is lent, and counts the batch; else it watches
 /// the place of its node's replica, which the one that combines puts back before it hands the answers over.
-pub fn complete<R: Wait>(
-    rt: &R,
-    shared: Shared<'_>,
-    seat: &mut Seat<Value>,
-    caller: Caller,
-    batch: &mut Batch,
-    replies: &mut Replies,
-    batches: &mut Batches,
-) -> Reply
-    requires own { seat.old.shelf ≡ shared.shelf.now.id }
-    requires asked { AwaitsAnswer seat.old caller shared }
+pub fn complete<R: Wait>(rt: &R, here: Here<'_>, seat: &mut Seat<Value>, room: &mut Room) -> Reply
+    requires own { seat.old.shelf ≡ here.shared.shelf.now.id }
+    requires asked { AwaitsAnswer seat.old here.caller here.shared }
     ensures same { seat.new.shelf ≡ seat.old.shelf }
     ensures completed { SessionCompletes seat.old seat.new result }
 {
     for _ in rt.forever() {
-        match turn(rt, shared, seat, caller, batch) {
+        match turn(rt, here, seat, &mut room.batch) {
             Turn::Collects(reply) => return reply,
             Turn::Combines => {
-                combine(rt, shared, seat, caller, batch, replies);
-                *batches = batches.and_one(batch.records().len() as u64);
+                combine(rt, here, seat, &mut room.batch, &mut room.replies);
+                room.count();
             }
-            Turn::Waits => watch(shared.shelf, 1 + caller.node),
+            Turn::Waits => watch(here.shared.shelf, 1 + here.caller.node),
         }
     }
     unreachable!()

@@ -8,7 +8,7 @@ ghost use Rattle.store_steps.specs.Scanning.{GivesThere, IsPlaceIn, IsScannedBy,
 ghost use Rattle.store_steps.specs.Standing.{IsFree};
 ghost use Rattle.store_steps.specs.Trying.{IsStill};
 
-use crate::steps::{Caller, Shared, try_hold_ready};
+use crate::steps::{Here, try_hold_ready};
 use crate::values::Value;
 use loader::Catalogue;
 use node::NodeReplica;
@@ -97,18 +97,17 @@ fn scan_there(node: &NodeReplica, begin: Beginning, keys: &mut [u8], values: &mu
 // Scans the maps of the caller's node, once its replica has reached the tail that is completed now. Where another session holds the
 // replica, or the log, which a replica that lacks something takes, it answers that place: the session holds nothing then, and nothing is given.
 fn try_scan(
-    shared: Shared<'_>,
+    here: Here<'_>,
     seat: &mut Seat<Value>,
-    caller: Caller,
     begin: Beginning,
     keys: &mut [u8],
     values: &mut [u8],
 ) -> Result<Scan, usize>
-    requires own { seat.old.shelf ≡ shared.shelf.now.id }
-    requires idle { Knows seat.old (λ k. IsFree caller k × IsOn shared k) }
-    requires place { scan_refusal shared.catalogue.now begin.map begin.from ≡ None }
+    requires own { seat.old.shelf ≡ here.shared.shelf.now.id }
+    requires idle { Knows seat.old (λ k. IsFree here.caller k × IsOn here.shared k) }
+    requires place { scan_refusal here.shared.catalogue.now begin.map begin.from ≡ None }
     ensures same { seat.new.shelf ≡ seat.old.shelf }
-    ensures held { IfErr result (λ place. place < shared.entry.shelf.now.places) }
+    ensures held { IfErr result (λ place. place < here.entry.shared.shelf.now.places) }
     ensures stays { IfErr result (λ _. Learns seat.old seat.new IsStill) }
     ensures kept { IfErr result (λ _. (keys.new ≡ keys.old) × (values.new ≡ values.old)) }
     ensures scanned { IfOk result (λ s. Learns seat.old seat.new (λ k after.
@@ -116,9 +115,9 @@ fn try_scan(
     ensures goes { IfOk result (λ s. Relates seat.old seat.new (λ k after.
         ScansBy k after begin.map begin.from (length keys.old) (length values.old) keys.new values.new s)) }
 {
-    let held = try_hold_ready(shared, seat, caller)?;
+    let held = try_hold_ready(here, seat)?;
     let scan = scan_there(held.value.replica(), begin, keys, values);
-    shared.shelf.put::<Brand>(seat, held);
+    here.shared.shelf.put::<Brand>(seat, held);
     Ok(scan)
 }
 
@@ -126,16 +125,15 @@ fn try_scan(
 /// session holds.
 pub fn scan_waiting<R: Wait>(
     rt: &R,
-    shared: Shared<'_>,
+    here: Here<'_>,
     seat: &mut Seat<Value>,
-    caller: Caller,
     begin: Beginning,
     keys: &mut [u8],
     values: &mut [u8],
 ) -> Scan
-    requires own { seat.old.shelf ≡ shared.shelf.now.id }
-    requires idle { Knows seat.old (λ k. IsFree caller k × IsOn shared k) }
-    requires place { scan_refusal shared.catalogue.now begin.map begin.from ≡ None }
+    requires own { seat.old.shelf ≡ here.shared.shelf.now.id }
+    requires idle { Knows seat.old (λ k. IsFree here.caller k × IsOn here.shared k) }
+    requires place { scan_refusal here.shared.catalogue.now begin.map begin.from ≡ None }
     ensures same { seat.new.shelf ≡ seat.old.shelf }
     ensures scanned { Learns seat.old seat.new (λ k after.
         IsScannedBy k after begin.map begin.from (length keys.old) (length values.old) keys.new values.new result) }
@@ -143,9 +141,9 @@ pub fn scan_waiting<R: Wait>(
         ScansBy k after begin.map begin.from (length keys.old) (length values.old) keys.new values.new result) }
 {
     for _ in rt.forever() {
-        match try_scan(shared, seat, caller, begin, keys, values) {
+        match try_scan(here, seat, begin, keys, values) {
             Ok(scan) => return scan,
-            Err(place) => shared.shelf.wait(rt, place),
+            Err(place) => here.shared.shelf.wait(rt, place),
         }
     }
     unreachable!()

@@ -55,6 +55,15 @@ pub struct Caller {
     pub slot: usize,
 }
 
+/// Where a session works: its store, and its slot there.
+#[derive(Clone, Copy)]
+pub struct Here<'a> {
+    /// What it shares with the other sessions of its store.
+    pub shared: Shared<'a>,
+    /// Its slot.
+    pub caller: Caller,
+}
+
 /// What a read asks for.
 #[derive(Clone, Copy)]
 pub struct Question<'a> {
@@ -375,27 +384,23 @@ pub(crate) fn answer_there(
 // Takes the replica of the caller's node, and brings it up to the tail that is completed now. Where another session holds the replica, or
 // the log, which a replica that lacks something takes, it answers that place: the session holds nothing then.
 #[inline(always)]
-pub(crate) fn try_hold_ready(
-    shared: Shared<'_>,
-    seat: &mut Seat<Value>,
-    caller: Caller,
-) -> Result<Held<Value>, usize>
-    requires own { seat.old.shelf ≡ shared.shelf.now.id }
-    requires idle { Knows seat.old (λ k. IsFree caller k × IsOn shared k) }
+pub(crate) fn try_hold_ready(here: Here<'_>, seat: &mut Seat<Value>) -> Result<Held<Value>, usize>
+    requires own { seat.old.shelf ≡ here.shared.shelf.now.id }
+    requires idle { Knows seat.old (λ k. IsFree here.caller k × IsOn here.shared k) }
     ensures same { seat.new.shelf ≡ seat.old.shelf }
-    ensures held { IfErr result (λ place. place < shared.entry.shelf.now.places) }
+    ensures held { IfErr result (λ place. place < here.entry.shared.shelf.now.places) }
     ensures stays { IfErr result (λ _. Learns seat.old seat.new IsStill) }
-    ensures place { IfOk result (λ h. held_place h ≡ 1 + caller.node) }
-    ensures there { IfOk result (λ h. held_place h < shared.entry.shelf.now.places) }
-    ensures ready { IfOk result (λ h. Learns seat.old seat.new (λ k after. HoldsReady k after (1 + caller.node) h.value)) }
+    ensures place { IfOk result (λ h. held_place h ≡ 1 + here.entry.caller.node) }
+    ensures there { IfOk result (λ h. held_place h < here.entry.shared.shelf.now.places) }
+    ensures ready { IfOk result (λ h. Learns seat.old seat.new (λ k after. HoldsReady k after (1 + here.entry.caller.node) h.value)) }
 {
-    let Shared { shelf, .. } = shared;
+    let Shared { shelf, .. } = here.shared;
     let done = shelf.done(seat);
-    let Some(mut held) = shelf.try_take(seat, 1 + caller.node) else {
-        return Err(1 + caller.node);
+    let Some(mut held) = shelf.try_take(seat, 1 + here.caller.node) else {
+        return Err(1 + here.caller.node);
     };
     let node = held.value.replica_mut();
-    let Some(()) = try_reach(shared, seat, node, done) else {
+    let Some(()) = try_reach(here.shared, seat, node, done) else {
         shelf.put::<Brand>(seat, held);
         return Err(LEADER);
     };
@@ -405,44 +410,42 @@ pub(crate) fn try_hold_ready(
 /// Runs a read program on the replica of the caller's node, once that has reached the tail that is completed now. Where another session
 /// holds the replica, or the log, which a replica that lacks something takes, it answers that place: the session holds nothing then.
 pub fn try_query(
-    shared: Shared<'_>,
+    here: Here<'_>,
     seat: &mut Seat<Value>,
-    caller: Caller,
     question: Question<'_>,
 ) -> Result<ReadAnswer, usize>
-    requires own { seat.old.shelf ≡ shared.shelf.now.id }
-    requires idle { Knows seat.old (λ k. IsFree caller k × IsOn shared k) }
+    requires own { seat.old.shelf ≡ here.shared.shelf.now.id }
+    requires idle { Knows seat.old (λ k. IsFree here.caller k × IsOn here.shared k) }
     ensures same { seat.new.shelf ≡ seat.old.shelf }
-    ensures held { IfErr result (λ place. place < shared.entry.shelf.now.places) }
+    ensures held { IfErr result (λ place. place < here.entry.shared.shelf.now.places) }
     ensures stays { IfErr result (λ _. Learns seat.old seat.new IsStill) }
     ensures read { IfOk result (λ answer. Learns seat.old seat.new (λ k after. IsReadBy k after (asked_op question.entry) answer)) }
     ensures goes { IfOk result (λ answer. Relates seat.old seat.new (λ k after. ReadsBy k after (asked_op question.entry) answer)) }
 {
-    let mut held = try_hold_ready(shared, seat, caller)?;
+    let mut held = try_hold_ready(here, seat)?;
     let node = held.value.replica_mut();
-    let answer = answer_there(node, shared.catalogue, question);
-    shared.shelf.put::<Brand>(seat, held);
+    let answer = answer_there(node, here.shared.catalogue, question);
+    here.shared.shelf.put::<Brand>(seat, held);
     Ok(answer)
 }
 
 /// The same, but waits for the place that another session holds.
 pub fn query<R: Wait>(
     rt: &R,
-    shared: Shared<'_>,
+    here: Here<'_>,
     seat: &mut Seat<Value>,
-    caller: Caller,
     question: Question<'_>,
 ) -> ReadAnswer
-    requires own { seat.old.shelf ≡ shared.shelf.now.id }
-    requires idle { Knows seat.old (λ k. IsFree caller k × IsOn shared k) }
+    requires own { seat.old.shelf ≡ here.shared.shelf.now.id }
+    requires idle { Knows seat.old (λ k. IsFree here.caller k × IsOn here.shared k) }
     ensures same { seat.new.shelf ≡ seat.old.shelf }
     ensures read { Learns seat.old seat.new (λ k after. IsReadBy k after (op_of question.entry.program question.entry.argument.now) result) }
     ensures goes { Relates seat.old seat.new (λ k after. ReadsBy k after (op_of question.entry.program question.entry.argument.now) result) }
 {
     for _ in rt.forever() {
-        match try_query(shared, seat, caller, question) {
+        match try_query(here, seat, question) {
             Ok(answer) => return answer,
-            Err(place) => shared.shelf.wait(rt, place),
+            Err(place) => here.shared.shelf.wait(rt, place),
         }
     }
     unreachable!()

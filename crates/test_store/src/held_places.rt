@@ -19,7 +19,7 @@ use std::sync::atomic::{AtomicBool, Ordering};
 use std::thread;
 use std::thread::Threads;
 use store::{Answer, Session, Store, StoreRefused};
-use store_steps::{Caller, Question, Shared, Value, query};
+use store_steps::{Caller, Here, Question, Shared, Value, query};
 
 // A session's seat, and its slot.
 #[derive(Drop)]
@@ -95,7 +95,10 @@ fn ready_read<R: Wait>(
         program: 1,
         argument: &ZERO,
     };
-    (done, query(rt, shared, &mut seat, caller, question))
+    (
+        done,
+        query(rt, Here { shared, caller }, &mut seat, question),
+    )
 }
 
 // The log is held by one session while the other reads on a thread of its own.

@@ -7,7 +7,7 @@ use crate::single_store::{close, single};
 use loader::{Catalogue, load_manifest};
 use std::alloc::Global;
 use std::sync::Wait;
-use store::{Session, Store};
+use store::{Beginning, Session, Store};
 
 // Puts a key of one byte and its value into the hash.
 const PUT: &str =
@@ -48,7 +48,8 @@ fn page_from<R: Wait>(rt: &R, store: &Store, session: &mut Session, from: u32) -
     ensures own { IsOf store.now session.new }
 {
     let mut keys = [99; 2];
-    let told = session.scan(rt, store, 0, from, &mut keys, &mut [0; 2]);
+    let begin = Beginning { map: 0, from };
+    let told = session.scan(rt, store, begin, &mut keys, &mut [0; 2]);
     let scan = told.ok()?;
     Some(Page {
         point: scan.point,

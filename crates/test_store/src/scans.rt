@@ -1,7 +1,11 @@
 //! Scans of a store's map, page by page.
 
 use crate::single_store::{ZERO, close, counter, single};
-use store::{Scan, ScanRefused, Store};
+use store::{Beginning, Scan, ScanRefused, Store};
+
+fn from(map: usize, from: u32) -> Beginning {
+    Beginning { map, from }
+}
 
 // An array of sixteen counters, of which the first stands at 1: five of them, and then the others.
 #[test]
@@ -14,8 +18,8 @@ fn pages_of_an_array(rt: HostRuntime) {
     sessions.destroy_empty();
     let _first = session.invoke(&rt, &store, 0, &ZERO);
     let (mut keys, mut values) = ([0; 20], [9; 47]);
-    let page = session.scan(&rt, &store, 0, 0, &mut keys, &mut values);
-    let rest = session.scan(&rt, &store, 0, 5, &mut [0; 64], &mut [9; 128]);
+    let page = session.scan(&rt, &store, from(0, 0), &mut keys, &mut values);
+    let rest = session.scan(&rt, &store, from(0, 5), &mut [0; 64], &mut [9; 128]);
     let _closed = close(store, session, room);
     let (five, others) = (
         Scan {
@@ -44,9 +48,9 @@ fn scans_that_give_nothing(rt: HostRuntime) {
     let (store, mut sessions) = opened.expect(&rt, "store");
     let mut session = sessions.pop().expect(&rt, "session");
     sessions.destroy_empty();
-    let nothing = session.scan(&rt, &store, 0, 7, &mut [0; 3], &mut [0; 8]);
-    let unknown_map = session.scan(&rt, &store, 1, 0, &mut [0; 4], &mut [0; 8]);
-    let unknown_place = session.scan(&rt, &store, 0, 16, &mut [0; 4], &mut [0; 8]);
+    let nothing = session.scan(&rt, &store, from(0, 7), &mut [0; 3], &mut [0; 8]);
+    let unknown_map = session.scan(&rt, &store, from(1, 0), &mut [0; 4], &mut [0; 8]);
+    let unknown_place = session.scan(&rt, &store, from(0, 16), &mut [0; 4], &mut [0; 8]);
     let _closed = close(store, session, room);
     let there = Scan {
         point: 0,

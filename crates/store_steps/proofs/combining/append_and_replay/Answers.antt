@@ -10,7 +10,7 @@ loop-init g c = (
   refl,
   λ k is.
       let i = c.requires.claimed in
-      let free = subst (λ z. IsFree c.args.caller z) (one_known c.args.seat.now i.0 k i.1 is) i.2.0 in
+      let free = subst (λ z. IsFree c.args.here.caller z) (one_known c.args.seat.now i.0 k i.1 is) i.2.0 in
       (k, is, still_self k free.held),
 )
 
@@ -18,7 +18,7 @@ pub try_combine-requires-clause-claimed : goal.try_combine-requires-clause-claim
 try_combine-requires-clause-claimed g c =
     let i = c.requires.claimed in
     let m = c.loop.invariant.1 i.0 i.1 in
-    (m.0, m.1, (free_on c.args.caller i.0 m.0 m.2.session m.2.held m.2.extends i.2.0, claimed_still i.0 m.0 c.args.batch.now m.2 i.2.1, shelf_on _ _ _ i.0 m.0 m.2.extends i.2.2))
+    (m.0, m.1, (free_on c.args.here.caller i.0 m.0 m.2.session m.2.held m.2.extends i.2.0, claimed_still i.0 m.0 c.args.batch.now m.2 i.2.1, shelf_on _ _ _ i.0 m.0 m.2.extends i.2.2))
 
 pub returns-in-Ok-clause-combined : goal.returns-in-Ok-clause-combined
 returns-in-Ok-clause-combined g c k is =

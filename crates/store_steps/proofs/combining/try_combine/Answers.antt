@@ -16,20 +16,20 @@ use Rattle.store_steps.proofs.combining.try_combine.Goals as goal
 pub try_take-requires-clause-may : goal.try_take-requires-clause-may
 try_take-requires-clause-may c =
     let i = c.requires.claimed in
-    (i.0, i.1, may_take_replica i.0 c.args.caller i.2.0)
+    (i.0, i.1, may_take_replica i.0 c.args.here.caller i.2.0)
 
 pub replica_mut-node-requires : goal.replica_mut-node-requires
 replica_mut-node-requires c =
     let i = c.requires.claimed in
     let t = c.in-Some.ensures.taken i.0 i.1 in
-    record { replica = (took_replica i.0 t.0 c.args.caller c.in-Some.held.value i.2.0 t.1).holds.replica }
+    record { replica = (took_replica i.0 t.0 c.args.here.caller c.in-Some.held.value i.2.0 t.1).holds.replica }
 
 pub try_append_and_copy-requires-clause-holds : goal.try_append_and_copy-requires-clause-holds
 try_append_and_copy-requires-clause-holds c =
     let i = c.requires.claimed in
     let w = c.in-Some.held.value in
     let t = c.in-Some.ensures.taken i.0 i.1 in
-    let b = took_replica i.0 t.0 c.args.caller w i.2.0 t.1 in (
+    let b = took_replica i.0 t.0 c.args.here.caller w i.2.0 t.1 in (
       t.0,
       t.2,
       (
@@ -43,7 +43,7 @@ put-requires-2-clause-may c =
     let i = c.requires.claimed in
     let w = c.in-Some.held.value in
     let t = c.in-Some.ensures.taken i.0 i.1 in
-    let b = took_replica i.0 t.0 c.args.caller w i.2.0 t.1 in
+    let b = took_replica i.0 t.0 c.args.here.caller w i.2.0 t.1 in
     let a = c.in-Some-try_append_and_copy.ensures.appended t.0 t.2 in
     let h = holds_on t.0 a.0 w a.2.goes b.holds in
     let r = c.replay_and_raise.ensures.replayed a.0 a.1 in
@@ -56,10 +56,10 @@ returns-clause-combined c k is =
     let w = c.in-Some.held.value in
     let rs = c.args.batch.now.records in
     let e = one_known c.args.seat.now i.0 k i.1 is in
-    let free = subst (λ z. IsFree c.args.caller z) e i.2.0 in
+    let free = subst (λ z. IsFree c.args.here.caller z) e i.2.0 in
     let claimed = subst (λ z. HasClaimed z c.args.batch.now) e i.2.1 in
     let t = c.in-Some.ensures.taken k is in
-    let b = took_replica k t.0 c.args.caller w free t.1 in
+    let b = took_replica k t.0 c.args.here.caller w free t.1 in
     let a = c.in-Some-try_append_and_copy.ensures.appended t.0 t.2 in
     let v = c.try_append_and_copy.new.node in
     let old = c.try_append_and_copy.new.replies in
@@ -74,10 +74,10 @@ returns-clause-combined c k is =
       _,
       p.2,
       record {
-        session = session_is t.0 a.0 r.0 rs old v c.replay_and_raise.new.node new done r.2 _ f y refl claimed.some claimed.ascend k (1 + c.args.caller.node) w b;
+        session = session_is t.0 a.0 r.0 rs old v c.replay_and_raise.new.node new done r.2 _ f y refl claimed.some claimed.ascend k (1 + c.args.here.caller.node) w b;
         held = f.held;
         note = ap (λ (n : SessionNote). record n { batch = [] }) (f.note ∙ (r.2.note ∙ done.note)) ∙ ap (λ (n : SessionNote). record n { batch = [] }) b.note;
-        extends = from_k t.0 a.0 r.0 rs old v c.replay_and_raise.new.node new done r.2 _ f y refl claimed.some claimed.ascend k (1 + c.args.caller.node) w b;
+        extends = from_k t.0 a.0 r.0 rs old v c.replay_and_raise.new.node new done r.2 _ f y refl claimed.some claimed.ascend k (1 + c.args.here.caller.node) w b;
         ready = ready t.0 a.0 r.0 rs old v c.replay_and_raise.new.node new done r.2 _ f y refl claimed.some claimed.ascend;
         stands = f.stands;
       },
@@ -88,9 +88,9 @@ returns-clause-goes c k after is now =
     let i = c.requires.claimed in
     let w = c.in-Some.held.value in
     let e = one_known c.args.seat.now i.0 k i.1 is in
-    let free = subst (λ z. IsFree c.args.caller z) e i.2.0 in
+    let free = subst (λ z. IsFree c.args.here.caller z) e i.2.0 in
     let t = c.in-Some.ensures.taken k is in
-    let b = took_replica k t.0 c.args.caller w free t.1 in
+    let b = took_replica k t.0 c.args.here.caller w free t.1 in
     let a = c.in-Some-try_append_and_copy.ensures.appended t.0 t.2 in
     let n = c.replica_mut-node.result.now in
     let v = c.try_append_and_copy.new.node in
@@ -113,7 +113,7 @@ returns-clause-goes c k after is now =
 pub returns-in_default-clause-stays : goal.returns-in_default-clause-stays
 returns-in_default-clause-stays c k is =
     let i = c.requires.claimed in
-    let free = subst (λ z. IsFree c.args.caller z) (one_known c.args.seat.now i.0 k i.1 is) i.2.0 in
+    let free = subst (λ z. IsFree c.args.here.caller z) (one_known c.args.seat.now i.0 k i.1 is) i.2.0 in
     (k, ap (λ z. z.sessions) c.in_default.ensures.taken ∙ is, still_self k free.held)
 
 -- ---- the log is held
@@ -124,7 +124,7 @@ put-requires-clause-may c =
     let w = c.in-Some.held.value in
     let n = c.try_append_and_copy.new.node in
     let t = c.in-Some.ensures.taken i.0 i.1 in
-    let b = took_replica i.0 t.0 c.args.caller w i.2.0 t.1 in
+    let b = took_replica i.0 t.0 c.args.here.caller w i.2.0 t.1 in
     let e = c.in_default-try_append_and_copy.ensures.stays in
     let is = ap (λ z. z.sessions) e.0 ∙ t.2 in
     let held = b.held ∙ ap (λ z. (z, w) ∷ []) (sym c.in-Some.ensures.place) in
@@ -136,13 +136,13 @@ returns-in_default-try_append_and_copy-clause-stays c k is0 =
     let i = c.requires.claimed in
     let w = c.in-Some.held.value in
     let n = c.try_append_and_copy.new.node in
-    let free = subst (λ z. IsFree c.args.caller z) (one_known c.args.seat.now i.0 k i.1 is0) i.2.0 in
+    let free = subst (λ z. IsFree c.args.here.caller z) (one_known c.args.seat.now i.0 k i.1 is0) i.2.0 in
     let t = c.in-Some.ensures.taken k is0 in
-    let b = took_replica k t.0 c.args.caller w free t.1 in
+    let b = took_replica k t.0 c.args.here.caller w free t.1 in
     let e = c.in_default-try_append_and_copy.ensures.stays in
     let is = ap (λ z. z.sessions) e.0 ∙ t.2 in
     let held = b.held ∙ ap (λ z. (z, w) ∷ []) (sym c.in-Some.ensures.place) in
     let agrees = subst (Agrees t.0.progress) (sym e.1) (b.agrees c.replica_mut-node.result.now c.replica_mut-node.ensures.replica) in
     let p = c.put.ensures.put t.0 is in
     let f = back t.0 w b.holds c.try_append_and_copy.new.seat.sessions is n agrees (low_enough t.0 n agrees b.stands) c.in-Some.held.place held p.0 p.1.0 p.1.1 in
-    (_, p.2, still_back (1 + c.args.caller.node) k t.0 _ w b f)
+    (_, p.2, still_back (1 + c.args.here.caller.node) k t.0 _ w b f)

@@ -16,25 +16,25 @@ use Rattle.store_steps.proofs.combining.try_hand_over.Goals as goal
 pub try_take-requires-clause-may : goal.try_take-requires-clause-may
 try_take-requires-clause-may c =
     let i = c.requires.ready in
-    (i.0, i.1, may_take_its_desk i.0 c.args.caller (1 + c.args.shared.nodes + c.args.caller.node) i.2.0 (ap (λ n. 1 + n + c.args.caller.node) (sym i.2.2.nodes_are)))
+    (i.0, i.1, may_take_its_desk i.0 c.args.here.caller (1 + c.args.here.shared.nodes + c.args.here.caller.node) i.2.0 (ap (λ n. 1 + n + c.args.here.caller.node) (sym i.2.2.nodes_are)))
 
 pub desk_mut-requires : goal.desk_mut-requires
 desk_mut-requires c =
     let i = c.requires.ready in
     let v = c.in-Some.held.value in
-    let place = 1 + c.args.shared.nodes + c.args.caller.node in
+    let place = 1 + c.args.here.shared.nodes + c.args.here.caller.node in
     let t = c.in-Some.ensures.taken i.0 i.1 in
-    let b = took_desk i.0 t.0 c.args.caller place v i.2.0 (ap (λ n. 1 + n + c.args.caller.node) (sym i.2.2.nodes_are)) t.1 in
-    record { desk = is_desk c.args.caller i.0 t.0 place v b }
+    let b = took_desk i.0 t.0 c.args.here.caller place v i.2.0 (ap (λ n. 1 + n + c.args.here.caller.node) (sym i.2.2.nodes_are)) t.1 in
+    record { desk = is_desk c.args.here.caller i.0 t.0 place v b }
 
 pub reply-requires : goal.reply-requires
 reply-requires c =
     let i = c.requires.ready in
     let v = c.in-Some.held.value in
-    let place = 1 + c.args.shared.nodes + c.args.caller.node in
+    let place = 1 + c.args.here.shared.nodes + c.args.here.caller.node in
     let t = c.in-Some.ensures.taken i.0 i.1 in
-    let b = took_desk i.0 t.0 c.args.caller place v i.2.0 (ap (λ n. 1 + n + c.args.caller.node) (sym i.2.2.nodes_are)) t.1 in
-    record { own = (t.0, c.args.caller.slot, is_at c.args.caller i.0 t.0 place v b c.desk_mut.result.now c.desk_mut.ensures.desk, ready_on i.0 t.0 c.args.batch.now c.args.replies.now b.here.notes b.note b.extends i.2.3 b.here.accounts i.2.1) }
+    let b = took_desk i.0 t.0 c.args.here.caller place v i.2.0 (ap (λ n. 1 + n + c.args.here.caller.node) (sym i.2.2.nodes_are)) t.1 in
+    record { own = (t.0, c.args.here.caller.slot, is_at c.args.here.caller i.0 t.0 place v b c.desk_mut.result.now c.desk_mut.ensures.desk, ready_on i.0 t.0 c.args.batch.now c.args.replies.now b.here.notes b.note b.extends i.2.3 b.here.accounts i.2.1) }
 
 pub put-requires-clause-may : goal.put-requires-clause-may
 put-requires-clause-may c =
@@ -42,29 +42,29 @@ put-requires-clause-may c =
     let v = c.in-Some.held.value in
     let x = c.desk_mut.result.now in
     let y = c.reply.new.desk in
-    let place = 1 + c.args.shared.nodes + c.args.caller.node in
+    let place = 1 + c.args.here.shared.nodes + c.args.here.caller.node in
     let t = c.in-Some.ensures.taken i.0 i.1 in
-    let b = took_desk i.0 t.0 c.args.caller place v i.2.0 (ap (λ n. 1 + n + c.args.caller.node) (sym i.2.2.nodes_are)) t.1 in
+    let b = took_desk i.0 t.0 c.args.here.caller place v i.2.0 (ap (λ n. 1 + n + c.args.here.caller.node) (sym i.2.2.nodes_are)) t.1 in
     let ready = ready_on i.0 t.0 c.args.batch.now c.args.replies.now b.here.notes b.note b.extends i.2.3 b.here.accounts i.2.1 in
-    let same = same_desk c.args.caller i.0 t.0 place v b x c.desk_mut.ensures.desk in
-    let puts = puts_replied c.args.caller i.0 t.0 place v c.args.batch.now c.args.replies.now b ready c.reply.new.batch x y same c.reply.ensures.answered c.reply.ensures.replied (with_desk v y) (desk_put v x y c.desk_mut.ensures.desk) c.try_take.new.seat.sessions t.2 _ c.in-Some.ensures.place in
+    let same = same_desk c.args.here.caller i.0 t.0 place v b x c.desk_mut.ensures.desk in
+    let puts = puts_replied c.args.here.caller i.0 t.0 place v c.args.batch.now c.args.replies.now b ready c.reply.new.batch x y same c.reply.ensures.answered c.reply.ensures.replied (with_desk v y) (desk_put v x y c.desk_mut.ensures.desk) c.try_take.new.seat.sessions t.2 _ c.in-Some.ensures.place in
     (t.0, t.2, puts.may)
 
 pub returns-clause-combined : goal.returns-clause-combined
 returns-clause-combined c k is =
     let i = c.requires.ready in
     let e = one_known c.args.seat.now i.0 k i.1 is in
-    let free = subst (λ z. IsFree c.args.caller z) e i.2.0 in
-    let on = subst (λ z. IsOnShelf c.args.shared.shelf.now.places c.args.shared.nodes c.args.shared.catalogue.now z) e i.2.2 in
+    let free = subst (λ z. IsFree c.args.here.caller z) e i.2.0 in
+    let on = subst (λ z. IsOnShelf c.args.here.shared.shelf.now.places c.args.here.shared.nodes c.args.here.shared.catalogue.now z) e i.2.2 in
     let v = c.in-Some.held.value in
     let x = c.desk_mut.result.now in
     let y = c.reply.new.desk in
-    let place = 1 + c.args.shared.nodes + c.args.caller.node in
+    let place = 1 + c.args.here.shared.nodes + c.args.here.caller.node in
     let t = c.in-Some.ensures.taken k is in
-    let b = took_desk k t.0 c.args.caller place v free (ap (λ n. 1 + n + c.args.caller.node) (sym on.nodes_are)) t.1 in
+    let b = took_desk k t.0 c.args.here.caller place v free (ap (λ n. 1 + n + c.args.here.caller.node) (sym on.nodes_are)) t.1 in
     let ready = ready_on k t.0 c.args.batch.now c.args.replies.now b.here.notes b.note b.extends (subst (λ z. Stands z) e i.2.3) b.here.accounts (subst (λ z. IsReady z c.args.batch.now c.args.replies.now) e i.2.1) in
-    let same = same_desk c.args.caller k t.0 place v b x c.desk_mut.ensures.desk in
-    let puts = puts_replied c.args.caller k t.0 place v c.args.batch.now c.args.replies.now b ready c.reply.new.batch x y same c.reply.ensures.answered c.reply.ensures.replied (with_desk v y) (desk_put v x y c.desk_mut.ensures.desk) c.try_take.new.seat.sessions t.2 c.in-Some.held.place c.in-Some.ensures.place in
+    let same = same_desk c.args.here.caller k t.0 place v b x c.desk_mut.ensures.desk in
+    let puts = puts_replied c.args.here.caller k t.0 place v c.args.batch.now c.args.replies.now b ready c.reply.new.batch x y same c.reply.ensures.answered c.reply.ensures.replied (with_desk v y) (desk_put v x y c.desk_mut.ensures.desk) c.try_take.new.seat.sessions t.2 c.in-Some.held.place c.in-Some.ensures.place in
     let p = c.put.ensures.put t.0 t.2 in
     (_, p.2, handed k t.0 _ b.note (puts.back p.0 p.1.0 p.1.1))
 
@@ -72,21 +72,21 @@ pub returns-clause-handed : goal.returns-clause-handed
 returns-clause-handed c k after is now log node log_is agrees =
     let i = c.requires.ready in
     let e = one_known c.args.seat.now i.0 k i.1 is in
-    let free = subst (λ z. IsFree c.args.caller z) e i.2.0 in
-    let on = subst (λ z. IsOnShelf c.args.shared.shelf.now.places c.args.shared.nodes c.args.shared.catalogue.now z) e i.2.2 in
+    let free = subst (λ z. IsFree c.args.here.caller z) e i.2.0 in
+    let on = subst (λ z. IsOnShelf c.args.here.shared.shelf.now.places c.args.here.shared.nodes c.args.here.shared.catalogue.now z) e i.2.2 in
     let v = c.in-Some.held.value in
     let x = c.desk_mut.result.now in
     let y = c.reply.new.desk in
-    let place = 1 + c.args.shared.nodes + c.args.caller.node in
+    let place = 1 + c.args.here.shared.nodes + c.args.here.caller.node in
     let t = c.in-Some.ensures.taken k is in
-    let b = took_desk k t.0 c.args.caller place v free (ap (λ n. 1 + n + c.args.caller.node) (sym on.nodes_are)) t.1 in
+    let b = took_desk k t.0 c.args.here.caller place v free (ap (λ n. 1 + n + c.args.here.caller.node) (sym on.nodes_are)) t.1 in
     let ready = ready_on k t.0 c.args.batch.now c.args.replies.now b.here.notes b.note b.extends (subst (λ z. Stands z) e i.2.3) b.here.accounts (subst (λ z. IsReady z c.args.batch.now c.args.replies.now) e i.2.1) in
-    let same = same_desk c.args.caller k t.0 place v b x c.desk_mut.ensures.desk in
-    let puts = puts_replied c.args.caller k t.0 place v c.args.batch.now c.args.replies.now b ready c.reply.new.batch x y same c.reply.ensures.answered c.reply.ensures.replied (with_desk v y) (desk_put v x y c.desk_mut.ensures.desk) c.try_take.new.seat.sessions t.2 c.in-Some.held.place c.in-Some.ensures.place in
+    let same = same_desk c.args.here.caller k t.0 place v b x c.desk_mut.ensures.desk in
+    let puts = puts_replied c.args.here.caller k t.0 place v c.args.batch.now c.args.replies.now b ready c.reply.new.batch x y same c.reply.ensures.answered c.reply.ensures.replied (with_desk v y) (desk_put v x y c.desk_mut.ensures.desk) c.try_take.new.seat.sessions t.2 c.in-Some.held.place c.in-Some.ensures.place in
     let p = c.put.ensures.put t.0 t.2 in
-    let at = is_at c.args.caller k t.0 place v b x c.desk_mut.ensures.desk in
+    let at = is_at c.args.here.caller k t.0 place v b x c.desk_mut.ensures.desk in
     let f = handed k t.0 _ b.note (puts.back p.0 p.1.0 p.1.1) in
     subst (λ z. HandsOver k z log node c.args.batch.now c.args.replies.now) (one_known c.put.new.seat _ after p.2 now)
     (hands_over k _ log node c.args.batch.now c.args.replies.now x log_is agrees f.extends f.stands.accounts.completed
-    (subst (λ (z : Config × ℕ). IsSessionOf z.0 x.node z.1) (λ j. (sym b.extends.config j, b.session j)) (c.args.caller.slot, at.within, at.own, at.near))
-    (is_batch t.0 c.args.batch.now c.args.replies.now ready c.args.caller.slot x at))
+    (subst (λ (z : Config × ℕ). IsSessionOf z.0 x.node z.1) (λ j. (sym b.extends.config j, b.session j)) (c.args.here.caller.slot, at.within, at.own, at.near))
+    (is_batch t.0 c.args.batch.now c.args.replies.now ready c.args.here.caller.slot x at))

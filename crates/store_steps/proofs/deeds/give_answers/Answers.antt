@@ -8,18 +8,18 @@ use Rattle.store_steps.proofs.deeds.give_answers.Goals as goal
 pub try_hand_over-requires-clause-ready : goal.try_hand_over-requires-clause-ready
 try_hand_over-requires-clause-ready c =
     let v = c.requires.polled in
-    (v.0, v.2.is, (v.2.free, v.3, on_known c.args.shared c.args.seat.now v.0 v.2.is c.requires.on, v.4))
+    (v.0, v.2.is, (v.2.free, v.3, on_known c.args.here.shared c.args.seat.now v.0 v.2.is c.requires.on, v.4))
 
 pub returns-in_default-clause-gone : goal.returns-in_default-clause-gone
 returns-in_default-clause-gone c =
     let v = c.requires.polled in
     let e = c.in_default.ensures.stays in
-    subst (λ z. HasGone c.args.seat.now c.try_hand_over.new.seat c.args.caller z c.args.replies.now c.args.stage.now Busy) (sym e.1)
-    (subst (λ z. HasGone c.args.seat.now c.try_hand_over.new.seat c.args.caller c.args.batch.now c.args.replies.now z Busy) (sym c.requires.ready)
-    (stays_gone c.args.seat.now c.try_hand_over.new.seat c.args.caller c.args.batch.now c.args.replies.now v.0 v.1 v.2 e.0 Ready v))
+    subst (λ z. HasGone c.args.seat.now c.try_hand_over.new.seat c.args.here.caller z c.args.replies.now c.args.stage.now Busy) (sym e.1)
+    (subst (λ z. HasGone c.args.seat.now c.try_hand_over.new.seat c.args.here.caller c.args.batch.now c.args.replies.now z Busy) (sym c.requires.ready)
+    (stays_gone c.args.seat.now c.try_hand_over.new.seat c.args.here.caller c.args.batch.now c.args.replies.now v.0 v.1 v.2 e.0 Ready v))
 
 pub returns-clause-gone : goal.returns-clause-gone
 returns-clause-gone c =
     let v = c.requires.polled in
     let t = c.in-Some.ensures.combined v.0 v.2.is in
-    gave_gone c.args.seat.now c.try_hand_over.new.seat c.args.caller c.try_hand_over.new.batch c.args.replies.now v.0 v.1 v.2 t.0 t.1 t.2
+    gave_gone c.args.seat.now c.try_hand_over.new.seat c.args.here.caller c.try_hand_over.new.batch c.args.replies.now v.0 v.1 v.2 t.0 t.1 t.2

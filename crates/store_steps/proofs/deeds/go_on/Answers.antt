@@ -6,13 +6,13 @@ pub unreachable-requires : goal.unreachable-requires
 unreachable-requires c = subst IsOut c.in-Idle.is c.requires.out
 
 pub take_turn-requires-clause-polled : goal.take_turn-requires-clause-polled
-take_turn-requires-clause-polled c = subst (λ z. IsPolled c.args.seat.now c.args.caller c.args.batch.now c.args.replies.now z) c.in-Asked.is c.requires.polled
+take_turn-requires-clause-polled c = subst (λ z. IsPolled c.args.seat.now c.args.here.caller c.args.batch.now c.args.replies.now z) c.in-Asked.is c.requires.polled
 
 pub run_claimed-requires-clause-polled : goal.run_claimed-requires-clause-polled
-run_claimed-requires-clause-polled c = subst (λ z. IsPolled c.args.seat.now c.args.caller c.args.batch.now c.args.replies.now z) c.in-Claimed.is c.requires.polled
+run_claimed-requires-clause-polled c = subst (λ z. IsPolled c.args.seat.now c.args.here.caller c.args.batch.now c.args.replies.now z) c.in-Claimed.is c.requires.polled
 
 pub give_answers-requires-clause-polled : goal.give_answers-requires-clause-polled
-give_answers-requires-clause-polled c = subst (λ z. IsPolled c.args.seat.now c.args.caller c.args.batch.now c.args.replies.now z) c.in-Ready.is c.requires.polled
+give_answers-requires-clause-polled c = subst (λ z. IsPolled c.args.seat.now c.args.here.caller c.args.batch.now c.args.replies.now z) c.in-Ready.is c.requires.polled
 
 pub returns-in-Asked-clause-gone : goal.returns-in-Asked-clause-gone
 returns-in-Asked-clause-gone c = c.take_turn.ensures.gone c.args.replies.now

@@ -10,7 +10,7 @@ loop-init g c = (
   refl,
   λ k is.
       let i = c.requires.idle in
-      let free = subst (λ z. IsFree c.args.caller z) (one_known c.args.seat.now i.0 k i.1 is) i.2.0 in
+      let free = subst (λ z. IsFree c.args.here.caller z) (one_known c.args.seat.now i.0 k i.1 is) i.2.0 in
       (k, is, still_self k free.held),
   refl,
 )
@@ -19,7 +19,7 @@ pub try_read_each-requires-clause-idle : goal.try_read_each-requires-clause-idle
 try_read_each-requires-clause-idle g c =
     let i = c.requires.idle in
     let m = c.loop.invariant.1 i.0 i.1 in
-    (m.0, m.1, (free_on c.args.caller i.0 m.0 m.2.session m.2.held m.2.extends i.2.0, shelf_on _ _ _ i.0 m.0 m.2.extends i.2.1))
+    (m.0, m.1, (free_on c.args.here.caller i.0 m.0 m.2.session m.2.held m.2.extends i.2.0, shelf_on _ _ _ i.0 m.0 m.2.extends i.2.1))
 
 pub returns-in-Ok-clause-read : goal.returns-in-Ok-clause-read
 returns-in-Ok-clause-read g c k is =

@@ -13,7 +13,7 @@ pub turn-requires-clause-asked : goal.turn-requires-clause-asked
 turn-requires-clause-asked g c =
     let i = c.requires.asked in
     let m = c.loop.invariant.1 i.0 i.2 in
-    (m.0, i.1, m.1, free_then c.args.caller i.0 m.0 i.3 m.2, asked_by i.0 m.0 i.1 m.2.note i.4, shelf_then _ _ _ i.0 m.0 m.2.extends i.5)
+    (m.0, i.1, m.1, free_then c.args.here.caller i.0 m.0 i.3 m.2, asked_by i.0 m.0 i.1 m.2.note i.4, shelf_then _ _ _ i.0 m.0 m.2.extends i.5)
 
 pub returns-in-Collects-clause-completed : goal.returns-in-Collects-clause-completed
 returns-in-Collects-clause-completed g c k o is asked =
@@ -27,8 +27,8 @@ combine-requires-clause-claimed g c =
     let m = c.loop.invariant.1 i.0 i.2 in
     let t = c.turn.ensures.turned m.0 i.1 m.1 (asked_by i.0 m.0 i.1 m.2.note i.4) in
     let h = subst (λ z. HasTurned m.0 t.0 i.1 c.turn.new.batch z) c.in-Combines.is t.2 in
-    let free = free_then c.args.caller i.0 m.0 i.3 m.2 in
-    (t.0, t.1, (free_back c.args.caller m.0 t.0 free h.back, has_claimed m.0 t.0 i.1 c.turn.new.batch h, shelf_then _ _ _ m.0 t.0 h.back.extends (shelf_then _ _ _ i.0 m.0 m.2.extends i.5)))
+    let free = free_then c.args.here.caller i.0 m.0 i.3 m.2 in
+    (t.0, t.1, (free_back c.args.here.caller m.0 t.0 free h.back, has_claimed m.0 t.0 i.1 c.turn.new.batch h, shelf_then _ _ _ m.0 t.0 h.back.extends (shelf_then _ _ _ i.0 m.0 m.2.extends i.5)))
 
 pub loop-preserved-in-Combines : goal.loop-preserved-in-Combines
 loop-preserved-in-Combines g c = (
@@ -40,7 +40,7 @@ loop-preserved-in-Combines g c = (
       let m = c.loop.invariant.1 k is in
       let t = c.turn.ensures.turned m.0 i.1 m.1 (asked_by k m.0 i.1 m.2.note asked) in
       let n = c.combine.ensures.combined t.0 t.1 in
-      (n.0, n.1, resumed_combined c.args.caller k m.0 t.0 n.0 i.1 c.turn.new.batch (subst (λ z. IsFree c.args.caller z) e i.3) asked m.2 (subst (λ z. HasTurned m.0 t.0 i.1 c.turn.new.batch z) c.in-Combines.is t.2) n.2),
+      (n.0, n.1, resumed_combined c.args.here.caller k m.0 t.0 n.0 i.1 c.turn.new.batch (subst (λ z. IsFree c.args.here.caller z) e i.3) asked m.2 (subst (λ z. HasTurned m.0 t.0 i.1 c.turn.new.batch z) c.in-Combines.is t.2) n.2),
 )
 
 pub loop-preserved : goal.loop-preserved
@@ -52,5 +52,5 @@ loop-preserved g c = (
       let asked = subst (λ z. HasAsked z i.1) e i.4 in
       let m = c.loop.invariant.1 k is in
       let t = c.turn.ensures.turned m.0 i.1 m.1 (asked_by k m.0 i.1 m.2.note asked) in
-      (t.0, t.1, resumed_waited c.args.caller k m.0 t.0 i.1 c.turn.new.batch (subst (λ z. IsFree c.args.caller z) e i.3) m.2 (subst (λ z. HasTurned m.0 t.0 i.1 c.turn.new.batch z) c.in-Waits.is t.2)),
+      (t.0, t.1, resumed_waited c.args.here.caller k m.0 t.0 i.1 c.turn.new.batch (subst (λ z. IsFree c.args.here.caller z) e i.3) m.2 (subst (λ z. HasTurned m.0 t.0 i.1 c.turn.new.batch z) c.in-Waits.is t.2)),
 )

@@ -13,26 +13,26 @@ use Rattle.store_steps.proofs.requests.try_post.Goals as goal
 pub try_take-requires-clause-may : goal.try_take-requires-clause-may
 try_take-requires-clause-may c =
     let i = c.requires.idle in
-    (i.0, i.1, may_take_its_desk i.0 c.args.caller (1 + c.args.shared.nodes + c.args.caller.node) i.2 (ap (λ n. 1 + n + c.args.caller.node) (sym i.4.nodes_are)))
+    (i.0, i.1, may_take_its_desk i.0 c.args.here.caller (1 + c.args.here.shared.nodes + c.args.here.caller.node) i.2 (ap (λ n. 1 + n + c.args.here.caller.node) (sym i.4.nodes_are)))
 
 pub desk_mut-requires : goal.desk_mut-requires
 desk_mut-requires c =
     let i = c.requires.idle in
     let v = c.in-Some.held.value in
-    let place = 1 + c.args.shared.nodes + c.args.caller.node in
+    let place = 1 + c.args.here.shared.nodes + c.args.here.caller.node in
     let t = c.in-Some.ensures.taken i.0 i.1 in
-    let b = took_desk i.0 t.0 c.args.caller place v i.2 (ap (λ n. 1 + n + c.args.caller.node) (sym i.4.nodes_are)) t.1 in
-    record { desk = is_desk c.args.caller i.0 t.0 place v b }
+    let b = took_desk i.0 t.0 c.args.here.caller place v i.2 (ap (λ n. 1 + n + c.args.here.caller.node) (sym i.4.nodes_are)) t.1 in
+    record { desk = is_desk c.args.here.caller i.0 t.0 place v b }
 
 pub post-requires : goal.post-requires
 post-requires c =
     let i = c.requires.idle in
     let v = c.in-Some.held.value in
-    let place = 1 + c.args.shared.nodes + c.args.caller.node in
+    let place = 1 + c.args.here.shared.nodes + c.args.here.caller.node in
     let t = c.in-Some.ensures.taken i.0 i.1 in
-    let b = took_desk i.0 t.0 c.args.caller place v i.2 (ap (λ n. 1 + n + c.args.caller.node) (sym i.4.nodes_are)) t.1 in
+    let b = took_desk i.0 t.0 c.args.here.caller place v i.2 (ap (λ n. 1 + n + c.args.here.caller.node) (sym i.4.nodes_are)) t.1 in
     let may = subst (λ z. IsAllowed store_meaning z c.args.op.now) (sym i.4.catalogue_is) c.requires.update in
-    record { own = (t.0, is_at c.args.caller i.0 t.0 place v b c.desk_mut.result.now c.desk_mut.ensures.desk, ap (λ n. n.pending) b.note ∙ i.3, subst (λ z. IsAllowed store_meaning z c.args.op.now) b.extends.catalogue may) }
+    record { own = (t.0, is_at c.args.here.caller i.0 t.0 place v b c.desk_mut.result.now c.desk_mut.ensures.desk, ap (λ n. n.pending) b.note ∙ i.3, subst (λ z. IsAllowed store_meaning z c.args.op.now) b.extends.catalogue may) }
 
 pub put-requires-clause-may : goal.put-requires-clause-may
 put-requires-clause-may c =
@@ -40,30 +40,30 @@ put-requires-clause-may c =
     let v = c.in-Some.held.value in
     let x = c.desk_mut.result.now in
     let y = c.post.new.desk in
-    let place = 1 + c.args.shared.nodes + c.args.caller.node in
+    let place = 1 + c.args.here.shared.nodes + c.args.here.caller.node in
     let t = c.in-Some.ensures.taken i.0 i.1 in
-    let b = took_desk i.0 t.0 c.args.caller place v i.2 (ap (λ n. 1 + n + c.args.caller.node) (sym i.4.nodes_are)) t.1 in
+    let b = took_desk i.0 t.0 c.args.here.caller place v i.2 (ap (λ n. 1 + n + c.args.here.caller.node) (sym i.4.nodes_are)) t.1 in
     let may = subst (λ z. IsAllowed store_meaning z c.args.op.now) (sym i.4.catalogue_is) c.requires.update in
-    let there = ap (posted c.args.caller.slot c.args.op.now) (same_desk c.args.caller i.0 t.0 place v b x c.desk_mut.ensures.desk) ∙ c.post.ensures.posted in
-    let puts = puts_posted c.args.caller i.0 t.0 place v c.args.op.now b (with_desk v y) y (desk_put v x y c.desk_mut.ensures.desk) there c.try_take.new.seat.sessions t.2 may _ c.in-Some.ensures.place in
+    let there = ap (posted c.args.here.caller.slot c.args.op.now) (same_desk c.args.here.caller i.0 t.0 place v b x c.desk_mut.ensures.desk) ∙ c.post.ensures.posted in
+    let puts = puts_posted c.args.here.caller i.0 t.0 place v c.args.op.now b (with_desk v y) y (desk_put v x y c.desk_mut.ensures.desk) there c.try_take.new.seat.sessions t.2 may _ c.in-Some.ensures.place in
     (t.0, t.2, puts.may)
 
 pub returns-clause-posted : goal.returns-clause-posted
 returns-clause-posted c k is =
     let i = c.requires.idle in
     let e = one_known c.args.seat.now i.0 k i.1 is in
-    let free = subst (λ z. IsFree c.args.caller z) e i.2 in
-    let on = subst (λ z. IsOnShelf c.args.shared.shelf.now.places c.args.shared.nodes c.args.shared.catalogue.now z) e i.4 in
+    let free = subst (λ z. IsFree c.args.here.caller z) e i.2 in
+    let on = subst (λ z. IsOnShelf c.args.here.shared.shelf.now.places c.args.here.shared.nodes c.args.here.shared.catalogue.now z) e i.4 in
     let v = c.in-Some.held.value in
     let x = c.desk_mut.result.now in
     let y = c.post.new.desk in
-    let place = 1 + c.args.shared.nodes + c.args.caller.node in
+    let place = 1 + c.args.here.shared.nodes + c.args.here.caller.node in
     let t = c.in-Some.ensures.taken k is in
-    let b = took_desk k t.0 c.args.caller place v free (ap (λ n. 1 + n + c.args.caller.node) (sym on.nodes_are)) t.1 in
+    let b = took_desk k t.0 c.args.here.caller place v free (ap (λ n. 1 + n + c.args.here.caller.node) (sym on.nodes_are)) t.1 in
     let may = subst (λ z. IsAllowed store_meaning z c.args.op.now) (sym on.catalogue_is) c.requires.update in
-    let there = ap (posted c.args.caller.slot c.args.op.now) (same_desk c.args.caller k t.0 place v b x c.desk_mut.ensures.desk) ∙ c.post.ensures.posted in
+    let there = ap (posted c.args.here.caller.slot c.args.op.now) (same_desk c.args.here.caller k t.0 place v b x c.desk_mut.ensures.desk) ∙ c.post.ensures.posted in
     let w = with_desk v y in
     let isw = desk_put v x y c.desk_mut.ensures.desk in
-    let puts = puts_posted c.args.caller k t.0 place v c.args.op.now b w y isw there c.try_take.new.seat.sessions t.2 may c.in-Some.held.place c.in-Some.ensures.place in
+    let puts = puts_posted c.args.here.caller k t.0 place v c.args.op.now b w y isw there c.try_take.new.seat.sessions t.2 may c.in-Some.held.place c.in-Some.ensures.place in
     let p = c.put.ensures.put t.0 t.2 in
-    (_, p.2, has_posted c.args.caller k t.0 place v c.args.op.now b w y isw there c.try_take.new.seat.sessions t.2 may _ (puts.back p.0 p.1.0 p.1.1))
+    (_, p.2, has_posted c.args.here.caller k t.0 place v c.args.op.now b w y isw there c.try_take.new.seat.sessions t.2 may _ (puts.back p.0 p.1.0 p.1.1))

@@ -9,7 +9,7 @@ put-requires-clause-may c =
     let i = c.requires.idle in
     let v = c.in_ok-held.held.value in
     let r = c.in_ok-held.ensures.ready i.0 i.1 in
-    (r.0, r.1, may_put_ready i.0 r.0 (1 + c.args.caller.node) v r.2 c.try_hold_ready.new.seat.sessions r.1 v r.2.is _ c.in_ok-held.ensures.place)
+    (r.0, r.1, may_put_ready i.0 r.0 (1 + c.args.here.caller.node) v r.2 c.try_hold_ready.new.seat.sessions r.1 v r.2.is _ c.in_ok-held.ensures.place)
 
 pub returns-clause-scanned : goal.returns-clause-scanned
 returns-clause-scanned c k is =
@@ -17,10 +17,10 @@ returns-clause-scanned c k is =
     let n = c.replica.result.now in
     let r = c.in_ok-held.ensures.ready k is in
     let p = c.put.ensures.put r.0 r.1 in
-    let b = ready_back k r.0 (1 + c.args.caller.node) v r.2 c.try_hold_ready.new.seat.sessions r.1 v r.2.is _ c.in_ok-held.ensures.place p.0 p.1.0 p.1.1 in (
+    let b = ready_back k r.0 (1 + c.args.here.caller.node) v r.2 c.try_hold_ready.new.seat.sessions r.1 v r.2.is _ c.in_ok-held.ensures.place p.0 p.1.0 p.1.1 in (
       _,
       p.2,
-      scanned_ready k r.0 (1 + c.args.caller.node) v r.2 _ b c.args.begin.map c.args.begin.from _ _ c.scan_there-scan.new.keys c.scan_there-scan.new.values c.scan_there-scan.result n (node_is k r.0 (1 + c.args.caller.node) v r.2 n c.replica.ensures.replica)
+      scanned_ready k r.0 (1 + c.args.here.caller.node) v r.2 _ b c.args.begin.map c.args.begin.from _ _ c.scan_there-scan.new.keys c.scan_there-scan.new.values c.scan_there-scan.result n (node_is k r.0 (1 + c.args.here.caller.node) v r.2 n c.replica.ensures.replica)
           c.scan_there-scan.ensures.point c.scan_there-scan.ensures.gives,
     )
 
@@ -30,7 +30,7 @@ returns-clause-goes c k after is now =
     let n = c.replica.result.now in
     let r = c.in_ok-held.ensures.ready k is in
     let p = c.put.ensures.put r.0 r.1 in
-    let b = ready_back k r.0 (1 + c.args.caller.node) v r.2 c.try_hold_ready.new.seat.sessions r.1 v r.2.is _ c.in_ok-held.ensures.place p.0 p.1.0 p.1.1 in
+    let b = ready_back k r.0 (1 + c.args.here.caller.node) v r.2 c.try_hold_ready.new.seat.sessions r.1 v r.2.is _ c.in_ok-held.ensures.place p.0 p.1.0 p.1.1 in
     subst (λ z. ScansBy k z c.args.begin.map c.args.begin.from (length c.args.keys.now) (length c.args.values.now) c.scan_there-scan.new.keys c.scan_there-scan.new.values c.scan_there-scan.result) (one_known c.put.new.seat _ after p.2 now)
-    (scans_ready k r.0 (1 + c.args.caller.node) v r.2 _ b c.args.begin.map c.args.begin.from _ _ c.scan_there-scan.new.keys c.scan_there-scan.new.values c.scan_there-scan.result n (node_is k r.0 (1 + c.args.caller.node) v r.2 n c.replica.ensures.replica)
+    (scans_ready k r.0 (1 + c.args.here.caller.node) v r.2 _ b c.args.begin.map c.args.begin.from _ _ c.scan_there-scan.new.keys c.scan_there-scan.new.values c.scan_there-scan.result n (node_is k r.0 (1 + c.args.here.caller.node) v r.2 n c.replica.ensures.replica)
     c.scan_there-scan.ensures.point c.scan_there-scan.ensures.gives)

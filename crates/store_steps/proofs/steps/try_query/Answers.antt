@@ -10,22 +10,22 @@ put-requires-clause-may c =
     let i = c.requires.idle in
     let v = c.in_ok-held.held.value in
     let r = c.in_ok-held.ensures.ready i.0 i.1 in
-    let same = lent_back i.0 r.0 (1 + c.args.caller.node) v r.2 c.replica_mut-node.result.now c.answer_there-answer.new.node c.replica_mut-node.ensures.replica c.answer_there-answer.ensures.same in
-    (r.0, r.1, may_put_ready i.0 r.0 (1 + c.args.caller.node) v r.2 c.try_hold_ready.new.seat.sessions r.1 _ same _ c.in_ok-held.ensures.place)
+    let same = lent_back i.0 r.0 (1 + c.args.here.caller.node) v r.2 c.replica_mut-node.result.now c.answer_there-answer.new.node c.replica_mut-node.ensures.replica c.answer_there-answer.ensures.same in
+    (r.0, r.1, may_put_ready i.0 r.0 (1 + c.args.here.caller.node) v r.2 c.try_hold_ready.new.seat.sessions r.1 _ same _ c.in_ok-held.ensures.place)
 
 pub returns-clause-read : goal.returns-clause-read
 returns-clause-read c k is =
     let i = c.requires.idle in
     let v = c.in_ok-held.held.value in
     let n = c.replica_mut-node.result.now in
-    let catalogue = subst (λ z. z.progress.catalogue ≡ c.args.shared.catalogue.now) (one_known c.args.seat.now i.0 k i.1 is) i.2.1.catalogue_is in
+    let catalogue = subst (λ z. z.progress.catalogue ≡ c.args.here.shared.catalogue.now) (one_known c.args.seat.now i.0 k i.1 is) i.2.1.catalogue_is in
     let r = c.in_ok-held.ensures.ready k is in
-    let same = lent_back k r.0 (1 + c.args.caller.node) v r.2 n c.answer_there-answer.new.node c.replica_mut-node.ensures.replica c.answer_there-answer.ensures.same in
+    let same = lent_back k r.0 (1 + c.args.here.caller.node) v r.2 n c.answer_there-answer.new.node c.replica_mut-node.ensures.replica c.answer_there-answer.ensures.same in
     let p = c.put.ensures.put r.0 r.1 in
-    let b = ready_back k r.0 (1 + c.args.caller.node) v r.2 c.try_hold_ready.new.seat.sessions r.1 _ same _ c.in_ok-held.ensures.place p.0 p.1.0 p.1.1 in (
+    let b = ready_back k r.0 (1 + c.args.here.caller.node) v r.2 c.try_hold_ready.new.seat.sessions r.1 _ same _ c.in_ok-held.ensures.place p.0 p.1.0 p.1.1 in (
       _,
       p.2,
-      read_ready k r.0 (1 + c.args.caller.node) v r.2 _ b (asked_op c.args.question) c.answer_there-answer.result c.args.shared.catalogue.now catalogue n (node_is k r.0 (1 + c.args.caller.node) v r.2 n c.replica_mut-node.ensures.replica)
+      read_ready k r.0 (1 + c.args.here.caller.node) v r.2 _ b (asked_op c.args.question) c.answer_there-answer.result c.args.here.shared.catalogue.now catalogue n (node_is k r.0 (1 + c.args.here.caller.node) v r.2 n c.replica_mut-node.ensures.replica)
           c.answer_there-answer.ensures.point c.answer_there-answer.ensures.reply,
     )
 
@@ -34,11 +34,11 @@ returns-clause-goes c k after is now =
     let i = c.requires.idle in
     let v = c.in_ok-held.held.value in
     let n = c.replica_mut-node.result.now in
-    let catalogue = subst (λ z. z.progress.catalogue ≡ c.args.shared.catalogue.now) (one_known c.args.seat.now i.0 k i.1 is) i.2.1.catalogue_is in
+    let catalogue = subst (λ z. z.progress.catalogue ≡ c.args.here.shared.catalogue.now) (one_known c.args.seat.now i.0 k i.1 is) i.2.1.catalogue_is in
     let r = c.in_ok-held.ensures.ready k is in
-    let same = lent_back k r.0 (1 + c.args.caller.node) v r.2 n c.answer_there-answer.new.node c.replica_mut-node.ensures.replica c.answer_there-answer.ensures.same in
+    let same = lent_back k r.0 (1 + c.args.here.caller.node) v r.2 n c.answer_there-answer.new.node c.replica_mut-node.ensures.replica c.answer_there-answer.ensures.same in
     let p = c.put.ensures.put r.0 r.1 in
-    let b = ready_back k r.0 (1 + c.args.caller.node) v r.2 c.try_hold_ready.new.seat.sessions r.1 _ same _ c.in_ok-held.ensures.place p.0 p.1.0 p.1.1 in
+    let b = ready_back k r.0 (1 + c.args.here.caller.node) v r.2 c.try_hold_ready.new.seat.sessions r.1 _ same _ c.in_ok-held.ensures.place p.0 p.1.0 p.1.1 in
     subst (λ z. ReadsBy k z (asked_op c.args.question) c.answer_there-answer.result) (one_known c.put.new.seat _ after p.2 now)
-    (reads_ready k r.0 (1 + c.args.caller.node) v r.2 _ b (asked_op c.args.question) c.answer_there-answer.result c.args.shared.catalogue.now catalogue n (node_is k r.0 (1 + c.args.caller.node) v r.2 n c.replica_mut-node.ensures.replica)
+    (reads_ready k r.0 (1 + c.args.here.caller.node) v r.2 _ b (asked_op c.args.question) c.answer_there-answer.result c.args.here.shared.catalogue.now catalogue n (node_is k r.0 (1 + c.args.here.caller.node) v r.2 n c.replica_mut-node.ensures.replica)
     c.answer_there-answer.ensures.point c.answer_there-answer.ensures.reply)

@@ -13,8 +13,8 @@ returns-clause-told g c none =
     let keys = c.scan_waiting.new.keys in
     let values = c.scan_waiting.new.values in
     let t = c.scan_waiting.ensures.scanned k c.self.invariant.0.is in
-    subst (λ l. ScanGives l c.args.self.now.progress.completed c.args.map c.args.from (length c.args.keys.now) (length c.args.values.now) keys values c.scan_waiting.result) (ap (λ z. (first_in z).progress) (sym t.1))
-    (subst (λ n. ScanGives t.0.progress n c.args.map c.args.from (length c.args.keys.now) (length c.args.values.now) keys values c.scan_waiting.result) (ap (λ (z : SessionView). z.progress.completed) (sym was)) t.2.1)
+    subst (λ l. ScanGives l c.args.self.now.progress.completed c.args.begin.map c.args.begin.from (length c.args.keys.now) (length c.args.values.now) keys values c.scan_waiting.result) (ap (λ z. (first_in z).progress) (sym t.1))
+    (subst (λ n. ScanGives t.0.progress n c.args.begin.map c.args.begin.from (length c.args.keys.now) (length c.args.values.now) keys values c.scan_waiting.result) (ap (λ (z : SessionView). z.progress.completed) (sym was)) t.2.1)
 
 pub returns-clause-goes : goal.returns-clause-goes
 returns-clause-goes g c none =
@@ -22,5 +22,5 @@ returns-clause-goes g c none =
     let keys = c.scan_waiting.new.keys in
     let values = c.scan_waiting.new.values in
     let t = c.scan_waiting.ensures.scanned i.known i.is in
-    goes_seen (λ k f. ScansBy k f c.args.map c.args.from (length c.args.keys.now) (length c.args.values.now) keys values c.scan_waiting.result) c.self.inside.seat c.scan_waiting.new.seat c.args.self.now i.known t.0 i.is i.free.held c.self.view_is t.1 t.2.0.held
+    goes_seen (λ k f. ScansBy k f c.args.begin.map c.args.begin.from (length c.args.keys.now) (length c.args.values.now) keys values c.scan_waiting.result) c.self.inside.seat c.scan_waiting.new.seat c.args.self.now i.known t.0 i.is i.free.held c.self.view_is t.1 t.2.0.held
     (c.scan_waiting.ensures.goes i.known t.0 i.is t.1)
