@@ -4,7 +4,7 @@
 pub const ABOUT: &str = "A store of maps whose operations are eBPF programs";
 
 /// The day of the newest change that a user notices (CHANGELOG).
-pub const VERSION: &str = "2026-11-25";
+pub const VERSION: &str = "2026-11-26";
 
 /// What stands behind the list of commands.
 pub const AFTER: &str = "\
