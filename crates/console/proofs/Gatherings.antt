@@ -1,5 +1,5 @@
 -- All that was read, one after another.
-use Rattle.std.proofs.Common.{◌≡◌, ℕ, true, false, List, [], ◌∷◌, Option, Some, None, Ok, string_bytes, refl, sym, ap, subst, ◌∙◌}
+use Rattle.std.proofs.Common.{◌≡◌, ℕ, true, List, [], ◌∷◌, Option, Some, None, Ok, string_bytes, refl, sym, ap, subst, ◌∙◌}
 use Rattle.std.specs.Prelude.{IfSome, String, codes}
 use Rattle.std.specs.Option.{option_or}
 use Rattle.std.proofs.lemmas.List.Folds.{find-append}

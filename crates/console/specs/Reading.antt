@@ -1,5 +1,5 @@
 -- What a command reads, and what it has read then.
-use Rattle.std.specs.Prelude.{◌≡◌, ◌⊎◌, ℕ, Bool, not, List, [], ◌∷◌, ◌++◌, map, codes, Option, Some, None, Result, Ok, Err, IfSome, string_bytes}
+use Rattle.std.specs.Prelude.{◌⊎◌, ℕ, Bool, not, List, [], ◌∷◌, ◌++◌, map, codes, Option, Some, None, Result, Ok, Err, IfSome, string_bytes}
 use Rattle.std.specs.List.{find}
 use Rattle.loader.specs.NamedFiles.{named_in}
 use Rattle.loader.specs.ProgramFiles.{Files}
