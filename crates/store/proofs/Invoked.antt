@@ -18,9 +18,8 @@ use Rattle.store_steps.specs.declared.steps.Caller.{Caller}
 use Rattle.store_steps.specs.declared.values.Value.{Value}
 use Rattle.store_steps.specs.AtDesk.{HasAsked}
 use Rattle.store_steps.specs.Requests.{HasCompleted, HasPosted}
-use Rattle.store.specs.Sessions.{said}
+use Rattle.store.specs.Sessions.{said, IsOf, StoreView, TellsUpdate, known_of}
 use Rattle.store_steps.specs.Views.{IsIdle, SessionView, request_of, session_view}
-use Rattle.store.specs.Sessions.{IsOf, StoreView, TellsUpdate, known_of}
 use Rattle.store_steps.specs.Standing.{IsFree, SessionKnown, Stands}
 use Rattle.store_steps.proofs.Resumed.{free_by}
 use Rattle.store_steps.proofs.StoreLaws.{store_laws}

@@ -1,5 +1,5 @@
--- Of which steps the calls of a session are made that look at its node's replica, as their users see them.
-use Rattle.std.specs.Prelude.{ℕ, List, length, Option, Result, IfOk, IfSome}
+-- Of which steps the calls of a session are made that look at its node's replica, as their users see them, where they are not refused.
+use Rattle.std.specs.Prelude.{ℕ, List, Option, Result, IfOk, IfSome}
 use Rattle.oplog.specs.Operations.{Operation}
 use Rattle.readpath.specs.declared.reading.ReadAnswer.{ReadAnswer}
 use Rattle.replica.specs.declared.refusals.StoreRefused.{StoreRefused}
@@ -7,15 +7,10 @@ use Rattle.store_steps.specs.declared.scanning.Scan.{Scan}
 use Rattle.store_steps.specs.declared.questions.QuestionRefused.{QuestionRefused}
 use Rattle.store_steps.specs.declared.scanning.ScanRefused.{ScanRefused}
 use Rattle.store_steps.specs.declared.steps.Question.{Question}
-use Rattle.store_steps.specs.Questions.{FirstReply}
-use Rattle.store_steps.specs.Scanning.{GivesThere}
 use Rattle.store_steps.specs.Views.{SessionView}
 use Rattle.store.specs.Sessions.{known_of}
-use Rattle.store_steps.specs.Standing.{SessionKnown}
 use Rattle.store_steps.specs.Whole.{ReadsBy}
-use Rattle.store_steps.specs.Going.{EachReadsBy, ScansBy}
-
--- of a call that was not refused
+use Rattle.store_steps.specs.Looking.{EachReadsBy, ScansBy}
 
 abbrev pub ReadGoes : (old new : SessionView) → Operation → Result ReadAnswer StoreRefused → Type 0
 ReadGoes old new op result = IfOk result (λ a. ReadsBy (known_of old) (known_of new) op a)

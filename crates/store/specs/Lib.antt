@@ -1,8 +1,8 @@
 -- What each answer tells its session, what a store is opened with and gives back.
 pub mod Sessions
 pub mod Polled
-pub mod Going
 pub mod Opening
 pub mod Codes
 -- What the store's inner functions speak of.
 pub mod Places
+pub mod Going

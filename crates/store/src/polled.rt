@@ -8,8 +8,8 @@ ghost use Rattle.replica.specs.StoreMeaning.{store_meaning, is_operation};
 ghost use Rattle.replica.specs.declared.refusals.StoreRefused.{StoreRefused};
 ghost use Rattle.replica.specs.Refusals.{early_refusal};
 ghost use Rattle.store.specs.Going.{TriedReadGoes};
-ghost use Rattle.store.specs.Sessions.{IsOf, install_of, install_refused};
 ghost use Rattle.store_steps.specs.Views.{op_of};
+ghost use Rattle.store.specs.Sessions.{IsOf, install_of, install_refused};
 ghost use Rattle.store_steps.specs.Stages.{HasDone};
 ghost use Rattle.store.specs.Polled.{HasPostedFor, TellsCompleted, TellsPost, TellsTriedRead};
 

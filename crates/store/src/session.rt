@@ -9,13 +9,13 @@ ghost use Rattle.replica.specs.Refusals.{early_refusal};
 ghost use Rattle.store.specs.Going.{EachGoes, ReadGoes, ScanGoes};
 ghost use Rattle.store.specs.Sessions.{said};
 ghost use Rattle.store_steps.specs.declared.questions.QuestionRefused.{QuestionRefused};
-ghost use Rattle.store.specs.Sessions.{EachBegins, TellsEach};
 ghost use Rattle.store_steps.specs.Questions.{first_refused};
+ghost use Rattle.store.specs.Sessions.{EachBegins, TellsEach};
 ghost use Rattle.store_steps.specs.declared.scanning.ScanRefused.{ScanRefused};
-ghost use Rattle.store.specs.Sessions.{ScanBegins, TellsScan};
 ghost use Rattle.store_steps.specs.Scanning.{scan_refusal};
-ghost use Rattle.store.specs.Sessions.{IsOf, TellsUpdate, TellsRead, BeginsWithin, HasRoom, known_of, install_of, install_refused};
+ghost use Rattle.store.specs.Sessions.{ScanBegins, TellsScan};
 ghost use Rattle.store_steps.specs.Views.{IsIdle, op_of, session_view};
+ghost use Rattle.store.specs.Sessions.{IsOf, TellsUpdate, TellsRead, BeginsWithin, HasRoom, known_of, install_of, install_refused};
 
 use crate::answers::Answer;
 use crate::store::Store;

@@ -33,7 +33,7 @@ use Rattle.store_steps.specs.Scanning.{GivesThere, HasSeen, IsPlaceIn, IsScanned
 use Rattle.store_steps.specs.Views.{IsReadBy, RepliesThere}
 use Rattle.store_steps.specs.Shelving.{replica_value, store_rules}
 use Rattle.store_steps.specs.Standing.{Agrees, SessionKnown}
-use Rattle.store_steps.specs.Going.{EachReadsBy, ScansBy}
+use Rattle.store_steps.specs.Looking.{EachReadsBy, ScansBy}
 use Rattle.store_steps.specs.Whole.{LooksBy, ReadsBy}
 use Rattle.store_steps.proofs.Finished.{Back, Picked, back, may_put_replica, put_back}
 use Rattle.store_steps.proofs.StoreLaws.{store_laws}

@@ -22,7 +22,7 @@ use Rattle.store_steps.specs.Views.{IsReadBy, RepliesThere}
 use Rattle.store_steps.specs.Shelving.{store_rules}
 use Rattle.store_steps.specs.Standing.{Agrees, SessionKnown, Stands}
 use Rattle.store_steps.specs.Trying.{BeginsBelow, IsStill}
-use Rattle.store_steps.specs.Going.{EachReadsBy, ScansBy}
+use Rattle.store_steps.specs.Looking.{EachReadsBy, ScansBy}
 use Rattle.store_steps.specs.Whole.{AnswersBy, LooksBy, ReadsBy}
 use Rattle.store_steps.proofs.Finished.{Back}
 use Rattle.store_steps.proofs.StoreLaws.{store_laws}

@@ -19,6 +19,6 @@ pub mod Combining
 pub mod Trying
 -- Whole calls as lists of steps.
 pub mod Whole
-pub mod Going
+pub mod Looking
 -- A replica that is held and has come up.
 pub mod Ready

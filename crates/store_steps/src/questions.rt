@@ -3,7 +3,7 @@
 ghost use Rattle.std.specs.Prelude.{◌≡◌, ◌<◌, ◌≤◌, length, None, Some, IfOk, IfErr, MatchResult};
 ghost use Rattle.loader.specs.CatalogueView.{sizes_for};
 ghost use Rattle.loader.specs.StoreState.{sizes_of};
-ghost use Rattle.store_steps.specs.Going.{EachReadsBy};
+ghost use Rattle.store_steps.specs.Looking.{EachReadsBy};
 ghost use Rattle.store_steps.specs.Knowing.{IsOn, Knows, Learns, Relates};
 ghost use Rattle.store_steps.specs.Questions.{AreReadBy, FirstReply, first_refused};
 ghost use Rattle.store_steps.specs.Standing.{IsFree};

@@ -2,7 +2,7 @@
 
 ghost use Rattle.std.specs.Prelude.{◌≡◌, ◌<◌, length, None, Some, IfOk, IfErr, MatchResult};
 ghost use Rattle.maps.specs.Maps.{shapes_of};
-ghost use Rattle.store_steps.specs.Going.{ScansBy};
+ghost use Rattle.store_steps.specs.Looking.{ScansBy};
 ghost use Rattle.store_steps.specs.Knowing.{IsOn, Knows, Learns, Relates};
 ghost use Rattle.store_steps.specs.Scanning.{GivesThere, IsPlaceIn, IsScannedBy, scan_fault_number, scan_refusal};
 ghost use Rattle.store_steps.specs.Standing.{IsFree};

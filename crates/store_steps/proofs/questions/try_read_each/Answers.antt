@@ -1,6 +1,6 @@
 use Rattle.std.proofs.Common.{◌≡◌, ◌+◌, subst}
 use Rattle.ownlock.proofs.Seats.{one_known}
-use Rattle.store_steps.specs.Going.{EachReadsBy}
+use Rattle.store_steps.specs.Looking.{EachReadsBy}
 use Rattle.store_steps.proofs.Ready.{each_goes_ready, each_ready, lent_back, may_put_ready, node_is, ready_back}
 use Rattle.store_steps.proofs.questions.try_read_each.Goals as goal
 

@@ -1,6 +1,6 @@
 use Rattle.std.proofs.Common.{refl, subst, length, ◌∙◌}
 use Rattle.ownlock.proofs.Seats.{one_known}
-use Rattle.store_steps.specs.Going.{ScansBy}
+use Rattle.store_steps.specs.Looking.{ScansBy}
 use Rattle.store_steps.specs.Scanning.{IsScannedBy}
 use Rattle.store_steps.specs.Standing.{IsFree}
 use Rattle.store_steps.proofs.Taken.{free_on, shelf_on}

@@ -1,6 +1,6 @@
 use Rattle.std.proofs.Common.{◌+◌, length, subst}
 use Rattle.ownlock.proofs.Seats.{one_known}
-use Rattle.store_steps.specs.Going.{ScansBy}
+use Rattle.store_steps.specs.Looking.{ScansBy}
 use Rattle.store_steps.proofs.Ready.{may_put_ready, node_is, ready_back, scanned_ready, scans_ready}
 use Rattle.store_steps.proofs.scanning.try_scan.Goals as goal
 

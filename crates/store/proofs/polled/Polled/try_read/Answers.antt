@@ -1,9 +1,9 @@
 use Rattle.std.proofs.Common.{sym, ap, subst, ◌∙◌}
-use Rattle.store.specs.Sessions.{IsOf}
 use Rattle.store_steps.specs.Views.{SessionView, op_of}
+use Rattle.store.specs.Sessions.{IsOf}
+use Rattle.store_steps.proofs.Gone.{on_known}
 use Rattle.store_steps.specs.Whole.{ReadsBy}
 use Rattle.store.proofs.Between.{idle_at, on_at}
-use Rattle.store_steps.proofs.Gone.{on_known}
 use Rattle.store.proofs.Invoked.{goes_seen}
 use Rattle.store.proofs.polled.Polled.try_read.Goals as goal
 

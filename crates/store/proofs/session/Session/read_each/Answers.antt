@@ -1,4 +1,4 @@
-use Rattle.store_steps.specs.Going.{EachReadsBy}
+use Rattle.store_steps.specs.Looking.{EachReadsBy}
 use Rattle.store.proofs.Invoked.{goes_seen}
 use Rattle.store.proofs.session.Session.read_each.Goals as goal
 

@@ -1,9 +1,9 @@
 use Rattle.std.proofs.Common.{ap, length, sym, subst, ◌∙◌}
-use Rattle.store_steps.specs.Going.{ScansBy}
+use Rattle.store_steps.specs.Looking.{ScansBy}
 use Rattle.store_steps.specs.Scanning.{ScanGives}
 use Rattle.store_steps.specs.Views.{SessionView, first_in}
-use Rattle.store.proofs.Invoked.{goes_seen}
 use Rattle.store_steps.proofs.Views.{seen_as}
+use Rattle.store.proofs.Invoked.{goes_seen}
 use Rattle.store.proofs.session.Session.scan.Goals as goal
 
 pub returns-clause-told : goal.returns-clause-told

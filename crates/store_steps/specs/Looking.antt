@@ -1,18 +1,11 @@
--- Of which steps the calls of a session are made that look at its node's replica.
-use Rattle.std.specs.Prelude.{ℕ, List, length, Option, Result, IfOk, IfSome}
-use Rattle.oplog.specs.Operations.{Operation}
-use Rattle.readpath.specs.declared.reading.ReadAnswer.{ReadAnswer}
-use Rattle.replica.specs.declared.refusals.StoreRefused.{StoreRefused}
+-- Of which steps several reads and a scan are made, by what the session knows.
+use Rattle.std.specs.Prelude.{ℕ, List, length}
 use Rattle.store_steps.specs.declared.scanning.Scan.{Scan}
-use Rattle.store_steps.specs.declared.questions.QuestionRefused.{QuestionRefused}
-use Rattle.store_steps.specs.declared.scanning.ScanRefused.{ScanRefused}
 use Rattle.store_steps.specs.declared.steps.Question.{Question}
 use Rattle.store_steps.specs.Questions.{FirstReply}
 use Rattle.store_steps.specs.Scanning.{GivesThere}
-use Rattle.store_steps.specs.Views.{SessionView}
-use Rattle.store.specs.Sessions.{known_of}
 use Rattle.store_steps.specs.Standing.{SessionKnown}
-use Rattle.store_steps.specs.Whole.{LooksBy, ReadsBy}
+use Rattle.store_steps.specs.Whole.{LooksBy}
 
 -- several reads: one look, and each question has the reply of there
 abbrev pub EachReadsBy : (k after : SessionKnown) → List Question → (point : ℕ) → (replies : List ℕ) → Type 0
