@@ -17,7 +17,6 @@ pub mod Replays
 pub mod TranscriptLines
 pub mod StepLines
 pub mod Quiet
-pub mod OneText
 pub mod Known
 pub mod FoundTexts
 pub mod GatheredFiles

@@ -50,12 +50,7 @@ reports old new got a (Err faults.NotText) wrote known = subst (λ x. ReportsByt
 reports old new got a (Err faults.NoMemory) wrote known = no_memory_sent old new got a wrote
 reports old new got a (Err faults.CannotRead) wrote known = none_read old new got a wrote
 
--- the same for an answer to what may be unknown: one text, a manifest with its folder, and these with another text
-pub reports_text : (answers : List ℕ → Answer) (r : Option (List ℕ)) (old new : Option (List ℕ)) (got : Status) (prepared : Result Reply InputFault) → Writes old new got prepared
-    → IfSome r (λ s. Prepares prepared (answers s)) → IfSome r (λ s. ReportsBytes old new got (answers s))
-reports_text answers None old new got prepared wrote known = tt
-reports_text answers (Some s) old new got prepared wrote known = reports old new got (answers s) prepared wrote known
-
+-- the same for an answer to what may be unknown: a manifest with its folder, and these with another text
 pub reports_files : (answers : List ℕ → Contents → Answer) (r : Option (List ℕ)) (o : Option Contents) (old new : Option (List ℕ)) (got : Status) (prepared : Result Reply InputFault)
     → Writes old new got prepared → IfFilesKnown r o (λ m h. Prepares prepared (answers m h)) → IfFilesKnown r o (λ m h. ReportsBytes old new got (answers m h))
 reports_files answers None o old new got prepared wrote known = tt

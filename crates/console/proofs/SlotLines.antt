@@ -4,7 +4,7 @@ use Rattle.std.proofs.lemmas.List.{append-nil, drop_more, length-append}
 use Rattle.insn.specs.declared.instruction.Form.{Form}
 use Rattle.insn.specs.Layout.{slot_contents, slot_count, layout, size}
 use Rattle.asm.specs.Text.{line_text, text_of}
-use Rattle.console.specs.SlotsAnswer.{columns, slots_text}
+use Rattle.console.specs.DisAnswer.{columns, slots_text}
 
 -- the text of one instruction is its line
 pub one_line : (i : Form) → text_of (i ∷ []) ≡ line_text i

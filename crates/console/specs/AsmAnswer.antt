@@ -1,18 +1,15 @@
--- What `asm` and `dis` answer and write, as functions of the file.
-use Rattle.std.specs.Prelude.{◌≡◌, ◌⊎◌, ℕ, List, ◌++◌, codes, decimal, Option, Some, None, Result, Ok, Err, if◌then◌else◌}
+-- What `asm` answers, as a function of what was read, and what `asm` and `dis` write.
+use Rattle.std.specs.Prelude.{ℕ, List, ◌++◌, codes, decimal, Option, Some, None, Result, Ok, Err}
 use Rattle.hex.specs.Hex.{encode_lower}
 use Rattle.insn.specs.declared.instruction.Form.{Form}
 use Rattle.insn.specs.declared.decoding.DecodeRefusal.{DecodeRefusal}
 use Rattle.insn.specs.Encoding.{program_bytes}
-use Rattle.insn.specs.Decoded.{decoded}
 use Rattle.insn.specs.Refusal as decoding
 use Rattle.asm.specs.declared.refusals.AsmRefusal.{AsmRefusal}
 use Rattle.asm.specs.Assembled.{assembled}
 use Rattle.asm.specs.Refusal as assembling
-use Rattle.asm.specs.Text.{text_of}
-use Rattle.text.specs.Digits.{spaced_bytes}
 use Rattle.console.specs.declared.status.Verdict.TheVariants as verdicts
-use Rattle.console.specs.Files.{is_text}
+use Rattle.console.specs.Reading.{TextsRead}
 use Rattle.console.specs.Answer.{Answer, not_text}
 
 -- ---- the texts
@@ -41,26 +38,6 @@ assembled_answer (Ok program) = record { text = hex_line program; verdict = verd
 assembled_answer (Err e) = record { text = asm_refusal_text e; verdict = verdicts.Refused }
 
 -- what `asm` answers
-unfoldable pub asm_answer : List ℕ → Answer
-asm_answer source = if is_text source then assembled_answer (assembled source) else not_text
-
--- the canonical text of the program, or the line of the refusal alone
-abbrev pub decoded_answer : Result (List Form) DecodeRefusal → Answer
-decoded_answer (Ok program) = record { text = text_of program; verdict = verdicts.Good }
-decoded_answer (Err e) = record { text = decode_refusal_text e; verdict = verdicts.Refused }
-
--- what bytes answer, where the file has digits
-abbrev pub bytes_answer : Option (List ℕ) → Answer
-bytes_answer (Some bytes) = decoded_answer (decoded bytes)
-bytes_answer None = record { text = bad_hex_line; verdict = verdicts.Refused }
-
--- what `dis` answers
-unfoldable pub dis_answer : List ℕ → Answer
-dis_answer program = if is_text program then bytes_answer (spaced_bytes program) else not_text
-
--- what `asm` and `dis` answer to some text
-abbrev pub IsAsmAnswer : Answer → Type 0
-IsAsmAnswer a = (a ≡ not_text) ⊎ ((source : List ℕ) × (a ≡ assembled_answer (assembled source)))
-
-abbrev pub IsDisAnswer : Answer → Type 0
-IsDisAnswer a = (a ≡ not_text) ⊎ ((program : List ℕ) × (a ≡ bytes_answer (spaced_bytes program)))
+abbrev pub asm_answer : Option TextsRead → Answer
+asm_answer (Some texts) = assembled_answer (assembled texts.file)
+asm_answer None = not_text

@@ -1,10 +1,10 @@
--- What `encode` answers and writes, as a function of the file.
-use Rattle.std.specs.Prelude.{◌≡◌, ◌⊎◌, ℕ, List, ◌++◌, codes, decimal, Result, Ok, Err, if◌then◌else◌}
+-- What `encode` answers and writes, as a function of what was read.
+use Rattle.std.specs.Prelude.{ℕ, List, ◌++◌, codes, decimal, Option, Some, None, Result, Ok, Err}
 use Rattle.encoding.specs.declared.faults.EncodeRefusal.{EncodeRefusal}
 use Rattle.encoding.specs.Faults.{wanted_text}
 use Rattle.encoding.specs.Encoded.{encoded_text}
 use Rattle.console.specs.declared.status.Verdict.TheVariants as verdicts
-use Rattle.console.specs.Files.{is_text}
+use Rattle.console.specs.Reading.{TextsRead}
 use Rattle.console.specs.Answer.{Answer, not_text}
 
 -- the first place that is wrong, and what was to stand there
@@ -18,9 +18,6 @@ encoded_answer (Ok script) = record { text = script; verdict = verdicts.Good }
 encoded_answer (Err e) = record { text = encode_refusal_text e; verdict = verdicts.Refused }
 
 -- what `encode` answers
-unfoldable pub encode_answer : List ℕ → Answer
-encode_answer calls = if is_text calls then encoded_answer (encoded_text calls) else not_text
-
--- what `encode` answers to some text
-abbrev pub IsEncodeAnswer : Answer → Type 0
-IsEncodeAnswer a = (a ≡ not_text) ⊎ ((calls : List ℕ) × (a ≡ encoded_answer (encoded_text calls)))
+abbrev pub encode_answer : Option TextsRead → Answer
+encode_answer (Some texts) = encoded_answer (encoded_text texts.file)
+encode_answer None = not_text

@@ -15,7 +15,7 @@ pub mod StateAnswer
 pub mod RunAnswer
 pub mod Signed
 pub mod AsmAnswer
-pub mod SlotsAnswer
+pub mod DisAnswer
 pub mod EncodeAnswer
 pub mod ReplayAnswer
 pub mod ScheduleAnswer

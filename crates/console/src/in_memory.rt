@@ -2,8 +2,6 @@
 
 ghost use Rattle.std.specs.Prelude.{◌≡◌, IfOk};
 ghost use Rattle.console.specs.Answer.{check_answer};
-ghost use Rattle.console.specs.AsmAnswer.{asm_answer, dis_answer};
-ghost use Rattle.console.specs.EncodeAnswer.{encode_answer};
 ghost use Rattle.console.specs.Explanation.{IsExplanation};
 ghost use Rattle.console.specs.RunAnswer.{run_answer};
 ghost use Rattle.console.specs.ReplayAnswer.{replay_answer};
@@ -13,10 +11,7 @@ ghost use Rattle.console.specs.Memory.{found_file, held, Never, SettlesAs};
 ghost use Rattle.console.specs.Reading.{read};
 ghost use Rattle.console.specs.Report.{answer_of};
 
-use crate::commands::{
-    Setup, asm_reply, check_reply, dis_reply, encode_reply, explain_reply, replay_reply, run_reply,
-    schedule_reply,
-};
+use crate::commands::{Setup, check_reply, explain_reply, replay_reply, run_reply, schedule_reply};
 use crate::engine::{Command, prepare};
 use crate::input::InputFault;
 use crate::memory::{Held, HeldFiles};
@@ -81,30 +76,6 @@ pub fn explain(
     ensures { IfOk result (λ r. IsExplanation (check_answer manifest.now (found_file files.now)) (answer_of r)) }
 {
     let prepared = explain_reply(alloc, &HeldFiles(files), &mut Held(manifest), name);
-    settled(alloc, prepared)
-}
-
-/// What `asm` answers to an assembler text.
-pub fn assemble(alloc: Global, source: &[u8]) -> Result<Reply, AllocError>
-    ensures { IfOk result (λ r. answer_of r ≡ asm_answer source.now) }
-{
-    let prepared = asm_reply(alloc, &mut Held(source));
-    settled(alloc, prepared)
-}
-
-/// What `dis` answers to the text of a program file.
-pub fn disassemble(alloc: Global, program: &[u8]) -> Result<Reply, AllocError>
-    ensures { IfOk result (λ r. answer_of r ≡ dis_answer program.now) }
-{
-    let prepared = dis_reply(alloc, &mut Held(program));
-    settled(alloc, prepared)
-}
-
-/// What `encode` answers to a text of calls.
-pub fn encode(alloc: Global, calls: &[u8]) -> Result<Reply, AllocError>
-    ensures { IfOk result (λ r. answer_of r ≡ encode_answer calls.now) }
-{
-    let prepared = encode_reply(alloc, &mut Held(calls));
     settled(alloc, prepared)
 }
 

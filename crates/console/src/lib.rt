@@ -1,13 +1,12 @@
 //! The commands of the program `nrbpf`, over any reader, any writer and any folder of files.
 #![tactic(auto)]
 
-mod asm_texts;
+mod assembly;
 mod blocked_texts;
 mod calls;
 mod catalogues;
 mod commands;
 mod encode_laws;
-mod encode_texts;
 pub mod engine;
 mod feeding;
 mod folder;
@@ -40,9 +39,9 @@ mod texts;
 mod transcripts;
 mod transfer;
 
+pub use assembly::{Assemble, Disassemble, Encode};
 pub use commands::{
-    ServeEnd, Setup, assemble, check, disassemble, disassemble_slots, encode, explain, graph,
-    replay, run, run_signed, schedule, serve,
+    ServeEnd, Setup, check, explain, graph, replay, run, run_signed, schedule, serve,
 };
 pub use encode_laws::encoded_lines_are_calls;
 pub use feeding::{CannotRead, Feed};
@@ -59,8 +58,8 @@ pub use transfer::{CannotWrite, ReadFault, Sink, Source};
 
 // What each command has to write, without a writer.
 pub use commands::{
-    asm_reply, asm_told_reply, check_reply, dis_reply, encode_reply, explain_reply, graph_reply,
-    replay_reply, run_reply, run_signed_reply, schedule_reply, slots_reply,
+    check_reply, explain_reply, graph_reply, replay_reply, run_reply, run_signed_reply,
+    schedule_reply,
 };
 
 // A run on a state, and the state that it leaves; and a replay on a state.

@@ -12,12 +12,12 @@ mod stressing;
 mod tasks;
 
 use console::{
-    Folder, Notes, Setup, Status, assemble, check, disassemble, disassemble_slots, explain, graph,
-    replay, run, run_signed, schedule,
+    Folder, Notes, Setup, Status, check, engine, explain, graph, reading, replay, run, run_signed,
+    schedule,
 };
 use disk::{Disk, LateFile};
 use keeping::{Inputs, replay_on, run_on, serve_on};
-use output::{Output, assemble_into, assemble_told, encode_or_say, say_text};
+use output::{Output, assemble, encode_or_say, say_text};
 use sizes::say_sizes;
 use std::io::{self, Eprint, Input, Print, Read, Write};
 use std::process::ExitCode;
@@ -47,6 +47,17 @@ fn perform_on_state<
     }
 }
 
+// A text, and nothing beside it.
+fn alone<F: Folder, I: Read + Drop>(folder: &F, file: I) -> reading::Inputs<'_, F, I> {
+    reading::Inputs {
+        folder,
+        manifest: None,
+        file: Some(file),
+        state: None,
+        history: None,
+    }
+}
+
 // Does a task, with what it reads and where it writes.
 fn perform<
     R: Files + AllocGlobal + Eprint + Threads + Wait + Clock + Sync,
@@ -60,12 +71,20 @@ fn perform<
         Task::Check => check(alloc, folder, manifest, writer),
         Task::Explain(name) => explain(alloc, folder, manifest, name, writer),
         Task::Graph(name) => graph(alloc, folder, manifest, name, writer),
-        Task::Assemble => assemble(alloc, file, writer),
-        Task::AssembleInto(path) => assemble_into(rt, path, file, writer),
-        Task::AssembleTold(path) => assemble_told(rt, path, file, writer),
-        Task::Disassemble => disassemble(alloc, file, writer),
-        Task::DisassembleSlots => disassemble_slots(alloc, file, writer),
-        Task::Encode => encode_or_say(rt, file, writer),
+        Task::Assemble(path, telling) => {
+            assemble(rt, path, telling, &mut alone(folder, file), writer)
+        }
+        Task::Disassemble(command) => {
+            let mut inputs = alone(folder, file);
+            engine::perform(
+                alloc,
+                &command,
+                &mut inputs,
+                &mut Notes::none(alloc),
+                writer,
+            )
+        }
+        Task::Encode => encode_or_say(rt, &mut alone(folder, file), writer),
         Task::Run => run(alloc, folder, manifest, file, writer),
         Task::RunSigned => run_signed(alloc, folder, manifest, file, writer),
         Task::Replay(spare, telling) => {

@@ -1,9 +1,10 @@
 // Where a command writes.
 
 use crate::disk::say;
+use console::engine::{Command, prepare, report};
+use console::reading::{Inputs, gather};
 use console::{
-    InputFault, Reply, Sink, Source, Status, Verdict, asm_reply, asm_told_reply, encode_reply,
-    report,
+    Assemble, Encode, Folder, Notes, ReadFault, Reply, Sink, Source, Status, Telling, Verdict,
 };
 use std::alloc::{AllocError, Global};
 use std::io::{Eprint, ErrorKind, Write};
@@ -93,51 +94,49 @@ pub(crate) fn save<R: Files + Eprint>(rt: &R, path: &str, part: &str, text: &[u8
     }
 }
 
+// Says that no memory is left.
+fn no_memory<W: Sink>(writer: &mut W) -> Status {
+    let made: Result<Reply, ReadFault> = Err(ReadFault::NoMemory);
+    report(writer, &made)
+}
+
 // Puts what was assembled into the file of a path. A refusal goes to the writer, and the file stays as it was.
 fn put_assembled<R: Files + AllocGlobal + Eprint, W: Sink>(
     rt: &R,
     path: &str,
-    prepared: Result<Reply, InputFault>,
+    made: &Result<Reply, ReadFault>,
     writer: &mut W,
 ) -> Status {
-    match prepared {
+    match made {
         Ok(
             Reply {
                 text,
                 verdict: Verdict::Good,
             },
         ) => match part_of(rt.alloc(), path) {
-            Ok(part) => save(rt, path, part.as_str(), &text),
-            Err(_) => report(writer, Err(InputFault::NoMemory)),
+            Ok(part) => save(rt, path, part.as_str(), text),
+            Err(_) => no_memory(writer),
         },
-        other => report(writer, other),
+        _ => report(writer, made),
     }
 }
 
-/// Assembles a text into the file of a path. A refusal goes to the writer, and the file stays as it was.
-pub fn assemble_into<R: Files + AllocGlobal + Eprint, I: Source, W: Sink>(
-    rt: &R,
-    path: &str,
-    source: &mut I,
-    writer: &mut W,
-) -> Status {
-    put_assembled(rt, path, asm_reply(rt.alloc(), source), writer)
-}
-
-/// Assembles a text, into the file of a path if there is one, and says on standard error what is wanted in a text that is refused.
-pub fn assemble_told<R: Files + AllocGlobal + Eprint, I: Source, W: Sink>(
+/// Assembles a text, into the file of a path if there is one, and says on standard error what is to be told of it. A
+/// refusal goes to the writer, and the file stays as it was.
+pub fn assemble<R: Files + AllocGlobal + Eprint, F: Folder, I: Source + Drop, W: Sink>(
     rt: &R,
     path: Option<&str>,
-    source: &mut I,
+    telling: Telling,
+    inputs: &mut Inputs<'_, F, I>,
     writer: &mut W,
 ) -> Status {
-    let mut told = String::new(rt.alloc());
-    let prepared = asm_told_reply(rt.alloc(), source, &mut told);
+    let mut notes = Notes::new(rt.alloc(), telling);
+    let made = prepare(rt.alloc(), &Assemble, inputs, &mut notes);
     let status = match path {
-        Some(path) => put_assembled(rt, path, prepared, writer),
-        None => report(writer, prepared),
+        Some(path) => put_assembled(rt, path, &made, writer),
+        None => report(writer, &made),
     };
-    let _ = eprint!(rt; "{told}");
+    say_text(rt, notes.text);
     status
 }
 
@@ -148,22 +147,28 @@ pub fn say_text<R: Eprint>(rt: &R, text: Vec<u8>) {
     }
 }
 
-/// Writes the script of a text of calls. A refusal is said on standard error, so that no script holds it.
-pub fn encode_or_say<R: AllocGlobal + Eprint, I: Source, W: Sink>(
+/// Writes the script of a text of calls. A refusal is said on standard error, so that no script holds it; that a text is
+/// not UTF-8 is written.
+pub fn encode_or_say<R: AllocGlobal + Eprint, F: Folder, I: Source + Drop, W: Sink>(
     rt: &R,
-    calls: &mut I,
+    inputs: &mut Inputs<'_, F, I>,
     writer: &mut W,
 ) -> Status {
-    match encode_reply(rt.alloc(), calls) {
-        Ok(
-            Reply {
-                text,
-                verdict: Verdict::Refused,
-            },
-        ) => {
-            say_text(rt, text);
+    let alloc = rt.alloc();
+    let read = match gather(alloc, inputs) {
+        Ok(read) => read,
+        Err(ReadFault::NoMemory) => return no_memory(writer),
+        Err(ReadFault::CannotRead) => return Status::CannotRead,
+    };
+    let is_text = read.is_ok();
+    let Ok(reply) = Encode.make(alloc, read, &mut Notes::none(alloc)) else {
+        return no_memory(writer);
+    };
+    match reply.verdict {
+        Verdict::Refused if is_text => {
+            say_text(rt, reply.text);
             Status::Refused
         }
-        other => report(writer, other),
+        _ => report(writer, &Ok(reply)),
     }
 }

@@ -2,7 +2,7 @@
 
 use crate::disk::DASH;
 use clap::ArgMatches;
-use console::Telling;
+use console::{Disassemble, Telling};
 use oplog::Config;
 
 /// The files of a store's state: what it begins with, a new state where there is none, and where the state goes that it leaves.
@@ -56,16 +56,10 @@ pub enum Task<'a> {
     Explain(Option<&'a str>),
     /// Draw them.
     Graph(Option<&'a str>),
-    /// Assemble a text.
-    Assemble,
-    /// Assemble a text into the file of this path.
-    AssembleInto(&'a str),
-    /// Assemble a text, into the file of this path if there is one, and say what a refused one wants.
-    AssembleTold(Option<&'a str>),
-    /// Disassemble a program file.
-    Disassemble,
-    /// Disassemble a program file, with slots and bytes.
-    DisassembleSlots,
+    /// Assemble a text, into the file of this path if there is one, and tell this of it.
+    Assemble(Option<&'a str>, Telling),
+    /// Disassemble a program file, with slots and bytes or without.
+    Disassemble(Disassemble),
     /// Write the script of a text of calls.
     Encode,
     /// Run a script.
@@ -141,11 +135,7 @@ fn assembling<'a>(matches: &ArgMatches<'a>) -> Task<'a> {
         Some(path) if path != DASH => Some(path),
         _ => None,
     };
-    match path {
-        _ if matches.get_flag("explain") => Task::AssembleTold(path),
-        Some(path) => Task::AssembleInto(path),
-        None => Task::Assemble,
-    }
+    Task::Assemble(path, telling(matches))
 }
 
 // Explaining in words or by a drawing.
@@ -160,11 +150,8 @@ fn explaining<'a>(matches: &ArgMatches<'a>) -> Task<'a> {
 
 // Disassembling, with slots and bytes or without.
 fn disassembling<'a>(matches: &ArgMatches<'a>) -> Task<'a> {
-    if matches.get_flag("slots-and-bytes") {
-        Task::DisassembleSlots
-    } else {
-        Task::Disassemble
-    }
+    let has_slots = matches.get_flag("slots-and-bytes");
+    Task::Disassemble(Disassemble { has_slots })
 }
 
 // The files of a store's state.

@@ -3,9 +3,11 @@
 use crate::files::Offered;
 use crate::states::{replay_on, run_on, serve_on};
 use crate::timing::timed;
+use console::engine::{Command, perform};
+use console::reading::Inputs;
 use console::{
-    Notes, Setup, Status, Telling, assemble, check, disassemble, disassemble_slots, encode,
-    explain, graph, replay, run, run_signed, schedule, serve,
+    Answering, Assemble, Disassemble, Encode, Notes, Setup, Status, Telling, check, explain, graph,
+    replay, run, run_signed, schedule, serve,
 };
 use oplog::Config;
 use std::alloc::Global;
@@ -225,19 +227,49 @@ fn served(alloc: Global, folder: &Offered, mut manifest: &[u8], out: &mut Vec<u8
     end.status
 }
 
+// What a command of one text writes.
+fn on_text<C: Command>(
+    alloc: Global,
+    folder: &Offered,
+    command: &C,
+    text: &[u8],
+    out: &mut Vec<u8>,
+) -> Status
+where
+    C::Made: Answering,
+{
+    let mut inputs = Inputs {
+        folder,
+        manifest: None,
+        file: Some(text),
+        state: None,
+        history: None,
+    };
+    perform(alloc, command, &mut inputs, &mut Notes::none(alloc), out)
+}
+
+// What `dis` writes, with slots and bytes or without.
+fn disassembled(
+    alloc: Global,
+    folder: &Offered,
+    has_slots: bool,
+    text: &[u8],
+    out: &mut Vec<u8>,
+) -> Status {
+    on_text(alloc, folder, &Disassemble { has_slots }, text, out)
+}
+
 // What `check` writes where the files that the manifest names are what `asm` writes.
 fn assembled(alloc: Global, folder: &Offered, mut manifest: &[u8], out: &mut Vec<u8>) -> Status {
     let mut program = Vec::new(alloc);
-    let mut source = folder.other;
-    let _ = assemble(alloc, &mut source, &mut program);
+    let _ = on_text(alloc, folder, &Assemble, folder.other, &mut program);
     let other = program.as_slice();
     let files = folder.files;
     check(alloc, &Offered { files, other }, &mut manifest, out)
 }
 
 // What a command answers that is neither on a state nor told of.
-fn plain(alloc: Global, folder: &Offered, command: &str, text: &[u8]) -> Option<Answer> {
-    let mut text = text;
+fn plain(alloc: Global, folder: &Offered, command: &str, mut text: &[u8]) -> Option<Answer> {
     let mut out = Vec::new(alloc);
     let mut notes = Notes::none(alloc);
     let status = match command {
@@ -245,10 +277,10 @@ fn plain(alloc: Global, folder: &Offered, command: &str, text: &[u8]) -> Option<
         "replay" => replayed(alloc, folder, text, &mut out),
         "serve" => served(alloc, folder, text, &mut out),
         "assembled" => assembled(alloc, folder, text, &mut out),
-        "asm" => assemble(alloc, &mut text, &mut out),
-        "dis" => disassemble(alloc, &mut text, &mut out),
-        "dis:slots" => disassemble_slots(alloc, &mut text, &mut out),
-        "encode" => encode(alloc, &mut text, &mut out),
+        "asm" => on_text(alloc, folder, &Assemble, text, &mut out),
+        "dis" => disassembled(alloc, folder, false, text, &mut out),
+        "dis:slots" => disassembled(alloc, folder, true, text, &mut out),
+        "encode" => on_text(alloc, folder, &Encode, text, &mut out),
         _ => sized(alloc, folder, command, text, &mut notes, &mut out)?,
     };
     Some(Answer {

@@ -7,8 +7,9 @@ use crate::served::{
     written,
 };
 use crate::streams::{Narrow, Programs, Slow, Turns};
+use console::reading::Inputs;
 use console::{
-    Notes, Setup, Status, assemble, check, disassemble, disassemble_slots, replay, run, schedule,
+    Answering, Assemble, Disassemble, Notes, Setup, Status, check, engine, replay, run, schedule,
     serve,
 };
 use oplog::Config;
@@ -89,6 +90,27 @@ fn served(alloc: Global, reads: &Turns, out: &mut Narrow<'_>) -> Status {
     end.status
 }
 
+// A command of one text.
+fn on_text<C: engine::Command>(
+    alloc: Global,
+    command: &C,
+    text: &'static str,
+    reads: &Turns,
+    out: &mut Narrow<'_>,
+) -> Status
+where
+    C::Made: Answering,
+{
+    let mut inputs = Inputs {
+        folder: &Programs { turns: reads },
+        manifest: None,
+        file: Some(Slow::new(text, reads)),
+        state: None,
+        history: None,
+    };
+    engine::perform(alloc, command, &mut inputs, &mut Notes::none(alloc), out)
+}
+
 /// A command on the texts that it is served.
 pub fn ended<R: Threads + Wait + Sync>(
     rt: &R,
@@ -105,9 +127,23 @@ pub fn ended<R: Threads + Wait + Sync>(
             let mut script = Slow::new(SCRIPT, reads);
             run(alloc, &folder, &mut manifest, &mut script, out)
         }
-        Command::Assemble => assemble(alloc, &mut Slow::new(BUMP_TEXT, reads), out),
-        Command::Disassemble => disassemble(alloc, &mut Slow::new(BUMP_LINE, reads), out),
-        Command::Slots => disassemble_slots(alloc, &mut Slow::new(BUMP_LINE, reads), out),
+        Command::Assemble => on_text(alloc, &Assemble, BUMP_TEXT, reads, out),
+        Command::Disassemble => {
+            on_text(
+                alloc,
+                &Disassemble { has_slots: false },
+                BUMP_LINE,
+                reads,
+                out,
+            )
+        }
+        Command::Slots => on_text(
+            alloc,
+            &Disassemble { has_slots: true },
+            BUMP_LINE,
+            reads,
+            out,
+        ),
         Command::Schedule => stepped(alloc, reads, out),
         Command::Replay => replayed(alloc, reads, out),
         Command::Stress => stressed(rt, alloc, reads, out),

@@ -1,4 +1,4 @@
-// What `asm` and `dis` write.
+// What `asm`, `dis` and `encode` write.
 
 ghost use Rattle.std.specs.Prelude.{◌≡◌, ◌≤◌, ◌++◌, IfOk, OnOk};
 ghost use Rattle.std.specs.String.{string_bytes};
@@ -6,10 +6,12 @@ ghost use Rattle.insn.specs.declared.instruction.TheConstants.{MAX_SLOTS};
 ghost use Rattle.insn.specs.Layout.{size};
 ghost use Rattle.asm.specs.Text.{line_text};
 ghost use Rattle.console.specs.AsmAnswer.{hex_line, asm_refusal_text, decode_refusal_text, bad_hex_line};
-ghost use Rattle.console.specs.SlotsAnswer.{slot_column, bytes_column, columns, slots_text};
+ghost use Rattle.console.specs.EncodeAnswer.{encode_refusal_text};
+ghost use Rattle.console.specs.DisAnswer.{slot_column, bytes_column, columns, slots_text};
 
-use crate::texts::put_pair;
+use crate::texts::{put_numbered, put_pair};
 use asm::AsmRefusal;
+use encoding::EncodeRefusal;
 use insn::{DecodeRefusal, Insn, encode};
 use itoa::Buffer;
 use std::alloc::{AllocError, Global};
@@ -114,5 +116,21 @@ pub(crate) fn bad_hex(alloc: Global) -> Result<Vec<u8>, AllocError>
 {
     let mut out = Vec::new(alloc);
     out.extend_from_slice(b"bad hex\n")?;
+    Ok(out)
+}
+
+// The line of a text of calls that is refused.
+pub(crate) fn encode_refusal_text(
+    alloc: Global,
+    refusal: EncodeRefusal,
+) -> Result<Vec<u8>, AllocError>
+    ensures { IfOk result (λ v. v.items ≡ encode_refusal_text refusal) }
+{
+    let mut out = Vec::new(alloc);
+    put_numbered(&mut out, b"line ", refusal.line as u64)?;
+    put_numbered(&mut out, b" column ", refusal.fault.column as u64)?;
+    out.extend_from_slice(b": wanted ")?;
+    out.extend_from_slice(refusal.fault.wanted.text().as_bytes())?;
+    out.extend_from_slice(b"\n")?;
     Ok(out)
 }
