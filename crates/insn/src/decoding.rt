@@ -147,8 +147,8 @@ pub fn decode(alloc: Global, bytes: &[u8]) -> Result<Vec<Insn>, DecodeError>
     }
 }
 
-/// What `decode` answers, in room that was taken before: no memory is taken. What stood there is dropped; after a refusal
-/// there stands what was read before it.
+/// What `decode` answers, in room that was taken before: no memory is taken. What stood there is dropped. After a refusal
+/// nothing is said of what stands there.
 pub fn decode_into(bytes: &[u8], program: &mut Vec<Insn>) -> Result<(), DecodeRefusal>
     // There is room for an instruction in each slot.
     requires room { length bytes.now ≤ 8 * vec_capacity program.old }
