@@ -17,7 +17,7 @@ use Rattle.console.specs.Loaded.{LoadedIs}
 use Rattle.console.specs.Gathering.{AreInputs, IsOfSome}
 use Rattle.console.specs.ReplayOn.{replayed_from}
 use Rattle.console.specs.Report.{Prepares, ReportsBytes, Writes}
-use Rattle.console.proofs.Reported.{reports_text}
+use Rattle.console.proofs.Reported.{reports_files}
 use Rattle.text.specs.Lines.{lines_of}
 use Rattle.console.specs.declared.status.Verdict.TheVariants as verdicts
 use Rattle.realtime.specs.declared.histories.Timed.{Timed}
@@ -132,7 +132,7 @@ pub reports_all : (answers : List ℕ → Contents → List ℕ → List ℕ →
     → IfEachKnown r o q p u (λ m f t s h. ReportsBytes old new got (answers m f t s h))
 reports_all answers r o q p u old new got prepared wrote =
     as_each_known (λ m f t s h. Prepares prepared (answers m f t s h)) (λ m f t s h. ReportsBytes old new got (answers m f t s h))
-    (λ m f t s h known. reports_text (λ x. answers m f t s x) (Some h) old new got prepared wrote known) r o q p u
+    (λ m f t s h known. reports_files (λ x y. answers m f t s h) (Some m) (Some f) old new got prepared wrote known) r o q p u
 
 -- ---- a history that was read
 
