@@ -6,7 +6,7 @@ ghost use Rattle.maps.specs.MapSets.{maps_of};
 ghost use Rattle.loader.specs.declared.installed.TheConstants.{MAX_PLACES};
 ghost use Rattle.loader.specs.CatalogueView.{OpensOn, opening_state, sizes_for};
 ghost use Rattle.loader.specs.Installed.{IsInstalled};
-ghost use Rattle.loader.specs.StoreState.{installed_in, opened_state, state_of};
+ghost use Rattle.loader.specs.StoreState.{installed_in, opened_state, sizes_of, state_of};
 
 use crate::catalogue::Catalogue;
 use crate::installed::{Installed, MAX_PLACES};
@@ -50,6 +50,7 @@ impl StoreState {
     /// The system has no memory left.
     pub fn open(alloc: Global, catalogue: &Catalogue) -> Result<StoreState, AllocError>
         ensures opened { IfOk result (λ s. s ≡ opened_state (sizes_for catalogue.now)) }
+        ensures sizes { IfOk result (λ s. sizes_of s ≡ sizes_for catalogue.now) }
     {
         let Ok(maps) = MapSet::open(alloc, catalogue.shapes()) else {
             return Err(AllocError);
@@ -121,6 +122,13 @@ impl StoreState {
         &self.installed
     }
 
+    /// Whether it has the maps of a catalogue, and as many places for programs.
+    pub fn is_sized_for(&self, catalogue: &Catalogue) -> bool
+        ensures sizes { IsTrue result ↔ (sizes_of self.now ≡ sizes_for catalogue.now) }
+    {
+        self.has_shapes(catalogue.shapes()) && self.installed.places() == catalogue.places()
+    }
+
     // Whether the maps have these sizes.
     pub(crate) fn has_shapes(&self, shapes: &[Shape]) -> bool
         ensures same { IsTrue result ↔ (shapes_of self.now.maps ≡ shapes.now) }
@@ -137,6 +145,17 @@ impl StoreState {
         // (the number of places, since the call says that the programs keep to their limits)
         let _ = self.installed.places();
         OpenedOn::of(self)
+    }
+
+    /// Becomes a copy of these maps and programs, which have its sizes. Takes time in proportion to them, and no memory.
+    pub fn copy_parts(&mut self, maps: &MapSet, programs: &Installed)
+        requires shapes { HasShapes (shapes_of self.old.maps) (maps_of maps.now) }
+        requires programs { programs.now.shapes ≡ shapes_of (maps_of maps.now) }
+        requires places { programs.now.places ≡ self.old.places }
+        ensures copied { self.new ≡ state_of (maps_of maps.now) programs.now }
+    {
+        self.maps.copy_from(maps);
+        self.installed.copy_from(programs);
     }
 
     /// The maps and the programs, to be changed and put together again.

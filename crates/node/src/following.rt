@@ -3,7 +3,7 @@
 ghost use Rattle.std.specs.Prelude.{◌≡◌, ◌≤◌, ◌<◌, true, length};
 ghost use Rattle.loader.specs.CatalogueView.{sizes_for};
 ghost use Rattle.loader.specs.StoreState.{sizes_of};
-ghost use Rattle.oplog.specs.declared.configuration.TheConstants.{MAX_LIMIT};
+ghost use Rattle.oplog.specs.declared.configuration.TheConstants.{ENDLESS};
 ghost use Rattle.oplog.specs.Logs.{tail_of, records_from, room_in};
 ghost use Rattle.replica.specs.Replaying.{KeepsOutcomes};
 ghost use Rattle.replica.specs.StoreMeaning.{AreUpdates};
@@ -37,7 +37,7 @@ pub fn append_only(log: &mut LogState, records: &[Record], replies: &mut Replies
     requires few { length records.now ≤ 16 }
     ensures log { log.new ≡ grown records.now log.old }
     ensures replies { replies.new ≡ replies_for records.now log.old }
-    ensures within { tail_of log.new ≤ MAX_LIMIT }
+    ensures within { tail_of log.new ≤ ENDLESS }
     ensures kept { length log.new.records ≤ log.new.window }
 {
     let first = log.tail();
@@ -58,7 +58,7 @@ pub fn append(log: &mut LogState, node: &mut NodeReplica, records: &[Record], re
     ensures log { log.new ≡ grown records.now log.old }
     ensures node { node.new ≡ copied log.new node.old }
     ensures replies { replies.new ≡ replies_for records.now log.old }
-    ensures within { tail_of log.new ≤ MAX_LIMIT }
+    ensures within { tail_of log.new ≤ ENDLESS }
 {
     append_only(log, records, replies);
     copy(log, node);
@@ -69,7 +69,7 @@ pub fn copy(log: &LogState, node: &mut NodeReplica)
     requires above { is_above log.now node.old ≡ true }
     requires fits { Fits log.now node.old }
     ensures node { node.new ≡ copied log.now node.old }
-    ensures within { tail_of log.now ≤ MAX_LIMIT }
+    ensures within { tail_of log.now ≤ ENDLESS }
 {
     match log.copy_from(node.replica.tail(), &mut node.hand) {
         CopyAnswer::Copied => {}
@@ -114,7 +114,7 @@ pub fn follow(log: &LogState, node: &mut NodeReplica, catalogue: &Catalogue)
     requires updates { AreUpdates catalogue.now (records_from log.now node.old.replica.tail) }
     ensures node { node.new ≡ replayed catalogue.now (copied log.now node.old) }
     ensures sizes { sizes_of node.new.replica.state ≡ sizes_of node.old.replica.state }
-    ensures within { tail_of log.now ≤ MAX_LIMIT }
+    ensures within { tail_of log.now ≤ ENDLESS }
 {
     copy(log, node);
     let mut replies = Replies::new(0, 0);
@@ -166,7 +166,7 @@ pub fn exchange(log: &mut LogState, node: &mut NodeReplica)
     requires window { node.old.hand.window ≡ log.old.window }
     ensures log { log.new ≡ reclaimed node.old (told node.old log.old) }
     ensures node { node.new ≡ exchanged log.old node.old }
-    ensures within { tail_of log.old ≤ MAX_LIMIT }
+    ensures within { tail_of log.old ≤ ENDLESS }
 {
     let _end = log.tail();
     let tail = node.replica.tail();

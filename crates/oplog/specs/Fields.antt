@@ -1,5 +1,5 @@
 -- How the fields of calls, new programs and logs are read. No public clause cites this module.
-use Rattle.std.specs.Prelude.{◌≡◌, ℕ, ◌≤◌, List, length, take}
+use Rattle.std.specs.Prelude.{◌≡◌, ℕ, ◌+◌, ◌<◌, ◌≤◌, List, length, take, max, get_or}
 use Rattle.std.proofs.Common.{sym, ap, ◌∙◌}
 use Rattle.maps.specs.Maps.{AreBytes}
 use Rattle.maps.specs.MapSets.{maps_of}
@@ -10,7 +10,9 @@ use Rattle.oplog.specs.declared.records.Call.TheInside as calls
 use Rattle.oplog.specs.declared.records.NewProgram.TheInside as programs
 use Rattle.oplog.specs.declared.log_state.LogState.TheInside as logs
 use Rattle.oplog.specs.Calls.{Call, NewProgram, padded}
-use Rattle.oplog.specs.Logs.{Log}
+use Rattle.oplog.specs.History.{History}
+use Rattle.oplog.specs.Logs.{Log, up_to_last}
+use Rattle.oplog.specs.declared.configuration.TheConstants.{MAX_SESSIONS}
 
 -- the first n of a room's bytes are in use, and after them there are zeros
 pub record IsFilled (size n : ℕ) (room : List ℕ) : Type 0 where
@@ -53,6 +55,10 @@ fields_of_program o h =
     ap (λ n. record same { bytes_len = n; program_bytes = padded MAX_INSTALLED_BYTES kept }) h.filled.count ∙ ap (λ bytes. record same { program_bytes = bytes }) (sym h.filled.rest)
 
 -- ---- the log
+
+-- for each author it is noted up to which place of the history his records go, where they go above the base
+abbrev pub HasEnds : ℕ → History → List ℕ → Type 0
+HasEnds base records ends = (author : ℕ) → author < MAX_SESSIONS → max base (get_or ends author 0) ≡ base + up_to_last author records
 
 abbrev pub log_of : logs.Inside → Log
 log_of a = record {

@@ -1,5 +1,5 @@
 -- The log of operations, and the buffer that its records are copied into, as their users see them.
-use Rattle.std.specs.Prelude.{ℕ, ◌+◌, ◌-◌, ◌≤◌, [], length, drop}
+use Rattle.std.specs.Prelude.{ℕ, zero, suc, ◌+◌, ◌-◌, ◌≤◌, ◌==◌, Bool, [], ◌∷◌, length, drop, if◌then◌else◌}
 use Rattle.maps.specs.Maps.{shapes_of, HasShapes}
 use Rattle.loader.specs.StoreState.{StoreState}
 use Rattle.oplog.specs.History.{History}
@@ -27,6 +27,16 @@ tail_of g = g.base + length g.records
 -- the records of the history from an index on, which is not below the base
 abbrev pub records_from : Log → ℕ → History
 records_from g index = drop (index - g.base) g.records
+
+-- as many records with one more in front, which is the author's or not: it counts where it is, or where one behind it does
+abbrev pub up_by : (own : Bool) → ℕ → ℕ
+up_by own zero = if own then 1 else 0
+up_by own (suc n) = suc (suc n)
+
+-- how many records there are up to the last one of an author: none where he has none
+abbrev pub up_to_last : ℕ → History → ℕ
+up_to_last author [] = 0
+up_to_last author (r ∷ rs) = up_by (r.author == author) (up_to_last author rs)
 
 -- how many records fit, until the base moves
 abbrev pub room_in : Log → ℕ

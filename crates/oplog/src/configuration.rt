@@ -1,7 +1,7 @@
 // What a store is opened with.
 
-ghost use Rattle.std.specs.Prelude.{◌≡◌, ◌↔◌, IsTrue};
-ghost use Rattle.oplog.specs.Limits.{open_fault_number, IsConfig};
+ghost use Rattle.std.specs.Prelude.{◌≡◌, ◌↔◌, ◌*◌, ◌^◌, IsTrue};
+ghost use Rattle.oplog.specs.Limits.{open_fault_number, sizes_in, AreSizes, IsConfig};
 
 use crate::records::MAX_INSTALLED_BYTES;
 use loader::MAX_PLACES;
@@ -14,22 +14,30 @@ pub const MAX_NODES: u32 = 8;
 /// The most slots of a node.
 pub const MAX_NODE_SLOTS: u32 = 16;
 
+/// The most sessions of a store: so many authors of records has a log.
+pub const MAX_SESSIONS: usize = 128;
+
 /// The smallest window of a log, in records.
 pub const MIN_WINDOW: usize = 16;
 
 /// The largest window of a log, in records.
 pub const MAX_WINDOW: usize = 4_096;
 
-/// The most records that a history may have.
+/// The most records that the history of a [`Config`] may have.
 pub const MAX_LIMIT: usize = 1_000_000;
+
+/// The most records that any history may have: so many that none has.
+pub const ENDLESS: u64 = 4_611_686_018_427_387_904;
 
 /// The limits that the definitions cite, as numbers.
 pub fn limits()
     ensures nodes_of_a_store { MAX_NODES ≡ 8 }
     ensures slots_of_a_node { MAX_NODE_SLOTS ≡ 16 }
+    ensures sessions_of_a_store { MAX_SESSIONS ≡ MAX_NODES * MAX_NODE_SLOTS }
     ensures smallest_window { MIN_WINDOW ≡ 16 }
     ensures largest_window { MAX_WINDOW ≡ 4096 }
     ensures records_of_a_history { MAX_LIMIT ≡ 1000000 }
+    ensures records_of_any_history { ENDLESS ≡ 2 ^ 62 }
     ensures bytes_of_a_new_program { MAX_INSTALLED_BYTES ≡ 192 }
 {}
 
@@ -59,6 +67,50 @@ impl Config {
             && (1..=MAX_NODE_SLOTS).contains(&self.slots)
             && (MIN_WINDOW..=MAX_WINDOW).contains(&window)
             && (1..=MAX_LIMIT).contains(&limit)
+            && spare <= MAX_PLACES
+    }
+
+    /// Its sizes, as the parts of a store take them.
+    pub fn sizes(&self) -> Sizes
+        ensures sizes { result ≡ sizes_in self.now }
+        ensures within { IsConfig self.now → AreSizes result }
+    {
+        Sizes {
+            nodes: self.nodes,
+            slots: self.slots,
+            window: self.window,
+            limit: self.limit as u64,
+            spare: self.spare,
+        }
+    }
+}
+
+/// The sizes of a store as its parts take them: those of a [`Config`], or others, whose history may have up to [`ENDLESS`] records.
+#[derive(Clone, Copy, Debug, PartialEq, Eq)]
+pub struct Sizes {
+    /// Nodes, each with a replica of the maps: 1 to [`MAX_NODES`].
+    pub nodes: u32,
+    /// Slots of a node, 1 to [`MAX_NODE_SLOTS`].
+    pub slots: u32,
+    /// Records that the log keeps at once, [`MIN_WINDOW`] to [`MAX_WINDOW`].
+    pub window: u32,
+    /// Records that the history may have in all, 1 to [`ENDLESS`].
+    pub limit: u64,
+    /// Programs that may be installed behind the catalogue's, 0 to [`MAX_PLACES`].
+    pub spare: u32,
+}
+
+impl Sizes {
+    /// Whether each size is within its limits.
+    pub fn is_within_limits(&self) -> bool
+        ensures limits { IsTrue result ↔ AreSizes self.now }
+    {
+        let window = self.window as usize;
+        let spare = self.spare as usize;
+        (1..=MAX_NODES).contains(&self.nodes)
+            && (1..=MAX_NODE_SLOTS).contains(&self.slots)
+            && (MIN_WINDOW..=MAX_WINDOW).contains(&window)
+            && (1..=ENDLESS).contains(&self.limit)
             && spare <= MAX_PLACES
     }
 }

@@ -10,7 +10,8 @@ mod records;
 
 pub use answers::{Appended, CopyAnswer, Ended};
 pub use configuration::{
-    Config, MAX_LIMIT, MAX_NODE_SLOTS, MAX_NODES, MAX_WINDOW, MIN_WINDOW, OpenError, limits,
+    Config, ENDLESS, MAX_LIMIT, MAX_NODE_SLOTS, MAX_NODES, MAX_SESSIONS, MAX_WINDOW, MIN_WINDOW,
+    OpenError, Sizes, limits,
 };
 pub use hand::Hand;
 pub use log_state::LogState;

@@ -1,15 +1,16 @@
 // The log.
 
-ghost use Rattle.std.specs.Prelude.{◌≡◌, ◌↔◌, ◌<◌, ◌≤◌, ◌-◌, ◌++◌, length, take, min, max, vec_capacity, IfOk, IsErr, OnErr};
+ghost use Rattle.std.specs.Prelude.{◌≡◌, ◌↔◌, ◌<◌, ◌≤◌, ◌+◌, ◌-◌, ◌++◌, length, set, take, min, max, vec_capacity, IfOk, IsErr, OnErr};
 ghost use Rattle.maps.specs.Maps.{HasShapes, shapes_of};
 ghost use Rattle.maps.specs.MapSets.{maps_of};
 ghost use Rattle.loader.specs.StoreState.{installed_in, state_of};
-ghost use Rattle.oplog.specs.declared.configuration.TheConstants.{MAX_LIMIT};
+ghost use Rattle.oplog.specs.declared.configuration.TheConstants.{ENDLESS, MAX_SESSIONS};
 ghost use Rattle.oplog.specs.Limits.{IsWindow, IsLimit};
-ghost use Rattle.oplog.specs.Logs.{IsLog, tail_of, room_in, left_of, records_from, opened_log};
+ghost use Rattle.oplog.specs.Logs.{IsLog, tail_of, room_in, left_of, records_from, opened_log, up_to_last};
 ghost use Rattle.oplog.specs.CopyAnswers.{IfCopied, IfBelow};
 
 use crate::answers::{Appended, CopyAnswer, Ended};
+use crate::configuration::MAX_SESSIONS;
 use crate::hand::Hand;
 use crate::records::{Record, push_copy};
 use loader::{Installed, StoreState};
@@ -29,6 +30,8 @@ pub struct LogState {
     done: u64,
     window: usize,
     limit: usize,
+    // Up to which place of the history the records of each author go, as far as it was told.
+    ends: [u64; MAX_SESSIONS],
 }
 
 impl Model for LogState {
@@ -43,12 +46,13 @@ impl Model for LogState {
 
     ghost coded = { log_code };
 
-    ghost use Rattle.oplog.specs.Fields.{log_of};
+    ghost use Rattle.oplog.specs.Fields.{log_of, HasEnds};
 
     ghost view = { log_of };
 
-    // There is room for a whole window, and the programs are for the maps.
-    ghost invariant = { λ a. IsLog (log_of a) × (a.window ≤ vec_capacity a.records) × (a.base_programs.shapes ≡ shapes_of (maps_of a.base_maps)) };
+    // There is room for a whole window, the programs are for the maps, and the ends are those of the records.
+    ghost invariant = { λ a. IsLog (log_of a) × (a.window ≤ vec_capacity a.records) × (a.base_programs.shapes ≡ shapes_of (maps_of a.base_maps))
+        × HasEnds a.base a.records.items a.ends };
 }
 
 impl LogState {
@@ -77,6 +81,7 @@ impl LogState {
             done: 0,
             window,
             limit,
+            ends: [0; MAX_SESSIONS],
         })
     }
 
@@ -147,6 +152,14 @@ impl LogState {
         self.done
     }
 
+    /// The place of the history behind the last record of an author, of those that are kept: the base where he has none there.
+    pub fn end_of(&self, author: usize) -> u64
+        requires author { author < MAX_SESSIONS }
+        ensures end { result ≡ self.now.base + up_to_last author self.now.records }
+    {
+        self.base.max(self.ends[author])
+    }
+
     /// Appends as many records of a batch, from its front, as the history may still have. They fit in the room.
     ///
     /// # Errors
@@ -166,8 +179,11 @@ impl LogState {
         }
         let first = self.tail();
         let count = batch.len().min(left);
+        let mut end = first;
         for record in &batch[..count] {
             push_copy(&mut self.records, record);
+            end += 1;
+            note(&mut self.ends, record.author, end);
         }
         Ok(Appended { first, count })
     }
@@ -179,7 +195,7 @@ impl LogState {
         requires window { hand.old.window ≡ self.now.window }
         ensures kept { IfCopied result (self.now.base ≤ index) }
         ensures copied { IfCopied result (hand.new ≡ record hand.old { begin = index; records = records_from self.now index }) }
-        ensures within { tail_of self.now ≤ MAX_LIMIT }
+        ensures within { tail_of self.now ≤ ENDLESS }
         ensures below { IfBelow result (λ base. (base ≡ self.now.base) × (index < base) × (hand.new ≡ hand.old)) }
     {
         if index < self.base {
@@ -257,6 +273,16 @@ impl LogState {
         hand.exchange(self.base, &mut self.records);
         copy_records(&mut self.records, &hand.records()[dropped..]);
         self.base = at;
+    }
+}
+
+// Notes that the records of an author go up to this place of the history. There is no author beyond the last session.
+fn note(ends: &mut [u64; MAX_SESSIONS], author: u16, end: u64)
+    ensures noted { ends.new ≡ set ends.old author end }
+{
+    let author = author as usize;
+    if author < MAX_SESSIONS {
+        ends[author] = end;
     }
 }
 

@@ -3,6 +3,7 @@ use Rattle.std.proofs.Common.{◌≡◌, ◌≢◌, ℕ, ◌<◌, List, [], ◌�
 use mathlib.Core.Option as kernel
 use mathlib.Core.Option.{some-injective, some-ne-none}
 use lib.Seq.{set-get_or}
+use Rattle.std.proofs.lemmas.Option.{same_Some}
 use Rattle.atomic_table.specs.Table.{State, Me, gives, step, stepped, Allows, Valid, carried_after, homes_after, rest}
 use Rattle.atomic_table.proofs.Lists.{set_here, set_else, set_again}
 use Rattle.ownlock.specs.declared.known.Known.{Known}
@@ -45,7 +46,7 @@ module _ {P N V : Type 0} (R : Rules P N V) (laws : Laws R) (opened : Opened P) 
     notes_after = set r.notes k.session note_after
 
     abbrev giver : K
-    giver = left_with k p progress_after note_after
+    giver = left_with k p y progress_after note_after
 
     was : SessionInvariant R r.progress r.notes s.homes r.holder k
     was = mine_of R laws opened s r id k at
@@ -117,6 +118,10 @@ module _ {P N V : Type 0} (R : Rules P N V) (laws : Laws R) (opened : Opened P) 
   only_one : (k k2 : K) → (k ∷ []) ≡ (k2 ∷ []) → k ≡ k2
   only_one k k2 e = ap (λ l. get_or l 0 k) e
 
+  -- the value in the first slot that is out
+  one_out : (y z : V) (p q : ℕ) (c d : List (ℕ × Option V)) → ((slot_of p, Some y) ∷ c) ≡ ((slot_of q, Some z) ∷ d) → y ≡ z
+  one_out y z p q c d e = same_Some y z (ap (λ (l : List (ℕ × Option V)). (get_or l 0 (slot_of p, Some y)).1) e)
+
   frees_at : (slots id p : ℕ) (k : K) (y : V) (c : List (ℕ × Option V)) (grown : P → P) (noting : N → N) → slot_of p < slots → MayPut R grown noting k p y
       → Allows (LockInvariant R opened) slots id (me k ((slot_of p, Some y) ∷ c)) (word_of p) (λ _. 0) (λ n. freed R grown noting (step slots (word_of p) 0 0 kernel.none) (me k ((slot_of p, Some y) ∷ c)) 0)
   frees_at slots id p k y c grown noting below (x, a, top, may) s r long at _ = (
@@ -124,9 +129,11 @@ module _ {P N V : Type 0} (R : Rules P N V) (laws : Laws R) (opened : Opened P) 
     gives,
     tt,
     gives_stand s r id p k at inside x y a top grown noting may c,
-    λ k2 p2 sits same. subst
-        (λ (z : ℕ × K). (progress : P) × ((notes : List N) × Possible R z.1 progress notes) × (me (left_with k p (grown r.progress) (noting k.note)) c ≡ me (left_with z.1 z.0 (grown progress) (noting z.1.note)) c))
-        (λ i. (one_place p p2 same i, only_one k k2 sits i)) (r.progress, (r.notes, (mine_of R laws opened s r id k at).possible), refl),
+    λ k2 p2 y2 c2 sits same. subst
+        (λ (z : ℕ × K × V × List (ℕ × Option V)). (progress : P) × ((notes : List N) × Possible R z.1 progress notes)
+        × (me (left_with k p y (grown r.progress) (noting k.note)) c ≡ me (left_with z.1 z.0 z.2 (grown progress) (noting z.1.note)) z.3))
+        (λ i. (one_place p p2 same i, only_one k k2 (ap (λ m. m.0) sits) i, one_out y y2 p p2 c c2 (ap (λ m. m.1) sits) i, ap (λ m. rest m.1) sits i))
+        (r.progress, (r.notes, (mine_of R laws opened s r id k at).possible), refl),
   )
     where
       inside : p < opened.places
@@ -174,7 +181,3 @@ module _ {P N V : Type 0} where
   pub put_in : (m n : Me (Option V) (List (Known P N V))) (k : Known P N V) (p slot : ℕ) (y : V) → slot ≡ slot_of p → m ≡ (k ∷ [], (slot_of p, None) ∷ map emptied (without p k.held)) → n ≡ (m.0, (slot, Some y) ∷ rest m.1)
       → n ≡ (k ∷ [], (slot_of p, Some y) ∷ map emptied (without p k.held))
   put_in m n k p slot y is left done = done ∙ (ap (λ q. (m.0, (q, Some y) ∷ rest m.1)) is ∙ ap (λ v. (v.0, (slot_of p, Some y) ∷ rest v.1)) left)
-
-  -- once the word is freed, the session has left the place
-  pub freed_with : (m n : Me (Option V) (List (Known P N V))) (k : Known P N V) (p : ℕ) (y : V) (left : Known P N V) → m ≡ (k ∷ [], (slot_of p, Some y) ∷ map emptied (without p k.held)) → n ≡ (left ∷ [], rest m.1) → n ≡ (left ∷ [], map emptied (without p k.held))
-  freed_with m n k p y left is done = done ∙ ap (λ v. (left ∷ [], rest v.1)) is

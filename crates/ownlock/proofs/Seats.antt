@@ -107,7 +107,7 @@ module _ {P N V : Type 0} (R : Rules P N V) (laws : Laws R) where
   all_sessions_at : (progress : P) (n : ℕ) (ns : List N) (i : ℕ) (k : K) → At i k (all_sessions progress n ns) → (k.session ≡ n + i) × (k.progress ≡ progress) × (k.held ≡ []) × At i k.note ns
   all_sessions_at progress n [] i k e = absurd (some-ne-none k (sym e))
   all_sessions_at progress n (x ∷ xs) zero k e =
-      let is : record { session = n; progress = progress; note = x; held = []; tails_read = [] } ≡ k = some-injective _ k e in
+      let is : record { session = n; progress = progress; note = x; held = []; steps = [] } ≡ k = some-injective _ k e in
       let number : n ≡ k.session = ap (λ (z : K). z.session) is in
       (omega arith, sym (ap (λ (z : K). z.progress) is), sym (ap (λ (z : K). z.held) is), ap (λ (z : K). kernel.some z.note) is)
   all_sessions_at progress n (x ∷ xs) (suc i) k e = let t = all_sessions_at progress (suc n) xs i k e in let number = t.0 in (omega arith, t.1, t.2, t.3)

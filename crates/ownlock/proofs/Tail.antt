@@ -1,11 +1,13 @@
 -- A step on the word of the completed tail keeps the invariant, and what it tells.
-use Rattle.std.proofs.Common.{◌≡◌, ◌≢◌, ℕ, max, List, [], ◌∷◌, ◌++◌, length, get_or, set, sym, refl, ap, ◌∙◌, subst, arith, length-set, get_or-set_same, Option}
+use Rattle.std.proofs.Common.{◌≡◌, ◌≢◌, ℕ, max, List, [], ◌∷◌, length, get_or, set, sym, refl, ap, ◌∙◌, subst, arith, length-set, get_or-set_same, Option}
 use mathlib.Core.Option as kernel
 use Rattle.atomic_table.specs.Table.{State, Me, keeps, step, stepped, Allows}
 use Rattle.ownlock.specs.declared.known.Known.{Known}
+use Rattle.ownlock.specs.declared.known.ShelfStep.{ShelfStep}
+use Rattle.ownlock.specs.declared.known.ShelfStep.TheVariants.{Read, Raised}
 use Rattle.ownlock.specs.Rules.{Rules, Laws}
 use Rattle.ownlock.specs.Words.{word_of, slot_of}
-use Rattle.ownlock.specs.Seats.{At, Opened, with_progress, having_read}
+use Rattle.ownlock.specs.Seats.{At, Opened, having_raised, having_read}
 use Rattle.ownlock.specs.Knowledge.{Later, Possible}
 use Rattle.ownlock.specs.Invariant.{SessionInvariant, LockInvariant, done_read, done_raised}
 use Rattle.ownlock.proofs.Keeps.{at_below, Goes, goes, mine_of, word_there, word_else}
@@ -25,10 +27,10 @@ module _ {P N V : Type 0} (R : Rules P N V) (laws : Laws R) (opened : Opened P) 
 
   -- the session goes on to a progress with the same history and the completed tail n
   module _ (s : St) (r : LockInvariant R opened s) (id : ℕ) (k : K) (at : At id (k ∷ []) s.views) (progress : P) (n : ℕ) (extends : R.Extends r.progress progress) (same : R.SameHistory r.progress progress)
-      (accounts : R.Accounts progress r.notes) (agrees : (q : ℕ) (y : V) → R.AgreesWith q r.progress r.notes y → R.AgreesWith q progress r.notes y) (completed : R.completed progress ≡ n) (tails : List ℕ) where
-    -- it has read these completed tails then
+      (accounts : R.Accounts progress r.notes) (agrees : (q : ℕ) (y : V) → R.AgreesWith q r.progress r.notes y → R.AgreesWith q progress r.notes y) (completed : R.completed progress ≡ n) (steps : List (ShelfStep V)) where
+    -- it has taken these steps then
     abbrev later : K
-    later = record { session = k.session; progress = progress; note = k.note; held = k.held; tails_read = tails }
+    later = record { session = k.session; progress = progress; note = k.note; held = k.held; steps = steps }
 
     seen : SessionInvariant R r.progress r.notes s.homes r.holder k
     seen = mine_of R laws opened s r id k at
@@ -99,7 +101,7 @@ module _ {P N V : Type 0} (R : Rules P N V) (laws : Laws R) (opened : Opened P) 
         keeps,
         tt,
         subst (λ z. LockInvariant R opened (stepped s (word_of z) (get_or s.words (word_of places) 0) id c (having_read k r.progress (get_or s.words (word_of places) 0) ∷ []) keeps)) (sym same)
-            (tail_stands s r id k at r.progress (get_or s.words (word_of places) 0) (laws.extends_self r.progress) (laws.same_self r.progress) r.accounts (λ q y h. h) (sym tail) (k.tails_read ++ get_or s.words (word_of places) 0 ∷ []) c),
+            (tail_stands s r id k at r.progress (get_or s.words (word_of places) 0) (laws.extends_self r.progress) (laws.same_self r.progress) r.accounts (λ q y h. h) (sym tail) (Read (get_or s.words (word_of places) 0) ∷ k.steps) c),
         λ k2 sits. subst (λ (z : K). (progress : P) × ((notes : List N) × Possible R z progress notes) × (get_or s.words (word_of places) 0 ≡ R.completed progress) × (me (having_read k r.progress (get_or s.words (word_of places) 0)) c ≡ me (having_read z progress (get_or s.words (word_of places) 0)) c)) (only_one k k2 sits)
             (r.progress, (r.notes, now s r id k at), tail, refl),
       )
@@ -113,13 +115,13 @@ module _ {P N V : Type 0} (R : Rules P N V) (laws : Laws R) (opened : Opened P) 
       let up : R.completed progress ≡ max (get_or s.words (word_of places) 0) n = laws.raised_completed r.progress n ∙ ap (λ z. max z n) (sym tail) in
       let known = now s r id k at in
       let may : R.Reaches r.progress n = laws.reaches_on k.progress r.progress n known.0.0 reaches in (
-        with_progress k progress ∷ [],
+        having_raised k progress n ∷ [],
         keeps,
         tt,
-        subst (λ z. LockInvariant R opened (stepped s (word_of z) (max (get_or s.words (word_of places) 0) n) id c (with_progress k progress ∷ []) keeps)) (sym same)
+        subst (λ z. LockInvariant R opened (stepped s (word_of z) (max (get_or s.words (word_of places) 0) n) id c (having_raised k progress n ∷ []) keeps)) (sym same)
             (tail_stands s r id k at progress (max (get_or s.words (word_of places) 0) n) (laws.raised_extends r.progress n) (laws.raised_same r.progress n) (laws.raised_account r.progress n r.notes may r.accounts)
-            (λ q y h. laws.raised_agrees q y r.progress n r.notes may r.accounts h) up k.tails_read c),
-        λ k2 sits. subst (λ (z : K). (before : P) × Later R z before × ((notes : List N) × Possible R z (R.raised before n) notes) × (me (with_progress k progress) c ≡ me (with_progress z (R.raised before n)) c)) (only_one k k2 sits)
+            (λ q y h. laws.raised_agrees q y r.progress n r.notes may r.accounts h) up (Raised n ∷ k.steps) c),
+        λ k2 sits. subst (λ (z : K). (before : P) × Later R z before × ((notes : List N) × Possible R z (R.raised before n) notes) × (me (having_raised k progress n) c ≡ me (having_raised z (R.raised before n) n) c)) (only_one k k2 sits)
             (r.progress, known.0, (r.notes, now_raised k r.progress r.notes n may known), refl),
       )
 

@@ -2,12 +2,12 @@
 -- A place has one word, which is 0 while the place is free, and one slot. The completed tail has a word of its own.
 use Rattle.std.specs.Prelude.{◌≡◌, ◌≢◌, ℕ, suc, ◌<◌, List, [], ◌∷◌, ◌++◌, map, length, slice_index, Option, Some, None}
 use mathlib.Core.Option as kernel
-use Rattle.atomic_table.specs.Table.{State, Me, Step, rest}
+use Rattle.atomic_table.specs.Table.{State, Me, Step}
 use Rattle.ownlock.specs.declared.known.Known.{Known}
 use Rattle.ownlock.specs.Rules.{Rules}
 use Rattle.ownlock.specs.Words.{word_of, completed_word, slot_of}
 use Rattle.ownlock.specs.Spreading.{HasGaps}
-use Rattle.ownlock.specs.Seats.{At, View, Opened, place_of, without, left_with, with_progress, having_read}
+use Rattle.ownlock.specs.Seats.{At, View, Opened, place_of, without, left_with, having_raised, having_read}
 use Rattle.ownlock.specs.Knowledge.{Later, Possible, Acquired, MayFind}
 
 -- the slot of a place that is held has no value
@@ -70,9 +70,9 @@ module _ {P N V : Type 0} (R : Rules P N V) where
   abbrev pub StepsTaking : Me (Option V) (View P N V) → ℕ → V → Me (Option V) (View P N V) → Type 0
   StepsTaking m p x m' = (k : Known P N V) → StepsAs m k → (after : Known P N V) × Acquired R p k after x × StepsAs m' after
 
-  -- and once it has put a value back to the place p
-  abbrev pub StepsPutting : (P → P) → (N → N) → Me (Option V) (View P N V) → ℕ → Me (Option V) (View P N V) → Type 0
-  StepsPutting grown noted m p m' = (k : Known P N V) → StepsAs m k → (progress : P) × MayFind R k progress × StepsAs m' (left_with k p (grown progress) (noted k.note))
+  -- and once it has put the value y back to the place p
+  abbrev pub StepsPutting : (P → P) → (N → N) → Me (Option V) (View P N V) → ℕ → V → Me (Option V) (View P N V) → Type 0
+  StepsPutting grown noted m p y m' = (k : Known P N V) → StepsAs m k → (progress : P) × MayFind R k progress × StepsAs m' (left_with k p y (grown progress) (noted k.note))
 
   -- a try at a place: where the word was 0, the seat has the value, and knows a progress that it agrees with
   abbrev pub tried : Step (Option V) → Me (Option V) (View P N V) → ℕ → Me (Option V) (View P N V) → Type 0
@@ -82,9 +82,10 @@ module _ {P N V : Type 0} (R : Rules P N V) where
   abbrev pub fronted : Step (Option V) → Me (Option V) (View P N V) → ℕ → Me (Option V) (View P N V) → Type 0
   fronted st m r m' = (k : Known P N V) (p : ℕ) → StepsAs m k → st.word ≡ word_of p → m' ≡ (k ∷ [], (slot_of p, None) ∷ map emptied (without p k.held))
 
-  -- the word of a held place goes to 0
+  -- the word of a held place, in whose slot the value y is, goes to 0
   abbrev pub freed : (P → P) → (N → N) → Step (Option V) → Me (Option V) (View P N V) → ℕ → Me (Option V) (View P N V) → Type 0
-  freed grown noted st m r m' = (k : Known P N V) (p : ℕ) → m.0 ≡ k ∷ [] → st.word ≡ word_of p → (progress : P) × ((notes : List N) × Possible R k progress notes) × (m' ≡ (left_with k p (grown progress) (noted k.note) ∷ [], rest m.1))
+  freed grown noted st m r m' = (k : Known P N V) (p : ℕ) (y : V) (out : List (ℕ × Option V)) → m ≡ (k ∷ [], (slot_of p, Some y) ∷ out) → st.word ≡ word_of p
+      → (progress : P) × ((notes : List N) × Possible R k progress notes) × (m' ≡ (left_with k p y (grown progress) (noted k.note) ∷ [], out))
 
   -- the word of the completed tail is read: the seat knows a progress with that completed tail, and that it has read this
   abbrev pub done_read : Step (Option V) → Me (Option V) (View P N V) → ℕ → Me (Option V) (View P N V) → Type 0
@@ -92,4 +93,4 @@ module _ {P N V : Type 0} (R : Rules P N V) where
 
   -- the word of the completed tail is raised: the seat knows a progress with the completed tail so raised
   abbrev pub done_raised : Step (Option V) → Me (Option V) (View P N V) → ℕ → Me (Option V) (View P N V) → Type 0
-  done_raised st m r m' = (k : Known P N V) → m.0 ≡ k ∷ [] → (before : P) × Later R k before × ((notes : List N) × Possible R k (R.raised before st.first) notes) × (m' ≡ (with_progress k (R.raised before st.first) ∷ [], m.1))
+  done_raised st m r m' = (k : Known P N V) → m.0 ≡ k ∷ [] → (before : P) × Later R k before × ((notes : List N) × Possible R k (R.raised before st.first) notes) × (m' ≡ (having_raised k (R.raised before st.first) st.first ∷ [], m.1))

@@ -2,7 +2,7 @@
 use Rattle.std.specs.Prelude.{◌≡◌, ℕ, ◌<◌, max, List, ◌∷◌, map, length, slice_set, Option, Some}
 use Rattle.ownlock.specs.declared.known.Known.{Known}
 use Rattle.ownlock.specs.Rules.{Rules, leader}
-use Rattle.ownlock.specs.Seats.{At, View, SeatView, IsSession, IsNotHeld, place_of, holding, left_with, with_progress, having_read}
+use Rattle.ownlock.specs.Seats.{At, View, SeatView, IsSession, IsNotHeld, place_of, holding, left_with, having_raised, having_read}
 
 module _ {P N V : Type 0} (R : Rules P N V) where
   -- the values that these places had when they were taken agree
@@ -40,10 +40,10 @@ module _ {P N V : Type 0} (R : Rules P N V) where
   abbrev pub Takes : SeatView P N V → ℕ → V → SeatView P N V → Type 0
   Takes before p x now = (k : Known P N V) → IsSession before k → (after : Known P N V) × Acquired p k after x × IsSession now after
 
-  -- what a put at the place p tells the session: it has left the place, with the progress and the note that the put made
-  abbrev pub Puts : (P → P) → (N → N) → SeatView P N V → ℕ → SeatView P N V → Type 0
-  Puts grown noted before p now = (k : Known P N V) → IsSession before k
-      → (progress : P) × MayFind k progress × IsSession now (left_with k p (grown progress) (noted k.note))
+  -- what a put of the value y at the place p tells the session: it has left the place, with the progress and the note that the put made
+  abbrev pub Puts : (P → P) → (N → N) → SeatView P N V → ℕ → V → SeatView P N V → Type 0
+  Puts grown noted before p y now = (k : Known P N V) → IsSession before k
+      → (progress : P) × MayFind k progress × IsSession now (left_with k p y (grown progress) (noted k.note))
 
   -- what a read of the completed tail n tells the session
   abbrev pub Reads : SeatView P N V → ℕ → SeatView P N V → Type 0
@@ -53,7 +53,7 @@ module _ {P N V : Type 0} (R : Rules P N V) where
   abbrev pub Raises : SeatView P N V → ℕ → SeatView P N V → Type 0
   Raises before n now = (k : Known P N V) → IsSession before k
       → (progress : P) × Later k progress × MayFind k (R.raised progress n) × (R.completed (R.raised progress n) ≡ max (R.completed progress) n)
-      × IsSession now (with_progress k (R.raised progress n))
+      × IsSession now (having_raised k (R.raised progress n) n)
 
   -- the value of each place agrees with this progress and these notes
   abbrev pub AllAgree : P → List N → List (Option V) → Type 0

@@ -4,6 +4,8 @@ use mathlib.Core.Option as kernel
 use lib.ListN.{get_elem?}
 use Rattle.atomic_table.specs.Seated.{TableId}
 use Rattle.ownlock.specs.declared.known.Known.{Known}
+use Rattle.ownlock.specs.declared.known.ShelfStep.{ShelfStep}
+use Rattle.ownlock.specs.declared.known.ShelfStep.TheVariants.{Took, Put, Read, Raised}
 
 -- x stands at i
 abbrev pub At : {A : Type 0} → ℕ → A → List A → Type 0
@@ -51,6 +53,14 @@ module _ {V : Type 0} where
   abbrev pub IsNotHeld : ℕ → List (ℕ × V) → Type 0
   IsNotHeld p held = (a : ℕ) (u : ℕ × V) → At a u held → u.0 ≢ p
 
+-- each completed tail that was read in these steps, of which the last stands first; in order
+abbrev pub tails_in : {V : Type 0} → List (ShelfStep V) → List ℕ
+tails_in [] = []
+tails_in (Took p x ∷ steps) = tails_in steps
+tails_in (Put p y ∷ steps) = tails_in steps
+tails_in (Read n ∷ steps) = tails_in steps ++ n ∷ []
+tails_in (Raised n ∷ steps) = tails_in steps
+
 module _ {P N V : Type 0} where
   -- the seat is the one session k
   abbrev pub IsSession : SeatView P N V → Known P N V → Type 0
@@ -58,24 +68,24 @@ module _ {P N V : Type 0} where
 
   -- the session, once it has taken the place p with the value x
   abbrev pub holding : Known P N V → P → ℕ → V → Known P N V
-  holding k progress p x = record { session = k.session; progress = progress; note = k.note; held = (p, x) ∷ k.held; tails_read = k.tails_read }
+  holding k progress p x = record { session = k.session; progress = progress; note = k.note; held = (p, x) ∷ k.held; steps = Took p x ∷ k.steps }
 
-  -- the session, once it has put the place p back
-  abbrev pub left_with : Known P N V → ℕ → P → N → Known P N V
-  left_with k p progress note = record { session = k.session; progress = progress; note = note; held = without p k.held; tails_read = k.tails_read }
+  -- the session, once it has put the value y back to the place p
+  abbrev pub left_with : Known P N V → ℕ → V → P → N → Known P N V
+  left_with k p y progress note = record { session = k.session; progress = progress; note = note; held = without p k.held; steps = Put p y ∷ k.steps }
 
-  -- the session, once it knows this progress
-  abbrev pub with_progress : Known P N V → P → Known P N V
-  with_progress k progress = record { session = k.session; progress = progress; note = k.note; held = k.held; tails_read = k.tails_read }
+  -- the session, once it has raised the completed tail to n, and knows this progress
+  abbrev pub having_raised : Known P N V → P → ℕ → Known P N V
+  having_raised k progress n = record { session = k.session; progress = progress; note = k.note; held = k.held; steps = Raised n ∷ k.steps }
 
   -- the session, once it has read the completed tail n, and knows this progress
   abbrev pub having_read : Known P N V → P → ℕ → Known P N V
-  having_read k progress n = record { session = k.session; progress = progress; note = k.note; held = k.held; tails_read = k.tails_read ++ n ∷ [] }
+  having_read k progress n = record { session = k.session; progress = progress; note = k.note; held = k.held; steps = Read n ∷ k.steps }
 
   -- all sessions, from the i-th on, each with its note
   abbrev pub all_sessions : P → ℕ → List N → View P N V
   all_sessions progress i [] = []
-  all_sessions progress i (n ∷ ns) = record { session = i; progress = progress; note = n; held = []; tails_read = [] } ∷ all_sessions progress (suc i) ns
+  all_sessions progress i (n ∷ ns) = record { session = i; progress = progress; note = n; held = []; steps = [] } ∷ all_sessions progress (suc i) ns
 
   -- a view whose first session is k goes into k alone, and the others
   abbrev pub IsSplit : View P N V → View P N V → View P N V → Type 0

@@ -172,7 +172,7 @@ impl<V: Shelved> Shelf<V> {
         requires there { held_place held < self.now.places }
         requires may { (k : Known V.Progress V.SessionNote V) × IsSession seat.old k × MayPut V.rules M.progress M.note k (held_place held) held.value }
         ensures same { seat.new.shelf ≡ seat.old.shelf }
-        ensures put { Puts V.rules M.progress M.note seat.old (held_place held) seat.new }
+        ensures put { Puts V.rules M.progress M.note seat.old (held_place held) held.value seat.new }
     {
         let Held { value, place } = held;
         release::<V, M>(&self.table.shared, &mut seat.pass, place, value);

@@ -57,7 +57,7 @@ pub(crate) fn release<V: Shelved, M: Change<V::Progress, V::SessionNote>>(
     requires there { HasPlace steps.now.table_id place }
     requires may { (k : Known V.Progress V.SessionNote V) × StepsAs pass.old.me k × MayPut V.rules M.progress M.note k place value }
     ensures same { pass.new.table_id ≡ pass.old.table_id }
-    ensures put { StepsPutting V.rules M.progress M.note pass.old.me place pass.new.me }
+    ensures put { StepsPutting V.rules M.progress M.note pass.old.me place value pass.new.me }
 {
     let word = word_of(place);
     let _ = steps.load::<OwnRetry>(pass, word);

@@ -7,7 +7,7 @@ use Rattle.std.proofs.lemmas.Bool.{false≢true}
 use Rattle.loader.specs.StoreState.{IsState, sizes_of}
 use Rattle.loader.proofs.States.{state_sizes}
 use Rattle.loader.specs.CatalogueView.{CatalogueView, sizes_for}
-use Rattle.oplog.specs.declared.configuration.TheConstants.{MAX_LIMIT}
+use Rattle.oplog.specs.declared.configuration.TheConstants.{ENDLESS}
 use Rattle.oplog.specs.History.{History}
 use Rattle.oplog.specs.Logs.{Log}
 use Rattle.oplog.specs.Sessions.{session}
@@ -69,7 +69,7 @@ stage_count m done h positions t x batch count (Posted op) (Some read) p = absur
 stage_count m done h positions t x batch count Claimed (Some read) p = absurd p
 stage_count m done h positions t x batch count (Answered r) (Some read) p = absurd p
 
-pub history_short : {m : Opening} {g : Log} {node : NodeView} (x : IsOfStore m g node) → length x.history ≤ MAX_LIMIT
+pub history_short : {m : Opening} {g : Log} {node : NodeView} (x : IsOfStore m g node) → length x.history ≤ ENDLESS
 history_short x = let a = x.log.within in let b = (x.config.limit).1 in omega arith
 
 pub countable : {m : Opening} {g : Log} {node : NodeView} → IsOfStore m g node → (s : ℕ) (y : Slot) → slice_get node.desk.slots s ≡ Some y → suc y.count < 2 ^ 64

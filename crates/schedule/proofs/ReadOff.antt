@@ -3,7 +3,7 @@ use Rattle.std.proofs.Common.{◌≡◌, ℕ, List, [], ◌∷◌, ◌++◌, Opt
 use Rattle.std.specs.Prelude.{slice_get, ◌&&◌, option_map}
 use Rattle.std.proofs.lemmas.Option.{same_Some}
 use Rattle.verifier.specs.declared.refusal.Mode.TheVariants.{Update, Read}
-use Rattle.oplog.specs.declared.configuration.Config.{Config}
+use Rattle.oplog.specs.declared.configuration.Sizes.{Sizes}
 use Rattle.oplog.specs.Operations.{Operation}
 use Rattle.oplog.specs.declared.records.Op.TheVariants.{Run}
 use Rattle.oplog.specs.declared.records.Op.TheVariants as operations
@@ -31,10 +31,10 @@ use Rattle.schedule.proofs.Calls.{session_is}
 use Rattle.schedule.proofs.Runs.{step_keeps}
 
 -- an event is the one that the step and its answer tell
-abbrev IsTold : Config → Step → Option Event → Type 0
+abbrev IsTold : Sizes → Step → Option Event → Type 0
 IsTold c step e = event_of c step (answer_of e) ≡ e
 
-pub told : (c : Config) (step : Step) (e f : Option Event) → e ≡ f → IsTold c step e → IsTold c step f
+pub told : (c : Sizes) (step : Step) (e f : Option Event) → e ≡ f → IsTold c step e → IsTold c step f
 told c step e f same is = subst (λ o. IsTold c step o) same is
 
 -- the event of a part
@@ -86,7 +86,7 @@ part_told m (Reclaim n) g node p desk taken = inner_told m Reclaims (Reclaim n) 
 part_told m (Rebase n) g node p desk taken = inner_told m Rebases (Rebase n) g node p taken refl
 
 -- a step that may not be taken is no event
-not_told : (c : Config) (step : Step) → event_of c step answers.NotNow ≡ None
+not_told : (c : Sizes) (step : Step) → event_of c step answers.NotNow ≡ None
 not_told c (Post n s program argument) = refl
 not_told c (Install n s mode arg_len bytes) = refl
 not_told c (Claim n) = refl

@@ -19,7 +19,7 @@ use Rattle.schedule.specs.Worlds.{NodeView, WorldView, opened_node, opened_nodes
 use Rattle.schedule.specs.Steps.{Part, Took, put_part, part_of, node_of, took, world_after, trace_after, world_of, trace_of}
 use Rattle.schedule.specs.Stands.{NodeStands, StageStands, Stands}
 use Rattle.loader.specs.CatalogueView.{IsCatalogue, opening_state}
-use Rattle.oplog.specs.Limits.{IsConfig}
+use Rattle.oplog.specs.Limits.{AreSizes}
 use Rattle.oplog.specs.Logs.{Log, opened_log}
 use Rattle.schedule.specs.Taking.{store_of, IsStanding}
 use Rattle.schedule.specs.Headline.{EverySchedule, StepKeeps, StepsKeep, OpeningStands, StandingIsExplained}
@@ -185,6 +185,6 @@ new_stands m g nodes whole is are =
     subst (λ k. Stands m (record { log = k; nodes = nodes }) [] [] []) (sym is)
     (subst (λ ns. Stands m (record { log = opened_log (opening_state m.catalogue) m.config.window m.config.limit; nodes = ns }) [] [] []) (sym are) (opening_stands m whole))
 
-pub new_is_standing : (m : Opening) (g : Log) (nodes : List NodeView) → IsConfig m.config → IsCatalogue m.catalogue → g ≡ opened_log (opening_state m.catalogue) m.config.window m.config.limit → nodes ≡ opened_nodes m 0 m.config.nodes
+pub new_is_standing : (m : Opening) (g : Log) (nodes : List NodeView) → AreSizes m.config → IsCatalogue m.catalogue → g ≡ opened_log (opening_state m.catalogue) m.config.window m.config.limit → nodes ≡ opened_nodes m 0 m.config.nodes
     → IsStanding (store_of m g nodes)
 new_is_standing m g nodes config whole is are = record { config = config; history = []; positions = []; trace = []; stands = new_stands m g nodes whole is are }

@@ -5,7 +5,7 @@ use Rattle.std.proofs.lemmas.Option.{same_Some}
 use Rattle.std.proofs.lemmas.Bool.{ne_eqb, eq-eqb}
 use Rattle.verifier.specs.declared.refusal.Mode.{Mode}
 use Rattle.verifier.specs.declared.refusal.Mode.TheVariants.{Update}
-use Rattle.oplog.specs.declared.configuration.Config.{Config}
+use Rattle.oplog.specs.declared.configuration.Sizes.{Sizes}
 use Rattle.oplog.specs.declared.records.Record.{Record}
 use Rattle.oplog.specs.Operations.{Operation}
 use Rattle.oplog.specs.History.{History}
@@ -37,10 +37,10 @@ same_session slots (suc n) s (suc k) j l g e =
     let r = same_session slots n s k j l g c in
     (ap suc r.0, r.1)
 
-pub other_slot : (config : Config) (n k s j : ℕ) → s < config.slots → j < config.slots → j ≢ s → session config n s ≢ session config k j
+pub other_slot : (config : Sizes) (n k s j : ℕ) → s < config.slots → j < config.slots → j ≢ s → session config n s ≢ session config k j
 other_slot config n k s j l g ne e = ne (sym (same_session config.slots n s k j l g e).1)
 
-pub other_node : (config : Config) (n k s j : ℕ) → s < config.slots → j < config.slots → k ≢ n → session config n s ≢ session config k j
+pub other_node : (config : Sizes) (n k s j : ℕ) → s < config.slots → j < config.slots → k ≢ n → session config n s ≢ session config k j
 other_node config n k s j l g ne e = ne (sym (same_session config.slots n s k j l g e).0)
 
 -- ---- another caller's event

@@ -7,7 +7,7 @@ use Rattle.oplog.specs.Calls.{Call as ProgramCall, NewProgram}
 use Rattle.oplog.specs.Operations.{Operation}
 use Rattle.oplog.specs.declared.records.Op.TheVariants.{Run, Install}
 use Rattle.oplog.specs.History.{History}
-use Rattle.oplog.specs.Limits.{IsConfig}
+use Rattle.oplog.specs.Limits.{AreSizes}
 use Rattle.oplog.specs.Logs.{Log}
 use Rattle.replica.specs.StoreMeaning.{is_operation, AreUpdates}
 use Rattle.schedule.specs.declared.parts.Opening.{Opening}
@@ -85,7 +85,7 @@ pub record IsOfStore (m : Opening) (g : Log) (node : NodeView) : Type 0 where
   pub positions : Positions
   pub trace : Trace
   pub number : ℕ
-  pub config : IsConfig m.config
+  pub config : AreSizes m.config
   pub catalogue : IsCatalogue m.catalogue
   pub updates : AreUpdates m.catalogue history
   pub log : LogStands m g history
@@ -93,7 +93,7 @@ pub record IsOfStore (m : Opening) (g : Log) (node : NodeView) : Type 0 where
 
 -- some history stands for the store
 pub record IsStanding (s : WorldState) : Type 0 where
-  pub config : IsConfig s.opening.config
+  pub config : AreSizes s.opening.config
   pub history : History
   pub positions : Positions
   pub trace : Trace

@@ -2,7 +2,7 @@
 use Rattle.std.specs.Prelude.{ℕ, zero, suc, List, [], ◌∷◌, replicate, Option, None}
 use Rattle.loader.specs.CatalogueView.{CatalogueView, opened_on, opening_state, with_places}
 use Rattle.loader.specs.StoreState.{StoreState}
-use Rattle.oplog.specs.declared.configuration.Config.{Config}
+use Rattle.oplog.specs.declared.configuration.Sizes.{Sizes}
 use Rattle.oplog.specs.Logs.{Log, HandView, opened_log, opened_hand}
 use Rattle.combiner.specs.Desks.{DeskView, opened_desk}
 use Rattle.replica.specs.StoreMeaning.{store_meaning}
@@ -33,11 +33,11 @@ pub record WorldView : Type 0 where
 -- ---- the opening
 
 -- what opens a store of these sizes with the maps and programs of a catalogue
-abbrev pub opening_of : Config → CatalogueView → Opening
+abbrev pub opening_of : Sizes → CatalogueView → Opening
 opening_of config c = record { config = config; catalogue = with_places c config.spare }
 
 -- the same on a state
-abbrev pub opening_on : Config → CatalogueView → StoreState → Opening
+abbrev pub opening_on : Sizes → CatalogueView → StoreState → Opening
 opening_on config c s = record { config = config; catalogue = opened_on (with_places c config.spare) s }
 
 -- a new node of this number: in the opening state, with nothing copied, nobody at its desk, no batch and no read

@@ -4,7 +4,7 @@ ghost use Rattle.std.specs.Prelude.{◌≡◌, ◌↔◌, IsTrue, ◌+◌, ◌�
 ghost use Rattle.loader.specs.CatalogueView.{OpensOn, sizes_for};
 ghost use Rattle.loader.specs.StoreState.{sizes_of};
 ghost use Rattle.oplog.specs.declared.configuration.TheConstants.{MAX_NODES};
-ghost use Rattle.oplog.specs.Limits.{IsConfig};
+ghost use Rattle.oplog.specs.Limits.{AreSizes};
 ghost use Rattle.oplog.specs.Logs.{Log};
 ghost use Rattle.oplog.specs.declared.records.Op.TheVariants.{Run};
 ghost use Rattle.replica.specs.StoreMeaning.{store_meaning};
@@ -108,7 +108,7 @@ impl Node {
         state: Option<&StoreState>,
         number: u16,
     ) -> Result<Node, AllocError>
-        requires config { IsConfig opening.now.config }
+        requires config { AreSizes opening.now.config }
         requires opens { OpensOn opening.now.catalogue state }
         requires number { number < MAX_NODES }
         ensures opened { IfOk result (λ node. node ≡ opened_node opening.now number) }

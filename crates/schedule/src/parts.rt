@@ -1,13 +1,13 @@
 // What a store is opened with, and a begun read.
 
 use loader::Catalogue;
-use oplog::{Call, Config};
+use oplog::{Call, Sizes};
 
 /// What a store is opened with.
 #[derive(Drop)]
 pub struct Opening {
     /// Its sizes.
-    pub config: Config,
+    pub config: Sizes,
     /// Its maps and programs.
     pub catalogue: Catalogue,
 }

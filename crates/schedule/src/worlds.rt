@@ -2,7 +2,7 @@
 
 ghost use Rattle.std.specs.Prelude.{◌≡◌, ◌≢◌, ◌↔◌, ◌<◌, ◌≤◌, [], ◌∷◌, length, replicate, slice_get, Some, None, option_map, IfOk, IfErr, OnErr};
 ghost use Rattle.loader.specs.CatalogueView.{IsCatalogue, MayOpenOn, OpensOn, with_places};
-ghost use Rattle.oplog.specs.Limits.{IsConfig};
+ghost use Rattle.oplog.specs.Limits.{sizes_in, AreSizes, IsConfig};
 ghost use Rattle.oplog.specs.declared.configuration.OpenError.TheVariants.{OtherState, OutOfLimits};
 ghost use Rattle.schedule.specs.Worlds.{opened_node, opened_nodes, opening_of, opening_on};
 ghost use Rattle.schedule.specs.Steps.{node_of, took, world_of};
@@ -16,7 +16,7 @@ use crate::nodes::Node;
 use crate::parts::Opening;
 use crate::steps::{Step, StepAnswer};
 use loader::{Catalogue, Installed, StoreState};
-use oplog::{Config, LogState, OpenError};
+use oplog::{Config, LogState, OpenError, Sizes};
 use replica::Replica;
 use std::alloc::{AllocError, Global};
 use std::marker::Model;
@@ -53,7 +53,7 @@ fn open_nodes(
     opening: &Opening,
     state: Option<&StoreState>,
 ) -> Result<Vec<Node>, AllocError>
-    requires config { IsConfig opening.now.config }
+    requires config { AreSizes opening.now.config }
     requires opens { OpensOn opening.now.catalogue state }
     ensures opened { IfOk result (λ nodes. nodes.items ≡ opened_nodes opening.now 0 opening.now.config.nodes) }
 {
@@ -75,13 +75,32 @@ impl World {
         ensures limits { IfErr result (λ e. (e ≡ OutOfLimits) ↔ (IsConfig config → ⊥)) }
         ensures other { IfErr result (λ e. e ≢ OtherState) }
         ensures within { IfOk result (λ w. IsConfig config) }
-        ensures opened { IfOk result (λ w. w ≡ opened_store (opening_of config catalogue)) }
+        ensures opened { IfOk result (λ w. w ≡ opened_store (opening_of (sizes_in config) catalogue)) }
         ensures stands { IfOk result (λ w. Stands w.opening w.world [] [] []) }
     {
         if !config.is_within_limits() {
             return Err(OpenError::OutOfLimits);
         }
-        let catalogue = catalogue.with_places(config.spare as usize);
+        World::open_sized(alloc, config.sizes(), catalogue)
+    }
+
+    /// A new store of these sizes, as [`World::open`] has it, whose history may have up to [`ENDLESS`](oplog::ENDLESS) records.
+    ///
+    /// # Errors
+    ///
+    /// O1 where a size is out of its limits, O2 where there is no memory.
+    pub fn open_sized(alloc: Global, sizes: Sizes, catalogue: Catalogue) -> Result<World, OpenError>
+        ensures limits { IfErr result (λ e. (e ≡ OutOfLimits) ↔ (AreSizes sizes → ⊥)) }
+        ensures other { IfErr result (λ e. e ≢ OtherState) }
+        ensures within { IfOk result (λ w. AreSizes sizes) }
+        ensures opened { IfOk result (λ w. w ≡ opened_store (opening_of sizes catalogue)) }
+        ensures stands { IfOk result (λ w. Stands w.opening w.world [] [] []) }
+    {
+        if !sizes.is_within_limits() {
+            return Err(OpenError::OutOfLimits);
+        }
+        let catalogue = catalogue.with_places(sizes.spare as usize);
+        let config = sizes;
         match World::opened(alloc, Opening { config, catalogue }, None) {
             Ok(world) => Ok(world),
             Err(_) => Err(OpenError::NoMemory),
@@ -104,17 +123,42 @@ impl World {
         ensures limits { IfErr result (λ e. (e ≡ OutOfLimits) ↔ (IsConfig config → ⊥)) }
         ensures other { IfErr result (λ e. (e ≡ OtherState) ↔ IsConfig config × (MayOpenOn (with_places catalogue config.spare) state.now → ⊥)) }
         ensures within { IfOk result (λ w. IsConfig config × MayOpenOn (with_places catalogue config.spare) state.now) }
-        ensures opened { IfOk result (λ w. w ≡ opened_store (opening_on config catalogue state.now)) }
+        ensures opened { IfOk result (λ w. w ≡ opened_store (opening_on (sizes_in config) catalogue state.now)) }
         ensures stands { IfOk result (λ w. Stands w.opening w.world [] [] []) }
     {
         if !config.is_within_limits() {
             return Err(OpenError::OutOfLimits);
         }
-        let catalogue = catalogue.with_places(config.spare as usize);
+        World::open_sized_on(alloc, config.sizes(), catalogue, state)
+    }
+
+    /// A store of these sizes on a state, as [`World::open_on`] has it.
+    ///
+    /// # Errors
+    ///
+    /// O1 where a size is out of its limits, then O3 where the state has other maps than the catalogue or more programs than there are places, then
+    /// O2 where there is no memory.
+    pub fn open_sized_on(
+        alloc: Global,
+        sizes: Sizes,
+        catalogue: Catalogue,
+        state: &StoreState,
+    ) -> Result<World, OpenError>
+        ensures limits { IfErr result (λ e. (e ≡ OutOfLimits) ↔ (AreSizes sizes → ⊥)) }
+        ensures other { IfErr result (λ e. (e ≡ OtherState) ↔ AreSizes sizes × (MayOpenOn (with_places catalogue sizes.spare) state.now → ⊥)) }
+        ensures within { IfOk result (λ w. AreSizes sizes × MayOpenOn (with_places catalogue sizes.spare) state.now) }
+        ensures opened { IfOk result (λ w. w ≡ opened_store (opening_on sizes catalogue state.now)) }
+        ensures stands { IfOk result (λ w. Stands w.opening w.world [] [] []) }
+    {
+        if !sizes.is_within_limits() {
+            return Err(OpenError::OutOfLimits);
+        }
+        let catalogue = catalogue.with_places(sizes.spare as usize);
         if !catalogue.may_open_on(state) {
             return Err(OpenError::OtherState);
         }
         let catalogue = catalogue.on(state);
+        let config = sizes;
         match World::opened(alloc, Opening { config, catalogue }, Some(state)) {
             Ok(world) => Ok(world),
             Err(_) => Err(OpenError::NoMemory),
@@ -127,7 +171,7 @@ impl World {
         opening: Opening,
         state: Option<&StoreState>,
     ) -> Result<World, AllocError>
-        requires config { IsConfig opening.config }
+        requires config { AreSizes opening.config }
         requires opens { OpensOn opening.catalogue state }
         ensures opened { IfOk result (λ w. w ≡ opened_store opening) }
         ensures stands { IfOk result (λ w. Stands w.opening w.world [] [] []) }
@@ -156,7 +200,7 @@ impl World {
     }
 
     /// The sizes that it was opened with. Some history stands for the store, as for each at any time.
-    pub fn config(&self) -> Config
+    pub fn config(&self) -> Sizes
         ensures config { result ≡ self.now.opening.config }
         ensures stands { IsStanding self.now }
     {

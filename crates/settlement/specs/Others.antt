@@ -2,7 +2,7 @@
 use Rattle.std.specs.Prelude.{◌≡◌, ◌≢◌, ℕ, ◌<◌, ◌⊎◌, List, [], ◌∷◌, ◌++◌, Some, slice_get}
 use Rattle.std.specs.List.{AllByRecursion}
 use Rattle.oplog.specs.History.{History}
-use Rattle.oplog.specs.Limits.{IsConfig}
+use Rattle.oplog.specs.Limits.{AreSizes}
 use Rattle.oplog.specs.Logs.{Log, tail_of}
 use Rattle.combiner.specs.declared.slots.Reply.{Reply}
 use Rattle.combiner.specs.declared.slots.Slot.{Slot}
@@ -36,7 +36,7 @@ pub record HasEnded (w : WorldView) (n : ℕ) (node : NodeView) : Type 0 where
 abbrev pub LoggedBatchesEnd : Type 0
 LoggedBatchesEnd =
     (m : Opening) (w : WorldView) (h : History) (positions : Positions) (t : Trace) (n : ℕ) (node : NodeView) (b : Written) (first second third : List Step)
-    → IsConfig m.config → Stands m w h positions t → slice_get w.nodes n ≡ Some node → node.batch ≡ InLog b → AreOfOthers n first → AreOfOthers n second → AreOfOthers n third
+    → AreSizes m.config → Stands m w h positions t → slice_get w.nodes n ≡ Some node → node.batch ≡ InLog b → AreOfOthers n first → AreOfOthers n second → AreOfOthers n third
     → HasEnded (world_of m w (first ++ (Replay n ∷ (second ++ (Finish n ∷ (third ++ (Replies n ∷ []))))))) n node
 
 -- ---- the whole list
@@ -60,5 +60,5 @@ pub data OthersMove (m : Opening) (n : ℕ) : WorldView → List Step → Type 0
 -- or moved the base meanwhile
 abbrev pub NodesSettleOrOthersMove : Type 0
 NodesSettleOrOthersMove =
-    (m : Opening) (w : WorldView) (h : History) (positions : Positions) (t : Trace) (n : ℕ) (all : List Step) → IsConfig m.config
+    (m : Opening) (w : WorldView) (h : History) (positions : Positions) (t : Trace) (n : ℕ) (all : List Step) → AreSizes m.config
     → Stands m w h positions t → n < m.config.nodes → Woven n (settling n m.config.slots) all → IsSettledAt (world_of m w all) n ⊎ OthersMove m n w all

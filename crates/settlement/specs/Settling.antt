@@ -2,10 +2,10 @@
 use Rattle.std.specs.Prelude.{◌≡◌, ◌≢◌, ℕ, zero, suc, ◌+◌, ◌*◌, ◌<◌, ◌≤◌, true, List, [], ◌∷◌, ◌++◌, length, Option, Some, None, slice_get}
 use Rattle.verifier.specs.declared.refusal.Mode.{Mode}
 use Rattle.loader.specs.CatalogueView.{IsCatalogue}
-use Rattle.oplog.specs.declared.configuration.Config.{Config}
+use Rattle.oplog.specs.declared.configuration.Sizes.{Sizes}
 use Rattle.oplog.specs.Operations.{Operation}
 use Rattle.oplog.specs.History.{History}
-use Rattle.oplog.specs.Limits.{IsConfig}
+use Rattle.oplog.specs.Limits.{AreSizes}
 use Rattle.schedule.specs.declared.parts.Opening.{Opening}
 use Rattle.schedule.specs.declared.steps.Step.{Step}
 use Rattle.schedule.specs.declared.steps.Step.TheVariants.{Claim, Append, Replay, Finish, Reply, Collect, ReadAnswer, Reclaim, Rebase}
@@ -80,13 +80,13 @@ pub record SettlesAlone (m : Opening) (w : WorldView) (n : ℕ) : Type 0 where
 -- so it is from every store that stands, wherever the other nodes have stopped
 abbrev pub NodesSettleAlone : Type 0
 NodesSettleAlone =
-    (m : Opening) (w : WorldView) (h : History) (positions : Positions) (t : Trace) (n : ℕ) → IsConfig m.config → Stands m w h positions t
+    (m : Opening) (w : WorldView) (h : History) (positions : Positions) (t : Trace) (n : ℕ) → AreSizes m.config → Stands m w h positions t
     → n < m.config.nodes → SettlesAlone m w n
 
 -- ---- all nodes
 
 -- the lists of all nodes
-abbrev pub settling_store : Config → List Step
+abbrev pub settling_store : Sizes → List Step
 settling_store config = settling_all 0 config.nodes config.slots
 
 -- each call of the trace has its answer
@@ -107,4 +107,4 @@ pub record SettlesAfter (m : Opening) (steps : List Step) : Type 0 where
 
 -- no list of steps leads a new store to where a call can't be answered
 abbrev pub EveryScheduleSettles : Type 0
-EveryScheduleSettles = (m : Opening) (steps : List Step) → IsConfig m.config → IsCatalogue m.catalogue → SettlesAfter m steps
+EveryScheduleSettles = (m : Opening) (steps : List Step) → AreSizes m.config → IsCatalogue m.catalogue → SettlesAfter m steps

@@ -3,7 +3,7 @@
 ghost use Rattle.std.specs.Prelude.{◌≡◌, IfOk};
 ghost use Rattle.settlement.specs.Settling.{settling, settling_store};
 
-use oplog::Config;
+use oplog::Sizes;
 use schedule::Step;
 use std::alloc::{AllocError, Global};
 
@@ -53,7 +53,7 @@ pub fn settling(alloc: Global, node: u64, slots: u64) -> Result<Vec<Step>, Alloc
 /// # Errors
 ///
 /// The system has no memory left.
-pub fn settling_store(alloc: Global, config: Config) -> Result<Vec<Step>, AllocError>
+pub fn settling_store(alloc: Global, config: Sizes) -> Result<Vec<Step>, AllocError>
     ensures steps { IfOk result (λ steps. steps.items ≡ settling_store config) }
 {
     let mut steps = Vec::new(alloc);

@@ -1,7 +1,7 @@
 use Rattle.std.proofs.Common.{rules, ap, map, None}
 use Rattle.ownlock.specs.Seats.{without}
 use Rattle.ownlock.specs.Invariant.{emptied}
-use Rattle.ownlock.proofs.Frees.{fronts, frees, put_out, none_left, put_in, freed_with}
+use Rattle.ownlock.proofs.Frees.{fronts, frees, put_out, none_left, put_in}
 use Rattle.ownlock.proofs.steps.release.Goals as goal
 
 pub load-requires : goal.load-requires
@@ -26,5 +26,4 @@ pub returns-clause-put : goal.returns-clause-put
 returns-clause-put g c k sits =
     let left = c.load.ensures.2 k c.args.place sits c.word_of-word.ensures in
     let is = put_in _ _ k c.args.place _ c.args.value c.slot_of.ensures left c.exchange-emptied.ensures.3 in
-    let t = c.store.ensures.2 k c.args.place (ap (λ v. v.0) is) c.word_of-word.ensures in
-    (t.0, t.1, freed_with _ _ k c.args.place c.args.value _ is t.2)
+    c.store.ensures.2 k c.args.place c.args.value (map emptied (without c.args.place k.held)) is c.word_of-word.ensures
