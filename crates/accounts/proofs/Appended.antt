@@ -4,7 +4,7 @@ use Rattle.std.proofs.lemmas.Bool.{cases_lt}
 use native.Mathlib.Decide.{ℕ_discrete}
 use Rattle.atomic_table.proofs.Lists.{set_again}
 use Rattle.oplog.specs.History.{Meaning}
-use Rattle.oplog.specs.declared.configuration.Config.{Config}
+use Rattle.oplog.specs.declared.configuration.Sizes.{Sizes}
 use Rattle.oplog.specs.declared.records.Record.{Record}
 use Rattle.ownlock.specs.Seats.{At}
 use Rattle.accounts.proofs.Keeps.{Batches, IsNew, batch_changes, some_one}
@@ -43,7 +43,7 @@ module _ {C M : Type 0} (E : Meaning C M) where
       near = subst (λ z. (d k : ℕ) (t : Claim) → IsInBatch ns d k t → (node : ℕ) × IsSessionOf z node d × IsSessionOf z node t.request.author) (sym config) w.near;
       once = w.once;
       completed = done;
-      limit = let long = ap length same in let top = ap (λ (z : Config). z.limit) config in let was = w.limit in omega (arith, long, top, was);
+      limit = let long = ap length same in let top = ap (λ (z : Sizes). z.limit) config in let was = w.limit in omega (arith, long, top, was);
     }
 
     module _ (k : ℕ) (unplaced : (j : ℕ) (t : Claim) → At j t n.batch → t.index ≡ None) (history : l'.history ≡ l.history ++ map record_of (take k n.batch)) where
@@ -124,7 +124,7 @@ module _ {C M : Type 0} (E : Meaning C M) where
   log_accounts : (l l' : Progress C) (ns : List SessionNote) (c : ℕ) (n n' : SessionNote) → Accounts E l ns → At c n ns → LogMove E l n l' n' → Accounts E l' (set ns c n')
   log_accounts l l' ns c n n' w here m = ⊎_elim
       (λ keep. subst (λ z. Accounts E l' (set ns c z)) (sym keep.1) (subst (λ z. Accounts E l' z) (sym (set_again ns c n here)) (finish_accounts l l' ns c n w here m.config m.catalogue keep.0 (let low = w.completed in let still = m.completed in let long = ap length keep.0 in omega (arith, low, still, long)))))
-      (λ t. let limit = t.limit in let top = ap (λ (z : Config). z.limit) m.config in let low = w.completed in let still = m.completed in let long = ap length t.history ∙ length-append l.history (map record_of (take t.count n.batch)) in
+      (λ t. let limit = t.limit in let top = ap (λ (z : Sizes). z.limit) m.config in let low = w.completed in let still = m.completed in let long = ap length t.history ∙ length-append l.history (map record_of (take t.count n.batch)) in
       subst (λ z. Accounts E l' (set ns c z)) (sym t.note) (append_accounts l l' ns c n w here m.config m.catalogue t.count t.unplaced t.history (omega (arith, low, still, long)) (omega (arith, limit, top))))
       m.appends
 

@@ -3,7 +3,7 @@ use Rattle.std.proofs.Common.{◌≡◌, ◌≢◌, ℕ, zero, suc, ◌+◌, ◌
 use mathlib.Core.Option.{some-injective}
 use Rattle.oplog.specs.History.{Meaning}
 use Rattle.oplog.specs.declared.records.Record.{Record}
-use Rattle.oplog.specs.declared.configuration.Config.{Config}
+use Rattle.oplog.specs.declared.configuration.Sizes.{Sizes}
 use Rattle.oplog.specs.Sessions.{IsSessionOf, session}
 use Rattle.ownlock.specs.Seats.{At}
 use Rattle.combiner.specs.Slots.{is_claimed, requested, requests_from}
@@ -141,7 +141,7 @@ claimed_are a (x ∷ xs) rs up slots records = by_first a x xs rs x.stage refl (
 -- ---- the batch of the desk's combiner
 
 -- a slot of the desk is claimed for this request, by its combiner c
-record HasSlot (config : Config) (x : DeskView) (combiner c : ℕ) (t : Claim) : Type 0 where
+record HasSlot (config : Sizes) (x : DeskView) (combiner c : ℕ) (t : Claim) : Type 0 where
   pub s : ℕ
   pub slot : Slot
   pub at : At s slot x.slots

@@ -5,7 +5,7 @@ use Rattle.std.specs.Option.{option_and_then, option_map}
 use Rattle.atomic_table.proofs.Lists.{set_here}
 use Rattle.ownlock.specs.declared.known.Known.{Known}
 use Rattle.ownlock.specs.Seats.{At}
-use Rattle.oplog.specs.declared.configuration.Config.{Config}
+use Rattle.oplog.specs.declared.configuration.Sizes.{Sizes}
 use Rattle.oplog.specs.Sessions.{session}
 use Rattle.oplog.specs.History.{Meaning}
 use Rattle.combiner.specs.Desks.{DeskView, answer_in}
@@ -58,7 +58,7 @@ module _ {C M V : Type 0} (view : V → StoreValue M) where
   pub desk_notes : IsNoting {C = C} view (desk_noting view Looked)
   desk_notes = record { none = λ i n. refl; same = λ k a p v y at is. refl }
 
-module _ {C M V : Type 0} (E : Meaning C M) (view : V → StoreValue M) (IsSized : Config → C → V → Type 0) where
+module _ {C M V : Type 0} (E : Meaning C M) (view : V → StoreValue M) (IsSized : Sizes → C → V → Type 0) where
   pub desk_picks : DeskIs E view IsSized
   desk_picks deed sessions k w y is isw = (
     ap (λ s. put_progress s (view w)) is ∙ ap (λ z. put_progress (k ∷ []) z) isw,

@@ -5,7 +5,7 @@ use native.Mathlib.Decide.{ℕ_discrete}
 use Rattle.atomic_table.proofs.Lists.{set_again}
 use Rattle.oplog.specs.History.{Meaning, state_after, reply_at}
 use Rattle.oplog.specs.Operations.{Operation}
-use Rattle.oplog.specs.declared.configuration.Config.{Config}
+use Rattle.oplog.specs.declared.configuration.Sizes.{Sizes}
 use Rattle.oplog.specs.declared.records.Record.{Record}
 use Rattle.ownlock.specs.Rules.{Laws, IsPart}
 use Rattle.ownlock.specs.Seats.{At}
@@ -61,7 +61,7 @@ module _ {C M : Type 0} (E : Meaning C M) where
       let lt = h.0 in let up = g.rises in
       (omega (arith, lt, up), subst (λ z. At i (record { author = a; seq = seq; op = op }) z) (sym g.history) (at_front l.history more i _ h.1), reply_stays l l' more g i op (omega (arith, lt, low)) ∙ h.2)
   answer_stays l l' more low g a seq op Ended none h =
-      let at = h.0 in let up = g.rises in let top = g.limit in let end = g.done in let same = ap (λ (z : Config). z.limit) g.config in
+      let at = h.0 in let up = g.rises in let top = g.limit in let end = g.done in let same = ap (λ (z : Sizes). z.limit) g.config in
       (omega (arith, at, up, top, end, same), none h.1)
 
   pub stage_stays : (l l' : Progress C) (more : List Record) (ns ns' : List SessionNote) (combiner a : ℕ) (n m : SessionNote) → l.completed ≤ length l.history → Grown l l' more → Undisturbed l l' ns ns' combiner a → Alike n m
@@ -83,7 +83,7 @@ module _ {C M : Type 0} (E : Meaning C M) where
   pub desk_stays : (l l' : Progress C) (more : List Record) (ns ns' : List SessionNote) (y : DeskView) → l.completed ≤ length l.history → Grown l l' more → (a : DeskAgrees E l ns y)
       → ((s : ℕ) → s < l.config.slots → Undisturbed l l' ns ns' a.combiner (session l.config y.node s)) → DeskAgrees E l' ns' y
   desk_stays l l' more ns ns' y low g a u = record {
-    slots = a.slots ∙ ap (λ (z : Config). z.slots) (sym g.config);
+    slots = a.slots ∙ ap (λ (z : Sizes). z.slots) (sym g.config);
     combiner = a.combiner;
     each = λ s slot at.
         let lt : s < l.config.slots = let b = at_below y.slots s slot at in let long = a.slots in omega (arith, b, long) in
@@ -140,13 +140,13 @@ module _ {C M : Type 0} (E : Meaning C M) where
   log_others : (l l' : Progress C) (ns : List SessionNote) (c : ℕ) (n n' : SessionNote) → Accounts E l ns → Accounts E l' (set ns c n') → At c n ns → LogMove E l n l' n' → (q : ℕ) (y : StoreValue M) → q ≢ 0 → AgreesWith E q l ns y → AgreesWith E q l' (set ns c n') y
   log_others l l' ns c n n' w w' here m q (TheLog y) ne a = absurd (ne a.0)
   log_others l l' ns c n n' w w' here m q (TheReplica y) ne (node, lt, at, a) =
-      let g = grown in (node, subst (λ (z : Config). node < z.nodes) (sym m.config) lt, at, replica_stays l l' g.0 y w.completed g.1 a)
+      let g = grown in (node, subst (λ (z : Sizes). node < z.nodes) (sym m.config) lt, at, replica_stays l l' g.0 y w.completed g.1 a)
     where
       grown : (more : List Record) × Grown l l' more
       grown = ⊎_elim (λ keep. ([], record { config = m.config; catalogue = m.catalogue; history = keep.0 ∙ sym (append-nil l.history); rises = (let same = m.completed in omega (arith, same)); done = w'.completed; limit = w'.limit }))
           (λ t. (map record_of (take t.count n.batch), record { config = m.config; catalogue = m.catalogue; history = t.history; rises = (let same = m.completed in omega (arith, same)); done = w'.completed; limit = w'.limit })) m.appends
   log_others l l' ns c n n' w w' here m q (TheDesk y) ne (lt, at, a) =
-      (subst (λ (z : Config). y.node < z.nodes) (sym m.config) lt, at ∙ ap (λ z. desk_place z y.node) (sym m.config), ⊎_elim kept added m.appends)
+      (subst (λ (z : Sizes). y.node < z.nodes) (sym m.config) lt, at ∙ ap (λ z. desk_place z y.node) (sym m.config), ⊎_elim kept added m.appends)
     where
       kept : (l'.history ≡ l.history) × (n' ≡ n) → DeskAgrees E l' (set ns c n') y
       kept keep = subst (λ z. DeskAgrees E l' z y) (sym (set_again ns c n here) ∙ ap (λ z. set ns c z) (sym keep.1))

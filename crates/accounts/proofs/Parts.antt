@@ -6,7 +6,7 @@ use mathlib.Core.Option.{some-injective}
 use Rattle.atomic_table.proofs.Lists.{at_set, set_here, set_else}
 use Rattle.oplog.specs.History.{Meaning, after, state_after, reply_at, read_reply_at}
 use Rattle.oplog.specs.Operations.{Operation}
-use Rattle.oplog.specs.declared.configuration.Config.{Config}
+use Rattle.oplog.specs.declared.configuration.Sizes.{Sizes}
 use Rattle.oplog.specs.declared.records.Record.{Record}
 use Rattle.ownlock.specs.Seats.{At}
 use Rattle.accounts.proofs.Lists.{at_below, at_none, at_one, take_front}
@@ -186,5 +186,5 @@ posted_once a xs k j t u h g e =
     (λ le. ⊎_elim (λ lt. let b = posted_rises a xs j k u t g h lt in absurd (omega (arith, b, e))) (λ le2. omega arith) (cases_lt j k)) (cases_lt k j)
 
 -- the sessions of a desk's slots follow the first's
-pub author_is : (config : Config) (x : DeskView) (s : ℕ) → length x.slots ≡ config.slots → first_author x + s ≡ session config x.node s
+pub author_is : (config : Sizes) (x : DeskView) (s : ℕ) → length x.slots ≡ config.slots → first_author x + s ≡ session config x.node s
 author_is config x s long = ap (λ z. x.node * z + s) long

@@ -7,7 +7,7 @@ use Rattle.ownlock.specs.declared.known.Known.{Known}
 use Rattle.ownlock.specs.Rules.{Rules, Move, leader}
 use Rattle.ownlock.specs.Seats.{At}
 use Rattle.ownlock.specs.Knowledge.{MayPut}
-use Rattle.oplog.specs.declared.configuration.Config.{Config}
+use Rattle.oplog.specs.declared.configuration.Sizes.{Sizes}
 use Rattle.oplog.specs.History.{Meaning, History}
 use Rattle.accounts.specs.declared.sessions.Progress.{Progress}
 use Rattle.accounts.specs.declared.sessions.SessionNote.{SessionNote}
@@ -29,7 +29,7 @@ log_appended : {C M : Type 0} (E : Meaning C M) (known : Progress C) (more : His
 log_appended E known more y s = ap (drop (length known.history - y.base)) s.records
     ∙ (drop_front (length known.history - y.base) (drop y.base known.history) more (let long = length-drop y.base known.history in omega (arith, long)) ∙ ap (λ z. z ++ more) (drop_twice y.base known.history))
 
-module _ {C M V : Type 0} {E : Meaning C M} {R : Rules (Progress C) SessionNote (StoreValue M)} {noting : Noting C V} (ok : IsStoreRules E R) (view : V → StoreValue M) (notes : IsNoting view noting) (IsSized : Config → C → V → Type 0) where
+module _ {C M V : Type 0} {E : Meaning C M} {R : Rules (Progress C) SessionNote (StoreValue M)} {noting : Noting C V} (ok : IsStoreRules E R) (view : V → StoreValue M) (notes : IsNoting view noting) (IsSized : Sizes → C → V → Type 0) where
   same_is : (k : Known (Progress C) SessionNote V) (l : Progress C) (ns : List SessionNote) (p a : ℕ) (v : V) (x : StoreValue M) → At a (p, v) k.held → view v ≡ x → AgreesWith E p l ns x → (p ≡ leader → k.progress.history ≡ l.history)
       → (put_progress (k ∷ []) x l ≡ l) × (put_note noting (k ∷ []) x k.note ≡ k.note)
   same_is k l ns p a v (TheLog y) at seen agrees same = (
@@ -106,7 +106,7 @@ module _ {C M V : Type 0} {E : Meaning C M} {R : Rules (Progress C) SessionNote 
       let move : Move (the_rules E R view IsSized) = record { place = p; session = k.session; value = m.0; progress = l; new_progress = f l; note = k.note; new_note = g k.note; allowed = (m.3 l ns may).0 } in record {
         session = refl;
         held = refl;
-        tails_read = refl;
+        steps = refl;
         extends = ok.extends k.progress (f l) (laws.extends_on k.progress l (f l) may.0.0 (laws.moves_extend move));
         notes = set ns k.session (g k.note);
         accounts = ok.accounts (f l) (set ns k.session (g k.note)) (laws.moves_account move ns record { accounts = may.2; own = may.1; agrees = may.3 m.1 (p, m.0) m.2 });

@@ -6,7 +6,7 @@ use native.Mathlib.Decide.{ℕ_discrete}
 use Rattle.atomic_table.proofs.Lists.{at_set}
 use Rattle.oplog.specs.History.{Meaning, reply_at}
 use Rattle.oplog.specs.Operations.{Operation}
-use Rattle.oplog.specs.declared.configuration.Config.{Config}
+use Rattle.oplog.specs.declared.configuration.Sizes.{Sizes}
 use Rattle.oplog.specs.declared.records.Record.{Record}
 use Rattle.ownlock.specs.Seats.{At}
 use Rattle.accounts.proofs.Keeps.{some_one}
@@ -57,7 +57,7 @@ at_map f [] i a h = absurd (at_none i a h)
 at_map f (x ∷ xs) zero a h = ap (λ z. kernel.some (f z)) (some-injective x a h)
 at_map f (x ∷ xs) (suc i) a h = at_map f xs i a h
 
-pub one_slot : (config : Config) (node s t : ℕ) → session config node s ≡ session config node t → s ≡ t
+pub one_slot : (config : Sizes) (node s t : ℕ) → session config node s ≡ session config node t → s ≡ t
 one_slot config node s t e = cancel (node * config.slots) e
   where
     cancel : (b : ℕ) → b + s ≡ b + t → s ≡ t
@@ -249,7 +249,7 @@ module _ {C M : Type 0} (E : Meaning C M) where
                   ∙ (sym (reply_front E l.catalogue known.history grown.history.0 i o.op (omega (arith, lt, low))) ∙ ap (λ z. reply_at E l.catalogue z i o.op) (sym grown.history.1)))) ∙ g.2,
             )
         answers a u o seq Ended is p g =
-            let up = grown.completed in let at = g.1 in let same = ap (λ (z : Config). z.limit) grown.config in let top = w.limit in let end = w.completed in
+            let up = grown.completed in let at = g.1 in let same = ap (λ (z : Sizes). z.limit) grown.config in let top = w.limit in let end = w.completed in
             (omega (arith, up, at, same, top, end), subst (λ (z : Record). HasNoRecord l.history z.author z.seq) is (p.1 g.0))
 
         -- the answer to a request of slot s
@@ -320,7 +320,7 @@ module _ {C M : Type 0} (E : Meaning C M) where
         ((refl, inr (own, t.0)), (subst (λ z. z < line.config.nodes) node agrees.0, agrees.1 ∙ ap (λ z. desk_place line.config z) node, t.1)),
   )
 
-module _ {C M V : Type 0} (E : Meaning C M) (view : V → StoreValue M) (IsSized : Config → C → V → Type 0) where
+module _ {C M V : Type 0} (E : Meaning C M) (view : V → StoreValue M) (IsSized : Sizes → C → V → Type 0) where
   pub seen_desk_may_put : SeenDeskMayPut E view IsSized
   seen_desk_may_put k p v w x y n' h = (
     v,

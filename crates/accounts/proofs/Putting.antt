@@ -7,7 +7,7 @@ use Rattle.ownlock.specs.declared.known.Known.{Known}
 use Rattle.ownlock.specs.Rules.{Rules}
 use Rattle.ownlock.specs.Seats.{At, place_of}
 use Rattle.ownlock.specs.Knowledge.{Acquired, Possible}
-use Rattle.oplog.specs.declared.configuration.Config.{Config}
+use Rattle.oplog.specs.declared.configuration.Sizes.{Sizes}
 use Rattle.oplog.specs.History.{Meaning}
 use Rattle.accounts.specs.declared.sessions.Progress.{Progress}
 use Rattle.accounts.specs.declared.sessions.SessionNote.{SessionNote}
@@ -23,7 +23,7 @@ use Rattle.accounts.proofs.Finish.{opens}
 use Rattle.accounts.proofs.Tellings.{log_after, replayed_agrees}
 use Rattle.combiner.specs.Desks.{DeskView}
 
-module _ {C M V : Type 0} {E : Meaning C M} {R : Rules (Progress C) SessionNote (StoreValue M)} (ok : IsStoreRules E R) (view : V → StoreValue M) (IsSized : Config → C → V → Type 0) where
+module _ {C M V : Type 0} {E : Meaning C M} {R : Rules (Progress C) SessionNote (StoreValue M)} (ok : IsStoreRules E R) (view : V → StoreValue M) (IsSized : Sizes → C → V → Type 0) where
   pub may_take_first : MayTakeFirst E R view IsSized
   may_take_first k node none own =
       let empty : (a : ℕ) (u : ℕ × V) → At a u k.held → ⊥ = λ a u at. at_none a u (subst (λ h. At a u h) none at) in (
@@ -61,7 +61,7 @@ module _ {C M V : Type 0} {E : Meaning C M} {R : Rules (Progress C) SessionNote 
         session = ap (λ z. z.session) won.1;
         note = ap (λ z. z.note) won.1;
         held = ap (λ z. z.held) won.1;
-        tails_read = ap (λ z. z.tails_read) won.1;
+        steps = ap (λ z. z.steps) won.1;
         extends = subst (λ z. Extends k.progress z) (sym is) (ok.extends k.progress won.0 won.2.0);
         sized = (agreed p k now v won).1;
         notes = won.3.0;
@@ -134,7 +134,7 @@ module _ {C M V : Type 0} {E : Meaning C M} {R : Rules (Progress C) SessionNote 
   takes_its_replica p node k now v is lt won =
       let same = (taken p k now v won).extends.config in
       takes_replica p k now v (λ e. far node (sym is ∙ e))
-      (subst (λ z. HasNoDesk R z now.progress) (sym (is ∙ ap (λ z. replica_place z node) same)) (replica_places now.progress node (subst (λ (z : Config). node < z.nodes) same lt))) won
+      (subst (λ z. HasNoDesk R z now.progress) (sym (is ∙ ap (λ z. replica_place z node) same)) (replica_places now.progress node (subst (λ (z : Sizes). node < z.nodes) same lt))) won
     where
       far : (n : ℕ) → 1 + n ≢ log_place
       far n e = omega (arith, e)

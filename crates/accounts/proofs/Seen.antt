@@ -1,14 +1,14 @@
 -- The laws for values that are seen as a store's values.
 use Rattle.std.proofs.Common.{◌≡◌, List, subst}
 use Rattle.ownlock.specs.Rules.{Rules, Laws, Move, IsAmong}
-use Rattle.oplog.specs.declared.configuration.Config.{Config}
+use Rattle.oplog.specs.declared.configuration.Sizes.{Sizes}
 use Rattle.accounts.specs.declared.sessions.Progress.{Progress}
 use Rattle.accounts.specs.declared.sessions.SessionNote.{SessionNote}
 use Rattle.accounts.specs.Values.{StoreValue}
 use Rattle.accounts.specs.Accounts.{Extends}
 use Rattle.accounts.specs.Seen.{seen_rules}
 
-module _ {C M V : Type 0} (view : V → StoreValue M) (IsSized : Config → C → V → Type 0) (R : Rules (Progress C) SessionNote (StoreValue M)) where
+module _ {C M V : Type 0} (view : V → StoreValue M) (IsSized : Sizes → C → V → Type 0) (R : Rules (Progress C) SessionNote (StoreValue M)) where
   -- sizes are those of the configuration and the catalogue, which stay
   pub sized_on : (a b : Progress C) (v : V) → a.config ≡ b.config → a.catalogue ≡ b.catalogue → IsSized a.config a.catalogue v → IsSized b.config b.catalogue v
   sized_on a b v e f h = subst (λ z. IsSized b.config z v) f (subst (λ z. IsSized z a.catalogue v) e h)

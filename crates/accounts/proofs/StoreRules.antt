@@ -1,6 +1,6 @@
 -- The rules with desks are a store's.
 use Rattle.std.proofs.Common.{ℕ, ◌≤◌, ◌++◌, map, length, take, refl, ap, subst, inl, inr}
-use Rattle.oplog.specs.declared.configuration.Config.{Config}
+use Rattle.oplog.specs.declared.configuration.Sizes.{Sizes}
 use Rattle.oplog.specs.History.{Meaning}
 use Rattle.accounts.specs.Values.{StoreValue, TheLog, TheReplica, TheDesk}
 use Rattle.accounts.specs.declared.sessions.Progress.{Progress}
@@ -42,7 +42,7 @@ module _ {C M : Type 0} (E : Meaning C M) where
         unplaced = s.unplaced;
         within = s.count;
         history = refl;
-        limit = subst (λ (z : Config). length (l.history ++ map record_of (take k n.batch)) ≤ z.limit) grown.config (subst (λ h. length (h ++ map record_of (take k n.batch)) ≤ known.config.limit) same s.limit);
+        limit = subst (λ (z : Sizes). length (l.history ++ map record_of (take k n.batch)) ≤ z.limit) grown.config (subst (λ h. length (h ++ map record_of (take k n.batch)) ≤ known.config.limit) same s.limit);
         note = ap (λ h. record n { batch = placed_from (length h) k n.batch }) same;
       });
     },

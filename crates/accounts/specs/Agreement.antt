@@ -3,7 +3,7 @@ use Rattle.std.specs.Prelude.{◌≡◌, ◌≢◌, ℕ, ◌+◌, ◌<◌, ◌�
 use Rattle.ownlock.specs.Rules.{leader}
 use Rattle.ownlock.specs.Seats.{At}
 use Rattle.oplog.specs.Operations.{Operation}
-use Rattle.oplog.specs.declared.configuration.Config.{Config}
+use Rattle.oplog.specs.declared.configuration.Sizes.{Sizes}
 use Rattle.oplog.specs.History.{Meaning, state_after, reply_at}
 use Rattle.accounts.specs.declared.sessions.Progress.{Progress}
 use Rattle.accounts.specs.declared.sessions.Pending.{Pending}
@@ -23,10 +23,10 @@ use Rattle.accounts.specs.Accounts.{HasNoRecord, IsInBatch}
 abbrev pub log_place : ℕ
 log_place = leader
 
-abbrev pub replica_place : Config → ℕ → ℕ
+abbrev pub replica_place : Sizes → ℕ → ℕ
 replica_place config node = 1 + node
 
-abbrev pub desk_place : Config → ℕ → ℕ
+abbrev pub desk_place : Sizes → ℕ → ℕ
 desk_place config node = 1 + config.nodes + node
 
 -- no batch has a request of session a

@@ -3,7 +3,7 @@
 use Rattle.std.specs.Prelude.{◌≡◌, ℕ, ◌-◌, List, [], ◌∷◌, map, take, length, Option, Some, None, slice_get}
 use Rattle.std.specs.Option.{option_and_then, option_map}
 use Rattle.ownlock.specs.declared.known.Known.{Known}
-use Rattle.oplog.specs.declared.configuration.Config.{Config}
+use Rattle.oplog.specs.declared.configuration.Sizes.{Sizes}
 use Rattle.oplog.specs.Operations.{Operation}
 use Rattle.oplog.specs.Sessions.{session}
 use Rattle.oplog.specs.History.{Meaning, History}
@@ -89,7 +89,7 @@ module _ (C : Type 0) {M V : Type 0} (view : V → StoreValue M) where
       (k : Known (Progress C) SessionNote V) (p s : ℕ) (v : V) (o : Pending) (reply : Reply) (x y : DeskView) (n : SessionNote) → k.held ≡ (p, v) ∷ [] → view v ≡ TheDesk x → k.session ≡ session k.progress.config x.node s
       → n.pending ≡ Some o → collected s x ≡ Some (record { reply = reply; desk = y }) → desk_note view CollectedThere k y n ≡ answered_with n o.op reply
 
-module _ {C M V : Type 0} (E : Meaning C M) (view : V → StoreValue M) (IsSized : Config → C → V → Type 0) where
+module _ {C M V : Type 0} (E : Meaning C M) (view : V → StoreValue M) (IsSized : Sizes → C → V → Type 0) where
   -- with desks: a desk after the step that the session did there may be put back, where that step is noted so
   abbrev pub DeskPicked : Type 0
   DeskPicked =

@@ -1,7 +1,7 @@
 -- What a session puts back at the log and at a replica, by what it knows; and what a store opens with.
 use Rattle.std.specs.Prelude.{◌≡◌, ℕ, ◌+◌, ◌*◌, ◌≤◌, List, [], ◌++◌, map, take, length, replicate, None}
 use Rattle.ownlock.specs.Seats.{At}
-use Rattle.oplog.specs.declared.configuration.Config.{Config}
+use Rattle.oplog.specs.declared.configuration.Sizes.{Sizes}
 use Rattle.oplog.specs.History.{Meaning}
 use Rattle.accounts.specs.declared.sessions.Progress.{Progress}
 use Rattle.accounts.specs.declared.sessions.Claim.{Claim}
@@ -17,7 +17,7 @@ abbrev pub fresh_note : SessionNote
 fresh_note = record { answered = []; pending = None; batch = [] }
 
 -- no operation yet
-abbrev pub first_progress : {C : Type 0} → Config → C → Progress C
+abbrev pub first_progress : {C : Type 0} → Sizes → C → Progress C
 first_progress config c = record { config = config; catalogue = c; history = []; completed = 0 }
 
 module _ {C M : Type 0} (E : Meaning C M) where
@@ -56,7 +56,7 @@ module _ {C M : Type 0} (E : Meaning C M) where
   -- what a store opens with agrees
   abbrev pub Opens : Type 0
   Opens =
-      (config : Config) (c : C) (count : ℕ)
+      (config : Sizes) (c : C) (count : ℕ)
       → Accounts E (first_progress config c) (replicate count fresh_note)
       × LogAgrees E (first_progress config c) (first_log c)
       × ReplicaAgrees E (first_progress config c) (first_replica c)

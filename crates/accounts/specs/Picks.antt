@@ -2,10 +2,11 @@
 -- and whatever its sessions note.
 use Rattle.std.specs.Prelude.{◌≡◌, ℕ, ◌-◌, ◌≤◌, List, [], ◌∷◌, length, drop}
 use Rattle.ownlock.specs.declared.known.Known.{Known}
+use Rattle.ownlock.specs.declared.known.ShelfStep.TheVariants.{Put}
 use Rattle.ownlock.specs.Rules.{Rules}
 use Rattle.ownlock.specs.Seats.{At, without, left_with}
 use Rattle.ownlock.specs.Knowledge.{Possible, MayPut}
-use Rattle.oplog.specs.declared.configuration.Config.{Config}
+use Rattle.oplog.specs.declared.configuration.Sizes.{Sizes}
 use Rattle.oplog.specs.History.{Meaning, History}
 use Rattle.accounts.specs.declared.sessions.Progress.{Progress}
 use Rattle.accounts.specs.declared.sessions.SessionNote.{SessionNote}
@@ -35,7 +36,7 @@ module _ {C M V : Type 0} where
   put_note noting (k ∷ ks) (TheReplica y) n = n
   put_note noting (k ∷ ks) (TheDesk y) n = noting.at_desk k y n
 
-module _ {C M V : Type 0} (E : Meaning C M) (R : Rules (Progress C) SessionNote (StoreValue M)) (noting : Noting C V) (view : V → StoreValue M) (IsSized : Config → C → V → Type 0) where
+module _ {C M V : Type 0} (E : Meaning C M) (R : Rules (Progress C) SessionNote (StoreValue M)) (noting : Noting C V) (view : V → StoreValue M) (IsSized : Sizes → C → V → Type 0) where
   -- the session k, whose seat has these sessions, may put w back and change what the picks say
   abbrev pub MayPutPicked : List (Known (Progress C) SessionNote V) → Known (Progress C) SessionNote V → ℕ → V → Type 0
   MayPutPicked sessions k p w = (sessions ≡ k ∷ []) → MayPut (the_rules E R view IsSized) (put_progress sessions (view w)) (put_note noting sessions (view w)) k p w
@@ -57,11 +58,11 @@ module _ {C M V : Type 0} (E : Meaning C M) (R : Rules (Progress C) SessionNote 
       (sessions : List (Known (Progress C) SessionNote V)) (k : Known (Progress C) SessionNote V) (p a : ℕ) (v w : V) (x y : ReplicaValue M)
       → At a (p, v) k.held → view v ≡ TheReplica x → view w ≡ TheReplica y → KeepsSizes IsSized v w → y.tail ≤ length k.progress.history → ReplicaAgrees E k.progress y → MayPutPicked sessions k p w
 
-  -- what the session k is after a put at the place p
-  pub record IsPut (p : ℕ) (k now : Known (Progress C) SessionNote V) : Type 0 where
+  -- what the session k is, once it has put w back to the place p
+  pub record IsPut (p : ℕ) (w : V) (k now : Known (Progress C) SessionNote V) : Type 0 where
     pub session : now.session ≡ k.session
     pub held : now.held ≡ without p k.held
-    pub tails_read : now.tails_read ≡ k.tails_read
+    pub steps : now.steps ≡ Put p w ∷ k.steps
     pub extends : Extends k.progress now.progress
     pub notes : List SessionNote
     pub accounts : Accounts E now.progress notes
@@ -71,7 +72,7 @@ module _ {C M V : Type 0} (E : Meaning C M) (R : Rules (Progress C) SessionNote 
   abbrev pub PutsAccount : Type 0
   PutsAccount =
       (f : Progress C → Progress C) (g : SessionNote → SessionNote) (k : Known (Progress C) SessionNote V) (p : ℕ) (w : V) (l : Progress C) (ns : List SessionNote)
-      → MayPut (the_rules E R view IsSized) f g k p w → Possible (the_rules E R view IsSized) k l ns → IsPut p k (left_with k p (f l) (g k.note))
+      → MayPut (the_rules E R view IsSized) f g k p w → Possible (the_rules E R view IsSized) k l ns → IsPut p w k (left_with k p w (f l) (g k.note))
 
   -- what the picks come to
   abbrev pub SameIs : Type 0

@@ -2,10 +2,11 @@
 -- is seen as a store's value, and its sizes are those of the configuration and the catalogue.
 use Rattle.std.specs.Prelude.{◌≡◌, ◌≢◌, ℕ, ◌<◌, ◌≤◌, List, [], ◌∷◌, length, replicate}
 use Rattle.ownlock.specs.declared.known.Known.{Known}
+use Rattle.ownlock.specs.declared.known.ShelfStep.TheVariants.{Took}
 use Rattle.ownlock.specs.Rules.{Rules}
 use Rattle.ownlock.specs.Seats.{At}
 use Rattle.ownlock.specs.Knowledge.{Acquired, MayTake, MayPut}
-use Rattle.oplog.specs.declared.configuration.Config.{Config}
+use Rattle.oplog.specs.declared.configuration.Sizes.{Sizes}
 use Rattle.oplog.specs.History.{Meaning, History}
 use Rattle.accounts.specs.declared.sessions.Progress.{Progress}
 use Rattle.accounts.specs.declared.sessions.SessionNote.{SessionNote}
@@ -21,10 +22,10 @@ use Rattle.combiner.specs.Desks.{DeskView}
 use Rattle.accounts.specs.DeskSteps.{DeskStep}
 
 -- the second value has the sizes that the first has
-abbrev pub KeepsSizes : {C V : Type 0} → (Config → C → V → Type 0) → V → V → Type 0
-KeepsSizes {C} IsSized v w = (config : Config) (c : C) → IsSized config c v → IsSized config c w
+abbrev pub KeepsSizes : {C V : Type 0} → (Sizes → C → V → Type 0) → V → V → Type 0
+KeepsSizes {C} IsSized v w = (config : Sizes) (c : C) → IsSized config c v → IsSized config c w
 
-module _ {C M V : Type 0} (E : Meaning C M) (R : Rules (Progress C) SessionNote (StoreValue M)) (view : V → StoreValue M) (IsSized : Config → C → V → Type 0) where
+module _ {C M V : Type 0} (E : Meaning C M) (R : Rules (Progress C) SessionNote (StoreValue M)) (view : V → StoreValue M) (IsSized : Sizes → C → V → Type 0) where
   abbrev pub the_rules : Rules (Progress C) SessionNote V
   the_rules = seen_rules view IsSized R
 
@@ -40,12 +41,12 @@ module _ {C M V : Type 0} (E : Meaning C M) (R : Rules (Progress C) SessionNote 
   abbrev pub MayTakeDesk : Type 0
   MayTakeDesk = (k : Known (Progress C) SessionNote V) (node : ℕ) → k.held ≡ [] → IsSessionOf k.progress.config node k.session → MayTake the_rules (desk_place k.progress.config node) k
 
-  -- what the session k has become, now that it has the value v of the place p; and what all progress and notes may be
+  -- what the session k has become, now that it has taken the value v of the place p; and what all progress and notes may be
   pub record IsTaken (p : ℕ) (k now : Known (Progress C) SessionNote V) (v : V) : Type 0 where
     pub session : now.session ≡ k.session
     pub note : now.note ≡ k.note
     pub held : now.held ≡ (p, v) ∷ k.held
-    pub tails_read : now.tails_read ≡ k.tails_read
+    pub steps : now.steps ≡ Took p v ∷ k.steps
     pub extends : Extends k.progress now.progress
     pub sized : IsSized now.progress.config now.progress.catalogue v
     pub notes : List SessionNote
@@ -77,7 +78,7 @@ module _ {C M V : Type 0} (E : Meaning C M) (R : Rules (Progress C) SessionNote 
   -- the log and the replicas that a store opens with agree
   abbrev pub StoreOpens : Type 0
   StoreOpens =
-      (config : Config) (c : C) (count : ℕ)
+      (config : Sizes) (c : C) (count : ℕ)
       → Accounts E (first_progress config c) (replicate count fresh_note)
       × ((v : V) → view v ≡ TheLog (first_log E c) → IsSized config c v → the_rules.AgreesWith log_place (first_progress config c) (replicate count fresh_note) v)
       × ((node : ℕ) (v : V) → node < config.nodes → view v ≡ TheReplica (first_replica E c) → IsSized config c v → the_rules.AgreesWith (replica_place config node) (first_progress config c) (replicate count fresh_note) v)
@@ -106,7 +107,7 @@ module _ {C M V : Type 0} (E : Meaning C M) (R : Rules (Progress C) SessionNote 
       (k : Known (Progress C) SessionNote V) (p a : ℕ) (v w : V) (x y : ReplicaValue M) → At a (p, v) k.held → view v ≡ TheReplica x → view w ≡ TheReplica y → KeepsSizes IsSized v w → y.tail ≤ length k.progress.history → ReplicaAgrees E k.progress y
       → MayPut the_rules (λ l. l) (λ n. n) k p w
 
-module _ {C M V : Type 0} (E : Meaning C M) (view : V → StoreValue M) (IsSized : Config → C → V → Type 0) where
+module _ {C M V : Type 0} (E : Meaning C M) (view : V → StoreValue M) (IsSized : Sizes → C → V → Type 0) where
   -- the session k holds the desk of its node, which it took from the place p as the value v, and has done a step there, after which the value is w
   -- and the session notes n'
   pub record HoldsDesk (k : Known (Progress C) SessionNote V) (p : ℕ) (v w : V) (x y : DeskView) (n' : SessionNote) : Type 0 where

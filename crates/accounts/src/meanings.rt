@@ -22,7 +22,7 @@ pub trait Viewed {
 
     ghost use Rattle.ownlock.specs.Rules.{Rules};
     ghost use Rattle.oplog.specs.History.{Meaning};
-    ghost use Rattle.oplog.specs.declared.configuration.Config.{Config};
+    ghost use Rattle.oplog.specs.declared.configuration.Sizes.{Sizes};
     ghost use Rattle.accounts.specs.declared.sessions.Progress.{Progress};
     ghost use Rattle.accounts.specs.declared.sessions.SessionNote.{SessionNote};
     ghost use Rattle.accounts.specs.Values.{StoreValue};
@@ -35,7 +35,7 @@ pub trait Viewed {
     ghost view: { Self.Value → StoreValue Self.State };
 
     // The sizes of the value, as its room and its shapes, are those of the configuration and the catalogue.
-    ghost is_sized: { Config → Self.Catalogue → Self.Value → Type 0 };
+    ghost is_sized: { Sizes → Self.Catalogue → Self.Value → Type 0 };
 
     ghost noting: { Noting Self.Catalogue Self.Value };
 

@@ -1,11 +1,11 @@
 // What all sessions see grow, and what each says of itself. No value of these is made: they stand in contracts alone.
 
-use oplog::{Config, Op, Record};
+use oplog::{Op, Record, Sizes};
 use std::collections::LinkedList;
 
 /// The whole history, and how much of it is completed.
 pub struct Progress<C> {
-    pub config: Config,
+    pub config: Sizes,
     /// What the numbers of programs stand for.
     pub catalogue: C,
     /// Every operation from the first on, also those that the log has dropped.

@@ -4,8 +4,8 @@ use Rattle.std.proofs.lemmas.Option.{none-some}
 use Rattle.ownlock.specs.Seats.{IsSession}
 use Rattle.loader.specs.CatalogueView.{CatalogueView}
 use Rattle.oplog.specs.Operations.{Operation}
-use Rattle.oplog.specs.Limits.{IsConfig}
-use Rattle.oplog.specs.declared.configuration.Config.{Config}
+use Rattle.oplog.specs.Limits.{AreSizes}
+use Rattle.oplog.specs.declared.configuration.Sizes.{Sizes}
 use Rattle.oplog.specs.declared.configuration.TheConstants.{MAX_NODES}
 use Rattle.loader.specs.Installed.{InstalledView}
 use Rattle.combiner.specs.Desks.{BatchView}
@@ -72,11 +72,11 @@ module _ (s : S) (caller : Caller) where
     out_at Claimed v o is = tt
     out_at Ready v o is = tt
 
-    pub known_at : (stage : Stage) → IsPolled s caller b kept stage → (k : K) × IsSession s k × IsWellFormed store_meaning k.progress
-    known_at Idle v = (v.known, v.is, v.well_formed)
-    known_at Asked v = (v.0, v.2.is, v.2.well_formed)
-    known_at Claimed v = (v.0, v.2.is, v.2.well_formed)
-    known_at Ready v = (v.0, v.2.is, v.2.well_formed)
+    pub known_at : (stage : Stage) → IsPolled s caller b kept stage → (k : K) × IsSession s k × IsWellFormed store_meaning k.progress × (k.held ≡ [])
+    known_at Idle v = (v.known, v.is, v.well_formed, v.free.held)
+    known_at Asked v = (v.0, v.2.is, v.2.well_formed, v.2.free.held)
+    known_at Claimed v = (v.0, v.2.is, v.2.well_formed, v.2.free.held)
+    known_at Ready v = (v.0, v.2.is, v.2.well_formed, v.2.free.held)
 
     pub well_at : (stage : Stage) → IsPolled s caller b kept stage → IsWellFormed store_meaning (session_view s).progress
     well_at stage v = let k = known_at stage v in subst (λ (z : SessionView). IsWellFormed store_meaning z.progress) (sym (seen_as s k.0 k.1)) k.2
@@ -92,7 +92,7 @@ module _ (s : S) (caller : Caller) where
           record {
             places_are = places ∙ ap (λ n. 1 + n + n) (sym nodes.0);
             few = subst (λ n. n ≤ MAX_NODES) (sym nodes.0) nodes.1;
-            nodes_are = ap (λ (z : SessionView). z.progress.config.nodes) (sym seen) ∙ (ap (λ (z : Config). z.nodes) own.config ∙ sym nodes.0);
+            nodes_are = ap (λ (z : SessionView). z.progress.config.nodes) (sym seen) ∙ (ap (λ (z : Sizes). z.nodes) own.config ∙ sym nodes.0);
             catalogue_is = ap (λ (z : SessionView). z.progress.catalogue) (sym seen) ∙ (own.catalogue ∙ sym same);
           },
         )
@@ -103,7 +103,7 @@ room_on old new room grown h = (h.0 ∙ ap (λ (x : CatalogueView). x.shapes) gr
 -- ---- a post
 
 module _ (old new : S) (caller : Caller) (i : IsIdle old caller) (m : K) (op : Operation) (is : IsSession new m) (p : HasPosted i.known m op) where
-  pub posted_at : (config : Config) → (session_view old).progress.config ≡ config → IsConfig config → IsAsked new caller
+  pub posted_at : (config : Sizes) → (session_view old).progress.config ≡ config → AreSizes config → IsAsked new caller
   posted_at config same limits =
       let k = i.known in
       let has = has_asked k m op config p (ap (λ (z : SessionView). z.progress.config) (sym (seen_as old k i.is)) ∙ same) limits i.batch i.within i.well_formed in
@@ -147,7 +147,7 @@ pub record StaysIdle (old new : S) (caller : Caller) : Type 0 where
   pub well_formed : IsWellFormed store_meaning (session_view new).progress
 
 module _ (old new : S) (caller : Caller) (i : IsIdle old caller) (m : K) (is : IsSession new m) where
-  stays_idle : m.session ≡ i.known.session → m.held ≡ [] → m.note ≡ i.known.note → Extends i.known.progress m.progress → IsWellFormed store_meaning m.progress → StaysIdle old new caller
+  pub stays_idle : m.session ≡ i.known.session → m.held ≡ [] → m.note ≡ i.known.note → Extends i.known.progress m.progress → IsWellFormed store_meaning m.progress → StaysIdle old new caller
   stays_idle session held note extends well = record {
     idle = record {
       known = m;

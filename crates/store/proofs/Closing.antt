@@ -7,10 +7,10 @@ use Rattle.loader.specs.StoreState.{sizes_of}
 use Rattle.ownlock.specs.Seats.{At}
 use Rattle.ownlock.specs.Knowledge.{AllAgree, Closes}
 use Rattle.loader.specs.CatalogueView.{CatalogueView, sizes_for}
-use Rattle.oplog.specs.declared.configuration.Config.{Config}
+use Rattle.oplog.specs.declared.configuration.Sizes.{Sizes}
 use Rattle.oplog.specs.declared.records.Record.{Record}
 use Rattle.oplog.specs.History.{after, state_after}
-use Rattle.oplog.specs.Limits.{IsConfig}
+use Rattle.oplog.specs.Limits.{AreSizes}
 use Rattle.oplog.specs.Logs.{Log as LogView}
 use Rattle.replica.specs.StoreMeaning.{store_meaning}
 use Rattle.replica.specs.Views.{ReplicaView}
@@ -146,7 +146,7 @@ some_product : (n m : ℕ) → 0 < n → 0 < m → 0 < n * m
 some_product zero m low more = absurd (omega (arith, low))
 some_product (suc n) m low more = let e = suc-mul n m in omega (arith, e, more)
 
-pub some_sessions : (config : Config) → IsConfig config → 0 < sessions_of config
+pub some_sessions : (config : Sizes) → AreSizes config → 0 < sessions_of config
 some_sessions config w = let n = w.nodes.0 in let m = w.slots.0 in some_product config.nodes config.slots (omega (arith, n)) (omega (arith, m))
 
 pub all_notes : (shelf setup : Setup) → shelf ≡ setup → length (opening_notes shelf) ≡ sessions_of setup.config
@@ -169,7 +169,7 @@ module _ (store : StoreView) (sessions : List SessionView) (view : List SessionK
   catalogue_is = let s = at_there sessions 0 some in sym (mine 0 s.0 s.1).0.catalogue ∙ (own 0 s.0 s.1).catalogue
 
   pub left_of : length slots ≡ 1 + store.config.nodes + store.config.nodes → IsLeft l store.config.nodes (take (1 + store.config.nodes) slots)
-  left_of long = is_left l a.1 slots store.config.nodes (ap (λ (z : Config). z.nodes) config_is) long a.5
+  left_of long = is_left l a.1 slots store.config.nodes (ap (λ (z : Sizes). z.nodes) config_is) long a.5
 
   author_of : (i : ℕ) (r : Record) → At i r l.history → (j : ℕ) × (s : SessionView) × At j s sessions × (r.author ≡ s.session)
   author_of i r at =
@@ -197,7 +197,7 @@ module _ (store : StoreView) (sessions : List SessionView) (view : List SessionK
     last = subst (λ z. after store_meaning z p.log.value.base_state p.log.value.records ≡ state_after store_meaning z l.history (length l.history)) catalogue_is (ends_in l p.log.value p.log_is);
     log_is = p.log_is;
     log_tail = tail_is store_meaning l (log_value p.log.value) a.2.completed p.log_is;
-    log_sizes = subst (λ (z : Config × CatalogueView). HasLogSizes z.0 z.1 p.log.value) (λ i. (config_is i, catalogue_is i)) p.log_sizes;
+    log_sizes = subst (λ (z : Sizes × CatalogueView). HasLogSizes z.0 z.1 p.log.value) (λ i. (config_is i, catalogue_is i)) p.log_sizes;
     nodes = many_seen p.nodes ∙ p.many;
     replica_is = λ i r at. let m = seen_is p.nodes i r at in subst (λ z. ReplicaAgrees store_meaning l (replica_value z)) m.2 (p.fit i m.0 m.1).0;
     replica_sizes = λ i r at. let m = seen_is p.nodes i r at in ap (λ (z : ReplicaView). sizes_of z.state) (sym m.2) ∙ ((p.fit i m.0 m.1).1 ∙ ap sizes_for catalogue_is);

@@ -4,7 +4,7 @@ use Rattle.std.proofs.lemmas.Bool.{cases_lt}
 use Rattle.ownlock.specs.Seats.{At}
 use Rattle.ownlock.specs.Knowledge.{AllAgree}
 use Rattle.loader.specs.CatalogueView.{CatalogueView, IsCatalogue, opening_state}
-use Rattle.oplog.specs.declared.configuration.Config.{Config}
+use Rattle.oplog.specs.declared.configuration.Sizes.{Sizes}
 use Rattle.replica.specs.StoreMeaning.{store_meaning}
 use Rattle.accounts.specs.Values.{TheDesk}
 use Rattle.accounts.specs.Agreement.{AgreesWith, desk_place}
@@ -46,7 +46,7 @@ grown old values new n v P is g p = subst (λ z. Grown old (n + 1) P z) (sym is)
 
 -- ---- all values
 
-pub shelved : (config : Config) (c : CatalogueView) (none first second third : List (Option Value)) (log : Value) → none ≡ [] → first ≡ none ++ Some log ∷ [] → IsOpenedLog (opening_state c) config.window config.limit log
+pub shelved : (config : Sizes) (c : CatalogueView) (none first second third : List (Option Value)) (log : Value) → none ≡ [] → first ≡ none ++ Some log ∷ [] → IsOpenedLog (opening_state c) config.window config.limit log
     → length second ≡ length first + config.nodes → AreKept first second → AreFilled (length first) config.nodes (λ i v. IsOpenedReplica (opening_state c) config.window v) second
     → length third ≡ length second + config.nodes → AreKept second third → AreFilled (length second) config.nodes (λ i v. IsOpenedDesk config.slots i v) third → AreShelved config c third
 shelved config c none first second third log empty is opened long kept replicas longer kept2 desks = record {
@@ -67,7 +67,7 @@ shelved config c none first second third log empty is opened long kept replicas 
 
 -- ---- they agree with what a store begins with
 
-desk_opens : (config : Config) (c : CatalogueView) (node : ℕ) (v : Value) → node < config.nodes → IsOpenedDesk config.slots node v → store_rules.AgreesWith (desk_place config node) (first_progress config c) (replicate (sessions_of config) fresh_note) v
+desk_opens : (config : Sizes) (c : CatalogueView) (node : ℕ) (v : Value) → node < config.nodes → IsOpenedDesk config.slots node v → store_rules.AgreesWith (desk_place config node) (first_progress config c) (replicate (sessions_of config) fresh_note) v
 desk_opens config c node (Desk d) lt is =
     let low : suc node * config.slots ≤ config.nodes * config.slots = mul-le-mul_right config.slots lt in
     let more = suc-mul node config.slots in
@@ -79,7 +79,7 @@ desk_opens config c node (Replica n) lt is = absurd is
 one_more : (i : ℕ) → 1 + i ≡ suc i
 one_more i = omega arith
 
-pub places_agree : (config : Config) (c : CatalogueView) (values : List (Option Value)) → IsCatalogue c → AreShelved config c values → AllAgree store_rules (first_progress config c) (replicate (sessions_of config) fresh_note) values
+pub places_agree : (config : Sizes) (c : CatalogueView) (values : List (Option Value)) → IsCatalogue c → AreShelved config c values → AllAgree store_rules (first_progress config c) (replicate (sessions_of config) fresh_note) values
 places_agree config c values whole s p lt = by_place p lt (cases_lt p 1) (cases_lt p (1 + config.nodes))
   where
     by_place : (p : ℕ) → p < length values → (p < 1) ⊎ (1 ≤ p) → (p < 1 + config.nodes) ⊎ (1 + config.nodes ≤ p)

@@ -4,7 +4,7 @@ use Rattle.std.proofs.lemmas.Bool.{cases_lt}
 use mathlib.Core.Option.{some-injective}
 use Rattle.ownlock.specs.Seats.{HoldsNone, SeatView, ShelfId, all_sessions}
 use Rattle.loader.specs.CatalogueView.{CatalogueView}
-use Rattle.oplog.specs.declared.configuration.Config.{Config}
+use Rattle.oplog.specs.declared.configuration.Sizes.{Sizes}
 use Rattle.accounts.specs.declared.sessions.Progress.{Progress}
 use Rattle.accounts.specs.declared.sessions.SessionNote.{SessionNote}
 use Rattle.accounts.specs.LogSteps.{first_progress, fresh_note}
@@ -20,7 +20,7 @@ use Rattle.store_steps.specs.Standing.{SessionKnown}
 abbrev S : Type 0
 S = SeatView (Progress CatalogueView) SessionNote Value
 
-module _ (config : Config) (c : CatalogueView) where
+module _ (config : Sizes) (c : CatalogueView) where
   -- the seats that are left, from the session a on
   abbrev pub left_from : ℕ → ℕ → List SessionKnown
   left_from a n = all_sessions (first_progress config c) a (replicate n fresh_note)

@@ -4,8 +4,8 @@ use Rattle.ownlock.specs.Seats.{IsSession, SeatView, ShelfId}
 use Rattle.loader.specs.CatalogueView.{CatalogueView}
 use Rattle.combiner.specs.declared.slots.Reply.{Reply}
 use Rattle.combiner.specs.declared.slots.Reply.TheVariants.{Placed, Ended}
-use Rattle.oplog.specs.declared.configuration.Config.{Config}
-use Rattle.oplog.specs.Limits.{IsConfig}
+use Rattle.oplog.specs.declared.configuration.Sizes.{Sizes}
+use Rattle.oplog.specs.Limits.{AreSizes}
 use Rattle.oplog.specs.Operations.{Operation}
 use Rattle.replica.specs.StoreMeaning.{store_meaning}
 use Rattle.accounts.specs.declared.sessions.Progress.{Progress}
@@ -33,11 +33,11 @@ abbrev S : Type 0
 S = SeatView (Progress CatalogueView) SessionNote Value
 
 -- what a session may ask, whose history has a limit
-pub has_asked : (k a : K) (op : Operation) (config : Config) (p : HasPosted k a op) → k.progress.config ≡ config → IsConfig config → k.note.batch ≡ [] → length k.note.answered ≤ length k.progress.history → IsWellFormed store_meaning k.progress → HasAsked a p.request
+pub has_asked : (k a : K) (op : Operation) (config : Sizes) (p : HasPosted k a op) → k.progress.config ≡ config → AreSizes config → k.note.batch ≡ [] → length k.note.answered ≤ length k.progress.history → IsWellFormed store_meaning k.progress → HasAsked a p.request
 has_asked k a op config p same limits alone within well = record {
   pending = ap (λ (n : SessionNote). n.pending) p.note;
   alone = ap (λ (n : SessionNote). n.batch) p.note ∙ alone;
-  few = subst (λ (n : SessionNote). suc (length n.answered) < 2 ^ 64) (sym p.note) (let top = well.limit in let most = limits.limit.1 in let is = ap (λ (z : Config). z.limit) same in omega (arith, within, top, most, is));
+  few = subst (λ (n : SessionNote). suc (length n.answered) < 2 ^ 64) (sym p.note) (let top = well.limit in let most = limits.limit.1 in let is = ap (λ (z : Sizes). z.limit) same in omega (arith, within, top, most, is));
 }
 
 -- the whole call
@@ -105,7 +105,7 @@ module _ (k f : K) (op : Operation) (reply : Reply) (v : Invoked k f op reply) w
 
 -- what a session knows that holds nothing is what its user sees
 known_seen : (s : S) (k : K) → IsSession s k → k.held ≡ [] → k ≡ known_of (session_view s)
-known_seen s k is none = (λ i. record { session = k.session; progress = k.progress; note = k.note; held = none i; tails_read = k.tails_read })
+known_seen s k is none = (λ i. record { session = k.session; progress = k.progress; note = k.note; held = none i; steps = k.steps })
     ∙ ap (λ z. known_of (session_view (record { shelf = s.shelf; sessions = z }))) (sym is)
 
 pub goes_seen : (P : K → K → Type 0) (old new : S) (was : SessionView) (k f : K) → IsSession old k → k.held ≡ [] → session_view old ≡ was → IsSession new f → f.held ≡ [] → P k f → P (known_of was) (known_of (session_view new))

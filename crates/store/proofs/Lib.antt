@@ -5,6 +5,7 @@ pub mod Fresh
 pub mod Joined
 pub mod Invoked
 pub mod Between
+pub mod Looked
 pub mod Last
 pub mod Closing
 pub mod EachSession

@@ -5,29 +5,36 @@ use Rattle.atomic_table.specs.Seated.{table_id_coded}
 use Rattle.ownlock.specs.Seats.{ShelfId}
 use Rattle.loader.specs.CatalogueView.{CatalogueView}
 use Rattle.loader.specs.Codes.{catalogue_code}
-use Rattle.oplog.specs.declared.configuration.Config.{Config}
-use Rattle.oplog.specs.contracts.configuration.Config as config_row
+use Rattle.oplog.specs.declared.configuration.Sizes.{Sizes}
+use Rattle.oplog.specs.contracts.configuration.Sizes as sizes_row
 use Rattle.oplog.specs.History.{History}
 use Rattle.oplog.specs.Codes.{history_code}
 use Rattle.accounts.specs.declared.sessions.Progress.{Progress}
 use Rattle.accounts.specs.declared.sessions.SessionNote.{SessionNote}
 use Rattle.accounts.specs.contracts.sessions.SessionNote as note_row
+use Rattle.ownlock.specs.declared.known.ShelfStep.{ShelfStep}
+use Rattle.ownlock.specs.contracts.known.ShelfStep as step_row
+use Rattle.store_steps.specs.declared.values.Value.{Value}
+use Rattle.store_steps.specs.contracts.values.Value as value_row
 use Rattle.store_steps.specs.Views.{SessionView}
 use Rattle.store.specs.Sessions.{StoreView}
 
 abbrev pub store_code : Coded StoreView
 store_code =
-    code_by (ShelfId × (Config × CatalogueView)) (coded× table_id_coded (coded× config_row.the_row.coded catalogue_code))
+    code_by (ShelfId × (Sizes × CatalogueView)) (coded× table_id_coded (coded× sizes_row.the_row.coded catalogue_code))
     (λ s. (s.id, (s.config, s.catalogue))) (λ p. record { id = p.0; config = p.1.0; catalogue = p.1.1 }) (λ _. refl)
 
 abbrev pub progress_code : Coded (Progress CatalogueView)
 progress_code =
-    code_by (Config × (CatalogueView × (History × ℕ))) (coded× config_row.the_row.coded (coded× catalogue_code (coded× history_code coded_ℕ)))
+    code_by (Sizes × (CatalogueView × (History × ℕ))) (coded× sizes_row.the_row.coded (coded× catalogue_code (coded× history_code coded_ℕ)))
     (λ l. (l.config, (l.catalogue, (l.history, l.completed)))) (λ p. record { config = p.0; catalogue = p.1.0; history = p.1.1.0; completed = p.1.1.1 }) (λ _. refl)
+
+abbrev pub step_code : Coded (ShelfStep Value)
+step_code = (step_row.the_row value_row.the_row).coded
 
 abbrev pub session_code : Coded SessionView
 session_code =
-    code_by (ShelfId × (ℕ × (Progress CatalogueView × (SessionNote × List ℕ))))
-    (coded× table_id_coded (coded× coded_ℕ (coded× progress_code (coded× note_row.the_row.coded (coded_list coded_ℕ)))))
-    (λ s. (s.shelf, (s.session, (s.progress, (s.note, s.tails_read)))))
-    (λ p. record { shelf = p.0; session = p.1.0; progress = p.1.1.0; note = p.1.1.1.0; tails_read = p.1.1.1.1 }) (λ _. refl)
+    code_by (ShelfId × (ℕ × (Progress CatalogueView × (SessionNote × List (ShelfStep Value)))))
+    (coded× table_id_coded (coded× coded_ℕ (coded× progress_code (coded× note_row.the_row.coded (coded_list step_code)))))
+    (λ s. (s.shelf, (s.session, (s.progress, (s.note, s.steps)))))
+    (λ p. record { shelf = p.0; session = p.1.0; progress = p.1.1.0; note = p.1.1.1.0; steps = p.1.1.1.1 }) (λ _. refl)

@@ -1,5 +1,5 @@
--- Of which steps the calls of a session are made that look at its node's replica, as their users see them, where they are not refused.
-use Rattle.std.specs.Prelude.{ℕ, List, Option, Result, IfOk, IfSome}
+-- Of which steps the calls of a session are made, as their users see them, where they are not refused.
+use Rattle.std.specs.Prelude.{◌≡◌, ℕ, List, Option, Result, IfOk, IfSome, MatchOption}
 use Rattle.oplog.specs.Operations.{Operation}
 use Rattle.readpath.specs.declared.reading.ReadAnswer.{ReadAnswer}
 use Rattle.replica.specs.declared.refusals.StoreRefused.{StoreRefused}
@@ -8,9 +8,26 @@ use Rattle.store_steps.specs.declared.questions.QuestionRefused.{QuestionRefused
 use Rattle.store_steps.specs.declared.scanning.ScanRefused.{ScanRefused}
 use Rattle.store_steps.specs.declared.steps.Question.{Question}
 use Rattle.store_steps.specs.Views.{SessionView}
-use Rattle.store.specs.Sessions.{known_of}
+use Rattle.combiner.specs.declared.slots.Reply.{Reply}
+use Rattle.store.specs.declared.answers.Answer.{Answer}
+use Rattle.store.specs.Sessions.{known_of, said}
+use Rattle.store_steps.specs.Standing.{SessionKnown}
+use Rattle.store_steps.specs.Updating.{CollectsBy, Deeds, PostsBy, UpdatesBy}
 use Rattle.store_steps.specs.Whole.{ReadsBy}
 use Rattle.store_steps.specs.Looking.{EachReadsBy, ScansBy}
+
+-- an update: its session's own, which it posts and waits for, and all that it combines meanwhile
+abbrev pub UpdateGoes : (old new : SessionView) → Operation → Result Answer StoreRefused → Type 0
+UpdateGoes old new op result = (reply : Reply) × (result ≡ said reply) × UpdatesBy (known_of old) (known_of new) op reply
+
+-- a post, unless the desk is held
+abbrev pub PostGoes : {A : Type 0} → (old new : SessionView) → Operation → Result (Option A) StoreRefused → Type 0
+PostGoes old new op result = IfOk result (λ o. IfSome o (λ _. PostsBy (known_of old) (known_of new) op))
+
+-- a call that goes on with an update, deed by deed; where it has the answer, that was collected last
+abbrev pub CompleteGoes : (old new : SessionView) → Option (Result Answer StoreRefused) → Type 0
+CompleteGoes old new result = MatchOption result (Deeds (known_of old) (known_of new))
+    (λ r. (reply : Reply) × (r ≡ said reply) × ((m : SessionKnown) × Deeds (known_of old) m × CollectsBy m (known_of new) reply))
 
 abbrev pub ReadGoes : (old new : SessionView) → Operation → Result ReadAnswer StoreRefused → Type 0
 ReadGoes old new op result = IfOk result (λ a. ReadsBy (known_of old) (known_of new) op a)

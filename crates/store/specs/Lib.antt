@@ -6,3 +6,5 @@ pub mod Codes
 -- What the store's inner functions speak of.
 pub mod Places
 pub mod Going
+-- Keys, states, and what is looked for without waiting.
+pub mod Looks

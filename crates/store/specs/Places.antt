@@ -3,7 +3,7 @@ use Rattle.std.specs.Prelude.{◌≡◌, ℕ, ◌+◌, ◌<◌, List, length, Op
 use Rattle.loader.specs.StoreState.{StoreState}
 use Rattle.ownlock.specs.Seats.{At}
 use Rattle.loader.specs.CatalogueView.{CatalogueView, opening_state}
-use Rattle.oplog.specs.declared.configuration.Config.{Config}
+use Rattle.oplog.specs.declared.configuration.Sizes.{Sizes}
 use Rattle.combiner.specs.Desks.{opened_desk}
 use Rattle.store_steps.specs.declared.values.Value.{Value}
 use Rattle.store_steps.specs.declared.values.Value.TheVariants.{Log, Replica, Desk}
@@ -28,7 +28,7 @@ abbrev pub AreKept : List (Option Value) → List (Option Value) → Type 0
 AreKept old new = (p : ℕ) (a : Option Value) → At p a old → At p a new
 
 -- the log, then each node's replica, then each node's desk
-pub record AreShelved (config : Config) (c : CatalogueView) (values : List (Option Value)) : Type 0 where
+pub record AreShelved (config : Sizes) (c : CatalogueView) (values : List (Option Value)) : Type 0 where
   pub count : length values ≡ 1 + config.nodes + config.nodes
   pub log : (v : Value) × At 0 (Some v) values × IsOpenedLog (opening_state c) config.window config.limit v
   pub replicas : AreFilled 1 config.nodes (λ i v. IsOpenedReplica (opening_state c) config.window v) values

@@ -1,9 +1,9 @@
 -- A session and a store as their users see them, and what a call answers.
 use Rattle.std.specs.Prelude.{◌≡◌, ℕ, zero, suc, ◌+◌, ◌≤◌, List, [], ◌∷◌, ◌++◌, length, Option, Result, Ok, Err, MatchResult}
-use Rattle.ownlock.specs.Seats.{ShelfId}
+use Rattle.ownlock.specs.Seats.{ShelfId, tails_in}
 use Rattle.loader.specs.CatalogueView.{CatalogueView}
 use Rattle.loader.specs.Installed.{InstalledView}
-use Rattle.oplog.specs.declared.configuration.Config.{Config}
+use Rattle.oplog.specs.declared.configuration.Sizes.{Sizes}
 use Rattle.verifier.specs.declared.refusal.Mode.{Mode}
 use Rattle.oplog.specs.Calls.{NewProgram}
 use Rattle.oplog.specs.Operations.{Operation}
@@ -30,7 +30,7 @@ use Rattle.store_steps.specs.Views.{SessionView, request_of, session_view}
 -- which shelf a store has, and what it was opened with
 pub record StoreView : Type 0 where
   pub id : ShelfId
-  pub config : Config
+  pub config : Sizes
   pub catalogue : CatalogueView
 
 -- the session is one of this store
@@ -40,20 +40,20 @@ pub record IsOf (store : StoreView) (s : SessionView) : Type 0 where
   pub catalogue : s.progress.catalogue ≡ store.catalogue
 
 -- what the session a knows at first, and the session
-abbrev pub fresh_known : Config → CatalogueView → ℕ → SessionKnown
-fresh_known config c a = record { session = a; progress = first_progress config c; note = fresh_note; held = []; tails_read = [] }
+abbrev pub fresh_known : Sizes → CatalogueView → ℕ → SessionKnown
+fresh_known config c a = record { session = a; progress = first_progress config c; note = fresh_note; held = []; steps = [] }
 
-abbrev pub fresh_session : ShelfId → Config → CatalogueView → ℕ → SessionView
-fresh_session shelf config c a = record { shelf = shelf; session = a; progress = first_progress config c; note = fresh_note; tails_read = [] }
+abbrev pub fresh_session : ShelfId → Sizes → CatalogueView → ℕ → SessionView
+fresh_session shelf config c a = record { shelf = shelf; session = a; progress = first_progress config c; note = fresh_note; steps = [] }
 
 -- so many of them, from the session a on
-abbrev pub fresh_sessions : ShelfId → Config → CatalogueView → ℕ → ℕ → List SessionView
+abbrev pub fresh_sessions : ShelfId → Sizes → CatalogueView → ℕ → ℕ → List SessionView
 fresh_sessions shelf config c a zero = []
 fresh_sessions shelf config c a (suc n) = fresh_session shelf config c a ∷ fresh_sessions shelf config c (suc a) n
 
 -- what a session knows that holds nothing
 abbrev pub known_of : SessionView → SessionKnown
-known_of s = record { session = s.session; progress = s.progress; note = s.note; held = []; tails_read = s.tails_read }
+known_of s = record { session = s.session; progress = s.progress; note = s.note; held = []; steps = s.steps }
 
 -- room for a program that the session's store may install
 abbrev pub HasRoom : InstalledView → StoreSeat → Type 0
@@ -91,7 +91,7 @@ TellsUpdate old new op result = MatchResult result (TellsAnswered old new op) (T
 
 -- within a call the session has read the completed tail, and this point is not below what it was then
 abbrev pub IsFresh : (old new : SessionView) → ℕ → Type 0
-IsFresh old new point = (begun : ℕ) × (more : List ℕ) × (new.tails_read ≡ old.tails_read ++ begun ∷ more) × (begun ≤ point)
+IsFresh old new point = (begun : ℕ) × (more : List ℕ) × (tails_in new.steps ≡ tails_in old.steps ++ begun ∷ more) × (begun ≤ point)
 
 -- so is the point of a read
 abbrev pub BeginsWithin : (old new : SessionView) → Result ReadAnswer StoreRefused → Type 0

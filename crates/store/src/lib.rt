@@ -13,13 +13,14 @@ pub use answers::Answer;
 pub use closed::Closed;
 pub use loader::{Catalogue, LoadError, StoreState, load_manifest};
 pub use node::NodeReplica;
-pub use oplog::{Config, OpenError};
+pub use oplog::{Config, ENDLESS, OpenError, Sizes};
 pub use polled::Polled;
 pub use readpath::ReadAnswer;
 pub use replica::{NO_PLACE, NO_PROGRAM, StoreRefused};
 pub use session::Session;
 pub use store::Store;
 pub use store_steps::{
-    Batches, Beginning, Question, QuestionRefused, Scan, ScanRefused, Setup, Value, desks,
+    Batches, Beginning, GetRefused, Lookup, MapKey, Question, QuestionRefused, Scan, ScanRefused,
+    Setup, Value, desks,
 };
 pub use verifier::Mode;

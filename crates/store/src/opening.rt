@@ -5,7 +5,7 @@ ghost use Rattle.std.specs.List.{All};
 ghost use Rattle.maps.specs.Shapes.{AreShapesOk};
 ghost use Rattle.loader.specs.CatalogueView.{IsCatalogue, OpensOn, opening_state};
 ghost use Rattle.replica.specs.Refusals.{IsRoomFor};
-ghost use Rattle.oplog.specs.Limits.{IsConfig};
+ghost use Rattle.oplog.specs.Limits.{AreSizes};
 ghost use Rattle.oplog.specs.declared.configuration.TheConstants.{MAX_NODES, MAX_NODE_SLOTS};
 ghost use Rattle.ownlock.specs.Knowledge.{AllAgree};
 ghost use Rattle.accounts.specs.LogSteps.{first_progress, fresh_note};
@@ -18,7 +18,7 @@ use crate::session::Session;
 use combiner::Desk;
 use loader::{Catalogue, Installed, StoreState};
 use maps::Shape;
-use oplog::Config;
+use oplog::Sizes;
 use ownlock::{Seat, Shelf};
 use std::alloc::{AllocError, Global};
 use store_steps::{Caller, Setup, Value, shelved_log, shelved_replica};
@@ -36,12 +36,12 @@ fn shelved_desk(alloc: Global, node: u16, slots: usize) -> Result<Value, AllocEr
 fn push_replicas(
     alloc: Global,
     values: &mut Vec<Option<Value>>,
-    config: &Config,
+    config: &Sizes,
     catalogue: &Catalogue,
     state: Option<&StoreState>,
 ) -> Result<(), AllocError>
     requires opens { OpensOn catalogue.now state }
-    requires config { IsConfig config.now }
+    requires config { AreSizes config.now }
     ensures count { IfOk result (λ _. length values.new.items ≡ length values.old.items + config.now.nodes) }
     ensures kept { IfOk result (λ _. AreKept values.old.items values.new.items) }
     ensures replicas { IfOk result (λ _. HaveReplicas (length values.old.items) config.now.nodes (opening_state catalogue.now) config.now.window values.new.items) }
@@ -75,13 +75,13 @@ fn push_desks(
 // The log, each node's replica, and each node's desk, in the order of their places.
 pub(crate) fn shelved_places(
     alloc: Global,
-    config: &Config,
+    config: &Sizes,
     catalogue: &Catalogue,
     state: Option<&StoreState>,
 ) -> Result<Vec<Option<Value>>, AllocError>
     requires whole { IsCatalogue catalogue.now }
     requires opens { OpensOn catalogue.now state }
-    requires config { IsConfig config.now }
+    requires config { AreSizes config.now }
     ensures values { IfOk result (λ v. AreShelved config.now catalogue.now v.items) }
     ensures agree { IfOk result (λ v. AllAgree store_rules (first_progress config.now catalogue.now) (replicate (sessions_of config.now) fresh_note) v.items) }
 {
@@ -96,8 +96,8 @@ pub(crate) fn shelved_places(
 }
 
 // How many sessions a store has: one for each slot of each node.
-pub(crate) fn session_count(config: &Config) -> usize
-    requires config { IsConfig config.now }
+pub(crate) fn session_count(config: &Sizes) -> usize
+    requires config { AreSizes config.now }
     ensures count { result ≡ sessions_of config.now }
 {
     config.nodes as usize * config.slots as usize
@@ -140,7 +140,7 @@ pub(crate) fn push_sessions(
     sessions: &mut Vec<Session>,
 )
     requires own { seat.shelf ≡ shelf.now.id }
-    requires config { IsConfig setup.now.config }
+    requires config { AreSizes setup.now.config }
     requires all { seat.sessions ≡ all_sessions (opening_progress setup.now) 0 (opening_notes setup.now) }
     requires rooms { All (IsRoomFor setup.now.catalogue.shapes) rooms.items × (length rooms.items ≡ sessions_of setup.now.config) }
     requires room { (sessions.old.items ≡ []) × (sessions_of setup.now.config ≤ vec_capacity sessions.old) }

@@ -1,29 +1,44 @@
 // A session whose calls answer at once.
 
-ghost use Rattle.std.specs.Prelude.{◌≡◌, [], ◌∷◌, None, Some, Err, true, false, IfSome, IfNone, MatchOption};
+ghost use Rattle.std.specs.Prelude.{◌≡◌, [], ◌∷◌, None, Some, Err, true, false, length, ◌≤◌, IfSome, IfNone, MatchOption};
 ghost use Rattle.verifier.specs.declared.refusal.Mode.TheVariants.{Update, Read};
 ghost use Rattle.accounts.specs.Accounts.{Extends, IsWellFormed};
 ghost use Rattle.accounts.specs.declared.sessions.Pending.{Pending};
 ghost use Rattle.replica.specs.StoreMeaning.{store_meaning, is_operation};
 ghost use Rattle.replica.specs.declared.refusals.StoreRefused.{StoreRefused};
 ghost use Rattle.replica.specs.Refusals.{early_refusal};
-ghost use Rattle.store.specs.Going.{TriedReadGoes};
+ghost use Rattle.store.specs.Going.{CompleteGoes, PostGoes, TriedReadGoes};
 ghost use Rattle.store_steps.specs.Views.{op_of};
-ghost use Rattle.store.specs.Sessions.{IsOf, install_of, install_refused};
+ghost use Rattle.store.specs.Sessions.{IsFresh, IsOf, known_of, install_of, install_refused};
 ghost use Rattle.store_steps.specs.Stages.{HasDone};
+ghost use Rattle.store_steps.specs.Updating.{DeedGoes, PostsBy};
+ghost use Rattle.loader.specs.CatalogueView.{sizes_for};
+ghost use Rattle.loader.specs.StoreState.{sizes_of};
+ghost use Rattle.store_steps.specs.declared.getting.GetRefused.{GetRefused};
+ghost use Rattle.store_steps.specs.declared.questions.QuestionRefused.{QuestionRefused};
+ghost use Rattle.store_steps.specs.declared.scanning.ScanRefused.{ScanRefused};
+ghost use Rattle.store_steps.specs.Questions.{first_refused};
+ghost use Rattle.store_steps.specs.Scanning.{scan_refusal};
+ghost use Rattle.store.specs.Looks.{AnswerBy, AreAnswers, FindsBy, IsFound, IsScan, MayScan, PagesBy, SnapshotGoes, key_refused};
+ghost use Rattle.store_steps.specs.Snapshots.{SnapshotTells};
+ghost use Rattle.store.specs.Looks.{TellsTried, TriedGoes, UnlessAnswered};
 ghost use Rattle.store.specs.Polled.{HasPostedFor, TellsCompleted, TellsPost, TellsTriedRead};
 
 use crate::answers::Answer;
 use crate::session::{Session, answer_of};
 use crate::store::Store;
 use combiner::Batch;
-use loader::Installed;
+use loader::{Installed, StoreState};
 use oplog::{Call, NewProgram, Op};
 use ownlock::Seat;
 use readpath::ReadAnswer;
 use replica::{Replies, StoreRefused, check_call, check_install};
 use std::marker::Model;
-use store_steps::{Caller, Deed, Here, Question, Stage, Value, go_on, try_post, try_query};
+use store_steps::{
+    Beginning, Caller, Deed, GetRefused, Here, Lookup, MapKey, Question, QuestionRefused, Scan,
+    ScanRefused, Stage, Value, check_each, check_get, check_scan, go_on, try_get, try_post,
+    try_query, try_read_each, try_scan, try_snapshot,
+};
 use verifier::Mode;
 
 // How many deeds a call does at most that goes on with an update. Where nobody else is there it takes four.
@@ -112,6 +127,7 @@ impl Polled {
         ensures well_formed { IsWellFormed store_meaning self.new.progress }
         ensures stays { IfNone result (self.new ≡ self.old) }
         ensures posted { IfSome result (λ _. HasPostedFor self.old self.new op) }
+        ensures goes { IfSome result (λ _. PostsBy (known_of self.old) (known_of self.new) op) }
     {
         let shared = store.shared();
         let Polled {
@@ -153,6 +169,8 @@ impl Polled {
             × (self.new ≡ self.old) }
         ensures posted { early_refusal store.now.catalogue Update program argument.now ≡ None
             → TellsPost self.old self.new (op_of program argument.now) result }
+        ensures goes { early_refusal store.now.catalogue Update program argument.now ≡ None
+            → PostGoes self.old self.new (op_of program argument.now) result }
     {
         let _seat = &self.seat;
         check_call(store.catalogue(), Mode::Update, program, argument)?;
@@ -185,6 +203,8 @@ impl Polled {
             × (self.new ≡ self.old) }
         ensures posted { install_refused store.now mode arg_len bytes.now ≡ None
             → TellsPost self.old self.new (install_of mode arg_len bytes.now) result }
+        ensures goes { install_refused store.now mode arg_len bytes.now ≡ None
+            → PostGoes self.old self.new (install_of mode arg_len bytes.now) result }
     {
         check_install(&mut self.room, mode, arg_len as u64, bytes)?;
         let program = NewProgram::new(mode, arg_len, bytes);
@@ -203,6 +223,7 @@ impl Polled {
         ensures grown { Extends self.old.progress self.new.progress }
         ensures well_formed { IsWellFormed store_meaning self.new.progress }
         ensures done { (o : Pending) → self.old.note.pending ≡ Some o → HasDone self.old self.new o result }
+        ensures goes { DeedGoes (known_of self.old) (known_of self.new) result }
     {
         let shared = store.shared();
         let Polled {
@@ -234,6 +255,7 @@ impl Polled {
         ensures grown { Extends self.old.progress self.new.progress }
         ensures well_formed { IsWellFormed store_meaning self.new.progress }
         ensures completed { (o : Pending) → self.old.note.pending ≡ Some o → TellsCompleted self.old self.new o result }
+        ensures goes { CompleteGoes self.old self.new result }
     {
         let _seat = &self.seat;
         for _ in 0..DEEDS {
@@ -282,5 +304,148 @@ impl Polled {
             return Ok(None);
         };
         Ok(Some(answer))
+    }
+
+    /// Answers up to 16 questions at one point, as [`Session::read_each`] has it, if nobody holds the replica of its node, nor the log where that
+    /// replica lacks something. `None` where somebody does. No update is out.
+    ///
+    /// # Errors
+    ///
+    /// The first question that [`try_read`](Polled::try_read) refuses: none is answered then, and nothing is done.
+    pub fn try_read_each(
+        &mut self,
+        store: &Store,
+        questions: &[Question<'_>],
+        replies: &mut [u64],
+    ) -> Result<Option<u64>, QuestionRefused>
+        requires own { IsOf store.now self.old }
+        requires idle { self.old.note.pending ≡ None }
+        requires few { length questions.now ≤ 16 }
+        requires room { length replies.old ≡ length questions.now }
+        ensures early { (r : QuestionRefused) → first_refused store.now.catalogue 0 questions.now ≡ Some r → (result ≡ Err r)
+            × (self.new ≡ self.old) }
+        ensures kept { UnlessAnswered result (replies.new ≡ replies.old) }
+        ensures own { IsOf store.now self.new }
+        ensures same { (self.new.shelf ≡ self.old.shelf) × (self.new.session ≡ self.old.session) × (self.new.note ≡ self.old.note) }
+        ensures grown { Extends self.old.progress self.new.progress }
+        ensures well_formed { IsWellFormed store_meaning self.new.progress }
+        ensures answered { first_refused store.now.catalogue 0 questions.now ≡ None
+            → TellsTried result (AreAnswers self.old self.new questions.now replies.new) }
+        ensures goes { first_refused store.now.catalogue 0 questions.now ≡ None
+            → TriedGoes result (AnswerBy self.old self.new questions.now replies.new) }
+    {
+        let Polled { seat, caller, .. } = self;
+        check_each(store.catalogue(), questions)?;
+        let here = Here {
+            shared: store.shared(),
+            caller: *caller,
+        };
+        let Ok(point) = try_read_each(here, seat, questions, replies) else {
+            return Ok(None);
+        };
+        Ok(Some(point))
+    }
+
+    /// Gives entries of a map, as [`Session::scan`] has it, if nobody holds the replica of its node, nor the log where that replica lacks
+    /// something. `None` where somebody does. No update is out.
+    ///
+    /// # Errors
+    ///
+    /// S9 unknown map, S10 unknown place: nothing is done then.
+    pub fn try_scan(
+        &mut self,
+        store: &Store,
+        begin: Beginning,
+        keys: &mut [u8],
+        values: &mut [u8],
+    ) -> Result<Option<Scan>, ScanRefused>
+        requires own { IsOf store.now self.old }
+        requires idle { self.old.note.pending ≡ None }
+        ensures early { (r : ScanRefused) → scan_refusal store.now.catalogue begin.map begin.from ≡ Some r → (result ≡ Err r)
+            × (self.new ≡ self.old) }
+        ensures kept { UnlessAnswered result ((keys.new ≡ keys.old) × (values.new ≡ values.old)) }
+        ensures own { IsOf store.now self.new }
+        ensures same { (self.new.shelf ≡ self.old.shelf) × (self.new.session ≡ self.old.session) × (self.new.note ≡ self.old.note) }
+        ensures grown { Extends self.old.progress self.new.progress }
+        ensures well_formed { IsWellFormed store_meaning self.new.progress }
+        ensures told { MayScan store.now begin
+            → TellsTried result (IsScan self.old self.new begin (length keys.old) (length values.old) keys.new values.new) }
+        ensures goes { MayScan store.now begin
+            → TriedGoes result (PagesBy self.old self.new begin (length keys.old) (length values.old) keys.new values.new) }
+    {
+        let Polled { seat, caller, .. } = self;
+        check_scan(store.catalogue(), begin)?;
+        let here = Here {
+            shared: store.shared(),
+            caller: *caller,
+        };
+        let Ok(scan) = try_scan(here, seat, begin, keys, values) else {
+            return Ok(None);
+        };
+        Ok(Some(scan))
+    }
+
+    /// Looks for a key of a map, as [`Session::get`] has it, if nobody holds the replica of its node, nor the log where that replica lacks
+    /// something. `None` where somebody does. No update is out.
+    ///
+    /// # Errors
+    ///
+    /// S9 unknown map, S11 key length, S12 value length: nothing is done then.
+    pub fn try_get(
+        &mut self,
+        store: &Store,
+        of: MapKey<'_>,
+        value: &mut [u8],
+    ) -> Result<Option<Lookup>, GetRefused>
+        requires own { IsOf store.now self.old }
+        requires idle { self.old.note.pending ≡ None }
+        ensures early { (r : GetRefused) → key_refused store.now of.entry (length value.old) ≡ Some r → (result ≡ Err r) × (self.new ≡ self.old) }
+        ensures kept { UnlessAnswered result (value.new ≡ value.old) }
+        ensures own { IsOf store.now self.new }
+        ensures same { (self.new.shelf ≡ self.old.shelf) × (self.new.session ≡ self.old.session) × (self.new.note ≡ self.old.note) }
+        ensures grown { Extends self.old.progress self.new.progress }
+        ensures well_formed { IsWellFormed store_meaning self.new.progress }
+        ensures told { key_refused store.now of.entry (length value.old) ≡ None
+            → TellsTried result (IsFound self.old self.new of.entry value.old value.new) }
+        ensures goes { key_refused store.now of.entry (length value.old) ≡ None
+            → TriedGoes result (FindsBy self.old self.new of.entry value.old value.new) }
+    {
+        let Polled { seat, caller, .. } = self;
+        check_get(store.catalogue(), of, value.len())?;
+        let here = Here {
+            shared: store.shared(),
+            caller: *caller,
+        };
+        let Ok(found) = try_get(here, seat, of, value) else {
+            return Ok(None);
+        };
+        Ok(Some(found))
+    }
+
+    /// Makes a state the store's at one point of the history, as [`Session::snapshot`] has it, if nobody holds the replica of its node, nor the log
+    /// where that replica lacks something. `None` where somebody does: the state is as it was then. No update is out.
+    pub fn try_snapshot(&mut self, store: &Store, into: &mut StoreState) -> Option<u64>
+        requires own { IsOf store.now self.old }
+        requires idle { self.old.note.pending ≡ None }
+        requires sizes { sizes_of into.old ≡ sizes_for store.now.catalogue }
+        ensures sizes { sizes_of into.new ≡ sizes_of into.old }
+        ensures kept { IfNone result (into.new ≡ into.old) }
+        ensures own { IsOf store.now self.new }
+        ensures same { (self.new.shelf ≡ self.old.shelf) × (self.new.session ≡ self.old.session) × (self.new.note ≡ self.old.note) }
+        ensures grown { Extends self.old.progress self.new.progress }
+        ensures well_formed { IsWellFormed store_meaning self.new.progress }
+        ensures told { IfSome result (λ point. SnapshotTells self.new.progress self.old.progress.completed point into.new) }
+        ensures begun { IfSome result (λ point. IsFresh self.old self.new point) }
+        ensures goes { IfSome result (λ point. SnapshotGoes self.old self.new point into.new) }
+    {
+        let Polled { seat, caller, .. } = self;
+        let here = Here {
+            shared: store.shared(),
+            caller: *caller,
+        };
+        let Ok(point) = try_snapshot(here, seat, into) else {
+            return None;
+        };
+        Some(point)
     }
 }

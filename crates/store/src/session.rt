@@ -1,12 +1,12 @@
 // A session's calls.
 
-ghost use Rattle.std.specs.Prelude.{◌≡◌, [], ◌∷◌, true, length, None, Some, Err, ◌≤◌};
+ghost use Rattle.std.specs.Prelude.{◌≡◌, [], ◌∷◌, true, length, None, Some, Err, ◌≤◌, IfErr};
 ghost use Rattle.verifier.specs.declared.refusal.Mode.TheVariants.{Update, Read};
 ghost use Rattle.accounts.specs.Accounts.{Extends, IsWellFormed};
 ghost use Rattle.replica.specs.StoreMeaning.{store_meaning, is_operation};
 ghost use Rattle.replica.specs.declared.refusals.StoreRefused.{StoreRefused};
 ghost use Rattle.replica.specs.Refusals.{early_refusal};
-ghost use Rattle.store.specs.Going.{EachGoes, ReadGoes, ScanGoes};
+ghost use Rattle.store.specs.Going.{EachGoes, ReadGoes, ScanGoes, UpdateGoes};
 ghost use Rattle.store.specs.Sessions.{said};
 ghost use Rattle.store_steps.specs.declared.questions.QuestionRefused.{QuestionRefused};
 ghost use Rattle.store_steps.specs.Questions.{first_refused};
@@ -14,13 +14,18 @@ ghost use Rattle.store.specs.Sessions.{EachBegins, TellsEach};
 ghost use Rattle.store_steps.specs.declared.scanning.ScanRefused.{ScanRefused};
 ghost use Rattle.store_steps.specs.Scanning.{scan_refusal};
 ghost use Rattle.store.specs.Sessions.{ScanBegins, TellsScan};
+ghost use Rattle.store_steps.specs.declared.getting.GetRefused.{GetRefused};
+ghost use Rattle.loader.specs.CatalogueView.{sizes_for};
+ghost use Rattle.loader.specs.StoreState.{sizes_of};
+ghost use Rattle.store.specs.Looks.{GetGoes, SnapshotGoes, TellsGet, key_refused};
+ghost use Rattle.store_steps.specs.Snapshots.{SnapshotTells};
 ghost use Rattle.store_steps.specs.Views.{IsIdle, op_of, session_view};
-ghost use Rattle.store.specs.Sessions.{IsOf, TellsUpdate, TellsRead, BeginsWithin, HasRoom, known_of, install_of, install_refused};
+ghost use Rattle.store.specs.Sessions.{IsFresh, IsOf, TellsUpdate, TellsRead, BeginsWithin, HasRoom, known_of, install_of, install_refused};
 
 use crate::answers::Answer;
 use crate::store::Store;
 use combiner::Reply;
-use loader::Installed;
+use loader::{Installed, StoreState};
 use oplog::{Call, NewProgram, Op};
 use ownlock::Seat;
 use readpath::ReadAnswer;
@@ -28,8 +33,9 @@ use replica::{StoreRefused, check_call, check_install};
 use std::marker::Model;
 use std::sync::Wait;
 use store_steps::{
-    Batches, Beginning, Caller, Here, Question, QuestionRefused, Room, Scan, ScanRefused, Value,
-    check_each, check_scan, complete, post, query, read_each_waiting, scan_waiting,
+    Batches, Beginning, Caller, GetRefused, Here, Lookup, MapKey, Question, QuestionRefused, Room,
+    Scan, ScanRefused, Value, check_each, check_get, check_scan, complete, get_waiting, post,
+    query, read_each_waiting, scan_waiting, snapshot_waiting,
 };
 use verifier::Mode;
 
@@ -124,6 +130,7 @@ impl Session {
         ensures grown { Extends self.old.progress self.new.progress }
         ensures well_formed { IsWellFormed store_meaning self.new.progress }
         ensures answered { TellsUpdate self.old self.new op result }
+        ensures goes { UpdateGoes self.old self.new op result }
     {
         let shared = store.shared();
         let here = Here {
@@ -158,6 +165,8 @@ impl Session {
             × (self.new ≡ self.old) }
         ensures answered { early_refusal store.now.catalogue Update program argument.now ≡ None
             → TellsUpdate self.old self.new (op_of program argument.now) result }
+        ensures goes { early_refusal store.now.catalogue Update program argument.now ≡ None
+            → UpdateGoes self.old self.new (op_of program argument.now) result }
     {
         let _seat = &self.seat;
         check_call(store.catalogue(), Mode::Update, program, argument)?;
@@ -191,6 +200,8 @@ impl Session {
             × (self.new ≡ self.old) }
         ensures answered { install_refused store.now mode arg_len bytes.now ≡ None
             → TellsUpdate self.old self.new (install_of mode arg_len bytes.now) result }
+        ensures goes { install_refused store.now mode arg_len bytes.now ≡ None
+            → UpdateGoes self.old self.new (install_of mode arg_len bytes.now) result }
     {
         check_install(&mut self.room, mode, arg_len as u64, bytes)?;
         let program = NewProgram::new(mode, arg_len, bytes);
@@ -308,5 +319,62 @@ impl Session {
             caller: *caller,
         };
         Ok(scan_waiting(rt, here, seat, begin, keys, values))
+    }
+
+    /// Looks for a key of a map, and puts the value there into `value`, which has as many bytes as the map's values, if the key stands in the maps of
+    /// the session's node, once these have seen everything that was completed when the call began. Else `value` stays as it was. Of an array the
+    /// key is the index, 4 bytes, the low one first. Takes no memory.
+    ///
+    /// # Errors
+    ///
+    /// S9 unknown map, S11 key length, S12 value length: nothing is done then.
+    pub fn get<R: Wait>(
+        &mut self,
+        rt: &R,
+        store: &Store,
+        of: MapKey<'_>,
+        value: &mut [u8],
+    ) -> Result<Lookup, GetRefused>
+        requires own { IsOf store.now self.old }
+        ensures own { IsOf store.now self.new }
+        ensures same { (self.new.shelf ≡ self.old.shelf) × (self.new.session ≡ self.old.session) × (self.new.note ≡ self.old.note) }
+        ensures grown { Extends self.old.progress self.new.progress }
+        ensures well_formed { IsWellFormed store_meaning self.new.progress }
+        ensures early { (r : GetRefused) → key_refused store.now of.entry (length value.old) ≡ Some r → (result ≡ Err r) × (self.new ≡ self.old) }
+        ensures kept { IfErr result (λ _. value.new ≡ value.old) }
+        ensures told { key_refused store.now of.entry (length value.old) ≡ None → TellsGet self.old self.new of.entry value.old value.new result }
+        ensures goes { key_refused store.now of.entry (length value.old) ≡ None → GetGoes self.old self.new of.entry value.old value.new result }
+    {
+        let Session { seat, caller, .. } = self;
+        check_get(store.catalogue(), of, value.len())?;
+        let here = Here {
+            shared: store.shared(),
+            caller: *caller,
+        };
+        Ok(get_waiting(rt, here, seat, of, value))
+    }
+
+    /// Makes a state the store's at one point of the history, and answers the point: that which the maps of the session's node have come to, once
+    /// these have seen everything that was completed when the call began. The state has the sizes of the store's catalogue
+    /// ([`StoreState::is_sized_for`]), as one that was opened for it. Other sessions go on; those of the same node wait while the maps are copied. Takes
+    /// no memory.
+    pub fn snapshot<R: Wait>(&mut self, rt: &R, store: &Store, into: &mut StoreState) -> u64
+        requires own { IsOf store.now self.old }
+        requires sizes { sizes_of into.old ≡ sizes_for store.now.catalogue }
+        ensures own { IsOf store.now self.new }
+        ensures same { (self.new.shelf ≡ self.old.shelf) × (self.new.session ≡ self.old.session) × (self.new.note ≡ self.old.note) }
+        ensures grown { Extends self.old.progress self.new.progress }
+        ensures well_formed { IsWellFormed store_meaning self.new.progress }
+        ensures sizes { sizes_of into.new ≡ sizes_of into.old }
+        ensures told { SnapshotTells self.new.progress self.old.progress.completed result into.new }
+        ensures begun { IsFresh self.old self.new result }
+        ensures goes { SnapshotGoes self.old self.new result into.new }
+    {
+        let Session { seat, caller, .. } = self;
+        let here = Here {
+            shared: store.shared(),
+            caller: *caller,
+        };
+        snapshot_waiting(rt, here, seat, into)
     }
 }

@@ -4,7 +4,7 @@ ghost use Rattle.std.specs.Prelude.{◌≡◌, ◌≢◌, ◌↔◌, ◌+◌, �
 ghost use Rattle.oplog.specs.declared.configuration.OpenError.TheVariants.{OtherState, OutOfLimits};
 ghost use Rattle.oplog.specs.declared.configuration.TheConstants.{MAX_NODES};
 ghost use Rattle.loader.specs.CatalogueView.{MayOpenOn, OpensOn, opened_on, with_places};
-ghost use Rattle.oplog.specs.Limits.{IsConfig};
+ghost use Rattle.oplog.specs.Limits.{sizes_in, AreSizes, IsConfig};
 ghost use Rattle.store_steps.specs.Shelving.{sessions_of};
 ghost use Rattle.store.specs.Sessions.{fresh_sessions};
 ghost use Rattle.store.specs.Opening.{AreOf, AreIdle, IsClosed, known_back};
@@ -13,7 +13,7 @@ use crate::closed::Closed;
 use crate::opening::{push_sessions, session_count, session_rooms, shelved_places};
 use crate::session::Session;
 use loader::{Catalogue, StoreState};
-use oplog::{Config, OpenError};
+use oplog::{Config, OpenError, Sizes};
 use ownlock::{Seat, Shelf};
 use std::alloc::{AllocError, Global};
 use std::marker::Model;
@@ -28,7 +28,7 @@ pub struct Store {
 
 impl Model for Store {
     ghost use Rattle.std.specs.Prelude.{◌≡◌, ◌+◌};
-    ghost use Rattle.oplog.specs.Limits.{IsConfig};
+    ghost use Rattle.oplog.specs.Limits.{AreSizes};
     ghost use Rattle.store.specs.Sessions.{StoreView};
     ghost use Rattle.store.specs.Codes.{store_code};
 
@@ -39,7 +39,7 @@ impl Model for Store {
     ghost view = { λ s. record { id = s.shelf.id; config = s.setup.config; catalogue = s.setup.catalogue } };
 
     // The shelf was opened for this setup, and has a place for the log, and two for each node: its replica's and its desk's.
-    ghost invariant = { λ s. (s.shelf.setup ≡ s.setup) × (s.shelf.places ≡ 1 + s.setup.config.nodes + s.setup.config.nodes) × IsConfig s.setup.config };
+    ghost invariant = { λ s. (s.shelf.setup ≡ s.setup) × (s.shelf.places ≡ 1 + s.setup.config.nodes + s.setup.config.nodes) × AreSizes s.setup.config };
 }
 
 impl Store {
@@ -57,15 +57,40 @@ impl Store {
         ensures limits { IfErr result (λ e. (e ≡ OutOfLimits) ↔ (IsConfig config → ⊥)) }
         ensures other { IfErr result (λ e. e ≢ OtherState) }
         ensures openable { IfOk result (λ t. IsConfig config) }
-        ensures store { IfOk result (λ t. (t.0.config ≡ config) × (t.0.catalogue ≡ with_places catalogue config.spare)) }
-        ensures sessions { IfOk result (λ t. t.1.items ≡ fresh_sessions t.0.id config (with_places catalogue config.spare) 0 (sessions_of config)) }
-        ensures count { IfOk result (λ t. length t.1.items ≡ sessions_of config) }
+        ensures store { IfOk result (λ t. (t.0.config ≡ sizes_in config) × (t.0.catalogue ≡ with_places catalogue config.spare)) }
+        ensures sessions { IfOk result (λ t. t.1.items ≡ fresh_sessions t.0.id t.0.config t.0.catalogue 0 (sessions_of (sizes_in config))) }
+        ensures count { IfOk result (λ t. length t.1.items ≡ sessions_of (sizes_in config)) }
         ensures own { IfOk result (λ t. AreOf t.0 t.1.items) }
     {
         if !config.is_within_limits() {
             return Err(OpenError::OutOfLimits);
         }
-        let catalogue = catalogue.with_places(config.spare as usize);
+        Store::open_sized(alloc, config.sizes(), catalogue)
+    }
+
+    /// A store of these sizes, as [`Store::open`] has it, whose history may have up to [`ENDLESS`](crate::ENDLESS) records.
+    ///
+    /// # Errors
+    ///
+    /// O1 where a size is out of its limits, O2 where there is no memory.
+    pub fn open_sized(
+        alloc: Global,
+        sizes: Sizes,
+        catalogue: Catalogue,
+    ) -> Result<(Store, Vec<Session>), OpenError>
+        ensures limits { IfErr result (λ e. (e ≡ OutOfLimits) ↔ (AreSizes sizes → ⊥)) }
+        ensures other { IfErr result (λ e. e ≢ OtherState) }
+        ensures openable { IfOk result (λ t. AreSizes sizes) }
+        ensures store { IfOk result (λ t. (t.0.config ≡ sizes) × (t.0.catalogue ≡ with_places catalogue sizes.spare)) }
+        ensures sessions { IfOk result (λ t. t.1.items ≡ fresh_sessions t.0.id sizes (with_places catalogue sizes.spare) 0 (sessions_of sizes)) }
+        ensures count { IfOk result (λ t. length t.1.items ≡ sessions_of sizes) }
+        ensures own { IfOk result (λ t. AreOf t.0 t.1.items) }
+    {
+        if !sizes.is_within_limits() {
+            return Err(OpenError::OutOfLimits);
+        }
+        let catalogue = catalogue.with_places(sizes.spare as usize);
+        let config = sizes;
         match Store::opened(alloc, Setup { config, catalogue }, None) {
             Ok(opened) => Ok(opened),
             Err(_) => Err(OpenError::NoMemory),
@@ -89,19 +114,46 @@ impl Store {
         ensures limits { IfErr result (λ e. (e ≡ OutOfLimits) ↔ (IsConfig config → ⊥)) }
         ensures other { IfErr result (λ e. (e ≡ OtherState) ↔ IsConfig config × (MayOpenOn (with_places catalogue config.spare) state.now → ⊥)) }
         ensures openable { IfOk result (λ t. IsConfig config × MayOpenOn (with_places catalogue config.spare) state.now) }
-        ensures store { IfOk result (λ t. (t.0.config ≡ config) × (t.0.catalogue ≡ opened_on (with_places catalogue config.spare) state.now)) }
-        ensures sessions { IfOk result (λ t. t.1.items ≡ fresh_sessions t.0.id t.0.config t.0.catalogue 0 (sessions_of config)) }
-        ensures count { IfOk result (λ t. length t.1.items ≡ sessions_of config) }
+        ensures store { IfOk result (λ t. (t.0.config ≡ sizes_in config) × (t.0.catalogue ≡ opened_on (with_places catalogue config.spare) state.now)) }
+        ensures sessions { IfOk result (λ t. t.1.items ≡ fresh_sessions t.0.id t.0.config t.0.catalogue 0 (sessions_of (sizes_in config))) }
+        ensures count { IfOk result (λ t. length t.1.items ≡ sessions_of (sizes_in config)) }
         ensures own { IfOk result (λ t. AreOf t.0 t.1.items) }
     {
         if !config.is_within_limits() {
             return Err(OpenError::OutOfLimits);
         }
-        let catalogue = catalogue.with_places(config.spare as usize);
+        Store::open_sized_on(alloc, config.sizes(), catalogue, state)
+    }
+
+    /// A store of these sizes on a state, as [`Store::open_on`] has it.
+    ///
+    /// # Errors
+    ///
+    /// O1 where a size is out of its limits, then O3 where the state has other maps than the catalogue or more programs than there are places, then
+    /// O2 where there is no memory.
+    pub fn open_sized_on(
+        alloc: Global,
+        sizes: Sizes,
+        catalogue: Catalogue,
+        state: &StoreState,
+    ) -> Result<(Store, Vec<Session>), OpenError>
+        ensures limits { IfErr result (λ e. (e ≡ OutOfLimits) ↔ (AreSizes sizes → ⊥)) }
+        ensures other { IfErr result (λ e. (e ≡ OtherState) ↔ AreSizes sizes × (MayOpenOn (with_places catalogue sizes.spare) state.now → ⊥)) }
+        ensures openable { IfOk result (λ t. AreSizes sizes × MayOpenOn (with_places catalogue sizes.spare) state.now) }
+        ensures store { IfOk result (λ t. (t.0.config ≡ sizes) × (t.0.catalogue ≡ opened_on (with_places catalogue sizes.spare) state.now)) }
+        ensures sessions { IfOk result (λ t. t.1.items ≡ fresh_sessions t.0.id t.0.config t.0.catalogue 0 (sessions_of sizes)) }
+        ensures count { IfOk result (λ t. length t.1.items ≡ sessions_of sizes) }
+        ensures own { IfOk result (λ t. AreOf t.0 t.1.items) }
+    {
+        if !sizes.is_within_limits() {
+            return Err(OpenError::OutOfLimits);
+        }
+        let catalogue = catalogue.with_places(sizes.spare as usize);
         if !catalogue.may_open_on(state) {
             return Err(OpenError::OtherState);
         }
         let catalogue = catalogue.on(state);
+        let config = sizes;
         match Store::opened(alloc, Setup { config, catalogue }, Some(state)) {
             Ok(opened) => Ok(opened),
             Err(_) => Err(OpenError::NoMemory),
@@ -114,7 +166,7 @@ impl Store {
         setup: Setup,
         state: Option<&StoreState>,
     ) -> Result<(Store, Vec<Session>), AllocError>
-        requires config { IsConfig setup.config }
+        requires config { AreSizes setup.config }
         requires opens { OpensOn setup.catalogue state }
         ensures store { IfOk result (λ t. (t.0.config ≡ setup.config) × (t.0.catalogue ≡ setup.catalogue)) }
         ensures sessions { IfOk result (λ t. t.1.items ≡ fresh_sessions t.0.id setup.config setup.catalogue 0 (sessions_of setup.config)) }
@@ -179,7 +231,7 @@ impl Store {
         ensures shelf { result.shelf.now.id ≡ self.now.id }
         ensures places { result.shelf.now.places ≡ 1 + self.now.config.nodes + self.now.config.nodes }
         ensures nodes { (result.nodes ≡ self.now.config.nodes) × (self.now.config.nodes ≤ MAX_NODES) }
-        ensures config { IsConfig self.now.config }
+        ensures config { AreSizes self.now.config }
         ensures catalogue { result.catalogue.now ≡ self.now.catalogue }
     {
         Shared {

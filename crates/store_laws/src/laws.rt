@@ -10,6 +10,7 @@ ghost use Rattle.schedule.specs.Worlds.{NodeView};
 ghost use Rattle.store_laws.specs.AtDesks.{ClaimsThere, CollectsThere, IsItsOwn, PostsThere};
 ghost use Rattle.store_laws.specs.Behind.{ReadsStandBehind, UpdatesStandBehind};
 ghost use Rattle.store_laws.specs.InOrder.{CombinesInOrder, ReadsInOrder, WholeCombine, WholeLook};
+ghost use Rattle.store_laws.specs.OnShelf.{TakesLogOnce};
 ghost use Rattle.store_steps.specs.declared.values.Setup.{Setup};
 ghost use Rattle.store_steps.specs.Shelving.{store_rules, store_opening};
 ghost use Rattle.store_laws.specs.Meanwhile.{Meanwhile, StoreState};
@@ -47,8 +48,10 @@ pub fn desks_are_steps()
 /// whole read, several reads at one point and a scan are such a list without a batch (rebase, replay, finish), and then
 /// each read of the schedule that was begun with the completed tail that the call loaded may be answered, with what the
 /// call answers. Each step may be taken when it is, on the log as it is seen together with the completed tail. Between
-/// two steps others may append, complete and reclaim.
+/// two steps others may append, complete and reclaim. Of all that a whole combine takes from the shelf the log is taken
+/// once.
 pub fn whole_calls_are_steps()
     ensures combine { (m : Opening) (n : ℕ) (reads : List (Option BegunRead)) (w : WholeCombine m) → CombinesInOrder m n reads w }
     ensures read { (m : Opening) (n s : ℕ) (reads : List (Option BegunRead)) (w : WholeLook m) (d : DeskView) → ReadsInOrder m n s reads w d }
+    ensures once { TakesLogOnce }
 {}

@@ -9,12 +9,12 @@ use Rattle.std.proofs.Math.Nat.{min-le_left, min-le_right, min-eq_left, min-eq_r
 use lib.ListN.{get_elem?}
 use Rattle.loader.specs.StoreState.{sizes_of}
 use Rattle.ownlock.specs.Rules.{leader}
-use Rattle.ownlock.specs.Seats.{At, without}
+use Rattle.ownlock.specs.Seats.{At, without, tails_in}
 use Rattle.ownlock.specs.Knowledge.{Possible}
 use Rattle.loader.specs.CatalogueView.{CatalogueView}
-use Rattle.oplog.specs.declared.configuration.Config.{Config}
+use Rattle.oplog.specs.declared.configuration.Sizes.{Sizes}
 use Rattle.oplog.specs.History.{History, state_after}
-use Rattle.oplog.specs.declared.configuration.TheConstants.{MAX_LIMIT}
+use Rattle.oplog.specs.declared.configuration.TheConstants.{ENDLESS}
 use Rattle.oplog.specs.Logs.{Log as LogView, left_of, room_in, tail_of}
 use Rattle.replica.specs.StoreMeaning.{store_meaning}
 use Rattle.accounts.specs.declared.sessions.Progress.{Progress}
@@ -62,7 +62,7 @@ is_second a b lt = ⊎_elim
 
 -- the session k has taken the log g and is t then, and m once there is room; the records rs were appended to h, which gave h2
 module _ (k t m : K) (n0 : NodeReplica) (g : Box LogView) (h : LogView) (h2 : Box LogView) (n n2 : NodeReplica) (rs : History) (kept : RepliesView) (b : TookLog k t n0 (Log g)) (p : HasPlace t m (length rs) g.value h n)
-    (x : (h2.value ≡ grown rs h) × (n2 ≡ copied h2.value n) × (kept ≡ replies_for rs h) × (tail_of h2.value ≤ MAX_LIMIT)) (noted : k.note.batch ≡ unplaced rs) (sessions : List K) (is : sessions ≡ m ∷ []) where
+    (x : (h2.value ≡ grown rs h) × (n2 ≡ copied h2.value n) × (kept ≡ replies_for rs h) × (tail_of h2.value ≤ ENDLESS)) (noted : k.note.batch ≡ unplaced rs) (sessions : List K) (is : sessions ≡ m ∷ []) where
   at_log : At 0 (0, Log g) m.held
   at_log = ap (λ z. get_elem? z 0) (p.goes.held ∙ b.held)
 
@@ -132,7 +132,7 @@ module _ (k t m : K) (n0 : NodeReplica) (g : Box LogView) (h : LogView) (h2 : Bo
     abbrev f : K
     f = put_back sessions (Log h2) m 0 l
 
-    put : IsPut store_meaning session_rules session_noting view_of IsSized 0 m f
+    put : IsPut store_meaning session_rules session_noting view_of IsSized 0 (Log h2) m f
     put = puts_account session_laws view_of session_notes IsSized (put_progress sessions (view_of (Log h2))) (put_note session_noting sessions (view_of (Log h2))) m 0 (Log h2) l ns picked may
 
     log_f : IsLogOf f.progress h2.value
@@ -153,7 +153,7 @@ module _ (k t m : K) (n0 : NodeReplica) (g : Box LogView) (h : LogView) (h2 : Bo
     goes = record {
       session = put.session ∙ (p.goes.session ∙ b.session);
       held = put.held ∙ ap (λ z. without 0 z) (p.goes.held ∙ b.held);
-      tails_read = put.tails_read ∙ (p.goes.tails_read ∙ b.tails_read);
+      tails = ap tails_in put.steps ∙ (p.goes.tails ∙ ap tails_in b.steps);
       extends = store_laws.extends_on k.progress m.progress f.progress from_k put.extends;
     }
 
@@ -184,20 +184,20 @@ module _ (k t m : K) (n0 : NodeReplica) (g : Box LogView) (h : LogView) (h2 : Bo
       placed = λ j r lt at. subst (λ z. At (kept.first + j) r z) (sym history) (subst (λ z. At (z + j) r (m.progress.history ++ take count rs)) (sym first_is) (at_behind m.progress.history (take count rs) j r (at_taken count rs j r lt at)));
       ended = λ lt.
           let all : count ≡ left_of h = count_is ∙ is_second (length rs) (left_of h) (let is = count_is in omega (arith, is, lt)) in
-          let tail = p.log.tail in let limit = p.log.sizes.1 in let within = p.well.limit in let long = long_history in let same = ap (λ (z : Config). z.limit) put.extends.config in
+          let tail = p.log.tail in let limit = p.log.sizes.1 in let within = p.well.limit in let long = long_history in let same = ap (λ (z : Sizes). z.limit) put.extends.config in
           omega (arith, all, tail, limit, within, long, same);
     }
 
 -- ---- the same of the value that the session took
 
 module _ (k t m : K) (n0 : NodeReplica) (g h : LogView) (n n2 : NodeReplica) (rs : History) (kept : RepliesView) (noted : k.note.batch ≡ unplaced rs) (sessions : List K) (is : sessions ≡ m ∷ []) where
-  pub put_appended : (x : Value) → log_of x ≡ Some g → TookLog k t n0 x → HasPlace t m (length rs) g h n → (h2 : LogView) → (h2 ≡ grown rs h) × (n2 ≡ copied h2 n) × (kept ≡ replies_for rs h) × (tail_of h2 ≤ MAX_LIMIT) → (q : ℕ) → q ≡ leader → Picked sessions (with_log x h2) m q
+  pub put_appended : (x : Value) → log_of x ≡ Some g → TookLog k t n0 x → HasPlace t m (length rs) g h n → (h2 : LogView) → (h2 ≡ grown rs h) × (n2 ≡ copied h2 n) × (kept ≡ replies_for rs h) × (tail_of h2 ≤ ENDLESS) → (q : ℕ) → q ≡ leader → Picked sessions (with_log x h2) m q
   put_appended (Log g1) e b p h2 a q at =
       subst (λ z. Picked sessions (with_log (Log g1) h2) m z) (sym at) (picked k t m n0 g1 h (record g1 { value = h2 }) n n2 rs kept b (subst (λ z. HasPlace t m (length rs) z h n) (sym (same_Some g1.value g e)) p) a noted sessions is)
   put_appended (Replica x) e b p h2 a q at = absurd (none-some g e)
   put_appended (Desk x) e b p h2 a q at = absurd (none-some g e)
 
-  pub back_appended : (x : Value) → log_of x ≡ Some g → TookLog k t n0 x → HasPlace t m (length rs) g h n → (h2 : LogView) → (h2 ≡ grown rs h) × (n2 ≡ copied h2 n) × (kept ≡ replies_for rs h) × (tail_of h2 ≤ MAX_LIMIT) → (q : ℕ) → q ≡ leader
+  pub back_appended : (x : Value) → log_of x ≡ Some g → TookLog k t n0 x → HasPlace t m (length rs) g h n → (h2 : LogView) → (h2 ≡ grown rs h) × (n2 ≡ copied h2 n) × (kept ≡ replies_for rs h) × (tail_of h2 ≤ ENDLESS) → (q : ℕ) → q ≡ leader
       → (l : L) (ns : List SessionNote) → Possible store_rules m l ns → HasAppended k (put_back sessions (with_log x h2) m q l) rs kept n2
   back_appended (Log g1) e b p h2 a q at l ns may =
       subst (λ z. HasAppended k (put_back sessions (with_log (Log g1) h2) m z l) rs kept n2) (sym at) (has_appended k t m n0 g1 h (record g1 { value = h2 }) n n2 rs kept b (subst (λ z. HasPlace t m (length rs) z h n) (sym (same_Some g1.value g e)) p) a noted sessions is l ns may)
@@ -205,7 +205,7 @@ module _ (k t m : K) (n0 : NodeReplica) (g h : LogView) (n n2 : NodeReplica) (rs
   back_appended (Desk x) e b p h2 a q at l ns may = absurd (none-some g e)
 
   -- the log that was put back is that of what the session knows then
-  pub back_log : (x : Value) → log_of x ≡ Some g → TookLog k t n0 x → HasPlace t m (length rs) g h n → (h2 : LogView) → (h2 ≡ grown rs h) × (n2 ≡ copied h2 n) × (kept ≡ replies_for rs h) × (tail_of h2 ≤ MAX_LIMIT) → (q : ℕ) → q ≡ leader
+  pub back_log : (x : Value) → log_of x ≡ Some g → TookLog k t n0 x → HasPlace t m (length rs) g h n → (h2 : LogView) → (h2 ≡ grown rs h) × (n2 ≡ copied h2 n) × (kept ≡ replies_for rs h) × (tail_of h2 ≤ ENDLESS) → (q : ℕ) → q ≡ leader
       → (l : L) (ns : List SessionNote) → Possible store_rules m l ns → (let f = put_back sessions (with_log x h2) m q l in IsLogOf f.progress h2 × Extends m.progress f.progress)
   back_log (Log g1) e b p h2 a q at l ns may =
       put_log k t m n0 g1 h (record g1 { value = h2 }) n n2 rs kept b (subst (λ z. HasPlace t m (length rs) z h n) (sym (same_Some g1.value g e)) p) a noted sessions is l ns may

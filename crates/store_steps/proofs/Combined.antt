@@ -4,7 +4,7 @@ use Rattle.std.proofs.lemmas.Bool.{cases_lt}
 use Rattle.std.proofs.lemmas.Option.{same_Some}
 use Rattle.ownlock.specs.Seats.{At}
 use Rattle.machine.specs.declared.running.Outcome.{Outcome}
-use Rattle.oplog.specs.declared.configuration.Config.{Config}
+use Rattle.oplog.specs.declared.configuration.Sizes.{Sizes}
 use Rattle.oplog.specs.declared.records.Record.{Record}
 use Rattle.oplog.specs.History.{History, reply_at}
 use Rattle.combiner.specs.Desks.{BatchView, DeskView, replied}
@@ -61,7 +61,7 @@ ready_on k t b kept ns note grown stands w r = record {
         let lt = g.1 in let up = grown.completed in let low = stands.accounts.completed in
         (g.0, omega (arith, lt, up), sym (reply_on store_meaning k.progress t.progress i c.request.op grown (omega (arith, lt, low))) ∙ g.2)
     gives_on c Ended g =
-        let at = g.1 in let up = grown.completed in let same = ap (λ (z : Config). z.limit) grown.config in let top = w.limit in let end = w.completed in
+        let at = g.1 in let up = grown.completed in let same = ap (λ (z : Sizes). z.limit) grown.config in let top = w.limit in let end = w.completed in
         (g.0, omega (arith, at, up, same, top, end))
 
 -- ---- from what was appended and replayed to the answers
@@ -124,7 +124,7 @@ module _ (t a r : K) (rs : History) (old : RepliesView) (n m : NodeReplica) (new
             let full = h.ended (omega (arith, late, short)) in
             let done = c.completed in
             let up = end.extends.completed in
-            let same = ap (λ (z : Config). z.limit) to_f.config in
+            let same = ap (λ (z : Sizes). z.limit) to_f.config in
             let top = end.stands.accounts.limit in
             let low = end.stands.accounts.completed in
             (p.4 late ∙ (at_unplaced rs j p.0 p.1).1, omega (arith, full, done, up, same, top, low))

@@ -4,7 +4,7 @@ use Rattle.std.proofs.lemmas.List.{drop-append-le}
 use Rattle.loader.specs.CatalogueView.{CatalogueView}
 use Rattle.oplog.specs.History.{History, after, state_after}
 use Rattle.oplog.specs.Logs.{Log as LogView, records_from}
-use Rattle.oplog.specs.declared.configuration.TheConstants.{MAX_LIMIT}
+use Rattle.oplog.specs.declared.configuration.TheConstants.{ENDLESS}
 use Rattle.replica.specs.StoreMeaning.{store_meaning}
 use Rattle.accounts.specs.declared.sessions.Progress.{Progress}
 use Rattle.accounts.specs.Accounts.{IsWellFormed}
@@ -34,7 +34,7 @@ module _ (l : L) (h : LogView) (u : NodeReplica) (is : IsLogOf l h) (f : Follows
     hand = record { begin = (plus_none u.replica.tail ∙ sym f.begins) i; records = (sym f.empty) i; window = u.hand.window };
   }
 
-  pub none_owed : length l.history ≤ MAX_LIMIT → IsWellFormed store_meaning l → Owes l.catalogue h (copied h u) 0
+  pub none_owed : length l.history ≤ ENDLESS → IsWellFormed store_meaning l → Owes l.catalogue h (copied h u) 0
   none_owed few w =
       let t = is.tail in let within = f.within in record {
         next = is_next l (copied h u) (has_others l h u is f low few) w;
@@ -47,7 +47,7 @@ module _ (l : L) (h : LogView) (u : NodeReplica) (is : IsLogOf l h) (f : Follows
 
 -- ---- a replica that changed places with the base
 
-module _ (l : L) (g : LogView) (u : NodeReplica) (is : IsLogOf l g) (f : Follows l u) (low : g.base ≤ u.replica.tail) (few : length l.history ≤ MAX_LIMIT) where
+module _ (l : L) (g : LogView) (u : NodeReplica) (is : IsLogOf l g) (f : Follows l u) (low : g.base ≤ u.replica.tail) (few : length l.history ≤ ENDLESS) where
   abbrev p : NodeReplica
   p = exchanged g u
 

@@ -2,7 +2,7 @@
 use Rattle.std.proofs.Common.{eq-eqb, if◌then◌else◌, ◌≡◌, ℕ, ◌+◌, ◌<◌, ◌≤◌, List, [], ◌∷◌, length, sym, refl, ap, ◌∙◌, subst, arith, Some, slice_get, option_map}
 use lib.ListN.{get_elem?}
 use Rattle.ownlock.specs.Rules.{leader}
-use Rattle.ownlock.specs.Seats.{At, without, left_with}
+use Rattle.ownlock.specs.Seats.{At, tails_in, without, left_with}
 use Rattle.ownlock.specs.Knowledge.{Possible, MayPut}
 use Rattle.machine.specs.declared.running.Outcome.{Outcome}
 use Rattle.loader.specs.CatalogueView.{CatalogueView}
@@ -40,7 +40,7 @@ Picked sessions y t q = MayPut store_rules (put_progress sessions (view_of y)) (
 
 -- what the session has become, once it has put y back
 abbrev pub put_back : List K → Value → K → ℕ → Progress CatalogueView → K
-put_back sessions y t q l = left_with t q (put_progress sessions (view_of y) l) (put_note session_noting sessions (view_of y) t.note)
+put_back sessions y t q l = left_with t q y (put_progress sessions (view_of y) l) (put_note session_noting sessions (view_of y) t.note)
 
 -- the session still is what it was, but for the progress that it knows
 pub record Same (k t f : K) : Type 0 where
@@ -62,11 +62,11 @@ pub record Back (k f : K) : Type 0 where
   pub session : f.session ≡ k.session
   pub note : f.note ≡ k.note
   pub held : f.held ≡ []
-  pub tails_read : f.tails_read ≡ k.tails_read
+  pub tails : tails_in f.steps ≡ tails_in k.steps
   pub extends : Extends k.progress f.progress
   pub stands : Stands f
 
-abbrev held_first : List (ℕ × Value) → ℕ
+abbrev pub held_first : List (ℕ × Value) → ℕ
 held_first [] = 0
 held_first (u ∷ us) = u.0
 
@@ -100,7 +100,7 @@ module _ (k : K) (w : Value) (h : HoldsReplica k w) (sessions : List K) (is : se
           session = p.session;
           note = same_note;
           held = p.held ∙ (ap (λ z. without (replica_place k.progress.config h.node) z) h.held ∙ none h.node w);
-          tails_read = p.tails_read;
+          tails = ap tails_in p.steps;
           extends = p.extends;
           stands = record { notes = p.notes; accounts = p.accounts; here = p.here };
         }
@@ -141,7 +141,7 @@ module _ (k t : K) (m : NodeReplica) (x : Value) (b : TookLog k t m x) where
         let p = puts_account session_laws view_of session_notes IsSized (put_progress sessions (view_of x)) (put_note session_noting sessions (view_of x)) t 0 x l ns put_zero may in
         let s = same_picks session_laws view_of session_notes IsSized sessions t 0 0 x x l ns is at_log refl may in
         record {
-          goes = record { session = p.session ∙ b.session; held = p.held ∙ ap (λ z. without 0 z) b.held; tails_read = p.tails_read ∙ b.tails_read; extends = store_laws.extends_on k.progress t.progress _ b.extends p.extends };
+          goes = record { session = p.session ∙ b.session; held = p.held ∙ ap (λ z. without 0 z) b.held; tails = ap tails_in p.steps ∙ ap tails_in b.steps; extends = store_laws.extends_on k.progress t.progress _ b.extends p.extends };
           note = s.1 ∙ b.note;
           on = p.extends;
         }
@@ -162,7 +162,7 @@ module _ (k t : K) (m : NodeReplica) (x : Value) (b : TookLog k t m x) where
         let rise = b.extends.completed in
         let low = b.stands.accounts.completed in
         record {
-          goes = record { session = up.goes.session ∙ s.goes.session; held = up.goes.held ∙ s.goes.held; tails_read = up.goes.tails_read ∙ s.goes.tails_read; extends = store_laws.extends_on k.progress f.progress after.progress s.goes.extends up.goes.extends };
+          goes = record { session = up.goes.session ∙ s.goes.session; held = up.goes.held ∙ s.goes.held; tails = up.goes.tails ∙ s.goes.tails; extends = store_laws.extends_on k.progress f.progress after.progress s.goes.extends up.goes.extends };
           note = up.note ∙ s.note;
           agrees = all_agrees t.progress after.progress n on (omega (arith, tail, done)) all;
           within = omega (arith, tail, long);
@@ -173,7 +173,7 @@ pub is_there : (k : K) (n : NodeReplica) (done : ℕ) → Agrees k.progress n �
 is_there k n done a s far =
     let low = a.0.tail in
     let all = s.accounts.completed in
-    record { goes = record { session = refl; held = refl; tails_read = refl; extends = store_laws.extends_self k.progress }; note = refl; agrees = a; within = omega (arith, low, all); reached = far }
+    record { goes = record { session = refl; held = refl; tails = refl; extends = store_laws.extends_self k.progress }; note = refl; agrees = a; within = omega (arith, low, all); reached = far }
 
 pub far_enough : (k f : K) (n : NodeReplica) (done far : ℕ) → done ≤ far → HasReached k f far n → HasReached k f done n
 far_enough k f n done most low u = let far = u.reached in record { goes = u.goes; note = u.note; agrees = u.agrees; within = u.within; reached = omega (arith, low, far) }

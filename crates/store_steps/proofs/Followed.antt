@@ -3,6 +3,7 @@ use Rattle.std.proofs.Common.{◌≡◌, suc, ◌+◌, ◌-◌, ◌<◌, ◌≤�
 use Rattle.std.proofs.lemmas.Bool.{cases_lt, le-leb, le-ltb}
 use Rattle.loader.specs.StoreState.{sizes_of}
 use Rattle.loader.specs.CatalogueView.{CatalogueView, sizes_for}
+use Rattle.oplog.specs.declared.configuration.TheConstants.{ENDLESS}
 use Rattle.oplog.specs.Logs.{Log as LogView, HandView, records_from}
 use Rattle.oplog.specs.History.{state_after}
 use Rattle.replica.specs.StoreMeaning.{store_meaning, AreUpdates}
@@ -64,7 +65,7 @@ module _ (l : L) (g : LogView) (n : NodeReplica) (is : IsLogOf l g) (f : Follows
     pub others : records_from g n.replica.tail ≡ drop n.replica.tail l.history
     others = ap (drop (n.replica.tail - g.base)) is.agrees.records ∙ drop_drop g.base n.replica.tail l.history low
 
-    pub has_others : length l.history ≤ 1000000 → HasOthers l (copied g n)
+    pub has_others : length l.history ≤ ENDLESS → HasOthers l (copied g n)
     has_others few = record {
       within = f.within;
       state = f.state;

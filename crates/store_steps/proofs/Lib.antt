@@ -1,6 +1,7 @@
 pub mod StoreLaws
 pub mod Places
 pub mod Parts
+pub mod Doing
 pub mod Followed
 pub mod Taken
 pub mod Played
@@ -11,11 +12,13 @@ pub mod Batched
 pub mod Appended
 pub mod AtDesk
 pub mod TakenDesk
+pub mod Visiting
 pub mod Combined
 pub mod Whole
 pub mod Stretches
 pub mod Tried
 pub mod Ready
+pub mod Looked
 pub mod Numbered
 pub mod Requested
 pub mod Resumed

@@ -4,7 +4,7 @@ use Rattle.std.specs.Prelude.{IsSome}
 use Rattle.std.proofs.lemmas.Option.{none-some, same_Some}
 use Rattle.loader.specs.StoreState.{StoreState}
 use Rattle.loader.specs.CatalogueView.{CatalogueView}
-use Rattle.oplog.specs.declared.configuration.Config.{Config}
+use Rattle.oplog.specs.declared.configuration.Sizes.{Sizes}
 use Rattle.combiner.specs.Desks.{DeskView}
 use Rattle.accounts.specs.Values.{LogValue, ReplicaValue, StoreValue, TheLog, TheReplica, TheDesk}
 use Rattle.accounts.specs.Putting.{KeepsSizes}
@@ -67,7 +67,7 @@ replica_put (Log g) n e = absurd (not_some e)
 replica_put (Desk d) n e = absurd (not_some e)
 
 -- it keeps the window of its hand, and the sizes of its state
-pub replica_sizes : (config : Config) (c : CatalogueView) (w : Value) (n : NodeReplica) → IsSome (replica_of w) → IsSized config c w → HasReplicaSizes config c n → KeepsSizes IsSized w (with_replica w n)
+pub replica_sizes : (config : Sizes) (c : CatalogueView) (w : Value) (n : NodeReplica) → IsSome (replica_of w) → IsSized config c w → HasReplicaSizes config c n → KeepsSizes IsSized w (with_replica w n)
 replica_sizes config c (Replica m) n e s t d b u =
     (t.0 ∙ (sym s.0 ∙ u.0), t.1 ∙ (λ i. record { begin = n.replica.tail; records = []; window = (sym (ap (λ z. z.window) s.1) ∙ ap (λ z. z.window) u.1) i }))
 replica_sizes config c (Log g) n e s t d b u = absurd (not_some e)

@@ -2,8 +2,9 @@
 use Rattle.std.proofs.Common.{◌≡◌, ℕ, ◌+◌, ◌-◌, ◌≤◌, [], List, length, take, drop, sym, refl, ap, ◌∙◌, subst, arith, Some, slice_get}
 use Rattle.std.proofs.Math.Nat.{le-max_right}
 use Rattle.loader.specs.StoreState.{sizes_of}
+use Rattle.ownlock.specs.declared.known.ShelfStep.TheVariants.{Raised}
 use Rattle.ownlock.specs.Rules.{leader}
-use Rattle.ownlock.specs.Seats.{At, with_progress}
+use Rattle.ownlock.specs.Seats.{At, having_raised}
 use Rattle.ownlock.specs.Knowledge.{Later, Possible}
 use Rattle.loader.specs.CatalogueView.{CatalogueView, sizes_for}
 use Rattle.oplog.specs.Logs.{Log as LogView, HandView}
@@ -21,6 +22,7 @@ use Rattle.node.specs.declared.following.NodeReplica.{NodeReplica}
 use Rattle.store_steps.specs.Shelving.{replica_value, store_rules}
 use Rattle.node.specs.Following.{IsNext, copied, replayed}
 use Rattle.store_steps.specs.Standing.{SessionKnown, Agrees, IsLogOf, Follows, HasOthers, HasRaised, KeepsOutcomesOf, HasReplayed}
+use Rattle.store_steps.proofs.Doing.{did_one}
 use Rattle.store_steps.proofs.Places.{at_drop, drop_at, long_drop, take_whole}
 use Rattle.store_steps.proofs.Followed.{HasAll, others}
 use Rattle.accounts.proofs.Lists.{at_of, get_of}
@@ -107,9 +109,9 @@ followed_all l g n m is f low e same =
 -- ---- what is told of the replay and the raise
 
 -- once the completed tail is raised to m
-pub has_raised : (k : K) (before : L) (n m : ℕ) → m ≡ n → Later store_rules k before → ((notes : List SessionNote) × Possible store_rules k (raised before m) notes) → HasRaised k (with_progress k (raised before m)) n
+pub has_raised : (k : K) (before : L) (n m : ℕ) → m ≡ n → Later store_rules k before → ((notes : List SessionNote) × Possible store_rules k (raised before m) notes) → HasRaised k (having_raised k (raised before m) m) n
 has_raised k before n m is first (notes, may) = record {
-  goes = record { session = refl; held = refl; tails_read = refl; extends = may.0.0 };
+  goes = record { session = refl; held = refl; tails = refl; extends = may.0.0 };
   note = refl;
   stands = record { notes = notes; accounts = may.2; here = may.1 };
   completed = omega (arith, is, le-max_right before.completed m);
@@ -117,6 +119,7 @@ has_raised k before n m is first (notes, may) = record {
   before = before;
   was = first.0;
   is = ap (raised before) is;
+  did = did_one k _ (Raised m) (Raised n) refl (ap Raised is);
 }
 
 pub raised_as : (k after : K) (n m : ℕ) → HasRaised k after n → n ≡ m → HasRaised k after m

@@ -1,5 +1,5 @@
 -- A replica that is held and has come up: what may be told of it, and what the session is once it is back as it was.
-use Rattle.std.proofs.Common.{◌≡◌, ℕ, ◌≤◌, List, [], ◌∷◌, length, sym, refl, ap, ◌∙◌, subst, arith, Option, Some, None, slice_get, option_map, true, false, Bool}
+use Rattle.std.proofs.Common.{◌≡◌, ℕ, ◌+◌, ◌≤◌, List, [], ◌∷◌, length, sym, refl, ap, ◌∙◌, subst, arith, Option, Some, None, slice_get, option_map, true, false, Bool}
 use Rattle.std.specs.Prelude.{IsSome, IfSome, ◌<◌, nat_lt, if◌then◌else◌}
 use Rattle.std.proofs.lemmas.Bool.{ltb-true}
 use Rattle.std.proofs.lemmas.Option.{same_Some, slice_get-map, slice_get_within}
@@ -10,6 +10,7 @@ use Rattle.loader.specs.CatalogueView.{CatalogueView, sizes_for}
 use Rattle.loader.specs.StoreState.{StateSizes, StoreState, sizes_of}
 use Rattle.oplog.specs.History.{state_after}
 use Rattle.oplog.specs.Operations.{Operation}
+use Rattle.ownlock.specs.declared.known.ShelfStep.TheVariants.{Put}
 use Rattle.ownlock.specs.Knowledge.{Possible}
 use Rattle.readpath.specs.declared.reading.ReadAnswer.{ReadAnswer}
 use Rattle.replica.specs.StoreMeaning.{store_meaning}
@@ -35,7 +36,7 @@ use Rattle.store_steps.specs.Shelving.{replica_value, store_rules}
 use Rattle.store_steps.specs.Standing.{Agrees, SessionKnown}
 use Rattle.store_steps.specs.Looking.{EachReadsBy, ScansBy}
 use Rattle.store_steps.specs.Whole.{LooksBy, ReadsBy}
-use Rattle.store_steps.proofs.Finished.{Back, Picked, back, may_put_replica, put_back}
+use Rattle.store_steps.proofs.Finished.{Back, Picked, back, held_first, may_put_replica, put_back}
 use Rattle.store_steps.proofs.StoreLaws.{store_laws}
 use Rattle.store_steps.proofs.Stretches.{looks_by}
 use Rattle.store_steps.proofs.Taken.{well_formed}
@@ -106,7 +107,7 @@ module _ (k a : K) (p : ℕ) (v : Value) (h : HoldsReady k a p v) where
         let rise = h.grown.completed in let done = h.begun_is in let far = h.reached in record {
           begun = h.begun;
           more = [];
-          read = b.tails_read ∙ h.read;
+          read = b.tails ∙ h.read;
           reached = h.reached;
           far = omega (arith, rise, done, far);
           session = b.session ∙ h.session;
@@ -117,10 +118,13 @@ module _ (k a : K) (p : ℕ) (v : Value) (h : HoldsReady k a p v) where
         }
 
     -- it has looked at that replica
-    looks_ready : (point : ℕ) → point ≡ h.node.replica.tail → (by : LooksBy k f point) × (by.left ≡ h.node)
-    looks_ready point at = looks_by k h.taking a f h.loaded h.begun h.own h.node point h.grown h.begun_is h.since h.own_is h.stands h.follows h.on h.agrees h.within h.reached b.extends b.stands (b.tails_read ∙ h.read) at
+    pub looks_ready : (q : ℕ) → q ≡ p → f.steps ≡ Put q (with_replica h.value h.node) ∷ a.steps → (point : ℕ) → point ≡ h.node.replica.tail → (by : LooksBy k f point) × (by.left ≡ h.node)
+    looks_ready q same put point at =
+        let here : p ≡ 1 + h.holds.node = ap held_first (sym h.held ∙ h.holds.held) in
+        looks_by k h.taking a f h.loaded h.begun h.own h.node point h.grown h.begun_is h.since h.own_is h.stands h.follows h.on h.agrees h.within h.reached b.extends b.stands h.value h.some h.holds h.session p here q (same ∙ here) h.did put
+        (b.tails ∙ h.read) at
 
-    agrees_now : Agrees f.progress h.node
+    pub agrees_now : Agrees f.progress h.node
     agrees_now = agrees_on a.progress f.progress h.node b.extends h.within h.agrees
 
     module _ (op : Operation) (answer : ReadAnswer) (c : CatalogueView) (same : k.progress.catalogue ≡ c) (n : NodeReplica) (n_is : n ≡ h.node) (point : answer.point ≡ n.replica.tail) (reply : RepliesThere c op n answer.reply) where
@@ -146,9 +150,9 @@ module _ (k a : K) (p : ℕ) (v : Value) (h : HoldsReady k a p v) where
                 (told_read a.progress f.progress h.node op c k.progress.completed answer.reply b.extends h.agrees h.within s.far reply_is (sym all_along.catalogue ∙ same));
           }
 
-      pub reads_ready : ReadsBy k f op answer
-      reads_ready =
-          let t = looks_ready answer.point point_is in
+      pub reads_ready : (q : ℕ) → q ≡ p → f.steps ≡ Put q (with_replica h.value h.node) ∷ a.steps → ReadsBy k f op answer
+      reads_ready q at put =
+          let t = looks_ready q at put answer.point point_is in
           (t.0, subst (λ (z : CatalogueView × NodeReplica). RepliesThere z.0 op z.1 answer.reply) (λ i. (sym same i, sym t.1 i)) reply_is)
 
     module _ (map from key_room value_room : ℕ) (keys values : List ℕ) (s : Scan) (n : NodeReplica) (n_is : n ≡ h.node) (point : s.point ≡ n.replica.tail) (gives : GivesThere n map from key_room value_room keys values s) where
@@ -161,8 +165,8 @@ module _ (k a : K) (p : ℕ) (v : Value) (h : HoldsReady k a p v) where
       shapes_are : shapes_of n.replica.state.maps ≡ f.progress.catalogue.shapes
       shapes_are = ap (λ (z : NodeReplica). shapes_of z.replica.state.maps) n_is ∙ ap (λ (z : StateSizes). z.shapes) agrees_now.1.0
 
-      pub scans_ready : ScansBy k f map from key_room value_room keys values s
-      scans_ready = let t = looks_ready s.point here_is in (t.0, subst (λ z. GivesThere z map from key_room value_room keys values s) (n_is ∙ sym t.1) gives)
+      pub scans_ready : (q : ℕ) → q ≡ p → f.steps ≡ Put q (with_replica h.value h.node) ∷ a.steps → ScansBy k f map from key_room value_room keys values s
+      scans_ready q at put = let t = looks_ready q at put s.point here_is in (t.0, subst (λ z. GivesThere z map from key_room value_room keys values s) (n_is ∙ sym t.1) gives)
 
       pub scanned_ready : IsScannedBy k f map from key_room value_room keys values s
       scanned_ready =
@@ -188,9 +192,9 @@ module _ (k a : K) (p : ℕ) (v : Value) (h : HoldsReady k a p v) where
       one_ready asked reply is = subst (λ z. ReadTells store_meaning f.progress k.progress.completed (asked_op asked) z reply) (sym at_point)
           (told_read a.progress f.progress h.node (asked_op asked) c k.progress.completed reply b.extends h.agrees h.within has_seen.far (subst (λ z. RepliesThere c (asked_op asked) z reply) n_is is) (sym all_along.catalogue ∙ same))
 
-      pub each_goes_ready : EachReadsBy k f questions point replies
-      each_goes_ready =
-          let t = looks_ready point at_point in
+      pub each_goes_ready : (q : ℕ) → q ≡ p → f.steps ≡ Put q (with_replica h.value h.node) ∷ a.steps → EachReadsBy k f questions point replies
+      each_goes_ready q at put =
+          let t = looks_ready q at put point at_point in
           (t.0, subst (λ (z : CatalogueView × NodeReplica). FirstReply z.0 z.1 questions (length questions) replies) (λ i. (sym same i, (n_is ∙ sym t.1) i)) each)
 
       pub each_ready : AreReadBy k f questions point replies

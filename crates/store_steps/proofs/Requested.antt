@@ -2,7 +2,7 @@
 use Rattle.std.proofs.Common.{◌≡◌, ℕ, suc, ◌<◌, ◌≤◌, ◌||◌, true, List, [], ◌∷◌, ◌++◌, length, length-append, append-nil, sym, refl, ap, ◌∙◌, subst, arith}
 use Rattle.std.specs.List.{list_any}
 use Rattle.loader.specs.CatalogueView.{CatalogueView}
-use Rattle.oplog.specs.declared.configuration.Config.{Config}
+use Rattle.oplog.specs.declared.configuration.Sizes.{Sizes}
 use Rattle.oplog.specs.History.{History}
 use Rattle.combiner.specs.Slots.{is_posted, requested, requests_from}
 use Rattle.combiner.specs.Desks.{DeskView, batch_of, first_author, has_request}
@@ -50,7 +50,7 @@ pub tells_on : (known l : Progress CatalogueView) (ns : List SessionNote) (c seq
     → Tells store_meaning known c seq o reply → Tells store_meaning l c seq o reply
 tells_on known l ns c seq o (Placed i x) low grown w t = let up = grown.completed in let lt = t.1.0 in placed_tells store_meaning known l c seq i x o grown t.1.1 t.1.2 t.0 (omega (arith, lt, up))
 tells_on known l ns c seq o Ended low grown w t =
-    let up = grown.completed in let at = t.0 in let same = ap (λ (z : Config). z.limit) grown.config in let top = w.limit in let end = w.completed in (
+    let up = grown.completed in let at = t.0 in let same = ap (λ (z : Sizes). z.limit) grown.config in let top = w.limit in let end = w.completed in (
       omega (arith, up, at, same, top, end),
       subst (λ h. HasNoRecord h c seq) (sym (stands_still known l grown (omega (arith, low, at, same)) top)) t.1,
     )

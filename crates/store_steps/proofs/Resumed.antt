@@ -3,7 +3,7 @@ use Rattle.std.proofs.Common.{◌≡◌, ℕ, suc, ◌<◌, ◌^◌, [], length,
 use Rattle.loader.specs.CatalogueView.{CatalogueView}
 use Rattle.combiner.specs.Desks.{BatchView}
 use Rattle.combiner.specs.declared.slots.Reply.{Reply}
-use Rattle.oplog.specs.declared.configuration.Config.{Config}
+use Rattle.oplog.specs.declared.configuration.Sizes.{Sizes}
 use Rattle.oplog.specs.Sessions.{session}
 use Rattle.replica.specs.StoreMeaning.{store_meaning}
 use Rattle.accounts.specs.declared.sessions.Pending.{Pending}
@@ -34,9 +34,9 @@ resumed_first k = record { session = refl; held = refl; note = refl; extends = s
 
 pub free_by : (caller : Caller) (k m : K) → m.session ≡ k.session → m.held ≡ [] → Extends k.progress m.progress → IsFree caller k → IsFree caller m
 free_by caller k m session_is held extends f = record {
-  own = session_is ∙ (f.own ∙ ap (λ (z : Config). session z caller.node caller.slot) extends.config);
-  within = subst (λ (z : Config). caller.slot < z.slots) extends.config f.within;
-  near = subst (λ (z : Config). caller.node < z.nodes) extends.config f.near;
+  own = session_is ∙ (f.own ∙ ap (λ (z : Sizes). session z caller.node caller.slot) extends.config);
+  within = subst (λ (z : Sizes). caller.slot < z.slots) extends.config f.within;
+  near = subst (λ (z : Sizes). caller.node < z.nodes) extends.config f.near;
   held = held;
 }
 
@@ -47,7 +47,7 @@ pub free_back : (caller : Caller) (k m : K) → IsFree caller k → IsBack k m �
 free_back caller k m f b = free_by caller k m b.session b.held b.extends f
 
 pub shelf_then : (places nodes : ℕ) (c : CatalogueView) (k m : K) → Extends k.progress m.progress → IsOnShelf places nodes c k → IsOnShelf places nodes c m
-shelf_then places nodes c k m g s = record { places_are = s.places_are; few = s.few; nodes_are = ap (λ (z : Config). z.nodes) (sym g.config) ∙ s.nodes_are; catalogue_is = sym g.catalogue ∙ s.catalogue_is }
+shelf_then places nodes c k m g s = record { places_are = s.places_are; few = s.few; nodes_are = ap (λ (z : Sizes). z.nodes) (sym g.config) ∙ s.nodes_are; catalogue_is = sym g.catalogue ∙ s.catalogue_is }
 
 pub asked_by : (k m : K) (o : Pending) → m.note ≡ k.note → HasAsked k o → HasAsked m o
 asked_by k m o note a = record {

@@ -5,7 +5,7 @@ use Rattle.std.proofs.Math.Nat.{le-max_right, max-le, min-le_left}
 use Rattle.loader.specs.StoreState.{sizes_of}
 use Rattle.loader.specs.CatalogueView.{CatalogueView, sizes_for}
 use Rattle.oplog.specs.Logs.{Log as LogView, tail_of, left_of, room_in}
-use Rattle.oplog.specs.declared.configuration.TheConstants.{MAX_LIMIT}
+use Rattle.oplog.specs.declared.configuration.TheConstants.{ENDLESS}
 use Rattle.replica.specs.StoreMeaning.{store_meaning}
 use Rattle.accounts.specs.declared.sessions.Progress.{Progress}
 use Rattle.accounts.specs.Accounts.{IsWellFormed}
@@ -106,11 +106,11 @@ module _ (k after : K) (g : LogView) (u : NodeReplica) (is : IsLogOf k.progress 
 
   -- ---- what the node then owes
 
-  module _ (h2 : LogView) (p : NodeReplica) (log : h2 ≡ h) (top : tail_of h2 ≤ MAX_LIMIT) (well : IsWellFormed store_meaning k.progress) where
+  module _ (h2 : LogView) (p : NodeReplica) (log : h2 ≡ h) (top : tail_of h2 ≤ ENDLESS) (well : IsWellFormed store_meaning k.progress) where
     abbrev c : CatalogueView
     c = k.progress.catalogue
 
-    few : length k.progress.history ≤ MAX_LIMIT
+    few : length k.progress.history ≤ ENDLESS
     few = let s = same_tail in let e = ap tail_of log in omega (arith, s, e, top)
 
     later_follows : Follows after.progress u
@@ -138,7 +138,7 @@ module _ (k after : K) (g : LogView) (u : NodeReplica) (is : IsLogOf k.progress 
 
 pub roomy : (k : K) (want : ℕ) (g : LogView) (n : NodeReplica) → IsWellFormed store_meaning k.progress → IsLogOf k.progress g → Follows k.progress n → g.base ≤ n.replica.tail → (min want (left_of g) ≤ room_in g) → HasPlace k k want g g n
 roomy k want g n well is f low room = record {
-  goes = record { session = refl; held = refl; tails_read = refl; extends = store_laws.extends_self k.progress };
+  goes = record { session = refl; held = refl; tails = refl; extends = store_laws.extends_self k.progress };
   note = refl;
   well = well;
   same = refl;

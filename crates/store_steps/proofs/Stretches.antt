@@ -1,13 +1,17 @@
 -- A session's inner calls as lists of its node's steps, with what others do between them.
-use Rattle.std.proofs.Common.{Bool, true, false, not, ◌&&◌, ◌≡◌, ℕ, ◌<◌, ◌≤◌, List, [], ◌∷◌, ◌++◌, length, refl, sym, ap, ◌∙◌, subst, arith}
+use Rattle.std.proofs.Common.{Bool, true, false, not, ◌&&◌, ◌≡◌, ℕ, ◌+◌, ◌<◌, ◌≤◌, Some, List, [], ◌∷◌, ◌++◌, length, refl, sym, ap, ◌∙◌, subst, arith}
 use Rattle.std.specs.Prelude.{nat_le, nat_lt}
 use Rattle.std.proofs.Math.Nat.{le-max_left}
 use Rattle.std.proofs.lemmas.Bool.{le-leb}
 use Rattle.std.proofs.lemmas.List.{append-nil, append_assoc}
 use Rattle.loader.specs.CatalogueView.{CatalogueView}
+use Rattle.ownlock.specs.declared.known.ShelfStep.TheVariants.{Put, Raised, Read, Took}
+use Rattle.ownlock.specs.Rules.{leader}
+use Rattle.ownlock.specs.Seats.{tails_in}
+use Rattle.accounts.specs.Agreement.{desk_place}
 use Rattle.oplog.specs.History.{History}
 use Rattle.oplog.specs.Logs.{Log as LogView, HandView}
-use Rattle.oplog.specs.declared.configuration.Config.{Config}
+use Rattle.oplog.specs.declared.configuration.Sizes.{Sizes}
 use Rattle.oplog.specs.Sessions.{IsSessionOf}
 use Rattle.combiner.specs.Desks.{BatchView, DeskView, IsBatchOf, replied}
 use Rattle.accounts.specs.Moves.{unplaced}
@@ -22,8 +26,12 @@ use Rattle.node.proofs.Going.{goes_on}
 use Rattle.node.specs.declared.following.NodeReplica.{NodeReplica}
 use Rattle.node.specs.declared.parts.NodeBatch.{NodeBatch}
 use Rattle.node.specs.declared.parts.NodeBatch.TheVariants.{Absent, Held, InLog}
-use Rattle.store_steps.specs.Standing.{SessionKnown, Agrees, Follows, HasRaised, HoldsLog, IsLogOf, Stands}
-use Rattle.store_steps.specs.Whole.{AnswersBy, AppendsBy, CombinesBy, FollowsBy, HandsOver, LooksBy, MakesRoom, ReplaysBy, append_steps, if_any, read_steps, replay_steps, sees}
+use Rattle.store_steps.specs.Standing.{SessionKnown, Agrees, Follows, HasRaised, HoldsLog, HoldsReplica, IsLogOf, Stands}
+use Rattle.store_steps.specs.Whole.{AnswersBy, AppendsBy, CombinesBy, FollowsBy, HandsOver, LooksBy, MakesRoom, ReplaysBy, answer_deeds, append_deeds, append_steps, follow_deeds, if_any, look_deeds, read_steps, replay_steps, room_deeds, sees}
+use Rattle.store_steps.specs.Doing.{ADesk, ALog, AReplica, Did, Nothing, Reads, takes_and_puts}
+use Rattle.store_steps.specs.Lending.{log_of, replica_of, with_log, with_replica}
+use Rattle.store_steps.specs.declared.values.Value.{Value}
+use Rattle.store_steps.proofs.Doing.{did_both, did_none, did_one, did_then, log_part, replica_part, with_log_part, with_replica_part}
 use Rattle.store_steps.proofs.StoreLaws.{store_laws}
 use Rattle.store_steps.proofs.Followed.{above, kept_up}
 use Rattle.store_steps.proofs.Whole.{agrees_on, append_step, finish_step, follow_step, later, later_is, log_from, log_from_is, others, others_complete, rebase_step, reclaim_step, replay_step, reply_step, still_log}
@@ -85,6 +93,8 @@ module _ (k : K) (g : LogView) (n u : NodeReplica) (is : IsLogOf k.progress g) (
     next = false;
     later = false;
     goes = λ b d. goes_on (rebase_step k.progress.catalogue k.progress g n u (Held b) d behind stays) (Ends (sees k.progress g u (Held b) d));
+    is = refl;
+    did = did_none k k refl;
   }
 
   abbrev c : CatalogueView
@@ -123,13 +133,26 @@ module _ (k : K) (g : LogView) (n u : NodeReplica) (is : IsLogOf k.progress g) (
       goes = λ b d. ends_as c (sees after.progress h m (Held b) d) (ap (λ z. sees after.progress z m (Held b) d) (sym log))
           (goes_on (rebase_step c k.progress g n u (Held b) d behind stays)
           (goes_on (goes_on ((comes m came same ran).1 b d) (raises b d)) (reclaim_step c after.progress g m (Held b) d past up.completed)));
+      is = log;
+      did = subst (λ z. Did k after (Raised z ∷ [])) (ap (λ (z : LogView). z.base) (sym log)) up.did;
     }
 
 -- ---- the batch is appended
 
 -- the session k took the log g, and is t then, m once there is room in h, and f once it has put it back
 module _ (k t m f : K) (g h h2 : LogView) (n v v2 : NodeReplica) (rs : History) (kept : RepliesView) (took : Extends k.progress t.progress) (log_is : IsLogOf t.progress g) (room : MakesRoom t m g h n v) (may : may_append rs h v ≡ true)
-    (log : h2 ≡ grown rs h) (node : v2 ≡ copied h2 v) (replies : kept ≡ replies_for rs h) (back_is : IsLogOf f.progress h2) (rise : m.progress.completed ≤ f.progress.completed) (low : f.progress.completed ≤ length f.progress.history) where
+    (log : h2 ≡ grown rs h) (node : v2 ≡ copied h2 v) (replies : kept ≡ replies_for rs h) (back_is : IsLogOf f.progress h2) (rise : m.progress.completed ≤ f.progress.completed) (low : f.progress.completed ≤ length f.progress.history)
+    (x : Value) (x_is : log_of x ≡ Some g) (took_it : t.steps ≡ Took leader x ∷ k.steps) (q : ℕ) (there : q ≡ leader) (put_it : f.steps ≡ Put q (with_log x h2) ∷ m.steps) where
+  room_did : (full : Bool) → Did t m (room_deeds full h) → Did t m (room_deeds full h2)
+  room_did true d = subst (λ z. Did t m (Raised z ∷ [])) (ap (λ (z : LogView). z.base) (sym log)) d
+  room_did false d = d
+
+  appends_did : Did k f (append_deeds room.full g h2)
+  appends_did = did_then k t f (Took leader (ALog g) ∷ []) (room_deeds room.full h2 ++ Put leader (ALog h2) ∷ [])
+      (did_one k t (Took leader x) (Took leader (ALog g)) took_it (ap (Took leader) (log_part x g x_is)))
+      (did_then t m f (room_deeds room.full h2) (Put leader (ALog h2) ∷ []) (room_did room.full room.did)
+      (did_one m f (Put q (with_log x h2)) (Put leader (ALog h2)) put_it (λ i. Put (there i) (with_log_part x g h2 x_is i))))
+
   pub appends_by : (b : BatchView) → b.records ≡ rs → AppendsBy k f b n v2 kept
   appends_by b same = record {
     from = t.progress;
@@ -146,6 +169,9 @@ module _ (k t m f : K) (g h h2 : LogView) (n v v2 : NodeReplica) (rs : History) 
         (goes_on (room.goes b d)
         (goes_on (append_step t.progress.catalogue m.progress h h2 v v2 b kept rs d same may log node replies)
         (Meets _ _ _ [] (others_complete t.progress.catalogue m.progress f.progress h2 v2 (InLog (record { batch = b; replies = kept })) d rise back_is low) (Ends _))));
+    base = v;
+    is = log ∙ (λ i. grown (sym same i) (room.is i));
+    did = appends_did;
   }
 
 -- ---- what was copied is replayed
@@ -159,26 +185,38 @@ module _ (k after : K) (g : LogView) (n m : NodeReplica) (old new : RepliesView)
     ahead = nat_lt up.before.completed m.replica.tail;
     goes = λ b d. goes_on (replay_step k.progress.catalogue k.progress g n m b old new d begins own kept)
         (raise_part k.progress k after g m is (store_laws.extends_self k.progress) up k.progress.catalogue (InLog (record { batch = b; replies = new })) d);
+    did = up.did;
   }
 
 -- ---- the answers are handed over
 
-pub hands_over : (k after : K) (g : LogView) (n : NodeReplica) (b : BatchView) (kept : RepliesView) (d : DeskView) → IsLogOf k.progress g → Agrees k.progress n → Extends k.progress after.progress → after.progress.completed ≤ length after.progress.history
-    → IsSessionOf k.progress.config d.node k.session → IsBatchOf d b → HandsOver k after g n b kept
-hands_over k after g n b kept d is a grown low mine claimed =
+pub hands_over : (node : ℕ) (k after : K) (g : LogView) (n : NodeReplica) (b : BatchView) (kept : RepliesView) (d : DeskView) → IsLogOf k.progress g → Agrees k.progress n → Extends k.progress after.progress → after.progress.completed ≤ length after.progress.history
+    → IsSessionOf k.progress.config d.node k.session → IsBatchOf d b → d.node ≡ node → Did k after (takes_and_puts (desk_place k.progress.config node) (ADesk d) (ADesk (replied (answered_batch kept b) d)))
+    → HandsOver node k after g n b kept
+hands_over node k after g n b kept d is a grown low mine claimed there did =
     let tail = a.0.tail in let rise = grown.completed in record {
       log = later after.progress g;
       log_is = later_is k.progress after.progress g is grown low;
       desk = d;
+      there = there;
       mine = mine;
       claimed = claimed;
+      did = did;
       goes = Meets _ _ _ _ (others k.progress after.progress g is grown low k.progress.catalogue n (InLog (record { batch = b; replies = kept })) d)
           (reply_step k.progress.catalogue after.progress (later after.progress g) n b kept d (ap (λ (z : HandView). z.records) a.1.1) (omega (arith, tail, rise)));
     }
 
 -- the answers are kept, and the replica is back
-module _ (k t a r f : K) (b : BatchView) (n v m : NodeReplica) (old new : RepliesView) (took : Extends k.progress t.progress) (found : Agrees t.progress n) (stands : Stands t) (first : AppendsBy t a b n v old)
-    (then : ReplaysBy a r first.back v m old new) (since : Extends t.progress a.progress) (up : Extends a.progress r.progress) (agrees : Agrees r.progress m) (back : Extends r.progress f.progress) (stands_f : Stands f) (within : m.replica.tail ≤ length r.progress.history) where
+module _ (node : ℕ) (k t a r f : K) (b : BatchView) (n v m : NodeReplica) (old new : RepliesView) (took : Extends k.progress t.progress) (found : Agrees t.progress n) (stands : Stands t) (first : AppendsBy t a b n v old)
+    (then : ReplaysBy a r first.back v m old new) (since : Extends t.progress a.progress) (up : Extends a.progress r.progress) (agrees : Agrees r.progress m) (back : Extends r.progress f.progress) (stands_f : Stands f) (within : m.replica.tail ≤ length r.progress.history)
+    (w : Value) (w_is : replica_of w ≡ Some n) (took_it : t.steps ≡ Took (1 + node) w ∷ k.steps) (q : ℕ) (there : q ≡ 1 + node) (put_it : f.steps ≡ Put q (with_replica w m) ∷ r.steps) where
+  answers_did : Did k f (answer_deeds (1 + node) first.full first.log first.back n m)
+  answers_did = did_then k t f (Took (1 + node) (AReplica n) ∷ []) (append_deeds first.full first.log first.back ++ Raised m.replica.tail ∷ Put (1 + node) (AReplica m) ∷ [])
+      (did_one k t (Took (1 + node) w) (Took (1 + node) (AReplica n)) took_it (ap (Took (1 + node)) (replica_part w n w_is)))
+      (did_then t a f (append_deeds first.full first.log first.back) (Raised m.replica.tail ∷ Put (1 + node) (AReplica m) ∷ []) first.did
+      (did_then a r f (Raised m.replica.tail ∷ []) (Put (1 + node) (AReplica m) ∷ []) then.did
+      (did_one r f (Put q (with_replica w m)) (Put (1 + node) (AReplica m)) put_it (λ i. Put (there i) (with_replica_part w n m w_is i)))))
+
   abbrev c0 : CatalogueView
   c0 = k.progress.catalogue
 
@@ -188,7 +226,7 @@ module _ (k t a r f : K) (b : BatchView) (n v m : NodeReplica) (old new : Replie
   to_a : k.progress.catalogue ≡ a.progress.catalogue
   to_a = took.catalogue ∙ since.catalogue
 
-  pub answers_by : AnswersBy k f b new
+  pub answers_by : AnswersBy node k f b new
   answers_by = record {
     from = first.from;
     since = store_laws.extends_on k.progress t.progress first.from took first.since;
@@ -209,10 +247,16 @@ module _ (k t a r f : K) (b : BatchView) (n v m : NodeReplica) (old new : Replie
     goes = λ d. goes_on (under t.progress.catalogue c0 (sym took.catalogue) (first.goes d))
         (then_others c0 _ _ _ (replay_steps then.more then.ahead) (under a.progress.catalogue c0 (sym to_a) (then.goes b d))
         (others r.progress f.progress then.log then.log_is back low_f c0 m (InLog (record { batch = b; replies = new })) d));
+    base = first.base;
+    put = first.back;
+    put_is = first.is;
+    tries = [];
+    nothing = Nothing;
+    did = answers_did;
   }
 
 -- the whole combine: the session k was f when its answers were kept, and z once it had handed them over
-module _ (k f z : K) (b : BatchView) (kept : RepliesView) (first : AnswersBy k f b kept) (last : HandsOver f z first.back first.left b kept) (on : Extends k.progress f.progress) (end : Extends f.progress z.progress) (stands : Stands f) where
+module _ (node : ℕ) (k f z : K) (b : BatchView) (kept : RepliesView) (first : AnswersBy node k f b kept) (last : HandsOver node f z first.back first.left b kept) (on : Extends k.progress f.progress) (end : Extends f.progress z.progress) (stands : Stands f) where
   abbrev began : Seen
   began = sees first.from first.log first.own (Held b) last.desk
 
@@ -221,6 +265,13 @@ module _ (k f z : K) (b : BatchView) (kept : RepliesView) (first : AnswersBy k f
 
   within_f : first.left.replica.tail ≤ length f.progress.history
   within_f = let tail = first.left_is.0.tail in let low = stands.accounts.completed in omega (arith, tail, low)
+
+  -- at the node of the desk
+  combines_did : Did k z (first.tries ++ (answer_deeds (1 + last.desk.node) first.full first.log first.put first.own first.left ++ takes_and_puts (desk_place k.progress.config last.desk.node) (ADesk last.desk) (ADesk (replied (answered_batch kept b) last.desk))))
+  combines_did = subst
+      (λ (u : ℕ × Sizes). Did k z (first.tries ++ (answer_deeds (1 + u.0) first.full first.log first.put first.own first.left ++ takes_and_puts (desk_place u.1 u.0) (ADesk last.desk) (ADesk (replied (answered_batch kept b) last.desk)))))
+      (λ i. (sym last.there i, sym on.config i))
+      (subst (Did k z) (append_assoc first.tries (answer_deeds (1 + node) first.full first.log first.put first.own first.left) _) (did_then k f z (first.tries ++ answer_deeds (1 + node) first.full first.log first.put first.own first.left) _ first.did last.did))
 
   pub combines_by : (answered : BatchView) → answered ≡ answered_batch kept b → k.note.batch ≡ unplaced b.records → f.session ≡ k.session → CombinesBy k z b answered
   combines_by answered answers noted same = record {
@@ -238,7 +289,7 @@ module _ (k f z : K) (b : BatchView) (kept : RepliesView) (first : AnswersBy k f
     kept = kept;
     answers = answers;
     desk = last.desk;
-    mine = subst (λ (z : Config × ℕ). IsSessionOf z.0 last.desk.node z.1) (λ i. (sym on.config i, same i)) last.mine;
+    mine = subst (λ (z : Sizes × ℕ). IsSessionOf z.0 last.desk.node z.1) (λ i. (sym on.config i, same i)) last.mine;
     claimed = last.claimed;
     low = first.low;
     full = first.full;
@@ -248,6 +299,12 @@ module _ (k f z : K) (b : BatchView) (kept : RepliesView) (first : AnswersBy k f
     ahead = first.ahead;
     goes = subst (λ xs. Goes k.progress.catalogue began xs ended) (append_assoc (append_steps first.low first.full first.next first.later) (replay_steps first.more first.ahead) (Replies ∷ []))
         (goes_on (first.goes last.desk) (under f.progress.catalogue k.progress.catalogue (sym on.catalogue) last.goes));
+    base = first.base;
+    put = first.put;
+    put_is = first.put_is;
+    tries = first.tries;
+    nothing = first.nothing;
+    did = combines_did;
   }
 
 -- ---- a read
@@ -265,11 +322,14 @@ follows_none k n a stands = record {
   next = false;
   later = false;
   goes = λ d. Ends (sees k.progress (log_from k.progress n) n Absent d);
+  lacks = false;
+  did = did_none k k refl;
 }
 
 -- the session k took the log g and is t then, f once it has put it back, and after once it has raised the completed tail
 module _ (k t f after : K) (g : LogView) (n u m : NodeReplica) (took : Extends k.progress t.progress) (is : IsLogOf t.progress g) (follows : Follows t.progress n) (behind : may_rebase g n ≡ true → u ≡ rebased g n) (stays : may_rebase g n ≡ false → u ≡ n)
-    (ran : m ≡ replayed t.progress.catalogue (copied g u)) (on : Extends t.progress f.progress) (up : HasRaised f after m.replica.tail) where
+    (ran : m ≡ replayed t.progress.catalogue (copied g u)) (on : Extends t.progress f.progress) (up : HasRaised f after m.replica.tail)
+    (x : Value) (x_is : log_of x ≡ Some g) (took_it : t.steps ≡ Took leader x ∷ k.steps) (q : ℕ) (there : q ≡ leader) (put_it : f.steps ≡ Put q x ∷ t.steps) where
   keeps_up : Follows t.progress u × (g.base ≤ u.replica.tail)
   keeps_up = kept_up t.progress g n is follows u behind stays
 
@@ -290,20 +350,34 @@ module _ (k t f after : K) (g : LogView) (n u m : NodeReplica) (took : Extends k
     goes = λ d. under c1 k.progress.catalogue (sym took.catalogue)
         (goes_on (rebase_step c1 t.progress g n u Absent d behind stays)
         (goes_on (follow_step c1 t.progress g u m (above t.progress g u is keeps_up.0 keeps_up.1) keeps_up.0 ran Absent d (λ x. refl)) (raise_part t.progress f after g m is on up c1 Absent d)));
+    lacks = true;
+    did = did_then k f after (Took leader (ALog g) ∷ Put leader (ALog g) ∷ []) (Raised m.replica.tail ∷ [])
+        (did_both k t f leader q leader x x (ALog g) (ALog g) took_it put_it refl there (log_part x g x_is) (log_part x g x_is)) up.did;
   }
 
 -- the whole look: the session k loaded the completed tail, which was done with the progress p, took its replica and is
 -- t then, r once that has come up, and f once it has put it back
 module _ (k t r f : K) (p : L) (done : ℕ) (n m : NodeReplica) (point : ℕ) (grown : Extends k.progress p) (done_is : done ≡ p.completed) (took : Extends p t.progress) (found : Agrees t.progress n) (stands : Stands t) (first : FollowsBy t r n m)
-    (up : Extends t.progress r.progress) (agrees : Agrees r.progress m) (within : m.replica.tail ≤ length r.progress.history) (reached : done ≤ m.replica.tail) (back : Extends r.progress f.progress) (stands_f : Stands f) where
+    (up : Extends t.progress r.progress) (agrees : Agrees r.progress m) (within : m.replica.tail ≤ length r.progress.history) (reached : done ≤ m.replica.tail) (back : Extends r.progress f.progress) (stands_f : Stands f)
+    (w : Value) (w_is : replica_of w ≡ Some n) (h : HoldsReplica r w) (same : r.session ≡ k.session) (place : ℕ) (here : place ≡ 1 + h.node) (q : ℕ) (there : q ≡ 1 + h.node)
+    (begins : Did k t (Read done ∷ Took place (AReplica n) ∷ [])) (put_it : f.steps ≡ Put q (with_replica w m) ∷ r.steps) where
+  looks_did : Did k f (Read done ∷ look_deeds (1 + h.node) first.lacks first.log n m)
+  looks_did = did_then k t f (Read done ∷ Took (1 + h.node) (AReplica n) ∷ []) (follow_deeds first.lacks first.log m ++ Put (1 + h.node) (AReplica m) ∷ [])
+      (subst (λ z. Did k t (Read done ∷ Took z (AReplica n) ∷ [])) here begins)
+      (did_then t r f (follow_deeds first.lacks first.log m) (Put (1 + h.node) (AReplica m) ∷ []) first.did
+      (did_one r f (Put q (with_replica w m)) (Put (1 + h.node) (AReplica m)) put_it (λ i. Put (there i) (with_replica_part w n m w_is i))))
+
   abbrev c2 : CatalogueView
   c2 = k.progress.catalogue
 
   to_t : k.progress.catalogue ≡ t.progress.catalogue
   to_t = grown.catalogue ∙ took.catalogue
 
+  all_config : k.progress.config ≡ r.progress.config
+  all_config = grown.config ∙ (took.config ∙ up.config)
+
   -- the replica that it looked at is m
-  pub looks_by : f.tails_read ≡ k.tails_read ++ done ∷ [] → point ≡ m.replica.tail → (by : LooksBy k f point) × (by.left ≡ m)
+  pub looks_by : tails_in f.steps ≡ tails_in k.steps ++ done ∷ [] → point ≡ m.replica.tail → (by : LooksBy k f point) × (by.left ≡ m)
   looks_by read at =
       let tail = agrees.0.tail in let rise = back.completed in let rise_t = took.completed in let rise_s = first.since.completed in (
         record {
@@ -328,6 +402,12 @@ module _ (k t r f : K) (p : L) (done : ℕ) (n m : NodeReplica) (point : ℕ) (g
               (others r.progress f.progress first.back first.back_is back stands_f.accounts.completed c2 m Absent d);
           may = ap (λ z. z && nat_le m.replica.tail f.progress.completed) (le-leb done m.replica.tail reached) ∙ le-leb m.replica.tail f.progress.completed (omega (arith, tail, rise));
           at = at;
+          node = h.node;
+          mine = subst (λ (z : Sizes × ℕ). IsSessionOf z.0 h.node z.1) (λ i. (sym all_config i, same i)) h.own;
+          tries = Read done ∷ [];
+          nothing = Reads done [] Nothing;
+          lacks = first.lacks;
+          did = looks_did;
         },
         refl,
       )

@@ -3,11 +3,12 @@ use Rattle.std.proofs.Common.{◌≡◌, ℕ, zero, suc, ◌+◌, ◌<◌, [], �
 use Rattle.std.specs.Prelude.{IsSome}
 use Rattle.std.proofs.lemmas.Option.{none-some, same_Some}
 use Rattle.loader.specs.StoreState.{StoreState}
+use Rattle.ownlock.specs.declared.known.ShelfStep.TheVariants.{Took}
 use Rattle.ownlock.specs.Rules.{leader}
 use Rattle.ownlock.specs.Seats.{At, place_of}
 use Rattle.ownlock.specs.Knowledge.{Acquired, MayTake}
 use Rattle.loader.specs.CatalogueView.{CatalogueView}
-use Rattle.oplog.specs.declared.configuration.Config.{Config}
+use Rattle.oplog.specs.declared.configuration.Sizes.{Sizes}
 use Rattle.oplog.specs.Logs.{Log as LogView}
 use Rattle.oplog.specs.Sessions.{IsSessionOf, session as place}
 use Rattle.replica.specs.StoreMeaning.{store_meaning}
@@ -73,7 +74,7 @@ well_formed l ns a = record { allowed = a.allowed; completed = a.completed; limi
 -- ---- a session takes its node's replica
 
 pub own_on : (k t : K) (node : ℕ) → t.session ≡ k.session → Extends k.progress t.progress → IsSessionOf k.progress.config node k.session → IsSessionOf t.progress.config node t.session
-own_on k t node e g own = subst (λ z. IsSessionOf t.progress.config node z) (sym e) (subst (λ (z : Config). IsSessionOf z node k.session) g.config own)
+own_on k t node e g own = subst (λ z. IsSessionOf t.progress.config node z) (sym e) (subst (λ (z : Sizes). IsSessionOf z node k.session) g.config own)
 
 pub may_take_replica : (k : K) (caller : Caller) → IsFree caller k → MayTake store_rules (1 + caller.node) k
 may_take_replica k caller free = (may_take_first session_laws view_of IsSized k caller.node free.held (caller.slot, free.within, free.own, free.near)).0
@@ -81,7 +82,7 @@ may_take_replica k caller free = (may_take_first session_laws view_of IsSized k 
 -- what it is, once it has taken it
 pub record TookReplica (p : ℕ) (k t : K) (w : Value) : Type 0 where
   pub held : t.held ≡ (p, w) ∷ []
-  pub tails_read : t.tails_read ≡ k.tails_read
+  pub steps : t.steps ≡ Took p w ∷ k.steps
   pub session : t.session ≡ k.session
   pub note : t.note ≡ k.note
   pub extends : Extends k.progress t.progress
@@ -96,7 +97,7 @@ took_replica k t caller w free won =
     let held = i.held ∙ ap (λ z. (1 + caller.node, w) ∷ z) free.held in
     record {
       held = held;
-      tails_read = i.tails_read;
+      steps = i.steps;
       session = i.session;
       note = i.note;
       extends = i.extends;
@@ -129,7 +130,7 @@ pub record TookLog (k t : K) (n : NodeReplica) (x : Value) : Type 0 where
   pub note : t.note ≡ k.note
   pub extends : Extends k.progress t.progress
   pub held : t.held ≡ (0, x) ∷ k.held
-  pub tails_read : t.tails_read ≡ k.tails_read
+  pub steps : t.steps ≡ Took 0 x ∷ k.steps
   pub some : IsSome (log_of x)
   pub log : (g : LogView) → log_of x ≡ Some g → IsLogOf t.progress g
   pub follows : Follows t.progress n
@@ -146,7 +147,7 @@ took_log k t n x follows won =
       note = i.note;
       extends = i.extends;
       held = i.held;
-      tails_read = i.tails_read;
+      steps = i.steps;
       some = has_log x taken.1.0 taken.1.1;
       log = log_is t.progress x taken.1.0 well taken.1.1 taken.1.2 i.sized;
       follows = follows_on k.progress t.progress n i.extends follows;
@@ -162,8 +163,8 @@ holds_log k t n x b = (x, 0, ap (λ z. get_elem? z 0) b.held)
 pub free_on : (caller : Caller) (k t : K) → t.session ≡ k.session → t.held ≡ [] → Extends k.progress t.progress → IsFree caller k → IsFree caller t
 free_on caller k t session held grown free = record {
   own = session ∙ (free.own ∙ ap (λ c. place c caller.node caller.slot) grown.config);
-  within = subst (λ (c : Config). caller.slot < c.slots) grown.config free.within;
-  near = subst (λ (c : Config). caller.node < c.nodes) grown.config free.near;
+  within = subst (λ (c : Sizes). caller.slot < c.slots) grown.config free.within;
+  near = subst (λ (c : Sizes). caller.node < c.nodes) grown.config free.near;
   held = held;
 }
 
@@ -171,6 +172,6 @@ pub shelf_on : (places nodes : ℕ) (c : CatalogueView) (k t : K) → Extends k.
 shelf_on places nodes c k t grown on = record {
   places_are = on.places_are;
   few = on.few;
-  nodes_are = sym (ap (λ (z : Config). z.nodes) grown.config) ∙ on.nodes_are;
+  nodes_are = sym (ap (λ (z : Sizes). z.nodes) grown.config) ∙ on.nodes_are;
   catalogue_is = sym grown.catalogue ∙ on.catalogue_is;
 }

@@ -1,10 +1,11 @@
 -- The place of its node's desk is taken, and put back after what the session did there.
 use Rattle.std.proofs.Common.{◌≡◌, ℕ, ◌<◌, List, [], ◌∷◌, length, sym, refl, ap, ◌∙◌, subst, Some, eq-eqb, if◌then◌else◌}
 use lib.ListN.{get_elem?}
+use Rattle.ownlock.specs.declared.known.ShelfStep.TheVariants.{Put, Took}
 use Rattle.ownlock.specs.Seats.{At, without}
 use Rattle.ownlock.specs.Knowledge.{Acquired, MayPut, MayTake, Possible}
 use Rattle.loader.specs.CatalogueView.{CatalogueView}
-use Rattle.oplog.specs.declared.configuration.Config.{Config}
+use Rattle.oplog.specs.declared.configuration.Sizes.{Sizes}
 use Rattle.oplog.specs.Sessions.{IsSessionOf, session}
 use Rattle.combiner.specs.Desks.{DeskView}
 use Rattle.replica.specs.StoreMeaning.{store_meaning}
@@ -49,7 +50,9 @@ pub record TookDesk (caller : Caller) (k t : K) (p : ℕ) (v : Value) : Type 0 w
   pub note : t.note ≡ k.note
   pub extends : Extends k.progress t.progress
   pub held : t.held ≡ (p, v) ∷ []
+  pub steps : t.steps ≡ Took p v ∷ k.steps
   pub desk : DeskView
+  pub node : desk.node ≡ caller.node
   pub seen : view_of v ≡ TheDesk desk
   pub here : IsAt caller.slot t desk
 
@@ -63,7 +66,9 @@ took_desk k t caller p v free is won =
       note = i.note;
       extends = i.extends;
       held = i.held ∙ ap (λ z. (p, v) ∷ z) free.held;
+      steps = i.steps;
       desk = taken.1;
+      node = taken.3;
       seen = taken.2;
       here = record {
         notes = i.notes;
@@ -71,8 +76,8 @@ took_desk k t caller p v free is won =
         here = i.here;
         agrees = taken.4;
         own = subst (λ n. t.session ≡ session t.progress.config n caller.slot) node (i.session ∙ (free.own ∙ ap (λ c. session c caller.node caller.slot) i.extends.config));
-        within = subst (λ (c : Config). caller.slot < c.slots) i.extends.config free.within;
-        near = subst (λ n. n < t.progress.config.nodes) node (subst (λ (c : Config). caller.node < c.nodes) i.extends.config free.near);
+        within = subst (λ (c : Sizes). caller.slot < c.slots) i.extends.config free.within;
+        near = subst (λ n. n < t.progress.config.nodes) node (subst (λ (c : Sizes). caller.node < c.nodes) i.extends.config free.near);
       };
     }
 
@@ -117,7 +122,7 @@ desk_back deed sessions t p w l = record {
   progress = put_progress sessions (view_of w) l;
   note = put_note (desk_noting view_of deed) sessions (view_of w) t.note;
   held = without p t.held;
-  tails_read = t.tails_read;
+  steps = Put p w ∷ t.steps;
 }
 
 -- the desk may be put back at the place q, and what the session is then
@@ -166,7 +171,7 @@ module _ (caller : Caller) (k t : K) (p : ℕ) (v : Value) (b : TookDesk caller 
     may_put_same_desk = same_picked session_laws view_of session_notes IsSized sessions t p 0 v w at_desk same kept is
 
     pub back_same_desk : (l : L) (ns : List SessionNote) → Possible store_rules t l ns
-        → BackDesk k (record { session = t.session; progress = put_progress sessions (view_of w) l; note = put_note session_noting sessions (view_of w) t.note; held = without p t.held; tails_read = t.tails_read }) k.note
+        → BackDesk k (record { session = t.session; progress = put_progress sessions (view_of w) l; note = put_note session_noting sessions (view_of w) t.note; held = without p t.held; steps = Put p w ∷ t.steps }) k.note
     back_same_desk l ns may =
         let a = puts_account session_laws view_of session_notes IsSized (put_progress sessions (view_of w)) (put_note session_noting sessions (view_of w)) t p w l ns may_put_same_desk may in
         record {

@@ -1,8 +1,12 @@
 -- A session that found a place held: what it was free to do it still is, and what its last try tells holds from its first one on.
-use Rattle.std.proofs.Common.{◌≡◌, ℕ, ◌≤◌, List, [], ◌∷◌, ◌++◌, length, append-nil, append_assoc, sym, refl, ap, ◌∙◌, subst, arith}
+use Rattle.std.proofs.Common.{◌≡◌, ℕ, ◌+◌, ◌≤◌, Some, List, [], ◌∷◌, ◌++◌, length, append-nil, append_assoc, sym, refl, ap, ◌∙◌, subst, arith}
 use Rattle.std.specs.Prelude.{nat_le}
 use Rattle.std.proofs.lemmas.Bool.{and_from, and_parts, le-leb, leb-true}
-use Rattle.ownlock.specs.Seats.{having_read}
+use Rattle.ownlock.specs.declared.known.ShelfStep.{ShelfStep}
+use Rattle.ownlock.specs.declared.known.ShelfStep.TheVariants.{Put, Read, Took}
+use Rattle.ownlock.specs.Seats.{having_read, tails_in}
+use Rattle.oplog.specs.declared.configuration.Sizes.{Sizes}
+use Rattle.oplog.specs.Sessions.{IsSessionOf}
 use Rattle.ownlock.specs.Knowledge.{Possible}
 use Rattle.loader.specs.CatalogueView.{CatalogueView}
 use Rattle.oplog.specs.Operations.{Operation}
@@ -23,7 +27,10 @@ use Rattle.store_steps.specs.Shelving.{store_rules}
 use Rattle.store_steps.specs.Standing.{Agrees, SessionKnown, Stands}
 use Rattle.store_steps.specs.Trying.{BeginsBelow, IsStill}
 use Rattle.store_steps.specs.Looking.{EachReadsBy, ScansBy}
-use Rattle.store_steps.specs.Whole.{AnswersBy, LooksBy, ReadsBy}
+use Rattle.store_steps.specs.Whole.{AnswersBy, LooksBy, ReadsBy, answer_deeds, look_deeds}
+use Rattle.store_steps.specs.Doing.{AReplica, Did, Nothing, Part, PutsBack, Reads}
+use Rattle.store_steps.specs.Lending.{replica_of, with_replica}
+use Rattle.store_steps.proofs.Doing.{did_both, did_none, did_one, did_then, nothing_on, replica_part, with_replica_part}
 use Rattle.store_steps.proofs.Finished.{Back}
 use Rattle.store_steps.proofs.StoreLaws.{store_laws}
 use Rattle.store_steps.proofs.Stretches.{under}
@@ -40,6 +47,10 @@ low_enough k n a s = let low = a.0.tail in let all = s.accounts.completed in ome
 
 -- ---- it stays still
 
+-- after tries, others and then some steps
+tried_then : (k m f : K) (xs ys zs : List (ShelfStep Part)) → Did k m xs → Did m f (ys ++ zs) → Did k f ((xs ++ ys) ++ zs)
+tried_then k m f xs ys zs a b = subst (Did k f) (sym (append_assoc xs ys zs)) (did_then k m f xs (ys ++ zs) a b)
+
 pub still_self : (k : K) → k.held ≡ [] → IsStill k k
 still_self k none = record {
   session = refl;
@@ -48,21 +59,27 @@ still_self k none = record {
   extends = store_laws.extends_self k.progress;
   well_formed = λ w. w;
   more = [];
-  read = sym (append-nil k.tails_read);
+  read = sym (append-nil (tails_in k.steps));
   below = tt;
+  tries = [];
+  nothing = Nothing;
+  did = did_none k k refl;
 }
 
 -- its node's replica was put back as it was taken
-pub still_back : (p : ℕ) (k t f : K) (w : Value) → TookReplica p k t w → Back t f → IsStill k f
-still_back p k t f w b e = record {
+pub still_back : (p q : ℕ) (k t f : K) (w : Value) (n : NodeReplica) → TookReplica p k t w → Back t f → replica_of w ≡ Some n → q ≡ p → f.steps ≡ Put q (with_replica w n) ∷ t.steps → IsStill k f
+still_back p q k t f w n b e is at put = record {
   session = e.session ∙ b.session;
   held = e.held;
   note = e.note ∙ b.note;
   extends = store_laws.extends_on k.progress t.progress f.progress b.extends e.extends;
   well_formed = λ _. well_formed f.progress e.stands.notes e.stands.accounts;
   more = [];
-  read = e.tails_read ∙ (b.tails_read ∙ sym (append-nil k.tails_read));
+  read = e.tails ∙ (ap tails_in b.steps ∙ sym (append-nil (tails_in k.steps)));
   below = tt;
+  tries = Took p (AReplica n) ∷ Put p (AReplica n) ∷ [];
+  nothing = PutsBack p n [] Nothing;
+  did = did_both k t f p q p w (with_replica w n) (AReplica n) (AReplica n) b.steps put refl at (replica_part w n is) (with_replica_part w n n is);
 }
 
 -- it has read the completed tail alone, which is that of the progress l
@@ -76,6 +93,9 @@ still_told k l n ns none can is = record {
   more = n ∷ [];
   read = refl;
   below = omega (arith, is);
+  tries = Read n ∷ [];
+  nothing = Reads n [] Nothing;
+  did = did_one k (having_read k l n) (Read n) (Read n) refl refl;
 }
 
 begins_on : (ms ns : List ℕ) (low high : ℕ) → low ≤ high → BeginsBelow ms low → BeginsBelow ns high → BeginsBelow (ms ++ ns) high
@@ -90,8 +110,11 @@ still_then k t f a b = record {
   extends = store_laws.extends_on k.progress t.progress f.progress a.extends b.extends;
   well_formed = λ w. b.well_formed (a.well_formed w);
   more = a.more ++ b.more;
-  read = b.read ∙ (ap (λ z. z ++ b.more) a.read ∙ append_assoc k.tails_read a.more b.more);
+  read = b.read ∙ (ap (λ z. z ++ b.more) a.read ∙ append_assoc (tails_in k.steps) a.more b.more);
   below = begins_on a.more b.more t.progress.completed f.progress.completed b.extends.completed a.below b.below;
+  tries = a.tries ++ b.tries;
+  nothing = nothing_on a.nothing b.nothing;
+  did = did_then k t f a.tries b.tries a.did b.did;
 }
 
 -- ---- and then its try went well
@@ -109,8 +132,8 @@ answered_since k m f b kept s a = record {
   stands = a.stands;
 }
 
-pub answers_since : (k m f : K) (b : BatchView) (kept : RepliesView) → IsStill k m → AnswersBy m f b kept → AnswersBy k f b kept
-answers_since k m f b kept s a = record {
+pub answers_since : (node : ℕ) (k m f : K) (b : BatchView) (kept : RepliesView) → IsStill k m → AnswersBy node m f b kept → AnswersBy node k f b kept
+answers_since node k m f b kept s a = record {
   from = a.from;
   since = store_laws.extends_on k.progress m.progress a.from s.extends a.since;
   log = a.log;
@@ -128,6 +151,12 @@ answers_since k m f b kept s a = record {
   more = a.more;
   ahead = a.ahead;
   goes = λ d. under m.progress.catalogue k.progress.catalogue (sym s.extends.catalogue) (a.goes d);
+  base = a.base;
+  put = a.put;
+  put_is = a.put_is;
+  tries = s.tries ++ a.tries;
+  nothing = nothing_on s.nothing a.nothing;
+  did = tried_then k m f s.tries a.tries (answer_deeds (1 + node) a.full a.log a.put a.own a.left) s.did a.did;
 }
 
 pub combined_then : (k f z : K) (b : BatchView) (kept : RepliesView) → HasAnswered k f b kept → HasCombined f z → HasCombined k z
@@ -158,8 +187,8 @@ first_below [] n low top below up last = last
 first_below (m ∷ ms) n low top below up last = omega (arith, below, up)
 
 module _ (k m f : K) (s : IsStill k m) where
-  reads : (n : ℕ) (ns : List ℕ) → f.tails_read ≡ m.tails_read ++ n ∷ ns → f.tails_read ≡ k.tails_read ++ first_read s.more n ∷ later_reads s.more n ns
-  reads n ns read = read ∙ (ap (λ z. z ++ n ∷ ns) s.read ∙ (append_assoc k.tails_read s.more (n ∷ ns) ∙ ap (λ z. k.tails_read ++ z) (all_reads s.more n ns)))
+  reads : (n : ℕ) (ns : List ℕ) → tails_in f.steps ≡ tails_in m.steps ++ n ∷ ns → tails_in f.steps ≡ tails_in k.steps ++ first_read s.more n ∷ later_reads s.more n ns
+  reads n ns read = read ∙ (ap (λ z. z ++ n ∷ ns) s.read ∙ (append_assoc (tails_in k.steps) s.more (n ∷ ns) ∙ ap (λ z. tails_in k.steps ++ z) (all_reads s.more n ns)))
 
   pub seen_since : (point : ℕ) → HasSeen m f point → HasSeen k f point
   seen_since point r =
@@ -234,6 +263,12 @@ module _ (k m f : K) (s : IsStill k m) where
           goes = λ d. under m.progress.catalogue k.progress.catalogue (sym s.extends.catalogue) (r.goes d);
           may = and_from _ _ (le-leb (first_read s.more r.seen) r.left.replica.tail (first_below s.more r.seen m.progress.completed r.left.replica.tail s.below (omega (arith, far, at)) low)) may.1;
           at = at;
+          node = r.node;
+          mine = subst (λ (z : Sizes × ℕ). IsSessionOf z.0 r.node z.1) (λ i. (sym s.extends.config i, s.session i)) r.mine;
+          tries = s.tries ++ r.tries;
+          nothing = nothing_on s.nothing r.nothing;
+          lacks = r.lacks;
+          did = tried_then k m f s.tries r.tries (look_deeds (1 + r.node) r.lacks r.log r.own r.left) s.did r.did;
         },
         refl,
       )

@@ -7,7 +7,7 @@ use Rattle.std.proofs.lemmas.List.{append-nil, drop-append-le}
 use Rattle.loader.specs.CatalogueView.{CatalogueView, sizes_for}
 use Rattle.oplog.specs.History.{History, after}
 use Rattle.oplog.specs.Logs.{Log as LogView, tail_of}
-use Rattle.oplog.specs.declared.configuration.Config.{Config}
+use Rattle.oplog.specs.declared.configuration.Sizes.{Sizes}
 use Rattle.combiner.specs.Desks.{BatchView, DeskView, replied}
 use Rattle.replica.specs.StoreMeaning.{store_meaning}
 use Rattle.replica.specs.Views.{RepliesView}
@@ -66,7 +66,7 @@ module _ (l m : L) (g : LogView) (is : IsLogOf l g) (grows : Extends l m) (low :
           records = refl;
         };
         tail = later_tail;
-        sizes = (is.sizes.0 ∙ ap (λ (z : Config). z.window) grows.config, is.sizes.1 ∙ ap (λ (z : Config). z.limit) grows.config, is.sizes.2 ∙ ap sizes_for grows.catalogue);
+        sizes = (is.sizes.0 ∙ ap (λ (z : Sizes). z.window) grows.config, is.sizes.1 ∙ ap (λ (z : Sizes). z.limit) grows.config, is.sizes.2 ∙ ap sizes_for grows.catalogue);
       }
 
   pub others : (c : CatalogueView) (n : NodeReplica) (b : NodeBatch) (d : DeskView) → OthersDo c (sees l g n b d) (sees m (later m g) n b d)
@@ -204,7 +204,7 @@ pub agrees_on : (l m : L) (n : NodeReplica) → Extends l m → n.replica.tail �
 agrees_on l m n grown within a =
     let tail = a.0.tail in let rise = grown.completed in (
       record { tail = omega (arith, tail, rise); state = a.0.state ∙ state_on store_meaning l m n.replica.tail grown within },
-      (a.1.0 ∙ ap sizes_for grown.catalogue, a.1.1 ∙ (λ i. record { begin = n.replica.tail; records = []; window = (ap (λ (z : Config). z.window) grown.config) i })),
+      (a.1.0 ∙ ap sizes_for grown.catalogue, a.1.1 ∙ (λ i. record { begin = n.replica.tail; records = []; window = (ap (λ (z : Sizes). z.window) grown.config) i })),
     )
 
 -- the log whose base is the replica

@@ -1,7 +1,7 @@
 -- A session at its node's desk while that is lent to it: what it may find there, and what its calls are.
 use Rattle.std.specs.Prelude.{◌≡◌, ℕ, suc, ◌+◌, ◌<◌, ◌≤◌, ◌^◌, List, [], map, length, Some, None, IsSome, slice_get, true, false}
 use Rattle.ownlock.specs.Seats.{At}
-use Rattle.oplog.specs.declared.configuration.TheConstants.{MAX_LIMIT}
+use Rattle.oplog.specs.declared.configuration.TheConstants.{ENDLESS}
 use Rattle.oplog.specs.Operations.{Operation}
 use Rattle.oplog.specs.Sessions.{session}
 use Rattle.combiner.specs.Desks.{DeskView, BatchView, batch_of, claim_refusal, claimed, collected, has_combiner, has_request}
@@ -45,7 +45,7 @@ pub record IsReady (k : SessionKnown) (b : BatchView) (kept : RepliesView) : Typ
   pub some : 0 < length k.note.batch
   pub records : b.records ≡ map record_of k.note.batch
   pub ascend : Ascend b.records
-  pub within : kept.first + length kept.outcomes ≤ MAX_LIMIT
+  pub within : kept.first + length kept.outcomes ≤ ENDLESS
   pub run : HaveRun kept b
   pub gives : (j : ℕ) (t : Claim) (reply : Reply) → At j t k.note.batch → slice_get (answered_batch kept b).answers j ≡ Some (Some reply)
       → Gives store_meaning k.progress t reply

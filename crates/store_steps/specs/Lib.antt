@@ -1,11 +1,15 @@
 -- The values of a store's shelf, the rules of its sessions there, and what a session knows.
 pub mod Shelving
+pub mod Doing
 pub mod Standing
 pub mod Knowing
 pub mod Views
 -- What scans and several reads are refused, and what they tell.
 pub mod Scanning
 pub mod Questions
+-- States that are taken, and what stands under one key.
+pub mod Snapshots
+pub mod Getting
 -- The steps at a desk, which the public calls on a lent desk cite.
 pub mod AtDesk
 -- An update from its post to its answer, by calls that wait, and by deeds that don't.
@@ -20,5 +24,6 @@ pub mod Trying
 -- Whole calls as lists of steps.
 pub mod Whole
 pub mod Looking
+pub mod Updating
 -- A replica that is held and has come up.
 pub mod Ready

@@ -1,11 +1,14 @@
 -- A session that holds its node's replica, once that has come up.
-use Rattle.std.specs.Prelude.{◌≡◌, ℕ, ◌≤◌, [], ◌∷◌, ◌++◌, length}
+use Rattle.std.specs.Prelude.{◌≡◌, ℕ, ◌≤◌, [], ◌∷◌, ◌++◌, length, Some}
+use Rattle.ownlock.specs.declared.known.ShelfStep.TheVariants.{Read, Took}
+use Rattle.ownlock.specs.Seats.{tails_in}
 use Rattle.loader.specs.CatalogueView.{CatalogueView}
 use Rattle.accounts.specs.declared.sessions.Progress.{Progress}
 use Rattle.accounts.specs.Accounts.{Extends}
 use Rattle.node.specs.declared.following.NodeReplica.{NodeReplica}
 use Rattle.store_steps.specs.declared.values.Value.{Value}
-use Rattle.store_steps.specs.Lending.{with_replica}
+use Rattle.store_steps.specs.Doing.{AReplica, Did}
+use Rattle.store_steps.specs.Lending.{replica_of, with_replica}
 use Rattle.store_steps.specs.Standing.{SessionKnown, Stands, Agrees, HoldsReplica}
 use Rattle.store_steps.specs.Whole.{FollowsBy}
 
@@ -36,4 +39,6 @@ pub record HoldsReady (k after : SessionKnown) (place : ℕ) (v : Value) : Type 
   pub held : after.held ≡ (place, value) ∷ []
   pub session : after.session ≡ k.session
   pub note : after.note ≡ k.note
-  pub read : after.tails_read ≡ k.tails_read ++ begun ∷ []
+  pub read : tails_in after.steps ≡ tails_in k.steps ++ begun ∷ []
+  pub did : Did k taking (Read begun ∷ Took place (AReplica own) ∷ [])
+  pub some : replica_of value ≡ Some own

@@ -13,6 +13,7 @@ use Rattle.node.specs.declared.following.NodeReplica.{NodeReplica}
 use Rattle.store_steps.specs.declared.scanning.Scan.{Scan}
 use Rattle.store_steps.specs.declared.scanning.ScanRefused.{ScanRefused}
 use Rattle.store_steps.specs.declared.scanning.ScanRefused.TheVariants.{UnknownMap, UnknownPlace}
+use Rattle.ownlock.specs.Seats.{tails_in}
 use Rattle.store_steps.specs.Standing.{SessionKnown}
 
 -- ---- which scans are refused
@@ -65,7 +66,7 @@ GivesThere n map from key_room value_room keys values s =
 pub record HasSeen (k after : SessionKnown) (point : ℕ) : Type 0 where
   pub begun : ℕ
   pub more : List ℕ
-  pub read : after.tails_read ≡ k.tails_read ++ begun ∷ more
+  pub read : tails_in after.steps ≡ tails_in k.steps ++ begun ∷ more
   pub reached : begun ≤ point
   pub far : k.progress.completed ≤ point
   pub session : after.session ≡ k.session

@@ -4,7 +4,7 @@ use Rattle.ownlock.specs.Rules.{Rules}
 use Rattle.ownlock.specs.Seats.{Opened, opened_with}
 use Rattle.loader.specs.StoreState.{StoreState, sizes_of}
 use Rattle.loader.specs.CatalogueView.{CatalogueView, sizes_for}
-use Rattle.oplog.specs.declared.configuration.Config.{Config}
+use Rattle.oplog.specs.declared.configuration.Sizes.{Sizes}
 use Rattle.oplog.specs.Logs.{Log as LogView, HandView, opened_log, opened_hand}
 use Rattle.replica.specs.Views.{ReplicaView}
 use Rattle.replica.specs.StoreMeaning.{store_meaning}
@@ -34,19 +34,19 @@ view_of (Replica n) = TheReplica (replica_value n.value.replica)
 view_of (Desk d) = TheDesk d.value
 
 -- the log has the window, the limit and the sizes that the store was opened with
-abbrev pub HasLogSizes : Config → CatalogueView → LogView → Type 0
+abbrev pub HasLogSizes : Sizes → CatalogueView → LogView → Type 0
 HasLogSizes config c g = (g.window ≡ config.window) × (g.limit ≡ config.limit) × (sizes_of g.base_state ≡ sizes_for c)
 
 -- a hand that has no record, and begins at the tail of its replica
-abbrev pub resting_hand : Config → ℕ → HandView
+abbrev pub resting_hand : Sizes → ℕ → HandView
 resting_hand config tail = record { begin = tail; records = []; window = config.window }
 
 -- the replica has the sizes of the catalogue, and its hand, of the configuration's window, is empty
-abbrev pub HasReplicaSizes : Config → CatalogueView → NodeReplica → Type 0
+abbrev pub HasReplicaSizes : Sizes → CatalogueView → NodeReplica → Type 0
 HasReplicaSizes config c n = (sizes_of n.replica.state ≡ sizes_for c) × (n.hand ≡ resting_hand config n.replica.tail)
 
 -- the sizes of a value are those of the configuration and the catalogue, and a hand on the shelf is empty
-abbrev pub IsSized : Config → CatalogueView → Value → Type 0
+abbrev pub IsSized : Sizes → CatalogueView → Value → Type 0
 IsSized config c (Log g) = HasLogSizes config c g.value
 IsSized config c (Replica n) = HasReplicaSizes config c n.value
 IsSized config c (Desk d) = length d.value.slots ≡ config.slots
@@ -63,11 +63,11 @@ abbrev pub store_rules : Rules (Progress CatalogueView) SessionNote Value
 store_rules = the_rules store_meaning session_rules view_of IsSized
 
 -- how many sessions there are: one for each slot of each node
-abbrev pub sessions_of : Config → ℕ
+abbrev pub sessions_of : Sizes → ℕ
 sessions_of config = config.nodes * config.slots
 
 -- how many places its shelf has: one for the log, and for each node one for its replica and one for its desk
-abbrev pub places_of : Config → ℕ
+abbrev pub places_of : Sizes → ℕ
 places_of config = 1 + config.nodes + config.nodes
 
 abbrev pub opening_progress : Setup → Progress CatalogueView

@@ -3,10 +3,11 @@ use Rattle.std.specs.Prelude.{◌≡◌, ℕ, ◌+◌, ◌<◌, ◌≤◌, min, 
 use Rattle.loader.specs.StoreState.{sizes_of}
 use Rattle.ownlock.specs.declared.known.Known.{Known}
 use Rattle.ownlock.specs.Rules.{leader}
-use Rattle.ownlock.specs.Seats.{At, IsSession, SeatView}
+use Rattle.ownlock.specs.declared.known.ShelfStep.TheVariants.{Raised}
+use Rattle.ownlock.specs.Seats.{At, IsSession, SeatView, tails_in}
 use Rattle.loader.specs.CatalogueView.{CatalogueView, sizes_for}
 use Rattle.oplog.specs.declared.records.Record.{Record}
-use Rattle.oplog.specs.declared.configuration.TheConstants.{MAX_LIMIT, MAX_NODES}
+use Rattle.oplog.specs.declared.configuration.TheConstants.{ENDLESS, MAX_NODES}
 use Rattle.oplog.specs.Logs.{Log as LogView, tail_of, left_of, room_in}
 use Rattle.oplog.specs.History.{History, state_after}
 use Rattle.oplog.specs.Sessions.{IsSessionOf, session}
@@ -22,6 +23,7 @@ use Rattle.accounts.specs.Moves.{placed_from, raised, unplaced}
 use Rattle.store_steps.specs.declared.steps.Caller.{Caller}
 use Rattle.node.specs.declared.following.NodeReplica.{NodeReplica}
 use Rattle.store_steps.specs.declared.values.Value.{Value}
+use Rattle.store_steps.specs.Doing.{Did}
 use Rattle.store_steps.specs.Lending.{replica_of}
 use Rattle.store_steps.specs.Shelving.{IsSized, HasLogSizes, HasReplicaSizes, log_value, replica_value}
 
@@ -59,7 +61,7 @@ pub record HasOthers (l : Progress CatalogueView) (n : NodeReplica) : Type 0 whe
   pub within : n.replica.tail ≤ length l.history
   pub state : n.replica.state ≡ state_after store_meaning l.catalogue l.history n.replica.tail
   pub sizes : sizes_of n.replica.state ≡ sizes_for l.catalogue
-  pub few : length l.history ≤ MAX_LIMIT
+  pub few : length l.history ≤ ENDLESS
   pub hand : n.hand ≡ record { begin = n.replica.tail; records = drop n.replica.tail l.history; window = l.config.window }
 
 -- the log is that of the progress, and ends where the history ends
@@ -106,7 +108,7 @@ IsThere s caller places nodes c = (k : SessionKnown) × IsSession s k × IsFree 
 pub record GoesOn (k after : SessionKnown) : Type 0 where
   pub session : after.session ≡ k.session
   pub held : after.held ≡ k.held
-  pub tails_read : after.tails_read ≡ k.tails_read
+  pub tails : tails_in after.steps ≡ tails_in k.steps
   pub extends : Extends k.progress after.progress
 
 -- the session knows that so many operations are completed; while it holds the log, the history stands still
@@ -120,6 +122,7 @@ pub record HasRaised (k after : SessionKnown) (n : ℕ) : Type 0 where
   pub before : Progress CatalogueView
   pub was : Extends k.progress before
   pub is : after.progress ≡ raised before n
+  pub did : Did k after (Raised n ∷ [])
 
 -- the second log has the sizes of the first
 abbrev pub KeepsLogSizes : LogView → LogView → Type 0
@@ -144,7 +147,7 @@ pub record HasAppended (k after : SessionKnown) (records : History) (kept : Repl
   pub stands : Stands after
   pub rest : HasOthers after.progress n
   pub count : length kept.outcomes ≤ length records
-  pub within : kept.first + length kept.outcomes ≤ MAX_LIMIT
+  pub within : kept.first + length kept.outcomes ≤ ENDLESS
   pub above : n.replica.tail ≤ kept.first
   pub note : after.note ≡ record k.note { batch = placed_from kept.first (length kept.outcomes) (unplaced records) }
   pub placed : (j : ℕ) (r : Record) → j < length kept.outcomes → At j r records → At (kept.first + j) r after.progress.history

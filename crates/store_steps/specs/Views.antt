@@ -1,6 +1,7 @@
 -- A session as it is seen between its calls, and what a read tells it.
 use Rattle.std.specs.Prelude.{◌≡◌, ℕ, ◌≤◌, List, [], ◌∷◌, ◌++◌, length, Some, None, option_map}
-use Rattle.ownlock.specs.Seats.{IsSession, ShelfId}
+use Rattle.ownlock.specs.declared.known.ShelfStep.{ShelfStep}
+use Rattle.ownlock.specs.Seats.{IsSession, ShelfId, tails_in}
 use Rattle.loader.specs.CatalogueView.{CatalogueView}
 use Rattle.oplog.specs.Operations.{Operation}
 use Rattle.oplog.specs.declared.records.Op.TheVariants.{Run}
@@ -13,16 +14,17 @@ use Rattle.accounts.specs.Accounts.{Extends, IsWellFormed}
 use Rattle.accounts.specs.LogSteps.{first_progress, fresh_note}
 use Rattle.accounts.specs.Told.{ReadTells}
 use Rattle.store_steps.specs.declared.steps.Caller.{Caller}
+use Rattle.store_steps.specs.declared.values.Value.{Value}
 use Rattle.node.specs.declared.following.NodeReplica.{NodeReplica}
 use Rattle.store_steps.specs.Standing.{SessionKnown, StoreSeat, IsFree}
 
--- a session: the shelf of its store, its number, the progress that it saw last, its note, and each completed tail that it has read
+-- a session: the shelf of its store, its number, the progress that it saw last, its note, and each step that it has taken on the shelf, the last first
 pub record SessionView : Type 0 where
   pub shelf : ShelfId
   pub session : ℕ
   pub progress : Progress CatalogueView
   pub note : SessionNote
-  pub tails_read : List ℕ
+  pub steps : List (ShelfStep Value)
 
 -- a catalogue of nothing
 abbrev pub no_catalogue : CatalogueView
@@ -30,14 +32,14 @@ no_catalogue = record { shapes = []; programs = []; places = 0; opening = None }
 
 -- the first session of a seat that has any
 abbrev pub nobody : SessionKnown
-nobody = record { session = 0; progress = first_progress (record { nodes = 0; slots = 0; window = 0; limit = 0; spare = 0 }) no_catalogue; note = fresh_note; held = []; tails_read = [] }
+nobody = record { session = 0; progress = first_progress (record { nodes = 0; slots = 0; window = 0; limit = 0; spare = 0 }) no_catalogue; note = fresh_note; held = []; steps = [] }
 
 abbrev pub first_in : List SessionKnown → SessionKnown
 first_in [] = nobody
 first_in (k ∷ ks) = k
 
 abbrev pub session_view : StoreSeat → SessionView
-session_view s = let k = first_in s.sessions in record { shelf = s.shelf; session = k.session; progress = k.progress; note = k.note; tails_read = k.tails_read }
+session_view s = let k = first_in s.sessions in record { shelf = s.shelf; session = k.session; progress = k.progress; note = k.note; steps = k.steps }
 
 -- between its calls the session of that slot holds nothing, waits for nothing, and combines for nobody
 pub record IsIdle (s : StoreSeat) (caller : Caller) : Type 0 where
@@ -67,7 +69,7 @@ RepliesThere c op n reply = option_map (λ e. e.reply) (store_meaning.read c op 
 pub record IsReadBy (k after : SessionKnown) (op : Operation) (answer : ReadAnswer) : Type 0 where
   pub begun : ℕ
   pub more : List ℕ
-  pub read : after.tails_read ≡ k.tails_read ++ begun ∷ more
+  pub read : tails_in after.steps ≡ tails_in k.steps ++ begun ∷ more
   pub reached : begun ≤ answer.point
   pub session : after.session ≡ k.session
   pub held : after.held ≡ []

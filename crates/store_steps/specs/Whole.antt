@@ -1,6 +1,9 @@
 -- Whole calls as lists of the node's steps: what a session sees when it takes each, and what others do between them.
 use Rattle.std.specs.Prelude.{◌≡◌, ◌≤◌, Bool, true, false, ℕ, List, [], ◌∷◌, ◌++◌}
 use Rattle.loader.specs.CatalogueView.{CatalogueView}
+use Rattle.ownlock.specs.declared.known.ShelfStep.{ShelfStep}
+use Rattle.ownlock.specs.declared.known.ShelfStep.TheVariants.{Took, Put, Raised}
+use Rattle.ownlock.specs.Seats.{tails_in}
 use Rattle.oplog.specs.Logs.{Log as LogView}
 use Rattle.oplog.specs.History.{History}
 use Rattle.oplog.specs.Operations.{Operation}
@@ -10,14 +13,16 @@ use Rattle.replica.specs.Views.{RepliesView}
 use Rattle.readpath.specs.declared.reading.ReadAnswer.{ReadAnswer}
 use Rattle.accounts.specs.declared.sessions.Progress.{Progress}
 use Rattle.accounts.specs.Accounts.{Extends}
+use Rattle.accounts.specs.Agreement.{desk_place, log_place, replica_place}
 use Rattle.accounts.specs.Moves.{unplaced}
 use Rattle.node.specs.Answering.{answered_batch}
-use Rattle.node.specs.Following.{may_answer}
+use Rattle.node.specs.Following.{grown, may_answer, reclaimed, told}
 use Rattle.node.specs.declared.following.NodeReplica.{NodeReplica}
 use Rattle.node.specs.declared.parts.NodeBatch.{NodeBatch}
 use Rattle.node.specs.declared.parts.NodeBatch.TheVariants.{Absent, Held, InLog}
 use Rattle.node.specs.Seen.{Goes, with_word}
 use Rattle.node.specs.Steps.{NodeStep, Appends, Replays, Finishes, Reclaims, Rebases, Replies, Seen}
+use Rattle.store_steps.specs.Doing.{ADesk, ALog, AReplica, ChangesNothing, Did, Part, takes_and_puts}
 use Rattle.store_steps.specs.Views.{RepliesThere}
 use Rattle.store_steps.specs.Standing.{SessionKnown, Agrees, IsLogOf}
 
@@ -51,6 +56,35 @@ combine_steps low full next later more ahead = append_steps low full next later 
 abbrev pub read_steps : (low next later : Bool) → List NodeStep
 read_steps low next later = if_any low (Rebases ∷ []) ++ replay_steps next later
 
+-- ---- what is done on the shelf
+
+-- the log g once there is room: where there was none, the replica n has become its base
+abbrev pub with_room : (full : Bool) → NodeReplica → LogView → LogView
+with_room true n g = reclaimed n (told n g)
+with_room false n g = g
+
+-- where there was none, what that replica has applied is completed first; the log is h then
+abbrev pub room_deeds : (full : Bool) → LogView → List (ShelfStep Part)
+room_deeds true h = Raised h.base ∷ []
+room_deeds false h = []
+
+-- the log is taken, and put back as h
+abbrev pub append_deeds : (full : Bool) → (g h : LogView) → List (ShelfStep Part)
+append_deeds full g h = Took log_place (ALog g) ∷ (room_deeds full h ++ Put log_place (ALog h) ∷ [])
+
+-- while the replica n of this place is held, the log is; then what the replica has applied is completed, and it is put back as m
+abbrev pub answer_deeds : ℕ → (full : Bool) → (g h : LogView) → (n m : NodeReplica) → List (ShelfStep Part)
+answer_deeds place full g h n m = Took place (AReplica n) ∷ (append_deeds full g h ++ Raised m.replica.tail ∷ Put place (AReplica m) ∷ [])
+
+-- a replica that lacks something takes the log, and puts it back as it was; what it has applied is completed, once it is m
+abbrev pub follow_deeds : (lacks : Bool) → LogView → NodeReplica → List (ShelfStep Part)
+follow_deeds true g m = Took log_place (ALog g) ∷ Put log_place (ALog g) ∷ Raised m.replica.tail ∷ []
+follow_deeds false g m = []
+
+-- the replica n of this place is taken, comes up to m, and is put back
+abbrev pub look_deeds : ℕ → (lacks : Bool) → LogView → (n m : NodeReplica) → List (ShelfStep Part)
+look_deeds place lacks g n m = Took place (AReplica n) ∷ (follow_deeds lacks g m ++ Put place (AReplica m) ∷ [])
+
 -- ---- what the inner calls do, of which the session k is after then
 
 -- while it holds the log, the session has made room: g and n are h and m now
@@ -60,6 +94,8 @@ pub record MakesRoom (k after : SessionKnown) (g h : LogView) (n m : NodeReplica
   pub next : Bool
   pub later : Bool
   pub goes : (b : BatchView) (d : DeskView) → Goes k.progress.catalogue (sees k.progress g n (Held b) d) (room_steps low full next later) (sees after.progress h m (Held b) d)
+  pub is : h ≡ with_room full m g
+  pub did : Did k after (room_deeds full h)
 
 -- it has taken the log, appended the batch, and put the log back
 pub record AppendsBy (k after : SessionKnown) (b : BatchView) (n m : NodeReplica) (kept : RepliesView) : Type 0 where
@@ -75,6 +111,9 @@ pub record AppendsBy (k after : SessionKnown) (b : BatchView) (n m : NodeReplica
   pub later : Bool
   pub goes : (d : DeskView) → Goes k.progress.catalogue (sees from log n (Held b) d) (append_steps low full next later)
       (sees after.progress back m (InLog (record { batch = b; replies = kept })) d)
+  pub base : NodeReplica
+  pub is : back ≡ grown b.records (with_room full base log)
+  pub did : Did k after (append_deeds full log back)
 
 -- so it has of any batch that has these records
 abbrev pub AppendsAny : SessionKnown → SessionKnown → History → (n m : NodeReplica) → RepliesView → Type 0
@@ -88,24 +127,27 @@ pub record ReplaysBy (k after : SessionKnown) (g : LogView) (n m : NodeReplica) 
   pub ahead : Bool
   pub goes : (b : BatchView) (d : DeskView) → Goes k.progress.catalogue (sees k.progress g n (InLog (record { batch = b; replies = old })) d) (replay_steps more ahead)
       (sees after.progress log m (InLog (record { batch = b; replies = new })) d)
+  pub did : Did k after (Raised m.replica.tail ∷ [])
 
 -- whatever log agrees with what the session knew
 abbrev pub ReplaysAnywhere : (k after : SessionKnown) → (n m : NodeReplica) → (old new : RepliesView) → Type 0
 ReplaysAnywhere k after n m old new = (g : LogView) → IsLogOf k.progress g → ReplaysBy k after g n m old new
 
--- it has handed over the answers of the batch at the desk of its own node, where just its requests are claimed
-pub record HandsOver (k after : SessionKnown) (g : LogView) (n : NodeReplica) (b : BatchView) (kept : RepliesView) : Type 0 where
+-- it has handed over the answers of the batch at the desk of this node, its own, where just its requests are claimed
+pub record HandsOver (node : ℕ) (k after : SessionKnown) (g : LogView) (n : NodeReplica) (b : BatchView) (kept : RepliesView) : Type 0 where
   pub log : LogView
   pub log_is : IsLogOf after.progress log
   pub desk : DeskView
+  pub there : desk.node ≡ node
   pub mine : IsSessionOf k.progress.config desk.node k.session
   pub claimed : IsBatchOf desk b
   pub goes : Goes k.progress.catalogue (sees k.progress g n (InLog (record { batch = b; replies = kept })) desk) (Replies ∷ [])
       (sees after.progress log n Absent (replied (answered_batch kept b) desk))
+  pub did : Did k after (takes_and_puts (desk_place k.progress.config node) (ADesk desk) (ADesk (replied (answered_batch kept b) desk)))
 
 -- whatever log and replica agree with what the session knew
-abbrev pub HandsOverAnywhere : (k after : SessionKnown) → BatchView → RepliesView → Type 0
-HandsOverAnywhere k after b kept = (g : LogView) (n : NodeReplica) → IsLogOf k.progress g → Agrees k.progress n → HandsOver k after g n b kept
+abbrev pub HandsOverAnywhere : (node : ℕ) → (k after : SessionKnown) → BatchView → RepliesView → Type 0
+HandsOverAnywhere node k after b kept = (g : LogView) (n : NodeReplica) → IsLogOf k.progress g → Agrees k.progress n → HandsOver node k after g n b kept
 
 -- it has brought the replica up to the log, if that lacked something
 pub record FollowsBy (k after : SessionKnown) (n m : NodeReplica) : Type 0 where
@@ -119,11 +161,14 @@ pub record FollowsBy (k after : SessionKnown) (n m : NodeReplica) : Type 0 where
   pub next : Bool
   pub later : Bool
   pub goes : (d : DeskView) → Goes k.progress.catalogue (sees from log n Absent d) (read_steps low next later) (sees after.progress back m Absent d)
+  pub lacks : Bool
+  pub did : Did k after (follow_deeds lacks log m)
 
 -- ---- what the whole calls do
 
--- a combine as far as its answers: the batch b is appended, and replayed and completed, and the replica that did it is put back
-pub record AnswersBy (k after : SessionKnown) (b : BatchView) (kept : RepliesView) : Type 0 where
+-- a combine as far as its answers, with the replica of this node: the batch b is appended, and replayed and completed, and the replica that
+-- did it is put back
+pub record AnswersBy (node : ℕ) (k after : SessionKnown) (b : BatchView) (kept : RepliesView) : Type 0 where
   pub from : Progress CatalogueView
   pub since : Extends k.progress from
   pub log : LogView
@@ -142,9 +187,15 @@ pub record AnswersBy (k after : SessionKnown) (b : BatchView) (kept : RepliesVie
   pub ahead : Bool
   pub goes : (d : DeskView) → Goes k.progress.catalogue (sees from log own (Held b) d) (append_steps low full next later ++ replay_steps more ahead)
       (sees after.progress back left (InLog (record { batch = b; replies = kept })) d)
+  pub base : NodeReplica
+  pub put : LogView
+  pub put_is : put ≡ grown b.records (with_room full base log)
+  pub tries : List (ShelfStep Part)
+  pub nothing : ChangesNothing tries
+  pub did : Did k after (tries ++ answer_deeds (replica_place k.progress.config node) full log put own left)
 
--- a combine of the batch b, whose requests the session had claimed: from the log and the replica as the session found
--- them, to its answers at the desk of the session's own node, where just these requests are claimed
+-- a combine of the batch b, whose requests the session had claimed: from the log and the replica as the session took
+-- them, to its answers at the desk of the session's own node, as it took that, where just these requests are claimed
 pub record CombinesBy (k after : SessionKnown) (b answered : BatchView) : Type 0 where
   pub noted : k.note.batch ≡ unplaced b.records
   pub from : Progress CatalogueView
@@ -170,13 +221,22 @@ pub record CombinesBy (k after : SessionKnown) (b answered : BatchView) : Type 0
   pub ahead : Bool
   pub goes : Goes k.progress.catalogue (sees from log own (Held b) desk) (combine_steps low full next later more ahead)
       (sees after.progress back left Absent (replied (answered_batch kept b) desk))
+  -- the log as it was put back: with the batch, and with another base only where it was full
+  pub base : NodeReplica
+  pub put : LogView
+  pub put_is : put ≡ grown b.records (with_room full base log)
+  -- but for tries in vain the session took and put back nothing else, and completed nothing else
+  pub tries : List (ShelfStep Part)
+  pub nothing : ChangesNothing tries
+  pub did : Did k after (tries ++ (answer_deeds (replica_place k.progress.config desk.node) full log put own left
+      ++ takes_and_puts (desk_place k.progress.config desk.node) (ADesk desk) (ADesk (replied (answered_batch kept b) desk))))
 
 -- a look at its node's replica, at this point of the history: the completed tail is loaded, and the replica comes up
 -- with it, if it has not; then a read may be answered there, at the replica's own tail
 pub record LooksBy (k after : SessionKnown) (point : ℕ) : Type 0 where
   pub seen : ℕ
   pub more : List ℕ
-  pub read : after.tails_read ≡ k.tails_read ++ seen ∷ more
+  pub read : tails_in after.steps ≡ tails_in k.steps ++ seen ∷ more
   pub from : Progress CatalogueView
   pub since : Extends k.progress from
   pub begun : seen ≤ from.completed
@@ -194,6 +254,13 @@ pub record LooksBy (k after : SessionKnown) (point : ℕ) : Type 0 where
   pub goes : (d : DeskView) → Goes k.progress.catalogue (sees from log own Absent d) (read_steps low next later) (sees after.progress back left Absent d)
   pub may : may_answer seen after.progress.completed left ≡ true
   pub at : point ≡ left.replica.tail
+  -- but for its reads of the completed tail, and for tries in vain, the session took and put back nothing else
+  pub node : ℕ
+  pub mine : IsSessionOf k.progress.config node k.session
+  pub tries : List (ShelfStep Part)
+  pub nothing : ChangesNothing tries
+  pub lacks : Bool
+  pub did : Did k after (tries ++ look_deeds (replica_place k.progress.config node) lacks log own left)
 
 -- a read: it looks, and answers with the reply of there
 abbrev pub ReadsBy : (k after : SessionKnown) → Operation → ReadAnswer → Type 0

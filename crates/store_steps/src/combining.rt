@@ -33,7 +33,7 @@ pub(crate) fn try_combine(
     ensures held { IfErr result (λ place. place < here.entry.shared.shelf.now.places) }
     ensures stays { IfErr result (λ _. Learns seat.old seat.new IsStill) }
     ensures combined { IfOk result (λ _. Learns seat.old seat.new (λ k after. HasAnswered k after batch.now replies.new)) }
-    ensures goes { IfOk result (λ _. Relates seat.old seat.new (λ k after. AnswersBy k after batch.now replies.new)) }
+    ensures goes { IfOk result (λ _. Relates seat.old seat.new (λ k after. AnswersBy here.entry.caller.node k after batch.now replies.new)) }
 {
     let Shared {
         shelf,
@@ -65,7 +65,7 @@ fn append_and_replay<R: Wait>(
     requires claimed { Knows seat.old (λ k. IsFree here.caller k × HasClaimed k batch.now × IsOn here.shared k) }
     ensures same { seat.new.shelf ≡ seat.old.shelf }
     ensures combined { Learns seat.old seat.new (λ k after. HasAnswered k after batch.now replies.new) }
-    ensures goes { Relates seat.old seat.new (λ k after. AnswersBy k after batch.now replies.new) }
+    ensures goes { Relates seat.old seat.new (λ k after. AnswersBy here.entry.caller.node k after batch.now replies.new) }
 {
     for _ in rt.forever() {
         match try_combine(here, seat, batch, replies) {
@@ -109,7 +109,7 @@ pub(crate) fn try_hand_over(
     ensures stays { IfNone result ((seat.new ≡ seat.old) × (batch.new ≡ batch.old)) }
     ensures combined { IfSome result (λ _. Learns seat.old seat.new HasCombined) }
     ensures answered { IfSome result (λ _. batch.new ≡ answered_batch replies.now batch.old) }
-    ensures handed { IfSome result (λ _. Relates seat.old seat.new (λ k after. HandsOverAnywhere k after batch.old replies.now)) }
+    ensures handed { IfSome result (λ _. Relates seat.old seat.new (λ k after. HandsOverAnywhere here.entry.caller.node k after batch.old replies.now)) }
 {
     let Some(mut held) = here
         .shared
@@ -136,7 +136,7 @@ fn hand_over<R: Wait>(
     ensures same { seat.new.shelf ≡ seat.old.shelf }
     ensures combined { Learns seat.old seat.new HasCombined }
     ensures answered { batch.new ≡ answered_batch replies.now batch.old }
-    ensures handed { Relates seat.old seat.new (λ k after. HandsOverAnywhere k after batch.old replies.now) }
+    ensures handed { Relates seat.old seat.new (λ k after. HandsOverAnywhere here.entry.caller.node k after batch.old replies.now) }
 {
     for _ in rt.forever() {
         if let Some(()) = try_hand_over(here, seat, batch, replies) {

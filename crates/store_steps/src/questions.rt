@@ -64,9 +64,9 @@ fn answer_each(
     }
 }
 
-// Answers the questions on the replica of the caller's node, once that has reached the tail that is completed now. Where another session
-// holds the replica, or the log, which a replica that lacks something takes, it answers that place: the session holds nothing then.
-fn try_read_each(
+/// Answers the questions on the replica of the caller's node, once that has reached the tail that is completed now. Where another session
+/// holds the replica, or the log, which a replica that lacks something takes, it answers that place: the session holds nothing then.
+pub fn try_read_each(
     here: Here<'_>,
     seat: &mut Seat<Value>,
     questions: &[Question<'_>],

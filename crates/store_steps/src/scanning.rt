@@ -94,9 +94,9 @@ fn scan_there(node: &NodeReplica, begin: Beginning, keys: &mut [u8], values: &mu
     }
 }
 
-// Scans the maps of the caller's node, once its replica has reached the tail that is completed now. Where another session holds the
-// replica, or the log, which a replica that lacks something takes, it answers that place: the session holds nothing then, and nothing is given.
-fn try_scan(
+/// Scans the maps of the caller's node, once its replica has reached the tail that is completed now. Where another session holds the
+/// replica, or the log, which a replica that lacks something takes, it answers that place: the session holds nothing then, and nothing is given.
+pub fn try_scan(
     here: Here<'_>,
     seat: &mut Seat<Value>,
     begin: Beginning,

@@ -5,7 +5,7 @@ ghost use Rattle.loader.specs.CatalogueView.{sizes_for};
 ghost use Rattle.loader.specs.StoreState.{sizes_of};
 ghost use Rattle.oplog.specs.Limits.{IsWindow};
 ghost use Rattle.oplog.specs.Logs.{left_of, records_from, room_in, tail_of};
-ghost use Rattle.oplog.specs.declared.configuration.TheConstants.{MAX_LIMIT};
+ghost use Rattle.oplog.specs.declared.configuration.TheConstants.{ENDLESS};
 ghost use Rattle.replica.specs.StoreMeaning.{AreUpdates};
 ghost use Rattle.node.specs.Following.{Fits, IsNext, copied, exchanged, is_above, may_rebase, rebased, reclaimed, replayed, replayed_first, told};
 ghost use Rattle.accounts.specs.Moves.{unplaced};
@@ -26,7 +26,7 @@ use node::{
     NodeReplica, append_only, copy, exchange, follow, may_rebase, rebase, reclaim, replay,
     replay_first,
 };
-use oplog::{LogState, MAX_NODES, Record};
+use oplog::{LogState, MAX_NODES, MAX_SESSIONS, Record};
 use ownlock::{Held, LEADER, Seat, Shelf};
 use readpath::{ReadAnswer, answer, ready};
 use replica::Replies;
@@ -113,21 +113,24 @@ fn frees_room(log: &LogState, node: &NodeReplica, want: usize) -> bool
     kept + log.room() < dropped && want.min(log.left()) <= log.room() + dropped
 }
 
-// Whether each other node has appended something since the replica came up, so that no replica of a node that appends is behind it.
-fn is_last(log: &LogState, node: &NodeReplica, shared: Shared<'_>) -> bool
-    requires above { is_above log.now node.now ≡ true }
-    requires fits { Fits log.now node.now }
-{
-    let mut appended = [false; MAX_NODES as usize];
-    let mut others = 0usize;
-    for record in log.records_from(node.replica.tail()) {
-        let author = record.author as usize / shared.slots.max(1);
-        if author < appended.len() && !appended[author] {
-            appended[author] = true;
-            others = others.saturating_add(1);
+// Whether no node that appends would be behind the replica, if that were the base: at most one has appended since the base and not since the
+// replica came up, which is its own. A node that has appended nothing since the base is not waited for.
+fn is_last(log: &LogState, node: &NodeReplica, shared: Shared<'_>) -> bool {
+    let (base, tail) = (log.base(), node.replica.tail());
+    let mut ends = [base; MAX_NODES as usize];
+    for author in 0..MAX_SESSIONS {
+        let number = author / shared.slots.max(1);
+        if number < ends.len() {
+            ends[number] = ends[number].max(log.end_of(author));
         }
     }
-    shared.nodes <= others.saturating_add(1)
+    let mut behind = 0usize;
+    for end in ends {
+        if base < end && end <= tail {
+            behind = behind.saturating_add(1);
+        }
+    }
+    behind <= 1
 }
 
 // Whether the log's base is to move: where the log has no room for so many records, of those that the history may still have, or before that
@@ -199,7 +202,7 @@ fn bring_base(log: &mut LogState, node: &mut NodeReplica, catalogue: &Catalogue)
     ensures log { log.new ≡ reclaimed node.old (told node.old log.old) }
     ensures copied { result ≡ 0 → node.new ≡ copied log.new node.old }
     ensures exchanged { 0 < result → (node.new ≡ exchanged log.old node.old) × (result ≡ node.old.replica.tail - log.old.base) }
-    ensures within { tail_of log.new ≤ MAX_LIMIT }
+    ensures within { tail_of log.new ≤ ENDLESS }
 {
     if is_exchange_cheaper(log, catalogue) {
         let dropped = (node.replica.tail() - log.base()) as usize;

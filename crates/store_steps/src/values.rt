@@ -9,7 +9,7 @@ ghost use Rattle.store_steps.specs.Shelving.{IsOpenedLog, IsOpenedReplica};
 use combiner::Desk;
 use loader::{Catalogue, StoreState};
 use node::NodeReplica;
-use oplog::{Config, Hand, LogState};
+use oplog::{Hand, LogState, Sizes};
 use ownlock::Shelved;
 use replica::Replica;
 use std::alloc::{AllocError, Global};
@@ -18,7 +18,7 @@ use std::alloc::{AllocError, Global};
 #[derive(Drop)]
 pub struct Setup {
     /// Its sizes.
-    pub config: Config,
+    pub config: Sizes,
     /// Its maps and programs.
     pub catalogue: Catalogue,
 }

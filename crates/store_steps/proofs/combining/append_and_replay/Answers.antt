@@ -29,7 +29,7 @@ returns-in-Ok-clause-combined g c k is =
 pub returns-in-Ok-clause-goes : goal.returns-in-Ok-clause-goes
 returns-in-Ok-clause-goes g c k after is now =
     let m = c.loop.invariant.1 k is in
-    answers_since k m.0 after c.args.batch.now c.try_combine.new.replies m.2 (c.in-Ok.ensures.goes m.0 after m.1 now)
+    answers_since c.args.here.caller.node k m.0 after c.args.batch.now c.try_combine.new.replies m.2 (c.in-Ok.ensures.goes m.0 after m.1 now)
 
 pub loop-preserved : goal.loop-preserved
 loop-preserved g c = (

@@ -23,7 +23,7 @@ returns-in-Some-try_hand_over-clause-answered g c = c.in-Some-try_hand_over.ensu
 
 pub returns-in-Some-try_hand_over-clause-handed : goal.returns-in-Some-try_hand_over-clause-handed
 returns-in-Some-try_hand_over-clause-handed g c k after is now =
-    subst (λ z. HandsOverAnywhere k after z c.args.replies.now) c.loop.invariant.1 (c.in-Some-try_hand_over.ensures.handed k after (ap (λ s. s.sessions) c.loop.invariant.0 ∙ is) now)
+    subst (λ z. HandsOverAnywhere c.args.here.caller.node k after z c.args.replies.now) c.loop.invariant.1 (c.in-Some-try_hand_over.ensures.handed k after (ap (λ s. s.sessions) c.loop.invariant.0 ∙ is) now)
 
 pub loop-preserved : goal.loop-preserved
 loop-preserved g c = (c.in_default.ensures.stays.0 ∙ c.loop.invariant.0, c.in_default.ensures.stays.1 ∙ c.loop.invariant.1)

@@ -1,4 +1,4 @@
-use Rattle.std.proofs.Common.{◌+◌, [], ◌∷◌, sym, refl, ap, ◌∙◌, subst}
+use Rattle.std.proofs.Common.{◌+◌, [], ◌∷◌, Some, sym, refl, ap, ◌∙◌, subst}
 use Rattle.ownlock.proofs.Seats.{one_known}
 use Rattle.accounts.specs.declared.sessions.SessionNote.{SessionNote}
 use Rattle.accounts.specs.Moves.{unplaced}
@@ -105,8 +105,9 @@ returns-clause-goes c k after is now =
     let q = put_back c.replay_and_raise.new.seat.sessions (with_replica w m) r.0 c.in-Some.held.place p.0 in
     let first = c.in-Some-try_append_and_copy.ensures.goes t.0 a.0 t.2 a.1 c.args.batch.now (sym c.records.ensures.records) in
     let then = c.replay_and_raise.ensures.goes a.0 r.0 a.1 r.1 first.back first.back_is in
-    subst (λ s. AnswersBy k s c.args.batch.now new) (one_known c.put-2.new.seat q after p.2 now)
-    (answers_by k t.0 a.0 r.0 q c.args.batch.now n v m old new b.extends (b.agrees n c.replica_mut-node.ensures.replica) b.stands first then a.2.goes.extends r.2.goes.extends r.2.agrees f.extends f.stands r.2.within)
+    subst (λ s. AnswersBy c.args.here.caller.node k s c.args.batch.now new) (one_known c.put-2.new.seat q after p.2 now)
+    (answers_by c.args.here.caller.node k t.0 a.0 r.0 q c.args.batch.now n v m old new b.extends (b.agrees n c.replica_mut-node.ensures.replica) b.stands first then a.2.goes.extends r.2.goes.extends r.2.agrees f.extends f.stands r.2.within
+    w c.replica_mut-node.ensures.replica b.steps c.in-Some.held.place c.in-Some.ensures.place refl)
 
 -- ---- the replica is held
 
@@ -145,4 +146,4 @@ returns-in_default-try_append_and_copy-clause-stays c k is0 =
     let agrees = subst (Agrees t.0.progress) (sym e.1) (b.agrees c.replica_mut-node.result.now c.replica_mut-node.ensures.replica) in
     let p = c.put.ensures.put t.0 is in
     let f = back t.0 w b.holds c.try_append_and_copy.new.seat.sessions is n agrees (low_enough t.0 n agrees b.stands) c.in-Some.held.place held p.0 p.1.0 p.1.1 in
-    (_, p.2, still_back (1 + c.args.here.caller.node) k t.0 _ w b f)
+    (_, p.2, still_back (1 + c.args.here.caller.node) c.in-Some.held.place k t.0 _ w n b f (c.replica_mut-node.ensures.replica ∙ ap Some (sym e.1)) c.in-Some.ensures.place refl)

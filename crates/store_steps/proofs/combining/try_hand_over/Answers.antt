@@ -1,7 +1,10 @@
-use Rattle.std.proofs.Common.{ℕ, ◌+◌, sym, ap, subst}
+use Rattle.std.proofs.Common.{◌≡◌, ℕ, ◌+◌, ◌∷◌, ◌∙◌, sym, ap, subst}
+use Rattle.ownlock.specs.declared.known.ShelfStep.TheVariants.{Put}
+use Rattle.combiner.specs.Desks.{replied}
+use Rattle.node.specs.Answering.{answered_batch}
 use Rattle.ownlock.proofs.Seats.{one_known}
 use Rattle.oplog.specs.Sessions.{IsSessionOf}
-use Rattle.oplog.specs.declared.configuration.Config.{Config}
+use Rattle.oplog.specs.declared.configuration.Sizes.{Sizes}
 use Rattle.store_steps.specs.AtDesk.{IsReady}
 use Rattle.store_steps.specs.Lending.{with_desk}
 use Rattle.store_steps.specs.Standing.{IsFree, IsOnShelf, Stands}
@@ -11,6 +14,7 @@ use Rattle.store_steps.proofs.Stretches.{hands_over}
 use Rattle.store_steps.proofs.Combined.{handed, puts_replied, ready_on}
 use Rattle.store_steps.proofs.Parts.{desk_put}
 use Rattle.store_steps.proofs.TakenDesk.{is_at, is_desk, may_take_its_desk, same_desk, took_desk}
+use Rattle.store_steps.proofs.Visiting.{desk_node, did_at_desk}
 use Rattle.store_steps.proofs.combining.try_hand_over.Goals as goal
 
 pub try_take-requires-clause-may : goal.try_take-requires-clause-may
@@ -86,7 +90,13 @@ returns-clause-handed c k after is now log node log_is agrees =
     let p = c.put.ensures.put t.0 t.2 in
     let at = is_at c.args.here.caller k t.0 place v b x c.desk_mut.ensures.desk in
     let f = handed k t.0 _ b.note (puts.back p.0 p.1.0 p.1.1) in
-    subst (λ z. HandsOver k z log node c.args.batch.now c.args.replies.now) (one_known c.put.new.seat _ after p.2 now)
-    (hands_over k _ log node c.args.batch.now c.args.replies.now x log_is agrees f.extends f.stands.accounts.completed
-    (subst (λ (z : Config × ℕ). IsSessionOf z.0 x.node z.1) (λ j. (sym b.extends.config j, b.session j)) (c.args.here.caller.slot, at.within, at.own, at.near))
-    (is_batch t.0 c.args.batch.now c.args.replies.now ready c.args.here.caller.slot x at))
+    let there = ap (λ n. 1 + n + c.args.here.caller.node) (sym on.nodes_are) in
+    let y' = replied (answered_batch c.args.replies.now c.args.batch.now) x in
+    let becomes : y ≡ y' = c.reply.ensures.replied ∙ ap (λ z. replied z x) c.reply.ensures.answered in
+    let put_it = ap (λ z. Put c.in-Some.held.place (with_desk v z) ∷ t.0.steps) becomes in
+    subst (λ z. HandsOver c.args.here.caller.node k z log node c.args.batch.now c.args.replies.now) (one_known c.put.new.seat _ after p.2 now)
+    (hands_over c.args.here.caller.node k _ log node c.args.batch.now c.args.replies.now x log_is agrees f.extends f.stands.accounts.completed
+    (subst (λ (z : Sizes × ℕ). IsSessionOf z.0 x.node z.1) (λ j. (sym b.extends.config j, b.session j)) (c.args.here.caller.slot, at.within, at.own, at.near))
+    (is_batch t.0 c.args.batch.now c.args.replies.now ready c.args.here.caller.slot x at)
+    (desk_node c.args.here.caller k t.0 place v b x c.desk_mut.ensures.desk)
+    (did_at_desk c.args.here.caller k t.0 place v b free there x y' c.desk_mut.ensures.desk _ c.in-Some.held.place c.in-Some.ensures.place put_it))

@@ -1,4 +1,5 @@
-use Rattle.std.proofs.Common.{◌≡◌, ◌+◌, subst}
+use Rattle.std.proofs.Common.{◌≡◌, ◌+◌, ◌∷◌, ap, subst}
+use Rattle.ownlock.specs.declared.known.ShelfStep.TheVariants.{Put}
 use Rattle.ownlock.proofs.Seats.{one_known}
 use Rattle.store_steps.specs.Looking.{EachReadsBy}
 use Rattle.store_steps.proofs.Ready.{each_goes_ready, each_ready, lent_back, may_put_ready, node_is, ready_back}
@@ -40,4 +41,4 @@ returns-clause-goes c k after is now =
     let b = ready_back k r.0 (1 + c.args.here.caller.node) v r.2 c.try_hold_ready.new.seat.sessions r.1 _ same _ c.in_ok-held.ensures.place p.0 p.1.0 p.1.1 in
     subst (λ z. EachReadsBy k z c.args.questions.now c.tail-point.result c.answer_each.new.replies) (one_known c.put.new.seat _ after p.2 now)
     (each_goes_ready k r.0 (1 + c.args.here.caller.node) v r.2 _ b c.args.questions.now c.tail-point.result c.answer_each.new.replies c.args.here.shared.catalogue.now catalogue n (node_is k r.0 (1 + c.args.here.caller.node) v r.2 n c.replica_mut-node.ensures.replica)
-    c.tail-point.ensures.tail c.answer_each.ensures.replies)
+    c.tail-point.ensures.tail c.answer_each.ensures.replies c.in_ok-held.held.place c.in_ok-held.ensures.place (ap (λ z. Put c.in_ok-held.held.place z ∷ r.0.steps) same))

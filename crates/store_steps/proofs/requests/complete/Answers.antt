@@ -3,11 +3,12 @@ use Rattle.ownlock.proofs.Seats.{one_known}
 use Rattle.store_steps.specs.AtDesk.{HasAsked}
 use Rattle.store_steps.specs.Requests.{HasTurned}
 use Rattle.store_steps.specs.Standing.{IsFree}
+use Rattle.store_steps.specs.Updating.{Begins, Combines, TurnsBy, Waits}
 use Rattle.store_steps.proofs.Resumed.{asked_by, free_back, free_then, has_claimed, has_completed, resumed_combined, resumed_first, resumed_waited, shelf_then}
 use Rattle.store_steps.proofs.requests.complete.Goals as goal
 
 pub loop-init : goal.loop-init
-loop-init g c = (refl, λ k is. (k, is, resumed_first k))
+loop-init g c = (refl, λ k is. (k, is, resumed_first k, Begins k))
 
 pub turn-requires-clause-asked : goal.turn-requires-clause-asked
 turn-requires-clause-asked g c =
@@ -20,6 +21,11 @@ returns-in-Collects-clause-completed g c k o is asked =
     let m = c.loop.invariant.1 k is in
     let t = c.turn.ensures.turned m.0 o m.1 (asked_by k m.0 o m.2.note asked) in
     (t.0, t.1, has_completed k m.0 t.0 o c.turn.new.batch c.in-Collects.reply m.2 (subst (λ z. HasTurned m.0 t.0 o c.turn.new.batch z) c.in-Collects.is t.2))
+
+pub returns-in-Collects-clause-goes : goal.returns-in-Collects-clause-goes
+returns-in-Collects-clause-goes g c k after is now =
+    let m = c.loop.invariant.1 k is in
+    record { waited = m.0; rounds = m.3; batch = c.turn.new.batch; collects = subst (λ z. TurnsBy m.0 after c.turn.new.batch z) c.in-Collects.is (c.turn.ensures.goes m.0 after m.1 now) }
 
 pub combine-requires-clause-claimed : goal.combine-requires-clause-claimed
 combine-requires-clause-claimed g c =
@@ -39,8 +45,12 @@ loop-preserved-in-Combines g c = (
       let asked = subst (λ z. HasAsked z i.1) e i.4 in
       let m = c.loop.invariant.1 k is in
       let t = c.turn.ensures.turned m.0 i.1 m.1 (asked_by k m.0 i.1 m.2.note asked) in
-      let n = c.combine.ensures.combined t.0 t.1 in
-      (n.0, n.1, resumed_combined c.args.here.caller k m.0 t.0 n.0 i.1 c.turn.new.batch (subst (λ z. IsFree c.args.here.caller z) e i.3) asked m.2 (subst (λ z. HasTurned m.0 t.0 i.1 c.turn.new.batch z) c.in-Combines.is t.2) n.2),
+      let n = c.combine.ensures.combined t.0 t.1 in (
+        n.0,
+        n.1,
+        resumed_combined c.args.here.caller k m.0 t.0 n.0 i.1 c.turn.new.batch (subst (λ z. IsFree c.args.here.caller z) e i.3) asked m.2 (subst (λ z. HasTurned m.0 t.0 i.1 c.turn.new.batch z) c.in-Combines.is t.2) n.2,
+        Combines k m.0 t.0 n.0 c.turn.new.batch c.combine.new.batch m.3 (subst (λ z. TurnsBy m.0 t.0 c.turn.new.batch z) c.in-Combines.is (c.turn.ensures.goes m.0 t.0 m.1 t.1)) (c.combine.ensures.goes t.0 n.0 t.1 n.1),
+      ),
 )
 
 pub loop-preserved : goal.loop-preserved
@@ -51,6 +61,10 @@ loop-preserved g c = (
       let e = one_known c.args.seat.now i.0 k i.2 is in
       let asked = subst (λ z. HasAsked z i.1) e i.4 in
       let m = c.loop.invariant.1 k is in
-      let t = c.turn.ensures.turned m.0 i.1 m.1 (asked_by k m.0 i.1 m.2.note asked) in
-      (t.0, t.1, resumed_waited c.args.here.caller k m.0 t.0 i.1 c.turn.new.batch (subst (λ z. IsFree c.args.here.caller z) e i.3) m.2 (subst (λ z. HasTurned m.0 t.0 i.1 c.turn.new.batch z) c.in-Waits.is t.2)),
+      let t = c.turn.ensures.turned m.0 i.1 m.1 (asked_by k m.0 i.1 m.2.note asked) in (
+        t.0,
+        t.1,
+        resumed_waited c.args.here.caller k m.0 t.0 i.1 c.turn.new.batch (subst (λ z. IsFree c.args.here.caller z) e i.3) m.2 (subst (λ z. HasTurned m.0 t.0 i.1 c.turn.new.batch z) c.in-Waits.is t.2),
+        Waits k m.0 t.0 c.turn.new.batch m.3 (subst (λ z. TurnsBy m.0 t.0 c.turn.new.batch z) c.in-Waits.is (c.turn.ensures.goes m.0 t.0 m.1 t.1)),
+      ),
 )

@@ -17,3 +17,6 @@ returns-in-Some-try_post-clause-posted g c k is = c.in-Some-try_post.ensures.pos
 
 pub loop-preserved : goal.loop-preserved
 loop-preserved g c = c.in_default.ensures.stays ∙ c.loop.invariant
+
+pub returns-in-Some-try_post-clause-goes : goal.returns-in-Some-try_post-clause-goes
+returns-in-Some-try_post-clause-goes g c k after is now = c.in-Some-try_post.ensures.goes k after (ap (λ s. s.sessions) c.loop.invariant ∙ is) now

@@ -1,4 +1,4 @@
-use Rattle.std.proofs.Common.{◌+◌, ◌∙◌, sym, ap, subst}
+use Rattle.std.proofs.Common.{◌+◌, ◌∙◌, refl, sym, ap, subst}
 use Rattle.ownlock.proofs.Seats.{one_known}
 use Rattle.combiner.specs.Desks.{posted}
 use Rattle.replica.specs.StoreMeaning.{store_meaning}
@@ -8,6 +8,8 @@ use Rattle.store_steps.specs.Standing.{IsFree, IsOnShelf}
 use Rattle.store_steps.proofs.Parts.{desk_put}
 use Rattle.store_steps.proofs.TakenDesk.{is_at, is_desk, may_take_its_desk, same_desk, took_desk}
 use Rattle.store_steps.proofs.Turning.{has_posted, puts_posted}
+use Rattle.store_steps.specs.Updating.{PostsBy}
+use Rattle.store_steps.proofs.Visiting.{posts_by}
 use Rattle.store_steps.proofs.requests.try_post.Goals as goal
 
 pub try_take-requires-clause-may : goal.try_take-requires-clause-may
@@ -67,3 +69,18 @@ returns-clause-posted c k is =
     let puts = puts_posted c.args.here.caller k t.0 place v c.args.op.now b w y isw there c.try_take.new.seat.sessions t.2 may c.in-Some.held.place c.in-Some.ensures.place in
     let p = c.put.ensures.put t.0 t.2 in
     (_, p.2, has_posted c.args.here.caller k t.0 place v c.args.op.now b w y isw there c.try_take.new.seat.sessions t.2 may _ (puts.back p.0 p.1.0 p.1.1))
+
+pub returns-clause-goes : goal.returns-clause-goes
+returns-clause-goes c k after is now =
+    let i = c.requires.idle in
+    let e = one_known c.args.seat.now i.0 k i.1 is in
+    let free = subst (λ z. IsFree c.args.here.caller z) e i.2 in
+    let on = subst (λ z. IsOnShelf c.args.here.shared.shelf.now.places c.args.here.shared.nodes c.args.here.shared.catalogue.now z) e i.4 in
+    let v = c.in-Some.held.value in
+    let place = 1 + c.args.here.shared.nodes + c.args.here.caller.node in
+    let there = ap (λ n. 1 + n + c.args.here.caller.node) (sym on.nodes_are) in
+    let t = c.in-Some.ensures.taken k is in
+    let b = took_desk k t.0 c.args.here.caller place v free there t.1 in
+    let p = c.put.ensures.put t.0 t.2 in
+    subst (λ z. PostsBy k z c.args.op.now) (one_known c.put.new.seat _ after p.2 now)
+    (posts_by c.args.here.caller k t.0 place v b free there c.desk_mut.result.now c.post.new.desk c.desk_mut.ensures.desk _ c.in-Some.held.place c.in-Some.ensures.place refl c.args.op.now c.post.ensures.posted)

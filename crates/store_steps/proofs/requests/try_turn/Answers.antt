@@ -1,4 +1,4 @@
-use Rattle.std.proofs.Common.{◌+◌, sym, ap, subst}
+use Rattle.std.proofs.Common.{◌+◌, refl, sym, ap, subst}
 use Rattle.ownlock.proofs.Seats.{one_known}
 use Rattle.store_steps.specs.AtDesk.{IsTurn}
 use Rattle.store_steps.specs.Lending.{with_desk}
@@ -8,6 +8,8 @@ use Rattle.store_steps.proofs.Parts.{desk_put}
 use Rattle.store_steps.proofs.TakenDesk.{DeskMayBePut, desk_back, is_at, is_desk, may_take_its_desk, same_desk, took_desk}
 use Rattle.store_steps.proofs.Resumed.{asked_by}
 use Rattle.store_steps.proofs.Turning.{deed_in, put_turn}
+use Rattle.store_steps.specs.Updating.{TurnsBy}
+use Rattle.store_steps.proofs.Visiting.{turns_by}
 use Rattle.store_steps.proofs.requests.try_turn.Goals as goal
 
 pub try_take-requires-clause-may : goal.try_take-requires-clause-may
@@ -68,3 +70,18 @@ returns-clause-turned c k o is asked =
     let p = c.put.ensures.put t.0 t.2 in
     let back = (put_turn c.args.here.caller k t.0 place v w o b all t.2 asked y (desk_put v x y c.desk_mut.ensures.desk) c.look-turn.new.batch c.look-turn.result turn).back p.0 p.1.0 p.1.1 in
     (_, p.2, subst (λ z. HasTurned k (desk_back (deed_in all w) all t.0 z w p.0) o c.look-turn.new.batch c.look-turn.result) (sym c.in-Some.ensures.place) back)
+
+pub returns-clause-goes : goal.returns-clause-goes
+returns-clause-goes c k after is now =
+    let i = c.requires.asked in
+    let e = one_known c.args.seat.now i.0 k i.2 is in
+    let free = subst (λ z. IsFree c.args.here.caller z) e i.3 in
+    let on = subst (λ z. IsOnShelf c.args.here.shared.shelf.now.places c.args.here.shared.nodes c.args.here.shared.catalogue.now z) e i.5 in
+    let v = c.in-Some.held.value in
+    let place = 1 + c.args.here.shared.nodes + c.args.here.caller.node in
+    let there = ap (λ n. 1 + n + c.args.here.caller.node) (sym on.nodes_are) in
+    let t = c.in-Some.ensures.taken k is in
+    let b = took_desk k t.0 c.args.here.caller place v free there t.1 in
+    let p = c.put.ensures.put t.0 t.2 in
+    subst (λ z. TurnsBy k z c.look-turn.new.batch c.look-turn.result) (one_known c.put.new.seat _ after p.2 now)
+    (turns_by c.args.here.caller k t.0 place v b free there c.desk_mut.result.now c.look-turn.new.desk c.desk_mut.ensures.desk _ c.in-Some.held.place c.in-Some.ensures.place refl c.look-turn.new.batch c.look-turn.result c.look-turn.ensures.turn)

@@ -17,3 +17,6 @@ returns-in-Some-try_turn-clause-turned g c k o is = c.in-Some-try_turn.ensures.t
 
 pub loop-preserved : goal.loop-preserved
 loop-preserved g c = c.in_default.ensures.stays.0 ∙ c.loop.invariant
+
+pub returns-in-Some-try_turn-clause-goes : goal.returns-in-Some-try_turn-clause-goes
+returns-in-Some-try_turn-clause-goes g c k after is now = c.in-Some-try_turn.ensures.goes k after (ap (λ s. s.sessions) c.loop.invariant ∙ is) now

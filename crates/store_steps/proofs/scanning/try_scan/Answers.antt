@@ -1,4 +1,5 @@
-use Rattle.std.proofs.Common.{◌+◌, length, subst}
+use Rattle.std.proofs.Common.{◌+◌, ◌∷◌, ap, length, subst}
+use Rattle.ownlock.specs.declared.known.ShelfStep.TheVariants.{Put}
 use Rattle.ownlock.proofs.Seats.{one_known}
 use Rattle.store_steps.specs.Looking.{ScansBy}
 use Rattle.store_steps.proofs.Ready.{may_put_ready, node_is, ready_back, scanned_ready, scans_ready}
@@ -33,4 +34,4 @@ returns-clause-goes c k after is now =
     let b = ready_back k r.0 (1 + c.args.here.caller.node) v r.2 c.try_hold_ready.new.seat.sessions r.1 v r.2.is _ c.in_ok-held.ensures.place p.0 p.1.0 p.1.1 in
     subst (λ z. ScansBy k z c.args.begin.map c.args.begin.from (length c.args.keys.now) (length c.args.values.now) c.scan_there-scan.new.keys c.scan_there-scan.new.values c.scan_there-scan.result) (one_known c.put.new.seat _ after p.2 now)
     (scans_ready k r.0 (1 + c.args.here.caller.node) v r.2 _ b c.args.begin.map c.args.begin.from _ _ c.scan_there-scan.new.keys c.scan_there-scan.new.values c.scan_there-scan.result n (node_is k r.0 (1 + c.args.here.caller.node) v r.2 n c.replica.ensures.replica)
-    c.scan_there-scan.ensures.point c.scan_there-scan.ensures.gives)
+    c.scan_there-scan.ensures.point c.scan_there-scan.ensures.gives c.in_ok-held.held.place c.in_ok-held.ensures.place (ap (λ z. Put c.in_ok-held.held.place z ∷ r.0.steps) r.2.is))

@@ -4,7 +4,7 @@ use Rattle.ownlock.proofs.Seats.{one_known}
 use Rattle.node.specs.Following.{replayed, copied}
 use Rattle.replica.specs.StoreMeaning.{AreUpdates}
 use Rattle.oplog.specs.Logs.{records_from}
-use Rattle.oplog.specs.declared.configuration.TheConstants.{MAX_LIMIT}
+use Rattle.oplog.specs.declared.configuration.TheConstants.{ENDLESS}
 use Rattle.store_steps.specs.Rooms.{Owes, caught_up}
 use Rattle.store_steps.specs.Standing.{HasPlace}
 use Rattle.store_steps.specs.Whole.{MakesRoom}
@@ -176,7 +176,7 @@ returns-else-is_base_due-clause-owes c =
     let n = c.rebase_if_behind.new.node in
     let u = kept_up i.0.progress g c.args.node.now i.2.log i.2.follows n c.rebase_if_behind.ensures.behind c.rebase_if_behind.ensures.above in
     let t = i.2.log.tail in let top = c.copy.ensures.within in
-    let few : length i.0.progress.history ≤ MAX_LIMIT = omega (arith, t, top) in
+    let few : length i.0.progress.history ≤ ENDLESS = omega (arith, t, top) in
     let o = none_owed i.0.progress g n i.2.log u.0 u.1 few i.2.well in
     subst (λ z. Owes z g c.copy.new.node 0) i.2.catalogue (subst (λ z. Owes i.0.progress.catalogue g z 0) (sym c.copy.ensures.node) o)
 

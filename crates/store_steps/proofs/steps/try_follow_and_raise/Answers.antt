@@ -1,4 +1,4 @@
-use Rattle.std.proofs.Common.{◌≡◌, ap, sym, subst, ◌∙◌, arith}
+use Rattle.std.proofs.Common.{◌≡◌, refl, ap, sym, subst, ◌∙◌, arith}
 use Rattle.loader.specs.CatalogueView.{sizes_for}
 use Rattle.ownlock.proofs.Seats.{one_known}
 use Rattle.node.specs.Following.{replayed, copied}
@@ -160,4 +160,4 @@ returns-clause-goes c k after is now =
     let here = c.tail-followed.ensures.tail in
     subst (λ z. FollowsBy k z n v) (one_known c.raise_to.new.seat r.0 after r.1 now)
     (follows_by k t.0 _ r.0 h n y v b.extends log_is b.follows c.rebase_if_behind.ensures.behind c.rebase_if_behind.ensures.above (c.follow.ensures.node ∙ ap (λ d. replayed d (copied h y)) same) s.on
-    (raised_as _ r.0 _ v.replica.tail r.2 (omega (arith, here))))
+    (raised_as _ r.0 _ v.replica.tail r.2 (omega (arith, here))) x c.log-log.ensures.log b.steps _ c.in-Some.ensures.place refl)

@@ -1,9 +1,12 @@
-use Rattle.std.proofs.Common.{sym, ap, refl, subst, ◌+◌, ◌∙◌, [], ◌∷◌, arith}
-use Rattle.ownlock.specs.Seats.{having_read}
+use Rattle.std.proofs.Common.{sym, ap, refl, subst, Some, ◌+◌, ◌∙◌, [], ◌∷◌, arith}
+use Rattle.ownlock.specs.declared.known.ShelfStep.TheVariants.{Read, Took}
+use Rattle.ownlock.specs.Seats.{having_read, tails_in}
 use Rattle.ownlock.proofs.Seats.{one_known}
 use Rattle.store_steps.specs.Standing.{Agrees, IsFree}
 use Rattle.store_steps.proofs.Taken.{free_on, may_take_replica, took_replica}
 use Rattle.store_steps.proofs.Finished.{holds_on, may_put_replica, back}
+use Rattle.store_steps.specs.Doing.{AReplica}
+use Rattle.store_steps.proofs.Doing.{did_one, did_then, replica_part}
 use Rattle.store_steps.proofs.Tried.{low_enough, still_back, still_then, still_told}
 use Rattle.store_steps.proofs.steps.try_hold_ready.Goals as goal
 
@@ -67,7 +70,11 @@ returns-clause-ready c k is =
         held = r.2.goes.held ∙ b.held;
         session = r.2.goes.session ∙ b.session;
         note = r.2.note ∙ b.note;
-        read = r.2.goes.tails_read ∙ b.tails_read;
+        read = r.2.goes.tails ∙ ap tails_in b.steps;
+        did = did_then k told t.0 (Read c.done-done.result ∷ []) (Took (1 + c.args.here.caller.node) (AReplica c.replica_mut-node.result.now) ∷ []) (did_one k told (Read c.done-done.result) (Read c.done-done.result) refl refl)
+            (did_one told t.0 (Took (1 + c.args.here.caller.node) w) (Took (1 + c.args.here.caller.node) (AReplica c.replica_mut-node.result.now)) b.steps
+            (ap (Took (1 + c.args.here.caller.node)) (replica_part w c.replica_mut-node.result.now c.replica_mut-node.ensures.replica)));
+        some = c.replica_mut-node.ensures.replica;
       },
     )
 
@@ -112,4 +119,4 @@ returns-in_default-try_reach-clause-stays c k is0 =
     let agrees = subst (Agrees t.0.progress) (sym e.1) (b.agrees c.replica_mut-node.result.now c.replica_mut-node.ensures.replica) in
     let p = c.put.ensures.put t.0 is in
     let f = back t.0 w b.holds c.try_reach.new.seat.sessions is n agrees (low_enough t.0 n agrees b.stands) c.in-Some.held.place held p.0 p.1.0 p.1.1 in
-    (_, p.2, still_then k told _ (still_told k d.0 c.done-done.result d.1.0 free.held d.1.1 d.2) (still_back (1 + c.args.here.caller.node) told t.0 _ w b f))
+    (_, p.2, still_then k told _ (still_told k d.0 c.done-done.result d.1.0 free.held d.1.1 d.2) (still_back (1 + c.args.here.caller.node) c.in-Some.held.place told t.0 _ w n b f (c.replica_mut-node.ensures.replica ∙ ap Some (sym e.1)) c.in-Some.ensures.place refl))

@@ -1,4 +1,5 @@
-use Rattle.std.proofs.Common.{subst, ◌+◌, ◌≡◌}
+use Rattle.std.proofs.Common.{subst, ap, ◌∷◌, ◌+◌, ◌≡◌}
+use Rattle.ownlock.specs.declared.known.ShelfStep.TheVariants.{Put}
 use Rattle.ownlock.proofs.Seats.{one_known}
 use Rattle.store_steps.specs.Asking.{asked_op}
 use Rattle.store_steps.specs.Whole.{ReadsBy}
@@ -41,4 +42,4 @@ returns-clause-goes c k after is now =
     let b = ready_back k r.0 (1 + c.args.here.caller.node) v r.2 c.try_hold_ready.new.seat.sessions r.1 _ same _ c.in_ok-held.ensures.place p.0 p.1.0 p.1.1 in
     subst (λ z. ReadsBy k z (asked_op c.args.question) c.answer_there-answer.result) (one_known c.put.new.seat _ after p.2 now)
     (reads_ready k r.0 (1 + c.args.here.caller.node) v r.2 _ b (asked_op c.args.question) c.answer_there-answer.result c.args.here.shared.catalogue.now catalogue n (node_is k r.0 (1 + c.args.here.caller.node) v r.2 n c.replica_mut-node.ensures.replica)
-    c.answer_there-answer.ensures.point c.answer_there-answer.ensures.reply)
+    c.answer_there-answer.ensures.point c.answer_there-answer.ensures.reply c.in_ok-held.held.place c.in_ok-held.ensures.place (ap (λ z. Put c.in_ok-held.held.place z ∷ r.0.steps) same))

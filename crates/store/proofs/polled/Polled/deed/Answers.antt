@@ -4,7 +4,9 @@ use Rattle.accounts.specs.Accounts.{Extends}
 use Rattle.store_steps.specs.Stages.{HasDone}
 use Rattle.store_steps.specs.Views.{SessionView, session_view}
 use Rattle.store.specs.Sessions.{IsOf}
-use Rattle.store.proofs.Between.{on_at, out_at, own_on, room_on}
+use Rattle.store.proofs.Between.{known_at, on_at, out_at, own_on, room_on}
+use Rattle.store_steps.specs.Updating.{DeedGoes}
+use Rattle.store.proofs.Invoked.{goes_seen}
 use Rattle.store.proofs.polled.Polled.deed.Goals as goal
 
 pub go_on-requires-clause-on : goal.go_on-requires-clause-on
@@ -48,3 +50,10 @@ returns-clause-done c o is =
     let new = session_view c.go_on.new.seat in
     let e = same_Some h.request o (sym h.waited ∙ (ap (λ (z : SessionView). z.note.pending) c.self.view_is ∙ is)) in
     subst (λ z. HasDone c.args.self.now new z c.go_on.result) e (subst (λ (z : SessionView). HasDone z new h.request c.go_on.result) c.self.view_is h.done)
+
+pub returns-clause-goes : goal.returns-clause-goes
+returns-clause-goes c =
+    let s = c.self.inside in
+    let k = known_at s.seat s.caller s.batch s.replies s.stage c.self.invariant.0 in
+    let f = known_at c.go_on.new.seat s.caller c.go_on.new.batch c.go_on.new.replies c.go_on.new.stage c.go_on.ensures.gone.polled in
+    goes_seen (λ x y. DeedGoes x y c.go_on.result) s.seat c.go_on.new.seat c.args.self.now k.0 f.0 k.1 k.3 c.self.view_is f.1 f.3 (c.go_on.ensures.goes k.0 f.0 k.1 f.1)

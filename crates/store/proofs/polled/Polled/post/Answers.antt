@@ -8,6 +8,8 @@ use Rattle.store.specs.Sessions.{HasRoom, IsOf}
 use Rattle.store_steps.proofs.Gone.{on_known}
 use Rattle.store.proofs.Between.{idle_at, on_at, own_on, post_grown, post_session, post_told, post_well, posted_at, room_on, well_at}
 use Rattle.store_steps.proofs.StoreLaws.{store_laws}
+use Rattle.store_steps.specs.Updating.{PostsBy}
+use Rattle.store.proofs.Invoked.{goes_seen}
 use Rattle.store.proofs.polled.Polled.post.Goals as goal
 
 pub try_post-requires-clause-idle : goal.try_post-requires-clause-idle
@@ -106,3 +108,11 @@ returns-clause-posted c =
     let i = idle_at s.seat s.caller s.batch s.replies s.stage c.self.invariant.0 none in
     let p = c.in-Some.ensures.posted i.known i.is in
     subst (λ (z : SessionView). HasPostedFor z (session_view new) c.args.op) c.self.view_is (post_told s.seat new s.caller i p.0 c.args.op p.1 p.2)
+
+pub returns-clause-goes : goal.returns-clause-goes
+returns-clause-goes c =
+    let s = c.self.inside in
+    let none = ap (λ (z : SessionView). z.note.pending) c.self.view_is ∙ c.requires.idle in
+    let i = idle_at s.seat s.caller s.batch s.replies s.stage c.self.invariant.0 none in
+    let p = c.in-Some.ensures.posted i.known i.is in
+    goes_seen (λ x y. PostsBy x y c.args.op) s.seat c.try_post.new.seat c.args.self.now i.known p.0 i.is i.free.held c.self.view_is p.1 p.2.back.held (c.in-Some.ensures.goes i.known p.0 i.is p.1)

@@ -5,6 +5,8 @@ use Rattle.store_steps.specs.Stages.{HasDone}
 use Rattle.store_steps.specs.Views.{SessionView}
 use Rattle.store.proofs.Between.{way_then, well_at}
 use Rattle.store_steps.proofs.StoreLaws.{store_laws}
+use Rattle.store.specs.Sessions.{known_of}
+use Rattle.store_steps.specs.Updating.{DeedGoes, Rests, Then}
 use Rattle.store.proofs.polled.Polled.try_complete.Goals as goal
 
 pub loop-init : goal.loop-init
@@ -17,6 +19,7 @@ loop-init c =
       grown = store_laws.extends_self c.args.self.now.progress;
       well = subst (λ (z : SessionView). IsWellFormed store_meaning z.progress) c.self.view_is (well_at s.seat s.caller s.batch s.replies s.stage c.self.invariant.0);
       way = (refl, refl);
+      deeds = Rests (known_of c.args.self.now);
     }
 
 pub deed-requires-clause-asked : goal.deed-requires-clause-asked
@@ -34,4 +37,9 @@ loop-preserved c =
       grown = store_laws.extends_on _ _ _ i.grown c.deed.ensures.grown;
       well = c.deed.ensures.well_formed;
       way = way_then c.args.self.now c.loop.self c.deed.new.self i.way d;
+      deeds = Then (known_of c.args.self.now) (known_of c.loop.self) (known_of c.deed.new.self) i.deeds (subst (λ z. DeedGoes (known_of c.loop.self) (known_of c.deed.new.self) z) c.in-Went.is c.deed.ensures.goes);
     }
+
+pub returns-in-Busy-clause-goes : goal.returns-in-Busy-clause-goes
+returns-in-Busy-clause-goes c =
+    Then (known_of c.args.self.now) (known_of c.loop.self) (known_of c.deed.new.self) c.loop.invariant.deeds (subst (λ z. DeedGoes (known_of c.loop.self) (known_of c.deed.new.self) z) c.in-Busy.is c.deed.ensures.goes)

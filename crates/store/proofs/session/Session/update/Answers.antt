@@ -1,9 +1,10 @@
 use Rattle.std.proofs.Common.{sym, ap, ◌∙◌, subst, refl}
 use Rattle.loader.specs.CatalogueView.{CatalogueView}
 use Rattle.store_steps.specs.Views.{SessionView, session_view}
+use Rattle.store_steps.specs.Updating.{UpdatesBy}
 use Rattle.store.specs.Sessions.{TellsUpdate}
 use Rattle.store_steps.proofs.Views.{seen_as}
-use Rattle.store.proofs.Invoked.{has_asked, has_grown, invoked, is_idle, same_session, stays_well, still_of, tells_update}
+use Rattle.store.proofs.Invoked.{goes_seen, has_asked, has_grown, invoked, is_idle, same_session, stays_well, still_of, tells_update}
 use Rattle.store.proofs.session.Session.update.Goals as goal
 
 pub invariant_of-self : goal.invariant_of-self
@@ -43,4 +44,10 @@ returns g c =
       grown = has_grown c.args.store.now c.args.self.now new c.self.inside.seat.shelf seat.shelf k f.0 op c.complete-reply.result v was now;
       well_formed = stays_well c.args.store.now c.args.self.now new c.self.inside.seat.shelf seat.shelf k f.0 op c.complete-reply.result v was now;
       answered = subst (λ r. TellsUpdate c.args.self.now new op r) (sym c.answer_of.ensures.said) (tells_update c.args.store.now c.args.self.now new c.self.inside.seat.shelf seat.shelf k f.0 op c.complete-reply.result v was now c.self.invariant.0.pending c.self.invariant.0.batch);
+      goes = (
+        c.complete-reply.result,
+        c.answer_of.ensures.said,
+        goes_seen (λ k f. UpdatesBy k f op c.complete-reply.result) c.self.inside.seat seat c.args.self.now k f.0 c.self.invariant.0.is c.self.invariant.0.free.held c.self.view_is f.1 v.held
+            (record { asked = p.0; posts = c.post.ensures.goes k p.0 c.self.invariant.0.is p.1; completes = c.complete-reply.ensures.goes p.0 f.0 p.1 f.1 }),
+      );
     }

@@ -1,0 +1,17 @@
+use Rattle.store_steps.specs.Snapshots.{TakesBy}
+use Rattle.store.proofs.Invoked.{goes_seen}
+use Rattle.store.proofs.Looked.{idle_now, may_look}
+use Rattle.store.proofs.polled.Polled.try_snapshot.Goals as goal
+
+pub try_snapshot-requires-clause-idle : goal.try_snapshot-requires-clause-idle
+try_snapshot-requires-clause-idle c =
+    let s = c.self.inside in
+    let e = c.shared.ensures in
+    may_look s.seat s.caller s.batch s.replies s.stage c.self.invariant.0 c.args.self.now c.self.view_is c.requires.idle c.shared.result c.args.store.now c.requires.own e.places e.nodes e.catalogue
+
+pub returns-clause-goes : goal.returns-clause-goes
+returns-clause-goes c =
+    let s = c.self.inside in
+    let i = idle_now s.seat s.caller s.batch s.replies s.stage c.self.invariant.0 c.args.self.now c.self.view_is c.requires.idle in
+    let t = c.in-Ok.ensures.taken i.known i.is in
+    goes_seen (λ k f. TakesBy k f c.in-Ok.point c.try_snapshot.new.into) s.seat c.try_snapshot.new.seat c.args.self.now i.known t.0 i.is i.free.held c.self.view_is t.1 t.2.0.held (c.in-Ok.ensures.goes i.known t.0 i.is t.1)

@@ -1,0 +1,51 @@
+use Rattle.std.proofs.Common.{refl, subst, ◌∙◌}
+use Rattle.ownlock.proofs.Seats.{one_known}
+use Rattle.store_steps.specs.Getting.{GetsBy, IsGotBy}
+use Rattle.store_steps.specs.Standing.{IsFree}
+use Rattle.store_steps.proofs.Looked.{gets_since, got_since}
+use Rattle.store_steps.proofs.Taken.{free_on, shelf_on}
+use Rattle.store_steps.proofs.Tried.{still_self, still_then}
+use Rattle.store_steps.proofs.getting.get_waiting.Goals as goal
+
+pub loop-init : goal.loop-init
+loop-init g c = (
+  refl,
+  λ k is.
+      let i = c.requires.idle in
+      let free = subst (λ z. IsFree c.args.here.caller z) (one_known c.args.seat.now i.0 k i.1 is) i.2.0 in
+      (k, is, still_self k free.held),
+  refl,
+)
+
+pub try_get-requires-clause-idle : goal.try_get-requires-clause-idle
+try_get-requires-clause-idle g c =
+    let i = c.requires.idle in
+    let m = c.loop.invariant.1 i.0 i.1 in
+    (m.0, m.1, (free_on c.args.here.caller i.0 m.0 m.2.session m.2.held m.2.extends i.2.0, shelf_on _ _ _ i.0 m.0 m.2.extends i.2.1))
+
+pub returns-in-Ok-clause-got : goal.returns-in-Ok-clause-got
+returns-in-Ok-clause-got g c k is =
+    let m = c.loop.invariant.1 k is in
+    let t = c.in-Ok.ensures.got m.0 m.1 in (
+      t.0,
+      t.1,
+      got_since k m.0 t.0 m.2 c.args.of.map c.args.of.key.now c.args.value.now c.try_get.new.value c.in-Ok.found
+          (subst (λ z. IsGotBy m.0 t.0 c.args.of.map c.args.of.key.now z c.try_get.new.value c.in-Ok.found) c.loop.invariant.2 t.2),
+    )
+
+pub returns-in-Ok-clause-goes : goal.returns-in-Ok-clause-goes
+returns-in-Ok-clause-goes g c k after is now =
+    let m = c.loop.invariant.1 k is in
+    let t = c.in-Ok.ensures.got m.0 m.1 in
+    gets_since k m.0 after m.2 c.args.of.map c.args.of.key.now c.args.value.now c.try_get.new.value c.in-Ok.found t.2.1.0
+    (subst (λ z. GetsBy m.0 after c.args.of.map c.args.of.key.now z c.try_get.new.value c.in-Ok.found) c.loop.invariant.2 (c.in-Ok.ensures.goes m.0 after m.1 now))
+
+pub loop-preserved : goal.loop-preserved
+loop-preserved g c = (
+  c.try_get.ensures.same ∙ c.loop.invariant.0,
+  λ k is.
+      let m = c.loop.invariant.1 k is in
+      let t = c.in-Err.ensures.stays m.0 m.1 in
+      (t.0, t.1, still_then k m.0 t.0 m.2 t.2),
+  c.in-Err.ensures.kept ∙ c.loop.invariant.2,
+)
