@@ -109,10 +109,11 @@ typedef struct nrbpf_config {
     uint32_t nodes;                             // 1 to 8: each has a copy of the maps, by which it answers reads
     uint32_t slots;                             // 1 to 16: the sessions of a node
     uint32_t window;                            // 16 to 4096: the updates that the log keeps
-    uint32_t limit;                             // 1 to 1000000: the updates of the whole history
+    uint32_t limit;                             // the updates of the whole history, behind which there is S4; NRBPF_ENDLESS: no end
     uint32_t spare;                             // 0 to 16: the programs that may be installed later
 } nrbpf_config;
-#define NRBPF_CONFIG(nodes, slots) {NRBPF_VERSION, (nodes), (slots), 4096, 1000000, 0}
+#define NRBPF_ENDLESS 0
+#define NRBPF_CONFIG(nodes, slots) {NRBPF_VERSION, (nodes), (slots), 4096, NRBPF_ENDLESS, 0}
 
 typedef struct nrbpf_file {                     // a program file: its name as the manifest has it, and its hexadecimal digits
     const char *name;

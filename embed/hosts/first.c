@@ -1,6 +1,6 @@
 // first.c: the smallest whole host. It opens a store of the counter in examples/counter, counts, and reads. docs/EMBEDDING.md shows how to
-// compile it; it runs in the top folder of the repository.
-#include "../nrbpf.h"
+// compile it, also with what is installed; it runs in the top folder of the repository.
+#include <nrbpf.h>
 #include <inttypes.h>
 #include <stdio.h>
 #include <string.h>

@@ -68,7 +68,7 @@ class Refused(Exception):
 class Store:
     """A store, which ends behind `with`."""
 
-    def __init__(self, library, manifest, files, nodes=1, slots=1, window=4096, limit=1_000_000, spare=0):
+    def __init__(self, library, manifest, files, nodes=1, slots=1, window=4096, limit=0, spare=0):
         self.library, self.at, error = library, c.c_void_p(), Error()
         texts = [(name.encode(), text.encode()) for name, text in files.items()]
         given = (File * len(texts))(*[File(name, len(name), text, len(text)) for name, text in texts])

@@ -179,7 +179,7 @@ fn main() -> Result<(), Refused> {
     let names = ["examples/counter/bump.hex", "examples/counter/peek.hex"];
     let texts = names.map(text_of);
     let files = [(names[0], texts[0].as_str()), (names[1], texts[1].as_str())];
-    let config = Config { nodes: 2, slots: 2, window: 4_096, limit: 1_000_000, spare: 1 };
+    let config = Config { nodes: 2, slots: 2, window: 4_096, limit: 0, spare: 1 };
     let manifest = text_of("examples/counter/manifest");
 
     let wrong = manifest.replace("bump update", "bump read");

@@ -9,6 +9,7 @@
 //     take USER TOKENS    1, and they are taken; 0 where there are fewer; -7 where there is no room for another user
 //     left USER           how many there are
 // and `bad` to any other. It runs in the top folder of the repository until SIGINT or SIGTERM, and then prints what it did.
+#include "../../examples/c/rate_limiter/rate_limiter.h"
 #include "../nrbpf.h"
 #include <inttypes.h>
 #include <pthread.h>
@@ -23,10 +24,7 @@
 
 enum { NODES = 2, SLOTS = 16, MOST_CLIENTS = NODES * SLOTS, MOST_LINE = 80, MOST_FILE = 8192 };
 
-// The arguments of the programs, as rate_limiter.c has them.
-static struct { uint32_t burst, period; } settings;
-typedef struct bucket { uint64_t user, now; } bucket;
-typedef struct taking { bucket of; uint64_t tokens; } taking;
+static struct settings settings;                // the arguments of the programs are those of rate_limiter.h
 
 static uint32_t limit = 1000000;
 
@@ -152,12 +150,13 @@ static uint64_t now(void) {
 }
 
 static nrbpf_status call(client *of, const char *line, nrbpf_answer *answer) {
-    taking it = {{0, now()}, 0};
+    struct take take = {.now = now()};
+    struct left left = {.now = take.now};
     char end;
-    if (sscanf(line, "take %" SCNu64 " %" SCNu64 "%c", &it.of.user, &it.tokens, &end) == 3 && end == '\n')
-        return nrbpf_update(of->session, of->in->take, &it, sizeof it, answer);
-    if (sscanf(line, "left %" SCNu64 "%c", &it.of.user, &end) == 2 && end == '\n')
-        return nrbpf_read(of->session, of->in->left, &it.of, sizeof it.of, answer);
+    if (sscanf(line, "take %" SCNu64 " %" SCNu64 "%c", &take.user, &take.tokens, &end) == 3 && end == '\n')
+        return nrbpf_update(of->session, of->in->take, &take, sizeof take, answer);
+    if (sscanf(line, "left %" SCNu64 "%c", &left.user, &end) == 2 && end == '\n')
+        return nrbpf_read(of->session, of->in->left, &left, sizeof left, answer);
     return NRBPF_S1;
 }
 

@@ -7,8 +7,8 @@ ghost use Rattle.std.specs.Borrow.{sem};
 ghost use Rattle.std.specs.Mem.{type_size};
 ghost use Rattle.std.specs.Ptr.{room_at};
 ghost use Rattle.host_calls.specs.Calls.{Goes};
-ghost use Rattle.host_calls.specs.Stores.{Closes, Finds, Gives, Takes};
-ghost use Rattle.host_calls.specs.Leaving.{Leaves, MayClose};
+ghost use Rattle.host_calls.specs.Stores.{Closes, Finds, Gives, IsItsOwn, Takes};
+ghost use Rattle.host_calls.specs.Leaving.{Leaves};
 ghost use Rattle.host_calls.specs.Openings.{IsOpened};
 ghost use Rattle.host_calls.specs.Rooms.{holds_session, holds_state, holds_store};
 ghost use Rattle.host_calls.specs.contracts.handles.SessionHandle.{the_row as the_session};
@@ -110,11 +110,11 @@ pub unsafe extern "C" fn nrbpf_raw_attach(at: *mut u8, room: *mut u8)
     );
 }
 
-/// Takes a session back into its store. Its handle is closed then, and is as it was where the session is refused.
+/// Takes a session back into its store, of which it is. Its handle is closed then, and is as it was where the session is refused.
 #[unsafe(no_mangle)]
 pub unsafe extern "C" fn nrbpf_raw_detach(at: *mut u8, session: *mut u8)
     ghost values: { StoreHandle × SessionHandle }
-    requires* { sem 𝓛 (holds_store at values.0) ∗ sem 𝓛 (holds_session session values.1) }
+    requires* { sem 𝓛 (holds_store at values.0) ∗ sem 𝓛 (holds_session session values.1) ∗ ⌜ IsItsOwn values.0 values.1 ⌝ }
     ensures* { ∃ₛ (λ after. ∃ₛ (λ left. sem 𝓛 (holds_store at after) ∗ sem 𝓛 (holds_session session left) ∗ ⌜ Takes values.0 values.1 after left ⌝)) }
 {
     detached(
@@ -137,7 +137,7 @@ pub unsafe extern "C" fn nrbpf_raw_close(at: *mut u8)
 #[unsafe(no_mangle)]
 pub unsafe extern "C" fn nrbpf_raw_close_into(alloc: Global, at: *mut u8, room: *mut u8)
     ghost value: { StoreHandle }
-    requires* { sem 𝓛 (holds_store at value) ∗ sem 𝓛 (room_at the_state room) ∗ ⌜ MayClose value ⌝ }
+    requires* { sem 𝓛 (holds_store at value) ∗ sem 𝓛 (room_at the_state room) }
     ensures* { ∃ₛ (λ left. ∃ₛ (λ given. sem 𝓛 (holds_store at left) ∗ sem 𝓛 (holds_state room given) ∗ ⌜ Leaves value left given ⌝)) }
 {
     std::ptr::write(

@@ -1,5 +1,5 @@
 -- What a store leaves that is closed into the state that it ends in.
-use Rattle.std.specs.Prelude.{◌≡◌, ◌⊎◌, ◌++◌, List, [], ◌∷◌, Bool, true, false, None, Some, Option, IfSome, MatchOption, All, length, is_some}
+use Rattle.std.specs.Prelude.{◌≡◌, ◌⊎◌, ◌++◌, List, [], ◌∷◌, Bool, true, false, None, Some, Option, MatchOption, is_some}
 use Rattle.std.specs.List.{list_all}
 use Rattle.std.specs.Arc.{arc_value}
 use Rattle.std.specs.declared.alloc.Global.{Global}
@@ -8,32 +8,12 @@ use Rattle.loader.specs.StoreState.{StoreState}
 use Rattle.store.specs.Opening.{ClosedView, IsClosed, last_state}
 use Rattle.store_steps.specs.Views.{SessionView}
 use Rattle.store.specs.Sessions.{StoreView}
-use Rattle.store_steps.specs.Shelving.{sessions_of}
 use Rattle.host_calls.specs.declared.attached.Attached.{Attached}
 use Rattle.host_calls.specs.declared.handles.StateHandle.{StateHandle}
 use Rattle.host_calls.specs.declared.handles.StoreHandle.{StoreHandle}
 use Rattle.host_calls.specs.declared.pool.Pool.{Pool}
 use Rattle.host_calls.specs.Statuses.{done, is_attached, no_memory, not_open, not_ours}
 use Rattle.host_calls.specs.Stores.{IsStatusAlone}
-
--- ---- what a host keeps to
-
--- the session at this place, if it isn't attached, is one of this store
-abbrev pub IsSeatOf : StoreView → Option (Box Attached Global) → Type 0
-IsSeatOf store place = IfSome place (λ a. a.value.store ≡ store)
-
--- and no update of it is out
-abbrev pub IsIdleSeat : Option (Box Attached Global) → Type 0
-IsIdleSeat place = IfSome place (λ a. a.value.session.note.pending ≡ None)
-
--- a pool as it was opened, whose sessions came back to it alone: as many places as its store has sessions, and none but these
-pub record IsInOrder (p : Pool) : Type 0 where
-  pub count : length p.places.items ≡ sessions_of (arc_value p.store).config
-  pub own : All (IsSeatOf (arc_value p.store)) p.places.items
-  pub idle : All IsIdleSeat p.places.items
-
-abbrev pub MayClose : StoreHandle → Type 0
-MayClose h = IfSome h.own (λ b. IsInOrder b.value)
 
 -- ---- the state
 

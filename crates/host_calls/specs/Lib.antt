@@ -4,6 +4,7 @@ pub mod Views
 pub mod Codes
 pub mod Told
 pub mod Calls
+pub mod Seating
 pub mod Stores
 pub mod Openings
 pub mod Leaving

@@ -1,5 +1,5 @@
 -- What a store is opened with, what it is then, and why it is not opened.
-use Rattle.std.specs.Prelude.{◌≡◌, ℕ, ◌<◌, List, None, Some, Option, Result, Ok, Err, MatchOption, IfSome, get_or, length, map, option_map}
+use Rattle.std.specs.Prelude.{◌≡◌, ℕ, ◌<◌, List, None, Some, Option, Result, Ok, Err, MatchOption, IfSome, get_or, length, map, option_map, nat_eq, if◌then◌else◌}
 use Rattle.std.specs.Borrow.{Bor}
 use Rattle.std.specs.List.{All}
 use Rattle.std.specs.Str.{IsUtf8}
@@ -15,9 +15,10 @@ use Rattle.loader.specs.declared.refusals.LoadError.{LoadError}
 use Rattle.loader.specs.declared.refusals.LoadError.TheVariants as errors
 use Rattle.loader.specs.declared.refusals.LoadFault.TheVariants as faults
 use Rattle.loader.specs.declared.refusals.LoadRefusal.{LoadRefusal}
-use Rattle.oplog.specs.declared.configuration.Config.{Config}
+use Rattle.oplog.specs.declared.configuration.Sizes.{Sizes}
+use Rattle.oplog.specs.declared.configuration.TheConstants.{ENDLESS}
 use Rattle.oplog.specs.declared.configuration.OpenError.TheVariants.{OutOfLimits, NoMemory, OtherState}
-use Rattle.oplog.specs.Limits.{IsConfig, open_fault_number}
+use Rattle.oplog.specs.Limits.{AreSizes, open_fault_number}
 use Rattle.store_steps.specs.Views.{SessionView}
 use Rattle.store.specs.Sessions.{StoreView, fresh_session, fresh_sessions}
 use Rattle.store_steps.specs.Shelving.{sessions_of}
@@ -25,7 +26,7 @@ use Rattle.std.specs.declared.alloc.Global.{Global}
 use Rattle.std.specs.declared.boxed.Box.{Box}
 use Rattle.host_calls.specs.declared.attached.Attached.{Attached}
 use Rattle.host_calls.specs.declared.handles.File.{File}
-use Rattle.host_calls.specs.declared.handles.Opening.{Opening as Sizes}
+use Rattle.host_calls.specs.declared.handles.Opening.{Opening as Asked}
 use Rattle.host_calls.specs.declared.handles.StoreAnswered.{StoreAnswered}
 use Rattle.host_calls.specs.declared.handles.StoreHandle.{StoreHandle}
 use Rattle.host_calls.specs.declared.opening.NotOpened.{NotOpened}
@@ -36,15 +37,19 @@ use Rattle.host_calls.specs.Views.{AttachedView}
 
 -- ---- what is asked
 
-abbrev pub config_of : Sizes → Config
-config_of o = record { nodes = o.nodes; slots = o.slots; window = o.window; limit = o.limit; spare = o.spare }
+-- how many updates a history may have: 0 is no end
+abbrev pub limit_of : ℕ → ℕ
+limit_of n = if nat_eq n 0 then ENDLESS else n
+
+abbrev pub sizes_asked : Asked → Sizes
+sizes_asked o = record { nodes = o.nodes; slots = o.slots; window = o.window; limit = limit_of o.limit; spare = o.spare }
 
 -- the files' names and texts
 abbrev pub texts_of : List File → Files
 texts_of files = map (λ f. (f.name.now, f.text.now)) files
 
 -- what the manifest says
-abbrev pub reading_of : Sizes → Result CatalogueView LoadRefusal
+abbrev pub reading_of : Asked → Result CatalogueView LoadRefusal
 reading_of o = loaded o.manifest.now (texts_of o.files.now)
 
 -- the files' names and texts are UTF-8
@@ -52,11 +57,11 @@ abbrev pub AreUtf8 : List File → Type 0
 AreUtf8 files = All (λ f. IsUtf8 f.name.now × IsUtf8 f.text.now) files
 
 -- the manifest's text too
-abbrev pub AreTexts : Sizes → Type 0
+abbrev pub AreTexts : Asked → Type 0
 AreTexts o = IsUtf8 o.manifest.now × AreUtf8 o.files.now
 
 -- all texts are UTF-8, and the manifest says this catalogue
-abbrev pub Says : Sizes → CatalogueView → Type 0
+abbrev pub Says : Asked → CatalogueView → Type 0
 Says o c = AreTexts o × (reading_of o ≡ Ok c)
 
 -- the state that is lent, if one is
@@ -71,8 +76,8 @@ catalogue_on c None = c
 catalogue_on c (Some s) = opened_on c s
 
 -- a store of these sizes, and of the maps and programs of the manifest, on this state, which it may be opened on
-pub record IsStoreOf (o : Sizes) (on : Option StoreState) (s : StoreView) : Type 0 where
-  pub config : s.config ≡ config_of o
+pub record IsStoreOf (o : Asked) (on : Option StoreState) (s : StoreView) : Type 0 where
+  pub config : s.config ≡ sizes_asked o
   pub catalogue : CatalogueView
   pub says : Says o catalogue
   pub may : IfSome on (MayOpenOn (with_places catalogue o.spare))
@@ -90,11 +95,11 @@ abbrev pub IsSeat : StoreView → List (Option (Box Attached Global)) → ℕ �
 IsSeat s places k = MatchOption (get_or places k None) ⊥ (λ a. a.value ≡ fresh_seat s k)
 
 -- a pool of such a store, with so many sessions a node, which are all there
-pub record IsPoolOf (o : Sizes) (on : Option StoreState) (p : Pool) : Type 0 where
+pub record IsPoolOf (o : Asked) (on : Option StoreState) (p : Pool) : Type 0 where
   pub store : IsStoreOf o on (arc_value p.store)
   pub slots : p.slots ≡ o.slots
-  pub count : length p.places.items ≡ sessions_of (config_of o)
-  pub seats : (k : ℕ) → k < sessions_of (config_of o) → IsSeat (arc_value p.store) p.places.items k
+  pub count : length p.places.items ≡ sessions_of (sizes_asked o)
+  pub seats : (k : ℕ) → k < sessions_of (sizes_asked o) → IsSeat (arc_value p.store) p.places.items k
 
 -- ---- why it is not opened
 
@@ -102,13 +107,13 @@ pub record IsPoolOf (o : Sizes) (on : Option StoreState) (p : Pool) : Type 0 whe
 abbrev pub IsOther : CatalogueView → Option StoreState → Type 0
 IsOther c on = MatchOption on ⊥ (λ s. MayOpenOn c s → ⊥)
 
-abbrev pub IsReason : Sizes → Option StoreState → NotOpened → Type 0
+abbrev pub IsReason : Asked → Option StoreState → NotOpened → Type 0
 IsReason o on NoText = (AreTexts o → ⊥)
 IsReason o on (Loading errors.NoMemory) = Unit {0}
 IsReason o on (Loading (errors.Refused bad)) = AreTexts o × (reading_of o ≡ Err bad)
-IsReason o on (Opening OutOfLimits) = AreTexts o × (IsConfig (config_of o) → ⊥)
+IsReason o on (Opening OutOfLimits) = AreTexts o × (AreSizes (sizes_asked o) → ⊥)
 IsReason o on (Opening NoMemory) = Unit {0}
-IsReason o on (Opening OtherState) = IsConfig (config_of o) × ((c : CatalogueView) × Says o c × IsOther (with_places c o.spare) on)
+IsReason o on (Opening OtherState) = AreSizes (sizes_asked o) × ((c : CatalogueView) × Says o c × IsOther (with_places c o.spare) on)
 
 -- of the program of a bad line: why the decoder or the verifier refuses it, and at which slot
 abbrev pub inner_in : LoadError → ℕ × ℕ
@@ -127,6 +132,6 @@ words_of (Loading why) = record { status = refusal letter_C (number_of why); lin
 -- ---- the handle
 
 -- it is closed, and says why; or it is open, with a store as it was asked for, on this state, or on a new one where there is none
-abbrev pub IsOpened : Sizes → Option StoreState → StoreHandle → Type 0
+abbrev pub IsOpened : Asked → Option StoreState → StoreHandle → Type 0
 IsOpened o on after =
     MatchOption after.own ((why : NotOpened) × IsReason o on why × (after.answered ≡ words_of why)) (λ b. IsPoolOf o on b.value × (after.answered ≡ only done))

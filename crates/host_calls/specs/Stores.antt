@@ -1,5 +1,5 @@
 -- What a call on a store's handle tells.
-use Rattle.std.specs.Prelude.{◌≡◌, ℕ, ◌<◌, ◌≤◌, ◌/◌, Result, Ok, Err, Bool, true, false, None, Some, Option, MatchOption, length, get_or, set, take, is_some}
+use Rattle.std.specs.Prelude.{◌≡◌, ℕ, ◌<◌, ◌≤◌, ◌/◌, Result, Ok, Err, Bool, true, false, None, Some, Option, IfSome, MatchOption, length, get_or, set, take, is_some}
 use Rattle.std.specs.List.{list_all}
 use Rattle.std.specs.Arc.{arc_value}
 use Rattle.std.specs.Str.{IsUtf8}
@@ -70,6 +70,10 @@ pub record Gives (before after : StoreHandle) (given : SessionHandle) : Type 0 w
       (λ b. MatchOption after.own ⊥ (λ b'. GivesFrom b.value b'.value before.asked.node after given))
 
 -- ---- detach
+
+-- the session at this handle, if there is one, is of the store at that
+abbrev pub IsItsOwn : StoreHandle → SessionHandle → Type 0
+IsItsOwn h session = IfSome h.own (λ b. IfSome session.own (λ a. a.value.store ≡ arc_value b.value.store))
 
 -- the session stays at its handle, for this reason
 abbrev pub Stays : (p q : Pool) → StoreHandle → (session left : SessionHandle) → ℕ → Type 0

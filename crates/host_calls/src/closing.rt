@@ -4,7 +4,8 @@ ghost use Rattle.std.specs.Prelude.{◌≡◌, [], ◌++◌, ◌<◌, ◌≤◌,
 ghost use Rattle.std.specs.List.{list_all};
 ghost use Rattle.std.specs.Arc.{arc_value};
 ghost use Rattle.store.specs.Sessions.{IsOf, StoreView};
-ghost use Rattle.host_calls.specs.Leaving.{IsIdleSeat, IsInOrder, IsLastOf, IsSeatOf, Leaves, MayClose, session_at, sessions_back};
+ghost use Rattle.host_calls.specs.Leaving.{IsLastOf, Leaves, session_at, sessions_back};
+ghost use Rattle.host_calls.specs.Seating.{IsIdleSeat, IsSeatOf};
 
 use crate::attached::Attached;
 use crate::handles::{StateHandle, StoreHandle};
@@ -45,7 +46,6 @@ fn gathered(mut places: Vec<Option<Box<Attached>>>, mut sessions: Vec<Session>) 
 
 // The state that the store of a pool ends in. `None` where another has a part of the store, and this one is given up.
 fn ended(pool: Pool, room: Vec<Session>) -> Option<StoreState>
-    requires order { IsInOrder pool }
     requires whole { list_all is_some pool.places.items ≡ true }
     requires room { (room.items ≡ []) × (length pool.places.items ≤ vec_capacity room) }
     ensures state { IfSome result (IsLastOf (arc_value pool.store) (sessions_back pool.places.items)) }
@@ -67,7 +67,6 @@ fn ended(pool: Pool, room: Vec<Session>) -> Option<StoreState>
 
 /// Ends the store, where no session is attached, and gives the state that it ends in.
 pub fn closed_into(alloc: Global, handle: &mut StoreHandle) -> StateHandle
-    requires order { MayClose handle.old }
     ensures leaves { Leaves handle.old handle.new result }
 {
     let Some(pool) = handle.own.take() else {

@@ -34,7 +34,7 @@ pub struct Opening<'a> {
     pub slots: u32,
     /// Records that the log keeps at once.
     pub window: u32,
-    /// Records that the history may have in all.
+    /// Records that the history may have in all; 0 is no end.
     pub limit: u32,
     /// Programs that may be installed.
     pub spare: u32,

@@ -6,12 +6,12 @@ ghost use Rattle.std.specs.Str.{IsUtf8};
 ghost use Rattle.loader.specs.CatalogueView.{MayOpenOn, with_places};
 ghost use Rattle.loader.specs.ProgramFiles.{files_of};
 ghost use Rattle.loader.specs.StoreState.{StoreState as State};
-ghost use Rattle.oplog.specs.Limits.{IsConfig};
+ghost use Rattle.oplog.specs.Limits.{AreSizes};
 ghost use Rattle.oplog.specs.declared.configuration.OpenError.TheVariants.{OtherState, OutOfLimits};
 ghost use Rattle.store.specs.Opening.{AreOf};
 ghost use Rattle.store.specs.Sessions.{IsOf, fresh_sessions};
 ghost use Rattle.store_steps.specs.Shelving.{sessions_of};
-ghost use Rattle.host_calls.specs.Openings.{AreUtf8, IsOpened, IsOther, IsReason, IsSeat, IsStoreOf, Says, catalogue_on, config_of, fresh_of, inner_in, only, state_in, texts_of, words_of};
+ghost use Rattle.host_calls.specs.Openings.{AreUtf8, IsOpened, IsOther, IsReason, IsSeat, IsStoreOf, Says, catalogue_on, fresh_of, inner_in, limit_of, only, sizes_asked, state_in, texts_of, words_of};
 
 use crate::attached::Attached;
 use crate::handles::{File, Opening, StateHandle, StoreAnswered, StoreHandle};
@@ -20,7 +20,9 @@ use crate::statuses::{DONE, NO_TEXT, refusal};
 use loader::{LoadError, LoadFault};
 use std::alloc::{AllocError, Global};
 use std::sync::Arc;
-use store::{Catalogue, Config, OpenError, Polled, Session, Store, StoreState, load_manifest};
+use store::{
+    Catalogue, ENDLESS, OpenError, Polled, Session, Sizes, Store, StoreState, load_manifest,
+};
 
 /// Why a store is not opened.
 #[derive(Clone, Copy)]
@@ -84,24 +86,31 @@ fn loaded(alloc: Global, opening: &Opening) -> Result<Catalogue, NotOpened>
     }
 }
 
+// How many updates the history may have: 0 asks for no end.
+fn limit_of(limit: u32) -> u64
+    ensures { result ≡ limit_of limit }
+{
+    if limit == 0 { ENDLESS } else { limit as u64 }
+}
+
 // The store of a catalogue on this state, or on a new one, and its sessions.
 fn store_on(
     alloc: Global,
-    config: Config,
+    sizes: Sizes,
     catalogue: Catalogue,
     state: Option<&StoreState>,
 ) -> Result<(Store, Vec<Session>), OpenError>
-    ensures limits { IfErr result (λ e. e ≡ OutOfLimits → IsConfig config → ⊥) }
-    ensures other { IfErr result (λ e. e ≡ OtherState → IsConfig config × IsOther (with_places catalogue config.spare) (state_in state.entry)) }
-    ensures may { IfOk result (λ t. IfSome (state_in state.entry) (MayOpenOn (with_places catalogue config.spare))) }
-    ensures store { IfOk result (λ t. (t.0.config ≡ config) × (t.0.catalogue ≡ catalogue_on (with_places catalogue config.spare) (state_in state.entry))) }
-    ensures sessions { IfOk result (λ t. t.1.items ≡ fresh_sessions t.0.id t.0.config t.0.catalogue 0 (sessions_of config)) }
-    ensures count { IfOk result (λ t. length t.1.items ≡ sessions_of config) }
+    ensures limits { IfErr result (λ e. e ≡ OutOfLimits → AreSizes sizes → ⊥) }
+    ensures other { IfErr result (λ e. e ≡ OtherState → AreSizes sizes × IsOther (with_places catalogue sizes.spare) (state_in state.entry)) }
+    ensures may { IfOk result (λ t. IfSome (state_in state.entry) (MayOpenOn (with_places catalogue sizes.spare))) }
+    ensures store { IfOk result (λ t. (t.0.config ≡ sizes) × (t.0.catalogue ≡ catalogue_on (with_places catalogue sizes.spare) (state_in state.entry))) }
+    ensures sessions { IfOk result (λ t. t.1.items ≡ fresh_sessions t.0.id t.0.config t.0.catalogue 0 (sessions_of sizes)) }
+    ensures count { IfOk result (λ t. length t.1.items ≡ sessions_of sizes) }
     ensures own { IfOk result (λ t. AreOf t.0 t.1.items) }
 {
     match state {
-        Some(state) => Store::open_on(alloc, config, catalogue, state),
-        None => Store::open(alloc, config, catalogue),
+        Some(state) => Store::open_sized_on(alloc, sizes, catalogue, state),
+        None => Store::open_sized(alloc, sizes, catalogue),
     }
 }
 
@@ -114,20 +123,20 @@ fn opened_store(
     ensures opened { MatchResult result (λ t. IsStoreOf opening.now (state_in state.entry) t.0) (λ why. IsReason opening.now (state_in state.entry) why) }
     ensures own { IfOk result (λ t. All (IsOf t.0) t.1.items) }
     ensures fresh { IfOk result (λ t. t.1.items ≡ fresh_of t.0 (length t.1.items)) }
-    ensures count { IfOk result (λ t. length t.1.items ≡ sessions_of (config_of opening.now)) }
+    ensures count { IfOk result (λ t. length t.1.items ≡ sessions_of (sizes_asked opening.now)) }
 {
     let catalogue = match loaded(alloc, opening) {
         Ok(catalogue) => catalogue,
         Err(why) => return Err(why),
     };
-    let config = Config {
+    let sizes = Sizes {
         nodes: opening.nodes,
         slots: opening.slots,
         window: opening.window,
-        limit: opening.limit,
+        limit: limit_of(opening.limit),
         spare: opening.spare,
     };
-    match store_on(alloc, config, catalogue, state) {
+    match store_on(alloc, sizes, catalogue, state) {
         Ok(opened) => Ok(opened),
         Err(error) => Err(NotOpened::Opening(error)),
     }
@@ -184,6 +193,7 @@ fn pooled(
 ) -> Option<Box<Pool>>
     requires own { All (IsOf store) sessions.items }
     requires fresh { sessions.items ≡ fresh_of store (length sessions.items) }
+    requires all { length sessions.items ≡ sessions_of store.config }
     ensures store { IfSome result (λ b. (arc_value b.value.store ≡ store) × (b.value.slots ≡ slots)) }
     ensures count { IfSome result (λ b. length b.value.places.items ≡ length sessions.items) }
     ensures seats { IfSome result (λ b. (k : ℕ) → k < length sessions.items → IsSeat store b.value.places.items k) }

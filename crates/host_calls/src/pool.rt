@@ -1,34 +1,59 @@
 // The sessions of a store that are not attached.
 
-ghost use Rattle.std.specs.Prelude.{◌≡◌, ◌↔◌, ◌<◌, length, is_some, IfErr, IfOk, IsSome, IsTrue, MatchOption};
+ghost use Rattle.std.specs.Prelude.{◌≡◌, ◌↔◌, ◌<◌, length, is_some, IfErr, IfOk, IsSome, IsTrue, MatchOption, None};
 ghost use Rattle.std.specs.List.{list_all};
 ghost use Rattle.std.specs.Arc.{arc_value};
 ghost use Rattle.loader.specs.CatalogueView.{number_named};
+ghost use Rattle.host_calls.specs.Seating.{AreInOrder};
 ghost use Rattle.host_calls.specs.Stores.{HasPlaceFor, IsGiven, IsKept, IsOfNode, IsTaken, IsUnmoved, NoneIsFree, seated};
 
 use crate::attached::Attached;
 use std::alloc::Global;
+use std::marker::Model;
 use std::sync::Arc;
 use store::Store;
 
 /// A store, and a place for each of its sessions, in ascending order. A place is empty while its session is attached.
 #[derive(Drop)]
-pub struct Pool {
-    store: Arc<Store, Global>,
+pub struct Seats {
+    pub(crate) store: Arc<Store, Global>,
     // How many sessions a node has.
-    slots: usize,
-    places: Vec<Option<Box<Attached>>>,
+    pub(crate) slots: usize,
+    pub(crate) places: Vec<Option<Box<Attached>>>,
+}
+
+/// The same, where at these places none but the store's own sessions stand, for which nothing is out.
+#[derive(Drop)]
+pub struct Pool {
+    seats: Seats,
+}
+
+impl Model for Pool {
+    ghost use Rattle.std.specs.Arc.{arc_value};
+    ghost use Rattle.host_calls.specs.declared.pool.Seats.{Seats};
+    ghost use Rattle.host_calls.specs.contracts.pool.Seats as seats_row;
+    ghost use Rattle.host_calls.specs.Seating.{AreInOrder};
+
+    ghost Value = { Seats };
+
+    ghost coded = { seats_row.the_row.coded };
+
+    ghost view = { λ p. p.seats };
+
+    ghost invariant = { λ p. AreInOrder (arc_value p.seats.store) p.seats.places.items };
 }
 
 impl Pool {
     pub fn new(store: Arc<Store, Global>, slots: usize, places: Vec<Option<Box<Attached>>>) -> Pool
+        requires order { AreInOrder (arc_value store) places.items }
         ensures { (result.store ≡ store) × (result.slots ≡ slots) × (result.places ≡ places) }
     {
-        Pool {
+        let seats = Seats {
             store,
             slots,
             places,
-        }
+        };
+        Pool { seats }
     }
 
     // Whether the session at this place is one of the node, and not attached.
@@ -36,14 +61,15 @@ impl Pool {
         requires there { place < length self.now.places.items }
         ensures free { IsTrue result ↔ (IsOfNode self.now node place × IsSome (seated self.now place)) }
     {
-        self.slots > 0 && (place / self.slots) as u64 == node && self.places[place].is_some()
+        let seats = &self.seats;
+        seats.slots > 0 && (place / seats.slots) as u64 == node && seats.places[place].is_some()
     }
 
     // The first place of a session of the node that is not attached.
     fn free_place(&self, node: u64) -> Option<usize>
         ensures free { MatchOption result (NoneIsFree self.now node) (λ k. IsOfNode self.now node k × IsSome (seated self.now k)) }
     {
-        for place in 0..self.places.len() {
+        for place in 0..self.seats.places.len() {
             if self.is_free(node, place) {
                 return Some(place);
             }
@@ -57,32 +83,37 @@ impl Pool {
         ensures taken { MatchOption result (NoneIsFree self.old node × IsUnmoved self.old self.new) (λ a. IsTaken self.old self.new node a) }
     {
         let place = self.free_place(node)?;
-        self.places[place].take()
+        self.seats.places[place].take()
     }
 
-    /// Puts a session back where it stood, if that place is empty.
+    /// Puts a session of this store, for which nothing is out, back where it stood, if that place is empty.
     pub fn give(&mut self, attached: Box<Attached>) -> Result<(), Box<Attached>>
+        requires own { attached.value.store ≡ arc_value self.old.store }
+        requires idle { attached.value.session.note.pending ≡ None }
         ensures kept { IsKept self.old self.new }
         ensures given { IfOk result (λ _. IsGiven self.old self.new attached) }
         ensures back { IfErr result (λ back. (back ≡ attached) × (HasPlaceFor self.old attached → ⊥) × IsUnmoved self.old self.new) }
     {
         let place = attached.place();
-        if place >= self.places.len() || self.places[place].is_some() {
+        let places = &mut self.seats.places;
+        if place >= places.len() || places[place].is_some() {
             return Err(attached);
         }
-        self.places[place] = Some(attached);
+        places[place] = Some(attached);
         Ok(())
     }
 
     /// The store, and what stands at its places.
     pub fn into_parts(self) -> (Arc<Store, Global>, Vec<Option<Box<Attached>>>)
         ensures parts { (result.0 ≡ self.store) × (result.1 ≡ self.places) }
+        ensures order { AreInOrder (arc_value result.0) result.1.items }
     {
-        let Pool {
+        let Pool { seats } = self;
+        let Seats {
             store,
             slots: _slots,
             places,
-        } = self;
+        } = seats;
         (store, places)
     }
 
@@ -90,20 +121,20 @@ impl Pool {
     pub fn count(&self) -> usize
         ensures count { result ≡ length self.now.places.items }
     {
-        self.places.len()
+        self.seats.places.len()
     }
 
     /// Whether no session is attached.
     pub fn is_whole(&self) -> bool
         ensures whole { result ≡ list_all is_some self.now.places.items }
     {
-        self.places.iter().all(|place| place.is_some())
+        self.seats.places.iter().all(|place| place.is_some())
     }
 
     /// The number of the program of this name.
     pub fn number(&self, name: &str) -> Option<u16>
         ensures number { result ≡ number_named (arc_value self.now.store).catalogue.programs name.now }
     {
-        self.store.catalogue().number(name)
+        self.seats.store.catalogue().number(name)
     }
 }

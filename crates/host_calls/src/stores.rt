@@ -1,7 +1,7 @@
 // The calls on a store's handle.
 
 ghost use Rattle.std.specs.Prelude.{◌≡◌};
-ghost use Rattle.host_calls.specs.Stores.{Closes, Finds, Gives, IsNumber, Takes};
+ghost use Rattle.host_calls.specs.Stores.{Closes, Finds, Gives, IsItsOwn, IsNumber, Takes};
 
 use crate::handles::{NAME_ROOM, SessionHandle, StoreHandle};
 use crate::statuses::{
@@ -62,8 +62,9 @@ pub fn attached(handle: &mut StoreHandle) -> SessionHandle
     SessionHandle::new(Some(attached), DONE)
 }
 
-/// Takes the session back.
+/// Takes the session back, which is one of this store.
 pub fn detached(handle: &mut StoreHandle, session: &mut SessionHandle)
+    requires own { IsItsOwn handle.old session.old }
     ensures takes { Takes handle.old session.old handle.new session.new }
 {
     let StoreHandle { own, answered, .. } = handle;

@@ -1,7 +1,7 @@
 -- `nrbpf_raw_close_into` lends the store to `closed_into`, and writes the handle that this gives into the room.
 use Rattle.embed.proofs.Steps.{[], ◌∷◌, ◌++◌, refl, MutBor, proved, full_share, id⊢, ex, ex_i, sep, emp, fact, fact_i, ftrue, flft, flent, named, vunit, tables, WpFn, ‵, raw, ◌⊛◌, some, later, prop, ◌$◌, ◌∵◌, !, qed, done, move, keep, drop, use0, use1, use2, use3, split, join, fsplit, feq_i, pick, await, regoal, suffices, group, sem, enter, of_opd, unit_lit, addr, init, stop, no_more, and_then, assigns, returns, alloc_all, pass_all, free_all, look_at, get, through, sets, lands_as, Body, lft_new, lft_end, part_in, yes, Is, shows, lends_ref, ref_back, mem, Ptr, RawPtr, block_ptr, lies_at, room_at, in_a_block, rawptr_vals, rawptr_Tells, MutRef, mut_vals, plain, nothing, heard, peeks, calls_at, lasts, triple_of, Stays, walk_of, stay_dropped, Goes-dropped, ends_at, framed}
 use Rattle.embed.proofs.Steps.{alive, ftrue, val, tells}
-use Rattle.host_calls.specs.Leaving.{Leaves, MayClose}
+use Rattle.host_calls.specs.Leaving.{Leaves}
 use Rattle.std.specs.contracts.alloc.Global.{the_row as A, the_type as global}
 use Rattle.std.proofs.alloc.Global.TheLaws as global_laws
 use Rattle.host_calls.specs.contracts.handles.StateHandle.{the_row as R}
@@ -27,8 +27,8 @@ nrbpf_raw_close_into_spec 𝓤 𝓛 𝓜 𝓡 wired =
     let y : Ptr → Ptr → W.Ghost = λ p r. ((κs, qs, bounds, (a.0, (p, (r, tt))), (vals a.0, (rawptr_vals p, (rawptr_vals r, tt)))), value) in
     let G = triple_of 𝓛 g.signature (g.spec 𝓛 𝓜.mem 𝓡.returns) in
     qed 𝓛 ((raw (alive 𝓛 f.signature κs qs) ⊛ (‵ (A.own_val a.0 (vals a.0)) ⊛ (‵ (RawPtr.own_val a.1.0 (rawptr_vals a.1.0)) ⊛ (‵ (RawPtr.own_val a.1.1.0 (rawptr_vals a.1.1.0)) ⊛ ‵ ftrue))))
-    ∷ (‵ (lies_at S full_share a.1.0 value) ⊛ (‵ (room_at R a.1.1.0) ⊛ raw (fact 𝓤 (MayClose value)))) ∷ []) ∵ split ! $ drop ! $ split ! $ keep ! (2 ∷ 0 ∷ []) $
-    split ! $ move ! (1 ∷ []) $ split ! $ move ! (1 ∷ []) $ heard ! (MayClose value) (λ may.
+    ∷ (‵ (lies_at S full_share a.1.0 value) ⊛ ‵ (room_at R a.1.1.0)) ∷ []) ∵ split ! $ drop ! $ split ! $ keep ! (2 ∷ 0 ∷ []) $
+    split ! $ move ! (1 ∷ []) $
     -- [the room; the store; what the allocator owns]
     in_a_block ! a.1.1.0 (λ r. room_at R r) (id⊢ 𝓤 _) (λ b' o' e'. move ! (1 ∷ []) $
     in_a_block ! a.1.0 (λ p. lies_at S full_share p value) (id⊢ 𝓤 _) (λ b o e.
@@ -46,7 +46,7 @@ nrbpf_raw_close_into_spec 𝓤 𝓛 𝓜 𝓡 wired =
     let r : MutBor S.Denot = record { ref_ptr = (b, o); ghost_name = γ; now = value } in
     let z : G.Ghost = (((α ∷ [], tt), (full_share, tt), tt, (a.0, (r, tt)), (vals a.0, (mut_vals r, tt))), tt) in
     nothing ! $ move ! (1 ∷ 0 ∷ []) $ join ! $ move ! (4 ∷ 0 ∷ []) $ join ! $ nothing ! $ move ! (3 ∷ 0 ∷ []) $ join ! $ join ! $
-    use0 𝓛 (raw (fact 𝓤 (MayClose value))) (fact_i 𝓤 (MayClose value) (emp 𝓤) may) $ move ! (1 ∷ 0 ∷ []) $ use2 𝓛 (raw (G.pre z)) (id⊢ 𝓤 _) $
+    nothing ! $ move ! (1 ∷ 0 ∷ []) $ use2 𝓛 (raw (G.pre z)) (id⊢ 𝓤 _) $
     calls_at ! (framed 𝓤 𝓛.H 𝓜 (tables 𝓤 𝓛.H 𝓜 𝓡 𝓡.env)) G (met 𝓤 𝓛 𝓜 𝓡 (code.calls-host_calls::closing::closed_into 𝓡.env wired)) z
     (and_then ! (get ! refl) (and_then ! (get ! refl) (no_more !))) (λ v.
     use1 𝓛 (later (some (λ (h : R.Denot). ((‵ (flft (α ∷ []) full_share) ⊛ ‵ ftrue) ⊛ ‵ (R.own_val h (v ∷ []))) ⊛
@@ -68,4 +68,4 @@ nrbpf_raw_close_into_spec 𝓤 𝓛 𝓜 𝓡 wired =
     use1 𝓛 (raw (ex 𝓤 (λ (h' : R.Denot). Left ws.1.0 h'))) (ex_i 𝓤 (λ (h' : R.Denot). Left ws.1.0 h') h) $
     use1 𝓛 (raw (ex 𝓤 (λ (x : S.Denot). ex 𝓤 (λ (h' : R.Denot). Left x h')))) (ex_i 𝓤 (λ (x : S.Denot). ex 𝓤 (λ (h' : R.Denot). Left x h')) ws.1.0) $
     suffices ! _ (ends_at 𝓛 f.ended stayed c (y (block_ptr b o) (block_ptr b' o')) vunit tt (tt, (tt, (tt, tt))) (tt, (tt, (tt, tt)))) $
-    feq_i ! _ (vunit ∷ []) _ refl $ nothing ! $ nothing ! $ join ! $ nothing ! $ join ! $ nothing ! $ join ! $ nothing ! $ group ! 3 $ done !))))))))))))
+    feq_i ! _ (vunit ∷ []) _ refl $ nothing ! $ nothing ! $ join ! $ nothing ! $ join ! $ nothing ! $ join ! $ nothing ! $ group ! 3 $ done !)))))))))))

@@ -1,6 +1,6 @@
 -- `nrbpf_raw_detach` lends both handles to `detached`.
 use Rattle.embed.proofs.Steps.{[], ◌∷◌, ◌++◌, refl, ap, MutBor, proved, full_share, id⊢, ex, ex_i, sep, emp, fact, fact_i, ftrue, flft, flent, named, vunit, tables, WpFn, ‵, raw, ◌⊛◌, some, later, prop, ◌$◌, ◌∵◌, !, qed, done, move, keep, drop, use0, use1, use2, use3, split, join, fsplit, feq_i, feq_l, pick, await, regoal, suffices, group, sem, enter, of_opd, unit_lit, addr, stop, no_more, and_then, returns, alloc_all, pass_all, free_all, look_at, get, through, sets, lands_as, Body, lft_new, lft_end, unit, yes, lends_ref, ref_back, mem, Ptr, RawPtr, block_ptr, lies_at, in_a_block, rawptr_vals, rawptr_Tells, MutRef, mut_vals, plain, nothing, heard, only, calls_at, lasts, on_entry, triple_of, Stays, walk_of, stay_dropped, Goes-dropped, ends_at, framed}
-use Rattle.host_calls.specs.Stores.{Takes}
+use Rattle.host_calls.specs.Stores.{IsItsOwn, Takes}
 use Rattle.host_calls.specs.contracts.handles.SessionHandle.{the_row as R}
 use Rattle.host_calls.specs.contracts.handles.StoreHandle.{the_row as S}
 use Rattle.embed.specs.contracts.nrbpf_raw_detach as f
@@ -21,7 +21,8 @@ nrbpf_raw_detach_spec 𝓤 𝓛 𝓜 𝓡 wired =
     (λ κs. (rawptr_vals, (rawptr_vals, tt))) (λ κs. (rawptr_Tells, (rawptr_Tells, tt))) (λ κs qs bounds a values are.
     let y : Ptr → Ptr → W.Ghost = λ p r. ((κs, qs, bounds, (p, (r, tt)), (rawptr_vals p, (rawptr_vals r, tt))), values) in
     let G = triple_of 𝓛 g.signature (g.spec 𝓛 𝓜.mem 𝓡.returns) in
-    qed 𝓛 (raw (on_entry 𝓛 f.signature κs qs a (y a.0 a.1.0).0.4) ∷ (‵ (lies_at S full_share a.0 values.0) ⊛ ‵ (lies_at R full_share a.1.0 values.1)) ∷ []) ∵ drop ! $ split ! $ move ! (1 ∷ []) $
+    qed 𝓛 (raw (on_entry 𝓛 f.signature κs qs a (y a.0 a.1.0).0.4) ∷ (‵ (lies_at S full_share a.0 values.0) ⊛ (‵ (lies_at R full_share a.1.0 values.1) ⊛ raw (fact 𝓤 (IsItsOwn values.0 values.1)))) ∷ []) ∵ drop ! $ split ! $ move ! (1 ∷ []) $
+    split ! $ move ! (1 ∷ []) $ heard ! (IsItsOwn values.0 values.1) (λ own.
     in_a_block ! a.1.0 (λ r. lies_at R full_share r values.1) (id⊢ 𝓤 _) (λ b' o' e'. move ! (1 ∷ []) $
     in_a_block ! a.0 (λ p. lies_at S full_share p values.0) (id⊢ 𝓤 _) (λ b o e.
     regoal ! (λ p. prop (WpFn 𝓤 𝓛.H 𝓣.C 𝓣.Λ code.function (rawptr_vals p ++ (rawptr_vals a.1.0 ++ [])) (W.post (y p a.1.0)))) e refl $
@@ -46,7 +47,7 @@ nrbpf_raw_detach_spec 𝓤 𝓛 𝓜 𝓡 wired =
     nothing ! $ move ! (1 ∷ 0 ∷ []) $ join ! $ move ! (3 ∷ 0 ∷ []) $ join ! $
     -- [both loans; the lender's part of the session; the token of β; the lender's part of the store; the token of α; the locals]
     nothing ! $ move ! (3 ∷ 0 ∷ []) $ join ! $ move ! (4 ∷ 0 ∷ []) $ join ! $ move ! (0 ∷ 1 ∷ []) $ join ! $
-    nothing ! $ move ! (1 ∷ 0 ∷ []) $ use2 𝓛 (raw (G.pre z)) (id⊢ 𝓤 _) $
+    use0 𝓛 (raw (fact 𝓤 (IsItsOwn values.0 values.1))) (fact_i 𝓤 (IsItsOwn values.0 values.1) (emp 𝓤) own) $ move ! (1 ∷ 0 ∷ []) $ use2 𝓛 (raw (G.pre z)) (id⊢ 𝓤 _) $
     calls_at ! (framed 𝓤 𝓛.H 𝓜 (tables 𝓤 𝓛.H 𝓜 𝓡 𝓡.env)) G (met 𝓤 𝓛 𝓜 𝓡 (code.calls-host_calls::stores::detached 𝓡.env wired)) z
     (and_then ! (get ! refl) (and_then ! (get ! refl) (no_more !))) (λ v.
     use1 𝓛 (later (some (λ (u : Unit {0}). ((‵ (flft (α ∷ []) full_share) ⊛ ‵ (flft (β ∷ []) full_share) ⊛ ‵ ftrue) ⊛ ‵ (unit.own_val u (v ∷ []))) ⊛
@@ -67,4 +68,4 @@ nrbpf_raw_detach_spec 𝓤 𝓛 𝓜 𝓡 wired =
     use1 𝓛 (raw (ex 𝓤 (λ (h' : R.Denot). Left ws.0 h'))) (ex_i 𝓤 (λ (h' : R.Denot). Left ws.0 h') ws.1.0) $
     use1 𝓛 (raw (ex 𝓤 (λ (x : S.Denot). ex 𝓤 (λ (h' : R.Denot). Left x h')))) (ex_i 𝓤 (λ (x : S.Denot). ex 𝓤 (λ (h' : R.Denot). Left x h')) ws.0) $
     suffices ! _ (ends_at 𝓛 f.ended stayed c (y (block_ptr b o) (block_ptr b' o')) vunit tt (tt, (tt, tt)) (tt, (tt, tt))) $
-    feq_i ! _ (vunit ∷ []) _ refl $ nothing ! $ nothing ! $ join ! $ nothing ! $ join ! $ nothing ! $ group ! 3 $ done !)))))))))))))
+    feq_i ! _ (vunit ∷ []) _ refl $ nothing ! $ nothing ! $ join ! $ nothing ! $ join ! $ nothing ! $ group ! 3 $ done !))))))))))))))

@@ -18,5 +18,10 @@ close-requires c =
 pub unreachable-requires : goal.unreachable-requires
 unreachable-requires c =
     let is : c.in-Ok.store ≡ arc_value c.args.pool.store = search rules in
+    let places : c.into_parts-store.result.1 ≡ c.args.pool.places = search rules in
+    let stores : c.into_parts-store.result.0 ≡ c.args.pool.store = search rules in
+    let order = c.into_parts-store.ensures.order in
+    let store : arc_value c.into_parts-store.result.0 ≡ arc_value c.args.pool.store = ap arc_value stores in
+    let count = ap length (ap (λ v. v.items) (sym places)) ∙ (order.count ∙ ap (λ (s : StoreView). sessions_of s.config) store) in
     let gathered : c.gathered-sessions.result.items ≡ sessions_back c.args.pool.places.items = search rules in
-    c.in-Err.ensures.whole (ap length gathered ∙ (back_whole c.args.pool.places.items c.requires.whole ∙ (c.requires.order.count ∙ ap (λ (s : StoreView). sessions_of s.config) (sym is))))
+    c.in-Err.ensures.whole (ap length gathered ∙ (back_whole c.args.pool.places.items c.requires.whole ∙ (count ∙ ap (λ (s : StoreView). sessions_of s.config) (sym is))))

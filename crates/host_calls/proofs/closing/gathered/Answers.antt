@@ -1,6 +1,7 @@
 use Rattle.std.proofs.Common.{◌++◌, sym, ap, subst, ◌∙◌, arith, IfSome, length, append_assoc, length-append}
 use Rattle.std.proofs.lemmas.List.Elements.{All-pop}
-use Rattle.host_calls.specs.Leaving.{IsIdleSeat, IsSeatOf, session_at, sessions_back}
+use Rattle.host_calls.specs.Leaving.{session_at, sessions_back}
+use Rattle.host_calls.specs.Seating.{IsIdleSeat, IsSeatOf}
 use Rattle.host_calls.proofs.Gathered.{at_most_one, back_more}
 use Rattle.host_calls.proofs.closing.gathered.Goals as goal
 

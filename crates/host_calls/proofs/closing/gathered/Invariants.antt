@@ -1,6 +1,7 @@
 use Rattle.std.specs.Prelude.{◌≡◌, ◌+◌, ◌++◌, ◌≤◌, All, length, vec_capacity}
 use Rattle.store.specs.Sessions.{IsOf, StoreView}
-use Rattle.host_calls.specs.Leaving.{IsIdleSeat, IsSeatOf, sessions_back}
+use Rattle.host_calls.specs.Leaving.{sessions_back}
+use Rattle.host_calls.specs.Seating.{IsIdleSeat, IsSeatOf}
 use Rattle.host_calls.proofs.closing.gathered.Given as goal
 
 abbrev pub decreases-loop-place : goal.decreases-loop-place

@@ -1,7 +1,7 @@
 use Rattle.std.proofs.Common.{rules, ◌≡◌, sym, subst}
 use Rattle.std.proofs.lemmas.List.Elements.{All-push, All-same}
 use Rattle.store.specs.Sessions.{IsOf, StoreView}
-use Rattle.host_calls.specs.Leaving.{IsSeatOf}
+use Rattle.host_calls.specs.Seating.{IsSeatOf}
 use Rattle.host_calls.specs.Views.{AttachedView}
 use Rattle.host_calls.proofs.closing.push_session.Goals as goal
 
