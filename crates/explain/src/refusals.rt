@@ -1,5 +1,9 @@
 // Why a program is refused, in words: what broke, and what to do about it.
 
+ghost use Rattle.std.specs.Prelude.{◌≡◌, ◌++◌, ℕ, List, OnOk};
+ghost use Rattle.std.specs.String.{string_bytes};
+ghost use Rattle.explain.specs.Listing.{refusal_text, IsReason};
+
 mod calls;
 mod memory;
 mod operations;
@@ -14,7 +18,9 @@ use crate::refusals::memory::{
 use crate::refusals::operations::{moved_out, pointer_reply, stack_end_written, undefined};
 use crate::refusals::structural::broken_structure;
 use crate::refusals::unreadable::{unreadable, unreadable_at};
-use crate::sentences::{Told, Word, Written, one, put, say};
+use crate::sentences::{Told, Word, Written, one, put_all, say};
+use itoa::Buffer;
+use std::alloc::AllocError;
 use verifier::{Refused, VerifyFault};
 
 // What stands before what to do.
@@ -61,39 +67,53 @@ fn broken_kinds(study: &Study<'_>, way: &Way, why: VerifyFault) -> Told<'static>
 }
 
 // Adds under which number it is refused, and where.
-fn put_number(out: &mut String, refused: Refused) -> Written {
-    let number = Word::Small(refused.why.number());
-    let slot = Word::Count(refused.slot as usize);
-    put(out, "      V{0} at slot {1}.", &[number, slot])
+fn put_number(out: &mut String, refused: Refused) -> Written
+    ensures { OnOk result (string_bytes out.new ≡ string_bytes out.old ++ refusal_text refused) }
+{
+    let (mut number, mut slot) = (Buffer::new(), Buffer::new());
+    let pieces = [
+        "      V",
+        number.format(refused.why.number()),
+        " at slot ",
+        slot.format(refused.slot),
+        ".",
+    ];
+    put_all(out, &pieces)
 }
 
-// Adds a refusal by structure, if it is one.
-fn put_structure(out: &mut String, study: &Study<'_>, refused: Refused) -> Written {
-    let Some(told) = broken_structure(study, refused) else {
-        return Ok(());
-    };
-    put_number(out, refused)?;
-    out.push_str("\n      ")?;
-    told.put(out, TO_DO)
-}
-
-// Adds a refusal by kinds, with the way there.
-fn put_kinds(out: &mut String, study: &Study<'_>, refused: Refused) -> Written {
+// Adds the way to a refusal by kinds, and what is told of it.
+fn put_way(out: &mut String, study: &Study<'_>, refused: Refused) -> Written {
     let way = way_to(study, refused.slot as usize, lack_at(study, refused))?;
-    put_number(out, refused)?;
     out.push_str(" The way: ")?;
     way.put(out)?;
     out.push_str(".\n      ")?;
     broken_kinds(study, &way, refused.why).put(out, TO_DO)
 }
 
-// Adds why the program is refused, if it is: by its structure first, and by kinds as far as these are known.
-pub(crate) fn put_refusal(out: &mut String, study: &Study<'_>) -> Written {
-    if let Some(refused) = study.known.refused {
-        put_structure(out, study, refused)?;
+// What is told of a refusal behind its number: where it is by structure, also that by kinds, as far as these are known.
+fn reason(study: &Study<'_>, refused: Refused) -> Result<String, AllocError> {
+    let mut out = String::new(study.alloc);
+    let Some(told) = broken_structure(study, refused)? else {
+        put_way(&mut out, study, refused)?;
+        return Ok(out);
+    };
+    out.push_str("\n      ")?;
+    told.put(&mut out, TO_DO)?;
+    if let Some(kinds) = study.known.kinds {
+        put_number(&mut out, kinds)?;
+        put_way(&mut out, study, kinds)?;
     }
-    match study.known.kinds {
-        Some(refused) => put_kinds(out, study, refused),
-        None => Ok(()),
-    }
+    Ok(out)
+}
+
+// Adds why the program is refused, if it is.
+pub(crate) fn put_refusal(out: &mut String, study: &Study<'_>) -> Written
+    ensures { OnOk result ((text : List ℕ) × (string_bytes out.new ≡ string_bytes out.old ++ text) × IsReason study.now.known.refused text) }
+{
+    let Some(refused) = study.known.refused else {
+        return Ok(());
+    };
+    let reason = reason(study, refused)?;
+    put_number(out, refused)?;
+    out.push_str(reason.as_str())
 }

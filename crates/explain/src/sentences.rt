@@ -1,11 +1,13 @@
 // How it is said: texts with gaps, and what stands in these.
 
+mod pieces;
 mod told;
 mod words;
 
+pub(crate) use pieces::put_all;
 use std::alloc::AllocError;
 pub(crate) use told::{Told, four, none, one, put, say, say_that, three, two};
-pub(crate) use words::{Word, mode_word};
+pub(crate) use words::Word;
 
 // That something was added to a text, or no memory is left.
 pub(crate) type Written = Result<(), AllocError>;

@@ -1,13 +1,16 @@
 // Where a line of assembler text is wrong, and what is wanted there.
 
-ghost use Rattle.std.specs.Prelude.{◌≡◌, ◌<◌, [], length, IfOk, IsOk, IsErr};
+ghost use Rattle.std.specs.Prelude.{IfOk};
 ghost use Rattle.std.specs.String.{string_bytes};
 ghost use Rattle.asm.specs.Assembled.{assembled};
+ghost use Rattle.explain.specs.Told.{BeginsWith};
+ghost use Rattle.explain.specs.Assembly.{fault_text, IsToldOfText};
 
 use crate::files::operand_kinds::{OperandKind, kinds_of};
 use crate::files::probes::{fault_of, is_word};
-use crate::sentences::{Told, Word, Written, none, one, put, say_that};
+use crate::sentences::{Told, Word, Written, none, one, put, put_all, say_that};
 use asm::{AsmError, AsmFault, AsmRefusal, assemble};
+use itoa::Buffer;
 use std::alloc::{AllocError, Global};
 use text::NumberedLines;
 
@@ -243,16 +246,13 @@ fn line_at(text: &str, wanted: u32) -> &str {
     ""
 }
 
-// What is said of a refused text.
-fn told(alloc: Global, text: &str, refusal: AsmRefusal) -> Result<String, AllocError>
-    ensures { IfOk result (λ s. 0 < length (string_bytes s)) }
-{
+// What is wanted in a refused text: the column, what is wanted there, the line, and a mark below the column.
+fn wanted_text(alloc: Global, text: &str, refusal: AsmRefusal) -> Result<String, AllocError> {
     let line = line_at(text, refusal.line);
     let Wanted { at, what } = wanted_in(alloc, line, refusal.why)?;
     let mut out = String::new(alloc);
-    let number = Word::Field(u64::from(refusal.line));
     let column = Word::Count(at.saturating_add(1));
-    put(&mut out, "line {0} column {1}: wanted ", &[number, column])?;
+    put(&mut out, " column {0}: wanted ", &[column])?;
     what.put(&mut out, "")?;
     let shown = Word::Text(line.strip_suffix('\r').unwrap_or(line));
     put(&mut out, "    {0}\n    ", &[shown])?;
@@ -261,15 +261,33 @@ fn told(alloc: Global, text: &str, refusal: AsmRefusal) -> Result<String, AllocE
     Ok(out)
 }
 
-/// Where an assembler text is wrong that is refused, and what is wanted there: the line and the column, the text of the line, and a mark below
-/// the column. Nothing of a text that is a program.
+// What is said of a refused text.
+fn told(alloc: Global, text: &str, refusal: AsmRefusal) -> Result<String, AllocError>
+    ensures { IfOk result (λ s. BeginsWith (fault_text refusal) (string_bytes s)) }
+{
+    let wanted = wanted_text(alloc, text, refusal)?;
+    let (mut line, mut rule) = (Buffer::new(), Buffer::new());
+    let pieces = [
+        "line ",
+        line.format(refusal.line),
+        ": A",
+        rule.format(refusal.why.number()),
+        ",",
+    ];
+    let mut out = String::new(alloc);
+    put_all(&mut out, &pieces)?;
+    out.push_str(wanted.as_str())?;
+    Ok(out)
+}
+
+/// Where an assembler text is wrong that is refused, and what is wanted there: the line and the rule, as `asm` names them, the column, the text
+/// of the line, and a mark below the column. Nothing of a text that is a program.
 ///
 /// # Errors
 ///
 /// The system has no memory left.
 pub fn explain_assembly(alloc: Global, text: &str) -> Result<String, AllocError>
-    ensures quiet { IsOk (assembled text.now) → IfOk result (λ s. string_bytes s ≡ []) }
-    ensures told { IsErr (assembled text.now) → IfOk result (λ s. 0 < length (string_bytes s)) }
+    ensures told { IfOk result (λ s. IsToldOfText (assembled text.now) (string_bytes s)) }
 {
     match assemble(alloc, text) {
         Ok(_) => Ok(String::new(alloc)),

@@ -1,10 +1,15 @@
 // A manifest, line by line: what is known of each program, and what is wrong with each other line that is bad.
 
+ghost use Rattle.std.specs.Prelude.{◌≡◌, Some, false, IfOk, IfSome};
+ghost use Rattle.std.specs.String.{string_bytes};
+ghost use Rattle.loader.specs.Grammar.{line_meaning};
+ghost use Rattle.explain.specs.Manifest.{has_program, is_asked, no_program};
+
 use crate::files::lines::wrong_line;
-use crate::files::program_files::{bad_hex, no_program};
+use crate::files::program_files::{bad_hex, why_no_program};
 use crate::files::{TO_DO, text_of};
 use crate::programs::{Subject, explain_program};
-use crate::sentences::{Told, Word, Written, none, one, put, say, two};
+use crate::sentences::{Told, Word, Written, none, one, put, put_all, say, two};
 use insn::{DecodeError, DecodeRefusal, Insn, decode};
 use loader::{Line, ProgramLine, read_line};
 use maps::{Shape, ShapeFault, shapes_ok};
@@ -20,9 +25,8 @@ const MAX_PROGRAMS: usize = 256;
 struct Explanation<'a> {
     alloc: Global,
     files: &'a [(&'a str, &'a str)],
-    // The program that is asked for, if not all, and whether a line above has it.
+    // The program that is asked for, if not all.
     name: Option<&'a str>,
-    is_found: bool,
     // The number of the line that is looked at.
     line: u32,
     shapes: Vec<Shape>,
@@ -163,7 +167,7 @@ impl<'a> Explanation<'a> {
         let number = Word::Small(refusal.why.number());
         let slot = Word::Field(u64::from(refusal.slot));
         put(out, "D{0} at slot {1}.\n      ", &[number, slot])?;
-        no_program(bytes, refusal).put(out, TO_DO)
+        why_no_program(bytes, refusal).put(out, TO_DO)
     }
 
     // Adds what is known of the program of the line, or what is wrong with its file.
@@ -220,7 +224,6 @@ impl<'a> Explanation<'a> {
             Some(Line::Map(shape)) => self.put_map(out, shape),
             Some(Line::Program(program)) => {
                 if self.is_asked(program.name) {
-                    self.is_found = true;
                     self.put_asked(out, program)?;
                 }
                 self.names.push((program.name, number))?;
@@ -231,21 +234,14 @@ impl<'a> Explanation<'a> {
 
     // Adds what is to be said behind the last line; the next one has this number.
     fn put_end(&mut self, out: &mut String, number: u32) -> Written {
-        self.line = number;
-        match self.name {
-            Some(name) if !self.is_found => {
-                out.push_str("\nno program ")?;
-                out.push_str(name)?;
-                out.push_str("\n")
-            }
-            None if !self.has_map() => {
-                self.put_fault(out, 1)?;
-                out.push_str(
-                    "The manifest has no map. To do: begin it with a line `map array VALUE ENTRIES` or `map hash KEY VALUE ENTRIES`.\n",
-                )
-            }
-            _ => Ok(()),
+        if self.name.is_some() || self.has_map() {
+            return Ok(());
         }
+        self.line = number;
+        self.put_fault(out, 1)?;
+        out.push_str(
+            "The manifest has no map. To do: begin it with a line `map array VALUE ENTRIES` or `map hash KEY VALUE ENTRIES`.\n",
+        )
     }
 }
 
@@ -279,8 +275,40 @@ fn room_of(shape: Shape) -> u64 {
     each.saturating_mul(shape.entry_count() as u64)
 }
 
+// Whether a line of a manifest is that of a program of this name.
+fn has_program(manifest: &str, name: &str) -> bool
+    ensures { result ≡ has_program name.now manifest.now }
+{
+    let mut lines = NumberedLines::new(manifest);
+    while let Some((_, line)) = lines.take_line() {
+        if is_of(line, name) {
+            return true;
+        }
+    }
+    false
+}
+
+// Whether a line is that of a program of this name.
+fn is_of(line: &str, name: &str) -> bool
+    ensures { result ≡ is_asked (Some name.now) (line_meaning line.now) }
+{
+    match read_line(line) {
+        Some(Line::Program(program)) => program.name == name,
+        _ => false,
+    }
+}
+
+// That no program has this name.
+fn no_program(alloc: Global, name: &str) -> Result<String, AllocError>
+    ensures { IfOk result (λ s. string_bytes s ≡ no_program name.now) }
+{
+    let mut out = String::new(alloc);
+    put_all(&mut out, &["\nno program ", name, "\n"])?;
+    Ok(out)
+}
+
 /// What is to be said of a manifest with these files: of each line that is bad what is wrong with it, and of each program what is known
-/// of it; where a name is given, of the program of this name alone.
+/// of it; where a name is given, of the program of this name alone, or that there is none.
 ///
 /// # Errors
 ///
@@ -290,12 +318,29 @@ pub fn explain_manifest(
     manifest: &str,
     files: &[(&str, &str)],
     name: Option<&str>,
+) -> Result<String, AllocError>
+    // Where no line is that of a program of this name, it says so.
+    ensures missing { IfSome name.entry (λ n. has_program n.now manifest.now ≡ false → IfOk result (λ s. string_bytes s ≡ no_program n.now)) }
+{
+    if let Some(name) = name {
+        if !has_program(manifest, name) {
+            return no_program(alloc, name);
+        }
+    }
+    told(alloc, manifest, files, name)
+}
+
+// What is told of the lines of a manifest, one of which at least is asked for.
+fn told(
+    alloc: Global,
+    manifest: &str,
+    files: &[(&str, &str)],
+    name: Option<&str>,
 ) -> Result<String, AllocError> {
     let mut explanation = Explanation {
         alloc,
         files,
         name,
-        is_found: false,
         line: 1,
         shapes: Vec::new(alloc),
         bad_map: None,

@@ -147,7 +147,7 @@ fn of_value(word: [u8; 8]) -> Told<'static> {
         ),
         (0x18, kind) => say(
             "Opcode 18 has src {0}: a reference that another loader would resolve.",
-            "`MAP(n)` in C, `ldmap` in assembler text (src 5).",
+            "`NRBPF_MAP(n)` in C, `ldmap` in assembler text (src 5).",
             one(Word::Small(kind)),
         ),
         (0xd4 | 0xdc | 0xd7, _) => say(
@@ -232,7 +232,7 @@ fn of_fields(word: [u8; 8], why: DecodeFault) -> Told<'static> {
 }
 
 // Why bytes are no program.
-pub(crate) fn no_program(bytes: &[u8], refusal: DecodeRefusal) -> Told<'static> {
+pub(crate) fn why_no_program(bytes: &[u8], refusal: DecodeRefusal) -> Told<'static> {
     let word = bytes_at(bytes, refusal.slot);
     match refusal.why {
         why @ (DecodeFault::NotWholeSlots | DecodeFault::Empty | DecodeFault::TooLong) => {

@@ -124,6 +124,11 @@ pub(crate) fn accesses(study: &Study<'_>, slot: usize) -> [Option<Access>; 2] {
 }
 
 impl Access {
+    // Whether a call wants them.
+    pub(crate) fn is_of_call(self) -> bool {
+        matches!(self.what, Use::Key(_) | Use::Value(_))
+    }
+
     // The last of its bytes.
     pub(crate) fn last(self) -> i64 {
         self.at.saturating_add(self.bytes).saturating_sub(1)

@@ -1,5 +1,10 @@
 // A program beside what is known of it, by slots.
 
+ghost use Rattle.std.specs.Prelude.{◌≡◌, ◌≤◌, IfOk, IfSome, IsSome};
+ghost use Rattle.maps.specs.Shapes.{AreShapesOk};
+ghost use Rattle.maps.specs.declared.shapes.TheConstants.{MAX_ARG_LEN};
+ghost use Rattle.explain.specs.Listing.{verdict_on};
+
 use crate::programs::subject::Subject;
 use insn::{Edge, Form, Insn, MAX_SLOTS};
 use maps::{MAX_ARG_LEN, shapes_ok};
@@ -72,7 +77,11 @@ fn put_edges(edges: &mut [Vec<Step>], program: &[Insn], edge: Edge) -> Result<()
 
 impl<'a> Study<'a> {
     // What is known of a program; nothing where no store has such maps or arguments.
-    pub(crate) fn of(alloc: Global, subject: Subject<'a>) -> Result<Option<Study<'a>>, AllocError> {
+    pub(crate) fn of(alloc: Global, subject: Subject<'a>) -> Result<Option<Study<'a>>, AllocError>
+        ensures some { AreShapesOk subject.entry.shapes.now → subject.entry.arg_len ≤ MAX_ARG_LEN → IfOk result IsSome }
+        ensures same { IfOk result (λ o. IfSome o (λ s. s.subject ≡ subject.entry)) }
+        ensures refused { IfOk result (λ o. IfSome o (λ s. s.known.refused ≡ verdict_on subject.entry)) }
+    {
         let (program, shapes, arg_len) = (subject.program, subject.shapes, subject.arg_len);
         if shapes_ok(shapes).is_err() || arg_len > MAX_ARG_LEN {
             return Ok(None);

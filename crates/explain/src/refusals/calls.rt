@@ -19,7 +19,7 @@ fn no_map(study: &Study<'_>, way: &Way, kind: Kind) -> Told<'static> {
     match constant_of(study, way, 1) {
         Some(at) => say(
             "r1 is the number of slot {0}, and no map: a reference that the compiler left there was not resolved.",
-            "In C write `MAP(n)`: there is no loader for libbpf's map structs. In assembler text: `ldmap r1, n`.",
+            "In C write `NRBPF_MAP(n)`: there is no loader for libbpf's map structs. In assembler text: `ldmap r1, n`.",
             one(Word::Count(at)),
         ),
         None => say(

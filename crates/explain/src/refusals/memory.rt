@@ -22,6 +22,9 @@ fn way_back(access: Access, needed: i64) -> &'static str {
         Kind::Value(_, _) if access.at >= 0 && needed <= 256 => {
             "Raise VALUE of map {9} to {7} in the manifest, or {8}."
         }
+        Kind::Stack(_) if access.is_of_call() && access.bytes > 1 && access.at >= -512 => {
+            "Give all {1} bytes: write them in the stack, the first at r10 - {1} or below, and pass its address."
+        }
         Kind::Stack(_) => "Stay between r10 - 512 and r10.",
         _ => "Stay within the bytes that are there.",
     }

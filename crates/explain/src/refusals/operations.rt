@@ -21,7 +21,7 @@ fn through_number(study: &Study<'_>, register: u8, origin: Option<usize>) -> Tol
     match origin.and_then(|at| study.form_at(at)) {
         Some(Form::Imm64 { .. }) => say(
             "The number of slot {1} is used as an address, in {0}. Often the compiler left a reference to a global or a constant there, which nothing resolves: a program has the argument, the stack and maps alone.",
-            "Put the table into a map, or compute it; for a map write `MAP(n)` in C.",
+            "Put the table into a map, or compute it; for a map write `NRBPF_MAP(n)` in C.",
             words,
         ),
         Some(Form::Load { .. }) => say(

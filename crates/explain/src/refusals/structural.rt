@@ -1,8 +1,9 @@
 // Why a program's structure is refused: V1 to V5.
 
-use crate::programs::{Study, reads};
+use crate::programs::{Study, reads, successor};
 use crate::sentences::{Told, Word, none, one, say, three, two};
-use insn::Form;
+use insn::{Edge, Form};
+use std::alloc::AllocError;
 use verifier::{Refused, VerifyFault};
 
 // The slot to which the jump at a slot leads.
@@ -23,6 +24,58 @@ fn is_crossed(study: &Study<'_>, slot: usize) -> bool {
         }
     }
     false
+}
+
+// Whether a way leads from a slot to another, or to itself, whatever the directions of its jumps.
+fn is_way(study: &Study<'_>, from: usize, to: usize) -> Result<bool, AllocError> {
+    let mut is_met = Vec::new(study.alloc);
+    for _slot in 0..study.slots() {
+        is_met.push(false)?;
+    }
+    let mut left = Vec::new(study.alloc);
+    left.push(from)?;
+    for _step in 0..=study.slots() {
+        let Some(slot) = left.pop() else {
+            break;
+        };
+        if slot == to {
+            return Ok(true);
+        }
+        let Some(form) = study.form_at(slot) else {
+            continue;
+        };
+        for edge in [Edge::Fall, Edge::Jump] {
+            if let Some(next) = successor(form, slot, edge) {
+                if let Some(is_next_met) = is_met.get_mut(next) {
+                    if !*is_next_met {
+                        *is_next_met = true;
+                        left.push(next)?;
+                    }
+                }
+            }
+        }
+    }
+    Ok(false)
+}
+
+// Why a jump leads back: it is a loop, or the compiler put above what is run last.
+fn backward(study: &Study<'_>, slot: usize, target: i64) -> Result<Told<'static>, AllocError> {
+    let is_loop = match usize::try_from(target) {
+        Ok(to) => is_way(study, to, slot)?,
+        Err(_) => true,
+    };
+    let (what, fix) = if is_loop {
+        (
+            "This is a loop: the jump leads back to slot {0}, and programs have none.",
+            "Write the body as often as it may run (in C `#pragma unroll` and a constant bound), or let the caller call again.",
+        )
+    } else {
+        (
+            "This is no loop, but the jump leads back to slot {0}, from where no way leads here again; each jump has to lead forward.",
+            "Move what stands at slot {0} behind this jump. In C it is an early exit of a loop that was unrolled, as `break` or `return`, which clang put above: write the loop without an exit, as docs/C.md shows.",
+        )
+    };
+    Ok(say(what, fix, one(Word::Number(target))))
 }
 
 // The last slot of the instructions in a row, from this slot on, to which nothing leads.
@@ -108,27 +161,33 @@ fn endless(study: &Study<'_>, slot: usize) -> Told<'static> {
     }
 }
 
-// What is wrong where the structure is refused; nothing where it isn't.
-pub(crate) fn broken_structure(study: &Study<'_>, refused: Refused) -> Option<Told<'static>> {
-    let slot = refused.slot as usize;
-    let target = target_of(study.form_at(slot), refused.slot);
+// Why a jump leads to no instruction of the program.
+fn outside(study: &Study<'_>, target: i64) -> Told<'static> {
     let slots = study.slots();
-    Some(match refused.why {
-        VerifyFault::TargetOutside if usize::try_from(target) == Ok(slots) => say(
+    if usize::try_from(target) == Ok(slots) {
+        return say(
             "The jump leads to slot {0}, just behind the last instruction: a label at the end of the text names none.",
             "Put an instruction behind the label: `exit`, with a number in r0 before it.",
             one(Word::Number(target)),
-        ),
-        VerifyFault::TargetOutside => say(
-            "The jump leads to slot {0}; the program has slots 0 to {1}. A jump is counted in slots from the next instruction, and `lddw` and `ldmap` take two.",
-            "Jump to an instruction of the program.",
-            two(Word::Number(target), Word::Count(slots.saturating_sub(1))),
-        ),
-        VerifyFault::TargetNotForward => say(
-            "This is a loop: the jump leads back to slot {0}, and programs have none.",
-            "Write the body as often as it may run (in C `#pragma unroll` and a constant bound), or let the caller call again.",
-            one(Word::Number(target)),
-        ),
+        );
+    }
+    say(
+        "The jump leads to slot {0}; the program has slots 0 to {1}. A jump is counted in slots from the next instruction, and `lddw` and `ldmap` take two.",
+        "Jump to an instruction of the program.",
+        two(Word::Number(target), Word::Count(slots.saturating_sub(1))),
+    )
+}
+
+// What is wrong where the structure is refused; nothing where it isn't.
+pub(crate) fn broken_structure(
+    study: &Study<'_>,
+    refused: Refused,
+) -> Result<Option<Told<'static>>, AllocError> {
+    let slot = refused.slot as usize;
+    let target = target_of(study.form_at(slot), refused.slot);
+    Ok(Some(match refused.why {
+        VerifyFault::TargetOutside => outside(study, target),
+        VerifyFault::TargetNotForward => backward(study, slot, target)?,
         VerifyFault::TargetInsideWide => say(
             "Slot {0} is the second half of the wide instruction at slot {1}.",
             "Jump to slot {1} or {2}.",
@@ -140,6 +199,6 @@ pub(crate) fn broken_structure(study: &Study<'_>, refused: Refused) -> Option<To
         ),
         VerifyFault::RunsOffTheEnd => endless(study, slot),
         VerifyFault::Unreachable => unreached(study, slot),
-        _ => return None,
-    })
+        _ => return Ok(None),
+    }))
 }

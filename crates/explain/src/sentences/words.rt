@@ -3,7 +3,7 @@
 use crate::sentences::Written;
 use regkind::Kind;
 use std::fmt::Write;
-use verifier::{Mode, VerifyFault};
+use verifier::VerifyFault;
 
 // What stands in a gap.
 #[derive(Clone, Copy)]
@@ -105,13 +105,5 @@ fn put_piece(out: &mut String, piece: Piece<'_>) -> Written {
         Offset(by) => write!(out, " +{by}"),
         Piece::Hex(byte) => write!(out, "{byte:02x}"),
         Piece::Character(byte) => out.push(char::from(byte)),
-    }
-}
-
-// The word of a mode in a manifest.
-pub(crate) fn mode_word<'a>(mode: Mode) -> Word<'a> {
-    match mode {
-        Mode::Update => Word::Text("update"),
-        Mode::Read => Word::Text("read"),
     }
 }

@@ -1,5 +1,5 @@
 use Rattle.std.proofs.Common.{length}
-use Rattle.explain.proofs.files.manifest.explain_manifest.Given as goal
+use Rattle.explain.proofs.files.manifest.told.Given as goal
 
 abbrev pub decreases-loop-number : goal.decreases-loop-number
 decreases-loop-number l = length l.lines.lines

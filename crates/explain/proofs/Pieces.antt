@@ -1,0 +1,35 @@
+-- Texts put together, one behind another.
+use Rattle.std.proofs.Common.{◌≡◌, ℕ, ◌+◌, ◌<◌, List, [], ◌∷◌, ◌++◌, map, length, drop, get_or, Result, Ok, Err, OnOk, refl, sym, ap, ◌∙◌, append_assoc}
+use Rattle.std.specs.Borrow.{Bor}
+use Rattle.std.specs.List.{concat}
+use Rattle.std.proofs.lemmas.List.{append-nil, drop_more}
+use Rattle.std.proofs.lemmas.List.Folds.{concat-append}
+
+-- the texts of these references, joined
+abbrev pub joined : List (Bor (List ℕ)) → List ℕ
+joined ps = concat (map (λ p. p.now) ps)
+
+none_left : (ps : List (Bor (List ℕ))) → drop (length ps) ps ≡ []
+none_left [] = refl
+none_left (p ∷ ps) = none_left ps
+
+-- behind the last one all are put
+pub whole : (ps : List (Bor (List ℕ))) (k : ℕ) (out all : List ℕ) → k ≡ length ps → out ++ joined (drop k ps) ≡ all → out ≡ all
+whole ps k out all end so_far = sym (append-nil out) ∙ ap (λ q. out ++ joined q) (sym (ap (λ n. drop n ps) end ∙ none_left ps)) ∙ so_far
+
+-- one text more
+pub piece_more : (ps : List (Bor (List ℕ))) (k : ℕ) (d p : Bor (List ℕ)) → k < length ps → p ≡ get_or ps k d → (out after all : List ℕ) → out ++ joined (drop k ps) ≡ all → after ≡ out ++ p.now
+    → after ++ joined (drop (k + 1) ps) ≡ all
+piece_more ps k d p lt is out after all so_far one =
+    let here : drop k ps ≡ p ∷ drop (k + 1) ps = drop_more ps k d lt ∙ ap (λ q. q ∷ drop (k + 1) ps) (sym is) in
+    ap (λ t. t ++ joined (drop (k + 1) ps)) one ∙ append_assoc out p.now (joined (drop (k + 1) ps)) ∙ ap (λ q. out ++ joined q) (sym here) ∙ so_far
+
+-- texts behind texts
+pub both : (xs ys : List (List ℕ)) (old now after : List ℕ) → now ≡ old ++ concat xs → after ≡ now ++ concat ys → after ≡ old ++ concat (xs ++ ys)
+both xs ys old now after first second =
+    second ∙ ap (λ t. t ++ concat ys) first ∙ append_assoc old (concat xs) (concat ys) ∙ ap (λ t. old ++ t) (sym (concat-append xs ys))
+
+-- what holds where a call succeeded
+pub on_ok : {A E : Type 0} {P Q : Type 0} (r : Result A E) → (P → Q) → OnOk r P → OnOk r Q
+on_ok (Ok x) f p = f p
+on_ok (Err e) f p = tt

@@ -1,0 +1,13 @@
+use Rattle.std.proofs.Common.{◌≡◌, ◌++◌, ap, ◌∙◌}
+use Rattle.explain.specs.Listing.{line_of, head_text, verdict_on}
+use Rattle.explain.proofs.Lines.{explained, some_of}
+use Rattle.explain.proofs.programs.listing.explain_program.Goals as goal
+
+pub returns : goal.returns
+returns c =
+    let s = c.args.subject in
+    let study = c.in-Some.study in
+    let same = some_of (λ x. x.subject ≡ s) _ study c.in-Some.is c.in_ok-study.ensures.same in
+    let refused = some_of (λ x. x.known.refused ≡ verdict_on s) _ study c.in-Some.is c.in_ok-study.ensures.refused in
+    let head = c.in_ok-put_head.ensures ∙ ap (λ t. t ++ head_text s.line (line_of s)) c.new-out.ensures.bytes in
+    record { told = λ can. explained s study.subject study.known.refused _ _ _ same refused head c.in_ok-put_lines.ensures c.in_ok-put_refusal.ensures can.few }

@@ -1,0 +1,14 @@
+use Rattle.std.proofs.Common.{arith}
+use Rattle.explain.proofs.Lines.{are_enough, is_listing, size_take}
+use Rattle.explain.proofs.Pieces.{on_ok}
+use Rattle.explain.proofs.programs.listing.put_lines.Goals as goal
+
+pub returns : goal.returns
+returns c =
+    let study = c.args.study.now in
+    let p = study.subject.program.now in
+    let count = c.count_upto.result in
+    on_ok c.put_left.result
+    (λ put small.
+    is_listing p study.known.refused count _ _ _ _ ((rw c.split_at.ensures.front at c.in_ok-put_instructions.ensures) (omega (arith, size_take count p, small))) c.split_at.ensures.back_len put
+    (are_enough p study.known.refused count c.limits_of-limits.result.listed small c.limits_of-limits.ensures c.count_upto.ensures.enough)) c.put_left.ensures

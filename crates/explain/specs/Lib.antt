@@ -1,0 +1,5 @@
+-- What is told of a program, of refused assembler text and of a manifest, as far as its words are defined.
+pub mod Told
+pub mod Listing
+pub mod Assembly
+pub mod Manifest

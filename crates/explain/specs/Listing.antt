@@ -1,0 +1,110 @@
+-- The listing of a program, and what is told of a program.
+use Rattle.std.specs.Prelude.{◌≡◌, ◌⊎◌, ℕ, ◌+◌, ◌-◌, ◌<◌, ◌≤◌, false, ◌==◌, nat_lt, List, [], ◌∷◌, ◌++◌, length, take, codes, decimal, Option, Some, None, if◌then◌else◌}
+use Rattle.std.specs.List.{concat, list_any}
+use Rattle.insn.specs.declared.instruction.Form.{Form}
+use Rattle.insn.specs.declared.instruction.TheConstants.{MAX_SLOTS}
+use Rattle.insn.specs.Layout.{slot_count, size}
+use Rattle.asm.specs.Text.{line_text}
+use Rattle.maps.specs.Shapes.{AreShapesOk}
+use Rattle.maps.specs.declared.shapes.TheConstants.{MAX_ARG_LEN}
+use Rattle.verifier.specs.declared.refusal.Refused.{Refused}
+use Rattle.verifier.specs.Numbers.{fault_number}
+use Rattle.verifier.specs.Signature.{signature}
+use Rattle.verifier.specs.Verdict.{verdict}
+use Rattle.loader.specs.Grammar.{ProgramLine}
+use Rattle.loader.specs.Spelling.{mode_word}
+use Rattle.explain.specs.declared.programs.subject.Subject.{Subject}
+use Rattle.explain.specs.Told.{BeginsWith}
+
+-- ---- the line of an instruction
+
+-- the blanks before a number that stands at the right of four columns
+abbrev pub margin : ℕ → List ℕ
+margin n = if nat_lt n 10 then codes "   " else if nat_lt n 100 then codes "  " else if nat_lt n 1000 then codes " " else []
+
+-- nothing; or what is known at a slot, behind a space and in the same line
+abbrev pub IsAside : List ℕ → Type 0
+IsAside text = (text ≡ []) ⊎ ((known : List ℕ) × (text ≡ concat (codes " " ∷ known ∷ [])) × (list_any (λ b. b == 10) known ≡ false))
+
+-- the slot of an instruction, and its line as `dis` writes it, at whose end stands what is known there
+pub record IsLine (slot : ℕ) (i : Form) (line : List ℕ) : Type 0 where
+  pub words : List ℕ
+  pub aside : List ℕ
+  pub disassembled : line_text i ≡ words ++ codes "\n"
+  pub known : IsAside aside
+  pub whole : line ≡ concat (margin slot ∷ decimal slot ∷ codes "  " ∷ words ∷ aside ∷ codes "\n" ∷ [])
+
+-- the lines of these instructions, of which the first begins at this slot
+abbrev pub Lists : ℕ → List Form → List ℕ → Type 0
+Lists slot [] text = text ≡ []
+Lists slot (i ∷ is) text = (line : List ℕ) × (rest : List ℕ) × (text ≡ line ++ rest) × IsLine slot i line × Lists (slot + slot_count i) is rest
+
+-- ---- what is told of a program
+
+-- a program as a line of a manifest names it
+abbrev pub line_of : Subject → ProgramLine
+line_of s = record { name = s.name.now; mode = s.mode; arg_len = s.arg_len; file = s.file.now }
+
+abbrev pub byte_word : ℕ → List ℕ
+byte_word n = if n == 1 then codes " byte" else codes " bytes"
+
+-- which program it is: its name, its line, whether it may change maps, how long its argument is, and its file
+abbrev pub head_text : ℕ → ProgramLine → List ℕ
+head_text n p =
+    concat
+    (codes "program " ∷ p.name ∷ codes ": line " ∷ decimal n ∷ codes ", " ∷ mode_word p.mode ∷ codes ", argument " ∷ decimal p.arg_len ∷ byte_word p.arg_len ∷ codes ", "
+    ∷ p.file ∷ codes "\n" ∷ [])
+
+abbrev pub instruction_word : ℕ → List ℕ
+instruction_word n = if n == 1 then codes " more instruction)\n" else codes " more instructions)\n"
+
+-- how many instructions are not listed
+abbrev pub left_text : ℕ → List ℕ
+left_text n = if n == 0 then [] else concat (codes "      (" ∷ decimal n ∷ instruction_word n ∷ [])
+
+-- under which rule a program is refused, and where
+abbrev pub refusal_text : Refused → List ℕ
+refusal_text e = concat (codes "      V" ∷ decimal (fault_number e.why) ∷ codes " at slot " ∷ decimal e.slot ∷ codes "." ∷ [])
+
+-- so many instructions are all, or reach to the slot at which the program is refused
+abbrev pub AreEnough : List Form → Option Refused → ℕ → Type 0
+AreEnough p verdict count = (length p ≤ count) ⊎ ((e : Refused) × (verdict ≡ Some e) × (e.slot < size (take count p)))
+
+-- the listing of a program with this verdict: the lines of its first instructions, and how many are left
+pub record IsListing (p : List Form) (verdict : Option Refused) (text : List ℕ) : Type 0 where
+  pub count : ℕ
+  pub lines : List ℕ
+  pub listed : Lists 0 (take count p) lines
+  pub enough : AreEnough p verdict count
+  pub whole : text ≡ lines ++ left_text (length p - count)
+
+-- such a listing stands behind what stood there
+abbrev pub AddsListing : List Form → Option Refused → List ℕ → List ℕ → Type 0
+AddsListing p verdict old new = size p ≤ MAX_SLOTS → (text : List ℕ) × (new ≡ old ++ text) × IsListing p verdict text
+
+-- nothing of a program that is accepted; of another first its refusal
+abbrev pub IsReason : Option Refused → List ℕ → Type 0
+IsReason None text = text ≡ []
+IsReason (Some e) text = BeginsWith (refusal_text e) text
+
+-- what is told of a program with this verdict: its listing, and why it is refused
+pub record Tells (p : List Form) (verdict : Option Refused) (text : List ℕ) : Type 0 where
+  pub listing : List ℕ
+  pub reason : List ℕ
+  pub lists : IsListing p verdict listing
+  pub refuses : IsReason verdict reason
+  pub whole : text ≡ listing ++ reason
+
+-- the verdict on a program
+abbrev pub verdict_on : Subject → Option Refused
+verdict_on s = verdict s.program.now (signature s.shapes.now s.arg_len s.mode)
+
+-- it has at most 4,096 slots, and a store may have such maps, and such an argument
+pub record CanBeJudged (s : Subject) : Type 0 where
+  pub shapes : AreShapesOk s.shapes.now
+  pub argument : s.arg_len ≤ MAX_ARG_LEN
+  pub few : size s.program.now ≤ MAX_SLOTS
+
+-- what is told of a program: which one it is, and this of it
+abbrev pub Explains : Subject → List ℕ → Type 0
+Explains s text = (told : List ℕ) × (text ≡ head_text s.line (line_of s) ++ told) × Tells s.program.now (verdict_on s) told
