@@ -8,9 +8,9 @@ use Rattle.insn.specs.Refusal as decoding
 use Rattle.asm.specs.declared.refusals.AsmRefusal.{AsmRefusal}
 use Rattle.asm.specs.Assembled.{assembled}
 use Rattle.asm.specs.Refusal as assembling
-use Rattle.console.specs.declared.status.Verdict.TheVariants as verdicts
-use Rattle.console.specs.Reading.{TextsRead}
-use Rattle.console.specs.Answer.{Answer, not_text}
+use Rattle.engine.specs.declared.status.Verdict.TheVariants as verdicts
+use Rattle.engine.specs.Reading.{TextsRead}
+use Rattle.engine.specs.Answer.{Answer, not_text}
 
 -- ---- the texts
 

@@ -3,9 +3,9 @@ use Rattle.std.specs.Prelude.{ℕ, List, ◌++◌, codes, decimal, Option, Some,
 use Rattle.encoding.specs.declared.faults.EncodeRefusal.{EncodeRefusal}
 use Rattle.encoding.specs.Faults.{wanted_text}
 use Rattle.encoding.specs.Encoded.{encoded_text}
-use Rattle.console.specs.declared.status.Verdict.TheVariants as verdicts
-use Rattle.console.specs.Reading.{TextsRead}
-use Rattle.console.specs.Answer.{Answer, not_text}
+use Rattle.engine.specs.declared.status.Verdict.TheVariants as verdicts
+use Rattle.engine.specs.Reading.{TextsRead}
+use Rattle.engine.specs.Answer.{Answer, not_text}
 
 -- the first place that is wrong, and what was to stand there
 abbrev pub encode_refusal_text : EncodeRefusal → List ℕ

@@ -1,18 +1,17 @@
 // What files are that are no text, in words.
 
 ghost use Rattle.std.specs.Prelude.{IfOk};
-ghost use Rattle.console.specs.Answer.{not_text};
 ghost use Rattle.console.specs.Explanation.{IsExplanation};
-ghost use Rattle.console.specs.Report.{answer_of};
+ghost use Rattle.engine.specs.Answer.{not_text};
+ghost use Rattle.engine.specs.Report.{answer_of};
 
-use crate::folder::Folder;
-use crate::input::{InputFault, Stranger, read_keeping};
-use crate::reporting::Reply;
-use crate::status::Verdict;
-use crate::texts::not_text;
+use engine::reading::Stranger;
+use engine::replies::not_text;
+use engine::{Folder, ReadFault, Reply, Source};
 use explain::explain_stranger;
 use loader::named_files;
 use std::alloc::{AllocError, Global};
+use std::str;
 
 // Adds what these bytes are, under a name.
 fn tell(alloc: Global, told: &mut Vec<u8>, name: &str, bytes: &[u8]) -> Result<(), AllocError> {
@@ -30,11 +29,10 @@ fn tell_file<F: Folder>(
     let Some(mut file) = folder.open(name) else {
         return Ok(());
     };
-    let mut bytes = Vec::new(alloc);
-    match read_keeping(alloc, &mut file, &mut bytes) {
-        Ok(_) | Err(InputFault::CannotRead) => Ok(()),
-        Err(InputFault::NoMemory) => Err(AllocError),
-        Err(InputFault::NotText) => tell(alloc, told, name, &bytes),
+    match file.read_whole(alloc) {
+        Ok(bytes) if str::from_utf8(&bytes).is_err() => tell(alloc, told, name, &bytes),
+        Ok(_) | Err(ReadFault::CannotRead) => Ok(()),
+        Err(ReadFault::NoMemory) => Err(AllocError),
     }
 }
 
@@ -58,37 +56,22 @@ fn tell_others<F: Folder>(
     Ok(())
 }
 
-// What `check` answers to what is no text, and this behind it.
-fn behind_not_text(alloc: Global, told: &[u8]) -> Result<Reply, AllocError>
-    ensures { IfOk result (λ r. IsExplanation not_text (answer_of r)) }
-{
-    let mut text = Vec::new(alloc);
-    text.extend_from_slice(not_text())?;
-    text.extend_from_slice(told)?;
-    let verdict = Verdict::Refused;
-    Ok(Reply { text, verdict })
-}
-
-// What `explain` answers to a manifest that is no text.
-pub(crate) fn strange_manifest(alloc: Global, bytes: &[u8]) -> Result<Reply, AllocError>
-    ensures { IfOk result (λ r. IsExplanation not_text (answer_of r)) }
-{
-    let mut told = Vec::new(alloc);
-    tell(alloc, &mut told, "the manifest", bytes)?;
-    behind_not_text(alloc, &told)
-}
-
-// What `explain` answers to a manifest that names a file that is no text, and to what it names behind that.
-pub(crate) fn strange_files<F: Folder>(
+// What `explain` answers where a text is none: what `check` does, and behind it what it is, and what the files are that the manifest
+// names behind it.
+pub(crate) fn explain_strangers<F: Folder>(
     alloc: Global,
     folder: &F,
-    manifest: &str,
     stranger: &Stranger,
 ) -> Result<Reply, AllocError>
     ensures { IfOk result (λ r. IsExplanation not_text (answer_of r)) }
 {
+    let Reply { mut text, verdict } = not_text(alloc)?;
+    let name = stranger.name.as_str();
     let mut told = Vec::new(alloc);
-    tell(alloc, &mut told, stranger.name, &stranger.bytes)?;
-    tell_others(alloc, folder, manifest, stranger.name, &mut told)?;
-    behind_not_text(alloc, &told)
+    tell(alloc, &mut told, name, &stranger.bytes)?;
+    if let Some(manifest) = &stranger.manifest {
+        tell_others(alloc, folder, manifest.as_str(), name, &mut told)?;
+    }
+    text.extend_from_slice(&told)?;
+    Ok(Reply { text, verdict })
 }

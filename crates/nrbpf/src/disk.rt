@@ -3,7 +3,7 @@
 ghost use Rattle.std.specs.Prelude.{IfOk};
 ghost use Rattle.std.specs.Counts.{IsPrefixLen};
 
-use console::Folder;
+use engine::Folder;
 use std::alloc::{AllocError, Global};
 use std::io::{Eprint, Input, Read};
 use std::rt::Files;

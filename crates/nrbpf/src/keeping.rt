@@ -1,15 +1,13 @@
 // What is put into files behind the answers: states, and the times of calls.
 
 use crate::disk::DASH;
-use crate::output::{part_of, save, say_text};
+use crate::output::{part_of, save};
 use crate::tasks::StateFiles;
-use console::{
-    Folder, InputFault, Kept, Notes, Reply, ServeEnd, Sink, Status, Telling, replay_on_reply,
-    report, run_on_reply, serve, signed,
-};
 use dumps::dump;
+use engine::{Folder, InputFault, Notes, ReadFault, Sink, Status, prepare, reading, report};
 use loader::StoreState;
-use realtime::replay_timed_reply;
+use running::{Kept, Run};
+use serving::{ServeEnd, serve};
 use std::alloc::{AllocError, Global};
 use std::io::{Eprint, Read, Write};
 use std::rt::Files;
@@ -67,45 +65,35 @@ pub fn state_text<'a>(
     }
 }
 
-// What a run has to write, and what goes into a file behind it.
-fn prepared<'a>(
-    alloc: Global,
-    files: StateFiles<'a>,
-    is_signed: bool,
-    kept: Kept,
-) -> Result<(Reply, Option<Later<'a>>), AllocError> {
-    let Kept { reply, state } = kept;
-    let later = state_text(alloc, files.dump, state)?;
-    let reply = if is_signed {
-        signed(alloc, reply)?
-    } else {
-        reply
-    };
-    Ok((reply, later))
-}
-
-/// Runs a script on the state of a file, with signed numbers or without, and puts the state that it leaves into a file, where no line was
-/// bad and all was written.
+/// Runs a script on the state of a file, and puts the state that it leaves into a file, where no line was bad and all was
+/// written.
 pub fn run_on<R: Files + AllocGlobal + Eprint, F: Folder, I: Read + Drop, W: Write>(
     rt: &R,
     files: StateFiles<'_>,
-    is_signed: bool,
+    command: Run,
     folder: &F,
     inputs: &mut Inputs<I>,
     writer: &mut W,
 ) -> Status {
     let alloc = rt.alloc();
-    let Inputs {
-        manifest,
-        file,
-        state,
-        ..
-    } = inputs;
-    let kept = match run_on_reply(alloc, folder, manifest, file, state) {
-        Ok(kept) => kept,
-        Err(fault) => return report(writer, Err(fault)),
+    let mut inputs = reading::Inputs {
+        folder,
+        manifest: Some(&mut inputs.manifest),
+        file: Some(&mut inputs.file),
+        state: Some(&mut inputs.state),
+        history: None,
     };
-    let Ok((reply, later)) = prepared(alloc, files, is_signed, kept) else {
+    let Kept { reply, state } = match prepare(
+        alloc,
+        &command,
+        &mut inputs,
+        &mut Notes::none(alloc),
+    ) {
+        Ok(kept) => kept,
+        Err(ReadFault::NoMemory) => return report(writer, Err(InputFault::NoMemory)),
+        Err(ReadFault::CannotRead) => return Status::CannotRead,
+    };
+    let Ok(later) = state_text(alloc, files.dump, state) else {
         return report(writer, Err(InputFault::NoMemory));
     };
     match (report(writer, Ok(reply)), later) {
@@ -137,35 +125,4 @@ pub fn serve_on<R: Files + AllocGlobal + Eprint, F: Folder, I: Read + Drop, W: W
         Ok(None) => status,
         Err(_) => report(writer, Err(InputFault::NoMemory)),
     }
-}
-
-/// Replays a transcript on the state of a file, judges the times of its calls where these are asked for, and says on standard error what is
-/// to be told of it.
-pub fn replay_on<R: AllocGlobal + Eprint, F: Folder, I: Read + Drop, W: Write>(
-    rt: &R,
-    spare: u32,
-    telling: Telling,
-    is_timed: bool,
-    folder: &F,
-    inputs: &mut Inputs<I>,
-    writer: &mut W,
-) -> Status {
-    let alloc = rt.alloc();
-    let mut notes = Notes::new(alloc, telling);
-    let Inputs {
-        manifest,
-        file,
-        state,
-        times,
-    } = inputs;
-    let reply = if is_timed {
-        replay_timed_reply(
-            alloc, folder, spare, manifest, file, state, times, &mut notes,
-        )
-    } else {
-        replay_on_reply(alloc, folder, spare, manifest, file, state, &mut notes)
-    };
-    let status = report(writer, reply);
-    say_text(rt, notes.text);
-    status
 }

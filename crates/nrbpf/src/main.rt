@@ -11,14 +11,16 @@ mod store_help;
 mod stressing;
 mod tasks;
 
-use console::{
-    Folder, Notes, Setup, Status, check, engine, explain, graph, reading, replay, run, run_signed,
-    schedule,
-};
+use console::{Check, Draw, Explain};
 use disk::{Disk, LateFile};
-use keeping::{Inputs, replay_on, run_on, serve_on};
+use engine::{Answering, Command, Folder, Notes, Status, Telling, reading};
+use keeping::{Inputs, run_on, serve_on};
 use output::{Output, assemble, encode_or_say, say_text};
+use realtime::ReplayTimed;
+use replaying::Replay;
+use scheduling::Schedule;
 use sizes::say_sizes;
+use std::alloc::Global;
 use std::io::{self, Eprint, Input, Print, Read, Write};
 use std::process::ExitCode;
 use std::rt::{Clock, Files};
@@ -26,6 +28,51 @@ use std::sync::Wait;
 use std::thread::Threads;
 use stressing::{stress_alone, stress_into};
 use tasks::{Call, StateTask, Task};
+
+// A manifest with its files, and another text, where there is one.
+fn given<F: Folder, I: Read + Drop>(
+    folder: &F,
+    manifest: Option<I>,
+    file: Option<I>,
+) -> reading::Inputs<'_, F, I> {
+    reading::Inputs {
+        folder,
+        manifest,
+        file,
+        state: None,
+        history: None,
+    }
+}
+
+// Does a command that tells nothing beside its answer.
+fn plainly<C: Command, F: Folder, I: Read + Drop, W: Write>(
+    alloc: Global,
+    command: &C,
+    mut inputs: reading::Inputs<'_, F, I>,
+    writer: &mut W,
+) -> Status
+where
+    C::Made: Answering,
+{
+    engine::perform(alloc, command, &mut inputs, &mut Notes::none(alloc), writer)
+}
+
+// Does a command, and says on standard error what is to be told beside its answer.
+fn aloud<R: AllocGlobal + Eprint, C: Command, F: Folder, I: Read + Drop, W: Write>(
+    rt: &R,
+    command: &C,
+    telling: Telling,
+    mut inputs: reading::Inputs<'_, F, I>,
+    writer: &mut W,
+) -> Status
+where
+    C::Made: Answering,
+{
+    let mut notes = Notes::new(rt.alloc(), telling);
+    let status = engine::perform(rt.alloc(), command, &mut inputs, &mut notes, writer);
+    say_text(rt, notes.text);
+    status
+}
 
 // Does a task on a store that opens on a state, with what it reads and where it writes.
 fn perform_on_state<
@@ -35,26 +82,25 @@ fn perform_on_state<
     W: Write,
 >(rt: &R, task: StateTask<'_>, folder: &F, inputs: &mut Inputs<I>, writer: &mut W) -> Status {
     match task {
-        StateTask::Run(files, is_signed) => run_on(rt, files, is_signed, folder, inputs, writer),
+        StateTask::Run(files, command) => run_on(rt, files, command, folder, inputs, writer),
         StateTask::Serve(spare, files) => serve_on(rt, spare, files, folder, inputs, writer),
         StateTask::Stress(config, beside) => {
             stress_into(rt, config, beside, folder, inputs, writer)
         }
         StateTask::Replay(spare, telling, files) => {
-            let is_timed = files.history.is_some();
-            replay_on(rt, spare, telling, is_timed, folder, inputs, writer)
+            let inputs = reading::Inputs {
+                folder,
+                manifest: Some(&mut inputs.manifest),
+                file: Some(&mut inputs.file),
+                state: Some(&mut inputs.state),
+                history: Some(&mut inputs.times),
+            };
+            if files.history.is_some() {
+                aloud(rt, &ReplayTimed { spare }, telling, inputs, writer)
+            } else {
+                aloud(rt, &Replay { spare }, telling, inputs, writer)
+            }
         }
-    }
-}
-
-// A text, and nothing beside it.
-fn alone<F: Folder, I: Read + Drop>(folder: &F, file: I) -> reading::Inputs<'_, F, I> {
-    reading::Inputs {
-        folder,
-        manifest: None,
-        file: Some(file),
-        state: None,
-        history: None,
     }
 }
 
@@ -68,38 +114,35 @@ fn perform<
     let alloc = rt.alloc();
     let Inputs { manifest, file, .. } = inputs;
     match task {
-        Task::Check => check(alloc, folder, manifest, writer),
-        Task::Explain(name) => explain(alloc, folder, manifest, name, writer),
-        Task::Graph(name) => graph(alloc, folder, manifest, name, writer),
+        Task::Check => plainly(alloc, &Check, given(folder, Some(manifest), None), writer),
+        Task::Explain(name) => {
+            let command = Explain { folder, name };
+            plainly(alloc, &command, given(folder, Some(manifest), None), writer)
+        }
+        Task::Graph(name) => {
+            let command = Draw { name };
+            plainly(alloc, &command, given(folder, Some(manifest), None), writer)
+        }
         Task::Assemble(path, telling) => {
-            assemble(rt, path, telling, &mut alone(folder, file), writer)
+            let mut inputs = given(folder, None, Some(file));
+            assemble(rt, path, telling, &mut inputs, writer)
         }
         Task::Disassemble(command) => {
-            let mut inputs = alone(folder, file);
-            engine::perform(
-                alloc,
-                &command,
-                &mut inputs,
-                &mut Notes::none(alloc),
-                writer,
-            )
+            plainly(alloc, &command, given(folder, None, Some(file)), writer)
         }
-        Task::Encode => encode_or_say(rt, &mut alone(folder, file), writer),
-        Task::Run => run(alloc, folder, manifest, file, writer),
-        Task::RunSigned => run_signed(alloc, folder, manifest, file, writer),
+        Task::Encode => encode_or_say(rt, &mut given(folder, None, Some(file)), writer),
+        Task::Run(command) => {
+            let inputs = given(folder, Some(manifest), Some(file));
+            plainly(alloc, &command, inputs, writer)
+        }
         Task::Replay(spare, telling) => {
-            let mut notes = Notes::new(alloc, telling);
-            let status = replay(alloc, folder, spare, manifest, file, &mut notes, writer);
-            say_text(rt, notes.text);
-            status
+            let inputs = given(folder, Some(manifest), Some(file));
+            aloud(rt, &Replay { spare }, telling, inputs, writer)
         }
         Task::Stress(config) => stress_alone(rt, config, folder, manifest, file, writer),
         Task::Schedule(config, telling) => {
-            let mut notes = Notes::new(alloc, telling);
-            let setup = Setup { config, folder };
-            let status = schedule(alloc, setup, manifest, file, &mut notes, writer);
-            say_text(rt, notes.text);
-            status
+            let inputs = given(folder, Some(manifest), Some(file));
+            aloud(rt, &Schedule { config }, telling, inputs, writer)
         }
         Task::OnState(task) => perform_on_state(rt, task, folder, inputs, writer),
     }

@@ -1,10 +1,11 @@
 // Where a command writes.
 
 use crate::disk::say;
-use console::engine::{Command, prepare, report};
-use console::reading::{Inputs, gather};
-use console::{
-    Assemble, Encode, Folder, Notes, ReadFault, Reply, Sink, Source, Status, Telling, Verdict,
+use console::{Assemble, Encode};
+use engine::performing::report;
+use engine::reading::{Inputs, gather};
+use engine::{
+    Command, Folder, Notes, ReadFault, Reply, Sink, Source, Status, Telling, Verdict, prepare,
 };
 use std::alloc::{AllocError, Global};
 use std::io::{Eprint, ErrorKind, Write};

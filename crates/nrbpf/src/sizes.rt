@@ -1,7 +1,7 @@
 // Which sizes of a store are out of their limits.
 
 use crate::tasks::{StateTask, Task};
-use console::Status;
+use engine::Status;
 use loader::MAX_PLACES;
 use oplog::{Config, MAX_LIMIT, MAX_NODE_SLOTS, MAX_NODES, MAX_WINDOW, MIN_WINDOW};
 use std::io::Eprint;

@@ -87,11 +87,11 @@ were read are answered.
 Each line has one answer, but for a comment and an empty line, which have none. What is no line of a script, has more
 than 512 bytes or is not UTF-8 is answered `line N bad`, changes nothing, and the service goes on; lines are counted
 from 1, with comments and empty lines. A last line that has no line feed is not answered, and nothing of it is run:
-a client that goes away in the middle of a line has not asked. A refused line changes nothing; after 1000000 updates
-and installs each further one gets `refused S4`, and reads go on.
+a client that goes away in the middle of a line has not asked. A refused line changes nothing. A service has no end:
+none of its updates and installs gets `refused S4`.
 
 With `--load FILE` the store begins with the state of FILE, and with `--dump FILE` its state is put into FILE when
-standard input has ended (`nrbpf run --help`): so a service that has had its updates goes on in the next.
+standard input has ended (`nrbpf run --help`): so a service goes on in the next.
 
 Refusals, before a line is read:
     refused O1          --spare is not from 0 to 16

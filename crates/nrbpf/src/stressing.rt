@@ -2,7 +2,7 @@
 
 use crate::keeping::{Inputs, Later, state_text};
 use crate::tasks::Beside;
-use console::{Folder, InputFault, Sink, Status, report};
+use engine::{Folder, InputFault, Sink, Status, report};
 use loader::StoreState;
 use oplog::Config;
 use std::alloc::{AllocError, Global};

@@ -2,8 +2,10 @@
 
 use crate::disk::DASH;
 use clap::ArgMatches;
-use console::{Disassemble, Telling};
+use console::Disassemble;
+use engine::Telling;
 use oplog::Config;
+use running::Run;
 
 /// The files of a store's state: what it begins with, a new state where there is none, and where the state goes that it leaves.
 #[derive(Clone, Copy)]
@@ -37,8 +39,8 @@ pub struct ReplayFiles<'a> {
 /// What is to be done on a store that opens on a state.
 #[derive(Clone, Copy)]
 pub enum StateTask<'a> {
-    /// Run a script, and keep the state that it leaves; with signed numbers or without.
-    Run(StateFiles<'a>, bool),
+    /// Run a script, and keep the state that it leaves.
+    Run(StateFiles<'a>, Run),
     /// Answer lines as they come in, with so many places behind the programs, and keep the state that they leave.
     Serve(u32, StateFiles<'a>),
     /// Make the calls of a script on threads, on a store of these sizes, and write this beside the transcript.
@@ -63,9 +65,7 @@ pub enum Task<'a> {
     /// Write the script of a text of calls.
     Encode,
     /// Run a script.
-    Run,
-    /// Run a script, and write negative replies as signed numbers beside.
-    RunSigned,
+    Run(Run),
     /// Replay a transcript, with so many places behind the programs, and tell this of it.
     Replay(u32, Telling),
     /// Make the calls of a script on threads, on a store of these sizes.
@@ -165,11 +165,12 @@ fn state_files<'a>(matches: &ArgMatches<'a>) -> StateFiles<'a> {
 // Running, on a state or a new one, with signed numbers beside replies or without.
 fn running<'a>(matches: &ArgMatches<'a>) -> Task<'a> {
     let files = state_files(matches);
-    let is_signed = matches.get_flag("signed");
+    let command = Run {
+        is_signed: matches.get_flag("signed"),
+    };
     match (files.load, files.dump) {
-        (None, None) if is_signed => Task::RunSigned,
-        (None, None) => Task::Run,
-        _ => Task::OnState(StateTask::Run(files, is_signed)),
+        (None, None) => Task::Run(command),
+        _ => Task::OnState(StateTask::Run(files, command)),
     }
 }
 

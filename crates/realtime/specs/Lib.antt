@@ -8,8 +8,6 @@ pub mod Histories
 pub mod RealTime
 -- what is answered to a transcript and its history
 pub mod TimedAnswer
--- the same, where it is known what is read
-pub mod Known
 -- what these say, in other words
 pub mod Laws
 -- ---- what clauses of private functions alone cite

@@ -1,14 +1,11 @@
--- What `replay --history` answers and writes, as a function of the manifest, of the files that are there, of the transcript, of the state that it
--- begins with, and of its history.
-use Rattle.std.specs.Prelude.{◌≡◌, ◌⊎◌, ℕ, ◌+◌, List, ◌++◌, codes, decimal, Option, Some, None, Result, Ok, Err, if◌then◌else◌}
+-- What `replay --history` answers, as a function of the manifest, the files, the transcript, the state and the history that were read.
+use Rattle.std.specs.Prelude.{ℕ, ◌+◌, List, ◌++◌, codes, decimal, Option, Some, None, Result, Ok, Err}
 use Rattle.text.specs.Lines.{lines_of}
-use Rattle.loader.specs.ProgramFiles.{Files}
-use Rattle.loader.specs.Loading.{loaded}
-use Rattle.console.specs.declared.status.Verdict.{Verdict}
-use Rattle.console.specs.declared.status.Verdict.TheVariants as verdicts
-use Rattle.console.specs.Files.{Contents, is_text}
-use Rattle.console.specs.Answer.{Answer, not_text}
-use Rattle.console.specs.ReplayOn.{replayed_from, replay_on_answer}
+use Rattle.engine.specs.declared.status.Verdict.{Verdict}
+use Rattle.engine.specs.declared.status.Verdict.TheVariants as verdicts
+use Rattle.engine.specs.Answer.{Answer, not_text}
+use Rattle.engine.specs.Reading.{TextsRead}
+use Rattle.replaying.specs.ReplayAnswer.{replay_answer}
 use Rattle.realtime.specs.declared.histories.Timed.{Timed}
 use Rattle.realtime.specs.Histories.{calls_of}
 use Rattle.realtime.specs.RealTime.{first_out_of_turn, first_misplaced}
@@ -46,13 +43,7 @@ where_good verdicts.Differs answer judged = answer
 abbrev pub timed : Answer → List ℕ → List ℕ → Answer
 timed answer transcript history = where_good answer.verdict answer (history_answer answer (calls_of (ranks_of (lines_of transcript)) (lines_of history)))
 
--- what `replay --history` answers: all files are read first, then the transcript is replayed, then the history is judged
-abbrev pub timed_answer : ℕ → List ℕ → Contents → List ℕ → List ℕ → List ℕ → Answer
-timed_answer spare manifest folder transcript state history =
-    if is_text history then timed (replay_on_answer spare manifest folder transcript state) transcript history else not_text
-
--- what it answers to some manifest, files, transcript, state and history
-abbrev pub IsTimedAnswer : ℕ → Answer → Type 0
-IsTimedAnswer spare a =
-    (a ≡ not_text)
-    ⊎ ((manifest : List ℕ) × (files : Files) × (transcript state history : List ℕ) × (a ≡ timed (replayed_from spare (loaded manifest files) transcript state) transcript history))
+-- what `replay --history` answers to what was read: the transcript is replayed, then the history is judged
+abbrev pub timed_answer : ℕ → Option TextsRead → Answer
+timed_answer spare None = not_text
+timed_answer spare (Some t) = timed (replay_answer spare (Some t)) t.file t.history

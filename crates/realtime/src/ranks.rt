@@ -4,7 +4,7 @@ ghost use Rattle.std.specs.Prelude.{◌≡◌, ◌≤◌, ◌^◌, ◌<◌, leng
 ghost use Rattle.text.specs.Lines.{lines_of};
 ghost use Rattle.realtime.specs.Ranks.{answered_standing, line_standing, standings_of, is_update, rank_of, ranks_in, ranks_of};
 
-use console::{TranscriptLine, read_transcript_line};
+use scripts::{TranscriptLine, read_transcript_line};
 use std::alloc::{AllocError, Global};
 use text::NumberedLines;
 use verifier::Mode;

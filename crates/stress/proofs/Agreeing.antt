@@ -17,9 +17,9 @@ use Rattle.oplog.specs.Operations.{Operation}
 use Rattle.oplog.specs.declared.records.Record.{Record}
 use Rattle.oplog.specs.History.{Effect, ReadEffect, History, left_by, after, state_after, reply_at, read_reply_at}
 use Rattle.replica.specs.StoreMeaning.{store_meaning}
-use Rattle.console.specs.RunAnswer.{with_operation}
-use Rattle.console.specs.ReplayAnswer.{Replayed, LineOutcome, Agrees, Differs, compared, is_reply, next_count, nothing_replayed, read_agrees, update_agrees, with_update}
-use Rattle.console.proofs.Turns.{whole}
+use Rattle.running.specs.RunAnswer.{with_operation}
+use Rattle.replaying.specs.ReplayAnswer.{Replayed, LineOutcome, Agrees, Differs, compared, is_reply, next_count, nothing_replayed, read_agrees, update_agrees, with_update}
+use Rattle.running.proofs.Turns.{whole}
 use Rattle.stress.specs.Lines.{Said, Updated, Seen, Ended, ToldCall}
 use Rattle.stress.specs.OneHistory.{Holds, IsOfOneHistory, IsSo}
 use Rattle.stress.specs.Replayed.{Agree, TranscriptsAgree, told_outcome}

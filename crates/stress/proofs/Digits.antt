@@ -12,7 +12,7 @@ use Rattle.text.specs.Words.{is_name, number_of}
 use Rattle.text.specs.Digits.{field_bytes}
 use Rattle.loader.specs.Grammar.{mode_of}
 use Rattle.oplog.specs.Calls.{Call as NumberedCall, NewProgram}
-use Rattle.console.specs.Script.{ProgramCall, Meaning, Comment, Call, InvokeAt, ReadAt, Install, named_call, numbered_call, program_fields, new_program, word_meaning, call_meaning, line_meaning}
+use Rattle.scripts.specs.Script.{ProgramCall, Meaning, Comment, Call, InvokeAt, ReadAt, Install, named_call, numbered_call, program_fields, new_program, word_meaning, call_meaning, line_meaning}
 use Rattle.stress.specs.Calls.{behind, behind_field}
 
 -- these digits spell these bytes

@@ -4,15 +4,15 @@ use Rattle.std.specs.Prelude.{IfSome}
 use Rattle.loader.specs.NamedFiles.{named_in}
 use Rattle.loader.specs.Loading.{Outcome, loaded}
 use Rattle.oplog.specs.declared.configuration.Config.{Config}
-use Rattle.console.specs.declared.inputs.Inputs.{Inputs}
-use Rattle.console.specs.declared.input.InputFault.{InputFault}
-use Rattle.console.specs.declared.input.InputFault.TheVariants as faults
-use Rattle.console.specs.Files.{Contents, is_text, present}
-use Rattle.console.specs.Inputs.{all_texts, IfTextsKnown}
-use Rattle.console.specs.InputFaults.{FailsAs, IfCannotRead}
-use Rattle.console.specs.Loaded.{LoadedIs}
-use Rattle.console.specs.Gathering.{AreInputs, IsOfSome}
-use Rattle.console.proofs.InputTexts.{as_known}
+use Rattle.engine.specs.declared.inputs.Inputs.{Inputs}
+use Rattle.engine.specs.declared.input.InputFault.{InputFault}
+use Rattle.engine.specs.declared.input.InputFault.TheVariants as faults
+use Rattle.engine.specs.Files.{Contents, is_text, present}
+use Rattle.engine.specs.Inputs.{all_texts, IfTextsKnown}
+use Rattle.engine.specs.InputFaults.{FailsAs, IfCannotRead}
+use Rattle.engine.specs.Loaded.{LoadedIs}
+use Rattle.engine.specs.Gathering.{AreInputs, IsOfSome}
+use Rattle.engine.proofs.InputTexts.{as_known}
 use Rattle.stress.specs.declared.runs.Stressed.{Stressed}
 use Rattle.stress.specs.Runs.{GivesBack, IsManifestRun, IsSomeRun, all_four}
 

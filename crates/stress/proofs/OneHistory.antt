@@ -12,7 +12,7 @@ use Rattle.std.proofs.lemmas.List.Sorted.{All-permutation, sum_by-IsPermutation}
 use Rattle.ownlock.specs.Seats.{At, ShelfId}
 use Rattle.loader.specs.CatalogueView.{CatalogueView}
 use Rattle.loader.specs.StoreState.{StoreState}
-use Rattle.oplog.specs.declared.configuration.Config.{Config}
+use Rattle.oplog.specs.declared.configuration.Sizes.{Sizes}
 use Rattle.oplog.specs.Operations.{Operation}
 use Rattle.oplog.specs.declared.records.Record.{Record}
 use Rattle.replica.specs.StoreMeaning.{store_meaning}
@@ -234,7 +234,7 @@ noted_too old new t noted h = record { session = h.session; grown = h.grown; so 
 -- ---- all sessions together
 
 -- a session that a store was opened with was answered nothing
-pub noted_none : (shelf : ShelfId) (config : Config) (c : CatalogueView) (a n : ℕ) (xs : List SessionView) → xs ≡ fresh_sessions shelf config c a n → (k : ℕ) (s : SessionView) → At k s xs → s.note.answered ≡ []
+pub noted_none : (shelf : ShelfId) (config : Sizes) (c : CatalogueView) (a n : ℕ) (xs : List SessionView) → xs ≡ fresh_sessions shelf config c a n → (k : ℕ) (s : SessionView) → At k s xs → s.note.answered ≡ []
 noted_none shelf config c a n xs is k s at = of n a k (subst (At k s) is at)
   where
     of : (n a k : ℕ) → At k s (fresh_sessions shelf config c a n) → s.note.answered ≡ []
@@ -243,7 +243,7 @@ noted_none shelf config c a n xs is k s at = of n a k (subst (At k s) is at)
     of (suc n) a (suc k) at = of n (suc a) k at
 
 -- and its number is its index
-pub numbered_fresh : (shelf : ShelfId) (config : Config) (c : CatalogueView) (n : ℕ) (xs : List SessionView) → xs ≡ fresh_sessions shelf config c 0 n → AreNumbered xs
+pub numbered_fresh : (shelf : ShelfId) (config : Sizes) (c : CatalogueView) (n : ℕ) (xs : List SessionView) → xs ≡ fresh_sessions shelf config c 0 n → AreNumbered xs
 numbered_fresh shelf config c n xs is k d below =
     subst (λ ys. (slice_index_or ys k d).session ≡ k) (sym is) (of n 0 k (subst (λ ys. k < length ys) is below) ∙ (let e : 0 + k ≡ k = omega arith in e))
   where
@@ -378,17 +378,17 @@ module _ (store : StoreView) (sessions : List SessionView) (closed : ClosedView)
   -- and the state after it is what the store ends in
   pub ends_in : EndsIn store.catalogue store.config.limit (last_state closed) said
   ends_in =
-      subst (λ (p : Config × CatalogueView). EndsIn p.1 p.0.limit (last_state closed) said) (λ i. (is.of.0 i, is.of.1 i))
+      subst (λ (p : Sizes × CatalogueView). EndsIn p.1 p.0.limit (last_state closed) said) (λ i. (is.of.0 i, is.of.1 i))
       (of_one, subst (λ c. last_state closed ≡ state_behind c l.history) (sym is.of.1) is.last)
 
 module _ {V E : Type 0} (items : V → List Told) where
-  pub left_in : (c : CatalogueView) (config : Config) (state : StoreState) (store : StoreView) (sessions : List SessionView) → store.config ≡ config → store.catalogue ≡ c
+  pub left_in : (c : CatalogueView) (config : Sizes) (state : StoreState) (store : StoreView) (sessions : List SessionView) → store.config ≡ config → store.catalogue ≡ c
       → (closed : ClosedView) × IsClosed store sessions closed × (state ≡ last_state closed)
       → AreNumbered sessions → (all : Result V E) → IfOk all (λ v. AreTold sessions (items v)) → IfOk all (λ v. EndsIn c config.limit state (items v))
   left_in c config state store sessions sizes same closed numbers (Err e) known = tt
   left_in c config state store sessions sizes same closed numbers (Ok v) known =
       subst (λ (s : StoreState). EndsIn c config.limit s (items v)) (sym closed.2) (
-      subst (λ (p : Config × CatalogueView). EndsIn p.1 p.0.limit (last_state closed.0) (items v)) (λ i. (sizes i, same i))
+      subst (λ (p : Sizes × CatalogueView). EndsIn p.1 p.0.limit (last_state closed.0) (items v)) (λ i. (sizes i, same i))
       (ends_in store sessions closed.0 closed.1 (items v) known numbers)
       )
 

@@ -2,7 +2,7 @@
 use Rattle.std.proofs.Common.{◌≡◌, ◌∙◌, ◌≤◌, ℕ, List, length, Option, Some, None, IfSome, Bor, refl, sym, ap, subst, arith}
 use Rattle.text.specs.declared.lines.TheConstants.{LINE_BYTES}
 use Rattle.loader.specs.CatalogueView.{CatalogueView}
-use Rattle.console.specs.Script.{Meaning, line_meaning}
+use Rattle.scripts.specs.Script.{Meaning, line_meaning}
 use Rattle.replica.specs.declared.refusals.StoreRefused.{StoreRefused}
 use Rattle.stress.specs.declared.calls.Asked.{Asked}
 use Rattle.stress.specs.Calls.{Called, asked_refusal, unless_refused, asked_with, one_call, calls_said, line_calls}

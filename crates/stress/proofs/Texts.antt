@@ -4,23 +4,23 @@ use Rattle.std.specs.Prelude.{IfOk, MatchResult}
 use Rattle.loader.specs.NamedFiles.{named_in}
 use Rattle.loader.specs.Loading.{Outcome, loaded}
 use Rattle.oplog.specs.declared.configuration.Config.{Config}
-use Rattle.console.specs.declared.status.Status.{Status}
-use Rattle.console.specs.declared.inputs.Inputs.{Inputs}
-use Rattle.console.specs.declared.input.InputFault.{InputFault}
-use Rattle.console.specs.declared.input.InputFault.TheVariants as faults
-use Rattle.console.specs.declared.reporting.Reply.{Reply}
-use Rattle.console.specs.Files.{Contents, present}
-use Rattle.console.specs.Answer.{Answer, not_text}
-use Rattle.console.specs.Inputs.{all_texts}
-use Rattle.console.specs.InputFaults.{FailsAs}
-use Rattle.console.specs.Loaded.{LoadedIs}
-use Rattle.console.specs.Gathering.{AreInputs, IsOfSome}
-use Rattle.console.specs.Report.{Sends, Writes, answer_of}
-use Rattle.console.specs.declared.status.Status.TheVariants as statuses
-use Rattle.console.specs.declared.status.Verdict.{Verdict}
-use Rattle.console.specs.declared.status.Verdict.TheVariants as verdicts
-use Rattle.console.specs.Status.{status_of}
-use Rattle.console.specs.Texts.{no_memory_line}
+use Rattle.engine.specs.declared.status.Status.{Status}
+use Rattle.engine.specs.declared.inputs.Inputs.{Inputs}
+use Rattle.engine.specs.declared.input.InputFault.{InputFault}
+use Rattle.engine.specs.declared.input.InputFault.TheVariants as faults
+use Rattle.engine.specs.declared.reporting.Reply.{Reply}
+use Rattle.engine.specs.Files.{Contents, present}
+use Rattle.engine.specs.Answer.{Answer, not_text}
+use Rattle.engine.specs.Inputs.{all_texts}
+use Rattle.engine.specs.InputFaults.{FailsAs}
+use Rattle.engine.specs.Loaded.{LoadedIs}
+use Rattle.engine.specs.Gathering.{AreInputs, IsOfSome}
+use Rattle.engine.specs.Report.{Sends, Writes, answer_of}
+use Rattle.engine.specs.declared.status.Status.TheVariants as statuses
+use Rattle.engine.specs.declared.status.Verdict.{Verdict}
+use Rattle.engine.specs.declared.status.Verdict.TheVariants as verdicts
+use Rattle.engine.specs.Status.{status_of}
+use Rattle.engine.specs.Texts.{no_memory_line}
 use Rattle.stress.specs.StressAnswer.{IsStressed, ByTexts, IsStressAnswer, IsSomeStressAnswer, ReportsOne}
 
 -- ---- an answer, or the line that no memory is left

@@ -5,8 +5,8 @@ use Rattle.loader.specs.CatalogueView.{CatalogueView}
 use Rattle.oplog.specs.declared.configuration.Config.{Config}
 use Rattle.oplog.specs.Limits.{IsConfig}
 use Rattle.oplog.specs.Operations.{Operation}
-use Rattle.console.specs.Answer.{Answer}
-use Rattle.console.specs.ReplayAnswer.{Replayed, LineOutcome, Agrees, compared, next_count, nothing_replayed}
+use Rattle.engine.specs.Answer.{Answer}
+use Rattle.replaying.specs.ReplayAnswer.{Replayed, LineOutcome, Agrees, compared, next_count, nothing_replayed}
 use Rattle.stress.specs.Calls.{Called}
 use Rattle.stress.specs.Lines.{Said, Updated, Seen, Ended, ToldCall}
 use Rattle.stress.specs.OneHistory.{Asks}

@@ -10,16 +10,16 @@ use Rattle.dumps.specs.Loading.{Outcome as StateOutcome, loaded_state}
 use Rattle.oplog.specs.declared.configuration.Config.{Config}
 use Rattle.oplog.specs.History.{History, state_after}
 use Rattle.replica.specs.StoreMeaning.{store_meaning}
-use Rattle.console.specs.declared.input.InputFault.{InputFault}
-use Rattle.console.specs.Files.{Contents, is_text, present}
-use Rattle.console.specs.InputFaults.{FailsAs}
-use Rattle.console.specs.Inputs.{all_texts}
-use Rattle.console.specs.Answer.{Answer, refusal_answer}
-use Rattle.console.specs.Report.{answer_of}
-use Rattle.console.specs.RunAnswer.{bad_line}
-use Rattle.console.specs.ScheduleAnswer.{are_sizes, sizes_refused}
-use Rattle.console.specs.StateAnswer.{state_refused}
-use Rattle.stress.specs.declared.engine.Trial.{Trial}
+use Rattle.engine.specs.declared.input.InputFault.{InputFault}
+use Rattle.engine.specs.Files.{Contents, is_text, present}
+use Rattle.engine.specs.InputFaults.{FailsAs}
+use Rattle.engine.specs.Inputs.{all_texts}
+use Rattle.engine.specs.Answer.{Answer, refusal_answer}
+use Rattle.engine.specs.Report.{answer_of}
+use Rattle.running.specs.RunAnswer.{bad_line}
+use Rattle.engine.specs.Sizes.{are_sizes, sizes_refused}
+use Rattle.engine.specs.StateAnswer.{state_refused}
+use Rattle.stress.specs.declared.command.Trial.{Trial}
 use Rattle.stress.specs.declared.runs.Stressed.{Stressed}
 use Rattle.stress.specs.Calls.{Called, script_calls}
 use Rattle.stress.specs.Timed.{IsHistoryIf, AreCounted}

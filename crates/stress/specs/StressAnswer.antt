@@ -9,22 +9,22 @@ use Rattle.loader.specs.ProgramFiles.{Files}
 use Rattle.loader.specs.CatalogueView.{CatalogueView, with_places}
 use Rattle.loader.specs.Loading.{Outcome, loaded}
 use Rattle.oplog.specs.declared.configuration.Config.{Config}
-use Rattle.console.specs.declared.status.Status.{Status}
-use Rattle.console.specs.declared.status.Status.TheVariants as statuses
-use Rattle.console.specs.declared.status.Verdict.TheVariants as verdicts
-use Rattle.console.specs.Files.{Contents, present}
-use Rattle.console.specs.declared.input.InputFault.{InputFault}
-use Rattle.console.specs.declared.reporting.Reply.{Reply}
-use Rattle.console.specs.InputFaults.{FailsAs}
-use Rattle.console.specs.Inputs.{all_texts, IfTextsKnown}
-use Rattle.console.specs.Status.{status_of}
-use Rattle.console.specs.Texts.{no_memory_line}
-use Rattle.console.specs.Transfer.{AppendsBeginning}
-use Rattle.console.specs.Answer.{Answer, not_text, refusal_answer}
-use Rattle.console.specs.Report.{answer_of}
-use Rattle.console.specs.RunAnswer.{bad_line}
-use Rattle.console.specs.ScheduleAnswer.{are_sizes, sizes_refused}
-use Rattle.stress.specs.declared.engine.Trial.{Trial}
+use Rattle.engine.specs.declared.status.Status.{Status}
+use Rattle.engine.specs.declared.status.Status.TheVariants as statuses
+use Rattle.engine.specs.declared.status.Verdict.TheVariants as verdicts
+use Rattle.engine.specs.Files.{Contents, present}
+use Rattle.engine.specs.declared.input.InputFault.{InputFault}
+use Rattle.engine.specs.declared.reporting.Reply.{Reply}
+use Rattle.engine.specs.InputFaults.{FailsAs}
+use Rattle.engine.specs.Inputs.{all_texts, IfTextsKnown}
+use Rattle.engine.specs.Status.{status_of}
+use Rattle.engine.specs.Texts.{no_memory_line}
+use Rattle.engine.specs.Transfer.{AppendsBeginning}
+use Rattle.engine.specs.Answer.{Answer, not_text, refusal_answer}
+use Rattle.engine.specs.Report.{answer_of}
+use Rattle.running.specs.RunAnswer.{bad_line}
+use Rattle.engine.specs.Sizes.{are_sizes, sizes_refused}
+use Rattle.stress.specs.declared.command.Trial.{Trial}
 use Rattle.stress.specs.Calls.{Called, told_as, script_calls}
 use Rattle.stress.specs.Dealt.{dealt_to, share_of}
 use Rattle.stress.specs.Lines.{ToldCall, suits, AreOrdered, AreSteady, at_rank, transcript_text}

@@ -4,15 +4,16 @@ ghost use Rattle.std.specs.Prelude.{◌≡◌, ◌≤◌, ◌<◌, length, IfOk,
 ghost use Rattle.text.specs.Lines.{lines_of};
 ghost use Rattle.loader.specs.CatalogueView.{CatalogueView};
 ghost use Rattle.replica.specs.Refusals.{IsRoomFor};
-ghost use Rattle.console.specs.ScriptShown.{call_of, program_of};
+ghost use Rattle.scripts.specs.ScriptShown.{call_of, program_of};
 ghost use Rattle.stress.specs.declared.calls.Asked.TheVariants.{Run, Install};
 ghost use Rattle.stress.specs.Calls.{asked_refusal, program_named, asked_with, asked_install, behind_field, one_call, line_calls, script_calls};
 ghost use Rattle.stress.specs.Playing.{IsReady, IsReadyLine, AreReady};
 ghost use Rattle.stress.specs.Shown.{calls_in, ReadAs};
 
-use console::{NumberedCall, ProgramCall, ProgramText, ScriptLine, checked_call, read_line};
 use loader::{Catalogue, Installed};
 use replica::{check_install, find_program};
+use running::checked_call;
+use scripts::{NumberedCall, ProgramCall, ProgramText, ScriptLine, read_line};
 use std::alloc::{AllocError, Global};
 use text::{NumberedLines, split_at_space};
 use verifier::Mode;

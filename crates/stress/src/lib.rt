@@ -2,7 +2,7 @@
 #![tactic(auto)]
 
 mod calls;
-mod engine;
+mod command;
 mod gate;
 mod laws;
 mod lines;
@@ -11,7 +11,7 @@ mod runs;
 mod sharing;
 mod watching;
 
-pub use engine::{Trial, stress};
+pub use command::{Trial, stress};
 pub use gate::{Gate, OpenGate};
 pub use laws::transcripts_agree;
 pub use runs::{Stressed, stress_on};

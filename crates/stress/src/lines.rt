@@ -10,7 +10,7 @@ ghost use Rattle.stress.specs.Playing.{IsWritten, history_if};
 
 use crate::calls::{Asked, ScriptCall};
 use crate::watching::{Counts, Noted, Spent};
-use console::{put_number, put_numbered};
+use engine::texts::{put_number, put_numbered};
 use loader::Catalogue;
 use readpath::ReadAnswer;
 use std::alloc::{AllocError, Global};

@@ -6,27 +6,28 @@ ghost use Rattle.loader.specs.CatalogueView.{MayOpenOn};
 ghost use Rattle.loader.specs.StoreState.{with_room};
 ghost use Rattle.loader.specs.Loading.{Outcome};
 ghost use Rattle.oplog.specs.Limits.{IsConfig};
-ghost use Rattle.console.specs.Files.{SomeFile};
-ghost use Rattle.console.specs.InputFaults.{IfCannotRead};
-ghost use Rattle.console.specs.Loaded.{LoadedIs};
-ghost use Rattle.console.specs.Report.{answer_of};
+ghost use Rattle.engine.specs.Files.{SomeFile};
+ghost use Rattle.engine.specs.InputFaults.{IfCannotRead};
+ghost use Rattle.engine.specs.Loaded.{LoadedIs};
+ghost use Rattle.engine.specs.Report.{answer_of};
 ghost use Rattle.stress.specs.Calls.{script_calls};
 ghost use Rattle.stress.specs.Shown.{called};
 ghost use Rattle.stress.specs.Playing.{IsReady};
 ghost use Rattle.stress.specs.Runs.{GivesBack, IfAllKnown, IsCatalogueRun, IsManifestRun, IsOnly, IsRun, IsScriptRun, IsSomeRun};
 
 use crate::calls::{ScriptCall, ScriptCalls, read_calls};
-use crate::engine::Trial;
+use crate::command::Trial;
 use crate::gate::Gate;
 use crate::lines::Written;
 use crate::sharing::{Left, tell_all};
 use crate::watching::{Counts, Watch};
-use console::{
-    Folder, InputFault, Inputs, Loaded, Reply, Source, Verdict, bad_line, read_inputs, read_text,
+use dumps::{DumpError, load_for};
+use engine::{
+    Folder, InputFault, Inputs, Loaded, Reply, Source, Verdict, read_inputs, read_text,
     sizes_refused, state_refused,
 };
-use dumps::{DumpError, load_for};
 use loader::{Catalogue, StoreState};
+use running::bad_line;
 use std::alloc::{AllocError, Global};
 use std::rt::Clock;
 use std::sync::Wait;

@@ -3,7 +3,7 @@
 ghost use Rattle.std.specs.Prelude.{◌≡◌, ℕ, ◌-◌, ◌*◌, ◌≤◌, ◌<◌, ◌++◌, List, [], length, map, None, Some, Option, All, IfOk, IfSome, MatchResult, vec_capacity};
 ghost use Rattle.loader.specs.CatalogueView.{MayOpenOn, OpensOn};
 ghost use Rattle.loader.specs.StoreState.{with_room};
-ghost use Rattle.oplog.specs.Limits.{IsConfig};
+ghost use Rattle.oplog.specs.Limits.{sizes_in, IsConfig};
 ghost use Rattle.store.specs.Opening.{ClosedView, IsClosed, last_state};
 ghost use Rattle.store.specs.Sessions.{IsOf, StoreView};
 ghost use Rattle.stress.specs.Calls.{Called};
@@ -12,7 +12,7 @@ ghost use Rattle.stress.specs.Shown.{TellsCalls, called, to_be_told};
 ghost use Rattle.stress.specs.Playing.{IsReady, AreIn, AreLast, AreNew, AreNumbered, AreTold, IsNew, IsNewPlayer, IsPlaying, IsToldPlayer, IsLeft, IsWritten, NamesTurns, TellTheirs, TellsSteady, TellsAll, calls_for};
 
 use crate::calls::ScriptCall;
-use crate::engine::Trial;
+use crate::command::Trial;
 use crate::gate::Gate;
 use crate::lines::{Told, Written, write_told};
 use crate::players::{Player, Playground, play};
@@ -46,7 +46,7 @@ fn open(
     requires places { catalogue.places ≡ config.spare }
     requires nothing { catalogue.opening ≡ None }
     ensures catalogue { IfOk result (λ t. t.0.catalogue ≡ catalogue) }
-    ensures sizes { IfOk result (λ t. t.0.config ≡ config) }
+    ensures sizes { IfOk result (λ t. t.0.config ≡ sizes_in config) }
     ensures sessions { IfOk result (λ t. AreNew t.0 (config.nodes * config.slots) t.1.items) }
 {
     match Store::open(alloc, config, catalogue) {
@@ -69,7 +69,7 @@ fn open_on(
     requires fits { MayOpenOn catalogue state.now }
     requires opens { catalogue.opening ≡ Some (with_room state.now catalogue.places) }
     ensures catalogue { IfOk result (λ t. t.0.catalogue ≡ catalogue) }
-    ensures sizes { IfOk result (λ t. t.0.config ≡ config) }
+    ensures sizes { IfOk result (λ t. t.0.config ≡ sizes_in config) }
     ensures sessions { IfOk result (λ t. AreNew t.0 (config.nodes * config.slots) t.1.items) }
 {
     match Store::open_on(alloc, config, catalogue, state) {
@@ -92,7 +92,7 @@ fn open_either(
     requires fits { IfSome state (λ s. MayOpenOn catalogue s.now) }
     requires opens { OpensOn catalogue state }
     ensures catalogue { IfOk result (λ t. t.0.catalogue ≡ catalogue) }
-    ensures sizes { IfOk result (λ t. t.0.config ≡ config) }
+    ensures sizes { IfOk result (λ t. t.0.config ≡ sizes_in config) }
     ensures sessions { IfOk result (λ t. AreNew t.0 (config.nodes * config.slots) t.1.items) }
 {
     match state {

@@ -2,16 +2,14 @@
 
 ghost use Rattle.std.specs.Prelude.{◌≡◌, IfOk};
 ghost use Rattle.console.specs.AsmAnswer.{asm_answer};
-ghost use Rattle.console.specs.Notes.{IsQuiet};
-ghost use Rattle.console.specs.Report.{answer_of};
+ghost use Rattle.engine.specs.Notes.{IsQuiet};
+ghost use Rattle.engine.specs.Report.{answer_of};
 
 use super::texts::{asm_refusal_text, hex_line};
-use crate::engine::Command;
-use crate::notes::{Notes, Telling};
-use crate::reading::{Stranger, Texts};
-use crate::replies::not_text;
-use crate::reporting::Reply;
 use asm::AsmError;
+use engine::reading::Gathered;
+use engine::replies::not_text;
+use engine::{Command, Notes, Reply, Telling};
 use explain::explain_assembly;
 use std::alloc::{AllocError, Global};
 
@@ -40,12 +38,7 @@ impl Command for Assemble {
 
     ghost may_make = { λ _ t r. answer_of r ≡ asm_answer t };
 
-    fn make(
-        &self,
-        alloc: Global,
-        read: Result<Texts, Stranger>,
-        notes: &mut Notes,
-    ) -> Result<Reply, AllocError> {
+    fn make(&self, alloc: Global, read: Gathered, notes: &mut Notes) -> Result<Reply, AllocError> {
         let Ok(texts) = read else {
             return not_text(alloc);
         };

@@ -5,14 +5,12 @@ ghost use Rattle.insn.specs.declared.instruction.TheConstants.{MAX_SLOTS};
 ghost use Rattle.insn.specs.Decoded.{decoded};
 ghost use Rattle.insn.specs.Layout.{size};
 ghost use Rattle.console.specs.DisAnswer.{decoded_answer, dis_answer, lines_text};
-ghost use Rattle.console.specs.Report.{answer_of};
+ghost use Rattle.engine.specs.Report.{answer_of};
 
 use super::texts::{bad_hex, decode_refusal_text, slots_text};
-use crate::engine::Command;
-use crate::notes::Notes;
-use crate::reading::{Stranger, Texts};
-use crate::replies::not_text;
-use crate::reporting::Reply;
+use engine::reading::Gathered;
+use engine::replies::not_text;
+use engine::{Command, Notes, Reply};
 use insn::{DecodeError, Insn, decode};
 use std::alloc::{AllocError, Global};
 use text::spaced_hex;
@@ -59,12 +57,7 @@ impl Command for Disassemble {
 
     ghost may_make = { λ c t r. answer_of r ≡ dis_answer c.has_slots t };
 
-    fn make(
-        &self,
-        alloc: Global,
-        read: Result<Texts, Stranger>,
-        _notes: &mut Notes,
-    ) -> Result<Reply, AllocError> {
+    fn make(&self, alloc: Global, read: Gathered, _notes: &mut Notes) -> Result<Reply, AllocError> {
         let Ok(texts) = read else {
             return not_text(alloc);
         };

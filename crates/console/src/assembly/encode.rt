@@ -2,15 +2,13 @@
 
 ghost use Rattle.std.specs.Prelude.{◌≡◌};
 ghost use Rattle.console.specs.EncodeAnswer.{encode_answer};
-ghost use Rattle.console.specs.Report.{answer_of};
+ghost use Rattle.engine.specs.Report.{answer_of};
 
 use super::texts::encode_refusal_text;
-use crate::engine::Command;
-use crate::notes::Notes;
-use crate::reading::{Stranger, Texts};
-use crate::replies::not_text;
-use crate::reporting::Reply;
 use encoding::EncodeError;
+use engine::reading::Gathered;
+use engine::replies::not_text;
+use engine::{Command, Notes, Reply};
 use std::alloc::{AllocError, Global};
 
 /// Encodes calls whose arguments are names of kinds and values.
@@ -24,12 +22,7 @@ impl Command for Encode {
 
     ghost may_make = { λ _ t r. answer_of r ≡ encode_answer t };
 
-    fn make(
-        &self,
-        alloc: Global,
-        read: Result<Texts, Stranger>,
-        _notes: &mut Notes,
-    ) -> Result<Reply, AllocError> {
+    fn make(&self, alloc: Global, read: Gathered, _notes: &mut Notes) -> Result<Reply, AllocError> {
         let Ok(texts) = read else {
             return not_text(alloc);
         };

@@ -9,9 +9,9 @@ ghost use Rattle.console.specs.AsmAnswer.{hex_line, asm_refusal_text, decode_ref
 ghost use Rattle.console.specs.EncodeAnswer.{encode_refusal_text};
 ghost use Rattle.console.specs.DisAnswer.{slot_column, bytes_column, columns, slots_text};
 
-use crate::texts::{put_numbered, put_pair};
 use asm::AsmRefusal;
 use encoding::EncodeRefusal;
+use engine::texts::{put_numbered, put_pair};
 use insn::{DecodeRefusal, Insn, encode};
 use itoa::Buffer;
 use std::alloc::{AllocError, Global};

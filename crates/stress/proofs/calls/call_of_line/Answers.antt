@@ -4,9 +4,9 @@ use Rattle.stress.specs.declared.calls.Asked.TheVariants as asks
 use Rattle.stress.specs.Calls.{behind_field}
 use Rattle.stress.proofs.Digits.{call_hex, invoke_hex, read_hex, install_hex}
 use Rattle.stress.proofs.Ready.{free_with, ready_call, line_said}
-use Rattle.console.specs.declared.script.ScriptLine.{ScriptLine}
-use Rattle.console.specs.Script.{line_meaning}
-use Rattle.console.specs.ScriptShown.{call_of, at_number_of, program_of, meaning_of}
+use Rattle.scripts.specs.declared.script.ScriptLine.{ScriptLine}
+use Rattle.scripts.specs.Script.{line_meaning}
+use Rattle.scripts.specs.ScriptShown.{call_of, at_number_of, program_of, meaning_of}
 use Rattle.stress.proofs.calls.call_of_line.Goals as goal
 
 -- what the line means, as this line of a script

@@ -1,9 +1,9 @@
 use Rattle.std.proofs.Common.{◌≡◌, true, false, Ok, Err, string_bytes}
 use Rattle.std.proofs.lemmas.Result.{err_from_is_err_and}
-use Rattle.console.specs.Files.{is_text}
-use Rattle.console.specs.Inputs.{all_texts}
-use Rattle.console.specs.InputFaults.{FailsAs}
-use Rattle.console.specs.Gathering.{AreInputs}
+use Rattle.engine.specs.Files.{is_text}
+use Rattle.engine.specs.Inputs.{all_texts}
+use Rattle.engine.specs.InputFaults.{FailsAs}
+use Rattle.engine.specs.Gathering.{AreInputs}
 use Rattle.stress.specs.Runs.{GivesBack}
 use Rattle.stress.proofs.GivenBack.{all_known, nothing, inputs_fail, state_fails, gives_back, is_some_run, wider, last}
 use Rattle.stress.proofs.runs.stress_on.Goals as goal

@@ -1,6 +1,0 @@
-use Rattle.std.proofs.Common.{◌≡◌, drop}
-use Rattle.console.specs.Memory.{found_file}
-use Rattle.console.proofs.memory.HeldFilesFolder.open.Given as goal
-
-abbrev pub invariant-loop-file : goal.invariant-loop-file
-invariant-loop-file l = found_file (drop l.file-index l.all) l.name ≡ found_file l.all l.name

@@ -1,9 +1,0 @@
-use Rattle.std.proofs.Common.{drop, map}
-use Rattle.std.specs.Prelude.{IfSome}
-use Rattle.loader.specs.NamedFiles.{named_in}
-use Rattle.console.specs.Reading.{named_texts}
-use Rattle.console.proofs.GatheredFiles.{Kept, name_of}
-use Rattle.console.proofs.reading.gather_files.Given as goal
-
-abbrev pub invariant-loop-name : goal.invariant-loop-name
-invariant-loop-name g l = IfSome (g.F.Folder.holds l.folder) (λ h. Kept h (named_texts l.files.items) (map name_of (drop l.name-index l.name-items)) (named_in l.manifest))

@@ -1,8 +1,0 @@
--- What is told of a run beside its answer.
-use Rattle.std.specs.Prelude.{◌≡◌}
-use Rattle.console.specs.declared.notes.Notes.{Notes}
-use Rattle.console.specs.declared.notes.Telling.TheVariants.{Nothing}
-
--- where nothing is to be told, nothing is
-abbrev pub IsQuiet : Notes → Notes → Type 0
-IsQuiet old new = old.telling ≡ Nothing → new ≡ old

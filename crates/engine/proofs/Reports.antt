@@ -1,0 +1,56 @@
+-- What a command did, from what it made.
+use Rattle.std.proofs.Common.{◌≡◌, ◌⊎◌, inl, inr, ℕ, List, Option, Result, Ok, Err, refl, sym, ap, subst}
+use Rattle.std.specs.Prelude.{IfOk}
+use Rattle.engine.specs.declared.status.Status.{Status}
+use Rattle.engine.specs.declared.status.Status.TheVariants as statuses
+use Rattle.engine.specs.declared.status.Verdict.{Verdict}
+use Rattle.engine.specs.declared.status.Verdict.TheVariants as verdicts
+use Rattle.engine.specs.declared.transfer.ReadFault.{ReadFault}
+use Rattle.engine.specs.declared.transfer.ReadFault.TheVariants as faults
+use Rattle.engine.specs.Status.{status_of}
+use Rattle.engine.specs.Texts.{no_memory_line}
+use Rattle.engine.specs.ReadFaults.{IfCannotRead}
+use Rattle.engine.specs.Answer.{Answer}
+use Rattle.engine.specs.Report.{Failed, Sends}
+use Rattle.engine.specs.Engine.{Reports, Writes}
+
+module _ {M : Type 0} (answer : M → Answer) (Is : M → Type 0) (old new : Option (List ℕ)) where
+  -- an answer that was sent, or broke off
+  sent : (got : Status) (m : M) → Is m → Sends old new got (answer m).text (status_of (answer m).verdict) → Reports answer Is old new got
+  sent got m is (inr broke) = subst (λ s. Reports answer Is old new s) (sym broke.0) (inl (m, is, broke.1))
+  sent got m is (inl whole) = by_verdict (answer m).verdict refl
+    where
+      by_verdict : (v : Verdict) → (answer m).verdict ≡ v → Reports answer Is old new got
+      by_verdict verdicts.Good v = subst (λ s. Reports answer Is old new s) (sym (rw v at whole.0)) (m, is, sym (ap status_of v), whole.1)
+      by_verdict verdicts.Refused v = subst (λ s. Reports answer Is old new s) (sym (rw v at whole.0)) (m, is, sym (ap status_of v), whole.1)
+      by_verdict verdicts.Differs v = subst (λ s. Reports answer Is old new s) (sym (rw v at whole.0)) (m, is, sym (ap status_of v), whole.1)
+
+  no_memory_sent : (got : Status) → Sends old new got no_memory_line statuses.NoMemory → Reports answer Is old new got
+  no_memory_sent got (inl whole) = subst (λ s. Reports answer Is old new s) (sym whole.0) whole.1
+  no_memory_sent got (inr broke) = subst (λ s. Reports answer Is old new s) (sym broke.0) (inr broke.1)
+
+  pub reports : (got : Status) (made : Result M ReadFault) → Writes answer old new got made → IfOk made Is → Reports answer Is old new got
+  reports got (Ok m) wrote is = sent got m is wrote
+  reports got (Err faults.NoMemory) wrote is = no_memory_sent got wrote
+  reports got (Err faults.CannotRead) wrote is = subst (λ s. Reports answer Is old new s) (sym wrote.0) wrote.1
+
+module _ (P Q : Type 0) where
+  -- what was written told its status, or a write failed
+  pub status_told : (got : Status) (v : Verdict) → (got ≡ status_of v) ⊎ ((got ≡ statuses.CannotWrite) × Q) → Failed got P Q
+  status_told got verdicts.Good (inl is) = subst (λ s. Failed s P Q) (sym is) tt
+  status_told got verdicts.Refused (inl is) = subst (λ s. Failed s P Q) (sym is) tt
+  status_told got verdicts.Differs (inl is) = subst (λ s. Failed s P Q) (sym is) tt
+  status_told got v (inr broke) = subst (λ s. Failed s P Q) (sym broke.0) broke.1
+
+  pub no_memory_told : (got : Status) → (got ≡ statuses.NoMemory) ⊎ ((got ≡ statuses.CannotWrite) × Q) → Failed got P Q
+  no_memory_told got (inl is) = subst (λ s. Failed s P Q) (sym is) tt
+  no_memory_told got (inr broke) = subst (λ s. Failed s P Q) (sym broke.0) broke.1
+
+  -- a command failed only where its preparation or its writing did
+  pub failed_only : {M : Type 0} (got : Status) (made : Result M ReadFault) → Failed got (made ≡ Err faults.CannotRead) Q → IfCannotRead made P → Failed got P Q
+  failed_only statuses.Good made told read = tt
+  failed_only statuses.Refused made told read = tt
+  failed_only statuses.Differs made told read = tt
+  failed_only statuses.NoMemory made told read = tt
+  failed_only statuses.CannotRead made told read = subst (λ r. IfCannotRead r P) told read
+  failed_only statuses.CannotWrite made told read = told

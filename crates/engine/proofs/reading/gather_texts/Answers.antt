@@ -1,0 +1,35 @@
+use Rattle.std.proofs.lemmas.Result.{err_from_is_err_and}
+use Rattle.engine.specs.Reading.{named_texts}
+use Rattle.engine.proofs.Gatherings.{files_failed, file_failed, state_failed, history_failed, all_read}
+use Rattle.engine.proofs.reading.gather_texts.Goals as goal
+
+pub returns-in_err-files-clause-read : goal.returns-in_err-files-clause-read
+returns-in_err-files-clause-read g c =
+    let p = err_from_is_err_and c.from_residual-in_err-files.result c.from_residual-in_err-files.ensures.1 in
+    rw (p.1, p.2) (files_failed g.F.Folder.holds g.R.Source.remaining c.args.inputs.now c.in_ok-manifest.manifest c.in_ok-manifest.ensures.text c.in_err-files.field-0.0
+    (rw c.as_str.ensures.value at c.in_err-files.ensures.gathered))
+
+pub returns-in_err-file-clause-read : goal.returns-in_err-file-clause-read
+returns-in_err-file-clause-read g c =
+    let p = err_from_is_err_and c.from_residual-in_err-file.result c.from_residual-in_err-file.ensures.1 in
+    rw (p.1, p.2) (file_failed g.F.Folder.holds g.R.Source.remaining c.args.inputs.now c.in_ok-manifest.manifest c.in_ok-manifest.ensures.text
+    (named_texts c.in_ok-files.files.items) (rw c.as_str.ensures.value at c.in_ok-files.ensures.gathered) c.in_err-file.field-0.0 c.in_err-file.ensures.text)
+
+pub returns-in_err-state-clause-read : goal.returns-in_err-state-clause-read
+returns-in_err-state-clause-read g c =
+    let p = err_from_is_err_and c.from_residual-in_err-state.result c.from_residual-in_err-state.ensures.1 in
+    rw (p.1, p.2) (state_failed g.F.Folder.holds g.R.Source.remaining c.args.inputs.now c.in_ok-manifest.manifest c.in_ok-manifest.ensures.text
+    (named_texts c.in_ok-files.files.items) (rw c.as_str.ensures.value at c.in_ok-files.ensures.gathered) c.in_ok-file.file c.in_ok-file.ensures.text c.in_err-state.field-0.0 c.in_err-state.ensures.text)
+
+pub returns-in_err-history-clause-read : goal.returns-in_err-history-clause-read
+returns-in_err-history-clause-read g c =
+    let p = err_from_is_err_and c.from_residual-in_err-history.result c.from_residual-in_err-history.ensures.1 in
+    rw (p.1, p.2) (history_failed g.F.Folder.holds g.R.Source.remaining c.args.inputs.now c.in_ok-manifest.manifest c.in_ok-manifest.ensures.text
+    (named_texts c.in_ok-files.files.items) (rw c.as_str.ensures.value at c.in_ok-files.ensures.gathered) c.in_ok-file.file c.in_ok-file.ensures.text c.in_ok-state.state c.in_ok-state.ensures.text
+    c.in_err-history.field-0.0 c.in_err-history.ensures.text)
+
+pub returns-clause-read : goal.returns-clause-read
+returns-clause-read g c =
+    all_read g.F.Folder.holds g.R.Source.remaining c.args.inputs.now
+    (record { manifest = c.in_ok-manifest.manifest; files = c.in_ok-files.files; file = c.in_ok-file.file; state = c.in_ok-state.state; history = c.in_ok-history.history })
+    c.in_ok-manifest.ensures.text (rw c.as_str.ensures.value at c.in_ok-files.ensures.gathered) c.in_ok-file.ensures.text c.in_ok-state.ensures.text c.in_ok-history.ensures.text

@@ -1,0 +1,19 @@
+-- What a command answers.
+use Rattle.std.specs.Prelude.{ℕ, List}
+use Rattle.loader.specs.declared.refusals.LoadRefusal.{LoadRefusal}
+use Rattle.engine.specs.declared.status.Verdict.{Verdict}
+use Rattle.engine.specs.declared.status.Verdict.TheVariants as verdicts
+use Rattle.engine.specs.Texts.{refusal_text, not_text_line}
+
+-- a text to write, and whether what was read is good
+pub record Answer : Type 0 where
+  pub text : List ℕ
+  pub verdict : Verdict
+
+-- some file is not UTF-8
+abbrev pub not_text : Answer
+not_text = record { text = not_text_line; verdict = verdicts.Refused }
+
+-- a refused manifest
+abbrev pub refusal_answer : LoadRefusal → Answer
+refusal_answer refusal = record { text = refusal_text refusal; verdict = verdicts.Refused }

@@ -1,0 +1,26 @@
+-- What a command wrote, over what the writer held, from what it made.
+use Rattle.std.specs.Prelude.{◌≡◌, ◌⊎◌, ℕ, List, Option, Result, Ok, Err}
+use Rattle.std.specs.Io.KnownBytes.{Appends, Keeps}
+use Rattle.engine.specs.declared.status.Status.{Status}
+use Rattle.engine.specs.declared.status.Status.TheVariants as statuses
+use Rattle.engine.specs.declared.transfer.ReadFault.{ReadFault}
+use Rattle.engine.specs.declared.transfer.ReadFault.TheVariants as faults
+use Rattle.engine.specs.Transfer.{AppendsBeginning}
+use Rattle.engine.specs.Texts.{no_memory_line}
+use Rattle.engine.specs.Status.{status_of}
+use Rattle.engine.specs.Answer.{Answer}
+use Rattle.engine.specs.Report.{Sends}
+
+-- what was written of something that is so and has an answer: the answer, whose verdict is the status, or a
+-- beginning of it; or that memory ran out; and nothing where a read failed
+abbrev pub Reports : {M : Type 0} → (M → Answer) → (M → Type 0) → Option (List ℕ) → Option (List ℕ) → Status → Type 0
+Reports answer Is old new statuses.NoMemory = Appends old new no_memory_line
+Reports answer Is old new statuses.CannotRead = Keeps old new
+Reports {M} answer Is old new statuses.CannotWrite = ((m : M) × Is m × AppendsBeginning old new (answer m).text) ⊎ AppendsBeginning old new no_memory_line
+Reports {M} answer Is old new status = (m : M) × Is m × (status ≡ status_of (answer m).verdict) × Appends old new (answer m).text
+
+-- what is written where this was made
+abbrev pub Writes : {M : Type 0} → (M → Answer) → Option (List ℕ) → Option (List ℕ) → Status → Result M ReadFault → Type 0
+Writes answer old new got (Ok m) = Sends old new got (answer m).text (status_of (answer m).verdict)
+Writes answer old new got (Err faults.NoMemory) = Sends old new got no_memory_line statuses.NoMemory
+Writes answer old new got (Err faults.CannotRead) = (got ≡ statuses.CannotRead) × Keeps old new

@@ -1,0 +1,22 @@
+-- What a command reads, what it writes of what it makes, how it ends, and what was written where a read or a write fails.
+pub mod Files
+pub mod Memory
+pub mod ReadFaults
+pub mod InputFaults
+pub mod Reading
+pub mod Texts
+pub mod Status
+pub mod Answer
+pub mod Sizes
+pub mod Inputs
+pub mod StateAnswer
+pub mod Notes
+pub mod Report
+pub mod Engine
+pub mod Transfer
+-- The steps between reading and writing.
+pub mod Unread
+pub mod Input
+pub mod Loaded
+pub mod OpenedState
+pub mod Gathering

@@ -1,0 +1,116 @@
+// The engine of all commands: reads all, makes an answer, writes it.
+
+ghost use Rattle.std.specs.Prelude.{◌≡◌, ◌⊎◌, Option, Err, IfOk};
+ghost use Rattle.engine.specs.declared.status.Status.TheVariants as statuses;
+ghost use Rattle.engine.specs.declared.transfer.ReadFault.TheVariants as faults;
+ghost use Rattle.engine.specs.Notes.{IsQuiet};
+ghost use Rattle.engine.specs.ReadFaults.{IfCannotRead};
+ghost use Rattle.engine.specs.Reading.{TextsRead, AnyFailed, IfGiven, read, texts_in};
+ghost use Rattle.engine.specs.Report.{Failed, Sends};
+ghost use Rattle.engine.specs.Engine.{Reports, Writes};
+
+use crate::folder::Folder;
+use crate::notes::Notes;
+use crate::reading::{Gathered, Inputs, gather};
+use crate::replies::Answering;
+use crate::status::{Status, status_of};
+use crate::texts::no_memory;
+use crate::transfer::{ReadFault, Sink, Source};
+use std::alloc::{AllocError, Global};
+
+/// A command: what it makes of all that was read.
+pub trait Command {
+    /// What it makes: an answer, and what else it leaves.
+    type Made: Drop;
+
+    // What it may make of these texts; of none, where one of them is not UTF-8.
+    ghost may_make: { Self → Option TextsRead → Self.Made → Type 0 };
+
+    /// Makes it of what was read: of all texts, or of the first that is not UTF-8.
+    fn make(
+        &self,
+        alloc: Global,
+        read: Gathered,
+        notes: &mut Notes,
+    ) -> Result<Self::Made, AllocError>
+        ensures made { IfOk result (may_make self.now (texts_in read)) }
+        ensures quiet { IsQuiet notes.old notes.new };
+}
+
+/// Reads the texts of a command, and makes what it makes of them.
+///
+/// The manifest is read first, then the files that it names, the file that the command is about, the state and the
+/// history. Where one of them is not UTF-8, nothing is read behind it.
+///
+/// # Errors
+///
+/// Where a read fails, or memory runs out.
+pub fn prepare<C: Command, F: Folder, R: Source + Drop>(
+    alloc: Global,
+    command: &C,
+    inputs: &mut Inputs<'_, F, R>,
+    notes: &mut Notes,
+) -> Result<C::Made, ReadFault>
+    // Where the readers and the folder tell their bytes, it is made of those.
+    ensures known { IfGiven F.holds R.remaining inputs.old (λ g. IfOk result (C.may_make command.now (read g))) }
+    // It says that a read failed only after one did.
+    ensures failed { IfCannotRead result (AnyFailed R.has_failed F.File.has_failed inputs.new) }
+    // Whatever they give.
+    ensures some { IfOk result (λ m. (t : Option TextsRead) × C.may_make command.now t m) }
+    // Where nothing is to be told beside the answer, nothing is.
+    ensures quiet { IsQuiet notes.old notes.new }
+{
+    let read = gather(alloc, inputs)?;
+    match command.make(alloc, read, notes) {
+        Ok(made) => Ok(made),
+        Err(_) => Err(ReadFault::NoMemory),
+    }
+}
+
+// Writes a text, and ends so.
+pub(crate) fn write_text<W: Sink>(writer: &mut W, text: &[u8], status: Status) -> Status
+    ensures sent { Sends (W.contents writer.old) (W.contents writer.new) result text.now status }
+    ensures failed { (result ≡ status) ⊎ ((result ≡ statuses.CannotWrite) × W.has_failed writer.new) }
+{
+    match writer.send(text) {
+        Ok(()) => status,
+        Err(_) => Status::CannotWrite,
+    }
+}
+
+/// Writes the answer of what was made, whole, after all is read. Says how the command ended.
+pub fn report<M: Answering, W: Sink>(writer: &mut W, made: &Result<M, ReadFault>) -> Status
+    ensures written { Writes M.answer (W.contents writer.old) (W.contents writer.new) result made.now }
+    ensures failed { Failed result (made.now ≡ Err faults.CannotRead) (W.has_failed writer.new) }
+{
+    match made {
+        Ok(made) => write_text(writer, made.text(), status_of(made.verdict())),
+        Err(ReadFault::NoMemory) => write_text(writer, no_memory(), Status::NoMemory),
+        Err(ReadFault::CannotRead) => Status::CannotRead,
+    }
+}
+
+/// Does a command: reads its texts, and writes what it answers to them. Says how it ended.
+///
+/// Each text is read whole before anything is written. Where a read fails, nothing is written.
+pub fn perform<C: Command, F: Folder, R: Source + Drop, W: Sink>(
+    alloc: Global,
+    command: &C,
+    inputs: &mut Inputs<'_, F, R>,
+    notes: &mut Notes,
+    writer: &mut W,
+) -> Status
+where
+    C::Made: Answering,
+    // Where the readers and the folder tell their bytes, what is written is what the command answers to those.
+    ensures written { IfGiven F.holds R.remaining inputs.old (λ g. Reports C.Made.answer (C.may_make command.now (read g)) (W.contents writer.old) (W.contents writer.new) result) }
+    // It says that a read or a write failed only after one did.
+    ensures failed { Failed result (AnyFailed R.has_failed F.File.has_failed inputs.new) (W.has_failed writer.new) }
+    // Whatever they give, or where they fail.
+    ensures ended { Reports C.Made.answer (λ m. (t : Option TextsRead) × C.may_make command.now t m) (W.contents writer.old) (W.contents writer.new) result }
+    // Where nothing is to be told beside the answer, nothing is.
+    ensures quiet { IsQuiet notes.old notes.new }
+{
+    let made = prepare(alloc, command, inputs, notes);
+    report(writer, &made)
+}

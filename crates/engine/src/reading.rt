@@ -1,0 +1,267 @@
+// What a command reads: a manifest and the files that it names, the file that it is about, a state and a history.
+
+ghost use Rattle.std.specs.Prelude.{◌≡◌, Some, IfOk, IfErr, IfSome, MatchResult, string_bytes};
+ghost use Rattle.loader.specs.NamedFiles.{named_in};
+ghost use Rattle.loader.specs.ProgramFiles.{files_of};
+ghost use Rattle.engine.specs.declared.reading.Unread.TheVariants as faults;
+ghost use Rattle.engine.specs.Files.{SomeFile};
+ghost use Rattle.engine.specs.ReadFaults.{IfCannotRead};
+ghost use Rattle.engine.specs.Reading.{AnyFailed, IfGiven, OneFailed, first_stranger, given_text, named_texts, read, strange_text, texts_in};
+ghost use Rattle.engine.specs.Unread.{AreRead, FailsAs, FoundAs, Gathered, IfUnread, IsStrangeFile, TextIs};
+
+use crate::folder::Folder;
+use crate::transfer::{ReadFault, Source};
+use loader::named_files;
+use std::alloc::{AllocError, AllocFailed, Global};
+
+/// Where the texts of a command are, in the order in which they are read. One that is absent is empty.
+#[derive(Drop)]
+pub struct Inputs<'a, F, R: Drop> {
+    /// The folder of the files that the manifest names.
+    pub folder: &'a F,
+    /// The manifest.
+    pub manifest: Option<R>,
+    /// The script, the transcript, or what else the command is about.
+    pub file: Option<R>,
+    /// The state to begin with.
+    pub state: Option<R>,
+    /// The times of calls.
+    pub history: Option<R>,
+}
+
+/// A file that the manifest names.
+#[derive(Drop)]
+pub struct NamedText {
+    /// Its name.
+    pub name: String,
+    /// Its text.
+    pub text: String,
+}
+
+/// All that was read.
+#[derive(Drop)]
+pub struct Texts {
+    /// The manifest.
+    pub manifest: String,
+    /// The files that it names and that are there.
+    pub files: Vec<NamedText>,
+    /// The script, the transcript, or what else the command is about.
+    pub file: String,
+    /// The state to begin with.
+    pub state: String,
+    /// The times of calls.
+    pub history: String,
+}
+
+/// What was read last, where it isn't UTF-8.
+#[derive(Drop)]
+pub struct Stranger {
+    /// What it goes by.
+    pub name: String,
+    /// All that was read of it.
+    pub bytes: Vec<u8>,
+    /// The manifest, where it is a file that the manifest names.
+    pub manifest: Option<String>,
+}
+
+/// What was read: all texts, or what was read last, where that isn't UTF-8.
+pub type Gathered = Result<Texts, Stranger>;
+
+// Why not all was read.
+#[derive(Drop)]
+pub(crate) enum Unread {
+    // Memory ran out.
+    NoMemory,
+    // A read failed.
+    CannotRead,
+    // This is not UTF-8.
+    NotText(Stranger),
+}
+
+impl From<AllocError> for Unread {
+    ghost from_gives = { λ _ e. e ≡ faults.NoMemory };
+
+    fn from(_e: AllocError) -> Unread {
+        Unread::NoMemory
+    }
+}
+
+impl<T: Drop> From<AllocFailed<T>> for Unread {
+    ghost from_gives = { λ _ e. e ≡ faults.NoMemory };
+
+    fn from(_e: AllocFailed<T>) -> Unread {
+        Unread::NoMemory
+    }
+}
+
+// A text of its own.
+fn copied(alloc: Global, text: &str) -> Result<String, AllocError>
+    ensures { IfOk result (λ s. string_bytes s ≡ text.now) }
+{
+    let mut copy = String::new(alloc);
+    copy.push_str(text)?;
+    Ok(copy)
+}
+
+// What is no text, under the name that it goes by, with the manifest that names it, if one does.
+fn strange(
+    alloc: Global,
+    name: &str,
+    named_by: Option<&str>,
+    bytes: Vec<u8>,
+) -> Result<Stranger, AllocError>
+    ensures { IfOk result (λ s. strange_text s ≡ (name.now, bytes.items)) }
+{
+    let name = copied(alloc, name)?;
+    let manifest = match named_by {
+        Some(manifest) => Some(copied(alloc, manifest)?),
+        None => None,
+    };
+    Ok(Stranger {
+        name,
+        bytes,
+        manifest,
+    })
+}
+
+// The text that a reader gives, which goes by this name.
+fn read_text<R: Source>(
+    alloc: Global,
+    name: &str,
+    named_by: Option<&str>,
+    reader: &mut R,
+) -> Result<String, Unread>
+    ensures text { IfSome (R.remaining reader.old) (TextIs name.now result) }
+    ensures failed { IfUnread result (R.has_failed reader.new) }
+{
+    let read = match reader.read_whole(alloc) {
+        Ok(read) => read,
+        Err(ReadFault::NoMemory) => return Err(Unread::NoMemory),
+        Err(ReadFault::CannotRead) => return Err(Unread::CannotRead),
+    };
+    match String::from_utf8(read) {
+        Ok(text) => Ok(text),
+        Err(error) => {
+            let bytes = error.into_bytes();
+            let stranger = strange(alloc, name, named_by, bytes)?;
+            Err(Unread::NotText(stranger))
+        }
+    }
+}
+
+// The text of a reader that may be absent.
+fn read_given<R: Source>(
+    alloc: Global,
+    name: &str,
+    reader: &mut Option<R>,
+) -> Result<String, Unread>
+    ensures text { IfSome (given_text R.remaining reader.old) (TextIs name.now result) }
+    ensures failed { IfUnread result (OneFailed R.has_failed reader.new) }
+{
+    match reader {
+        Some(reader) => read_text(alloc, name, None, reader),
+        None => Ok(String::new(alloc)),
+    }
+}
+
+// The text of a file that a manifest names, where it is there.
+fn file_text<F: Folder>(
+    alloc: Global,
+    folder: &F,
+    manifest: &str,
+    name: &str,
+) -> Result<Option<String>, Unread>
+    ensures found { IfSome (F.holds folder.now) (λ h. MatchResult result (λ t. FoundAs t (h name.now)) (λ e. FailsAs e (IsStrangeFile name.now (h name.now)))) }
+    ensures failed { IfUnread result (SomeFile F.File.has_failed) }
+{
+    match folder.open(name) {
+        None => Ok(None),
+        Some(mut file) => match read_text(alloc, name, Some(manifest), &mut file) {
+            Ok(text) => Ok(Some(text)),
+            Err(fault) => Err(fault),
+        },
+    }
+}
+
+// The files that a manifest names and that are there.
+fn gather_files<F: Folder>(
+    alloc: Global,
+    folder: &F,
+    manifest: &str,
+) -> Result<Vec<NamedText>, Unread>
+    ensures gathered { IfSome (F.holds folder.now) (λ h. Gathered h (named_in manifest.now) result) }
+    ensures failed { IfUnread result (SomeFile F.File.has_failed) }
+{
+    let names = named_files(alloc, manifest)?;
+    let mut files = Vec::new(alloc);
+    for name in &names {
+        if let Some(text) = file_text(alloc, folder, manifest, name)? {
+            let name = copied(alloc, name)?;
+            files.push(NamedText { name, text })?;
+        }
+    }
+    Ok(files)
+}
+
+// Reads all texts of a command, one after another and each whole.
+fn gather_texts<F: Folder, R: Source + Drop>(
+    alloc: Global,
+    inputs: &mut Inputs<'_, F, R>,
+) -> Result<Texts, Unread>
+    ensures read { IfGiven F.holds R.remaining inputs.old (AreRead result) }
+    ensures failed { IfUnread result (AnyFailed R.has_failed F.File.has_failed inputs.new) }
+{
+    let manifest = read_given(alloc, "the manifest", &mut inputs.manifest)?;
+    let files = gather_files(alloc, inputs.folder, manifest.as_str())?;
+    let file = read_given(alloc, "the file", &mut inputs.file)?;
+    let state = read_given(alloc, "the state", &mut inputs.state)?;
+    let history = read_given(alloc, "the history", &mut inputs.history)?;
+    Ok(Texts {
+        manifest,
+        files,
+        file,
+        state,
+        history,
+    })
+}
+
+/// Reads all texts of a command, one after another and each whole: the manifest, the files that it names, the file that
+/// the command is about, the state and the history. Where one of them is not UTF-8, nothing is read behind it, and what
+/// it is is given back.
+///
+/// # Errors
+///
+/// Where a read fails, or memory runs out.
+pub fn gather<F: Folder, R: Source + Drop>(
+    alloc: Global,
+    inputs: &mut Inputs<'_, F, R>,
+) -> Result<Gathered, ReadFault>
+    // Where the readers and the folder tell their bytes, those are read, and judged.
+    ensures read { IfGiven F.holds R.remaining inputs.old (λ g. IfOk result (λ r. texts_in r ≡ read g)) }
+    // What is not UTF-8 is the first in the order of reading.
+    ensures first { IfGiven F.holds R.remaining inputs.old (λ g. IfOk result (λ r. IfErr r (λ s. first_stranger g ≡ Some (strange_text s)))) }
+    // It says that a read failed only after one did.
+    ensures failed { IfCannotRead result (AnyFailed R.has_failed F.File.has_failed inputs.new) }
+{
+    match gather_texts(alloc, inputs) {
+        Ok(texts) => Ok(Ok(texts)),
+        Err(Unread::NotText(stranger)) => Ok(Err(stranger)),
+        Err(Unread::CannotRead) => Err(ReadFault::CannotRead),
+        Err(Unread::NoMemory) => Err(ReadFault::NoMemory),
+    }
+}
+
+/// The files, lent.
+///
+/// # Errors
+///
+/// The system has no memory left.
+pub fn lent(alloc: Global, files: &[NamedText]) -> Result<Vec<(&str, &str)>, AllocError>
+    ensures { IfOk result (λ v. files_of v.items ≡ named_texts files.now) }
+{
+    let mut all = Vec::new(alloc);
+    for file in files {
+        all.push((file.name.as_str(), file.text.as_str()))?;
+    }
+    Ok(all)
+}

@@ -1,0 +1,69 @@
+-- The loop over the lines of a transcript: one line on, a line that ends it, and the end.
+use Rattle.std.proofs.Common.{◌≡◌, ℕ, Bool, true, false, List, [], ◌∷◌, Some, refl, sym, subst, ◌∙◌}
+use Rattle.std.specs.Prelude.{if◌then◌else◌}
+use Rattle.verifier.specs.declared.refusal.Mode.TheVariants.{Read}
+use Rattle.oplog.specs.Operations.{Operation}
+use Rattle.text.specs.Lines.{next_line}
+use Rattle.loader.specs.CatalogueView.{CatalogueView}
+use Rattle.replaying.specs.declared.lines.Replaying.{Replaying}
+use Rattle.replaying.specs.declared.lines.LineVerdict.{LineVerdict}
+use Rattle.replaying.specs.declared.lines.LineVerdict.TheVariants as lines
+use Rattle.engine.specs.Answer.{Answer}
+use Rattle.running.specs.RunAnswer.{bad_line}
+use Rattle.scripts.specs.Transcript.{AnsweredCall}
+use Rattle.replaying.specs.ReplayAnswer.{Replayed, LineOutcome, Bad, Differs, Agrees, operation_of, compared, answered_outcome, line_outcome, read_agrees, next_count, good_answer, differing_line, by_outcome, transcript_answer}
+use Rattle.replaying.specs.Replaying.{HasReplayed, IsCompared, LineReplayed, compared_verdict}
+
+-- a call whose operation is known
+pub of_operation : (c : CatalogueView) (at : Replayed) (a : AnsweredCall) (op : Operation) (v : LineVerdict) (r : Replaying) → Some op ≡ operation_of c a.mode a.call
+    → LineReplayed c (compared c at a.mode a.index a.reply op) v r → LineReplayed c (answered_outcome c at a) v r
+of_operation c at a op v r found told = rw (← found) told
+
+by_agrees : (c : CatalogueView) (agrees : Bool) (next : Replayed) (told : Bool) (r : Replaying) → IsCompared c agrees next told r → LineReplayed c (if agrees then Agrees next else Differs) (compared_verdict told) r
+by_agrees c true next told r is = subst (λ t. LineReplayed c (Agrees next) (compared_verdict t) r) (sym is.told) (is.goes_on refl)
+by_agrees c false next told r is = subst (λ t. LineReplayed c Differs (compared_verdict t) r) (sym is.told) tt
+
+-- a read that was compared
+pub of_read : (c : CatalogueView) (at : Replayed) (op : Operation) (point reply : ℕ) (told : Bool) (r : Replaying) → IsCompared c (read_agrees c at.history op point reply) (record at { reads = next_count at.reads }) told r
+    → LineReplayed c (compared c at Read point reply op) (compared_verdict told) r
+of_read c at op point reply told r is = by_agrees c (read_agrees c at.history op point reply) (record at { reads = next_count at.reads }) told r is
+
+module _ (c : CatalogueView) (n : ℕ) (at : Replayed) (all : List (List ℕ)) (line : List ℕ) (rest : List (List ℕ)) (first : all ≡ line ∷ rest) (total : Answer) (so_far : transcript_answer c n at all ≡ total) where
+  abbrev next : Replayed → Answer
+  next at' = transcript_answer c (next_line n) at' rest
+
+  here_is : by_outcome n next (line_outcome c at line) ≡ total
+  unfolding transcript_answer
+  here_is = sym (rw first refl) ∙ so_far
+
+  -- the lines behind, from what was replayed with this line
+  abbrev GoesOn : Replaying → Type 0
+  GoesOn r = (more : Replayed) × HasReplayed c more r × (next more ≡ total)
+
+  agreed : (o : LineOutcome) (r : Replaying) → LineReplayed c o lines.Agrees r → by_outcome n next o ≡ total → GoesOn r
+  agreed Bad r told is = absurd told
+  agreed Differs r told is = absurd told
+  agreed (Agrees more) r told is = (more, told, is)
+
+  pub goes_on : (r : Replaying) → LineReplayed c (line_outcome c at line) lines.Agrees r → GoesOn r
+  goes_on r told = agreed (line_outcome c at line) r told here_is
+
+  bad : (o : LineOutcome) (r : Replaying) → LineReplayed c o lines.Bad r → by_outcome n next o ≡ total → bad_line n ≡ total
+  bad Bad r told is = is
+  bad Differs r told is = absurd told
+  bad (Agrees more) r told is = absurd told
+
+  pub bad_here : (r : Replaying) → LineReplayed c (line_outcome c at line) lines.Bad r → bad_line n ≡ total
+  bad_here r told = bad (line_outcome c at line) r told here_is
+
+  differing : (o : LineOutcome) (r : Replaying) → LineReplayed c o lines.Differs r → by_outcome n next o ≡ total → differing_line n ≡ total
+  differing Bad r told is = absurd told
+  differing Differs r told is = is
+  differing (Agrees more) r told is = absurd told
+
+  pub differs_here : (r : Replaying) → LineReplayed c (line_outcome c at line) lines.Differs r → differing_line n ≡ total
+  differs_here r told = differing (line_outcome c at line) r told here_is
+
+pub all_agree : (c : CatalogueView) (n : ℕ) (at : Replayed) (all : List (List ℕ)) → all ≡ [] → good_answer at ≡ transcript_answer c n at all
+unfolding transcript_answer
+all_agree c n at all empty = sym (rw empty refl)

@@ -1,0 +1,84 @@
+-- What is kept while a transcript is replayed. Clauses of private functions alone cite this.
+use Rattle.std.specs.Prelude.{◌≡◌, ℕ, Bool, true, false, List, length, None, nat_lt, if◌then◌else◌}
+use Rattle.verifier.specs.declared.refusal.Mode.{Mode}
+use Rattle.verifier.specs.declared.refusal.Mode.TheVariants.{Update, Read}
+use Rattle.loader.specs.CatalogueView.{CatalogueView}
+use Rattle.oplog.specs.Operations.{Operation}
+use Rattle.oplog.specs.Logs.{tail_of}
+use Rattle.oplog.specs.History.{History, reply_at, read_reply_at}
+use Rattle.oplog.specs.declared.configuration.TheConstants.{MAX_LIMIT}
+use Rattle.replica.specs.StoreMeaning.{store_meaning}
+use Rattle.replaying.specs.declared.lines.Due.{Due}
+use Rattle.replaying.specs.declared.lines.Replaying.{Replaying}
+use Rattle.replaying.specs.declared.lines.LineVerdict.{LineVerdict}
+use Rattle.replaying.specs.declared.lines.LineVerdict.TheVariants as lines
+use Rattle.replaying.specs.declared.lines.ReplayEnd.{ReplayEnd}
+use Rattle.replaying.specs.declared.lines.ReplayEnd.TheVariants as ends
+use Rattle.engine.specs.declared.status.Verdict.{Verdict}
+use Rattle.engine.specs.declared.status.Verdict.TheVariants as verdicts
+use Rattle.running.specs.Running.{Follows}
+use Rattle.engine.specs.Answer.{Answer}
+use Rattle.running.specs.RunAnswer.{bad_line_text}
+use Rattle.replaying.specs.ReplayAnswer.{Replayed, LineOutcome, Bad, Differs, Agrees, good_text, differs_text, update_agrees, read_agrees, with_update, next_count}
+
+-- so much was replayed
+pub record HasReplayed (c : CatalogueView) (at : Replayed) (r : Replaying) : Type 0 where
+  pub placed : Follows MAX_LIMIT c at.history r.node
+  pub reads : r.reads ≡ at.reads
+  pub ended : r.ended ≡ at.ended
+
+-- whether a call agrees was told, and where it does so much is replayed
+pub record IsCompared (c : CatalogueView) (agrees : Bool) (next : Replayed) (answer : Bool) (r : Replaying) : Type 0 where
+  pub told : answer ≡ agrees
+  pub goes_on : agrees ≡ true → HasReplayed c next r
+
+-- whether a call of this mode has this index and this reply in a history, and what is replayed where it has
+abbrev pub call_agrees : CatalogueView → Mode → History → Operation → ℕ → ℕ → Bool
+call_agrees c Update h op index reply = update_agrees c h op index reply
+call_agrees c Read h op index reply = read_agrees c h op index reply
+
+abbrev pub with_call : Mode → Replayed → Operation → Replayed
+with_call Update at op = with_update at op
+with_call Read at op = record at { reads = next_count at.reads }
+
+-- after whatever was replayed before: whether this operation has the index and the reply that its call tells, and what is replayed then
+abbrev pub Compares : CatalogueView → Mode → Operation → (index reply : ℕ) → Replaying → Bool → Replaying → Type 0
+Compares c mode op index reply old answer new = (at : Replayed) → HasReplayed c at old → IsCompared c (call_agrees c mode at.history op index reply) (with_call mode at op) answer new
+
+-- what an operation behind a history should tell: its place, and its reply there; none where the history has all its updates
+abbrev pub due_at : CatalogueView → Mode → History → Operation → Due
+due_at c Update h op = record { mode = Update; place = length h; reply = if nat_lt (length h) MAX_LIMIT then reply_at store_meaning c h (length h) op else None }
+due_at c Read h op = record { mode = Read; place = length h; reply = read_reply_at store_meaning c h (length h) op }
+
+-- after whatever was replayed before, that is it
+abbrev pub TellsDue : CatalogueView → Mode → Operation → Replaying → Due → Type 0
+TellsDue c mode op old due = (at : Replayed) → HasReplayed c at old → due ≡ due_at c mode at.history op
+
+-- what a line does was told, and where it agrees so much is replayed
+abbrev pub LineReplayed : CatalogueView → LineOutcome → LineVerdict → Replaying → Type 0
+LineReplayed c Bad lines.Bad r = Unit {0}
+LineReplayed c Differs lines.Differs r = Unit {0}
+LineReplayed c (Agrees next) lines.Agrees r = HasReplayed c next r
+LineReplayed c outcome answer r = ⊥
+
+-- after whatever was replayed before: what this line does, and what is replayed then
+abbrev pub ReplaysLine : CatalogueView → (Replayed → LineOutcome) → Replaying → LineVerdict → Replaying → Type 0
+ReplaysLine c outcome old answer new = (at : Replayed) → HasReplayed c at old → LineReplayed c (outcome at) answer new
+
+abbrev pub compared_verdict : Bool → LineVerdict
+compared_verdict true = lines.Agrees
+compared_verdict false = lines.Differs
+
+-- what is written where a replay ended so, and what the transcript is then
+abbrev pub ended_text : ReplayEnd → Replaying → List ℕ
+ended_text ends.Agrees r = good_text (tail_of r.node.log) r.reads r.ended
+ended_text (ends.Bad n) r = bad_line_text n
+ended_text (ends.Differs n due) r = differs_text n
+
+abbrev pub ended_verdict : ReplayEnd → Verdict
+ended_verdict ends.Agrees = verdicts.Good
+ended_verdict (ends.Bad n) = verdicts.Refused
+ended_verdict (ends.Differs n due) = verdicts.Differs
+
+abbrev pub ended_answer : ReplayEnd → Replaying → Answer
+ended_answer end r = record { text = ended_text end r; verdict = ended_verdict end }

@@ -1,0 +1,9 @@
+pub mod RunLines
+pub mod SignedRuns
+pub mod SignedLines
+pub mod Opened
+pub mod OneUpdate
+pub mod Turns
+pub mod RunsOfLines
+pub mod UnderLimits
+pub mod KeptRuns

@@ -1,0 +1,7 @@
+use Rattle.std.proofs.Common.{rules}
+use Rattle.running.proofs.Opened.{steady_at}
+use Rattle.running.proofs.single_node.SingleNode.open.Goals as goal
+
+pub returns-clause-steady : goal.returns-clause-steady
+returns-clause-steady c =
+    steady_at c.args.catalogue.now c.shapes.ensures.whole _ _ _ _ _ c.args.limit (search rules) c.in_ok-hand.ensures.opened (search rules) (search rules)

@@ -1,0 +1,12 @@
+-- What a run of a script answers and writes, and the state that it leaves.
+pub mod RunAnswer
+pub mod Signed
+pub mod KeptRun
+-- Laws: each line that a run writes for a call is a run of its program.
+pub mod RunLines
+-- Laws: where it doesn't matter how many updates a history may have.
+pub mod LimitLaws
+-- Laws: the reply that a line tells, beside which a signed number may stand.
+pub mod SignedLaws
+-- The steps between reading and writing.
+pub mod Running

@@ -1,0 +1,166 @@
+-- What stands behind the lines that a run writes: each update and each read is a run of its program.
+use Rattle.std.specs.Prelude.{◌≡◌, ◌≢◌, ◌⊎◌, ℕ, ◌+◌, ◌<◌, ◌≤◌, List, [], ◌∷◌, length, Some, None, Ok}
+use Rattle.verifier.specs.declared.refusal.Mode.{Mode}
+use Rattle.verifier.specs.declared.refusal.Mode.TheVariants.{Update, Read}
+use Rattle.verifier.specs.Accepted.{Checked}
+use Rattle.machine.specs.Effects.{IsRun, Effect as RunEffect}
+use Rattle.maps.specs.declared.shapes.TheConstants.{MAX_ARG_LEN}
+use Rattle.text.specs.Lines.{next_line}
+use Rattle.loader.specs.CatalogueView.{CatalogueView, IsCatalogue, number_named, with_places}
+use Rattle.loader.specs.declared.installed.TheConstants.{MAX_PLACES}
+use Rattle.loader.specs.Installed.{installed_program}
+use Rattle.loader.specs.ProgramFiles.{Files}
+use Rattle.loader.specs.Loading.{loaded}
+use Rattle.oplog.specs.Calls.{Call as TheCall, NewProgram}
+use Rattle.oplog.specs.declared.records.Op.TheVariants.{Run, Install as AnInstall}
+use Rattle.oplog.specs.History.{History, state_after}
+use Rattle.replica.specs.StoreMeaning.{AreUpdates, IsOperation, program_at, placed, store_meaning}
+use Rattle.replica.specs.HistoryLaws.{IsEffectOf}
+use Rattle.replica.specs.Refusals.{install_refusal}
+use Rattle.replica.specs.declared.refusals.StoreRefused.{StoreRefused}
+use Rattle.replica.specs.declared.refusals.StoreRefused.TheVariants.{UnknownProgram, ArgumentLength, WrongMode, Ended}
+use Rattle.engine.specs.declared.status.Verdict.TheVariants as verdicts
+use Rattle.engine.specs.Answer.{Answer}
+use Rattle.scripts.specs.Script.{ProgramCall, Meaning, Comment, Call, InvokeAt, ReadAt, Install, line_meaning}
+use Rattle.running.specs.RunAnswer.{Turn, update_text, read_text, install_text, refused_text, with_operation, behind, bad_line, line_turn, lines_answer}
+use Rattle.engine.specs.StateAnswer.{on_text}
+
+-- what a call does on the state after the whole history: the run of its program there, or nothing, with the reply that there is none
+abbrev pub CallDoes : CatalogueView → History → TheCall → Mode → RunEffect → Type 0
+CallDoes c h call mode done = IsEffectOf mode c call (state_after store_meaning c h (length h)) done
+
+-- it is the run of a program of the catalogue, of this mode
+pub record CallRuns (c : CatalogueView) (h : History) (call : TheCall) (mode : Mode) (done : RunEffect) : Type 0 where
+  pub program : Checked
+  pub named : program_at c call.program ≡ Some program
+  pub mode_is : program.mode ≡ mode
+  pub run : IsRun program.program (state_after store_meaning c h (length h)).maps call.argument done
+
+-- ---- why a call is refused
+
+-- no program and no place has this number
+abbrev pub IsUnknown : CatalogueView → ℕ → Type 0
+IsUnknown c k = length c.programs + c.places ≤ k
+
+-- the argument hasn't the length that the program asks for, or it is too long for any program that may come to stand at the place
+abbrev pub HasOtherLength : CatalogueView → TheCall → Type 0
+HasOtherLength c call =
+    ((p : Checked) × (program_at c call.program ≡ Some p) × (length call.argument ≢ p.arg_len))
+    ⊎ ((length c.programs ≤ call.program) × (call.program < length c.programs + c.places) × (MAX_ARG_LEN < length call.argument))
+
+-- the argument has its length, and the program has the other mode
+abbrev pub HasOtherMode : CatalogueView → Mode → TheCall → Type 0
+HasOtherMode c mode call = (p : Checked) × (program_at c call.program ≡ Some p) × (length call.argument ≡ p.arg_len) × (p.mode ≢ mode)
+
+-- ---- turns
+
+-- a read wrote the number of updates before it and what it does, and the history stays
+pub record IsReadTurn (c : CatalogueView) (h : History) (call : TheCall) (turn : Turn) : Type 0 where
+  pub asked : IsOperation Read c (Run call)
+  pub done : RunEffect
+  pub does : CallDoes c h call Read done
+  pub text : turn.text ≡ read_text (length h) done.reply done.steps
+  pub same : turn.history ≡ h
+  pub left : done.maps ≡ (state_after store_meaning c h (length h)).maps
+
+-- what is refused for such a reason wrote its number, and the history stays
+pub record IsRefusedTurn (Why : StoreRefused → Type 0) (h : History) (turn : Turn) : Type 0 where
+  pub why : StoreRefused
+  pub is : Why why
+  pub text : turn.text ≡ refused_text why
+  pub same : turn.history ≡ h
+
+-- ---- on a history that has so many records at most
+
+module _ (limit : ℕ) where
+  -- the history has all its updates
+  abbrev pub HasEnded : History → Type 0
+  HasEnded h = limit ≤ length h
+
+  -- a call by a number is refused for this reason, as one of this mode: S1, S2, S3, or as an update that nothing else refuses S4
+  abbrev pub IsWhy : CatalogueView → History → Mode → TheCall → StoreRefused → Type 0
+  IsWhy c h mode call UnknownProgram = IsUnknown c call.program
+  IsWhy c h mode call ArgumentLength = HasOtherLength c call
+  IsWhy c h mode call WrongMode = HasOtherMode c mode call
+  IsWhy c h mode call Ended = (mode ≡ Update) × IsOperation Update c (Run call) × HasEnded h
+  IsWhy c h mode call why = ⊥
+
+  -- a call by a name: no program has the name, or the program that has it is refused so as one of its own mode
+  abbrev pub IsWhyNamed : CatalogueView → History → ProgramCall → StoreRefused → Type 0
+  IsWhyNamed c h call why =
+      ((number_named c.programs call.name ≡ None) × (why ≡ UnknownProgram))
+      ⊎ ((k : ℕ) × (p : Checked) × (number_named c.programs call.name ≡ Some k) × (program_at c k ≡ Some p)
+      × IsWhy c h p.mode (record { program = k; argument = call.argument }) why)
+
+  -- an install: by its bytes and the length of its argument, S6, S7 or S8, or where nothing else refuses it S4
+  abbrev pub IsWhyInstall : CatalogueView → History → NewProgram → StoreRefused → Type 0
+  IsWhyInstall c h new Ended = IsOperation Update c (AnInstall new) × HasEnded h
+  IsWhyInstall c h new why = install_refusal c.shapes new ≡ Some why
+
+  -- an update wrote its index in the history and what it does; the history goes on with it, and with the maps that it leaves
+  pub record IsUpdateTurn (c : CatalogueView) (h : History) (call : TheCall) (turn : Turn) : Type 0 where
+    pub asked : IsOperation Update c (Run call)
+    pub done : RunEffect
+    pub does : CallDoes c h call Update done
+    pub room : length h < limit
+    pub text : turn.text ≡ update_text (length h) done.reply done.steps
+    pub next : turn.history ≡ with_operation h (Run call)
+    pub left : (state_after store_meaning c turn.history (length turn.history)).maps ≡ done.maps
+
+  -- an install wrote its index in the history and the number of its program, which stands behind the others then; or that no place is free
+  pub record IsInstallTurn (c : CatalogueView) (h : History) (new : NewProgram) (turn : Turn) : Type 0 where
+    pub asked : IsOperation Update c (AnInstall new)
+    pub program : Checked
+    pub read : installed_program c.shapes new.mode new.arg_len new.bytes ≡ Ok program
+    pub room : length h < limit
+    pub text : turn.text ≡ install_text (length h) (placed c (state_after store_meaning c h (length h)) program).reply
+    pub next : turn.history ≡ with_operation h (AnInstall new)
+    pub left : state_after store_meaning c turn.history (length turn.history) ≡ (placed c (state_after store_meaning c h (length h)) program).left
+
+  -- a call by its name is refused, or it is an update or a read that runs the program of that name
+  abbrev pub CallTurn : CatalogueView → History → ProgramCall → Turn → Type 0
+  CallTurn c h call turn =
+      IsRefusedTurn (IsWhyNamed c h call) h turn
+      ⊎ ((k : ℕ) × (number_named c.programs call.name ≡ Some k)
+      × (((u : IsUpdateTurn c h (record { program = k; argument = call.argument }) turn) × CallRuns c h (record { program = k; argument = call.argument }) Update u.done)
+      ⊎ ((r : IsReadTurn c h (record { program = k; argument = call.argument }) turn) × CallRuns c h (record { program = k; argument = call.argument }) Read r.done)))
+
+  -- by what the line says: a comment writes nothing
+  abbrev pub MeaningTurn : CatalogueView → History → Turn → Meaning → Type 0
+  MeaningTurn c h turn Comment = (turn.text ≡ []) × (turn.history ≡ h)
+  MeaningTurn c h turn (Call call) = CallTurn c h call turn
+  MeaningTurn c h turn (InvokeAt call) = IsRefusedTurn (IsWhy c h Update call) h turn ⊎ IsUpdateTurn c h call turn
+  MeaningTurn c h turn (ReadAt call) = IsRefusedTurn (IsWhy c h Read call) h turn ⊎ IsReadTurn c h call turn
+  MeaningTurn c h turn (Install new) = IsRefusedTurn (IsWhyInstall c h new) h turn ⊎ IsInstallTurn c h new turn
+
+  abbrev pub LineTurn : CatalogueView → History → List ℕ → Turn → Type 0
+  LineTurn c h line turn = (m : Meaning) × (line_meaning line ≡ Some m) × MeaningTurn c h turn m
+
+  -- from line n on, on this history: each line has its turn, one after the other, until a bad line
+  abbrev pub ScriptRuns : CatalogueView → ℕ → History → List (List ℕ) → Answer → Type 0
+  ScriptRuns c n h [] a = a ≡ record { text = []; verdict = verdicts.Good }
+  ScriptRuns c n h (l ∷ ls) a =
+      ((line_meaning l ≡ None) × (a ≡ bad_line n))
+      ⊎ ((turn : Turn) × (rest : Answer) × LineTurn c h l turn × ScriptRuns c (next_line n) turn.history ls rest × (a ≡ behind turn.text rest))
+
+-- ---- the laws
+
+-- on any history of a catalogue's updates the turn of a line does what the line says, and leaves such a history
+abbrev pub LineTurnsAreRuns : Type 0
+LineTurnsAreRuns =
+    (limit : ℕ) (c : CatalogueView) (h : History) (line : List ℕ) (turn : Turn) → IsCatalogue c → AreUpdates c h → line_turn limit c h line ≡ Some turn
+    → LineTurn limit c h line turn × AreUpdates c turn.history
+
+-- and what lines write from there on are the runs of its programs and of those that are installed, from the state on that a store of it opens on
+abbrev pub RunLinesAreRuns : Type 0
+RunLinesAreRuns =
+    (limit : ℕ) (c : CatalogueView) (n : ℕ) (h : History) (ls : List (List ℕ)) → IsCatalogue c → AreUpdates c h
+    → ScriptRuns limit c n h ls (lines_answer limit c n h ls)
+
+-- what a manifest is loaded as is a catalogue, with any number of places that a command gives it
+abbrev pub LoadedIsCatalogue : Type 0
+LoadedIsCatalogue = (manifest : List ℕ) (files : Files) (c : CatalogueView) (places : ℕ) → loaded manifest files ≡ Ok c → places ≤ MAX_PLACES → IsCatalogue (with_places c places)
+
+-- and it is one where it opens on the state that a text says
+abbrev pub OpenedIsCatalogue : Type 0
+OpenedIsCatalogue = (c on : CatalogueView) (state : List ℕ) → IsCatalogue c → on_text c state ≡ Ok on → IsCatalogue on

@@ -1,0 +1,42 @@
+// What the definitions of a run say, in other words.
+
+ghost use Rattle.std.specs.Prelude.{◌≡◌};
+ghost use Rattle.running.specs.LimitLaws.{LimitIsUnfelt, FewLinesAreAlike};
+ghost use Rattle.running.specs.RunLines.{LineTurnsAreRuns, LoadedIsCatalogue, OpenedIsCatalogue, RunLinesAreRuns};
+ghost use Rattle.running.specs.SignedLaws.{RepliesAreTold};
+ghost use Rattle.running.specs.declared.single_node.TheConstants.{RUN_PLACES};
+
+/// The limit that the definitions cite, as a number.
+pub fn limits()
+    ensures places_of_a_run { RUN_PLACES ≡ 4 }
+{}
+
+/// What the lines of a script write on a catalogue, behind any updates and under any limit: each line has its turn, one after the other,
+/// until a bad line. A call is refused, or its line has the reply and the steps of the run of its program on the maps after that many
+/// updates, and an update leaves the maps of its run; of a call by number it is the run of what stands there, or -22. An install is
+/// refused, or its line has the number of the program that its bytes spell, or -7.
+///
+/// A refusal leaves the history, and its number says why: S1, no program and no place is called; S2, the argument has another
+/// length; S3, the program has the other mode; S4, the history has all its updates, and nothing else refuses this one; of an
+/// install, S6 to S8. What isn't refused is an update or a read of the catalogue.
+///
+/// Such a catalogue is what a manifest is loaded as, with at most 16 places behind its programs, on a new state and on each that a text
+/// says.
+pub fn run_lines_are_runs()
+    ensures turns { LineTurnsAreRuns }
+    ensures runs { RunLinesAreRuns }
+    ensures loaded { LoadedIsCatalogue }
+    ensures opened { OpenedIsCatalogue }
+{}
+
+/// `run --signed` finds the reply of each line that `run` writes for an update, a read or an install.
+pub fn replies_are_told()
+    ensures replies { RepliesAreTold }
+{}
+
+/// How many updates a history may have doesn't matter to lines that come to no more: they write the same under each greater limit. Lines that
+/// are no more than it leaves are such, since a line makes one update at most.
+pub fn limit_is_unfelt()
+    ensures unfelt { LimitIsUnfelt }
+    ensures few { FewLinesAreAlike }
+{}

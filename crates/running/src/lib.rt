@@ -1,0 +1,16 @@
+//! The command `run` of the program `nrbpf`: a script on one replica, on a new state or on one that is loaded.
+#![tactic(auto)]
+
+mod calls;
+mod laws;
+mod lines;
+mod run_texts;
+mod runs;
+mod signed_texts;
+mod single_node;
+
+pub use calls::{checked_call, take_line};
+pub use laws::{limit_is_unfelt, limits, replies_are_told, run_lines_are_runs};
+pub use run_texts::{bad_line, put_bad_line};
+pub use runs::{Kept, Run, dump_to};
+pub use single_node::SingleNode;

@@ -1,0 +1,185 @@
+// The command `run`, and the state that it leaves.
+
+ghost use Rattle.std.specs.Prelude.{◌≡◌, true, Option, option_map, Result, IfOk, string_bytes};
+ghost use Rattle.text.specs.Lines.{lines_of};
+ghost use Rattle.loader.specs.CatalogueView.{CatalogueView, OpensOn, with_places};
+ghost use Rattle.loader.specs.Loading.{loaded};
+ghost use Rattle.oplog.specs.declared.configuration.TheConstants.{MAX_LIMIT};
+ghost use Rattle.oplog.specs.History.{History};
+ghost use Rattle.dumps.specs.Dumping.{dump};
+ghost use Rattle.engine.specs.Answer.{Answer};
+ghost use Rattle.engine.specs.Memory.{Never};
+ghost use Rattle.engine.specs.OpenedState.{IsOpened, OpenedIs};
+ghost use Rattle.engine.specs.Reading.{named_texts};
+ghost use Rattle.engine.specs.Report.{answer_of, Failed};
+ghost use Rattle.engine.specs.StateAnswer.{opened_by};
+ghost use Rattle.running.specs.KeptRun.{state_left, unrun, lines_kept, script_kept, kept, with_signs, run_kept, kept_of, Dumps};
+ghost use Rattle.running.specs.Running.{IsSteady, HasLeft};
+
+use crate::lines::take_lines;
+use crate::signed_texts::signed_text;
+use crate::single_node::{RUN_PLACES, SingleNode};
+use engine::reading::{Gathered, Texts};
+use engine::replies::not_text;
+use engine::{
+    Answering, Command, Loaded, Notes, Opened, Reply, Sink, Status, Verdict, load_texts, open_on,
+};
+use loader::{Catalogue, StoreState};
+use oplog::MAX_LIMIT;
+use std::alloc::{AllocError, Global};
+
+/// What a run writes, and the state that it leaves.
+#[derive(Drop)]
+pub struct Kept {
+    /// What it has to write.
+    pub reply: Reply,
+    /// The state after all lines; none where a line is bad, or where nothing was run.
+    pub state: Option<StoreState>,
+}
+
+impl Answering for Kept {
+    ghost answer = { λ k. answer_of k.reply };
+
+    fn text(&self) -> &[u8] {
+        &self.reply.text
+    }
+
+    fn verdict(&self) -> Verdict {
+        self.reply.verdict
+    }
+}
+
+// What is answered in place of a run.
+fn unrun(reply: Reply) -> Kept
+    ensures { kept_of result ≡ unrun (answer_of reply) }
+{
+    Kept { reply, state: None }
+}
+
+// The state that lines left in a node, where all of them are good.
+fn state_left(node: SingleNode, catalogue: &Catalogue, verdict: Verdict) -> Option<StoreState>
+    requires steady { IsSteady catalogue.now node }
+    ensures left { (left : Option History) → HasLeft MAX_LIMIT catalogue.now node left verdict → result ≡ option_map (state_left catalogue.now) left }
+{
+    match verdict {
+        Verdict::Good => Some(node.into_state(catalogue)),
+        Verdict::Refused | Verdict::Differs => None,
+    }
+}
+
+// Runs the lines of a script on a catalogue, on a copy of the state that is handed in, or on a new one.
+fn lines_kept(
+    alloc: Global,
+    catalogue: &Catalogue,
+    state: Option<&StoreState>,
+    script: &str,
+) -> Result<Kept, AllocError>
+    requires opens { OpensOn catalogue.now state }
+    ensures { IfOk result (λ k. kept_of k ≡ lines_kept catalogue.now (lines_of script.now)) }
+{
+    let mut node = SingleNode::open(alloc, catalogue, state, MAX_LIMIT)?;
+    let mut text = Vec::new(alloc);
+    let verdict = take_lines(&mut node, catalogue, script, &mut text)?;
+    let state = state_left(node, catalogue, verdict);
+    let reply = Reply { text, verdict };
+    Ok(Kept { reply, state })
+}
+
+// Runs the lines of a script on what was opened.
+fn script_kept(alloc: Global, opened: Opened, script: &str) -> Result<Kept, AllocError>
+    requires opened { IsOpened opened }
+    ensures { IfOk result (λ k. (on : Result CatalogueView Answer) → OpenedIs on opened → kept_of k ≡ script_kept script.now on) }
+{
+    match opened {
+        Opened::On(catalogue, state) => lines_kept(alloc, &catalogue, Some(&state), script),
+        Opened::Refused(reply) => Ok(unrun(reply)),
+    }
+}
+
+// Runs the lines of a script on a catalogue and the state that a text says, or on a new one.
+fn catalogue_kept(
+    alloc: Global,
+    catalogue: Catalogue,
+    script: &str,
+    state: &str,
+) -> Result<Kept, AllocError>
+    ensures { IfOk result (λ k. kept_of k ≡ script_kept script.now (opened_by (with_places catalogue RUN_PLACES) state.now)) }
+{
+    let catalogue = catalogue.with_places(RUN_PLACES);
+    if state.is_empty() {
+        lines_kept(alloc, &catalogue, None, script)
+    } else {
+        script_kept(alloc, open_on(alloc, catalogue, state)?, script)
+    }
+}
+
+// What a manifest, its files, a script and a state's text get.
+fn texts_kept(alloc: Global, texts: &Texts) -> Result<Kept, AllocError>
+    ensures { IfOk result (λ k. kept_of k ≡ kept (loaded (string_bytes texts.now.manifest) (named_texts texts.now.files.items)) (string_bytes texts.now.file) (string_bytes texts.now.state)) }
+{
+    match load_texts(alloc, texts)? {
+        Loaded::Catalogue(catalogue) => {
+            catalogue_kept(alloc, catalogue, texts.file.as_str(), texts.state.as_str())
+        }
+        Loaded::Refused(reply) => Ok(unrun(reply)),
+    }
+}
+
+// The same, and beside each reply that is negative as a signed number, that number.
+fn signed(alloc: Global, plain: Kept) -> Result<Kept, AllocError>
+    ensures { IfOk result (λ k. kept_of k ≡ with_signs true (kept_of plain)) }
+{
+    let Kept { reply, state } = plain;
+    let Reply { text, verdict } = reply;
+    let text = signed_text(alloc, text)?;
+    let reply = Reply { text, verdict };
+    Ok(Kept { reply, state })
+}
+
+/// Runs a script on a store with the maps and the programs of a manifest: one log of at most 1,000,000 updates and one
+/// replica, on one thread.
+///
+/// Answers for each call of the script with `update INDEX reply REPLY steps STEPS`, `read POINT reply REPLY steps STEPS`,
+/// for each program that it installs with `install INDEX reply REPLY`, or with `refused S` with a number and its reason,
+/// which changes nothing; a line that is no call, install, comment or empty line gets `line N bad` and ends the run.
+///
+/// The state is given as [`dumps::dump`] writes one; without a text it is a new one. There are four places behind the
+/// programs of the manifest, those that are installed in the state among them. A refused manifest gets only its refusal, a
+/// refused state `line N: En`, and nothing is run.
+#[derive(Clone, Copy)]
+pub struct Run {
+    /// Whether beside each reply of 2^63 or more stands that number with a sign: ` = -N`.
+    pub is_signed: bool,
+}
+
+impl Command for Run {
+    type Made = Kept;
+
+    ghost may_make = { λ c t k. kept_of k ≡ run_kept c.is_signed t };
+
+    fn make(&self, alloc: Global, read: Gathered, _notes: &mut Notes) -> Result<Kept, AllocError> {
+        let Ok(texts) = read else {
+            return Ok(unrun(not_text(alloc)?));
+        };
+        let kept = texts_kept(alloc, &texts)?;
+        if self.is_signed {
+            signed(alloc, kept)
+        } else {
+            Ok(kept)
+        }
+    }
+}
+
+/// Writes a state as text. Says how it ended: where memory runs out, nothing is written.
+pub fn dump_to<D: Sink>(alloc: Global, state: &StoreState, writer: &mut D) -> Status
+    ensures written { Dumps (D.contents writer.old) (D.contents writer.new) result (dump state.now) }
+    ensures failed { Failed result Never (D.has_failed writer.new) }
+{
+    match dumps::dump(alloc, state) {
+        Ok(text) => match writer.send(&text) {
+            Ok(()) => Status::Good,
+            Err(_) => Status::CannotWrite,
+        },
+        Err(_) => Status::NoMemory,
+    }
+}

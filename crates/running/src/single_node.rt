@@ -1,0 +1,153 @@
+// One replica and one log, on one thread.
+
+ghost use Rattle.std.specs.Prelude.{◌≡◌, ◌<◌, [], true, Some, IfOk, IfSome, IfNone};
+ghost use Rattle.verifier.specs.declared.refusal.Mode.TheVariants.{Update, Read};
+ghost use Rattle.loader.specs.CatalogueView.{OpensOn};
+ghost use Rattle.oplog.specs.Limits.{IsLimit};
+ghost use Rattle.oplog.specs.Logs.{tail_of, room_in};
+ghost use Rattle.oplog.specs.declared.records.Op.TheVariants.{Install};
+ghost use Rattle.replica.specs.StoreMeaning.{call_of, run_of, ran_to, is_operation};
+ghost use Rattle.replica.specs.Refusals.{install_refusal, IsRefusedAs};
+ghost use Rattle.scripts.specs.ScriptShown.{program_of};
+ghost use Rattle.running.specs.Running.{IsSteady, Follows, IsUpdated, HasEnded};
+
+use loader::{Catalogue, Installed, StoreState};
+use machine::Outcome;
+use node::{NodeReplica, append, finish, reclaim, replay};
+use oplog::{Hand, LogState, MAX_WINDOW, NewProgram, Op, Record};
+use replica::{Replica, Replies, StoreRefused, check_install};
+use scripts::ProgramText;
+use std::alloc::{AllocError, Global};
+
+/// How many programs a run may install.
+pub const RUN_PLACES: usize = 4;
+
+/// The log, and the replica that is fed from it, with room for what a program answers, and for one that is to be installed.
+#[derive(Drop)]
+pub struct SingleNode {
+    log: LogState,
+    own: NodeReplica,
+    replies: Replies,
+    room: Installed,
+}
+
+impl SingleNode {
+    /// Takes all room that a run needs, on a copy of the state that is handed in, or on a new one. Its history may have up to `limit` updates.
+    pub fn open(
+        alloc: Global,
+        catalogue: &Catalogue,
+        opening: Option<&StoreState>,
+        limit: usize,
+    ) -> Result<SingleNode, AllocError>
+        requires opens { OpensOn catalogue.now opening }
+        requires limit { IsLimit limit }
+        ensures steady { IfOk result (λ n. IsSteady catalogue.now n) }
+        ensures empty { IfOk result (λ n. Follows limit catalogue.now [] n) }
+    {
+        let base = StoreState::opening(alloc, catalogue, opening)?;
+        let log = LogState::open(alloc, base, MAX_WINDOW, limit)?;
+        let hand = Hand::open(alloc, MAX_WINDOW)?;
+        let replica = Replica::open(StoreState::opening(alloc, catalogue, opening)?);
+        let own = NodeReplica { replica, hand };
+        let replies = Replies::new(0, 0);
+        let room = Installed::open(alloc, catalogue.shapes(), 1)?;
+        Ok(SingleNode {
+            log,
+            own,
+            replies,
+            room,
+        })
+    }
+
+    // Makes the replica's maps and programs the log's base where that is behind.
+    fn catch_up(&mut self, catalogue: &Catalogue)
+        requires steady { IsSteady catalogue.now self.old }
+        ensures state { self.new.log.base_state ≡ self.old.own.replica.state }
+    {
+        let _tail = self.log.tail();
+        if self.log.base() < self.own.replica.tail() {
+            reclaim(&mut self.log, &self.own);
+        }
+    }
+
+    /// The state after all updates so far. Takes no memory.
+    pub fn into_state(mut self, catalogue: &Catalogue) -> StoreState
+        requires steady { IsSteady catalogue.now self }
+        ensures state { result ≡ self.own.replica.state }
+    {
+        self.catch_up(catalogue);
+        let SingleNode { log, .. } = self;
+        let (state, _) = log.into_base();
+        state
+    }
+
+    /// How many updates there were.
+    pub fn tail(&self) -> u64
+        ensures { result ≡ tail_of self.now.log }
+    {
+        self.log.tail()
+    }
+
+    // Makes the replica's maps and programs the log's base where the log has no room for a record.
+    fn make_room(&mut self, catalogue: &Catalogue)
+        requires steady { IsSteady catalogue.now self.old }
+        ensures steady { IsSteady catalogue.now self.new }
+        ensures room { 0 < room_in self.new.log }
+        ensures limit { self.new.log.limit ≡ self.old.log.limit }
+        ensures tail { tail_of self.new.log ≡ tail_of self.old.log }
+        ensures own { self.new.own ≡ self.old.own }
+    {
+        let _tail = self.log.tail();
+        if self.log.room() == 0 {
+            reclaim(&mut self.log, &self.own);
+        }
+    }
+
+    /// The program that may be installed, in the node's own room.
+    pub fn check(
+        &mut self,
+        catalogue: &Catalogue,
+        text: &ProgramText,
+    ) -> Result<NewProgram, StoreRefused>
+        requires steady { IsSteady catalogue.now self.old }
+        ensures steady { IsSteady catalogue.now self.new }
+        ensures refusal { IsRefusedAs (install_refusal catalogue.now.shapes (program_of text.now)) result }
+        ensures program { IfOk result (λ p. (p ≡ program_of text.now) × (is_operation Update catalogue.now (Install p) ≡ true)) }
+        ensures log { self.new.log ≡ self.old.log }
+        ensures own { self.new.own ≡ self.old.own }
+    {
+        let bytes = text.bytes.as_slice();
+        check_install(&mut self.room, text.mode, text.arg_len, bytes)?;
+        Ok(NewProgram::new(text.mode, text.arg_len as usize, bytes))
+    }
+
+    /// Appends one record and brings the replica up to date; `None` where the history has all its records.
+    pub fn submit(&mut self, catalogue: &Catalogue, op: Op) -> Option<Outcome>
+        requires steady { IsSteady catalogue.now self.old }
+        requires update { is_operation Update catalogue.now op ≡ true }
+        ensures steady { IsSteady catalogue.now self.new }
+        ensures updated { IfSome result (λ o. IsUpdated catalogue.now op self.old self.new o) }
+        ensures ended { IfNone result (HasEnded self.old self.new) }
+    {
+        self.make_room(catalogue);
+        let seq = self.log.tail();
+        if self.log.left() == 0 {
+            return None;
+        }
+        let record = Record { author: 0, seq, op };
+        append(&mut self.log, &mut self.own, &[record], &mut self.replies);
+        replay(&mut self.own, catalogue, &mut self.replies);
+        finish(&mut self.log, &self.own);
+        self.replies.get(0)
+    }
+
+    /// What the program of a number answers as a read after all updates so far.
+    pub fn query(&mut self, catalogue: &Catalogue, program: u16, argument: &[u8]) -> Outcome
+        requires steady { IsSteady catalogue.now self.old }
+        ensures run { run_of Read catalogue.now (call_of program argument.now) self.old.own.replica.state
+            ≡ Some (ran_to result self.old.own.replica.state.maps) }
+        ensures same { self.new ≡ self.old }
+    {
+        self.own.replica.query(catalogue, program, argument)
+    }
+}

@@ -1,0 +1,15 @@
+use Rattle.std.proofs.Common.{◌≡◌, length}
+use Rattle.text.specs.Lines.{lines_of}
+use Rattle.running.specs.RunAnswer.{behind}
+use Rattle.scheduling.specs.ScheduleAnswer.{steps_answer}
+use Rattle.engine.specs.Notes.{IsQuiet}
+use Rattle.scheduling.proofs.step_lists.take_lines.Given as goal
+
+abbrev pub invariant-loop-number : goal.invariant-loop-number
+invariant-loop-number l =
+    (l.world.opening ≡ l.fn.world.opening) × (length l.world.world.nodes ≡ l.nodes)
+    × (behind l.out.items (steps_answer l.fn.world.opening l.lines.number l.world.world l.lines.lines)
+    ≡ behind l.fn.out.items (steps_answer l.fn.world.opening 1 l.fn.world.world (lines_of l.steps))) × IsQuiet l.fn.notes l.notes
+
+abbrev pub decreases-loop-number : goal.decreases-loop-number
+decreases-loop-number l = length l.lines.lines

@@ -1,0 +1,24 @@
+-- What is kept while steps are taken. Clauses of private functions alone cite this.
+use Rattle.std.specs.Prelude.{◌≡◌, ℕ, Bool, true, false, List, [], ◌++◌, Option, Some, None}
+use Rattle.loader.specs.CatalogueView.{CatalogueView}
+use Rattle.schedule.specs.declared.parts.Opening.{Opening}
+use Rattle.schedule.specs.declared.steps.Step.{Step}
+use Rattle.schedule.specs.Worlds.{NodeView, WorldView}
+use Rattle.schedule.specs.Steps.{took, world_after}
+use Rattle.schedule.specs.Taking.{WorldState, step_answer}
+use Rattle.scripts.specs.StepLine.{StepMeaning}
+use Rattle.scheduling.specs.ScheduleAnswer.{StepTurn, node_text, step_text, step_turn}
+
+-- the line's step is this one
+abbrev pub IsStepOf : CatalogueView → StepMeaning → Step → Type 0
+IsStepOf c line step = (m : Opening) (w : WorldView) → m.catalogue ≡ c → step_turn m w line ≡ record { text = step_text (step_answer (took m w step)); world = world_after w (took m w step) }
+
+-- the line was taken and is good, or it is bad and nothing was written
+abbrev pub StepLineTaken : WorldState → Option StepTurn → Bool → WorldState → List ℕ → List ℕ → Type 0
+StepLineTaken old None good new before after = (good ≡ false) × (after ≡ before)
+StepLineTaken old (Some turn) good new before after = (good ≡ true) × (after ≡ before ++ turn.text) × (new ≡ record old { world = turn.world })
+
+-- the line of a node that is there
+abbrev pub node_line : ℕ → Option NodeView → List ℕ
+node_line n None = []
+node_line n (Some node) = node_text n node

@@ -1,0 +1,100 @@
+// The command `schedule`.
+
+ghost use Rattle.std.specs.Prelude.{◌≡◌, length, IfOk};
+ghost use Rattle.text.specs.Lines.{lines_of};
+ghost use Rattle.engine.specs.Notes.{IsQuiet};
+ghost use Rattle.engine.specs.Report.{answer_of};
+ghost use Rattle.running.specs.Running.{AnswersBehind};
+ghost use Rattle.scheduling.specs.ScheduleAnswer.{steps_answer, catalogue_answer, schedule_answer};
+
+use crate::schedule_texts::put_end;
+use crate::stepping::take_step_line;
+use engine::reading::{Gathered, Texts};
+use engine::replies::{not_text, sizes_refused};
+use engine::{Command, Loaded, Notes, Reply, Verdict, load_texts};
+use loader::Catalogue;
+use oplog::{Config, OpenError};
+use running::put_bad_line;
+use schedule::World;
+use std::alloc::{AllocError, Global};
+use text::NumberedLines;
+
+// Takes the steps of a list up to the first bad line, or writes where the store is at the end, and tells whether
+// the list is good.
+#[tactic(auto, using(engine::proofs::Quiet::quiet_on))]
+fn take_lines(
+    alloc: Global,
+    world: &mut World,
+    nodes: u32,
+    steps: &str,
+    out: &mut Vec<u8>,
+    notes: &mut Notes,
+) -> Result<Verdict, AllocError>
+    requires { length world.old.world.nodes ≡ nodes }
+    ensures quiet { IsQuiet notes.old notes.new }
+    ensures answered { AnswersBehind out.old.items out.new.items result (steps_answer world.old.opening 1 world.old.world (lines_of steps.now)) }
+{
+    let mut lines = NumberedLines::new(steps);
+    while let Some((number, line)) = lines.take_line() {
+        let is_good = take_step_line(alloc, world, number, line, out, notes)?;
+        if !is_good {
+            put_bad_line(out, number)?;
+            return Ok(Verdict::Refused);
+        }
+    }
+    put_end(out, world, nodes)?;
+    Ok(Verdict::Good)
+}
+
+// What a catalogue answers to a list of steps, in a store of these sizes.
+fn catalogue_reply(
+    alloc: Global,
+    config: Config,
+    catalogue: Catalogue,
+    steps: &str,
+    notes: &mut Notes,
+) -> Result<Reply, AllocError>
+    ensures quiet { IsQuiet notes.old notes.new }
+    ensures answered { IfOk result (λ r. answer_of r ≡ catalogue_answer config catalogue steps.now) }
+{
+    match World::open(alloc, config, catalogue) {
+        Ok(mut world) => {
+            let mut text = Vec::new(alloc);
+            let verdict = take_lines(alloc, &mut world, config.nodes, steps, &mut text, notes)?;
+            Ok(Reply { text, verdict })
+        }
+        Err(OpenError::OutOfLimits) => sizes_refused(alloc),
+        Err(OpenError::NoMemory) => Err(AllocError),
+        Err(OpenError::OtherState) => unreachable!(),
+    }
+}
+
+/// Takes a list of steps, one after another, on a new store of these sizes with the maps and the programs of a manifest.
+///
+/// Answers for each step with `ok`, with the answer of a call that is answered, or with `notnow` where it may not be taken,
+/// which changes nothing; behind the last step with where the log and each node's replica are. A line that is no step,
+/// comment or empty line is answered by `line N bad` and ends it. Sizes out of their limits get `refused O1`, a refused
+/// manifest only its refusal. The notes tell why a step may not be taken, where they are to tell that.
+#[derive(Clone, Copy)]
+pub struct Schedule {
+    /// The sizes of the store.
+    pub config: Config,
+}
+
+impl Command for Schedule {
+    type Made = Reply;
+
+    ghost may_make = { λ c t r. answer_of r ≡ schedule_answer c.config t };
+
+    fn make(&self, alloc: Global, read: Gathered, notes: &mut Notes) -> Result<Reply, AllocError> {
+        let Ok(texts) = read else {
+            return not_text(alloc);
+        };
+        match load_texts(alloc, &texts)? {
+            Loaded::Catalogue(catalogue) => {
+                catalogue_reply(alloc, self.config, catalogue, texts.file.as_str(), notes)
+            }
+            Loaded::Refused(reply) => Ok(reply),
+        }
+    }
+}

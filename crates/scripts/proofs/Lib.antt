@@ -1,0 +1,5 @@
+pub mod Fields
+pub mod SpelledScripts
+pub mod SpelledSteps
+pub mod SpelledTold
+pub mod EncodedMeanings

@@ -1,0 +1,164 @@
+// The lines of a list of steps.
+
+ghost use Rattle.std.specs.Prelude.{◌≡◌, ◌≤◌, length, option_map};
+ghost use Rattle.scripts.specs.StepLine.{is_named_so, slot_at, call_at, install_at, node_step, node_words, step_meaning, step_line_meaning};
+ghost use Rattle.scripts.specs.ScriptShown.{key_of, slot_of, slot_call_of, slot_program_of, step_of};
+
+use crate::script::{KeyedCall, ProgramKey, ProgramText, keyed_call, new_program};
+use text::{LINE_BYTES, LineKind, kind_of, number, split_at_space};
+
+/// A slot of a node.
+#[derive(Clone, Copy)]
+pub struct SlotAt {
+    pub node: u64,
+    pub slot: u64,
+}
+
+/// A call of a program at a slot of a node.
+#[derive(Drop)]
+pub struct CallAt<'a> {
+    pub node: u64,
+    pub slot: u64,
+    pub call: KeyedCall<'a>,
+}
+
+/// A program to be installed by a slot of a node.
+#[derive(Drop)]
+pub struct InstallAt {
+    pub node: u64,
+    pub slot: u64,
+    pub program: ProgramText,
+}
+
+/// What a line says: a step of a call, of an install, of a slot, or of a node.
+#[derive(Drop)]
+pub enum StepLine<'a> {
+    Comment,
+    Post(CallAt<'a>),
+    Install(InstallAt),
+    ReadBegin(CallAt<'a>),
+    Collect(SlotAt),
+    ReadAnswer(SlotAt),
+    Claim(u64),
+    Append(u64),
+    Replay(u64),
+    Finish(u64),
+    Reply(u64),
+    Reclaim(u64),
+    Rebase(u64),
+}
+
+// N S
+#[tactic(auto, unfolding(crate::specs::StepLine::slot_at))]
+fn slot_at(text: &str) -> Option<SlotAt>
+    ensures { option_map slot_of result ≡ slot_at text.now }
+{
+    let (node, slot) = split_at_space(text)?;
+    let node = number(node)?;
+    let slot = number(slot)?;
+    Some(SlotAt { node, slot })
+}
+
+// Whether this names a program where so many have names: by its name, or by a number that is none of theirs.
+fn is_named_so(programs: u64, key: ProgramKey<'_>) -> bool
+    ensures { result ≡ is_named_so programs (key_of key.entry) }
+{
+    match key {
+        ProgramKey::Named(_) => true,
+        ProgramKey::Numbered(number) => programs <= number,
+    }
+}
+
+// N S NAME HEX, or with K in the place of NAME
+#[tactic(auto, unfolding(crate::specs::StepLine::call_at))]
+fn call_at(programs: u64, text: &str) -> Option<CallAt<'_>>
+    requires { length text.now ≤ LINE_BYTES }
+    ensures { option_map slot_call_of result ≡ call_at programs text.now }
+{
+    let (node, rest) = split_at_space(text)?;
+    let (slot, rest) = split_at_space(rest)?;
+    let (name, digits) = split_at_space(rest)?;
+    let node = number(node)?;
+    let slot = number(slot)?;
+    let call = keyed_call(name, digits)?;
+    if is_named_so(programs, call.key) {
+        Some(CallAt { node, slot, call })
+    } else {
+        None
+    }
+}
+
+// N S MODE ARGLEN HEX
+#[tactic(auto, unfolding(crate::specs::StepLine::install_at))]
+fn install_at(text: &str) -> Option<InstallAt>
+    requires { length text.now ≤ LINE_BYTES }
+    ensures { option_map slot_program_of result ≡ install_at text.now }
+{
+    let (node, rest) = split_at_space(text)?;
+    let (slot, rest) = split_at_space(rest)?;
+    let node = number(node)?;
+    let slot = number(slot)?;
+    let program = new_program(rest)?;
+    Some(InstallAt {
+        node,
+        slot,
+        program,
+    })
+}
+
+// The step of a node that has this word.
+fn node_step(word: &str, node: u64) -> Option<StepLine<'_>>
+    ensures { option_map step_of result ≡ node_step word.now node }
+{
+    if word == "claim" {
+        Some(StepLine::Claim(node))
+    } else if word == "append" {
+        Some(StepLine::Append(node))
+    } else if word == "replay" {
+        Some(StepLine::Replay(node))
+    } else if word == "finish" {
+        Some(StepLine::Finish(node))
+    } else if word == "reply" {
+        Some(StepLine::Reply(node))
+    } else if word == "reclaim" {
+        Some(StepLine::Reclaim(node))
+    } else if word == "rebase" {
+        Some(StepLine::Rebase(node))
+    } else {
+        None
+    }
+}
+
+// The step that the words of a line say.
+#[tactic(auto, unfolding(crate::specs::StepLine::step_meaning, crate::specs::StepLine::node_words))]
+fn step_words(programs: u64, line: &str) -> Option<StepLine<'_>>
+    requires { length line.now ≤ LINE_BYTES }
+    ensures { option_map step_of result ≡ step_meaning programs line.now }
+{
+    let (word, rest) = split_at_space(line)?;
+    if word == "post" {
+        Some(StepLine::Post(call_at(programs, rest)?))
+    } else if word == "install" {
+        Some(StepLine::Install(install_at(rest)?))
+    } else if word == "readbegin" {
+        Some(StepLine::ReadBegin(call_at(programs, rest)?))
+    } else if word == "collect" {
+        Some(StepLine::Collect(slot_at(rest)?))
+    } else if word == "readanswer" {
+        Some(StepLine::ReadAnswer(slot_at(rest)?))
+    } else {
+        node_step(word, number(rest)?)
+    }
+}
+
+/// What a line says where so many programs have names; `None` where it is bad.
+#[tactic(auto, unfolding(crate::specs::StepLine::step_line_meaning))]
+pub fn read_step_line(programs: u64, line: &str) -> Option<StepLine<'_>>
+    ensures { option_map step_of result ≡ step_line_meaning programs line.now }
+{
+    match kind_of(line) {
+        LineKind::TooLong => None,
+        LineKind::Comment => Some(StepLine::Comment),
+        LineKind::Words => step_words(programs, line),
+    }
+}

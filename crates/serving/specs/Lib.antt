@@ -1,0 +1,6 @@
+-- What is answered to lines as they come, and the state that they leave.
+pub mod ServeAnswer
+-- Laws: how an input is cut, and what is served of a text that could be run.
+pub mod ServeLaws
+-- The steps between reading and writing.
+pub mod Serving

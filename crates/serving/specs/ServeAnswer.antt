@@ -1,0 +1,144 @@
+-- What `serve` writes: the answer of each line as soon as it ends, as `run` writes it; a bad line is answered too, and does not end it. And the
+-- state that it leaves.
+use Rattle.std.specs.Prelude.{◌≡◌, ◌⊎◌, ℕ, List, [], ◌∷◌, ◌++◌, take, Option, Some, None, Result, Ok, Err, nat_le, ◌==◌, if◌then◌else◌}
+use Rattle.std.specs.Io.KnownBytes.{Appends, Consumes, IsAtEnd}
+use Rattle.text.specs.Lines.{next_line}
+use Rattle.loader.specs.StoreState.{StoreState}
+use Rattle.loader.specs.CatalogueView.{CatalogueView, with_places}
+use Rattle.loader.specs.declared.installed.TheConstants.{MAX_PLACES}
+use Rattle.loader.specs.NamedFiles.{named_in}
+use Rattle.loader.specs.ProgramFiles.{Files}
+use Rattle.loader.specs.Loading.{Outcome, loaded}
+use Rattle.oplog.specs.declared.configuration.TheConstants.{ENDLESS}
+use Rattle.oplog.specs.History.{History}
+use Rattle.serving.specs.declared.turns.ServeEnd.{ServeEnd}
+use Rattle.engine.specs.declared.status.Status.{Status}
+use Rattle.engine.specs.declared.status.Status.TheVariants as statuses
+use Rattle.engine.specs.Files.{Contents, is_text, present}
+use Rattle.engine.specs.Texts.{no_memory_line}
+use Rattle.engine.specs.Answer.{Answer, not_text, refusal_answer}
+use Rattle.running.specs.RunAnswer.{Turn, bad_line_text, line_turn}
+use Rattle.engine.specs.Inputs.{IfTextsKnown, all_texts}
+use Rattle.engine.specs.StateAnswer.{on_text}
+use Rattle.running.specs.KeptRun.{state_left}
+use Rattle.engine.specs.Sizes.{sizes_refused}
+use Rattle.engine.specs.Transfer.{AppendsBeginning}
+use Rattle.engine.specs.Report.{ReportsBytes}
+
+-- ---- lines as they end
+
+-- what stands between two bytes: the number of the line at hand, the history behind it, and what came of it so far
+pub record Serving : Type 0 where
+  pub number : ℕ
+  pub history : History
+  pub left : List ℕ
+
+abbrev pub nothing_served : Serving
+nothing_served = record { number = 1; history = []; left = [] }
+
+-- a service has no end; a line that is not UTF-8 is bad
+abbrev pub text_turn : CatalogueView → History → List ℕ → Option Turn
+text_turn c history line = if is_text line then line_turn ENDLESS c history line else None
+
+-- a bad line writes that it is, and the history stays
+abbrev pub or_bad : ℕ → History → Option Turn → Turn
+or_bad n history (Some turn) = turn
+or_bad n history None = record { text = bad_line_text n; history = history }
+
+-- the turn of the line at hand, when it ends
+abbrev pub turn_at : CatalogueView → Serving → Turn
+turn_at c s = or_bad s.number s.history (text_turn c s.history s.left)
+
+-- the line behind it is at hand then
+abbrev pub behind_line : CatalogueView → Serving → Serving
+behind_line c s = record { number = next_line s.number; history = (turn_at c s).history; left = [] }
+
+-- one more byte of the line at hand
+abbrev pub with_byte : Serving → ℕ → Serving
+with_byte s b = record s { left = s.left ++ b ∷ [] }
+
+-- what bytes make a service write, and what stands behind them
+pub record Served : Type 0 where
+  pub text : List ℕ
+  pub serving : Serving
+
+-- with this text before
+abbrev pub served_behind : List ℕ → Served → Served
+served_behind text t = record { text = text ++ t.text; serving = t.serving }
+
+-- a line feed ends a line, which then is answered; a last line that has none is not
+unfoldable pub served : CatalogueView → Serving → List ℕ → Served
+served c s [] = record { text = []; serving = s }
+served c s (b ∷ bs) = if b == 10 then served_behind (turn_at c s).text (served c (behind_line c s) bs) else served c (with_byte s b) bs
+
+-- what a catalogue's programs answer to an input
+abbrev pub served_text : CatalogueView → List ℕ → List ℕ
+served_text c bytes = (served c nothing_served bytes).text
+
+-- ---- what was written
+
+-- these bytes were read and served, by how that ended: each line is answered; where memory ran out those of a beginning, and that none is
+-- left; and where a write failed, a beginning of either is written
+abbrev pub AnswersBytes : Option (List ℕ) → Option (List ℕ) → Status → (List ℕ → List ℕ) → List ℕ → Type 0
+AnswersBytes old new statuses.Good text bytes = Appends old new (text bytes)
+AnswersBytes old new statuses.CannotRead text bytes = Appends old new (text bytes)
+AnswersBytes old new statuses.NoMemory text bytes = (k : ℕ) × Appends old new (text (take k bytes) ++ no_memory_line)
+AnswersBytes old new statuses.CannotWrite text bytes = AppendsBeginning old new (text bytes) ⊎ ((k : ℕ) × AppendsBeginning old new (text (take k bytes) ++ no_memory_line))
+AnswersBytes old new statuses.Refused text bytes = ⊥
+AnswersBytes old new statuses.Differs text bytes = ⊥
+
+-- a state that is given back where all is well
+abbrev pub given_back : Status → StoreState → Option StoreState
+given_back statuses.Good s = Some s
+given_back statuses.Refused s = None
+given_back statuses.NoMemory s = None
+given_back statuses.CannotRead s = None
+given_back statuses.CannotWrite s = None
+given_back statuses.Differs s = None
+
+-- the state that the lines of an input leave which are answered
+abbrev pub state_served : CatalogueView → List ℕ → StoreState
+state_served c bytes = state_left c (served c nothing_served bytes).serving.history
+
+-- the programs of a catalogue were served an input, from what it had to what it has left, and to its end where all is well; the state is given back then
+pub record Serves (c : CatalogueView) (given left : Option (List ℕ)) (old new : Option (List ℕ)) (ended : ServeEnd) : Type 0 where
+  pub bytes : List ℕ
+  pub read : Consumes given left bytes
+  pub whole : ended.status ≡ statuses.Good → IsAtEnd left
+  pub answers : AnswersBytes old new ended.status (served_text c) bytes
+  pub state : ended.state ≡ given_back ended.status (state_served c bytes)
+
+-- ---- the command
+
+-- a refused manifest gets only its refusal, too many places only theirs, a refused state only its
+abbrev pub to_serve : ℕ → Outcome → List ℕ → Result CatalogueView Answer
+to_serve spare (Ok c) state = if nat_le spare MAX_PLACES then on_text (with_places c spare) state else Err sizes_refused
+to_serve spare (Err refusal) state = Err (refusal_answer refusal)
+
+-- what is served, with so many places behind the manifest's programs and on a state, or what is answered in its place: all files are read first
+unfoldable pub service : ℕ → List ℕ → Contents → List ℕ → Result CatalogueView Answer
+service spare manifest folder state =
+    if all_texts manifest folder state then to_serve spare (loaded manifest (present folder (named_in manifest))) state else Err not_text
+
+-- what is served, or answered in its place, of some manifest, files and state
+abbrev pub IsService : ℕ → Result CatalogueView Answer → Type 0
+IsService spare opening =
+    (opening ≡ Err not_text) ⊎ ((manifest : List ℕ) × (files : Files) × (state : List ℕ) × (opening ≡ to_serve spare (loaded manifest files) state))
+
+-- the same is so of one of these
+abbrev pub SomeService : ℕ → (Result CatalogueView Answer → Type 0) → Type 0
+SomeService spare P = (opening : Result CatalogueView Answer) × IsService spare opening × P opening
+
+-- what `serve` did with its input and its output; what is answered in its place leaves no state, and nothing of
+-- the input is read then
+abbrev pub ServesBytes : Result CatalogueView Answer → Option (List ℕ) → Option (List ℕ) → Option (List ℕ) → Option (List ℕ) → ServeEnd → Type 0
+ServesBytes (Ok c) given left old new ended = Serves c given left old new ended
+ServesBytes (Err a) given left old new ended = ReportsBytes old new ended.status a × (ended.state ≡ None) × (left ≡ given)
+
+-- the same of a reader and a writer, by what is known of them
+abbrev pub ServesAll : {R W : Type 0} → (R → Option (List ℕ)) → R → R → (W → Option (List ℕ)) → W → W → ServeEnd → Result CatalogueView Answer → Type 0
+ServesAll remaining given left contents old new ended opening = ServesBytes opening (remaining given) (remaining left) (contents old) (contents new) ended
+
+-- where the bytes of the manifest, of the files and of the state are known, this is so of what is served then, or answered in its place
+abbrev pub IfServeKnown : ℕ → Option (List ℕ) → Option Contents → Option (List ℕ) → (Result CatalogueView Answer → Type 0) → Type 0
+IfServeKnown spare manifest folder state P = IfTextsKnown manifest folder state (λ m h s. P (service spare m h s))

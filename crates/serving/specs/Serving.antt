@@ -1,0 +1,71 @@
+-- What is kept while an input is served. Clauses of private functions alone cite this.
+use Rattle.std.specs.Prelude.{◌≡◌, ℕ, Bool, List, [], ◌++◌, take, Option, Some, None, Result, Ok, Err, IfOk}
+use Rattle.std.specs.Io.KnownBytes.{Appends, Consumes, IsAtEnd}
+use Rattle.loader.specs.CatalogueView.{CatalogueView}
+use Rattle.oplog.specs.declared.configuration.TheConstants.{ENDLESS}
+use Rattle.engine.specs.declared.status.Status.{Status}
+use Rattle.engine.specs.declared.status.Status.TheVariants as statuses
+use Rattle.serving.specs.declared.service.TheConstants.{KEPT_BYTES}
+use Rattle.serving.specs.declared.service.Service.{Service}
+use Rattle.running.specs.RunAnswer.{Turn}
+use Rattle.running.specs.Running.{Follows, LineTaken}
+use Rattle.serving.specs.ServeAnswer.{Serving, nothing_served, text_turn, served, served_text, AnswersBytes}
+
+-- of a line that is longer than any good one, its first bytes are enough
+pub record Stands (s : Serving) (service : Service) : Type 0 where
+  pub number : service.number ≡ s.number
+  pub follows : Follows ENDLESS service.catalogue s.history service.node
+  pub left : service.left.items ≡ take KEPT_BYTES s.left
+
+-- the same line is at hand
+pub record IsSameLine (old new : Service) : Type 0 where
+  pub catalogue : new.catalogue ≡ old.catalogue
+  pub number : new.number ≡ old.number
+  pub left : new.left ≡ old.left
+
+-- what the line at hand does was done, unless memory runs out
+abbrev pub TakesLeft : {E : Type 0} → Service → Service → Serving → Result Bool E → Type 0
+TakesLeft old new s r =
+    IfOk r (λ good. LineTaken ENDLESS old.catalogue (text_turn old.catalogue s.history s.left) good new.node old.answer.items new.answer.items)
+
+-- the text that these bytes are served with is put behind what was there
+abbrev pub AddsServed : CatalogueView → Serving → List ℕ → List ℕ → List ℕ → Type 0
+AddsServed c s bytes before after = after ≡ before ++ (served c s bytes).text
+
+-- the turn of the line at hand was taken, and its text is the answer
+pub record IsAnswered (turn : Turn) (service : Service) : Type 0 where
+  pub text : service.answer.items ≡ turn.text
+  pub follows : Follows ENDLESS service.catalogue turn.history service.node
+
+-- a service goes on as it stood, on the same catalogue
+abbrev pub GoesOn : Service → Service → (Serving → Serving) → Type 0
+GoesOn old new next = (new.catalogue ≡ old.catalogue) × ((s : Serving) → Stands s old → Stands (next s) new)
+
+-- these bytes' answers stand behind a text, and the service behind them; where memory runs out, those of a beginning
+abbrev pub TakesBytes : {E : Type 0} → CatalogueView → Serving → List ℕ → Service → List ℕ → List ℕ → Result (Unit {0}) E → Type 0
+TakesBytes c s bytes new before after (Ok u) = (after ≡ before ++ (served c s bytes).text) × Stands (served c s bytes).serving new
+TakesBytes c s bytes new before after (Err e) = (k : ℕ) × (after ≡ before ++ (served c s (take k bytes)).text)
+
+-- what a turn read is answered, and the service stands behind it; or how it ended
+abbrev pub TurnEnds : CatalogueView → Serving → List ℕ → Service → Option (List ℕ) → Option (List ℕ) → Option Status → Type 0
+TurnEnds c s bytes service old new None = Appends old new (served c s bytes).text × Stands (served c s bytes).serving service
+TurnEnds c s bytes service old new (Some status) = AnswersBytes old new status (λ b. (served c s b).text) bytes
+
+-- a turn of a service that stands so: where it ended well, its input is at its end and nothing was read
+pub record Turns (c : CatalogueView) (s : Serving) (service : Service) (given left old new : Option (List ℕ)) (ended : Option Status) : Type 0 where
+  pub bytes : List ℕ
+  pub read : Consumes given left bytes
+  pub whole : ended ≡ Some statuses.Good → IsAtEnd left × (bytes ≡ [])
+  pub answers : TurnEnds c s bytes service old new ended
+
+-- the same of any state that the service stands in, of a reader and a writer
+abbrev pub TakesTurns : {R W : Type 0} → (R → Option (List ℕ)) → R → R → (W → Option (List ℕ)) → W → W → Service → Service → Option Status → Type 0
+TakesTurns remaining given left contents held now old new ended =
+    (s : Serving) → Stands s old → Turns old.catalogue s new (remaining given) (remaining left) (contents held) (contents now) ended
+
+-- turns were taken, and the service stands behind all that they read
+pub record Going (c : CatalogueView) (service : Service) (given left old new : Option (List ℕ)) : Type 0 where
+  pub bytes : List ℕ
+  pub read : Consumes given left bytes
+  pub answers : Appends old new (served_text c bytes)
+  pub stands : Stands (served c nothing_served bytes).serving service

@@ -1,0 +1,9 @@
+//! The command `serve` of the program `nrbpf`: the lines of a script, answered as they come.
+#![tactic(auto)]
+
+mod laws;
+mod service;
+mod turns;
+
+pub use laws::{served_in_parts, served_is_run};
+pub use turns::{ServeEnd, serve};

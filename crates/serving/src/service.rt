@@ -1,0 +1,158 @@
+// Lines that are answered as they end.
+
+ghost use Rattle.std.specs.Prelude.{◌≡◌, ◌∷◌, ◌++◌, [], false, Ok, IfOk, OnOk, OnErr};
+ghost use Rattle.loader.specs.CatalogueView.{OpensOn};
+ghost use Rattle.running.specs.Running.{IsSteady};
+ghost use Rattle.serving.specs.ServeAnswer.{Serving, nothing_served, turn_at, behind_line, with_byte, served};
+ghost use Rattle.serving.specs.Serving.{AddsServed, Stands, IsSameLine, TakesLeft, IsAnswered, GoesOn, TakesBytes};
+
+use arrayvec::ArrayVec;
+use loader::{Catalogue, StoreState};
+use oplog::ENDLESS;
+use running::{SingleNode, put_bad_line, take_line};
+use std::alloc::{AllocError, Global};
+use std::str;
+use text::FIELD_BYTES;
+
+/// How many bytes of a line are kept: one more than a line has at most, which shows that it has too many.
+const KEPT_BYTES: usize = 513;
+
+// One node and what has come of the line at hand.
+#[derive(Drop)]
+pub(crate) struct Service {
+    catalogue: Catalogue,
+    node: SingleNode,
+    // The number of the line at hand.
+    number: u32,
+    // Its first bytes.
+    left: ArrayVec<u8, KEPT_BYTES>,
+    // What it writes.
+    answer: Vec<u8>,
+}
+
+impl Service {
+    // A store for the maps and the programs of a catalogue, on a copy of the state that is handed in, or on a new one.
+    pub(crate) fn open(
+        alloc: Global,
+        catalogue: Catalogue,
+        opening: Option<&StoreState>,
+    ) -> Result<Service, AllocError>
+        requires opens { OpensOn catalogue opening }
+        ensures catalogue { IfOk result (λ s. s.catalogue ≡ catalogue) }
+        ensures steady { IfOk result (λ s. IsSteady s.catalogue s.node) }
+        ensures stands { IfOk result (λ s. Stands nothing_served s) }
+    {
+        let node = SingleNode::open(alloc, &catalogue, opening, ENDLESS as usize)?;
+        Ok(Service {
+            catalogue,
+            node,
+            number: 1,
+            left: ArrayVec::new(),
+            answer: Vec::new(alloc),
+        })
+    }
+
+    // One more byte of the line at hand.
+    fn keep(&mut self, byte: u8)
+        requires steady { IsSteady self.old.catalogue self.old.node }
+        ensures steady { IsSteady self.new.catalogue self.new.node }
+        ensures goes_on { GoesOn self.old self.new (λ s. with_byte s byte) }
+    {
+        if !self.left.is_full() {
+            self.left.push(byte);
+        }
+    }
+
+    // Does what the line at hand says, and tells whether it is good.
+    fn take_left(&mut self) -> Result<bool, AllocError>
+        requires steady { IsSteady self.old.catalogue self.old.node }
+        ensures steady { IsSteady self.new.catalogue self.new.node }
+        ensures same { IsSameLine self.old self.new }
+        ensures kept { result ≡ Ok false → self.new.node ≡ self.old.node }
+        ensures taken { (s : Serving) → Stands s self.old → TakesLeft self.old self.new s result }
+    {
+        match str::from_utf8(self.left.as_slice()) {
+            Ok(line) => {
+                let mut room = [0; FIELD_BYTES];
+                take_line(
+                    &mut self.node,
+                    &self.catalogue,
+                    line,
+                    &mut room,
+                    &mut self.answer,
+                )
+            }
+            Err(_) => Ok(false),
+        }
+    }
+
+    // Takes the turn of the line at hand: what it writes is the answer.
+    fn answer_left(&mut self) -> Result<(), AllocError>
+        requires steady { IsSteady self.old.catalogue self.old.node }
+        ensures steady { IsSteady self.new.catalogue self.new.node }
+        ensures same { IsSameLine self.old self.new }
+        ensures answered { (s : Serving) → Stands s self.old → OnOk result (IsAnswered (turn_at self.old.catalogue s) self.new) }
+    {
+        self.answer.clear();
+        if self.take_left()? {
+            return Ok(());
+        }
+        put_bad_line(&mut self.answer, self.number)
+    }
+
+    // Answers the line at hand, which has ended.
+    fn end_line(&mut self, out: &mut Vec<u8>) -> Result<(), AllocError>
+        requires steady { IsSteady self.old.catalogue self.old.node }
+        ensures steady { IsSteady self.new.catalogue self.new.node }
+        ensures answered { (s : Serving) → Stands s self.old → OnOk result (out.new.items ≡ out.old.items ++ (turn_at self.old.catalogue s).text) }
+        ensures goes_on { OnOk result (GoesOn self.old self.new (λ s. behind_line self.old.catalogue s)) }
+        ensures kept { OnErr result (out.new.items ≡ out.old.items) }
+    {
+        self.answer_left()?;
+        out.extend_from_slice(&self.answer)?;
+        self.left.clear();
+        self.number = self.number.saturating_add(1);
+        Ok(())
+    }
+
+    // One more byte, which may end the line at hand.
+    fn take_byte(&mut self, byte: u8, out: &mut Vec<u8>) -> Result<(), AllocError>
+        requires steady { IsSteady self.old.catalogue self.old.node }
+        ensures steady { IsSteady self.new.catalogue self.new.node }
+        ensures answered { (s : Serving) → Stands s self.old → OnOk result (AddsServed self.old.catalogue s (byte ∷ []) out.old.items out.new.items) }
+        ensures goes_on { OnOk result (GoesOn self.old self.new (λ s. (served self.old.catalogue s (byte ∷ [])).serving)) }
+        ensures kept { OnErr result (out.new.items ≡ out.old.items) }
+    {
+        if byte == b'\n' {
+            return self.end_line(out);
+        }
+        self.keep(byte);
+        Ok(())
+    }
+
+    // Answers each line that ends among these bytes.
+    pub(crate) fn take(&mut self, bytes: &[u8], out: &mut Vec<u8>) -> Result<(), AllocError>
+        requires steady { IsSteady self.old.catalogue self.old.node }
+        ensures steady { IsSteady self.new.catalogue self.new.node }
+        ensures same { OnOk result (self.new.catalogue ≡ self.old.catalogue) }
+        ensures taken { (s : Serving) → Stands s self.old → TakesBytes self.old.catalogue s bytes.now self.new out.old.items out.new.items result }
+    {
+        for byte in bytes {
+            self.take_byte(*byte, out)?;
+        }
+        Ok(())
+    }
+
+    // The state that the answered lines leave.
+    pub(crate) fn into_state(self) -> StoreState
+        requires steady { IsSteady self.catalogue self.node }
+        ensures state { result ≡ self.node.own.replica.state }
+    {
+        let Service {
+            catalogue,
+            node,
+            ..
+        } = self;
+        node.into_state(&catalogue)
+    }
+}
