@@ -1,0 +1,52 @@
+/* What a store gives a program that is written in C. docs/C.md says how to write one. A host includes nrbpf.h, not this. */
+#ifndef NRBPF_PROGRAM_H
+#define NRBPF_PROGRAM_H
+
+#include <stdint.h>
+
+/* The types of <stdint.h> by short names. A header that hosts share has the long ones. */
+typedef uint8_t u8;
+typedef uint16_t u16;
+typedef uint32_t u32;
+typedef uint64_t u64;
+typedef int8_t s8;
+typedef int16_t s16;
+typedef int32_t s32;
+typedef int64_t s64;
+
+/* Each function that isn't static is a program of its own. What it calls is inlined into it. */
+#define NRBPF_INLINE static inline __attribute__((always_inline))
+
+/* The store's map N, counted from 0 in the order of the manifest. N is a constant. */
+struct nrbpf_map;
+u64 nrbpf_pseudo(u64, u64) __asm__("llvm.bpf.pseudo");
+#define NRBPF_MAP(n) ((struct nrbpf_map *)nrbpf_pseudo(5, (n)))
+
+/* Helper 1: the value under the key, or 0 where there is none. Test it before it is used. */
+#define nrbpf_map_lookup(map, key) (((void *(*)(struct nrbpf_map *, const void *))1)((map), (key)))
+
+/* Helper 2: puts the value under the key. Answers 0, or minus an error. */
+#define nrbpf_map_update(map, key, value, flags) \
+	(((s64(*)(struct nrbpf_map *, const void *, const void *, u64))2)((map), (key), (value), (flags)))
+
+/* Helper 3: takes the key away. Answers 0, or minus an error. */
+#define nrbpf_map_delete(map, key) (((s64(*)(struct nrbpf_map *, const void *))3)((map), (key)))
+
+/* The flags of an update. */
+#define NRBPF_ANY 0     /* whether the key is there or not */
+#define NRBPF_NOEXIST 1 /* only where it isn't there */
+#define NRBPF_EXIST 2   /* only where it is there */
+
+/* The errors. */
+#define NRBPF_ENOENT 2  /* there is no such key */
+#define NRBPF_E2BIG 7   /* the map is full; the index is none of the array's */
+#define NRBPF_EEXIST 17 /* the key is there already */
+#define NRBPF_EINVAL 22 /* other flags than these; a delete in an array */
+
+/* Behind the test of a looked-up pointer: from here on the compiler forgets how it came by the pointer. docs/C.md says when (V6, V14). */
+#define NRBPF_TESTED(pointer) __asm__ volatile("" : "+r"(pointer) : : "memory")
+
+/* No load or store is moved across this, and none before it is merged with one behind it. docs/C.md says when (V8). */
+#define NRBPF_APART() __asm__ volatile("" : : : "memory")
+
+#endif
