@@ -1,21 +1,24 @@
-//! A store for another program to time: see bench/. Its words are the numbers of nodes and of slots of each node, the log's window, the
-//! number of entries of a map of counters, and the bytes of each value of a second map of as many entries; a sixth, which may be left out, is the
-//! number of entries of a hash. Each line of standard input is `update N` or `read N`: the first session makes so many calls, one after another,
-//! and the sum of their replies, modulo 2^64, is written. So it is with `put N`, which puts the keys below N into the hash. `scan N` scans the
-//! hash so often from its first place to its last, 16 entries a call, and writes the sum of the keys and values that were given. Or it is `threads R N`: each session
-//! makes so many calls on a thread of its own, R of 100 of them reads, and 0 is written. At the first line `reopen N` the store is closed, and a
-//! store is opened on the state that it ends in, which goes on; 0 is written.
+//! A store without an end for another program to time: see bench/. Its words are the numbers of nodes and of slots of each node, the log's window,
+//! the number of entries of a map of counters, and the bytes of each value of a second map of as many entries; a sixth, which may be left out, is the
+//! number of entries of a hash. Each line of standard input is `update N` or `read N`: the first session makes so many calls, one after another, and
+//! the sum of their replies, modulo 2^64, is written. So it is with `put N`, which puts the keys below N into the hash. `scan N` scans the hash so
+//! often from its first place to its last, 16 entries a call, and writes the sum of the keys and values that were given. Or it is `threads R N`: each
+//! session makes so many calls on a thread of its own, R of 100 of them reads, and 0 is written. So it is with `busy K R N`, where the first K
+//! sessions alone make calls, and with `beside K R N`, where another one takes snapshots meanwhile: their number is written. `snapshot N`: the first
+//! session takes so many, and 0 is written. At the first line `reopen N` the store is closed, and a store is opened on the state that it ends in, which
+//! goes on; 0 is written.
 #![tactic(auto)]
 
 ghost use Rattle.std.specs.Prelude.{◌≡◌, length, All};
 ghost use Rattle.store.specs.Sessions.{IsOf};
 ghost use Rattle.store_steps.specs.Shelving.{sessions_of};
 
-use loader::{Catalogue, load_manifest};
-use oplog::{Config, MAX_LIMIT};
+use loader::{Catalogue, StoreState, load_manifest};
+use oplog::{ENDLESS, Sizes};
 use std::alloc::Global;
 use std::process::ExitCode;
 use std::sync::Wait;
+use std::sync::atomic::{AtomicU64, Ordering};
 use std::thread;
 use std::thread::Threads;
 use store::{Beginning, Closed, Session, Store};
@@ -40,9 +43,9 @@ const PUT_NUMBER: u16 = 2;
 // How many entries a scan of the hash gives.
 const PAGE: usize = 16;
 
-// The sizes of a store; of the hash, where there is one.
+// The sizes of a store and its maps; of the hash, where there is one.
 #[derive(Drop)]
-struct Sizes {
+struct Layout {
     nodes: u32,
     slots: u32,
     window: u32,
@@ -58,8 +61,23 @@ struct Mix {
     times: u64,
 }
 
+// Such calls of each of the first so many sessions, and whether the one behind them takes snapshots meanwhile.
+#[derive(Clone, Copy)]
+struct Crowd {
+    busy: usize,
+    mix: Mix,
+    takes: bool,
+}
+
+// How many of the busy sessions are not done yet, and how many snapshots were taken.
+#[derive(Drop)]
+struct Counts {
+    left: AtomicU64,
+    taken: AtomicU64,
+}
+
 // The sizes that the words of a command line say, the first of them the program's name.
-fn sizes_in(words: &[String]) -> Option<Sizes> {
+fn layout_in(words: &[String]) -> Option<Layout> {
     let (words, keys) = match words {
         [_, nodes, slots, window, entries, value] => ([nodes, slots, window, entries, value], None),
         [_, nodes, slots, window, entries, value, keys] => {
@@ -71,7 +89,7 @@ fn sizes_in(words: &[String]) -> Option<Sizes> {
         _ => return None,
     };
     let [nodes, slots, window, entries, value] = words;
-    Some(Sizes {
+    Some(Layout {
         nodes: nodes.parse().ok()?,
         slots: slots.parse().ok()?,
         window: window.parse().ok()?,
@@ -82,11 +100,11 @@ fn sizes_in(words: &[String]) -> Option<Sizes> {
 }
 
 // The manifest of such a store: the hash stands behind the arrays, and its program behind theirs.
-fn manifest(alloc: Global, sizes: &Sizes) -> Option<String> {
-    let (entries, value) = (sizes.entries, sizes.value);
+fn manifest(alloc: Global, layout: &Layout) -> Option<String> {
+    let (entries, value) = (layout.entries, layout.value);
     let arrays = format!(in alloc; "map array 8 {entries}\nmap array {value} {entries}\n").ok()?;
     let programs = "program bump update 4 bump.hex\nprogram peek read 4 peek.hex\n";
-    match sizes.keys {
+    match layout.keys {
         None => format!(in alloc; "{arrays}{programs}").ok(),
         Some(keys) => format!(in alloc;
             "{arrays}map hash 4 4 {keys}\n{programs}program put update 4 put.hex\n"
@@ -94,8 +112,8 @@ fn manifest(alloc: Global, sizes: &Sizes) -> Option<String> {
     }
 }
 
-fn catalogue(alloc: Global, sizes: &Sizes) -> Option<Catalogue> {
-    let manifest = manifest(alloc, sizes)?;
+fn catalogue(alloc: Global, layout: &Layout) -> Option<Catalogue> {
+    let manifest = manifest(alloc, layout)?;
     let files = [("bump.hex", BUMP), ("peek.hex", PEEK), ("put.hex", PUT)];
     load_manifest(alloc, manifest.as_str(), &files).ok()
 }
@@ -177,26 +195,83 @@ fn scan_often<R: Wait>(rt: &R, store: &Store, session: &mut Session, times: u32)
     Some(sum)
 }
 
-// Lets each session make these calls, on a thread of its own.
-fn call_all<R: Threads + Wait + Sync>(rt: &R, store: &Store, sessions: &mut [Session], mix: Mix)
+// Takes so many snapshots.
+fn take_often<R: Wait>(
+    rt: &R,
+    alloc: Global,
+    store: &Store,
+    session: &mut Session,
+    times: u32,
+) -> Option<u64>
+    requires own { IsOf store.now session.old }
+    ensures own { IsOf store.now session.new }
+{
+    let mut state = StoreState::open(alloc, store.catalogue()).ok()?;
+    for _ in 0..times {
+        session.snapshot(rt, store, &mut state);
+    }
+    Some(0)
+}
+
+// Takes snapshots until the busy sessions are done.
+fn take_beside<R: Wait>(
+    rt: &R,
+    alloc: Global,
+    store: &Store,
+    session: &mut Session,
+    counts: &Counts,
+)
+    requires own { IsOf store.now session.old }
+    ensures own { IsOf store.now session.new }
+{
+    let Ok(mut state) = StoreState::open(alloc, store.catalogue()) else {
+        return;
+    };
+    for _ in rt.forever() {
+        if counts.left.load(Ordering::SeqCst) == 0 {
+            return;
+        }
+        session.snapshot(rt, store, &mut state);
+        counts.taken.fetch_add(1, Ordering::SeqCst);
+    }
+}
+
+// Lets each session that is busy make its calls, on a thread of its own. How many snapshots were taken.
+fn call_all<R: Threads + Wait + Sync>(
+    rt: &R,
+    alloc: Global,
+    store: &Store,
+    sessions: &mut [Session],
+    crowd: Crowd,
+) -> u64
     requires own { All (IsOf store.now) sessions.old }
     ensures own { All (IsOf store.now) sessions.new }
 {
     let threads = sessions.len();
     if threads == 0 {
-        return;
+        return 0;
     }
+    let counts = Counts {
+        left: AtomicU64::new(crowd.busy.min(threads) as u64),
+        taken: AtomicU64::new(0),
+    };
     thread::for_each_mut(
         rt,
         sessions,
         threads,
-        &|_number: usize, session: &mut Session|
+        &|number: usize, session: &mut Session|
             requires { IsOf store.now session.now }
             ensures { IsOf store.entry.now session.exit.now }
         {
-            let _sum = call_often(rt, store, session, mix);
+            if number < crowd.busy {
+                let _sum = call_often(rt, store, session, crowd.mix);
+                counts.left.fetch_sub(1, Ordering::SeqCst);
+            } else if crowd.takes && number == crowd.busy {
+                take_beside(rt, alloc, store, session, &counts);
+            }
         },
     );
+    counts.taken.load(Ordering::SeqCst)
 }
 
 // What the first session is asked for: so many updates, reads, keys of the hash, or scans of it.
@@ -226,9 +301,26 @@ fn mix_in(line: &str) -> Option<Mix> {
     })
 }
 
+// The calls that a line asks the sessions for, some of them or all; none where it asks for others.
+fn crowd_in(line: &str, sessions: usize) -> Option<Crowd> {
+    let (word, rest) = line.split_once(' ')?;
+    let takes = word == "beside";
+    let (busy, rest) = match word {
+        "threads" => (sessions, rest),
+        "busy" | "beside" => {
+            let (busy, rest) = rest.split_once(' ')?;
+            (busy.parse().ok()?, rest)
+        }
+        _ => return None,
+    };
+    let mix = mix_in(rest)?;
+    Some(Crowd { busy, mix, takes })
+}
+
 // What a line asks for; none where it asks for nothing, or a call is refused.
 fn answer<R: Threads + Wait + Sync>(
     rt: &R,
+    alloc: Global,
     store: &Store,
     sessions: &mut [Session],
     line: &str,
@@ -236,11 +328,12 @@ fn answer<R: Threads + Wait + Sync>(
     requires own { All (IsOf store.now) sessions.old }
     ensures own { All (IsOf store.now) sessions.new }
 {
-    match line.strip_prefix("threads ") {
-        Some(rest) => {
-            call_all(rt, store, sessions, mix_in(rest)?);
-            Some(0)
-        }
+    if let Some(times) = line.strip_prefix("snapshot ") {
+        let session = sessions.first_mut()?;
+        return take_often(rt, alloc, store, session, times.parse().ok()?);
+    }
+    match crowd_in(line, sessions.len()) {
+        Some(crowd) => Some(call_all(rt, alloc, store, sessions, crowd)),
         None => first_answer(rt, store, sessions, line),
     }
 }
@@ -260,7 +353,7 @@ fn serve<R: Threads + Wait + Sync + Input + Print>(
         if line.as_str().starts_with("reopen ") {
             return true;
         }
-        let Some(answered) = answer(rt, store, sessions, line.as_str()) else {
+        let Some(answered) = answer(rt, alloc, store, sessions, line.as_str()) else {
             return false;
         };
         let Ok(()) = println!(rt; "{answered}") else {
@@ -285,11 +378,11 @@ fn close(store: Store, sessions: Vec<Session>) -> Closed
 fn go_on<R: Threads + Wait + Sync + Input + Print>(
     rt: &R,
     alloc: Global,
-    config: Config,
+    sizes: Sizes,
     closed: Closed,
 ) -> bool {
     let (state, catalogue) = closed.into_state();
-    let Ok((store, mut sessions)) = Store::open_on(alloc, config, catalogue, &state) else {
+    let Ok((store, mut sessions)) = Store::open_sized_on(alloc, sizes, catalogue, &state) else {
         return false;
     };
     let _written = println!(rt; "0");
@@ -299,23 +392,23 @@ fn go_on<R: Threads + Wait + Sync + Input + Print>(
 }
 
 // Opens a store, and serves; tells whether it could be opened.
-fn run<R: Threads + Wait + Sync + Input + Print>(rt: &R, alloc: Global, sizes: &Sizes) -> bool {
-    let Some(catalogue) = catalogue(alloc, sizes) else {
+fn run<R: Threads + Wait + Sync + Input + Print>(rt: &R, alloc: Global, layout: &Layout) -> bool {
+    let Some(catalogue) = catalogue(alloc, layout) else {
         return false;
     };
-    let config = Config {
-        nodes: sizes.nodes,
-        slots: sizes.slots,
-        window: sizes.window,
-        limit: MAX_LIMIT as u32,
+    let sizes = Sizes {
+        nodes: layout.nodes,
+        slots: layout.slots,
+        window: layout.window,
+        limit: ENDLESS,
         spare: 0,
     };
-    let Ok((store, mut sessions)) = Store::open(alloc, config, catalogue) else {
+    let Ok((store, mut sessions)) = Store::open_sized(alloc, sizes, catalogue) else {
         return false;
     };
     let asks = serve(rt, alloc, &store, &mut sessions);
     let closed = close(store, sessions);
-    !asks || go_on(rt, alloc, config, closed)
+    !asks || go_on(rt, alloc, sizes, closed)
 }
 
 fn main(rt: HostRuntime) -> ExitCode {
@@ -326,8 +419,8 @@ fn main(rt: HostRuntime) -> ExitCode {
     let Some(words) = words else {
         return ExitCode::FAILURE;
     };
-    match sizes_in(words.as_slice()) {
-        Some(sizes) if run(&rt, rt.alloc(), &sizes) => ExitCode::SUCCESS,
+    match layout_in(words.as_slice()) {
+        Some(layout) if run(&rt, rt.alloc(), &layout) => ExitCode::SUCCESS,
         _ => ExitCode::FAILURE,
     }
 }

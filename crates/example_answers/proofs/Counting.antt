@@ -9,7 +9,7 @@ use Rattle.helpers.proofs.Answers.{inserted}
 use Rattle.machine.specs.Effects.{effect, effect_of}
 use Rattle.machine.specs.MapExamples.{bump, peek, with_values}
 use Rattle.loader.specs.CatalogueView.{CatalogueView, with_places}
-use Rattle.console.specs.declared.single_node.TheConstants.{RUN_PLACES}
+use Rattle.running.specs.declared.single_node.TheConstants.{RUN_PLACES}
 
 -- the catalogue: its programs are those of the machine's examples
 abbrev pub counter : CatalogueView

@@ -1,32 +1,38 @@
 -- What stands on the page, by how the command ended.
-use Rattle.std.proofs.Common.{◌≡◌, ◌∙◌, ◌⊎◌, inl, inr, [], Some, true, sym, ap}
-use Rattle.console.specs.declared.status.Status.{Status}
-use Rattle.console.specs.declared.status.Status.TheVariants as statuses
-use Rattle.console.specs.declared.status.Verdict.TheVariants as verdicts
-use Rattle.console.specs.declared.memory.Page.{Page}
-use Rattle.console.specs.Memory.{Never}
-use Rattle.console.specs.Files.{SomeFile}
-use Rattle.console.specs.Answer.{Answer}
-use Rattle.console.specs.Report.{Failed, ReportsBytes}
+use Rattle.std.proofs.Common.{◌≡◌, ◌∙◌, ◌⊎◌, inl, inr, [], Option, Some, None, true, sym, ap}
+use Rattle.engine.specs.declared.status.Status.{Status}
+use Rattle.engine.specs.declared.status.Status.TheVariants as statuses
+use Rattle.engine.specs.declared.status.Verdict.TheVariants as verdicts
+use Rattle.engine.specs.declared.memory.Page.{Page}
+use Rattle.engine.specs.declared.reading.Inputs.{Inputs}
+use Rattle.engine.specs.Memory.{Never}
+use Rattle.engine.specs.Answer.{Answer}
+use Rattle.engine.specs.Engine.{Reports}
+use Rattle.engine.specs.Reading.{AnyFailed, OneFailed}
+use Rattle.engine.specs.Report.{Failed}
+use Rattle.engine.specs.Status.{status_of}
 use Rattle.example_answers.specs.Pages.{IsOnPage}
 
-pub no_file : {X : Type 0} → (Never ⊎ SomeFile {X = X} (λ _. Never)) → Never
-no_file (inl never) = never
-no_file (inr file) = file.1
+none_of : {R : Type 0} (o : Option R) → OneFailed (λ _. Never) o → Never
+none_of None never = never
+none_of (Some r) never = never
 
-pub no_input : {X : Type 0} → (Never ⊎ (SomeFile {X = X} (λ _. Never) ⊎ Never)) → Never
-no_input (inl never) = never
-no_input (inr (inl file)) = file.1
-no_input (inr (inr never)) = never
+-- of texts and files in memory none has failed
+pub none_failed : {F R X : Type 0} (i : Inputs F R) → AnyFailed {X = X} (λ _. Never) (λ _. Never) i → Never
+none_failed i (inl never) = none_of i.manifest never
+none_failed i (inr (inl file)) = file.1
+none_failed i (inr (inr (inl never))) = none_of i.file never
+none_failed i (inr (inr (inr (inl never)))) = none_of i.state never
+none_failed i (inr (inr (inr (inr never)))) = none_of i.history never
 
 -- of an answer that says that all is well, where no read fails
-pub on_page : (Read : Type 0) → (Read → Never) → (status : Status) (page : Page) (a good : Answer) → a ≡ good → good.verdict ≡ verdicts.Good
-    → ReportsBytes (Some []) (Some page.text.items) status a → Failed status Read (page.is_full ≡ true) → IsOnPage good.text status page
-on_page Read never statuses.Good page a good is well wrote failed = wrote.1 ∙ ap (λ (x : Answer). x.text) is
-on_page Read never statuses.NoMemory page a good is well wrote failed = wrote
-on_page Read never statuses.CannotWrite page a good is well wrote failed = failed
-on_page Read never statuses.CannotRead page a good is well wrote failed = absurd (never failed)
-on_page Read never statuses.Refused page a good is well wrote failed =
-    let h : verdicts.Good ≡ verdicts.Refused = sym (ap (λ (x : Answer). x.verdict) is ∙ well) ∙ wrote.0 in absurd cc
-on_page Read never statuses.Differs page a good is well wrote failed =
-    let h : verdicts.Good ≡ verdicts.Differs = sym (ap (λ (x : Answer). x.verdict) is ∙ well) ∙ wrote.0 in absurd cc
+pub on_page : {M : Type 0} (answer : M → Answer) (Is : M → Type 0) (Read : Type 0) → (Read → Never) → (status : Status) (page : Page) (good : Answer) → ((m : M) → Is m → answer m ≡ good) → good.verdict ≡ verdicts.Good
+    → Reports answer Is (Some []) (Some page.text.items) status → Failed status Read (page.is_full ≡ true) → IsOnPage good.text status page
+on_page answer Is Read never statuses.Good page good is well wrote failed = wrote.3 ∙ ap (λ (x : Answer). x.text) (is wrote.0 wrote.1)
+on_page answer Is Read never statuses.NoMemory page good is well wrote failed = wrote
+on_page answer Is Read never statuses.CannotWrite page good is well wrote failed = failed
+on_page answer Is Read never statuses.CannotRead page good is well wrote failed = absurd (never failed)
+on_page answer Is Read never statuses.Refused page good is well wrote failed =
+    let h : statuses.Refused ≡ statuses.Good = wrote.2 ∙ ap status_of (ap (λ (x : Answer). x.verdict) (is wrote.0 wrote.1) ∙ well) in absurd cc
+on_page answer Is Read never statuses.Differs page good is well wrote failed =
+    let h : statuses.Differs ≡ statuses.Good = wrote.2 ∙ ap status_of (ap (λ (x : Answer). x.verdict) (is wrote.0 wrote.1) ∙ well) in absurd cc

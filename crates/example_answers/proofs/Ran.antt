@@ -1,27 +1,28 @@
 -- What `run` answers to the counter's script, line by line.
-use Rattle.std.proofs.Common.{◌≡◌, ◌∙◌, ℕ, true, List, [], ◌∷◌, codes, Some, refl, ap}
-use Rattle.std.specs.Prelude.{if◌then◌else◌}
+use Rattle.std.proofs.Common.{◌≡◌, ◌∙◌, ℕ, false, List, [], ◌∷◌, codes, Some, None, Result, Ok, Err, refl, ap}
+use Rattle.std.specs.Prelude.{IfOk}
 use Rattle.std.specs.Str.{chars, is_utf8, trim_start, trim_end}
 use Rattle.std.specs.Fmt.{digits}
 use lib.Utf8.{encode}
-use Rattle.text.specs.Lines.{next_line}
+use Rattle.text.specs.Lines.{lines_of, next_line}
 use Rattle.loader.specs.NamedFiles.{named_in}
 use Rattle.loader.specs.Grammar.{words_of}
-use Rattle.loader.specs.Loading.{loaded}
 use Rattle.loader.specs.CatalogueView.{CatalogueView}
+use Rattle.oplog.specs.declared.configuration.TheConstants.{MAX_LIMIT}
 use Rattle.oplog.specs.History.{History}
-use Rattle.console.specs.Files.{present}
-use Rattle.console.specs.Inputs.{all_texts, texts_answer}
-use Rattle.console.specs.Answer.{not_text}
-use Rattle.console.specs.RunAnswer.{Turn, behind, bad_line, by_turn, line_turn, lines_answer, script_answer, ran, run_answer}
-use Rattle.example_answers.specs.Counter.{counter_manifest, counter_folder, counter_script, counter_ran}
+use Rattle.engine.specs.Reading.{first_stranger, found, read, unless_strange}
+use Rattle.running.specs.RunAnswer.{Turn, behind, bad_line, by_turn, line_turn, lines_answer}
+use Rattle.running.specs.KeptRun.{KeptRun, kept, kept_of, run_kept}
+use Rattle.running.specs.declared.runs.Kept.{Kept}
+use Rattle.engine.specs.Answer.{Answer}
+use Rattle.example_answers.specs.Counter.{counter_calls, counter_script, counter_ran}
 use Rattle.example_answers.proofs.Counting.{counter, running}
 use Rattle.example_answers.proofs.Checked.{counter_loads}
 use Rattle.example_answers.proofs.Script.{once, twice, thrice, bump_once, bump_twice, peek_then, bump_none, nope}
 
-line : (c : CatalogueView) (n : ℕ) (h : History) (l : List ℕ) (ls : List (List ℕ)) (t : Turn) → line_turn c h l ≡ Some t → lines_answer c n h (l ∷ ls) ≡ behind t.text (lines_answer c (next_line n) t.history ls)
+line : (c : CatalogueView) (n : ℕ) (h : History) (l : List ℕ) (ls : List (List ℕ)) (t : Turn) → line_turn MAX_LIMIT c h l ≡ Some t → lines_answer MAX_LIMIT c n h (l ∷ ls) ≡ behind t.text (lines_answer MAX_LIMIT c (next_line n) t.history ls)
 unfolding lines_answer
-line c n h l ls t e = ap (by_turn (bad_line n) (λ turn. behind turn.text (lines_answer c (next_line n) turn.history ls))) e
+line c n h l ls t e = ap (by_turn (bad_line n) (λ turn. behind turn.text (lines_answer MAX_LIMIT c (next_line n) turn.history ls))) e
 
 -- the lines behind the first, and so on
 abbrev behind_4 : List (List ℕ)
@@ -36,7 +37,7 @@ behind_2 = codes "peek 00000000" ∷ behind_3
 abbrev behind_1 : List (List ℕ)
 behind_1 = codes "bump 00000000" ∷ behind_2
 
-lines : script_answer counter counter_script ≡ counter_ran
+lines : lines_answer MAX_LIMIT running 1 [] (lines_of counter_script) ≡ counter_ran
 unfolding lines_answer chars encode digits
 lines =
     line running 1 [] _ behind_1 _ bump_once
@@ -45,12 +46,16 @@ lines =
     ∙ ap (behind (codes "read 2 reply 2 steps 6\n")) (line running 4 twice _ behind_4 _ bump_none
     ∙ ap (behind (codes "update 2 reply 18446744073709551615 steps 6\n")) (line running 5 thrice _ [] _ nope))))
 
-texts : all_texts counter_manifest counter_folder counter_script ≡ true
+texts : first_stranger counter_calls ≡ None
 unfolding chars is_utf8 encode trim_start trim_end named_in words_of
 texts = refl
 
-pub counter_runs : run_answer counter_manifest counter_folder counter_script ≡ counter_ran
-unfolding texts_answer
+pub counter_runs : (run_kept false (read counter_calls)).answer ≡ counter_ran
 counter_runs =
-    ap (λ b. if b then ran (loaded counter_manifest (present counter_folder (named_in counter_manifest))) counter_script else not_text) texts
-    ∙ ap (λ o. ran o counter_script) counter_loads ∙ lines
+    ap (λ o. (run_kept false (unless_strange o (found counter_calls))).answer) texts
+    ∙ ap (λ o. (kept o counter_script []).answer) counter_loads ∙ lines
+
+-- what is made of these calls has this answer
+pub kept_so : {E : Type 0} (r : Result Kept E) (k : KeptRun) (a : Answer) → k.answer ≡ a → IfOk r (λ m. kept_of m ≡ k) → IfOk r (λ m. (kept_of m).answer ≡ a)
+kept_so (Ok m) k a is made = ap (λ (x : KeptRun). x.answer) made ∙ is
+kept_so (Err e) k a is made = tt

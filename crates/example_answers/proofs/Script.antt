@@ -11,13 +11,14 @@ use Rattle.text.specs.Lines.{kind_of}
 use Rattle.maps.specs.Maps.{Maps}
 use Rattle.machine.specs.Effects.{effect, effect_of}
 use Rattle.machine.specs.MapExamples.{bump, peek, with_values}
+use Rattle.oplog.specs.declared.configuration.TheConstants.{MAX_LIMIT}
 use Rattle.oplog.specs.Operations.{Operation}
 use Rattle.oplog.specs.declared.records.Op.TheVariants.{Run}
 use Rattle.loader.specs.StoreState.{StoreState}
 use Rattle.oplog.specs.History.{History, state_after, left_by}
 use Rattle.replica.specs.StoreMeaning.{store_meaning, as_update, as_read}
-use Rattle.console.specs.Script.{named_call, call_meaning, line_meaning}
-use Rattle.console.specs.RunAnswer.{Turn, update_line, read_line, with_operation, called, line_turn}
+use Rattle.scripts.specs.Script.{named_call, call_meaning, line_meaning}
+use Rattle.running.specs.RunAnswer.{Turn, update_line, read_line, with_operation, called, line_turn}
 use Rattle.example_answers.proofs.Counting.{running, first, absent, counted, one, two, read_two, none_there}
 use Rattle.example_answers.proofs.Opening.{opening, opens, none_opens, counts, none_counts}
 
@@ -70,28 +71,28 @@ after_two = ap (λ s. left_by (option_map (as_update s) (effect bump s.maps firs
 abbrev turn : List ℕ → History → Option Turn
 turn text history = Some (record { text = text; history = history })
 
-pub bump_once : line_turn running [] (codes "bump 00000000") ≡ turn (codes "update 0 reply 1 steps 9\n") once
+pub bump_once : line_turn MAX_LIMIT running [] (codes "bump 00000000") ≡ turn (codes "update 0 reply 1 steps 9\n") once
 unfolding line_turn called line_meaning call_meaning named_call kind_of field_bytes is_name digits encode chars is_utf8 trim_start trim_end encode_with decode_pairs
 bump_once = ap (λ e. turn (update_line 0 (option_map (as_update (with_maps maps_0)) e)) once) first_goes_up
 
-pub bump_twice : line_turn running once (codes "bump 00000000") ≡ turn (codes "update 1 reply 2 steps 9\n") twice
+pub bump_twice : line_turn MAX_LIMIT running once (codes "bump 00000000") ≡ turn (codes "update 1 reply 2 steps 9\n") twice
 unfolding line_turn called line_meaning call_meaning named_call kind_of field_bytes is_name digits encode chars is_utf8 trim_start trim_end encode_with decode_pairs
 bump_twice =
     ap (λ s. turn (update_line 1 (option_map (as_update s) (effect bump s.maps first))) twice) after_one
     ∙ ap (λ e. turn (update_line 1 (option_map (as_update (with_maps maps_1)) e)) twice) second_goes_up
 
-pub peek_then : line_turn running twice (codes "peek 00000000") ≡ turn (codes "read 2 reply 2 steps 6\n") twice
+pub peek_then : line_turn MAX_LIMIT running twice (codes "peek 00000000") ≡ turn (codes "read 2 reply 2 steps 6\n") twice
 unfolding line_turn called line_meaning call_meaning named_call kind_of field_bytes is_name digits encode chars is_utf8 trim_start trim_end encode_with decode_pairs
 peek_then =
     ap (λ s. turn (read_line 2 (option_map as_read (effect peek s.maps first))) twice) after_two
     ∙ ap (λ e. turn (read_line 2 (option_map as_read e)) twice) is_two
 
-pub bump_none : line_turn running twice (codes "bump 10000000") ≡ turn (codes "update 2 reply 18446744073709551615 steps 6\n") thrice
+pub bump_none : line_turn MAX_LIMIT running twice (codes "bump 10000000") ≡ turn (codes "update 2 reply 18446744073709551615 steps 6\n") thrice
 unfolding line_turn called line_meaning call_meaning named_call kind_of field_bytes is_name digits encode chars is_utf8 trim_start trim_end encode_with decode_pairs
 bump_none =
     ap (λ s. turn (update_line 2 (option_map (as_update s) (effect bump s.maps absent))) thrice) after_two
     ∙ ap (λ e. turn (update_line 2 (option_map (as_update (with_maps maps_2)) e)) thrice) is_none
 
-pub nope : line_turn running thrice (codes "nope 00") ≡ turn (codes "refused S1\n") thrice
+pub nope : line_turn MAX_LIMIT running thrice (codes "nope 00") ≡ turn (codes "refused S1\n") thrice
 unfolding line_turn called line_meaning call_meaning named_call kind_of field_bytes is_name digits encode chars is_utf8 trim_start trim_end encode_with decode_pairs
 nope = refl

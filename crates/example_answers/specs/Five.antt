@@ -1,8 +1,9 @@
 -- The first page's example: one program, which replies 5.
-use Rattle.std.specs.Prelude.{ℕ, List, codes, Some, None, bytes_eq, if◌then◌else◌}
-use Rattle.console.specs.declared.status.Verdict.TheVariants as verdicts
-use Rattle.console.specs.Files.{Contents}
-use Rattle.console.specs.Answer.{Answer}
+use Rattle.std.specs.Prelude.{ℕ, List, [], codes, Some, None, bytes_eq, if◌then◌else◌}
+use Rattle.engine.specs.declared.status.Verdict.TheVariants as verdicts
+use Rattle.engine.specs.Files.{Contents}
+use Rattle.engine.specs.Answer.{Answer}
+use Rattle.engine.specs.Reading.{Given}
 
 abbrev pub five_manifest : List ℕ
 five_manifest = codes "map array 8 16\nprogram five update 0 five.hex\n"
@@ -10,6 +11,10 @@ five_manifest = codes "map array 8 16\nprogram five update 0 five.hex\n"
 -- a folder with one file
 abbrev pub five_folder : Contents
 five_folder name = if bytes_eq (codes "five.hex") name then Some (codes "b7000000050000009500000000000000") else None
+
+-- what there is to read
+abbrev pub five_given : Given
+five_given = record { manifest = five_manifest; folder = five_folder; file = []; state = []; history = [] }
 
 -- what `check` answers
 abbrev pub five_checked : Answer

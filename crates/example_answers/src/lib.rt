@@ -2,12 +2,16 @@
 #![tactic(auto)]
 
 ghost use Rattle.std.specs.Prelude.{◌≡◌, IfOk};
-ghost use Rattle.console.specs.Report.{answer_of};
+ghost use Rattle.engine.specs.Report.{answer_of};
+ghost use Rattle.running.specs.KeptRun.{kept_of};
 ghost use Rattle.example_answers.specs.Five.{five_checked};
 ghost use Rattle.example_answers.specs.Counter.{counter_checked, counter_ran};
 ghost use Rattle.example_answers.specs.Pages.{IsOnPage};
 
-use console::{Held, HeldFiles, Page, Reply, Status, in_memory};
+use console::Check;
+use engine::reading::Inputs;
+use engine::{Held, HeldFiles, Notes, Page, Reply, Status, in_memory, perform};
+use running::{Kept, Run};
 use std::alloc::{AllocError, Global};
 
 // The first page's manifest, and its program's bytes in digits.
@@ -31,7 +35,15 @@ const SCRIPT: &[u8] = b"bump 00000000\nbump 00000000\npeek 00000000\nbump 100000
 pub fn five_checked(alloc: Global) -> Result<Reply, AllocError>
     ensures answer { IfOk result (λ r. answer_of r ≡ five_checked) }
 {
-    in_memory::check(alloc, &[("five.hex", FIVE)], FIRST_PAGE)
+    let files = [("five.hex", FIVE)];
+    let inputs = Inputs {
+        folder: &HeldFiles(&files),
+        manifest: Some(Held(FIRST_PAGE)),
+        file: None,
+        state: None,
+        history: None,
+    };
+    in_memory::make(alloc, &Check, inputs)
 }
 
 /// The command itself, writing on a page.
@@ -42,12 +54,16 @@ pub fn five_on_page(alloc: Global) -> (Status, Page)
         text: Vec::new(alloc),
         is_full: false,
     };
-    let status = console::check(
-        alloc,
-        &HeldFiles(&[("five.hex", FIVE)]),
-        &mut Held(FIRST_PAGE),
-        &mut page,
-    );
+    let files = [("five.hex", FIVE)];
+    let mut inputs = Inputs {
+        folder: &HeldFiles(&files),
+        manifest: Some(Held(FIRST_PAGE)),
+        file: None,
+        state: None,
+        history: None,
+    };
+    let mut notes = Notes::none(alloc);
+    let status = perform(alloc, &Check, &mut inputs, &mut notes, &mut page);
     (status, page)
 }
 
@@ -55,19 +71,30 @@ pub fn five_on_page(alloc: Global) -> (Status, Page)
 pub fn counter_checked(alloc: Global) -> Result<Reply, AllocError>
     ensures answer { IfOk result (λ r. answer_of r ≡ counter_checked) }
 {
-    in_memory::check(alloc, &[("bump.hex", BUMP), ("peek.hex", PEEK)], COUNTER)
+    let files = [("bump.hex", BUMP), ("peek.hex", PEEK)];
+    let inputs = Inputs {
+        folder: &HeldFiles(&files),
+        manifest: Some(Held(COUNTER)),
+        file: None,
+        state: None,
+        history: None,
+    };
+    in_memory::make(alloc, &Check, inputs)
 }
 
 /// What `run` answers to five calls of the counter.
-pub fn counter_ran(alloc: Global) -> Result<Reply, AllocError>
-    ensures answer { IfOk result (λ r. answer_of r ≡ counter_ran) }
+pub fn counter_ran(alloc: Global) -> Result<Kept, AllocError>
+    ensures answer { IfOk result (λ k. (kept_of k).answer ≡ counter_ran) }
 {
-    in_memory::run(
-        alloc,
-        &[("bump.hex", BUMP), ("peek.hex", PEEK)],
-        COUNTER,
-        SCRIPT,
-    )
+    let files = [("bump.hex", BUMP), ("peek.hex", PEEK)];
+    let inputs = Inputs {
+        folder: &HeldFiles(&files),
+        manifest: Some(Held(COUNTER)),
+        file: Some(Held(SCRIPT)),
+        state: None,
+        history: None,
+    };
+    in_memory::make(alloc, &Run { is_signed: false }, inputs)
 }
 
 /// The command itself, writing on a page.
@@ -78,11 +105,20 @@ pub fn counter_on_page(alloc: Global) -> (Status, Page)
         text: Vec::new(alloc),
         is_full: false,
     };
-    let status = console::run(
+    let files = [("bump.hex", BUMP), ("peek.hex", PEEK)];
+    let mut inputs = Inputs {
+        folder: &HeldFiles(&files),
+        manifest: Some(Held(COUNTER)),
+        file: Some(Held(SCRIPT)),
+        state: None,
+        history: None,
+    };
+    let mut notes = Notes::none(alloc);
+    let status = perform(
         alloc,
-        &HeldFiles(&[("bump.hex", BUMP), ("peek.hex", PEEK)]),
-        &mut Held(COUNTER),
-        &mut Held(SCRIPT),
+        &Run { is_signed: false },
+        &mut inputs,
+        &mut notes,
         &mut page,
     );
     (status, page)

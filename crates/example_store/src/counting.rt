@@ -6,7 +6,9 @@ use crate::common::{FILES, KEY, MANIFEST, close, print_read, print_update};
 use std::alloc::Global;
 use std::io;
 use std::sync::Wait;
-use store::{Answer, Catalogue, Config, ReadAnswer, Session, Store, StoreRefused, load_manifest};
+use store::{
+    Answer, Catalogue, ENDLESS, ReadAnswer, Session, Sizes, Store, StoreRefused, load_manifest,
+};
 
 // What the store's session is told, call by call.
 #[derive(Drop)]
@@ -45,15 +47,15 @@ fn counted<R: Wait>(rt: &R, alloc: Global) -> Option<(Told, u64)> {
     let catalogue = catalogue(alloc)?;
     let bump = catalogue.number("bump")?;
     let peek = catalogue.number("peek")?;
-    // 2. The store, and a session for each slot of each node: here one.
-    let config = Config {
+    // 2. The store, without an end, and a session for each slot of each node: here one.
+    let sizes = Sizes {
         nodes: 1,
         slots: 1,
         window: 16,
-        limit: 1000,
+        limit: ENDLESS,
         spare: 0,
     };
-    let (store, mut sessions) = Store::open(alloc, config, catalogue).ok()?;
+    let (store, mut sessions) = Store::open_sized(alloc, sizes, catalogue).ok()?;
     let Some(mut session) = sessions.pop() else {
         unreachable!()
     };

@@ -7,12 +7,14 @@ use crate::served::{
     written,
 };
 use crate::streams::{Narrow, Programs, Slow, Turns};
-use console::reading::Inputs;
-use console::{
-    Answering, Assemble, Disassemble, Notes, Setup, Status, check, engine, replay, run, schedule,
-    serve,
-};
+use console::{Assemble, Check, Disassemble};
+use engine::reading::Inputs;
+use engine::{Answering, Notes, Status};
 use oplog::Config;
+use replaying::Replay;
+use running::Run;
+use scheduling::Schedule;
+use serving::serve;
 use std::alloc::Global;
 use std::sync::Wait;
 use std::thread::Threads;
@@ -45,34 +47,6 @@ fn stressed<R: Threads + Wait + Sync>(
     stress(rt, &trial, &mut manifest, &mut calls, out)
 }
 
-// `schedule` on the manifest and its steps.
-fn stepped(alloc: Global, reads: &Turns, out: &mut Narrow<'_>) -> Status {
-    let setup = Setup {
-        config: SIZES,
-        folder: &Programs { turns: reads },
-    };
-    let mut manifest = Slow::new(MANIFEST, reads);
-    let mut steps = Slow::new(STEPS, reads);
-    let mut notes = Notes::none(alloc);
-    schedule(alloc, setup, &mut manifest, &mut steps, &mut notes, out)
-}
-
-// `replay` on the manifest and its transcript.
-fn replayed(alloc: Global, reads: &Turns, out: &mut Narrow<'_>) -> Status {
-    let mut manifest = Slow::new(MANIFEST, reads);
-    let mut transcript = Slow::new(TRANSCRIPT, reads);
-    let mut notes = Notes::none(alloc);
-    replay(
-        alloc,
-        &Programs { turns: reads },
-        4,
-        &mut manifest,
-        &mut transcript,
-        &mut notes,
-        out,
-    )
-}
-
 // `serve` on the manifest and its script, on a new state.
 fn served(alloc: Global, reads: &Turns, out: &mut Narrow<'_>) -> Status {
     let mut manifest = Slow::new(MANIFEST, reads);
@@ -90,11 +64,42 @@ fn served(alloc: Global, reads: &Turns, out: &mut Narrow<'_>) -> Status {
     end.status
 }
 
-// A command of one text.
-fn on_text<C: engine::Command>(
+// The texts that a command reads, where it reads them.
+#[derive(Clone, Copy)]
+struct Given {
+    manifest: Option<&'static str>,
+    file: Option<&'static str>,
+}
+
+// The manifest, and this text beside it.
+fn beside(file: &'static str) -> Given {
+    Given {
+        manifest: Some(MANIFEST),
+        file: Some(file),
+    }
+}
+
+// This text alone.
+fn alone(file: &'static str) -> Given {
+    Given {
+        manifest: None,
+        file: Some(file),
+    }
+}
+
+// A text that comes slowly, where there is one.
+fn slowly<'a>(text: Option<&'static str>, reads: &'a Turns) -> Option<Slow<'a>> {
+    match text {
+        Some(text) => Some(Slow::new(text, reads)),
+        None => None,
+    }
+}
+
+// A command on these texts.
+fn answered<C: engine::Command>(
     alloc: Global,
     command: &C,
-    text: &'static str,
+    texts: Given,
     reads: &Turns,
     out: &mut Narrow<'_>,
 ) -> Status
@@ -103,8 +108,8 @@ where
 {
     let mut inputs = Inputs {
         folder: &Programs { turns: reads },
-        manifest: None,
-        file: Some(Slow::new(text, reads)),
+        manifest: slowly(texts.manifest, reads),
+        file: slowly(texts.file, reads),
         state: None,
         history: None,
     };
@@ -119,33 +124,35 @@ pub fn ended<R: Threads + Wait + Sync>(
     reads: &Turns,
     out: &mut Narrow<'_>,
 ) -> Status {
-    let folder = Programs { turns: reads };
-    let mut manifest = Slow::new(MANIFEST, reads);
     match command {
-        Command::Check => check(alloc, &folder, &mut manifest, out),
+        Command::Check => {
+            let manifest = Given {
+                manifest: Some(MANIFEST),
+                file: None,
+            };
+            answered(alloc, &Check, manifest, reads, out)
+        }
         Command::Run => {
-            let mut script = Slow::new(SCRIPT, reads);
-            run(alloc, &folder, &mut manifest, &mut script, out)
+            let command = Run { is_signed: false };
+            answered(alloc, &command, beside(SCRIPT), reads, out)
         }
-        Command::Assemble => on_text(alloc, &Assemble, BUMP_TEXT, reads, out),
+        Command::Assemble => answered(alloc, &Assemble, alone(BUMP_TEXT), reads, out),
         Command::Disassemble => {
-            on_text(
-                alloc,
-                &Disassemble { has_slots: false },
-                BUMP_LINE,
-                reads,
-                out,
-            )
+            let command = Disassemble { has_slots: false };
+            answered(alloc, &command, alone(BUMP_LINE), reads, out)
         }
-        Command::Slots => on_text(
-            alloc,
-            &Disassemble { has_slots: true },
-            BUMP_LINE,
-            reads,
-            out,
-        ),
-        Command::Schedule => stepped(alloc, reads, out),
-        Command::Replay => replayed(alloc, reads, out),
+        Command::Slots => {
+            let command = Disassemble { has_slots: true };
+            answered(alloc, &command, alone(BUMP_LINE), reads, out)
+        }
+        Command::Schedule => {
+            let command = Schedule { config: SIZES };
+            answered(alloc, &command, beside(STEPS), reads, out)
+        }
+        Command::Replay => {
+            let command = Replay { spare: 4 };
+            answered(alloc, &command, beside(TRANSCRIPT), reads, out)
+        }
         Command::Stress => stressed(rt, alloc, reads, out),
         Command::Serve => served(alloc, reads, out),
     }

@@ -13,8 +13,8 @@ mod stores;
 mod streams;
 mod transfers;
 
-use console::Status;
 use endings::Ending;
+use engine::Status;
 use std::alloc::Global;
 use std::io::Read;
 use std::sync::Wait;

@@ -1,7 +1,7 @@
 // Readers and writers that move one byte at a time, and of which one read or one write fails.
 
 use crate::served::{BUMP_LINE, PEEK_LINE};
-use console::Folder;
+use engine::Folder;
 use std::cell::Cell;
 use std::io;
 use std::io::{ErrorKind, Read, Write};

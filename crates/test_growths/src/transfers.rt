@@ -3,7 +3,9 @@
 use crate::commands::ended;
 use crate::served::{COUNTER, Command, FIVE_CALLS, may_have_written, written};
 use crate::streams::{Narrow, Programs, Slow, Turns};
-use console::{Status, run};
+use engine::reading::Inputs;
+use engine::{Notes, Status, perform};
+use running::Run;
 use std::alloc::Global;
 use std::sync::Wait;
 use std::thread::Threads;
@@ -87,8 +89,13 @@ pub fn failed_in_turn<R: Threads + Wait + Sync>(
 /// `run` on five calls of the counter.
 pub fn counted(alloc: Global, out: &mut Narrow<'_>) -> Status {
     let reads = Turns::new(0);
-    let folder = Programs { turns: &reads };
-    let mut manifest = Slow::new(COUNTER, &reads);
-    let mut script = Slow::new(FIVE_CALLS, &reads);
-    run(alloc, &folder, &mut manifest, &mut script, out)
+    let mut inputs = Inputs {
+        folder: &Programs { turns: &reads },
+        manifest: Some(Slow::new(COUNTER, &reads)),
+        file: Some(Slow::new(FIVE_CALLS, &reads)),
+        state: None,
+        history: None,
+    };
+    let command = Run { is_signed: false };
+    perform(alloc, &command, &mut inputs, &mut Notes::none(alloc), out)
 }

@@ -1,7 +1,7 @@
 //! How a command ends. What the commands answer to texts is in crates/test_commands, and where reads and writes fail in
 //! crates/test_growths.
 
-use console::Status;
+use engine::Status;
 
 #[test]
 fn ends_with_a_status(rt: HostRuntime) {

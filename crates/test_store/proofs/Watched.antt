@@ -27,12 +27,12 @@ none_left p v = ap (λ b. if b then [] else ((p, v) ∷ [])) (eq-eqb p p refl)
 
 -- who looked at its desk is free again
 pub looked : (caller : Caller) (k t : SessionKnown) (p q : ℕ) (v : Value) (places nodes : ℕ) (c : CatalogueView) → TookDesk caller k t p v → q ≡ p → IsFree caller k → IsOnShelf places nodes c k → (l : Progress CatalogueView) (ns : _) → Possible store_rules t l ns
-    → IsFree caller (left_with t q l t.note) × IsOnShelf places nodes c (left_with t q l t.note)
+    → IsFree caller (left_with t q v l t.note) × IsOnShelf places nodes c (left_with t q v l t.note)
 looked caller k t p q v places nodes c b same free on l ns may =
     let a = puts_account session_laws view_of session_notes IsSized (λ z. z) (λ z. z) t q v l ns (put_same t p q v 0 same (ap (λ z. get_elem? z 0) b.held)) may in
     let grown = store_laws.extends_on k.progress t.progress l b.extends a.extends in (
-      free_on caller k (left_with t q l t.note) b.session (ap (λ z. without z t.held) same ∙ (ap (without p) b.held ∙ none_left p v)) grown free,
-      shelf_on places nodes c k (left_with t q l t.note) grown on,
+      free_on caller k (left_with t q v l t.note) b.session (ap (λ z. without z t.held) same ∙ (ap (without p) b.held ∙ none_left p v)) grown free,
+      shelf_on places nodes c k (left_with t q v l t.note) grown on,
     )
 
 -- ---- a session is taken from the end of a list

@@ -7,6 +7,8 @@ mod answered;
 #[cfg(test)]
 mod desk;
 #[cfg(test)]
+mod endless;
+#[cfg(test)]
 mod held_places;
 #[cfg(test)]
 mod left;
@@ -28,6 +30,8 @@ mod scans;
 mod settlements;
 #[cfg(test)]
 mod single_store;
+#[cfg(test)]
+mod snapshots;
 #[cfg(test)]
 mod two_nodes;
 #[cfg(test)]

@@ -1,7 +1,9 @@
 //! The sessions of `stress` run side by side: two of them wait for each other before they make their first calls.
 
-use console::{Folder, Notes, replay};
+use engine::reading::Inputs;
+use engine::{Folder, Notes, perform};
 use oplog::Config;
+use replaying::Replay;
 use std::sync::atomic::{AtomicU64, Ordering};
 use std::thread;
 use stress::{Gate, Trial, stress};
@@ -86,17 +88,17 @@ fn two_sessions_wait_for_each_other(rt: HostRuntime) {
     let mut transcript = Vec::new(rt.alloc());
     let status = stress(&rt, &trial, &mut manifest, &mut script, &mut transcript);
     assert_eq!(rt; (status.code(), meeting.met.load(Ordering::SeqCst)), (0, 2));
-    let (mut manifest, mut told) = (MANIFEST, transcript.as_slice());
+    let mut inputs = Inputs {
+        folder: &Programs,
+        manifest: Some(MANIFEST),
+        file: Some(transcript.as_slice()),
+        state: None,
+        history: None,
+    };
     let mut found = Vec::new(rt.alloc());
-    let status = replay(
-        rt.alloc(),
-        &Programs,
-        4,
-        &mut manifest,
-        &mut told,
-        &mut Notes::none(rt.alloc()),
-        &mut found,
-    );
+    let mut notes = Notes::none(rt.alloc());
+    let command = Replay { spare: 4 };
+    let status = perform(rt.alloc(), &command, &mut inputs, &mut notes, &mut found);
     assert_eq!(rt;
         (status.code(), found.as_slice()),
         (0, b"good 8 0 0\n".as_slice())

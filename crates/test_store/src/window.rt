@@ -6,7 +6,10 @@ ghost use Rattle.oplog.specs.Logs.{opened_log};
 
 use loader::{Installed, StoreState};
 use maps::{MapSet, Shape, shapes_ok};
-use oplog::{Appended, Call, Config, CopyAnswer, Ended, Hand, LogState, Op, OpenError, Record};
+use oplog::{
+    Appended, Call, Config, CopyAnswer, ENDLESS, Ended, Hand, LogState, Op, OpenError, Record,
+    Sizes,
+};
 use std::alloc::Global;
 use std::test::Fail;
 
@@ -129,6 +132,27 @@ fn knows_its_limits(rt: HostRuntime) {
             spare: 0,
         };
         assert_eq!(rt; config.is_within_limits(), want);
+    }
+}
+
+// Below and above what a limit may be where there is no end.
+#[test]
+fn knows_no_end(rt: HostRuntime) {
+    for (limit, want) in [
+        (0, false),
+        (1, true),
+        (1_000_001, true),
+        (ENDLESS, true),
+        (ENDLESS + 1, false),
+    ] {
+        let sizes = Sizes {
+            nodes: 8,
+            slots: 16,
+            window: 4_096,
+            limit,
+            spare: 0,
+        };
+        assert_eq!(rt; sizes.is_within_limits(), want);
     }
 }
 

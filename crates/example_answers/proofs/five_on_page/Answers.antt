@@ -1,8 +1,13 @@
-use Rattle.std.proofs.Common.{refl}
+use Rattle.std.proofs.Common.{refl, ◌∙◌}
+use Rattle.engine.specs.Report.{answer_of}
 use Rattle.example_answers.specs.Five.{five_checked}
 use Rattle.example_answers.proofs.Checked.{five_is}
-use Rattle.example_answers.proofs.OnPage.{no_file, on_page}
+use Rattle.example_answers.proofs.OnPage.{none_failed, on_page}
 use Rattle.example_answers.proofs.five_on_page.Goals as goal
 
 pub returns : goal.returns
-returns c = record { page = on_page _ no_file c.check-status.result c.check-status.new.writer _ five_checked five_is refl (rw c.new.ensures.items at c.check-status.ensures.written) c.check-status.ensures.failed }
+returns c =
+    record {
+      page = on_page answer_of _ _ (none_failed c.perform-status.new.inputs) c.perform-status.result c.perform-status.new.writer five_checked (λ r is. is ∙ five_is) refl
+          (rw c.new.ensures.items at c.perform-status.ensures.written) c.perform-status.ensures.failed;
+    }
