@@ -3,13 +3,14 @@
 use crate::files::Offered;
 use crate::states::{replay_on, run_on, serve_on};
 use crate::timing::timed;
-use console::engine::{Command, perform};
-use console::reading::Inputs;
-use console::{
-    Answering, Assemble, Disassemble, Encode, Notes, Setup, Status, Telling, check, explain, graph,
-    replay, run, run_signed, schedule, serve,
-};
+use console::{Assemble, Check, Disassemble, Draw, Encode, Explain};
+use engine::reading::Inputs;
+use engine::{Answering, Command, Notes, Status, Telling, perform};
 use oplog::Config;
+use replaying::Replay;
+use running::Run;
+use scheduling::Schedule;
+use serving::serve;
 use std::alloc::Global;
 use std::sync::Wait;
 use std::thread::Threads;
@@ -37,6 +38,28 @@ fn sizes(text: &str) -> Option<Config> {
     })
 }
 
+/// A manifest, the text that a command is about, a state, which is a new one where it is empty, and the times of calls.
+pub fn on_texts<'a>(
+    folder: &'a Offered<'a>,
+    manifest: &'a [u8],
+    file: &'a [u8],
+    state: &'a [u8],
+    history: &'a [u8],
+) -> Inputs<'a, Offered<'a>, &'a [u8]> {
+    Inputs {
+        folder,
+        manifest: Some(manifest),
+        file: Some(file),
+        state: Some(state),
+        history: Some(history),
+    }
+}
+
+// A manifest, and the text behind its bar.
+fn on_both<'a>(folder: &'a Offered<'a>, manifest: &'a [u8]) -> Inputs<'a, Offered<'a>, &'a [u8]> {
+    on_texts(folder, manifest, folder.other, &[], &[])
+}
+
 // What `schedule` answers in a store of the sizes behind its name, and `replay` and `serve` with the places behind their names.
 fn sized(
     alloc: Global,
@@ -47,13 +70,14 @@ fn sized(
     out: &mut Vec<u8>,
 ) -> Option<Status> {
     let (name, text) = command.split_once(':')?;
-    let mut other = folder.other;
     if name == "replay" {
         let spare = text.parse::<u32>().ok()?;
-        return Some(replay(alloc, folder, spare, &mut manifest, &mut other, notes, out));
+        let mut inputs = on_both(folder, manifest);
+        return Some(perform(alloc, &Replay { spare }, &mut inputs, notes, out));
     }
     if name == "serve" {
         let spare = text.parse::<u32>().ok()?;
+        let mut other = folder.other;
         let mut new_state: &[u8] = &[];
         return Some(
             serve(
@@ -72,8 +96,8 @@ fn sized(
         return None;
     }
     let config = sizes(text)?;
-    let setup = Setup { config, folder };
-    Some(schedule(alloc, setup, &mut manifest, &mut other, notes, out))
+    let mut inputs = on_both(folder, manifest);
+    Some(perform(alloc, &Schedule { config }, &mut inputs, notes, out))
 }
 
 // What `schedule` or `replay` tells beside its answer.
@@ -120,16 +144,13 @@ fn stressed<R: Threads + Wait + Sync>(
             text: out,
         });
     }
-    let mut transcript = out.as_slice();
-    let mut text = manifest;
+    let mut inputs = on_texts(folder, manifest, out.as_slice(), &[], &[]);
     let mut found = Vec::new(alloc);
     let mut notes = Notes::none(alloc);
-    let status = replay(
+    let status = perform(
         alloc,
-        folder,
-        spare,
-        &mut text,
-        &mut transcript,
+        &Replay { spare },
+        &mut inputs,
         &mut notes,
         &mut found,
     );
@@ -139,12 +160,32 @@ fn stressed<R: Threads + Wait + Sync>(
     })
 }
 
+// What a command of a manifest writes.
+fn on_manifest<C: Command>(
+    alloc: Global,
+    folder: &Offered,
+    command: &C,
+    manifest: &[u8],
+    out: &mut Vec<u8>,
+) -> Status
+where
+    C::Made: Answering,
+{
+    let mut inputs = Inputs {
+        folder,
+        manifest: Some(manifest),
+        file: None,
+        state: None,
+        history: None,
+    };
+    perform(alloc, command, &mut inputs, &mut Notes::none(alloc), out)
+}
+
 // What `explain` answers, or `explain:NAME` of the program of this name.
 fn explained(alloc: Global, folder: &Offered, command: &str, manifest: &[u8]) -> Answer {
-    let mut text = manifest;
     let mut out = Vec::new(alloc);
     let name = command.strip_prefix("explain:");
-    let status = explain(alloc, folder, &mut text, name, &mut out);
+    let status = on_manifest(alloc, folder, &Explain { folder, name }, manifest, &mut out);
     Answer {
         status: status.code(),
         text: out,
@@ -153,14 +194,11 @@ fn explained(alloc: Global, folder: &Offered, command: &str, manifest: &[u8]) ->
 
 // What `run` answers, or as `run:signed` with signed numbers beside.
 fn ran(alloc: Global, folder: &Offered, command: &str, manifest: &[u8]) -> Answer {
-    let mut text = manifest;
-    let mut script = folder.other;
+    let mut inputs = on_both(folder, manifest);
+    let is_signed = command == "run:signed";
+    let mut notes = Notes::none(alloc);
     let mut out = Vec::new(alloc);
-    let status = if command == "run:signed" {
-        run_signed(alloc, folder, &mut text, &mut script, &mut out)
-    } else {
-        run(alloc, folder, &mut text, &mut script, &mut out)
-    };
+    let status = perform(alloc, &Run { is_signed }, &mut inputs, &mut notes, &mut out);
     Answer {
         status: status.code(),
         text: out,
@@ -169,10 +207,9 @@ fn ran(alloc: Global, folder: &Offered, command: &str, manifest: &[u8]) -> Answe
 
 // What `explain --graph` answers, or behind `graph:NAME` of the program of this name.
 fn drawn(alloc: Global, folder: &Offered, command: &str, manifest: &[u8]) -> Answer {
-    let mut text = manifest;
     let mut out = Vec::new(alloc);
     let name = command.strip_prefix("graph:");
-    let status = graph(alloc, folder, &mut text, name, &mut out);
+    let status = on_manifest(alloc, folder, &Draw { name }, manifest, &mut out);
     Answer {
         status: status.code(),
         text: out,
@@ -197,18 +234,10 @@ fn on_files(alloc: Global, folder: &Offered, command: &str, text: &[u8]) -> Opti
 }
 
 // What `replay` writes.
-fn replayed(alloc: Global, folder: &Offered, mut manifest: &[u8], out: &mut Vec<u8>) -> Status {
-    let mut transcript = folder.other;
-    let mut notes = Notes::none(alloc);
-    replay(
-        alloc,
-        folder,
-        4,
-        &mut manifest,
-        &mut transcript,
-        &mut notes,
-        out,
-    )
+fn replayed(alloc: Global, folder: &Offered, manifest: &[u8], out: &mut Vec<u8>) -> Status {
+    let mut inputs = on_both(folder, manifest);
+    let command = Replay { spare: 4 };
+    perform(alloc, &command, &mut inputs, &mut Notes::none(alloc), out)
 }
 
 // What `serve` writes on a new state.
@@ -260,20 +289,21 @@ fn disassembled(
 }
 
 // What `check` writes where the files that the manifest names are what `asm` writes.
-fn assembled(alloc: Global, folder: &Offered, mut manifest: &[u8], out: &mut Vec<u8>) -> Status {
+fn assembled(alloc: Global, folder: &Offered, manifest: &[u8], out: &mut Vec<u8>) -> Status {
     let mut program = Vec::new(alloc);
     let _ = on_text(alloc, folder, &Assemble, folder.other, &mut program);
     let other = program.as_slice();
     let files = folder.files;
-    check(alloc, &Offered { files, other }, &mut manifest, out)
+    let offered = Offered { files, other };
+    on_manifest(alloc, &offered, &Check, manifest, out)
 }
 
 // What a command answers that is neither on a state nor told of.
-fn plain(alloc: Global, folder: &Offered, command: &str, mut text: &[u8]) -> Option<Answer> {
+fn plain(alloc: Global, folder: &Offered, command: &str, text: &[u8]) -> Option<Answer> {
     let mut out = Vec::new(alloc);
     let mut notes = Notes::none(alloc);
     let status = match command {
-        "check" => check(alloc, folder, &mut text, &mut out),
+        "check" => on_manifest(alloc, folder, &Check, text, &mut out),
         "replay" => replayed(alloc, folder, text, &mut out),
         "serve" => served(alloc, folder, text, &mut out),
         "assembled" => assembled(alloc, folder, text, &mut out),

@@ -1,6 +1,6 @@
 // The texts that rows name, as files.
 
-use console::Folder;
+use engine::Folder;
 use std::io::Read;
 use std::{fs, io};
 

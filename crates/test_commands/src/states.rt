@@ -1,10 +1,11 @@
 // `run` and `serve` on a state, and the state that they leave; and `replay` on a state.
 
-use crate::answers::Answer;
+use crate::answers::{Answer, on_texts};
 use crate::files::{Offered, text_of};
-use console::{
-    Kept, Notes, ServeEnd, Status, Verdict, dump_to, replay_on_reply, run_on_reply, serve,
-};
+use engine::{Notes, Status, Verdict, prepare};
+use replaying::Replay;
+use running::{Kept, Run, dump_to};
+use serving::{ServeEnd, serve};
 use std::alloc::Global;
 
 // The status of a command whose verdict is this.
@@ -17,11 +18,16 @@ fn status_of(verdict: Verdict) -> Status {
 }
 
 // What `run` answers on the state of this name, or on a new one, and behind `left` the state that it leaves.
-pub fn run_on(alloc: Global, folder: &Offered, name: &str, manifest: &[u8]) -> Option<Answer> {
-    let mut text = manifest;
-    let mut script = folder.other;
-    let mut state = text_of(folder.files, name).unwrap_or(&[]);
-    let kept = run_on_reply(alloc, folder, &mut text, &mut script, &mut state).ok()?;
+pub fn run_on<'a>(
+    alloc: Global,
+    folder: &'a Offered<'a>,
+    name: &str,
+    manifest: &'a [u8],
+) -> Option<Answer> {
+    let state = text_of(folder.files, name).unwrap_or(&[]);
+    let mut inputs = on_texts(folder, manifest, folder.other, state, &[]);
+    let command = Run { is_signed: false };
+    let kept = prepare(alloc, &command, &mut inputs, &mut Notes::none(alloc)).ok()?;
     let Kept { reply, state } = kept;
     let status = status_of(reply.verdict);
     let mut text = reply.text;
@@ -56,21 +62,16 @@ pub fn serve_on(alloc: Global, folder: &Offered, name: &str, manifest: &[u8]) ->
 }
 
 // What `replay` answers on the state of this name, or on a new one, with four places.
-pub fn replay_on(alloc: Global, folder: &Offered, name: &str, manifest: &[u8]) -> Option<Answer> {
-    let mut text = manifest;
-    let mut transcript = folder.other;
-    let mut state = text_of(folder.files, name).unwrap_or(&[]);
-    let mut notes = Notes::none(alloc);
-    let reply = replay_on_reply(
-        alloc,
-        folder,
-        4,
-        &mut text,
-        &mut transcript,
-        &mut state,
-        &mut notes,
-    );
-    let reply = reply.ok()?;
+pub fn replay_on<'a>(
+    alloc: Global,
+    folder: &'a Offered<'a>,
+    name: &str,
+    manifest: &'a [u8],
+) -> Option<Answer> {
+    let state = text_of(folder.files, name).unwrap_or(&[]);
+    let mut inputs = on_texts(folder, manifest, folder.other, state, &[]);
+    let command = Replay { spare: 4 };
+    let reply = prepare(alloc, &command, &mut inputs, &mut Notes::none(alloc)).ok()?;
     Some(Answer {
         status: status_of(reply.verdict).code(),
         text: reply.text,

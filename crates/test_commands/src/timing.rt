@@ -1,32 +1,21 @@
 // What is answered to a transcript and its history.
 
-use crate::answers::Answer;
+use crate::answers::{Answer, on_texts};
 use crate::files::Offered;
-use console::Notes;
-use realtime::replay_timed;
+use engine::{Notes, perform};
+use realtime::ReplayTimed;
 use std::alloc::Global;
 use std::str;
 
 // What `replay --history` answers, where the history stands behind another bar.
 pub fn timed(alloc: Global, folder: &Offered, manifest: &[u8]) -> Option<Answer> {
     let (transcript, history) = str::from_utf8(folder.other).ok()?.split_once(" | ")?;
-    let mut manifest = manifest;
-    let mut transcript = transcript.as_bytes();
-    let mut new_state: &[u8] = &[];
-    let mut history = history.as_bytes();
+    let (file, times) = (transcript.as_bytes(), history.as_bytes());
+    let mut inputs = on_texts(folder, manifest, file, &[], times);
     let mut notes = Notes::none(alloc);
     let mut out = Vec::new(alloc);
-    let status = replay_timed(
-        alloc,
-        folder,
-        4,
-        &mut manifest,
-        &mut transcript,
-        &mut new_state,
-        &mut history,
-        &mut notes,
-        &mut out,
-    );
+    let command = ReplayTimed { spare: 4 };
+    let status = perform(alloc, &command, &mut inputs, &mut notes, &mut out);
     Some(Answer {
         status: status.code(),
         text: out,

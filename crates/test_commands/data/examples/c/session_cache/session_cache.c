@@ -1,9 +1,6 @@
 /* Who is logged in: a session has a token of 16 bytes, belongs to a user, and lasts until some time. */
-#include "nrbpf.h"
-
-struct token {
-	u64 low, high;
-};
+#include "nrbpf_program.h"
+#include "session_cache.h"
 
 /* Map 0 has one for each token. */
 struct session {
@@ -12,63 +9,45 @@ struct session {
 };
 
 /* Map 1 has one value: how many sessions are kept, those that are over too. */
-INLINE u64 *kept(void)
+NRBPF_INLINE u64 *kept(void)
 {
 	u32 only = 0;
-	return map_lookup(MAP(1), &only);
+	return nrbpf_map_lookup(NRBPF_MAP(1), &only);
 }
-
-struct start {
-	struct token token;
-	u64 user;
-	u64 now;
-	u64 lifetime;
-};
 
 /* A token that is in use is refused; one of a session that is over is taken again. */
 s64 start(const struct start *call)
 {
 	struct session session = {call->user, call->now + call->lifetime};
-	struct session *old = map_lookup(MAP(0), &call->token);
+	struct session *old = nrbpf_map_lookup(NRBPF_MAP(0), &call->token);
 	if (old && call->now < old->end)
-		return -EEXIST;
+		return -NRBPF_EEXIST;
 	if (old) {
 		*old = session;
 		return 0;
 	}
-	s64 error = map_update(MAP(0), &call->token, &session, BPF_NOEXIST);
+	s64 error = nrbpf_map_update(NRBPF_MAP(0), &call->token, &session, NRBPF_NOEXIST);
 	u64 *count = kept();
 	if (count && !error)
 		*count += 1;
 	return error;
 }
 
-struct seen {
-	struct token token;
-	u64 now;
-};
-
 /* The user of a session that isn't over. */
-s64 who(const struct seen *call)
+s64 who(const struct who *call)
 {
-	const struct session *session = map_lookup(MAP(0), &call->token);
+	const struct session *session = nrbpf_map_lookup(NRBPF_MAP(0), &call->token);
 	if (!session || call->now >= session->end)
-		return -ENOENT;
+		return -NRBPF_ENOENT;
 	return session->user;
 }
-
-struct extend {
-	struct token token;
-	u64 now;
-	u64 lifetime;
-};
 
 /* Answers the time at which the session will be over. An end isn't moved to an earlier time. */
 s64 extend(const struct extend *call)
 {
-	struct session *session = map_lookup(MAP(0), &call->token);
+	struct session *session = nrbpf_map_lookup(NRBPF_MAP(0), &call->token);
 	if (!session || call->now >= session->end)
-		return -ENOENT;
+		return -NRBPF_ENOENT;
 	u64 end = call->now + call->lifetime;
 	if (session->end < end)
 		session->end = end;
@@ -77,7 +56,7 @@ s64 extend(const struct extend *call)
 
 s64 finish(const struct token *token)
 {
-	s64 error = map_delete(MAP(0), token);
+	s64 error = nrbpf_map_delete(NRBPF_MAP(0), token);
 	u64 *count = kept();
 	if (count && !error)
 		*count -= 1;
