@@ -1,0 +1,72 @@
+# make            proves and builds the program and the library for C. The first time that takes about an hour
+# make check      the whole test suite, which proves and builds them too
+# make install    puts what is built below PREFIX, and builds nothing; DESTDIR stands before every path, as packages want it
+# make uninstall  takes it away
+# make dist       a tarball of the sources in out/, of the same bytes each time
+#
+# docs/PACKAGING.md says what is built from what. This is for GNU make.
+
+PREFIX = /usr/local
+DESTDIR =
+bindir = $(PREFIX)/bin
+includedir = $(PREFIX)/include
+libdir = $(PREFIX)/lib
+datadir = $(PREFIX)/share
+INSTALL = install
+
+program = crates/nrbpf/out/nrbpf
+number = $(shell sed -n 's/^.define NRBPF_VERSION_$(1) \([0-9]*\)u$$/\1/p' embed/nrbpf.h)
+major := $(call number,MAJOR)
+minor := $(call number,MINOR)
+day := $(shell sed -n 's/^pub const VERSION: .str = "\(.*\)";$$/\1/p' crates/nrbpf/src/help.rt)
+shared = libnrbpf.so.$(major)
+name = nrbpf-$(day)
+below = $(patsubst $(PREFIX)/%,$${prefix}/%,$(1))
+
+all: library
+
+program:
+	./nrbpf --prove
+
+library: program
+	embed/build
+
+check:
+	.ci/run
+
+# (what is built of other sources is not installed)
+is-built:
+	@test -x $(program) && test -f embed/out/libnrbpf.a || { echo 'make: the program or the library is not built yet: run make' >&2; exit 1; }
+	@test "$$(sed -n 2p $(program).sums 2>/dev/null)" = "$$(./nrbpf --sum)" || { echo 'make: the program is built of other sources: run make' >&2; exit 1; }
+
+installed = $(bindir)/nrbpf $(includedir)/nrbpf.h $(libdir)/libnrbpf.a $(libdir)/$(shared).$(minor) $(libdir)/$(shared) $(libdir)/libnrbpf.so \
+	$(libdir)/pkgconfig/nrbpf.pc $(datadir)/man/man1/nrbpf.1 $(datadir)/bash-completion/completions/nrbpf
+
+install: is-built
+	$(INSTALL) -d $(sort $(dir $(addprefix $(DESTDIR),$(installed))))
+	$(INSTALL) -m 755 $(program) $(DESTDIR)$(bindir)/nrbpf
+	$(INSTALL) -m 644 embed/nrbpf.h $(DESTDIR)$(includedir)/nrbpf.h
+	$(INSTALL) -m 644 embed/out/libnrbpf.a $(DESTDIR)$(libdir)/libnrbpf.a
+	$(INSTALL) -m 644 embed/out/$(shared).$(minor) $(DESTDIR)$(libdir)/$(shared).$(minor)
+	ln -sf $(shared).$(minor) $(DESTDIR)$(libdir)/$(shared)
+	ln -sf $(shared) $(DESTDIR)$(libdir)/libnrbpf.so
+	sed -e 's|@prefix@|$(PREFIX)|' -e 's|@includedir@|$(call below,$(includedir))|' -e 's|@libdir@|$(call below,$(libdir))|' \
+		-e 's|@version@|$(major).$(minor)|' embed/nrbpf.pc.in >$(DESTDIR)$(libdir)/pkgconfig/nrbpf.pc
+	chmod 644 $(DESTDIR)$(libdir)/pkgconfig/nrbpf.pc
+	$(INSTALL) -m 644 docs/nrbpf.1 $(DESTDIR)$(datadir)/man/man1/nrbpf.1
+	$(INSTALL) -m 644 docs/nrbpf.bash $(DESTDIR)$(datadir)/bash-completion/completions/nrbpf
+
+uninstall:
+	rm -f $(addprefix $(DESTDIR),$(installed))
+
+# The files that git has, or in an unpacked tarball all that are no output: in one order, of one time, owner and mode.
+dist:
+	@mkdir -p out
+	@if test -e .git; then git ls-files; else find . \( -name out -o -name __pycache__ \) -prune -o ! -type d -print | sed 's|^\./||'; fi | LC_ALL=C sort >out/$(name).list
+	@tar -c -f out/$(name).tar --format=ustar --no-recursion --hard-dereference --mtime='$(day) 00:00Z' --owner=root:0 --group=root:0 --numeric-owner \
+		--mode=u=rwX,go=rX --transform='flags=r;s|^|$(name)/|' -T out/$(name).list
+	@gzip -9nf out/$(name).tar
+	@rm -f out/$(name).list
+	@echo out/$(name).tar.gz
+
+.PHONY: all program library check is-built install uninstall dist
