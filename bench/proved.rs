@@ -1,6 +1,7 @@
 //! The proved store, as a program (crates/bench_store) that is told over a pipe how many calls to make, and the programs that it runs.
 
 use crate::twins::{Programs, Sizes};
+use std::fs::read_to_string;
 use std::io::{BufRead, BufReader, Write};
 use std::process::{Child, ChildStdin, ChildStdout, Command, Stdio};
 
@@ -48,6 +49,13 @@ impl Proved {
         let mut line = String::new();
         self.output.read_line(&mut line).expect("the program writes");
         line.trim().parse().expect("a sum")
+    }
+
+    /// How much of its memory is resident, in KiB.
+    pub fn resident(&self) -> u64 {
+        let status = read_to_string(format!("/proc/{}/status", self.child.id())).expect("a process");
+        let line = status.lines().find_map(|line| line.strip_prefix("VmRSS:")).expect("its memory");
+        line.trim().trim_end_matches(" kB").parse().expect("a number")
     }
 
     pub fn end(mut self) {

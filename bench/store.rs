@@ -1,16 +1,20 @@
 //! Times the proved store (the program crates/bench_store, whose path is the first word) beside stores in plain Rust. On one thread it
 //! checks that all give the same replies, and prints what an update and a ready read cost, an update by the bytes of the maps and the
-//! window, the longest pause of one, and what a scan of a hash costs; then it prints how many calls a second several threads make. With
-//! `replicated` or `locked`, `update` or `read`, and a number in place of the path it makes so many calls of that twin alone, for a tool that
-//! counts processor instructions.
+//! window, the longest pause of one, and what a scan of a hash and a snapshot cost; then it prints how many calls a second several threads make, what an
+//! update costs beside a node that is idle, and what memory the store has as its history grows: the last two, and the snapshots, with the word
+//! `idle`, `endless` or `snapshots` behind the path alone. With `replicated` or `locked`, `update` or `read`, and a number in place of the path it makes so many
+//! calls of that twin alone, for a tool that counts processor instructions.
 
 mod classic;
+mod endless;
 mod host;
+mod idle;
 mod interpreter;
 mod pauses;
 mod proved;
 mod rounds;
 mod scans;
+mod snapshots;
 mod threads;
 mod twins;
 
@@ -144,7 +148,22 @@ fn main() {
             print_sizes(path);
             pauses::print(path);
             scans::print(path);
+            snapshots::print(path);
             threads::print(path);
+            idle::print(path);
+            endless::print(path);
+        }
+        [_, path, part] if part == "idle" => {
+            host::print();
+            idle::print(path);
+        }
+        [_, path, part] if part == "snapshots" => {
+            host::print();
+            snapshots::print(path);
+        }
+        [_, path, part] if part == "endless" => {
+            host::print();
+            endless::print(path);
         }
         [_, twin, call, times] => alone(twin, call, times.parse().expect("a number")),
         _ => panic!("the path of bench_store"),

@@ -11,14 +11,11 @@ use std::sync::Barrier;
 use std::thread;
 use std::time::{Duration, Instant};
 
-// How long a round is at least, but for the proved store's updates, of which a history may have 1,000,000.
+// How long a round is at least.
 const ROUND: Duration = Duration::from_millis(200);
 
 // Calls of a thread by which the length of a round is chosen.
 const TRIAL: u64 = 20_000;
-
-// The most updates of the proved store in a round, with some left of what a history may have.
-const MOST_UPDATES: u64 = 900_000;
 
 const SIZES: Sizes = Sizes { window: 4_096, entries: 64, value: 8 };
 
@@ -70,13 +67,11 @@ fn proved_time(proved: &mut Proved, reads: u64, times: u64) -> Duration {
     start.elapsed()
 }
 
-// A store of its own for each round, since a history ends; the time to start the threads is taken off.
+// A store of its own for each round; the time to start the threads is taken off.
 fn proved_rate(path: &str, load: Load) -> f64 {
     let mut proved = Proved::start(path, load.nodes, load.threads.div_ceil(load.nodes), SIZES);
     let trial = proved_time(&mut proved, load.reads, TRIAL);
-    let updates = load.threads as u64 * (100 - load.reads);
-    let most = (100 * MOST_UPDATES).checked_div(updates).map_or(u64::MAX, |most| most - TRIAL);
-    let calls = calls_in_round(trial).min(most);
+    let calls = calls_in_round(trial);
     let idle = proved_time(&mut proved, load.reads, 0);
     let time = proved_time(&mut proved, load.reads, calls).saturating_sub(idle);
     proved.end();
