@@ -137,7 +137,7 @@ impl<V: Shelved> Shelf<V> {
             if let Some(held) = self.try_take(seat, place) {
                 return held;
             }
-            self.wait(rt, place);
+            wait_for(rt, &self.table.shared, place);
         }
         unreachable!()
     }
@@ -158,9 +158,12 @@ impl<V: Shelved> Shelf<V> {
         Some(Held { value, place })
     }
 
-    /// Waits until nobody holds the place. Nothing is known then: another session may take it at once.
-    pub fn wait<R: Wait>(&self, rt: &R, place: usize)
-        requires { place < self.now.places }
+    /// Waits until nobody holds the place. Nothing is known then: another session may take it at once. Who waits, with this seat, holds no
+    /// place itself, so no ring of sessions can wait here for one another.
+    pub fn wait<R: Wait>(&self, rt: &R, seat: &Seat<V>, place: usize)
+        requires own { seat.now.shelf ≡ self.now.id }
+        requires there { place < self.now.places }
+        requires idle { HoldsNone seat.now.sessions }
     {
         wait_for(rt, &self.table.shared, place);
     }

@@ -16,7 +16,9 @@ pub mod Visiting
 pub mod Combined
 pub mod Whole
 pub mod Stretches
+pub mod MakingRoom
 pub mod Tried
+pub mod Waiting
 pub mod Ready
 pub mod Looked
 pub mod Numbered

@@ -70,7 +70,7 @@ fn append_and_replay<R: Wait>(
     for _ in rt.forever() {
         match try_combine(here, seat, batch, replies) {
             Ok(()) => return,
-            Err(place) => here.shared.shelf.wait(rt, place),
+            Err(place) => here.shared.shelf.wait(rt, seat, place),
         }
     }
     unreachable!()
@@ -144,7 +144,7 @@ fn hand_over<R: Wait>(
         }
         here.shared
             .shelf
-            .wait(rt, 1 + here.shared.nodes + here.caller.node);
+            .wait(rt, seat, 1 + here.shared.nodes + here.caller.node);
     }
     unreachable!()
 }

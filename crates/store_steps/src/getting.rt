@@ -142,7 +142,7 @@ pub fn get_waiting<R: Wait>(
     for _ in rt.forever() {
         match try_get(here, seat, of, value) {
             Ok(found) => return found,
-            Err(place) => here.shared.shelf.wait(rt, place),
+            Err(place) => here.shared.shelf.wait(rt, seat, place),
         }
     }
     unreachable!()

@@ -109,7 +109,7 @@ pub fn read_each_waiting<R: Wait>(
     for _ in rt.forever() {
         match try_read_each(here, seat, questions, replies) {
             Ok(point) => return point,
-            Err(place) => here.shared.shelf.wait(rt, place),
+            Err(place) => here.shared.shelf.wait(rt, seat, place),
         }
     }
     unreachable!()

@@ -57,7 +57,7 @@ pub fn post<R: Wait>(rt: &R, here: Here<'_>, seat: &mut Seat<Value>, op: Op)
         }
         here.shared
             .shelf
-            .wait(rt, 1 + here.shared.nodes + here.caller.node);
+            .wait(rt, seat, 1 + here.shared.nodes + here.caller.node);
     }
     unreachable!()
 }
@@ -98,7 +98,7 @@ fn turn<R: Wait>(rt: &R, here: Here<'_>, seat: &mut Seat<Value>, batch: &mut Bat
         }
         here.shared
             .shelf
-            .wait(rt, 1 + here.shared.nodes + here.caller.node);
+            .wait(rt, seat, 1 + here.shared.nodes + here.caller.node);
     }
     unreachable!()
 }

@@ -143,7 +143,7 @@ pub fn scan_waiting<R: Wait>(
     for _ in rt.forever() {
         match try_scan(here, seat, begin, keys, values) {
             Ok(scan) => return scan,
-            Err(place) => here.shared.shelf.wait(rt, place),
+            Err(place) => here.shared.shelf.wait(rt, seat, place),
         }
     }
     unreachable!()

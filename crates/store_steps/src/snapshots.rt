@@ -68,7 +68,7 @@ pub fn snapshot_waiting<R: Wait>(
     for _ in rt.forever() {
         match try_snapshot(here, seat, into) {
             Ok(point) => return point,
-            Err(place) => here.shared.shelf.wait(rt, place),
+            Err(place) => here.shared.shelf.wait(rt, seat, place),
         }
     }
     unreachable!()

@@ -448,7 +448,7 @@ pub fn query<R: Wait>(
     for _ in rt.forever() {
         match try_query(here, seat, question) {
             Ok(answer) => return answer,
-            Err(place) => here.shared.shelf.wait(rt, place),
+            Err(place) => here.shared.shelf.wait(rt, seat, place),
         }
     }
     unreachable!()

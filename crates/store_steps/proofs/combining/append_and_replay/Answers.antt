@@ -3,7 +3,14 @@ use Rattle.ownlock.proofs.Seats.{one_known}
 use Rattle.store_steps.specs.Standing.{IsFree}
 use Rattle.store_steps.proofs.Taken.{free_on, shelf_on}
 use Rattle.store_steps.proofs.Tried.{answered_since, answers_since, claimed_still, still_self, still_then}
+use Rattle.store_steps.proofs.Waiting.{still_holds_none}
 use Rattle.store_steps.proofs.combining.append_and_replay.Goals as goal
+
+pub wait-requires-clause-idle : goal.wait-requires-clause-idle
+wait-requires-clause-idle g c = let i = c.requires.claimed in still_holds_none c.args.seat.now c.loop.seat c.try_combine.new.seat i.0 i.1 c.loop.invariant.1 c.in-Err.ensures.stays
+
+pub wait-requires-clause-own : goal.wait-requires-clause-own
+wait-requires-clause-own g c = c.try_combine.ensures.same ∙ (c.loop.invariant.0 ∙ c.requires.own)
 
 pub loop-init : goal.loop-init
 loop-init g c = (

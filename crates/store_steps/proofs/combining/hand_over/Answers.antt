@@ -2,6 +2,7 @@ use Rattle.std.proofs.Common.{ap, subst, sym, ◌∙◌}
 use Rattle.node.specs.Answering.{answered_batch}
 use Rattle.store_steps.specs.AtDesk.{IsReady}
 use Rattle.store_steps.specs.Whole.{HandsOverAnywhere}
+use Rattle.store_steps.proofs.Waiting.{one_holds_none}
 use Rattle.store_steps.proofs.combining.hand_over.Goals as goal
 
 pub try_hand_over-requires-clause-own : goal.try_hand_over-requires-clause-own
@@ -27,3 +28,9 @@ returns-in-Some-try_hand_over-clause-handed g c k after is now =
 
 pub loop-preserved : goal.loop-preserved
 loop-preserved g c = (c.in_default.ensures.stays.0 ∙ c.loop.invariant.0, c.in_default.ensures.stays.1 ∙ c.loop.invariant.1)
+
+pub wait-requires-clause-own : goal.wait-requires-clause-own
+wait-requires-clause-own g c = c.try_hand_over.ensures.same ∙ (ap (λ s. s.shelf) c.loop.invariant.0 ∙ c.requires.own)
+
+pub wait-requires-clause-idle : goal.wait-requires-clause-idle
+wait-requires-clause-idle g c = let i = c.requires.ready in one_holds_none c.try_hand_over.new.seat i.0 (ap (λ s. s.sessions) (c.in_default.ensures.stays.0 ∙ c.loop.invariant.0) ∙ i.1) i.2.0.held

@@ -3,6 +3,7 @@ use Rattle.ownlock.proofs.Seats.{one_known}
 use Rattle.store_steps.specs.Standing.{IsFree}
 use Rattle.store_steps.proofs.Taken.{free_on, shelf_on}
 use Rattle.store_steps.proofs.Tried.{each_goes_since, each_since, still_self, still_then}
+use Rattle.store_steps.proofs.Waiting.{still_holds_none}
 use Rattle.store_steps.proofs.questions.read_each_waiting.Goals as goal
 
 pub loop-init : goal.loop-init
@@ -42,3 +43,9 @@ loop-preserved g c = (
       (t.0, t.1, still_then k m.0 t.0 m.2 t.2),
   c.in-Err.ensures.kept ∙ c.loop.invariant.2,
 )
+
+pub wait-requires-clause-own : goal.wait-requires-clause-own
+wait-requires-clause-own g c = c.try_read_each.ensures.same ∙ (c.loop.invariant.0 ∙ c.requires.own)
+
+pub wait-requires-clause-idle : goal.wait-requires-clause-idle
+wait-requires-clause-idle g c = let i = c.requires.idle in still_holds_none c.args.seat.now c.loop.seat c.try_read_each.new.seat i.0 i.1 c.loop.invariant.1 c.in-Err.ensures.stays

@@ -1,4 +1,5 @@
 use Rattle.std.proofs.Common.{ap, ◌∙◌}
+use Rattle.store_steps.proofs.Waiting.{one_holds_none}
 use Rattle.store_steps.proofs.requests.post.Goals as goal
 
 pub try_post-requires-clause-own : goal.try_post-requires-clause-own
@@ -20,3 +21,9 @@ loop-preserved g c = c.in_default.ensures.stays ∙ c.loop.invariant
 
 pub returns-in-Some-try_post-clause-goes : goal.returns-in-Some-try_post-clause-goes
 returns-in-Some-try_post-clause-goes g c k after is now = c.in-Some-try_post.ensures.goes k after (ap (λ s. s.sessions) c.loop.invariant ∙ is) now
+
+pub wait-requires-clause-own : goal.wait-requires-clause-own
+wait-requires-clause-own g c = c.try_post.ensures.same ∙ (ap (λ s. s.shelf) c.loop.invariant ∙ c.requires.own)
+
+pub wait-requires-clause-idle : goal.wait-requires-clause-idle
+wait-requires-clause-idle g c = let i = c.requires.idle in one_holds_none c.try_post.new.seat i.0 (ap (λ s. s.sessions) (c.in_default.ensures.stays ∙ c.loop.invariant) ∙ i.1) i.2.held

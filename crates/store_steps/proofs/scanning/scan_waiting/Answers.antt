@@ -5,6 +5,7 @@ use Rattle.store_steps.specs.Scanning.{IsScannedBy}
 use Rattle.store_steps.specs.Standing.{IsFree}
 use Rattle.store_steps.proofs.Taken.{free_on, shelf_on}
 use Rattle.store_steps.proofs.Tried.{scan_goes_since, scanned_since, still_self, still_then}
+use Rattle.store_steps.proofs.Waiting.{still_holds_none}
 use Rattle.store_steps.proofs.scanning.scan_waiting.Goals as goal
 
 pub loop-init : goal.loop-init
@@ -53,3 +54,9 @@ loop-preserved g c = (
   c.in-Err.ensures.kept.0 ∙ c.loop.invariant.2,
   c.in-Err.ensures.kept.1 ∙ c.loop.invariant.3,
 )
+
+pub wait-requires-clause-own : goal.wait-requires-clause-own
+wait-requires-clause-own g c = c.try_scan.ensures.same ∙ (c.loop.invariant.0 ∙ c.requires.own)
+
+pub wait-requires-clause-idle : goal.wait-requires-clause-idle
+wait-requires-clause-idle g c = let i = c.requires.idle in still_holds_none c.args.seat.now c.loop.seat c.try_scan.new.seat i.0 i.1 c.loop.invariant.1 c.in-Err.ensures.stays

@@ -4,6 +4,7 @@ use Rattle.store_steps.specs.Views.{op_of}
 use Rattle.store_steps.specs.Standing.{IsFree}
 use Rattle.store_steps.proofs.Taken.{free_on, shelf_on}
 use Rattle.store_steps.proofs.Tried.{read_since, reads_since, still_self, still_then}
+use Rattle.store_steps.proofs.Waiting.{still_holds_none}
 use Rattle.store_steps.proofs.steps.query.Goals as goal
 
 pub loop-init : goal.loop-init
@@ -41,3 +42,9 @@ loop-preserved g c = (
       let t = c.in-Err.ensures.stays m.0 m.1 in
       (t.0, t.1, still_then k m.0 t.0 m.2 t.2),
 )
+
+pub wait-requires-clause-own : goal.wait-requires-clause-own
+wait-requires-clause-own g c = c.try_query.ensures.same ∙ (c.loop.invariant.0 ∙ c.requires.own)
+
+pub wait-requires-clause-idle : goal.wait-requires-clause-idle
+wait-requires-clause-idle g c = let i = c.requires.idle in still_holds_none c.args.seat.now c.loop.seat c.try_query.new.seat i.0 i.1 c.loop.invariant.1 c.in-Err.ensures.stays
