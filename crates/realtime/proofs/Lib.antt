@@ -12,3 +12,13 @@ pub mod InOtherWords
 pub mod Answered
 -- where the calls of a transcript stand
 pub mod Standings
+-- what the lines of a good transcript tell
+pub mod Agreeing
+-- one list of their operations
+pub mod OneList
+-- the trace of the calls
+pub mod Events
+-- the list explains the trace
+pub mod Explaining
+-- what is answered `good` is linearizable
+pub mod Linearizing

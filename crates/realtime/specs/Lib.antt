@@ -10,6 +10,8 @@ pub mod RealTime
 pub mod TimedAnswer
 -- what these say, in other words
 pub mod Laws
+-- what a good history of a good transcript shows
+pub mod Linearizable
 -- ---- what clauses of private functions alone cite
 
 -- what is kept while a history is judged

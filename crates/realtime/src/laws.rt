@@ -3,6 +3,7 @@
 ghost use Rattle.std.specs.Prelude.{◌≡◌};
 ghost use Rattle.realtime.specs.declared.histories.TheConstants.{SESSIONS};
 ghost use Rattle.realtime.specs.Laws.{LinesAreCalls, TurnsAreTaken, PlacesAreReal, MisplacedIsShown, GoodIsReal, DiffersIsShown};
+ghost use Rattle.realtime.specs.Linearizable.{GoodIsLinearizable};
 
 /// The limit that the definitions cite, as a number.
 pub fn limits()
@@ -32,4 +33,13 @@ pub fn places_are_real()
 pub fn good_is_real()
     ensures good { GoodIsReal }
     ensures differs { DiffersIsShown }
+{}
+
+/// What is answered `good` is linearizable, in the words in which every schedule is. The lines of the history are the calls of the transcript,
+/// and there is a trace that has each call at the number where it began, the answer that the transcript tells at the number where it was back,
+/// and no other event. One list of operations, the transcript's own in its order, explains that trace: each call took its effect at one index of
+/// the list, between the call and its answer. Sessions are known by their numbers, as there. The transcript doesn't tell the limit of its
+/// history: where a call was told of the end, it is to be the number of its operations.
+pub fn good_is_linearizable()
+    ensures linearizable { GoodIsLinearizable }
 {}

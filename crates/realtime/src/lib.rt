@@ -10,4 +10,6 @@ mod turns;
 
 pub use command::ReplayTimed;
 pub use histories::SESSIONS;
-pub use laws::{good_is_real, limits, lines_are_calls, places_are_real, turns_are_taken};
+pub use laws::{
+    good_is_linearizable, good_is_real, limits, lines_are_calls, places_are_real, turns_are_taken,
+};
