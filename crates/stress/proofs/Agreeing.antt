@@ -1,27 +1,25 @@
 -- The calls of a transcript agree, one after the other.
-use Rattle.std.proofs.Common.{◌≡◌, ◌∙◌, ℕ, zero, suc, ◌+◌, ◌<◌, ◌≤◌, Bool, true, false, eqb, ltb, ◌&&◌, List, [], ◌∷◌, ◌++◌, map, length, take, get_or, Option, Some, None, refl, sym, ap, ap₂, subst, arith}
+use Rattle.std.proofs.Common.{◌≡◌, ◌∙◌, ℕ, zero, suc, ◌<◌, ◌≤◌, Bool, true, false, eqb, ltb, ◌&&◌, List, [], ◌∷◌, ◌++◌, map, length, take, get_or, Option, Some, None, refl, sym, ap, ap₂, subst, arith}
 use Rattle.std.specs.Prelude.{option_map, if◌then◌else◌}
 use Rattle.std.specs.List.{All}
 use Rattle.std.proofs.lemmas.Bool.{eq-eqb, lt-ltb}
 use Rattle.std.proofs.lemmas.List.{length-append}
 use Rattle.std.proofs.lemmas.List.Elements.{All-head, All-tail}
-use Rattle.verifier.specs.declared.refusal.Mode.TheVariants.{Update, Read}
 use mathlib.Core.Option.{some-injective}
 use Rattle.ownlock.specs.Seats.{At}
 use Rattle.accounts.proofs.Lists.{at_below, at_none}
 use Rattle.loader.specs.CatalogueView.{CatalogueView, opening_state}
 use Rattle.loader.specs.StoreState.{StoreState}
 use Rattle.oplog.specs.declared.configuration.TheConstants.{MAX_LIMIT}
-use Rattle.oplog.specs.Limits.{IsConfig}
 use Rattle.oplog.specs.Operations.{Operation}
 use Rattle.oplog.specs.declared.records.Record.{Record}
 use Rattle.oplog.specs.History.{Effect, ReadEffect, History, left_by, after, state_after, reply_at, read_reply_at}
 use Rattle.replica.specs.StoreMeaning.{store_meaning}
 use Rattle.running.specs.RunAnswer.{with_operation}
-use Rattle.replaying.specs.ReplayAnswer.{Replayed, LineOutcome, Agrees, Differs, compared, is_reply, next_count, nothing_replayed, read_agrees, update_agrees, with_update}
+use Rattle.replaying.specs.ReplayAnswer.{Replayed, Agrees, Differs, is_reply, next_count, nothing_replayed, read_agrees, update_agrees, with_update}
 use Rattle.running.proofs.Turns.{whole}
 use Rattle.stress.specs.Lines.{Said, Updated, Seen, Ended, ToldCall}
-use Rattle.stress.specs.OneHistory.{Holds, IsOfOneHistory, IsSo}
+use Rattle.stress.specs.OneHistory.{Holds, IsSo}
 use Rattle.stress.specs.Replayed.{Agree, TranscriptsAgree, told_outcome}
 use Rattle.stress.proofs.Places.{StandFrom, Stands, Within, in_places, next_place}
 

@@ -16,3 +16,11 @@ pub mod Turns
 pub mod GivenBack
 pub mod Places
 pub mod Agreeing
+mod Programs
+mod Printed
+mod Fit
+mod Replies
+mod ReadBack
+mod GoodLines
+mod Good
+pub mod Found

@@ -13,6 +13,6 @@ mod watching;
 
 pub use command::{Trial, stress};
 pub use gate::{Gate, OpenGate};
-pub use laws::transcripts_agree;
+pub use laws::{transcripts_agree, transcripts_are_good};
 pub use runs::{Stressed, stress_on};
 pub use watching::{Counts, Watch};

@@ -1,0 +1,86 @@
+-- What the programs of a manifest are called by, and how each is found by its name.
+use Rattle.std.proofs.Common.{◌≡◌, ◌∙◌, ℕ, zero, suc, ◌+◌, Bool, true, false, List, [], ◌∷◌, ◌++◌, map, bytes_eq, slice_get, Some, Ok, ap, subst, arith}
+use Rattle.std.specs.Prelude.{filter, if◌then◌else◌}
+use Rattle.std.specs.List.{AllByRecursion, AllZip, IsDistinct, position_from}
+use Rattle.std.proofs.lemmas.Option.{same_Some}
+use Rattle.std.proofs.lemmas.Slice.Eq.{bytes_eq-Decides}
+use Rattle.maps.specs.declared.shapes.Shape.{Shape}
+use Rattle.text.specs.Lines.{lines_of}
+use Rattle.text.specs.Words.{is_name}
+use Rattle.loader.specs.CatalogueView.{CatalogueView, Entry, names_of, number_named}
+use Rattle.loader.specs.Grammar.{ProgramLine, Meaning, Comment, Map, Program, line_meaning}
+use Rattle.loader.specs.Loading.{loaded}
+use Rattle.loader.specs.Offers.{IsEntryFor, says_something}
+use Rattle.loader.specs.ProgramFiles.{Files}
+use Rattle.loader.proofs.Outcomes.{loaded_is_offered}
+use Rattle.loader.proofs.Spelled.{spelled}
+
+-- ---- names
+
+-- a program of a manifest has a name
+abbrev IsNamed : Meaning → Type 0
+IsNamed Comment = Unit {0}
+IsNamed (Map shape) = Unit {0}
+IsNamed (Program p) = is_name p.name ≡ true
+
+one_named : (line : List ℕ) (m : Meaning) → line_meaning line ≡ Some m → IsNamed m
+one_named line Comment e = tt
+one_named line (Map shape) e = tt
+one_named line (Program p) e = let s = spelled line (Program p) e in s.1.1
+
+all_named : (ls : List (List ℕ)) (ms : List Meaning) → map line_meaning ls ≡ map Some ms → AllByRecursion IsNamed ms
+all_named ls [] e = tt
+all_named [] (m ∷ ms) e = absurd cc
+all_named (l ∷ ls) (m ∷ ms) e =
+    let first : line_meaning l ≡ Some m = cc in
+    let rest : map line_meaning ls ≡ map Some ms = cc in
+    (one_named l m first, all_named ls ms rest)
+
+among : (ms : List Meaning) → AllByRecursion IsNamed ms → AllByRecursion IsNamed (filter says_something ms)
+among [] h = tt
+among (m ∷ ms) h = by (says_something m) (among ms h.1)
+  where
+    by : (b : Bool) → AllByRecursion IsNamed (filter says_something ms) → AllByRecursion IsNamed (if b then m ∷ filter says_something ms else filter says_something ms)
+    by true rest = (h.0, rest)
+    by false rest = rest
+
+behind_maps : (shapes : List Shape) (ps : List ProgramLine) → AllByRecursion IsNamed (map Map shapes ++ map Program ps) → AllByRecursion IsNamed (map Program ps)
+behind_maps [] ps h = h
+behind_maps (s ∷ shapes) ps h = behind_maps shapes ps h.1
+
+of_entry : (files : Files) (shapes : List Shape) (ps : List ProgramLine) (es : List Entry) (k : ℕ) (e : Entry) → AllByRecursion IsNamed (map Program ps) → AllZip (IsEntryFor files shapes) ps es → slice_get es k ≡ Some e
+    → is_name e.name ≡ true
+of_entry files shapes ps [] k e named each is = absurd cc
+of_entry files shapes [] (x ∷ es) k e named each is = absurd each
+of_entry files shapes (p ∷ ps) (x ∷ es) zero e named each is = subst (λ (y : Entry). is_name y.name ≡ true) (same_Some x e is) (ap is_name each.0.name ∙ named.0)
+of_entry files shapes (p ∷ ps) (x ∷ es) (suc k) e named each is = of_entry files shapes ps es k e named.1 each.1 is
+
+-- each program of a loaded manifest has a name
+pub has_name : (manifest : List ℕ) (files : Files) (c : CatalogueView) (k : ℕ) (e : Entry) → loaded manifest files ≡ Ok c → slice_get c.programs k ≡ Some e → is_name e.name ≡ true
+has_name manifest files c k e is at =
+    let o = ((loaded_is_offered manifest files c).0 is).0 in
+    let all = subst (AllByRecursion IsNamed) o.in_order (among o.meanings (all_named (lines_of manifest) o.meanings o.each)) in
+    of_entry files c.shapes o.programs c.programs k e (behind_maps c.shapes o.programs all) o.checked at
+
+-- ---- numbers
+
+at_each : (P : List ℕ → Type 0) (es : List Entry) (k : ℕ) (e : Entry) → AllByRecursion P (names_of es) → slice_get es k ≡ Some e → P e.name
+at_each P [] k e all is = absurd cc
+at_each P (x ∷ es) zero e all is = subst (λ (y : Entry). P y.name) (same_Some x e is) all.0
+at_each P (x ∷ es) (suc k) e all is = at_each P es k e all.1 is
+
+number_from : (es : List Entry) (i k : ℕ) (e : Entry) → IsDistinct bytes_eq (names_of es) → slice_get es k ≡ Some e → position_from (λ (x : Entry). bytes_eq x.name e.name) i es ≡ Some (i + k)
+unfolding IsDistinct
+number_from [] i k e apart is = absurd cc
+number_from (x ∷ es) i zero e apart is =
+    let here : bytes_eq x.name e.name ≡ true = (bytes_eq-Decides x.name e.name).1 (ap (λ (y : Entry). y.name) (same_Some x e is)) in
+    let place : i ≡ i + 0 = omega arith in
+    rw here (ap Some place)
+number_from (x ∷ es) i (suc k) e apart is =
+    let other : bytes_eq x.name e.name ≡ false = at_each (λ n. bytes_eq x.name n ≡ false) es k e apart.0 is in
+    let place : i + 1 + k ≡ i + suc k = omega arith in
+    rw other (number_from es (i + 1) k e apart.1 is ∙ ap Some place)
+
+-- of distinct names each is that of one number
+pub number_is : (es : List Entry) (k : ℕ) (e : Entry) → IsDistinct bytes_eq (names_of es) → slice_get es k ≡ Some e → number_named es e.name ≡ Some k
+number_is es k e apart is = number_from es 0 k e apart is ∙ ap Some (let place : 0 + k ≡ k = omega arith in place)
