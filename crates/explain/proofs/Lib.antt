@@ -1,3 +1,8 @@
 -- Texts put together, and the lines of a listing.
 pub mod Pieces
+pub mod Texts
+pub mod MapLines
+pub mod Judged
+pub mod Manifests
+pub mod FirstFault
 pub mod Lines

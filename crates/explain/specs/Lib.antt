@@ -3,3 +3,5 @@ pub mod Told
 pub mod Listing
 pub mod Assembly
 pub mod Manifest
+pub mod FirstFault
+pub mod Explanation

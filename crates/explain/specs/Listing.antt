@@ -5,6 +5,7 @@ use Rattle.insn.specs.declared.instruction.Form.{Form}
 use Rattle.insn.specs.declared.instruction.TheConstants.{MAX_SLOTS}
 use Rattle.insn.specs.Layout.{slot_count, size}
 use Rattle.asm.specs.Text.{line_text}
+use Rattle.maps.specs.declared.shapes.Shape.{Shape}
 use Rattle.maps.specs.Shapes.{AreShapesOk}
 use Rattle.maps.specs.declared.shapes.TheConstants.{MAX_ARG_LEN}
 use Rattle.verifier.specs.declared.refusal.Refused.{Refused}
@@ -95,6 +96,11 @@ pub record Tells (p : List Form) (verdict : Option Refused) (text : List ℕ) : 
   pub refuses : IsReason verdict reason
   pub whole : text ≡ listing ++ reason
 
+-- what is told of the program of the line with this number, for these maps: which one it is, and this of it
+abbrev pub TellsOf : ℕ → ProgramLine → List Shape → List Form → List ℕ → Type 0
+TellsOf n p shapes program text =
+    (told : List ℕ) × (text ≡ head_text n p ++ told) × Tells program (verdict program (signature shapes p.arg_len p.mode)) told
+
 -- the verdict on a program
 abbrev pub verdict_on : Subject → Option Refused
 verdict_on s = verdict s.program.now (signature s.shapes.now s.arg_len s.mode)
@@ -105,6 +111,6 @@ pub record CanBeJudged (s : Subject) : Type 0 where
   pub argument : s.arg_len ≤ MAX_ARG_LEN
   pub few : size s.program.now ≤ MAX_SLOTS
 
--- what is told of a program: which one it is, and this of it
+-- what is told of a program
 abbrev pub Explains : Subject → List ℕ → Type 0
-Explains s text = (told : List ℕ) × (text ≡ head_text s.line (line_of s) ++ told) × Tells s.program.now (verdict_on s) told
+Explains s text = TellsOf s.line (line_of s) s.shapes.now s.program.now text

@@ -1,6 +1,15 @@
--- What what is told begins with.
-use Rattle.std.specs.Prelude.{◌≡◌, ℕ, List, ◌++◌}
+-- What what is told begins with, and where it stands.
+use Rattle.std.specs.Prelude.{◌≡◌, ℕ, Bool, true, false, List, [], ◌++◌}
 
 -- it begins with these words
 abbrev pub BeginsWith : List ℕ → List ℕ → Type 0
 BeginsWith words told = (more : List ℕ) × (told ≡ words ++ more)
+
+-- it begins with these words where that is so, and else it is nothing
+abbrev pub BeginsIf : Bool → List ℕ → List ℕ → Type 0
+BeginsIf true words told = BeginsWith words told
+BeginsIf false words told = told ≡ []
+
+-- a text that is so stands behind what stood there
+abbrev pub Adds : (List ℕ → Type 0) → List ℕ → List ℕ → Type 0
+Adds IsSo old new = (text : List ℕ) × (new ≡ old ++ text) × IsSo text

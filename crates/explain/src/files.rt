@@ -1,6 +1,10 @@
 // Files as their authors wrote them: manifests line by line, the files that these name, and assembler text.
 
+ghost use Rattle.std.specs.Prelude.{◌≡◌, option_map};
+ghost use Rattle.loader.specs.ProgramFiles.{file_named, files_of};
+
 mod assembly;
+mod faults;
 mod graph;
 mod lines;
 mod manifest;
@@ -18,7 +22,9 @@ pub use strangers::explain_stranger;
 const TO_DO: &str = " To do: ";
 
 // The text of the first file of this name.
-fn text_of<'a>(files: &[(&'a str, &'a str)], name: &str) -> Option<&'a str> {
+fn text_of<'a>(files: &[(&'a str, &'a str)], name: &str) -> Option<&'a str>
+    ensures { option_map (λ t. t.now) result ≡ file_named (files_of files.now) name.now }
+{
     for file in files {
         if file.0 == name {
             return Some(file.1);

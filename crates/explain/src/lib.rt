@@ -4,9 +4,11 @@
 #![tactic(auto)]
 
 mod files;
+mod laws;
 mod programs;
 mod refusals;
 mod sentences;
 
 pub use files::{explain_assembly, explain_manifest, explain_stranger, graph_manifest};
+pub use laws::refusal_is_told;
 pub use programs::{Subject, explain_program};

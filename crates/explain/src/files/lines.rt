@@ -1,7 +1,7 @@
-// Why a line is none of a manifest, in words.
+// Why a line is none of a manifest, and maps are none of a store, in words.
 
-use crate::sentences::{Told, Word, four, none, one, say_that, two};
-use maps::{MAX_ARG_LEN, MAX_ENTRIES, MAX_KEY_BYTES, MAX_VALUE_BYTES};
+use crate::sentences::{Told, Word, four, none, one, say, say_that, two};
+use maps::{MAX_ARG_LEN, MAX_ENTRIES, MAX_KEY_BYTES, MAX_VALUE_BYTES, Shape, ShapeFault};
 use std::alloc::{AllocError, Global};
 use text::{LINE_BYTES, is_name, number, number_within};
 
@@ -119,4 +119,34 @@ pub(crate) fn wrong_line(alloc: Global, line: &str) -> Result<Told<'_>, AllocErr
     }
     let words: Vec<&str> = line.split(' ').collect(alloc)?;
     Ok(wrong_words(&words))
+}
+
+// Why there are too many maps, or too large ones.
+pub(crate) fn too_many<'a>(why: ShapeFault, shapes: &[Shape]) -> Told<'a> {
+    let count = Word::Count(shapes.len());
+    if why != ShapeFault::TooManyBytes {
+        return say(
+            "This is map {0}, of at most 16.",
+            "leave one out.",
+            one(count),
+        );
+    }
+    let mut bytes = 0u64;
+    for shape in shapes {
+        bytes = bytes.saturating_add(room_of(*shape));
+    }
+    say(
+        "The maps with this one take {0} bytes, of at most 16777216.",
+        "make them smaller.",
+        one(Word::Field(bytes)),
+    )
+}
+
+// How many bytes a map takes.
+fn room_of(shape: Shape) -> u64 {
+    let each = match shape {
+        Shape::Array { value, .. } => u64::from(value),
+        Shape::Hash { key, value, .. } => u64::from(key).saturating_add(u64::from(value)),
+    };
+    each.saturating_mul(shape.entry_count() as u64)
 }

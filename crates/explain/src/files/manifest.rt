@@ -1,20 +1,36 @@
 // A manifest, line by line: what is known of each program, and what is wrong with each other line that is bad.
 
-ghost use Rattle.std.specs.Prelude.{◌≡◌, Some, false, IfOk, IfSome};
+ghost use Rattle.std.specs.Prelude.{◌≡◌, ◌≤◌, ◌&&◌, ℕ, List, if◌then◌else◌, not, nat_eq, length, codes, option_map, is_some, is_none, Some, None, false, true, IfOk, OnOk, IfSome};
+ghost use Rattle.std.specs.List.{starts_with};
+ghost use Rattle.std.specs.Option.{option_or};
 ghost use Rattle.std.specs.String.{string_bytes};
-ghost use Rattle.loader.specs.Grammar.{line_meaning};
-ghost use Rattle.explain.specs.Manifest.{has_program, is_asked, no_program};
+ghost use Rattle.insn.specs.declared.instruction.TheConstants.{MAX_SLOTS};
+ghost use Rattle.insn.specs.Decoded.{decoded, DecodeFails};
+ghost use Rattle.insn.specs.Layout.{size};
+ghost use Rattle.maps.specs.Shapes.{IsShapeOk};
+ghost use Rattle.maps.specs.declared.shapes.TheConstants.{MAX_ARG_LEN};
+ghost use Rattle.loader.specs.declared.refusals.LoadFault.TheVariants.{BadLine, TooMany};
+ghost use Rattle.loader.specs.Grammar.{Map, Program, line_meaning};
+ghost use Rattle.loader.specs.LineShown.{meaning_of, program_of, LineFits};
+ghost use Rattle.loader.specs.ProgramFiles.{files_of, instructions_of};
+ghost use Rattle.loader.specs.Loading.{is_taken};
+ghost use Rattle.explain.specs.Explanation.{above_of, name_of, IsFault, IsWithin, Judges, TakesLine, TakesMap, TakesNext, TellsAsked, TellsFile};
+ghost use Rattle.explain.specs.Explanation.{TellsKnown, TellsProgram, TellsRead, Writes};
+ghost use Rattle.explain.specs.Manifest.{has_map, has_program, is_asked, is_beyond, is_misplaced, line_fault, no_program, program_of_text, so_far};
+ghost use Rattle.explain.specs.Manifest.{TellsOfAll, TellsOfManifest};
+ghost use Rattle.explain.specs.Told.{BeginsIf};
 
-use crate::files::lines::wrong_line;
-use crate::files::program_files::{bad_hex, why_no_program};
+use crate::files::faults::{put_fault, put_file_fault, refused_bytes};
+use crate::files::lines::{too_many, wrong_line};
+use crate::files::program_files::bad_hex;
 use crate::files::{TO_DO, text_of};
 use crate::programs::{Subject, explain_program};
-use crate::sentences::{Told, Word, Written, none, one, put, put_all, say, two};
-use insn::{DecodeError, DecodeRefusal, Insn, decode};
+use crate::sentences::{Told, Word, Written, none, one, put_all, say, say_that, two};
+use insn::{DecodeError, Insn, decode};
+use itoa::Buffer;
 use loader::{Line, ProgramLine, read_line};
-use maps::{Shape, ShapeFault, shapes_ok};
+use maps::{Shape, shapes_ok};
 use std::alloc::{AllocError, Global};
-use std::fmt::Write;
 use text::{NumberedLines, spaced_hex};
 
 // How many programs a manifest has at most.
@@ -37,8 +53,10 @@ struct Explanation<'a> {
 }
 
 impl<'a> Explanation<'a> {
-    // The line of the program of this name, if there is one.
-    fn line_of(&self, name: &str) -> Option<u32> {
+    // The line of the first program of this name, if there is one.
+    fn line_of(&self, name: &str) -> Option<u32>
+        ensures { is_some result ≡ is_taken (so_far (above_of self.now)).programs name.now }
+    {
         for (other, line) in &self.names {
             if *other == name {
                 return Some(*line);
@@ -48,82 +66,98 @@ impl<'a> Explanation<'a> {
     }
 
     // Whether a line of a map stands above, good or bad.
-    fn has_map(&self) -> bool {
+    fn has_map(&self) -> bool
+        ensures { result ≡ has_map (above_of self.now) }
+    {
         !self.shapes.is_empty() || self.bad_map.is_some()
     }
 
-    // Adds the head of what is said of the line.
-    fn put_fault(&self, out: &mut String, number: u8) -> Written {
-        let line = self.line;
-        write!(out, "\nline {line}: C{number}\n      ")
-    }
-
-    // Adds the head of what is said of the file of its program.
-    fn put_file_fault(&self, out: &mut String, number: u8, program: ProgramLine<'_>) -> Written {
-        let words = [
-            Word::Field(u64::from(self.line)),
-            Word::Small(number),
-            Word::Text(program.name),
-            Word::Text(program.file),
-        ];
-        put(out, "\nline {0}: C{1}, program {2}, {3}\n      ", &words)
-    }
-
     // Adds what is wrong with the line, if all are asked for.
-    fn put_wrong(&self, out: &mut String, number: u8, told: Told<'_>) -> Written {
+    fn put_wrong(&self, out: &mut String, number: u8, told: Told<'_>) -> Written
+        ensures { OnOk result (Writes (IsFault self.now number) out.old out.new) }
+    {
         if self.name.is_some() {
             return Ok(());
         }
-        self.put_fault(out, number)?;
-        told.put(out, TO_DO)
+        put_fault(out, self.line, number, told)
     }
 
-    // Notes that the line is that of a map which is bad.
-    fn note_bad_map(&mut self) {
-        if self.bad_map.is_none() {
+    // Notes that the line is bad, if it is that of a map.
+    fn note_bad_map(&mut self, is_map: bool)
+        ensures { self.new ≡ record self.old { bad_map = option_or self.old.bad_map (if is_map then Some self.old.line else None) } }
+    {
+        if is_map && self.bad_map.is_none() {
             self.bad_map = Some(self.line);
         }
     }
 
     // Adds what is wrong with a line that is none by itself.
-    fn put_bad_line(&mut self, out: &mut String, line: &str) -> Written {
-        if line.starts_with("map") {
-            self.note_bad_map();
-        }
+    fn put_bad_line(&mut self, out: &mut String, line: &str) -> Written
+        requires { IsWithin (above_of self.old) }
+        ensures { OnOk result (TakesNext line.now None self.old self.new out.old out.new) }
+    {
+        self.note_bad_map(is_of_map(line));
         let told = wrong_line(self.alloc, line)?;
         self.put_wrong(out, 1, told)
     }
 
-    // Takes the map of the line, or says what is wrong with it, and under which number.
-    fn take_map(&mut self, shape: Shape) -> Result<Option<(u8, Told<'a>)>, AllocError> {
-        if let Some((name, line)) = self.names.first() {
-            let told = say(
-                "A map stands behind program {0} of line {1}.",
-                "put the maps first.",
-                two(Word::Text(*name), Word::Field(u64::from(*line))),
-            );
-            return Ok(Some((1, told)));
-        }
+    // Takes the map of the line, above which no program stands, or says what is wrong with it, and under which number.
+    fn push_map(&mut self, shape: Shape) -> Result<Option<(u8, Told<'a>)>, AllocError>
+        requires within { IsWithin (above_of self.old) }
+        requires shape { IsShapeOk shape }
+        requires none { length self.old.names.items ≡ 0 }
+        ensures taken { IfOk result (λ o. TakesMap (above_of self.old) shape (above_of self.new) (option_map (λ w. w.0) o)) }
+        ensures same { IfOk result (λ _. self.new ≡ record self.old { shapes = self.new.shapes }) }
+    {
+        let count = self.shapes.as_slice().len();
         self.shapes.push(shape)?;
-        let Err(why) = shapes_ok(&self.shapes) else {
-            return Ok(None);
-        };
-        let told = too_many(why, &self.shapes);
-        let _ = self.shapes.pop();
-        Ok(Some((5, told)))
+        match shapes_ok(&self.shapes) {
+            Ok(()) => Ok(None),
+            Err(why) => {
+                let told = too_many(why, &self.shapes);
+                self.shapes.truncate(count);
+                Ok(Some((5, told)))
+            }
+        }
+    }
+
+    // The same of any map.
+    fn take_map(&mut self, shape: Shape) -> Result<Option<(u8, Told<'a>)>, AllocError>
+        requires within { IsWithin (above_of self.old) }
+        requires shape { IsShapeOk shape }
+        ensures taken { IfOk result (λ o. TakesMap (above_of self.old) shape (above_of self.new) (option_map (λ w. w.0) o)) }
+        ensures same { IfOk result (λ _. self.new ≡ record self.old { shapes = self.new.shapes }) }
+    {
+        match self.names.first() {
+            None => self.push_map(shape),
+            Some((name, line)) => {
+                let told = say(
+                    "A map stands behind program {0} of line {1}.",
+                    "put the maps first.",
+                    two(Word::Text(*name), Word::Field(u64::from(*line))),
+                );
+                Ok(Some((1, told)))
+            }
+        }
     }
 
     // Adds what is wrong with the map of the line, if something is.
-    fn put_map(&mut self, out: &mut String, shape: Shape) -> Written {
+    fn put_map(&mut self, out: &mut String, shape: Shape) -> Written
+        requires within { IsWithin (above_of self.old) }
+        requires shape { IsShapeOk shape }
+        ensures { (line : List ℕ) → OnOk result (TakesNext line (Some (Map shape)) self.old self.new out.old out.new) }
+    {
         let Some((number, told)) = self.take_map(shape)? else {
             return Ok(());
         };
-        self.note_bad_map();
+        self.note_bad_map(true);
         self.put_wrong(out, number, told)
     }
 
     // What is wrong with the place or the name of a program, if something is.
-    fn misplaced(&self, name: &'a str) -> Option<Told<'a>> {
+    fn misplaced(&self, name: &'a str) -> Option<Told<'a>>
+        ensures { is_some result ≡ is_misplaced (above_of self.now) name.now }
+    {
         if !self.has_map() {
             return Some(say(
                 "The program stands before any map.",
@@ -140,14 +174,47 @@ impl<'a> Explanation<'a> {
         ))
     }
 
+    // Adds that a program may not stand there, or has the name of another, if so it is.
+    fn put_misplaced(&self, out: &mut String, name: &'a str) -> Written
+        ensures { OnOk result (Writes (BeginsIf (is_misplaced (above_of self.now) name.now) (line_fault self.now.line BadLine)) out.old out.new) }
+    {
+        let Some(told) = self.misplaced(name) else {
+            return Ok(());
+        };
+        put_fault(out, self.line, 1, told)
+    }
+
+    // Adds that a program is one too many, if it is.
+    fn put_beyond(&self, out: &mut String) -> Written
+        ensures { OnOk result (Writes (BeginsIf (is_beyond (above_of self.now)) (line_fault self.now.line TooMany)) out.old out.new) }
+    {
+        if self.names.len() < MAX_PROGRAMS {
+            return Ok(());
+        }
+        let told = say_that("A manifest has at most 256 programs.", none());
+        put_fault(out, self.line, 5, told)
+    }
+
     // Adds what is known of a program.
-    fn put_judged(&self, out: &mut String, line: ProgramLine<'_>, program: &[Insn]) -> Written {
-        out.push_str("\n")?;
+    fn put_judged(&self, out: &mut String, line: ProgramLine<'_>, program: &[Insn]) -> Written
+        requires within { IsWithin (above_of self.now) }
+        requires map { has_map (above_of self.now) ≡ true }
+        requires argument { line.arg_len ≤ MAX_ARG_LEN }
+        requires few { size program.now ≤ MAX_SLOTS }
+        ensures { OnOk result (Writes (Judges self.now line.entry program.now) out.old out.new) }
+    {
         if let Some(map) = self.bad_map {
-            let (number, map) = (u64::from(self.line), u64::from(map));
-            let words = [Word::Field(number), Word::Text(line.name), Word::Field(map)];
-            let text = "line {0}: {1} isn't judged, since the map of line {2} is bad\n";
-            return put(out, text, &words);
+            let (mut number, mut bad) = (Buffer::new(), Buffer::new());
+            let pieces = [
+                "\nline ",
+                number.format(self.line),
+                ": ",
+                line.name,
+                " isn't judged, since the map of line ",
+                bad.format(map),
+                " is bad\n",
+            ];
+            return put_all(out, &pieces);
         }
         let subject = Subject {
             name: line.name,
@@ -159,120 +226,175 @@ impl<'a> Explanation<'a> {
             program,
         };
         let told = explain_program(self.alloc, subject)?;
-        out.push_str(told.as_str())
+        put_all(out, &["\n", told.as_str()])
+    }
+
+    // Adds what is known of the program that bytes spell, or why they spell none.
+    fn put_bytes(&self, out: &mut String, line: ProgramLine<'_>, bytes: &[u8]) -> Written
+        requires within { IsWithin (above_of self.now) }
+        requires map { has_map (above_of self.now) ≡ true }
+        requires argument { line.arg_len ≤ MAX_ARG_LEN }
+        ensures { OnOk result (Writes (TellsRead self.now line.entry (instructions_of bytes.now)) out.old out.new) }
+    {
+        match decode(self.alloc, bytes) {
+            Ok(program) => self.put_judged(out, line, &program),
+            Err(why) => self.put_undecoded(out, line, bytes, why),
+        }
     }
 
     // Adds why the bytes of a program's file are no program.
-    fn put_refused(&self, out: &mut String, bytes: &[u8], refusal: DecodeRefusal) -> Written {
-        let number = Word::Small(refusal.why.number());
-        let slot = Word::Field(u64::from(refusal.slot));
-        put(out, "D{0} at slot {1}.\n      ", &[number, slot])?;
-        why_no_program(bytes, refusal).put(out, TO_DO)
-    }
-
-    // Adds what is known of the program of the line, or what is wrong with its file.
-    fn put_program(&self, out: &mut String, line: ProgramLine<'_>) -> Written {
-        let Some(text) = text_of(self.files, line.file) else {
-            self.put_fault(out, 1)?;
-            let fix = "check the path, which is taken from the working folder.";
-            return say("There is no file {0}.", fix, one(Word::Text(line.file))).put(out, TO_DO);
-        };
-        let Some(bytes) = spaced_hex(self.alloc, text)? else {
-            self.put_file_fault(out, 2, line)?;
-            return bad_hex(self.alloc, text).put(out, TO_DO);
-        };
-        match decode(self.alloc, &bytes) {
-            Ok(program) => self.put_judged(out, line, &program),
-            Err(DecodeError::NoMemory) => Err(AllocError),
-            Err(DecodeError::Refused(refusal)) => {
-                self.put_file_fault(out, 3, line)?;
-                self.put_refused(out, &bytes, refusal)
+    fn put_undecoded(
+        &self,
+        out: &mut String,
+        line: ProgramLine<'_>,
+        bytes: &[u8],
+        why: DecodeError,
+    ) -> Written
+        requires { DecodeFails why (decoded bytes.now) }
+        ensures { OnOk result (Writes (TellsRead self.now line.entry (instructions_of bytes.now)) out.old out.new) }
+    {
+        match why {
+            DecodeError::NoMemory => Err(AllocError),
+            DecodeError::Refused(refusal) => {
+                let told = refused_bytes(self.alloc, bytes, refusal)?;
+                put_file_fault(out, self.line, 3, line, told.as_str())
             }
         }
     }
 
+    // Adds what is known of the program that the text of a file spells, or what is wrong with the text.
+    fn put_text(&self, out: &mut String, line: ProgramLine<'_>, text: &str) -> Written
+        requires within { IsWithin (above_of self.now) }
+        requires map { has_map (above_of self.now) ≡ true }
+        requires argument { line.arg_len ≤ MAX_ARG_LEN }
+        ensures { OnOk result (Writes (TellsRead self.now line.entry (program_of_text text.now)) out.old out.new) }
+    {
+        let bytes = spaced_hex(self.alloc, text)?;
+        match bytes {
+            Some(bytes) => self.put_bytes(out, line, &bytes),
+            None => {
+                let told = bad_hex(self.alloc, text).text(self.alloc, TO_DO)?;
+                put_file_fault(out, self.line, 2, line, told.as_str())
+            }
+        }
+    }
+
+    // Adds what is known of the program of the line, or what is wrong with its file.
+    fn put_program(&self, out: &mut String, line: ProgramLine<'_>) -> Written
+        requires within { IsWithin (above_of self.now) }
+        requires map { has_map (above_of self.now) ≡ true }
+        requires argument { line.arg_len ≤ MAX_ARG_LEN }
+        ensures { OnOk result (Writes (TellsFile self.now line.entry) out.old out.new) }
+    {
+        match text_of(self.files, line.file) {
+            Some(text) => self.put_text(out, line, text),
+            None => {
+                let fix = "check the path, which is taken from the working folder.";
+                let told = say("There is no file {0}.", fix, one(Word::Text(line.file)));
+                put_fault(out, self.line, 1, told)
+            }
+        }
+    }
+
+    // The same where a map stands above.
+    fn put_known(&self, out: &mut String, line: ProgramLine<'_>) -> Written
+        requires within { IsWithin (above_of self.now) }
+        requires argument { line.arg_len ≤ MAX_ARG_LEN }
+        ensures { OnOk result (Writes (TellsKnown self.now line.entry) out.old out.new) }
+    {
+        if !self.has_map() {
+            return Ok(());
+        }
+        self.put_program(out, line)
+    }
+
     // Adds what is to be said of the line of a program that is asked for.
-    fn put_asked(&self, out: &mut String, line: ProgramLine<'a>) -> Written {
-        if let Some(told) = self.misplaced(line.name) {
-            self.put_fault(out, 1)?;
-            told.put(out, TO_DO)?;
-        }
-        if self.names.len() >= MAX_PROGRAMS {
-            self.put_fault(out, 5)?;
-            out.push_str("A manifest has at most 256 programs.\n")?;
-        }
-        if self.has_map() {
-            self.put_program(out, line)?;
-        }
-        Ok(())
+    fn put_asked(&self, out: &mut String, line: ProgramLine<'a>) -> Written
+        requires within { IsWithin (above_of self.now) }
+        requires argument { line.arg_len ≤ MAX_ARG_LEN }
+        ensures { OnOk result (Writes (TellsProgram self.now line.entry) out.old out.new) }
+    {
+        self.put_misplaced(out, line.name)?;
+        self.put_beyond(out)?;
+        self.put_known(out, line)
     }
 
     // Whether the program of this name is asked for.
-    fn is_asked(&self, name: &str) -> bool {
+    fn is_asked(&self, line: ProgramLine<'_>) -> bool
+        ensures { result ≡ is_asked (name_of self.now) (Some (Program (program_of line.entry))) }
+    {
         match self.name {
-            Some(asked) => asked == name,
+            Some(asked) => line.name == asked,
             None => true,
         }
     }
 
+    // The same of the line of any program.
+    fn put_if_asked(&self, out: &mut String, line: ProgramLine<'a>) -> Written
+        requires within { IsWithin (above_of self.now) }
+        requires argument { line.arg_len ≤ MAX_ARG_LEN }
+        ensures { OnOk result (Writes (TellsAsked self.now line.entry) out.old out.new) }
+    {
+        if !self.is_asked(line) {
+            return Ok(());
+        }
+        self.put_asked(out, line)
+    }
+
+    // The same, and its name is taken from then on.
+    fn put_named(&mut self, out: &mut String, program: ProgramLine<'a>) -> Written
+        requires within { IsWithin (above_of self.old) }
+        requires argument { program.arg_len ≤ MAX_ARG_LEN }
+        ensures { (line : List ℕ) → OnOk result (TakesNext line (Some (Program (program_of program.entry))) self.old self.new out.old out.new) }
+    {
+        self.put_if_asked(out, program)?;
+        self.names.push((program.name, self.line))?;
+        Ok(())
+    }
+
+    // Adds what is to be said of a line with this meaning.
+    fn put_meaning(&mut self, out: &mut String, meaning: Line<'a>) -> Written
+        requires within { IsWithin (above_of self.old) }
+        requires fits { LineFits meaning }
+        ensures { (line : List ℕ) → OnOk result (TakesNext line (Some (meaning_of meaning.entry)) self.old self.new out.old out.new) }
+    {
+        match meaning {
+            Line::Comment => Ok(()),
+            Line::Map(shape) => self.put_map(out, shape),
+            Line::Program(program) => self.put_named(out, program),
+        }
+    }
+
     // Adds what is to be said of the next line, of this number: nothing of most.
-    fn put_line(&mut self, out: &mut String, number: u32, line: &'a str) -> Written {
+    fn put_line(&mut self, out: &mut String, number: u32, line: &'a str) -> Written
+        requires { IsWithin (above_of self.old) }
+        ensures { OnOk result (TakesLine number line.now (line_meaning line.now) self.old self.new (string_bytes out.old) (string_bytes out.new)) }
+    {
         self.line = number;
         match read_line(line) {
             None => self.put_bad_line(out, line),
-            Some(Line::Comment) => Ok(()),
-            Some(Line::Map(shape)) => self.put_map(out, shape),
-            Some(Line::Program(program)) => {
-                if self.is_asked(program.name) {
-                    self.put_asked(out, program)?;
-                }
-                self.names.push((program.name, number))?;
-                Ok(())
-            }
+            Some(meaning) => self.put_meaning(out, meaning),
         }
     }
 
     // Adds what is to be said behind the last line; the next one has this number.
-    fn put_end(&mut self, out: &mut String, number: u32) -> Written {
+    fn put_end(&self, out: &mut String, number: u32) -> Written
+        ensures { OnOk result (Writes (BeginsIf (is_none (name_of self.now) && not (has_map (above_of self.now))) (line_fault number BadLine)) out.old out.new) }
+    {
         if self.name.is_some() || self.has_map() {
             return Ok(());
         }
-        self.line = number;
-        self.put_fault(out, 1)?;
-        out.push_str(
-            "The manifest has no map. To do: begin it with a line `map array VALUE ENTRIES` or `map hash KEY VALUE ENTRIES`.\n",
-        )
+        let fix = "begin it with a line `map array VALUE ENTRIES` or `map hash KEY VALUE ENTRIES`.";
+        put_fault(out, number, 1, say("The manifest has no map.", fix, none()))
     }
 }
 
-// Why there are too many maps, or too large ones.
-fn too_many<'a>(why: ShapeFault, shapes: &[Shape]) -> Told<'a> {
-    let count = Word::Count(shapes.len());
-    if why != ShapeFault::TooManyBytes {
-        return say(
-            "This is map {0}, of at most 16.",
-            "leave one out.",
-            one(count),
-        );
-    }
-    let mut bytes = 0u64;
-    for shape in shapes {
-        bytes = bytes.saturating_add(room_of(*shape));
-    }
-    say(
-        "The maps with this one take {0} bytes, of at most 16777216.",
-        "make them smaller.",
-        one(Word::Field(bytes)),
-    )
-}
-
-// How many bytes a map takes.
-fn room_of(shape: Shape) -> u64 {
-    let each = match shape {
-        Shape::Array { value, .. } => u64::from(value),
-        Shape::Hash { key, value, .. } => u64::from(key).saturating_add(u64::from(value)),
-    };
-    each.saturating_mul(shape.entry_count() as u64)
+// Whether a line begins as that of a map.
+#[tactic(auto, using(std::proofs::lemmas::Str::Pattern::starts_text))]
+fn is_of_map(line: &str) -> bool
+    ensures { result ≡ starts_with nat_eq line.now (codes "map") }
+{
+    line.starts_with("map")
 }
 
 // Whether a line of a manifest is that of a program of this name.
@@ -319,6 +441,8 @@ pub fn explain_manifest(
     files: &[(&str, &str)],
     name: Option<&str>,
 ) -> Result<String, AllocError>
+    // Of each line that is bad first its fault, as the loader gives it, and of each program what `explain_program` tells.
+    ensures told { IfOk result (λ s. TellsOfManifest (files_of files.now) (option_map (λ n. n.now) name.entry) manifest.now (string_bytes s)) }
     // Where no line is that of a program of this name, it says so.
     ensures missing { IfSome name.entry (λ n. has_program n.now manifest.now ≡ false → IfOk result (λ s. string_bytes s ≡ no_program n.now)) }
 {
@@ -336,7 +460,9 @@ fn told(
     manifest: &str,
     files: &[(&str, &str)],
     name: Option<&str>,
-) -> Result<String, AllocError> {
+) -> Result<String, AllocError>
+    ensures { IfOk result (λ s. TellsOfAll (files_of files.now) (option_map (λ n. n.now) name.entry) manifest.now (string_bytes s)) }
+{
     let mut explanation = Explanation {
         alloc,
         files,

@@ -3,6 +3,7 @@
 
 use crate::sentences::Written;
 use crate::sentences::words::Word;
+use std::alloc::{AllocError, Global};
 
 // What stands in ten gaps at most, in order.
 type Words<'a> = [Word<'a>; 10];
@@ -85,6 +86,13 @@ pub(crate) fn put(out: &mut String, text: &str, words: &[Word<'_>]) -> Written {
 }
 
 impl Told<'_> {
+    // It as a text.
+    pub(crate) fn text(&self, alloc: Global, to_do: &str) -> Result<String, AllocError> {
+        let mut out = String::new(alloc);
+        self.put(&mut out, to_do)?;
+        Ok(out)
+    }
+
     // Adds it and ends the line; what to do stands behind this.
     pub(crate) fn put(&self, out: &mut String, to_do: &str) -> Written {
         put(out, self.head, &self.words)?;

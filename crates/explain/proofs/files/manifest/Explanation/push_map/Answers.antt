@@ -1,0 +1,25 @@
+use Rattle.std.proofs.Common.{◌≡◌, [], ◌∷◌, length, take, refl, subst, sym, ap, ◌∙◌}
+use Rattle.std.proofs.Math.Seq.{take-append_seam}
+use Rattle.std.proofs.lemmas.List.{length-map}
+use Rattle.maps.specs.Shapes.{AreShapesOk}
+use Rattle.loader.specs.declared.refusals.LoadFault.TheVariants.{TooMany}
+use Rattle.explain.specs.Explanation.{above_of}
+use Rattle.explain.proofs.MapLines.{no_truth, takes_map, too_many, refuses_map}
+use Rattle.explain.proofs.files.manifest.Explanation.push_map.Goals as goal
+
+pub returns-in-Ok-clause-taken : goal.returns-in-Ok-clause-taken
+returns-in-Ok-clause-taken c =
+    let a = above_of c.args.self.now in
+    let none : length a.names ≡ 0 = length-map c.args.self.now.names.items (λ n. n.0.now) ∙ c.requires.none in
+    let pushed = c.deref.ensures.value ∙ c.in_ok-push.ensures.items in
+    rw c.in_ok-push.ensures.items (takes_map a c.args.shape none (subst AreShapesOk pushed (c.in-Ok.ensures.ok.0 refl)))
+
+pub returns-in-Err-clause-taken : goal.returns-in-Err-clause-taken
+returns-in-Err-clause-taken c =
+    let a = above_of c.args.self.now in
+    let s = c.args.shape in
+    let none : length a.names ≡ 0 = length-map c.args.self.now.names.items (λ n. n.0.now) ∙ c.requires.none in
+    let pushed = c.deref.ensures.value ∙ c.in_ok-push.ensures.items in
+    let same : c.truncate.new.self.items ≡ a.shapes =
+    c.truncate.ensures.items ∙ ap (λ n. take n c.push.new.self.items) (ap length c.as_slice-count.ensures.value) ∙ ap (λ xs. take (length a.shapes) xs) c.in_ok-push.ensures.items ∙ take-append_seam a.shapes (s ∷ []) in
+    rw same (refuses_map a s TooMany c.requires.within (too_many a s none c.requires.within c.requires.shape (λ ok. no_truth (c.in-Err.ensures.ok.1 (subst AreShapesOk (sym pushed) ok)))))

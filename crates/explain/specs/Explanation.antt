@@ -1,0 +1,81 @@
+-- What is known of the lines above. Clauses of private functions alone cite this.
+use Rattle.std.specs.Prelude.{◌≡◌, ℕ, true, List, ◌++◌, map, codes, String, Result, is_none, Option, Some, None, option_map, MatchResult}
+use Rattle.std.specs.List.{All}
+use Rattle.std.specs.String.{string_bytes}
+use Rattle.insn.specs.declared.instruction.Form.{Form}
+use Rattle.maps.specs.declared.shapes.Shape.{Shape}
+use Rattle.maps.specs.Shapes.{IsShapeOk}
+use Rattle.loader.specs.declared.refusals.LoadFault.{LoadFault}
+use Rattle.loader.specs.declared.grammar.ProgramLine.{ProgramLine as TheLine}
+use Rattle.loader.specs.Grammar.{Meaning, Program}
+use Rattle.loader.specs.LineShown.{program_of}
+use Rattle.loader.specs.ProgramFiles.{files_of}
+use Rattle.loader.specs.Loading.{are_few, with_map}
+use Rattle.loader.specs.Refusal.{fault_number}
+use Rattle.explain.specs.declared.files.manifest.Explanation.{Explanation}
+use Rattle.explain.specs.Manifest.{Above, so_far, has_map, is_asked, refused_by, with_line, IsJudged, TellsIfAsked, TellsOfFile, TellsOfLine, TellsOfProgram, TellsOfRead, TellsWhereMap}
+use Rattle.explain.specs.Told.{Adds, BeginsIf}
+
+abbrev pub above_of : Explanation → Above
+above_of e = record { shapes = e.shapes.items; bad_map = e.bad_map; names = map (λ n. n.0.now) e.names.items }
+
+abbrev pub name_of : Explanation → Option (List ℕ)
+name_of e = option_map (λ n. n.now) e.name
+
+-- a text that is so stands behind what stood there
+abbrev pub Writes : {Y : Type 0} → (List ℕ → Type 0) → String Y → String Y → Type 0
+Writes IsSo old new = Adds IsSo (string_bytes old) (string_bytes new)
+
+-- ---- what is told of the line
+
+-- that it is refused by this rule, where no name is given
+abbrev pub IsFault : Explanation → ℕ → List ℕ → Type 0
+IsFault e rule text = BeginsIf (is_none (name_of e)) (refused_by e.line rule ++ codes "\n") text
+
+-- of its program
+abbrev pub Judges : Explanation → TheLine → List Form → List ℕ → Type 0
+Judges e p program text = IsJudged e.bad_map e.shapes.items e.line (program_of p) program text
+
+-- of what was read
+abbrev pub TellsRead : Explanation → TheLine → Result (List Form) LoadFault → List ℕ → Type 0
+TellsRead e p read text = TellsOfRead e.line (above_of e) (program_of p) read text
+
+-- of the file of its program
+abbrev pub TellsFile : Explanation → TheLine → List ℕ → Type 0
+TellsFile e p text = TellsOfFile (files_of e.files.now) e.line (above_of e) (program_of p) text
+
+-- the same, where a map stands above
+abbrev pub TellsKnown : Explanation → TheLine → List ℕ → Type 0
+TellsKnown e p text = TellsWhereMap (has_map (above_of e)) (files_of e.files.now) e.line (above_of e) (program_of p) text
+
+-- of its program, which is asked for
+abbrev pub TellsProgram : Explanation → TheLine → List ℕ → Type 0
+TellsProgram e p text = TellsOfProgram (files_of e.files.now) e.line (above_of e) (program_of p) text
+
+-- of any program
+abbrev pub TellsAsked : Explanation → TheLine → List ℕ → Type 0
+TellsAsked e p text = TellsIfAsked (is_asked (name_of e) (Some (Program (program_of p)))) (files_of e.files.now) e.line (above_of e) (program_of p) text
+
+-- ---- what then stands above
+
+-- the maps are within their limits
+pub record IsWithin (a : Above) : Type 0 where
+  pub each : All IsShapeOk a.shapes
+  pub few : are_few a.shapes ≡ true
+
+-- a map is taken, or the rule is told that keeps it out
+pub record TakesMap (a : Above) (shape : Shape) (b : Above) (rule : Option ℕ) : Type 0 where
+  pub told : MatchResult (with_map (so_far a) shape) (λ c. (rule ≡ None) × (b ≡ record a { shapes = c.shapes })) (λ why. (rule ≡ Some (fault_number why)) × (b ≡ a))
+  pub within : IsWithin b
+
+-- one line more: what is told of it stands behind what stood there, and it stands above the next
+pub record TakesLine (n : ℕ) (line : List ℕ) (meaning : Option Meaning) (e f : Explanation) (old new : List ℕ) : Type 0 where
+  pub told : Adds (TellsOfLine (files_of e.files.now) (name_of e) n (above_of e) meaning) old new
+  pub above : above_of f ≡ with_line n line meaning (above_of e)
+  pub within : IsWithin (above_of f)
+  pub files : f.files ≡ e.files
+  pub name : f.name ≡ e.name
+
+-- the same of the line that is looked at, behind a text
+abbrev pub TakesNext : {Y : Type 0} → List ℕ → Option Meaning → Explanation → Explanation → String Y → String Y → Type 0
+TakesNext line meaning e f old new = TakesLine e.line line meaning e f (string_bytes old) (string_bytes new)
