@@ -1,5 +1,8 @@
 mod Sessions
 mod Posted
+mod Looking
+mod Asked
+mod Reasons
 mod Opened
 mod Seats
 mod Gathered

@@ -82,6 +82,8 @@ written before told = record {
   slot = (inner_of told).1;
   place = (place_and_reply before told).0;
   reply = (place_and_reply before told).1;
+  count = before.count;
+  next = before.next;
 }
 
 -- ---- a call

@@ -1,5 +1,5 @@
 -- What a store leaves that is closed into the state that it ends in.
-use Rattle.std.specs.Prelude.{◌≡◌, ◌⊎◌, ◌++◌, List, [], ◌∷◌, Bool, true, false, None, Some, Option, MatchOption, is_some}
+use Rattle.std.specs.Prelude.{◌≡◌, ◌⊎◌, ℕ, ◌++◌, List, [], ◌∷◌, Bool, true, false, None, Some, Option, MatchOption, is_some}
 use Rattle.std.specs.List.{list_all}
 use Rattle.std.specs.Arc.{arc_value}
 use Rattle.std.specs.declared.alloc.Global.{Global}
@@ -9,6 +9,7 @@ use Rattle.store.specs.Opening.{ClosedView, IsClosed, last_state}
 use Rattle.store_steps.specs.Views.{SessionView}
 use Rattle.store.specs.Sessions.{StoreView}
 use Rattle.host_calls.specs.declared.attached.Attached.{Attached}
+use Rattle.host_calls.specs.declared.handles.StateAnswered.{StateAnswered}
 use Rattle.host_calls.specs.declared.handles.StateHandle.{StateHandle}
 use Rattle.host_calls.specs.declared.handles.StoreHandle.{StoreHandle}
 use Rattle.host_calls.specs.declared.pool.Pool.{Pool}
@@ -31,6 +32,10 @@ sessions_back (p ∷ ps) = sessions_back ps ++ session_at p
 abbrev pub IsLastOf : StoreView → List SessionView → StoreState → Type 0
 IsLastOf store sessions state = (closed : ClosedView) × IsClosed store sessions closed × (state ≡ last_state closed)
 
+-- the words of a state's handle with this status, and nothing else
+abbrev pub only_state : ℕ → StateAnswered
+only_state status = record { status = status; line = 0; inner = 0; slot = 0 }
+
 -- ---- closing
 
 -- there is no state: for want of memory, and nothing has changed; or the store is ended, but another has a part of it
@@ -49,5 +54,6 @@ LeavesIf false p before left given = (given.own ≡ None) × (left.own ≡ befor
 pub record Leaves (before left : StoreHandle) (given : StateHandle) : Type 0 where
   pub asked : left.asked ≡ before.asked
   pub answered : IsStatusAlone before.answered left.answered
+  pub words : given.answered ≡ only_state left.answered.status
   pub leaves : MatchOption before.own ((given.own ≡ None) × (left.own ≡ None) × (left.answered.status ≡ not_open))
       (λ b. LeavesIf (list_all is_some b.value.places.items) b.value before left given)

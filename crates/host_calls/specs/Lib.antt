@@ -4,8 +4,11 @@ pub mod Views
 pub mod Codes
 pub mod Told
 pub mod Calls
+pub mod Looks
 pub mod Seating
 pub mod Stores
 pub mod Openings
 pub mod Leaving
+pub mod States
+pub mod Loadings
 pub mod Rooms

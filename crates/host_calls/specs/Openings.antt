@@ -115,6 +115,12 @@ IsReason o on (Opening OutOfLimits) = AreTexts o × (AreSizes (sizes_asked o) �
 IsReason o on (Opening NoMemory) = Unit {0}
 IsReason o on (Opening OtherState) = AreSizes (sizes_asked o) × ((c : CatalogueView) × Says o c × IsOther (with_places c o.spare) on)
 
+-- it says something of the texts, and not of the sizes or the state
+abbrev pub IsOfTexts : NotOpened → Type 0
+IsOfTexts NoText = Unit {0}
+IsOfTexts (Loading why) = Unit {0}
+IsOfTexts (Opening why) = ⊥
+
 -- of the program of a bad line: why the decoder or the verifier refuses it, and at which slot
 abbrev pub inner_in : LoadError → ℕ × ℕ
 inner_in errors.NoMemory = (0, 0)

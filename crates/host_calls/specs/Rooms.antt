@@ -6,9 +6,11 @@ use denote.RawPtr.{Ptr}
 use Rattle.host_calls.specs.declared.handles.StoreHandle.{StoreHandle}
 use Rattle.host_calls.specs.declared.handles.SessionHandle.{SessionHandle}
 use Rattle.host_calls.specs.declared.handles.StateHandle.{StateHandle}
+use Rattle.host_calls.specs.declared.handles.TextHandle.{TextHandle}
 use Rattle.host_calls.specs.contracts.handles.StateHandle.{the_row as the_state}
 use Rattle.host_calls.specs.contracts.handles.StoreHandle.{the_row as the_store}
 use Rattle.host_calls.specs.contracts.handles.SessionHandle.{the_row as the_session}
+use Rattle.host_calls.specs.contracts.handles.TextHandle.{the_row as the_text}
 
 abbrev pub holds_store : Ptr → StoreHandle → Fml
 holds_store p h = lies_at the_store full_share p h
@@ -18,3 +20,6 @@ holds_session p h = lies_at the_session full_share p h
 
 abbrev pub holds_state : Ptr → StateHandle → Fml
 holds_state p h = lies_at the_state full_share p h
+
+abbrev pub holds_text : Ptr → TextHandle → Fml
+holds_text p h = lies_at the_text full_share p h

@@ -24,6 +24,10 @@ letter_O = 79
 abbrev pub letter_H : ℕ
 letter_H = 72
 
+-- and of a state's text
+abbrev pub letter_E : ℕ
+letter_E = 69
+
 -- the call is done
 abbrev pub done : ℕ
 done = 0
@@ -59,6 +63,18 @@ no_word = refusal letter_H 5
 -- H6: the session is of another store
 abbrev pub not_ours : ℕ
 not_ours = refusal letter_H 6
+
+-- H9: the state has other sizes than the store
+abbrev pub other_sizes : ℕ
+other_sizes = refusal letter_H 9
+
+-- E0: no memory for a text
+abbrev pub no_text_room : ℕ
+no_text_room = refusal letter_E 0
+
+-- O1: too many places for programs
+abbrev pub out_of_limits : ℕ
+out_of_limits = refusal letter_O 1
 
 -- O2: no memory
 abbrev pub no_memory : ℕ

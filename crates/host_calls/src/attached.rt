@@ -1,19 +1,25 @@
 // A session that is attached, and its calls.
 
-ghost use Rattle.std.specs.Prelude.{◌≡◌, None, Some, true, false, MatchOption};
+ghost use Rattle.std.specs.Prelude.{◌≡◌, ◌≤◌, None, Some, true, false, MatchOption, length, take};
 ghost use Rattle.std.specs.Arc.{arc_value};
 ghost use Rattle.verifier.specs.declared.refusal.Mode.TheVariants.{Update, Read};
 ghost use Rattle.accounts.specs.declared.sessions.Pending.{Pending};
 ghost use Rattle.replica.specs.Refusals.{early_refusal};
 ghost use Rattle.store_steps.specs.Views.{op_of};
 ghost use Rattle.store.specs.Sessions.{IsOf, install_of, install_refused};
+ghost use Rattle.host_calls.specs.Looks.{TellsAnswers, TellsGot, TellsMany, TellsScanned, TellsSnapped, look_each, next_word, questions_of};
 ghost use Rattle.host_calls.specs.Told.{HasGrown, TellsOut, TellsReading, TellsUpdate};
 ghost use Rattle.host_calls.specs.Views.{IsSame};
 
+use crate::handles::{AT_END, Asking, MOST_ASKED};
+use crate::statuses::{OTHER_SIZES, refusal};
 use std::alloc::Global;
 use std::marker::Model;
 use std::sync::Arc;
-use store::{Mode, Polled, Session, Store, StoreRefused};
+use store::{
+    Beginning, MapKey, Mode, Polled, Question, QuestionRefused, Session, Store, StoreRefused,
+    StoreState,
+};
 
 /// A session and the store that it is of.
 #[derive(Drop)]
@@ -56,6 +62,83 @@ pub enum Told {
     IsOut,
     /// H5: a word is none of a call.
     NoWord,
+}
+
+/// What a look at the maps of a session's node answers.
+#[derive(Clone, Copy, Debug, PartialEq, Eq)]
+pub enum Looked {
+    /// Another session held a place, and nothing has changed.
+    Busy,
+    /// How many operations were seen, how many entries were given, and where to go on.
+    Seen { place: u64, count: u64, next: u64 },
+    /// The call is refused, with this status, of several reads for the one of this number.
+    Refused { status: u64, number: u64 },
+    /// H2: a handle is not open.
+    NotOpen,
+    /// H3: an update is out.
+    IsOut,
+    /// H5: there are too many reads, or not as many replies.
+    NoWord,
+}
+
+// The place to go on from, as a word.
+fn next_word(next: Option<u32>) -> u64
+    ensures { result ≡ next_word next }
+{
+    match next {
+        Some(place) => place as u64,
+        None => AT_END,
+    }
+}
+
+// What is told of so many questions.
+fn look_each(tried: Result<Option<u64>, QuestionRefused>, count: u64) -> Looked
+    ensures looked { result ≡ look_each count tried }
+{
+    match tried {
+        Err(why) => Looked::Refused {
+            status: refusal(b'S', why.refused.number()),
+            number: why.number as u64,
+        },
+        Ok(None) => Looked::Busy,
+        Ok(Some(point)) => Looked::Seen {
+            place: point,
+            count,
+            next: AT_END,
+        },
+    }
+}
+
+// The questions, and behind them some that nobody asks.
+fn questions<'a>(asked: &[Asking<'a>]) -> [Question<'a>; MOST_ASKED]
+    requires few { length asked.now ≤ MOST_ASKED }
+    ensures { take (length asked.now) result ≡ questions_of asked.now }
+{
+    let none = Question {
+        program: 0,
+        argument: &[],
+    };
+    let mut questions = [none; MOST_ASKED];
+    for k in 0..asked.len() {
+        questions[k] = Question {
+            program: asked[k].program,
+            argument: asked[k].argument,
+        };
+    }
+    questions
+}
+
+// The first of them, as many as are asked.
+fn those_asked<'q, 'a>(
+    questions: &'q [Question<'a>; MOST_ASKED],
+    asked: &[Asking<'a>],
+) -> &'q [Question<'a>]
+    requires few { length asked.now ≤ MOST_ASKED }
+    requires questions { take (length asked.now) questions.now ≡ questions_of asked.now }
+    ensures asked { result.now ≡ questions_of asked.now }
+    ensures count { length result.now ≡ length asked.now }
+{
+    &questions[..asked.len()]
 }
 
 impl Attached {
@@ -166,6 +249,104 @@ impl Attached {
             Ok(Some(answer)) => Told::Answered {
                 place: answer.point,
                 reply: answer.reply,
+            },
+        }
+    }
+
+    /// Looks for a key of a map, and puts the value there into `value`, where no update is out.
+    pub fn get(&mut self, of: MapKey<'_>, value: &mut [u8]) -> Looked
+        ensures same { IsSame self.old self.new }
+        ensures tells { TellsGot of.entry.map of.entry.key.now value.old value.new self.old self.new result }
+    {
+        let Attached { store, session, .. } = self;
+        if session.is_waiting() {
+            return Looked::IsOut;
+        }
+        match session.try_get(store, of, value) {
+            Err(why) => Looked::Refused {
+                status: refusal(b'S', why.number()),
+                number: 0,
+            },
+            Ok(None) => Looked::Busy,
+            Ok(Some(found)) => Looked::Seen {
+                place: found.point,
+                count: if found.found { 1 } else { 0 },
+                next: AT_END,
+            },
+        }
+    }
+
+    /// Gives entries of a map from a place on, where no update is out.
+    pub fn scan(&mut self, begin: Beginning, keys: &mut [u8], values: &mut [u8]) -> Looked
+        ensures same { IsSame self.old self.new }
+        ensures tells { TellsScanned begin.map begin.from keys.old keys.new values.old values.new self.old self.new result }
+    {
+        let Attached { store, session, .. } = self;
+        if session.is_waiting() {
+            return Looked::IsOut;
+        }
+        match session.try_scan(store, begin, keys, values) {
+            Err(why) => Looked::Refused {
+                status: refusal(b'S', why.number()),
+                number: 0,
+            },
+            Ok(None) => Looked::Busy,
+            Ok(Some(scan)) => Looked::Seen {
+                place: scan.point,
+                count: scan.count as u64,
+                next: next_word(scan.next),
+            },
+        }
+    }
+
+    // Answers these questions at one point, where no update is out.
+    fn answer(&mut self, questions: &[Question<'_>], replies: &mut [u64]) -> Looked
+        requires few { length questions.now ≤ MOST_ASKED }
+        requires room { length replies.old ≡ length questions.now }
+        ensures same { IsSame self.old self.new }
+        ensures tells { TellsAnswers questions.now replies.old replies.new self.old self.new result }
+    {
+        let Attached { store, session, .. } = self;
+        if session.is_waiting() {
+            return Looked::IsOut;
+        }
+        let tried = session.try_read_each(store, questions, replies);
+        look_each(tried, questions.len() as u64)
+    }
+
+    /// Answers several questions at one point, where no update is out and there is a reply for each.
+    pub fn read_each(&mut self, asked: &[Asking<'_>], replies: &mut [u64]) -> Looked
+        ensures same { IsSame self.old self.new }
+        ensures tells { TellsMany asked.now replies.old replies.new self.old self.new result }
+    {
+        if asked.len() > MOST_ASKED || replies.len() != asked.len() {
+            return Looked::NoWord;
+        }
+        let questions = questions(asked);
+        self.answer(those_asked(&questions, asked), replies)
+    }
+
+    /// Makes a state that of the store at one point of the history, where no update is out and the state has the store's sizes.
+    pub fn snapshot(&mut self, into: &mut StoreState) -> Looked
+        ensures same { IsSame self.old self.new }
+        ensures tells { TellsSnapped into.old into.new self.old self.new result }
+    {
+        let Attached { store, session, .. } = self;
+        if session.is_waiting() {
+            return Looked::IsOut;
+        }
+        if !into.is_sized_for(store.catalogue()) {
+            return Looked::Refused {
+                status: OTHER_SIZES,
+                number: 0,
+            };
+        }
+        match session.try_snapshot(store, into) {
+            None => Looked::Busy,
+            Some(point) => Looked::Seen {
+                place: point,
+                count: 0,
+                next: AT_END,
             },
         }
     }

@@ -8,7 +8,7 @@ ghost use Rattle.host_calls.specs.Leaving.{IsLastOf, Leaves, session_at, session
 ghost use Rattle.host_calls.specs.Seating.{IsIdleSeat, IsSeatOf};
 
 use crate::attached::Attached;
-use crate::handles::{StateHandle, StoreHandle};
+use crate::handles::{StateAnswered, StateHandle, StoreHandle};
 use crate::opening::let_go;
 use crate::pool::Pool;
 use crate::statuses::{DONE, IS_ATTACHED, NO_MEMORY, NOT_OPEN, NOT_OURS};
@@ -71,24 +71,25 @@ pub fn closed_into(alloc: Global, handle: &mut StoreHandle) -> StateHandle
 {
     let Some(pool) = handle.own.take() else {
         handle.answered.status = NOT_OPEN;
-        return StateHandle::new(None);
+        return StateHandle::new(None, StateAnswered::of(NOT_OPEN));
     };
     if !pool.is_whole() {
         handle.own = Some(pool);
         handle.answered.status = IS_ATTACHED;
-        return StateHandle::new(None);
+        return StateHandle::new(None, StateAnswered::of(IS_ATTACHED));
     }
     let Ok(room) = Vec::with_capacity(alloc, pool.count()) else {
         handle.own = Some(pool);
         handle.answered.status = NO_MEMORY;
-        return StateHandle::new(None);
+        return StateHandle::new(None, StateAnswered::of(NO_MEMORY));
     };
     let state = ended(Box::into_inner(pool), room);
-    handle.answered.status = match &state {
+    let status = match &state {
         Some(_) => DONE,
         None => NOT_OURS,
     };
-    StateHandle::new(state)
+    handle.answered.status = status;
+    StateHandle::new(state, StateAnswered::of(status))
 }
 
 /// Gives a state up.

@@ -12,6 +12,12 @@ pub const NAME_ROOM: usize = 32;
 /// How many bytes a call may have: those of an argument, or of a program to be installed.
 pub const CALL_ROOM: usize = 192;
 
+/// How many reads may be asked at once.
+pub const MOST_ASKED: usize = 16;
+
+/// The word `next` of what has no place to go on from.
+pub const AT_END: u64 = 18_446_744_073_709_551_615;
+
 /// A program file: its name as the manifest has it, and its text, hexadecimal digits.
 #[repr(C)]
 pub struct File<'a> {
@@ -111,6 +117,10 @@ pub struct Answered {
     pub place: u64,
     /// What the program replied there.
     pub reply: u64,
+    /// A scan, or a get: how many entries it gave. Several reads: how many were answered.
+    pub count: u64,
+    /// A scan: the place to go on from; `AT_END` where it came to the end of the map.
+    pub next: u64,
 }
 
 /// What lies at a session's handle. The first field is not for the host, and empty where the handle is closed.
@@ -124,11 +134,55 @@ pub struct SessionHandle {
     pub answered: Answered,
 }
 
-/// What lies at a state's handle. The field is not for the host, and empty where there is no state.
+/// A read, one of several: a program, by its number, and its argument.
+#[repr(C)]
+pub struct Asking<'a> {
+    /// The argument.
+    pub argument: &'a [u8],
+    /// The program's number.
+    pub program: u16,
+}
+
+/// What is answered where a state is written.
+#[repr(C)]
+#[derive(Clone, Copy)]
+pub struct StateAnswered {
+    /// What became of the call.
+    pub status: u64,
+    /// `load`: the line that is to blame, from 1, and 0 where none is.
+    pub line: u64,
+    /// `load`: why the decoder or the verifier refuses a program, as a status; else 0.
+    pub inner: u64,
+    /// `load`: the slot of the program that is to blame.
+    pub slot: u64,
+}
+
+/// What lies at a state's handle. The last field is not for the host, and empty where there is no state.
 #[repr(C)]
 #[derive(Drop)]
 pub struct StateHandle {
+    /// What the host is answered.
+    pub answered: StateAnswered,
     pub own: Option<StoreState>,
+}
+
+/// What is answered where a text is written.
+#[repr(C)]
+#[derive(Clone, Copy)]
+pub struct TextAnswered {
+    /// What became of the call.
+    pub status: u64,
+    /// How many bytes the text has; 0 where there is none.
+    pub length: u64,
+}
+
+/// What lies at a text's handle. The last field is not for the host, and empty where there is no text.
+#[repr(C)]
+#[derive(Drop)]
+pub struct TextHandle {
+    /// What the host is answered.
+    pub answered: TextAnswered,
+    pub own: Option<Vec<u8>>,
 }
 
 fn crosses<T: Send + Drop>(value: T) {
@@ -136,10 +190,11 @@ fn crosses<T: Send + Drop>(value: T) {
 }
 
 // What lies at a handle may go to another thread.
-fn handles_cross(store: StoreHandle, session: SessionHandle, state: StateHandle) {
+fn handles_cross(store: StoreHandle, session: SessionHandle, state: StateHandle, text: TextHandle) {
     crosses(store);
     crosses(session);
     crosses(state);
+    crosses(text);
 }
 
 impl StoreHandle {
@@ -176,12 +231,38 @@ impl StoreAnswered {
     }
 }
 
+impl StateAnswered {
+    /// This status, and nothing else.
+    pub fn of(status: u64) -> StateAnswered
+        ensures { result ≡ record { status = status; line = 0; inner = 0; slot = 0 } }
+    {
+        StateAnswered {
+            status,
+            line: 0,
+            inner: 0,
+            slot: 0,
+        }
+    }
+}
+
 impl StateHandle {
     /// A handle with this state.
-    pub fn new(own: Option<StoreState>) -> StateHandle
+    pub fn new(own: Option<StoreState>, answered: StateAnswered) -> StateHandle
         ensures own { result.own ≡ own }
+        ensures answered { result.answered ≡ answered }
     {
-        StateHandle { own }
+        StateHandle { answered, own }
+    }
+}
+
+impl TextHandle {
+    /// A handle with this text, of so many bytes.
+    pub fn new(own: Option<Vec<u8>>, status: u64, length: u64) -> TextHandle
+        ensures own { result.own ≡ own }
+        ensures answered { result.answered ≡ record { status = status; length = length } }
+    {
+        let answered = TextAnswered { status, length };
+        TextHandle { answered, own }
     }
 }
 
@@ -205,6 +286,8 @@ impl SessionHandle {
             slot: 0,
             place: 0,
             reply: 0,
+            count: 0,
+            next: 0,
         };
         SessionHandle {
             own,

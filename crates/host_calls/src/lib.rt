@@ -1,4 +1,4 @@
-//! What a call of a host in another language tells, and what it leaves at the three kinds of handle, which lie in memory of the host's. No call
+//! What a call of a host in another language tells, and what it leaves at the four kinds of handle, which lie in memory of the host's. No call
 //! waits: one that meets a held place says so. `embed` exports these calls.
 #![tactic(auto)]
 
@@ -6,7 +6,10 @@ pub mod attached;
 pub mod calls;
 pub mod closing;
 pub mod handles;
+pub mod loading;
+pub mod looks;
 pub mod opening;
 pub mod pool;
+pub mod states;
 pub mod statuses;
 pub mod stores;

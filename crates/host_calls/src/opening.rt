@@ -11,7 +11,7 @@ ghost use Rattle.oplog.specs.declared.configuration.OpenError.TheVariants.{Other
 ghost use Rattle.store.specs.Opening.{AreOf};
 ghost use Rattle.store.specs.Sessions.{IsOf, fresh_sessions};
 ghost use Rattle.store_steps.specs.Shelving.{sessions_of};
-ghost use Rattle.host_calls.specs.Openings.{AreUtf8, IsOpened, IsOther, IsReason, IsSeat, IsStoreOf, Says, catalogue_on, fresh_of, inner_in, limit_of, only, sizes_asked, state_in, texts_of, words_of};
+ghost use Rattle.host_calls.specs.Openings.{AreUtf8, IsOfTexts, IsOpened, IsOther, IsReason, IsSeat, IsStoreOf, Says, catalogue_on, fresh_of, inner_in, limit_of, only, sizes_asked, state_in, texts_of, words_of};
 
 use crate::attached::Attached;
 use crate::handles::{File, Opening, StateHandle, StoreAnswered, StoreHandle};
@@ -69,7 +69,8 @@ fn texts<'a>(
 }
 
 // The catalogue that the manifest says.
-fn loaded(alloc: Global, opening: &Opening) -> Result<Catalogue, NotOpened>
+pub(crate) fn loaded(alloc: Global, opening: &Opening) -> Result<Catalogue, NotOpened>
+    ensures texts { IfErr result IsOfTexts }
     ensures loaded { MatchResult result (Says opening.now) (λ why. (on : Option State) → IsReason opening.now on why) }
 {
     let Ok(manifest) = str::from_utf8(opening.manifest) else {
@@ -240,7 +241,7 @@ fn answered(why: NotOpened) -> StoreAnswered
 }
 
 // Why the decoder or the verifier refuses the program of the bad line, and at which slot.
-fn inner_of(error: LoadError) -> (u64, u64)
+pub(crate) fn inner_of(error: LoadError) -> (u64, u64)
     ensures inner { result ≡ inner_in error }
 {
     match error {

@@ -5,13 +5,14 @@ ghost use Rattle.std.specs.List.{list_all};
 ghost use Rattle.std.specs.Arc.{arc_value};
 ghost use Rattle.loader.specs.CatalogueView.{number_named};
 ghost use Rattle.host_calls.specs.Seating.{AreInOrder};
+ghost use Rattle.host_calls.specs.States.{new_state_of};
 ghost use Rattle.host_calls.specs.Stores.{HasPlaceFor, IsGiven, IsKept, IsOfNode, IsTaken, IsUnmoved, NoneIsFree, seated};
 
 use crate::attached::Attached;
-use std::alloc::Global;
+use std::alloc::{AllocError, Global};
 use std::marker::Model;
 use std::sync::Arc;
-use store::Store;
+use store::{Store, StoreState};
 
 /// A store, and a place for each of its sessions, in ascending order. A place is empty while its session is attached.
 #[derive(Drop)]
@@ -136,5 +137,12 @@ impl Pool {
         ensures number { result ≡ number_named (arc_value self.now.store).catalogue.programs name.now }
     {
         self.seats.store.catalogue().number(name)
+    }
+
+    /// A new state of the store's sizes.
+    pub fn new_state(&self, alloc: Global) -> Result<StoreState, AllocError>
+        ensures state { IfOk result (λ s. s ≡ new_state_of (arc_value self.now.store)) }
+    {
+        StoreState::open(alloc, self.seats.store.catalogue())
     }
 }

@@ -30,6 +30,15 @@ pub const NO_WORD: u64 = 0x4805;
 /// H6: the session is of another store.
 pub const NOT_OURS: u64 = 0x4806;
 
+/// H9: the state has other sizes than the store.
+pub const OTHER_SIZES: u64 = 0x4809;
+
+/// E0: no memory for a text.
+pub const NO_TEXT_ROOM: u64 = 0x4500;
+
+/// O1: too many places for programs.
+pub const OUT_OF_LIMITS: u64 = 0x4f01;
+
 /// O2: no memory.
 pub const NO_MEMORY: u64 = 0x4f02;
 

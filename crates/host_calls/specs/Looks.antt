@@ -1,0 +1,193 @@
+-- What a session tells of a look at the maps of its node: of a get, a scan, several reads, and a snapshot; and what is written of it.
+use Rattle.std.specs.Prelude.{◌≡◌, ℕ, ◌≤◌, List, length, map as each, None, Some, Option, MatchOption, Result, Ok, Err, if◌then◌else◌}
+use Rattle.loader.specs.CatalogueView.{sizes_for}
+use Rattle.loader.specs.StoreState.{StoreState, sizes_of}
+use Rattle.replica.specs.Refusals.{store_fault_number}
+use Rattle.store_steps.specs.declared.getting.GetRefused.{GetRefused}
+use Rattle.store_steps.specs.declared.getting.Lookup.{Lookup}
+use Rattle.store_steps.specs.declared.questions.QuestionRefused.{QuestionRefused}
+use Rattle.store_steps.specs.declared.scanning.Scan.{Scan}
+use Rattle.store_steps.specs.declared.scanning.ScanRefused.{ScanRefused}
+use Rattle.store_steps.specs.declared.steps.Question.{Question}
+use Rattle.store_steps.specs.Getting.{GetTells, get_fault_number, get_refusal}
+use Rattle.store_steps.specs.Questions.{first_refused}
+use Rattle.store_steps.specs.Scanning.{ScanGives, scan_fault_number, scan_refusal}
+use Rattle.store_steps.specs.Snapshots.{SnapshotTells}
+use Rattle.store_steps.specs.Views.{SessionView}
+use Rattle.store.specs.Looks.{AreAnswers}
+use Rattle.store.specs.Sessions.{IsFresh}
+use Rattle.host_calls.specs.declared.attached.Looked.{Looked}
+use Rattle.host_calls.specs.declared.attached.Looked.TheVariants.{Busy, Seen, Refused, NotOpen, IsOut, NoWord}
+use Rattle.host_calls.specs.declared.handles.Answered.{Answered}
+use Rattle.host_calls.specs.declared.handles.Asking.{Asking}
+use Rattle.host_calls.specs.declared.handles.SessionHandle.{SessionHandle}
+use Rattle.host_calls.specs.declared.handles.StateHandle.{StateHandle}
+use Rattle.host_calls.specs.declared.handles.TheConstants.{MOST_ASKED, AT_END}
+use Rattle.host_calls.specs.Statuses.{busy, done, is_out, letter_S, no_word, not_open, other_sizes, refusal}
+use Rattle.host_calls.specs.Told.{HasGrown}
+use Rattle.host_calls.specs.Views.{AttachedView, IsSame}
+
+-- ---- what is told
+
+-- a look that isn't refused: a place was held, and what the call is to fill stays as it was; or P is what is known of what was seen
+abbrev pub TellsSight : (kept : Type 0) → (Looked → Type 0) → Looked → Type 0
+TellsSight kept P Busy = kept
+TellsSight kept P (Seen place count next) = P (Seen place count next)
+TellsSight kept P told = ⊥
+
+-- what is refused changes nothing
+abbrev pub TellsNo : (kept : Type 0) → (words : Looked) → (old new : SessionView) → Looked → Type 0
+TellsNo kept words old new told = (told ≡ words) × (new ≡ old) × kept
+
+-- a look, which the store refuses in these words or doesn't: it is refused while an update is out, too, and what the session waits for stays what it was
+abbrev pub TellsLook : {E : Type 0} → Option E → (E → Looked) → (kept : Type 0) → (Looked → Type 0) → (old new : SessionView) → Looked → Type 0
+TellsLook refused words kept P old new told =
+    MatchOption old.note.pending (HasGrown old new × (new.note ≡ old.note) × MatchOption refused (TellsSight kept P told) (λ why. TellsNo kept (words why) old new told))
+    (λ o. TellsNo kept IsOut old new told)
+
+-- ---- a key
+
+abbrev pub no_key : GetRefused → Looked
+no_key why = Refused (refusal letter_S (get_fault_number why)) 0
+
+-- one entry is given where the key stands there, else none
+abbrev pub seen_key : Lookup → Looked
+seen_key found = Seen found.point (if found.found then 1 else 0) AT_END
+
+-- what stands under the key at a point that is not below what was completed when the session looked
+abbrev pub TellsKey : (map : ℕ) → (key before value : List ℕ) → (old new : SessionView) → Looked → Type 0
+TellsKey map key before value old new told =
+    (found : Lookup) × (told ≡ seen_key found) × IsFresh old new found.point × GetTells new.progress old.progress.completed map key before value found
+
+abbrev pub TellsGot : (map : ℕ) → (key before value : List ℕ) → (old new : AttachedView) → Looked → Type 0
+TellsGot map key before value old new told =
+    TellsLook (get_refusal old.store.catalogue map (length key) (length before)) no_key (value ≡ before) (TellsKey map key before value old.session new.session)
+    old.session new.session told
+
+-- ---- a scan
+
+abbrev pub no_scan : ScanRefused → Looked
+no_scan why = Refused (refusal letter_S (scan_fault_number why)) 0
+
+abbrev pub next_word : Option ℕ → ℕ
+next_word None = AT_END
+next_word (Some place) = place
+
+abbrev pub seen_scan : Scan → Looked
+seen_scan s = Seen s.point s.count (next_word s.next)
+
+-- a page of the map, from this place on, at such a point
+abbrev pub TellsPage : (map from : ℕ) → (keys keys' values values' : List ℕ) → (old new : SessionView) → Looked → Type 0
+TellsPage map from keys keys' values values' old new told =
+    (s : Scan) × (told ≡ seen_scan s) × IsFresh old new s.point
+    × ScanGives new.progress old.progress.completed map from (length keys) (length values) keys' values' s
+
+abbrev pub TellsScanned : (map from : ℕ) → (keys keys' values values' : List ℕ) → (old new : AttachedView) → Looked → Type 0
+TellsScanned map from keys keys' values values' old new told =
+    TellsLook (scan_refusal old.store.catalogue map from) no_scan ((keys' ≡ keys) × (values' ≡ values))
+    (TellsPage map from keys keys' values values' old.session new.session) old.session new.session told
+
+-- ---- several reads
+
+abbrev pub question_of : Asking → Question
+question_of a = record { program = a.program; argument = a.argument }
+
+abbrev pub questions_of : List Asking → List Question
+questions_of asked = each question_of asked
+
+abbrev pub no_read : QuestionRefused → Looked
+no_read why = Refused (refusal letter_S (store_fault_number why.refused)) why.number
+
+-- by what came of a try
+abbrev pub look_of : {A E : Type 0} → (E → Looked) → (A → Looked) → Result (Option A) E → Looked
+look_of words seen (Err why) = words why
+look_of words seen (Ok None) = Busy
+look_of words seen (Ok (Some a)) = seen a
+
+abbrev pub look_each : (count : ℕ) → Result (Option ℕ) QuestionRefused → Looked
+look_each count tried = look_of no_read (λ point. Seen point count AT_END) tried
+
+-- they were answered, so many, at such a point
+abbrev pub TellsReplies : List Question → (replies : List ℕ) → (old new : SessionView) → Looked → Type 0
+TellsReplies questions replies old new told = (point : ℕ) × (told ≡ Seen point (length questions) AT_END) × AreAnswers old new questions replies point
+
+abbrev pub TellsAnswers : List Question → (before replies : List ℕ) → (old new : AttachedView) → Looked → Type 0
+TellsAnswers questions before replies old new told =
+    TellsLook (first_refused old.store.catalogue 0 questions) no_read (replies ≡ before) (TellsReplies questions replies old.session new.session)
+    old.session new.session told
+
+-- no more than may be asked at once, and a reply for each
+abbrev pub AreFew : List Asking → (replies : List ℕ) → Type 0
+AreFew asked replies = (length asked ≤ MOST_ASKED) × (length replies ≡ length asked)
+
+-- else nothing is asked
+pub record TellsMany (asked : List Asking) (before replies : List ℕ) (old new : AttachedView) (told : Looked) : Type 0 where
+  pub few : AreFew asked before → TellsAnswers (questions_of asked) before replies old new told
+  pub many : (AreFew asked before → ⊥) → TellsNo (replies ≡ before) NoWord old.session new.session told
+
+-- ---- a snapshot
+
+-- the state at a point that is not below what was completed when the session looked
+abbrev pub TellsState : StoreState → (old new : SessionView) → Looked → Type 0
+TellsState left old new told = (point : ℕ) × (told ≡ Seen point 0 AT_END) × IsFresh old new point × SnapshotTells new.progress old.progress.completed point left
+
+-- into a state of the store's sizes; one of others is refused
+pub record TellsTaken (state left : StoreState) (old new : AttachedView) (told : Looked) : Type 0 where
+  pub sized : sizes_of state ≡ sizes_for old.store.catalogue
+      → HasGrown old.session new.session × (new.session.note ≡ old.session.note) × TellsSight (left ≡ state) (TellsState left old.session new.session) told
+  pub other : (sizes_of state ≡ sizes_for old.store.catalogue → ⊥) → TellsNo (left ≡ state) (Refused other_sizes 0) old.session new.session told
+
+-- none is taken while an update is out
+abbrev pub TellsSnapped : (state left : StoreState) → (old new : AttachedView) → Looked → Type 0
+TellsSnapped state left old new told = MatchOption old.session.note.pending (TellsTaken state left old new told) (λ o. TellsNo (left ≡ state) IsOut old.session new.session told)
+
+-- ---- what is written
+
+abbrev pub look_status : Looked → ℕ
+look_status Busy = busy
+look_status (Seen place count next) = done
+look_status (Refused status number) = status
+look_status NotOpen = not_open
+look_status IsOut = is_out
+look_status NoWord = no_word
+
+-- the number of the read that is refused
+abbrev pub look_number : Looked → ℕ
+look_number (Refused status number) = number
+look_number told = 0
+
+-- what was seen; where nothing was, the words that stood there
+abbrev pub with_sight : Answered → Looked → Answered
+with_sight before (Seen place count next) = record before { place = place; count = count; next = next }
+with_sight before told = before
+
+abbrev pub noted : Answered → Looked → Answered
+noted before told = record (with_sight before told) { status = look_status told; inner = 0; slot = look_number told }
+
+-- ---- a look by a handle
+
+-- on a closed handle it says so, and what the call is to fill stays as it was; else the session tells P, and the handle stays open
+pub record Looks (kept : Type 0) (P : (old new : AttachedView) → Looked → Type 0) (before after : SessionHandle) : Type 0 where
+  pub asked : after.asked ≡ before.asked
+  pub told : Looked
+  pub noted : after.answered ≡ noted before.answered told
+  pub tells : MatchOption before.own ((told ≡ NotOpen) × (after.own ≡ None) × kept)
+      (λ b. MatchOption after.own ⊥ (λ b'. IsSame b.value b'.value × P b.value b'.value told))
+
+abbrev pub Gets : (map : ℕ) → (key before value : List ℕ) → (before' after : SessionHandle) → Type 0
+Gets map key before value = Looks (value ≡ before) (TellsGot map key before value)
+
+abbrev pub Scans : (map from : ℕ) → (keys keys' values values' : List ℕ) → (before after : SessionHandle) → Type 0
+Scans map from keys keys' values values' = Looks ((keys' ≡ keys) × (values' ≡ values)) (TellsScanned map from keys keys' values values')
+
+abbrev pub Answers : List Asking → (before replies : List ℕ) → (before' after : SessionHandle) → Type 0
+Answers asked before replies = Looks (replies ≡ before) (TellsMany asked before replies)
+
+-- into a state: where the handle has none, it says so
+abbrev pub TellsInto : (state left : Option StoreState) → (old new : AttachedView) → Looked → Type 0
+TellsInto state left old new told =
+    MatchOption state ((told ≡ NotOpen) × (left ≡ None) × (new ≡ old)) (λ s. MatchOption left ⊥ (λ s'. TellsSnapped s s' old new told))
+
+pub record Snaps (before after : SessionHandle) (state left : StateHandle) : Type 0 where
+  pub looks : Looks (left.own ≡ state.own) (TellsInto state.own left.own) before after
+  pub words : left.answered ≡ state.answered

@@ -1,0 +1,111 @@
+// Loading a text as a state.
+
+ghost use Rattle.std.specs.Prelude.{◌≡◌, MatchResult};
+ghost use Rattle.host_calls.specs.Loadings.{IsLoadReason, IsLoaded, IsStateOf, fault_inner, load_words, text_inner};
+
+use crate::handles::{Opening, StateAnswered, StateHandle};
+use crate::opening::{NotOpened, inner_of, loaded};
+use crate::statuses::{DONE, NO_TEXT, OUT_OF_LIMITS, refusal};
+use dumps::{DumpError, DumpFault, load};
+use loader::{InstallRefusal, LoadError, MAX_PLACES};
+use std::alloc::Global;
+use store::StoreState;
+
+/// Why a text is not loaded as a state.
+#[derive(Clone, Copy)]
+pub enum NotLoaded {
+    // A text is not UTF-8.
+    NoText,
+    // The manifest is refused.
+    Manifest(LoadError),
+    // There may not be so many places.
+    TooManyPlaces,
+    // The text is refused.
+    Text(DumpError),
+}
+
+// The state that a text says, for stores of the manifest, with so many places.
+fn state_of(alloc: Global, opening: &Opening, text: &[u8]) -> Result<StoreState, NotLoaded>
+    ensures loaded { MatchResult result (IsStateOf opening.now text.now) (IsLoadReason opening.now text.now) }
+{
+    let Ok(text) = str::from_utf8(text) else {
+        return Err(NotLoaded::NoText);
+    };
+    let catalogue = match loaded(alloc, opening) {
+        Ok(catalogue) => catalogue,
+        Err(NotOpened::NoText) => return Err(NotLoaded::NoText),
+        Err(NotOpened::Loading(error)) => return Err(NotLoaded::Manifest(error)),
+        Err(NotOpened::Opening(_)) => unreachable!(),
+    };
+    let places = opening.spare as usize;
+    if places > MAX_PLACES {
+        return Err(NotLoaded::TooManyPlaces);
+    }
+    match load(alloc, catalogue.shapes(), places, text) {
+        Ok(state) => Ok(state),
+        Err(error) => Err(NotLoaded::Text(error)),
+    }
+}
+
+// Why a program of the text is refused, and at which slot.
+fn fault_inner(why: DumpFault) -> (u64, u64)
+    ensures inner { result ≡ fault_inner why }
+{
+    match why {
+        DumpFault::Program(InstallRefusal::Decode(why)) => {
+            (refusal(b'D', why.why.number()), why.slot as u64)
+        }
+        DumpFault::Program(InstallRefusal::Verify(why)) => {
+            (refusal(b'V', why.why.number()), why.slot as u64)
+        }
+        _ => (0, 0),
+    }
+}
+
+// The same of a text.
+fn text_inner(error: DumpError) -> (u64, u64)
+    ensures inner { result ≡ text_inner error }
+{
+    match error {
+        DumpError::NoMemory => (0, 0),
+        DumpError::Refused(bad) => fault_inner(bad.why),
+    }
+}
+
+// What is answered where a text is not loaded.
+fn answered(why: NotLoaded) -> StateAnswered
+    ensures words { result ≡ load_words why }
+{
+    match why {
+        NotLoaded::NoText => StateAnswered::of(NO_TEXT),
+        NotLoaded::TooManyPlaces => StateAnswered::of(OUT_OF_LIMITS),
+        NotLoaded::Manifest(error) => {
+            let (inner, slot) = inner_of(error);
+            StateAnswered {
+                status: refusal(b'C', error.number()),
+                line: error.line() as u64,
+                inner,
+                slot,
+            }
+        }
+        NotLoaded::Text(error) => {
+            let (inner, slot) = text_inner(error);
+            StateAnswered {
+                status: refusal(b'E', error.number()),
+                line: error.line() as u64,
+                inner,
+                slot,
+            }
+        }
+    }
+}
+
+/// The handle of the state that a text says. It has none where the text or the manifest is refused.
+pub fn loaded_text(alloc: Global, opening: &Opening, text: &[u8]) -> StateHandle
+    ensures loaded { IsLoaded opening.now text.now result }
+{
+    match state_of(alloc, opening, text) {
+        Ok(state) => StateHandle::new(Some(state), StateAnswered::of(DONE)),
+        Err(why) => StateHandle::new(None, answered(why)),
+    }
+}
