@@ -1,17 +1,19 @@
-/* What the proved library libembed.a exports, and what lies at its three kinds of handle. A host includes nrbpf.h, not this.
+/* What the proved library libembed.a exports, and what lies at its four kinds of handle. A host includes nrbpf.h, not this.
  *
- * A handle is memory of the host's, of the size and the alignment of its struct. It is room until nrbpf_raw_open, nrbpf_raw_open_on, nrbpf_raw_attach or
- * nrbpf_raw_close_into has written it, and as good as room again once nrbpf_raw_close, nrbpf_raw_close_into, nrbpf_raw_detach or nrbpf_raw_drop_state has ended it.
- * Between two calls the host writes the words under "asked" and reads those under "answered"; it leaves `own` alone, and moves or copies no handle. Each
- * function takes one call at a time on each handle that is passed to it; calls on different handles may run side by side. No pointer is null, also where
- * nothing lies behind it.
+ * A handle is memory of the host's, of the size and the alignment of its struct. It is room until nrbpf_raw_open, nrbpf_raw_open_on, nrbpf_raw_attach,
+ * nrbpf_raw_close_into, nrbpf_raw_new_state, nrbpf_raw_load or nrbpf_raw_dump has written it, and as good as room again once nrbpf_raw_close,
+ * nrbpf_raw_close_into, nrbpf_raw_detach, nrbpf_raw_drop_state or nrbpf_raw_drop_text has ended it. Between two calls the host writes the words under
+ * "asked" and reads those under "answered"; it leaves `own` alone, and moves or copies no handle. Each function takes one call at a time on each handle that
+ * is passed to it; calls on different handles may run side by side. No pointer is null, also where nothing lies behind it.
  *
- * No function waits or locks. nrbpf_raw_open, nrbpf_raw_open_on and nrbpf_raw_close_into take memory, by the host's malloc, and nrbpf_raw_close,
- * nrbpf_raw_close_into and nrbpf_raw_drop_state give it back, by free; no other function takes any. What is passed in is copied; nothing of it is read
+ * No function waits or locks. nrbpf_raw_open, nrbpf_raw_open_on, nrbpf_raw_close_into, nrbpf_raw_new_state, nrbpf_raw_load and nrbpf_raw_dump take memory,
+ * by the host's malloc and realloc, and nrbpf_raw_close, nrbpf_raw_close_into, nrbpf_raw_drop_state and nrbpf_raw_drop_text give it back, by free; those
+ * that load or dump also give back what they took on the way. No other function takes any. What is passed in is copied; nothing of it is read or written
  * after the function has returned.
  *
  * A status is 0, NRBPF_RAW_BUSY, NRBPF_RAW_AGAIN, or a refusal: its letter times 256 and its number, those of docs/REFUSALS.md or of the letter H.
- * With any status but 0 the words place, reply and number are as they were.
+ * With any status but 0 the words place, reply, count, next, number and length are as they were, and so are the bytes, replies and states that a call
+ * is to fill.
  */
 #ifndef NRBPF_RAW_H
 #define NRBPF_RAW_H
@@ -27,25 +29,30 @@ enum {
     NRBPF_RAW_BUSY = 1,     /* another session held a place, and nothing is asked: call again */
     NRBPF_RAW_AGAIN = 2,    /* an update is posted, once, and not answered: call again, and go on soon */
     NRBPF_RAW_H1 = 'H' << 8 | 1, /* attach: no session of this node is free, or there is no such node */
-    NRBPF_RAW_H2,           /* the handle is not open: the opening was refused, or the session was not given */
-    NRBPF_RAW_H3,           /* a read, or a detach, while an update is out */
-    NRBPF_RAW_H4,           /* a text is not UTF-8: the manifest, a file, its name, or the name of a program */
-    NRBPF_RAW_H5,           /* a word is none of a call: `call` above 2, `mode` above 1, `length` above 192 */
-    NRBPF_RAW_H6            /* detach: the session's place is not empty here; close_into: a part of the store is elsewhere, and it is ended */
+    NRBPF_RAW_H2,           /* the handle is not open: the opening was refused, or the session was not given; or the state's handle has none */
+    NRBPF_RAW_H3,           /* a read of any kind, a snapshot, or a detach, while an update is out */
+    NRBPF_RAW_H4,           /* a text is not UTF-8: the manifest, a file, its name, the name of a program, or the text of a state */
+    NRBPF_RAW_H5,           /* a word is none of a call: `call` above 2, `mode` above 1, `length` above 192; read_each: more than 16 questions, or another
+                             * number of replies */
+    NRBPF_RAW_H6,           /* detach: the session's place is not empty here; close_into: a part of the store is elsewhere, and it is ended */
+    NRBPF_RAW_H9 = 'H' << 8 | 9 /* snapshot: the state has other maps, or another number of places for programs, than the store */
 };
 
 /* ---- what is passed in */
 
-struct nrbpf_raw_text { const uint8_t *at; size_t length; };
+struct nrbpf_raw_bytes { const uint8_t *at; size_t length; };
 
 /* A program file of the manifest: the name that stands there, and its text, hexadecimal digits. */
-struct nrbpf_raw_file { struct nrbpf_raw_text name, text; };
+struct nrbpf_raw_file { struct nrbpf_raw_bytes name, text; };
 
 struct nrbpf_raw_opening {
-    struct nrbpf_raw_text manifest;
+    struct nrbpf_raw_bytes manifest;
     const struct nrbpf_raw_file *files; size_t count;
-    uint32_t nodes, slots, window, limit, spare;    /* as O1 has their limits */
+    uint32_t nodes, slots, window, limit, spare;    /* as O1 has their limits; limit 0 is no end */
 };
+
+/* A read: a program, by its number, and its argument. */
+struct nrbpf_raw_question { struct nrbpf_raw_bytes argument; uint16_t program; };
 
 /* ---- a store's handle */
 
@@ -67,9 +74,11 @@ struct nrbpf_raw_store {
 
 enum { NRBPF_RAW_UPDATE = 0, NRBPF_RAW_READ = 1, NRBPF_RAW_INSTALL = 2 };
 
+#define NRBPF_RAW_END UINT64_MAX
+
 struct nrbpf_raw_session {
     uint64_t own[2];
-    /* asked */
+    /* asked, by nrbpf_raw_call alone; the other calls leave these words as they are */
     uint64_t call;          /* NRBPF_RAW_UPDATE, .. */
     uint16_t program;       /* update, read: the program's number */
     uint64_t mode;          /* install: 0 for a program that updates, 1 for one that reads */
@@ -79,21 +88,38 @@ struct nrbpf_raw_session {
     /* answered */
     uint64_t status;
     uint64_t inner;         /* with S7 a refusal of the letter D, with S8 of the letter V; else 0 */
-    uint64_t slot;          /* the instruction that is to blame, where inner isn't 0 */
-    uint64_t place;         /* update, install: the index in the history, from 0. read: how many operations the read has seen */
+    uint64_t slot;          /* the instruction that is to blame, where inner isn't 0. read_each: with S1 to S3 the number of the question, from 0. Else 0 */
+    uint64_t place;         /* update, install: the index in the history, from 0. All others: how many operations of the history were seen */
     uint64_t reply;         /* what the program replied there; of an install the number of the program, or 2^64 - 7 where each place is taken */
+    uint64_t count;         /* scan: how many entries were given. get: 1 where the key stands there, 0 where it doesn't */
+    uint64_t next;          /* scan: the place to go on from, below 2^32; NRBPF_RAW_END where it came to the end of the map */
 };
 
-/* ---- a state's handle: of the size that nrbpf_raw_state_size tells, with the alignment of uint64_t; none of its bytes are for the host */
+/* ---- a state's handle: of the size that nrbpf_raw_state_size tells; what stands behind these words is not for the host */
 
-struct nrbpf_raw_state;
+struct nrbpf_raw_state {
+    /* answered, by whoever wrote the handle */
+    uint64_t status;        /* 0 where the handle has a state */
+    uint64_t line;          /* by load: with C1 to C6 the manifest's line that is to blame, with E1 to E9 the text's, from 1; else 0 */
+    uint64_t inner;         /* by load: a refusal of the letter D with C3 or E8, of V with C4 or E8; else 0 */
+    uint64_t slot;          /* by load: the instruction that is to blame, where inner is not 0 */
+};
+
+/* ---- a text's handle: of the size that nrbpf_raw_text_size tells; what stands behind these words is not for the host */
+
+struct nrbpf_raw_text {
+    /* answered, by dump */
+    uint64_t status;        /* 0 where the handle has a text */
+    uint64_t length;        /* how many bytes it has; 0 where there is none */
+};
 
 /* ---- the functions */
 
-uint32_t nrbpf_raw_version(void);           /* of this interface: 1000 times the major number, and the minor one */
+uint32_t nrbpf_raw_version(void);           /* of this interface: 1000 times the major number, and the minor one: 2000 */
 size_t nrbpf_raw_store_size(void);          /* sizeof(struct nrbpf_raw_store), as the library has it */
 size_t nrbpf_raw_session_size(void);
-size_t nrbpf_raw_state_size(void);          /* how many bytes a state's handle has */
+size_t nrbpf_raw_state_size(void);          /* how many bytes a state's handle has, a multiple of 8 */
+size_t nrbpf_raw_text_size(void);           /* how many bytes a text's handle has, a multiple of 8 */
 
 /* Opens a store, and writes its handle into the room at `at`. Statuses: 0, H4, C1 to C6, O1, O2. Where it is refused the handle is closed:
  * each call answers H2, and its memory is as good as room. */
@@ -118,9 +144,14 @@ void nrbpf_raw_detach(struct nrbpf_raw_store *at, struct nrbpf_raw_session *sess
 void nrbpf_raw_close(struct nrbpf_raw_store *at);
 
 /* Ends a store to which none but its own sessions came back, and writes the handle of the state that it ends in into the room at `state`; then the
- * store's handle is closed, and as good as room. With any status but 0 the state's handle has none, and its memory is as good as room. Statuses: 0, H2, S5 where a session is
- * attached and O2 where there is no memory, and then nothing has changed; and H6, with which the store is ended: a part of it was elsewhere. */
+ * store's handle is closed, and as good as room. With any status but 0 the state's handle has none, and its memory is as good as room. The status stands in
+ * both handles: 0, H2, S5 where a session is attached and O2 where there is no memory, and then nothing has changed; and H6, with which the store is
+ * ended: a part of it was elsewhere. */
 void nrbpf_raw_close_into(struct nrbpf_raw_store *at, struct nrbpf_raw_state *state);
+
+/* Makes room for the states of a store, a new state with its maps and places, and writes its handle into the room at `state`. With any status but 0 the
+ * state's handle has none, and its memory is as good as room. The status stands in both handles: 0, H2, O2. */
+void nrbpf_raw_new_state(struct nrbpf_raw_store *at, struct nrbpf_raw_state *state);
 
 /* Gives a state up; then its handle is room. */
 void nrbpf_raw_drop_state(struct nrbpf_raw_state *at);
@@ -129,8 +160,39 @@ void nrbpf_raw_drop_state(struct nrbpf_raw_state *at);
  * whatever operation its words name. Statuses: 0, BUSY, AGAIN, S1 to S4, S6 to S8, H2, H3, H5. */
 void nrbpf_raw_call(struct nrbpf_raw_session *session);
 
-/* Writes what a status says, as text without a zero byte behind it, cut off at `room` bytes, and returns how many it wrote. */
-size_t nrbpf_raw_text(uint32_t status, uint8_t *out, size_t room);
+/* The calls below look at the maps of the session's node, once these have seen everything that was completed when the call began. They ask nothing of the
+ * session's words, and answer there. */
+
+/* Gives the value under a key of a map: into `value`, which has as many bytes as the map's values, where the key stands there (count 1); else `value` stays
+ * as it was (count 0). Of an array the key is the index, 4 bytes, the low one first. Statuses: 0, BUSY, S9, S11, S12, H2, H3. */
+void nrbpf_raw_get(struct nrbpf_raw_session *session, uint32_t map, const uint8_t *key, size_t key_length, uint8_t *value, size_t value_length);
+
+/* Gives entries of a map from a place on, keys one behind another and values alike, as many as both rooms hold. Looks at no more than 1,024 places of the
+ * map, and 16 more for each entry that there is room for. Statuses: 0, BUSY, S9, S10, H2, H3. */
+void nrbpf_raw_scan(struct nrbpf_raw_session *session, uint32_t map, uint32_t from, uint8_t *keys, size_t keys_room, uint8_t *values, size_t values_room);
+
+/* Answers up to 16 questions at one place, each in `replies` at its number; there are as many replies as questions. Statuses: 0, BUSY, S1 to S3 of the
+ * first question that is refused, whose number is in slot, H2, H3, H5. */
+void nrbpf_raw_read_each(struct nrbpf_raw_session *session, const struct nrbpf_raw_question *questions, size_t count, uint64_t *replies, size_t room);
+
+/* Makes a state the store's at one place of the history. The status stands in the session's handle: 0, BUSY, H3, H9, H2 where the session's handle is not
+ * open or the state's has none; with any but 0 the state is as it was. The words of the state's handle stay. */
+void nrbpf_raw_snapshot(struct nrbpf_raw_session *session, struct nrbpf_raw_state *state);
+
+/* Writes a state as the text that `nrbpf --dump` writes, and its handle into the room at `text`. The state stays what it is. Statuses, in the text's handle: 0,
+ * H2 where the state's handle has none, E0 where there is no memory: then the text's handle has none, and its memory is as good as room. */
+void nrbpf_raw_dump(struct nrbpf_raw_state *state, struct nrbpf_raw_text *text);
+
+/* Copies bytes of a text from its byte `from` on, as many as there are and `out` has room for, and returns how many; the others of `out` stay as they were. */
+size_t nrbpf_raw_part(struct nrbpf_raw_text *text, uint64_t from, uint8_t *out, size_t room);
+
+/* Gives a text up; then its handle is room. */
+void nrbpf_raw_drop_text(struct nrbpf_raw_text *at);
+
+/* Loads a text as the state that it says, for stores of the opening's manifest with `spare` places (nothing else of the opening counts), and writes the
+ * handle of the state into the room at `state`. Statuses, in the state's handle: 0, H4, C1 to C6, O1 (`spare` alone), E0 to E9; with any but 0 that has no
+ * state, and its memory is as good as room. */
+void nrbpf_raw_load(const struct nrbpf_raw_opening *opening, const uint8_t *text, size_t length, struct nrbpf_raw_state *state);
 
 #ifdef __cplusplus
 }

@@ -35,3 +35,15 @@ pub use denote.Triple.Entry.{alive, on_entry}
 pub use denote.Triple.Spec.{triple_of}
 pub use denote.Triple.Walked.{Stays, walk_of, stay_dropped, Goes-dropped, ends_at}
 pub use denote.Triple.Table.{framed}
+pub use Rattle.std.proofs.Common.{w8, w32, w64}
+pub use types.Part.{agg, whole, sub}
+pub use types.Run.{from, fld, hop}
+pub use types.ByLocal.{get_in, look_in_at}
+pub use denote.Builtin.{u8, u32, u64, usize, SliceRefOf}
+pub use denote.Plain.{uint_vals, uint_Tells}
+pub use denote.Slice.{MutSlice, ShrSlice, mut_slice_vals, mut_slice_Tells, shr_slice_vals, shr_slice_Tells}
+pub use denote.Triple.Walked.{gave_slice, Goes-gave_slice}
+pub use Rattle.std.proofs.Common.{subst}
+pub use mir.Val.{vint}
+pub use denote.Plain.{uint_Makes}
+pub use denote.Steps.{facts, owned}

@@ -1,8 +1,8 @@
 //! A store for programs of other languages: the calls of `host_calls`, exported. They take and give numbers, texts and memory of the host's, in which
-//! three kinds of handle lie.
+//! four kinds of handle lie.
 #![tactic(auto)]
 
-ghost use Rattle.std.specs.Prelude.{◌≡◌, ◌≤◌, None, length};
+ghost use Rattle.std.specs.Prelude.{◌≡◌, None};
 ghost use Rattle.std.specs.Borrow.{sem};
 ghost use Rattle.std.specs.Mem.{type_size};
 ghost use Rattle.std.specs.Ptr.{room_at};
@@ -10,28 +10,32 @@ ghost use Rattle.host_calls.specs.Calls.{Goes};
 ghost use Rattle.host_calls.specs.Stores.{Closes, Finds, Gives, IsItsOwn, Takes};
 ghost use Rattle.host_calls.specs.Leaving.{Leaves};
 ghost use Rattle.host_calls.specs.Openings.{IsOpened};
-ghost use Rattle.host_calls.specs.Rooms.{holds_session, holds_state, holds_store};
+ghost use Rattle.host_calls.specs.Loadings.{IsLoaded};
+ghost use Rattle.host_calls.specs.Looks.{Answers, Gets, Scans, Snaps};
+ghost use Rattle.host_calls.specs.States.{IsDumped, IsPart, Makes, bytes_in};
+ghost use Rattle.host_calls.specs.Rooms.{holds_session, holds_state, holds_store, holds_text};
 ghost use Rattle.host_calls.specs.contracts.handles.SessionHandle.{the_row as the_session};
 ghost use Rattle.host_calls.specs.contracts.handles.StateHandle.{the_row as the_state};
 ghost use Rattle.host_calls.specs.contracts.handles.StoreHandle.{the_row as the_store};
-
-mod texts;
+ghost use Rattle.host_calls.specs.contracts.handles.TextHandle.{the_row as the_text};
 
 use host_calls::calls::called;
 use host_calls::closing::{closed_into, dropped};
-use host_calls::handles::{Opening, SessionHandle, StateHandle, StoreHandle};
+use host_calls::handles::{Asking, Opening, SessionHandle, StateHandle, StoreHandle, TextHandle};
+use host_calls::loading::loaded_text;
+use host_calls::looks::{answered_each, got, scanned, snapped};
 use host_calls::opening::{opened, opened_on};
+use host_calls::states::{dropped_text, dumped, made, part};
 use host_calls::stores::{attached, closed, detached, numbered};
 use std::alloc::Global;
-use texts::text_of;
 
 // The interface that a host is compiled for: 1000 times the major number, and the minor one.
-const VERSION: u32 = 1_001;
+const VERSION: u32 = 2_000;
 
 /// The interface: 1000 times its major number, and its minor one.
 #[unsafe(no_mangle)]
 pub extern "C" fn nrbpf_raw_version() -> u32
-    ensures version { result ≡ 1001 }
+    ensures version { result ≡ 2000 }
 {
     VERSION
 }
@@ -58,6 +62,14 @@ pub extern "C" fn nrbpf_raw_state_size() -> usize
     ensures size { result ≡ type_size the_state }
 {
     std::mem::size_of::<StateHandle>()
+}
+
+/// How many bytes a text's handle takes.
+#[unsafe(no_mangle)]
+pub extern "C" fn nrbpf_raw_text_size() -> usize
+    ensures size { result ≡ type_size the_text }
+{
+    std::mem::size_of::<TextHandle>()
 }
 
 /// Opens a store, and writes its handle. It is closed where the store is refused, and its words say why.
@@ -166,13 +178,111 @@ pub unsafe extern "C" fn nrbpf_raw_call(at: *mut u8)
     called(&mut *(at as *mut SessionHandle));
 }
 
-/// Writes what a status says, cut off where the room ends, and returns how many bytes it wrote.
+/// Makes a new state of the store's sizes, and writes its handle. That has none where there is none.
 #[unsafe(no_mangle)]
-pub extern "C" fn nrbpf_raw_text(status: u32, out: &mut [u8]) -> usize
-    ensures fits { result ≤ length out.new }
+pub unsafe extern "C" fn nrbpf_raw_new_state(alloc: Global, at: *mut u8, room: *mut u8)
+    ghost value: { StoreHandle }
+    requires* { sem 𝓛 (holds_store at value) ∗ sem 𝓛 (room_at the_state room) }
+    ensures* { ∃ₛ (λ after. ∃ₛ (λ given. sem 𝓛 (holds_store at after) ∗ sem 𝓛 (holds_state room given) ∗ ⌜ Makes value after given ⌝)) }
 {
-    let text = text_of(status).as_bytes();
-    let count = text.len().min(out.len());
-    out[..count].copy_from_slice(&text[..count]);
-    count
+    std::ptr::write(
+        room as *mut StateHandle,
+        made(alloc, &mut *(at as *mut StoreHandle)),
+    );
+}
+
+/// Puts the value under a key of a map into `value`, if the key stands there.
+#[unsafe(no_mangle)]
+pub unsafe extern "C" fn nrbpf_raw_get(at: *mut u8, map: u32, key: &[u8], value: &mut [u8])
+    ghost before: { SessionHandle }
+    requires* { sem 𝓛 (holds_session at before) }
+    ensures* { ∃ₛ (λ after. sem 𝓛 (holds_session at after) ∗ ⌜ Gets map key.now value.old value.new before after ⌝) }
+{
+    got(&mut *(at as *mut SessionHandle), map, key, value);
+}
+
+/// Gives entries of a map from a place on, their keys one after another in `keys` and their values in `values`.
+#[unsafe(no_mangle)]
+pub unsafe extern "C" fn nrbpf_raw_scan(
+    at: *mut u8,
+    map: u32,
+    from: u32,
+    keys: &mut [u8],
+    values: &mut [u8],
+)
+    ghost before: { SessionHandle }
+    requires* { sem 𝓛 (holds_session at before) }
+    ensures* { ∃ₛ (λ after. sem 𝓛 (holds_session at after) ∗ ⌜ Scans map from keys.old keys.new values.old values.new before after ⌝) }
+{
+    scanned(&mut *(at as *mut SessionHandle), map, from, keys, values);
+}
+
+/// Answers several questions at one point, each in `replies` at its number.
+#[unsafe(no_mangle)]
+pub unsafe extern "C" fn nrbpf_raw_read_each(at: *mut u8, questions: &[Asking], replies: &mut [u64])
+    ghost before: { SessionHandle }
+    requires* { sem 𝓛 (holds_session at before) }
+    ensures* { ∃ₛ (λ after. sem 𝓛 (holds_session at after) ∗ ⌜ Answers questions.now replies.old replies.new before after ⌝) }
+{
+    answered_each(&mut *(at as *mut SessionHandle), questions, replies);
+}
+
+/// Makes a state that of the store at one point of the history.
+#[unsafe(no_mangle)]
+pub unsafe extern "C" fn nrbpf_raw_snapshot(at: *mut u8, state: *mut u8)
+    ghost values: { SessionHandle × StateHandle }
+    requires* { sem 𝓛 (holds_session at values.0) ∗ sem 𝓛 (holds_state state values.1) }
+    ensures* { ∃ₛ (λ after. ∃ₛ (λ left. sem 𝓛 (holds_session at after) ∗ sem 𝓛 (holds_state state left) ∗ ⌜ Snaps values.0 after values.1 left ⌝)) }
+{
+    snapped(
+        &mut *(at as *mut SessionHandle),
+        &mut *(state as *mut StateHandle),
+    );
+}
+
+/// Writes the handle of a state's text. That has none where there is none.
+#[unsafe(no_mangle)]
+pub unsafe extern "C" fn nrbpf_raw_dump(alloc: Global, state: *mut u8, room: *mut u8)
+    ghost value: { StateHandle }
+    requires* { sem 𝓛 (holds_state state value) ∗ sem 𝓛 (room_at the_text room) }
+    ensures* { ∃ₛ (λ given. sem 𝓛 (holds_state state value) ∗ sem 𝓛 (holds_text room given) ∗ ⌜ IsDumped value.own given ⌝) }
+{
+    std::ptr::write(
+        room as *mut TextHandle,
+        dumped(alloc, &mut *(state as *mut StateHandle)),
+    );
+}
+
+/// Copies bytes of a text from a place on, and returns how many.
+#[unsafe(no_mangle)]
+pub unsafe extern "C" fn nrbpf_raw_part(text: *mut u8, from: u64, out: &mut [u8]) -> usize
+    ghost value: { TextHandle }
+    requires* { sem 𝓛 (holds_text text value) }
+    ensures* { sem 𝓛 (holds_text text value) ∗ ⌜ IsPart (bytes_in value.own) from out.old out.new result ⌝ }
+{
+    part(&mut *(text as *mut TextHandle), from, out)
+}
+
+/// Gives a text up. Its handle is room then.
+#[unsafe(no_mangle)]
+pub unsafe extern "C" fn nrbpf_raw_drop_text(at: *mut u8)
+    ghost value: { TextHandle }
+    requires* { sem 𝓛 (holds_text at value) }
+    ensures* { sem 𝓛 (room_at the_text at) }
+{
+    dropped_text(&mut *(at as *mut TextHandle));
+}
+
+/// Loads a text as a state, and writes its handle. That has none where the text or the manifest is refused.
+#[unsafe(no_mangle)]
+pub unsafe extern "C" fn nrbpf_raw_load(
+    alloc: Global,
+    opening: &Opening,
+    text: &[u8],
+    room: *mut u8,
+)
+    requires* { sem 𝓛 (room_at the_state room) }
+    ensures* { ∃ₛ (λ given. sem 𝓛 (holds_state room given) ∗ ⌜ IsLoaded opening.now text.now given ⌝) }
+{
+    std::ptr::write(room as *mut StateHandle, loaded_text(alloc, opening, text));
 }
