@@ -1,0 +1,322 @@
+// calls.c: the calls on a session of nrbpf.h, each a try, and the loops that wait.
+#include "handles.h"
+#include <sched.h>
+#include <string.h>
+
+enum { SPINS = 9 };
+
+// Lets another session go on, behind so many tries: spins for longer from try to try, 16 us or so in all, and then lets another thread run.
+static void pause_behind(unsigned tries) {
+    if (tries >= SPINS) {
+        sched_yield();
+        return;
+    }
+    for (volatile unsigned spin = 0; spin < 16u << tries;) {
+        spin = spin + 1;
+    }
+}
+
+static unsigned one_more(unsigned tries) {
+    return tries < SPINS ? tries + 1 : tries;
+}
+
+// Whether a session takes a call: H2, H3.
+static nrbpf_status usable(const nrbpf_session *session) {
+    if (!session->of) {
+        return NRBPF_H2;
+    }
+    if (session->is_posted) {
+        return NRBPF_H3;
+    }
+    return NRBPF_OK;
+}
+
+// Writes why the session's last call is refused, if it is. What it answered.
+static nrbpf_status told(const nrbpf_session *session, nrbpf_error *why) {
+    const struct nrbpf_raw_session *raw = &session->raw;
+    const nrbpf_status status = (nrbpf_status)raw->status;
+    if (why && status >> 8 != 0) {
+        why->status = status;
+        why->inner = (nrbpf_status)raw->inner;
+        why->line = 0;
+        why->slot = (uint32_t)raw->slot;
+    }
+    return status;
+}
+
+// ---- Updates, reads and installs
+
+// What is asked for.
+struct asked {
+    uint64_t call;
+    uint64_t mode;
+    uint64_t argument;
+    const void *bytes;
+    size_t len;
+    uint16_t program;
+};
+
+static struct asked run_of(uint64_t call, uint16_t program, const void *argument, size_t len) {
+    struct asked it;
+    it.call = call;
+    it.mode = 0;
+    it.argument = 0;
+    it.bytes = argument;
+    it.len = len;
+    it.program = program;
+    return it;
+}
+
+static struct asked install_of(uint32_t mode, uint32_t argument_len, const void *bytes, size_t len) {
+    struct asked it;
+    it.call = NRBPF_RAW_INSTALL;
+    it.mode = mode;
+    it.argument = argument_len;
+    it.bytes = bytes;
+    it.len = len;
+    it.program = 0;
+    return it;
+}
+
+// Makes the call that the session's words ask for, or goes on with what is posted.
+static nrbpf_status go_on(nrbpf_session *session, nrbpf_answer *out, nrbpf_error *why) {
+    const struct nrbpf_raw_session *raw = &session->raw;
+    nrbpf_raw_call(&session->raw);
+    session->is_posted = raw->status == NRBPF_POSTED;
+    if (raw->status == NRBPF_OK) {
+        out->point = raw->place;
+        out->reply = raw->reply;
+        return NRBPF_OK;
+    }
+    return told(session, why);
+}
+
+static nrbpf_status ask(nrbpf_session *session, const struct asked *it, nrbpf_answer *out, nrbpf_error *why) {
+    if (!session || (!it->bytes && it->len > 0) || !out) {
+        return refused(why, NRBPF_H7);
+    }
+    const nrbpf_status status = usable(session);
+    if (status != NRBPF_OK) {
+        return refused(why, status);
+    }
+    struct nrbpf_raw_session *raw = &session->raw;
+    if (it->len > sizeof raw->bytes && it->call == NRBPF_RAW_INSTALL) {
+        return refused(why, NRBPF_S6);
+    }
+    raw->call = it->call;
+    raw->program = it->program;
+    raw->mode = it->mode;
+    raw->argument = it->argument;
+    if (it->len > sizeof raw->bytes) {
+        raw->length = sizeof raw->bytes;        // no argument of a program has as many: S2
+    } else if (it->len > 0) {
+        raw->length = it->len;
+        memcpy(raw->bytes, it->bytes, it->len);
+    } else {
+        raw->length = 0;
+    }
+    return go_on(session, out, why);
+}
+
+static nrbpf_status wait_for(nrbpf_session *session, const struct asked *it, nrbpf_answer *out, nrbpf_error *why) {
+    nrbpf_status status = ask(session, it, out, why);
+    unsigned tries = 0;
+    while (status == NRBPF_BUSY || status == NRBPF_POSTED) {
+        pause_behind(tries);
+        tries = one_more(tries);
+        status = go_on(session, out, why);
+    }
+    return status;
+}
+
+nrbpf_status nrbpf_update(nrbpf_session *session, uint16_t program, const void *argument, size_t len, nrbpf_answer *out) {
+    const struct asked it = run_of(NRBPF_RAW_UPDATE, program, argument, len);
+    return wait_for(session, &it, out, NULL);
+}
+
+nrbpf_status nrbpf_read(nrbpf_session *session, uint16_t program, const void *argument, size_t len, nrbpf_answer *out) {
+    const struct asked it = run_of(NRBPF_RAW_READ, program, argument, len);
+    return wait_for(session, &it, out, NULL);
+}
+
+nrbpf_status nrbpf_install(nrbpf_session *session, uint32_t mode, uint32_t argument_len, const void *bytes, size_t len, nrbpf_answer *out,
+                           nrbpf_error *why) {
+    const struct asked it = install_of(mode, argument_len, bytes, len);
+    return wait_for(session, &it, out, why);
+}
+
+nrbpf_status nrbpf_try_update(nrbpf_session *session, uint16_t program, const void *argument, size_t len, nrbpf_answer *out) {
+    const struct asked it = run_of(NRBPF_RAW_UPDATE, program, argument, len);
+    return ask(session, &it, out, NULL);
+}
+
+nrbpf_status nrbpf_try_read(nrbpf_session *session, uint16_t program, const void *argument, size_t len, nrbpf_answer *out) {
+    const struct asked it = run_of(NRBPF_RAW_READ, program, argument, len);
+    return ask(session, &it, out, NULL);
+}
+
+nrbpf_status nrbpf_try_install(nrbpf_session *session, uint32_t mode, uint32_t argument_len, const void *bytes, size_t len, nrbpf_answer *out,
+                               nrbpf_error *why) {
+    const struct asked it = install_of(mode, argument_len, bytes, len);
+    return ask(session, &it, out, why);
+}
+
+nrbpf_status nrbpf_poll(nrbpf_session *session, nrbpf_answer *out) {
+    if (!session || !out) {
+        return NRBPF_H7;
+    }
+    if (!session->of) {
+        return NRBPF_H2;
+    }
+    if (!session->is_posted) {
+        return NRBPF_H11;
+    }
+    return go_on(session, out, NULL);
+}
+
+// ---- More reads
+
+nrbpf_status nrbpf_try_get(nrbpf_session *session, uint32_t map, const void *key, size_t key_len, void *value, size_t value_len,
+                           nrbpf_found *out) {
+    uint8_t none = 0;                           // what a null pointer with no bytes behind it points to
+    const uint8_t *const from = key ? (const uint8_t *)key : &none;
+    uint8_t *const to = value ? (uint8_t *)value : &none;
+    if (!session || (!key && key_len > 0) || (!value && value_len > 0) || !out) {
+        return NRBPF_H7;
+    }
+    nrbpf_status status = usable(session);
+    if (status != NRBPF_OK) {
+        return status;
+    }
+    nrbpf_raw_get(&session->raw, map, from, key_len, to, value_len);
+    status = told(session, NULL);
+    if (status == NRBPF_OK) {
+        out->point = session->raw.place;
+        out->is_there = (uint32_t)session->raw.count;
+    }
+    return status;
+}
+
+nrbpf_status nrbpf_get(nrbpf_session *session, uint32_t map, const void *key, size_t key_len, void *value, size_t value_len, nrbpf_found *out) {
+    nrbpf_status status = nrbpf_try_get(session, map, key, key_len, value, value_len, out);
+    unsigned tries = 0;
+    while (status == NRBPF_BUSY) {
+        pause_behind(tries);
+        tries = one_more(tries);
+        status = nrbpf_try_get(session, map, key, key_len, value, value_len, out);
+    }
+    return status;
+}
+
+nrbpf_status nrbpf_try_scan(nrbpf_session *session, uint32_t map, uint32_t from, void *keys, size_t keys_room, void *values, size_t values_room,
+                            nrbpf_scanned *out) {
+    uint8_t none = 0;
+    uint8_t *const keys_at = keys ? (uint8_t *)keys : &none;
+    uint8_t *const values_at = values ? (uint8_t *)values : &none;
+    if (!session || (!keys && keys_room > 0) || (!values && values_room > 0) || !out) {
+        return NRBPF_H7;
+    }
+    nrbpf_status status = usable(session);
+    if (status != NRBPF_OK) {
+        return status;
+    }
+    nrbpf_raw_scan(&session->raw, map, from, keys_at, keys_room, values_at, values_room);
+    status = told(session, NULL);
+    if (status == NRBPF_OK) {
+        out->point = session->raw.place;
+        out->count = (uint32_t)session->raw.count;
+        out->next = session->raw.next == NRBPF_RAW_END ? NRBPF_END : (uint32_t)session->raw.next;
+    }
+    return status;
+}
+
+nrbpf_status nrbpf_scan(nrbpf_session *session, uint32_t map, uint32_t from, void *keys, size_t keys_room, void *values, size_t values_room,
+                        nrbpf_scanned *out) {
+    nrbpf_status status = nrbpf_try_scan(session, map, from, keys, keys_room, values, values_room, out);
+    unsigned tries = 0;
+    while (status == NRBPF_BUSY) {
+        pause_behind(tries);
+        tries = one_more(tries);
+        status = nrbpf_try_scan(session, map, from, keys, keys_room, values, values_room, out);
+    }
+    return status;
+}
+
+// The questions, which are at most 16, as the proved library takes them: H7.
+static nrbpf_status questions_of(const nrbpf_question *questions, size_t count, struct nrbpf_raw_question *asked, const uint8_t *none) {
+    for (size_t i = 0; i < count; i++) {
+        if (!questions[i].argument && questions[i].len > 0) {
+            return NRBPF_H7;
+        }
+        asked[i].argument.at = questions[i].argument ? (const uint8_t *)questions[i].argument : none;
+        asked[i].argument.length = questions[i].len;
+        asked[i].program = questions[i].program;
+    }
+    return NRBPF_OK;
+}
+
+nrbpf_status nrbpf_try_read_each(nrbpf_session *session, const nrbpf_question *questions, size_t count, uint64_t *replies, uint64_t *point,
+                                 nrbpf_error *why) {
+    struct nrbpf_raw_question asked[NRBPF_MOST_QUESTIONS];
+    const uint8_t none = 0;
+    uint64_t no_reply = 0;
+    if (!session || (!questions && count > 0) || (!replies && count > 0) || !point) {
+        return refused(why, NRBPF_H7);
+    }
+    nrbpf_status status = usable(session);
+    if (status != NRBPF_OK) {
+        return refused(why, status);
+    }
+    if (count > NRBPF_MOST_QUESTIONS) {
+        return refused(why, NRBPF_H5);
+    }
+    status = questions_of(questions, count, asked, &none);
+    if (status != NRBPF_OK) {
+        return refused(why, status);
+    }
+    nrbpf_raw_read_each(&session->raw, asked, count, replies ? replies : &no_reply, count);
+    status = told(session, why);
+    if (status == NRBPF_OK) {
+        *point = session->raw.place;
+    }
+    return status;
+}
+
+nrbpf_status nrbpf_read_each(nrbpf_session *session, const nrbpf_question *questions, size_t count, uint64_t *replies, uint64_t *point,
+                             nrbpf_error *why) {
+    nrbpf_status status = nrbpf_try_read_each(session, questions, count, replies, point, why);
+    unsigned tries = 0;
+    while (status == NRBPF_BUSY) {
+        pause_behind(tries);
+        tries = one_more(tries);
+        status = nrbpf_try_read_each(session, questions, count, replies, point, why);
+    }
+    return status;
+}
+
+nrbpf_status nrbpf_try_snapshot(nrbpf_session *session, nrbpf_state *into, uint64_t *point) {
+    if (!session || !into || !point) {
+        return NRBPF_H7;
+    }
+    nrbpf_status status = usable(session);
+    if (status != NRBPF_OK) {
+        return status;
+    }
+    nrbpf_raw_snapshot(&session->raw, raw_state_of(into));
+    status = told(session, NULL);
+    if (status == NRBPF_OK) {
+        *point = session->raw.place;
+    }
+    return status;
+}
+
+nrbpf_status nrbpf_snapshot(nrbpf_session *session, nrbpf_state *into, uint64_t *point) {
+    nrbpf_status status = nrbpf_try_snapshot(session, into, point);
+    unsigned tries = 0;
+    while (status == NRBPF_BUSY) {
+        pause_behind(tries);
+        tries = one_more(tries);
+        status = nrbpf_try_snapshot(session, into, point);
+    }
+    return status;
+}
