@@ -1,9 +1,11 @@
 // limiter.c: a rate limiter over a Unix socket, a thread a client. Its operations are the programs of examples/c/rate_limiter: a bucket of
 // tokens for each user, of which one comes back every PERIOD milliseconds. Programs have no clock, so the time is part of a call.
 //
-//     limiter SOCKET BURST PERIOD [LIMIT]
+//     limiter SOCKET BURST PERIOD [STATE [EVERY]]
 //
-// LIMIT is how many updates the history of a store has, 1,000,000 where nothing is said.
+// STATE is a file in which the buckets outlive the process: it is loaded at the start, where it is there, and written every EVERY milliseconds (10,000
+// where nothing is said) and at the end, beside itself and then renamed. As often, buckets that have been full for so long are taken away, so that
+// there is room for other users.
 //
 // A client writes lines, and each is answered by one:
 //     take USER TOKENS    1, and they are taken; 0 where there are fewer; -7 where there is no room for another user
@@ -11,9 +13,11 @@
 // and `bad` to any other. It runs in the top folder of the repository until SIGINT or SIGTERM, and then prints what it did.
 #include "../../examples/c/rate_limiter/rate_limiter.h"
 #include "../nrbpf.h"
+#include <errno.h>
 #include <inttypes.h>
 #include <pthread.h>
 #include <signal.h>
+#include <stdatomic.h>
 #include <stdio.h>
 #include <stdlib.h>
 #include <string.h>
@@ -22,142 +26,218 @@
 #include <time.h>
 #include <unistd.h>
 
-enum { NODES = 2, SLOTS = 16, MOST_CLIENTS = NODES * SLOTS, MOST_LINE = 80, MOST_FILE = 8192 };
+enum { NODES = 2, SLOTS = 16, MOST_CLIENTS = NODES * SLOTS, KEEPER = NODES, MOST_LINE = 80, MOST_PATH = 400 };
+enum { PROGRAMS = 4, BUCKETS = 1, PAGE = 256, MOMENT = 100 };
+
+// A value of the map BUCKETS, whose keys are users.
+struct bucket {
+    uint64_t tokens, filled;
+};
 
 static struct settings settings;                // the arguments of the programs are those of rate_limiter.h
+static const char *state_path;
+static uint32_t every = 10000;
 
-static uint32_t limit = 1000000;
+static nrbpf_store *store;
+static uint16_t take_number, left_number, sweep_number;
 
 static _Noreturn void fail(const char *what) {
     perror(what);
     exit(1);
 }
 
-// The lock is of all that is static below it.
-static pthread_mutex_t lock = PTHREAD_MUTEX_INITIALIZER;
-static pthread_cond_t left = PTHREAD_COND_INITIALIZER;
-static struct { uint64_t clients, turned_away, lines, granted, stores; } figures;
+static void check(nrbpf_status status) {
+    if (status == NRBPF_OK) return;
+    fprintf(stderr, "limiter: %s\n", nrbpf_status_text(status));
+    exit(1);
+}
 
-// ---- The store. A history has a last record. Behind it the next store begins, with full buckets, and the old one ends with its last client.
+// Milliseconds of the clock on the wall: what a state says must mean the same in the next process.
+static uint64_t now(void) {
+    struct timespec t;
+    clock_gettime(CLOCK_REALTIME, &t);
+    return (uint64_t)t.tv_sec * 1000 + (uint64_t)t.tv_nsec / 1000000;
+}
 
-typedef struct era {
-    nrbpf_store *store;
-    uint16_t take, left;
-    int clients;
-} era;
-
-static era *current;
+// ---- The store, on the state of the file or on a new one
 
 static nrbpf_file file_of(const char *path) {
     FILE *file = fopen(path, "rb");
-    char *text = malloc(MOST_FILE);
+    size_t len = 0, room = 4096;
+    char *text = malloc(room);
     if (!file || !text) fail(path);
-    size_t len = fread(text, 1, MOST_FILE, file);
-    if (ferror(file) || len == MOST_FILE) fail(path);
+    for (size_t more; (more = fread(text + len, 1, room - len, file)) > 0;) {
+        len += more;
+        if (len == room && !(text = realloc(text, room *= 2))) fail(path);
+    }
+    if (ferror(file)) fail(path);
     fclose(file);
     return (nrbpf_file){path, strlen(path), text, len};
 }
 
-static nrbpf_status open_store(nrbpf_store **store) {
-    nrbpf_config config = {NRBPF_VERSION, NODES, SLOTS, 4096, limit, 0};
-    nrbpf_file files[] = {file_of("embed/limiter/manifest"), file_of("examples/c/rate_limiter/configure.hex"),
-                          file_of("examples/c/rate_limiter/take.hex"), file_of("examples/c/rate_limiter/left.hex")};
-    nrbpf_error why;
-    nrbpf_status status = nrbpf_open(&config, files[0].text, files[0].text_len, files + 1, 3, store, &why);
-    for (int i = 0; i < 4; i++) free((char *)files[i].text);
-    if (status) {
-        char text[200];
-        nrbpf_explain(&why, text, sizeof text);
-        fprintf(stderr, "limiter: %s\n", text);
-    }
-    return status;
+static void complain(const char *of, const nrbpf_error *why) {
+    char text[300];
+    nrbpf_error_text(why, text, sizeof text);
+    fprintf(stderr, "limiter: %s: %s\n", of, text);
+    exit(1);
 }
 
-// Null where it can't be.
-static era *begin_era(void) {
+static int is_there(const char *path) { return access(path, F_OK) == 0 || errno != ENOENT; }
+
+static void open_store(void) {
+    nrbpf_config config = NRBPF_CONFIG(NODES + 1, SLOTS);
+    nrbpf_file manifest = file_of("embed/limiter/manifest"), text = {"embed/limiter/manifest", 0, NULL, 0};
+    nrbpf_file files[PROGRAMS] = {file_of("examples/c/rate_limiter/configure.hex"), file_of("examples/c/rate_limiter/take.hex"),
+                                  file_of("examples/c/rate_limiter/left.hex"), file_of("embed/limiter/sweep.hex")};
+    nrbpf_state *state;
+    nrbpf_error why;
+    if (state_path && is_there(state_path)) text = file_of(state_path);
+    if (nrbpf_state_load(&config, manifest.text, manifest.text_len, files, PROGRAMS, text.text, text.text_len, &state, &why)) complain(text.name, &why);
+    if (nrbpf_open_on(&config, manifest.text, manifest.text_len, files, PROGRAMS, state, &store, &why)) complain("the store", &why);
+    nrbpf_state_free(state);
+    for (int i = 0; i < PROGRAMS; i++) free((char *)files[i].text);
+    free((char *)manifest.text);
+    free((char *)text.text);
+}
+
+static void configure(void) {
     uint16_t configure;
     nrbpf_session *session;
     nrbpf_answer answer;
-    era *next = calloc(1, sizeof *next);
-    if (!next || open_store(&next->store)) {
-        free(next);
-        return NULL;
-    }
-    if (nrbpf_program_number(next->store, "configure", 9, &configure) || nrbpf_program_number(next->store, "take", 4, &next->take) ||
-        nrbpf_program_number(next->store, "left", 4, &next->left) || nrbpf_attach(next->store, 0, &session) ||
-        nrbpf_update(session, configure, &settings, sizeof settings, &answer) || answer.reply || nrbpf_detach(session)) {
-        fprintf(stderr, "limiter: the manifest or the settings are wrong\n");
+    check(nrbpf_program_number(store, "configure", 9, &configure));
+    check(nrbpf_program_number(store, "take", 4, &take_number));
+    check(nrbpf_program_number(store, "left", 4, &left_number));
+    check(nrbpf_program_number(store, "sweep", 5, &sweep_number));
+    check(nrbpf_attach(store, 0, &session));
+    check(nrbpf_update(session, configure, &settings, sizeof settings, &answer));
+    if (answer.reply != 0) {
+        fprintf(stderr, "limiter: BURST and PERIOD are at least 1\n");
         exit(1);
     }
-    figures.stores++;
-    return next;
+    check(nrbpf_detach(session));
 }
 
-// The era that is behind this one, with a client more.
-static era *join_era(const era *over) {
-    pthread_mutex_lock(&lock);
-    era *next = current == over ? begin_era() : current;
-    if (next) {
-        current = next;
-        next->clients++;
+// ---- The keeper: a session of a node that has no client, so that nobody waits for its copies
+
+typedef struct keeper {
+    pthread_t thread;
+    nrbpf_session *session;
+    nrbpf_state *state;
+    uint64_t written, swept;
+} keeper;
+
+static atomic_int stopped;
+
+static int write_part(void *to, const char *bytes, size_t len) { return fwrite(bytes, 1, len, to) != len; }
+
+// Puts the state into the file, or leaves that as it is.
+static int put(const nrbpf_state *state) {
+    char part[MOST_PATH + 10];
+    snprintf(part, sizeof part, "%s.part", state_path);
+    FILE *out = fopen(part, "wb");
+    if (!out) return 0;
+    int is_written = nrbpf_state_dump(state, write_part, out) == NRBPF_OK && fflush(out) == 0 && fsync(fileno(out)) == 0;
+    if (fclose(out) != 0) is_written = 0;
+    return is_written && rename(part, state_path) == 0;
+}
+
+static void keep(keeper *of) {
+    uint64_t point;
+    if (!state_path) return;
+    check(nrbpf_snapshot(of->session, of->state, &point));
+    if (put(of->state)) of->written++;
+    else perror(state_path);
+}
+
+// Whether a bucket has been full for long by now.
+static int is_idle(const struct bucket *bucket, uint64_t at) {
+    const uint64_t missing = settings.burst > bucket->tokens ? settings.burst - bucket->tokens : 0;
+    return bucket->filled + missing * settings.period + every <= at;
+}
+
+static uint64_t users[PAGE];
+static struct bucket buckets[PAGE];
+
+// Takes those of a page away. How many.
+static uint64_t sweep_page(keeper *of, uint32_t from, nrbpf_scanned *page) {
+    const uint64_t at = now();
+    uint64_t gone = 0;
+    nrbpf_answer answer;
+    check(nrbpf_scan(of->session, BUCKETS, from, users, sizeof users, buckets, sizeof buckets, page));
+    for (uint32_t i = 0; i < page->count; i++) {
+        const struct left left = {users[i], at};
+        if (!is_idle(&buckets[i], at)) continue;
+        check(nrbpf_update(of->session, sweep_number, &left, sizeof left, &answer));
+        gone += answer.reply == 1;
     }
-    pthread_mutex_unlock(&lock);
-    return next;
+    return gone;
 }
 
-static void leave_era(era *of) {
-    pthread_mutex_lock(&lock);
-    int is_last = --of->clients == 0 && of != current;
-    pthread_mutex_unlock(&lock);
-    if (!is_last) return;
-    nrbpf_close(of->store);
-    free(of);
+// Page by page, each again until it has none: what is taken away may bring another bucket to its place.
+static void sweep(keeper *of) {
+    nrbpf_scanned page = {0, 0, 0};
+    for (uint32_t from = 0; from != NRBPF_END; from = page.next) {
+        uint64_t gone;
+        while ((gone = sweep_page(of, from, &page)) > 0) of->swept += gone;
+    }
+}
+
+static void *keep_up(void *at) {
+    const struct timespec moment = {0, MOMENT * 1000000};
+    keeper *of = at;
+    uint64_t point, due = now() + every;
+    while (!stopped) {
+        nanosleep(&moment, NULL);
+        check(nrbpf_read_each(of->session, NULL, 0, NULL, &point, NULL)); // so that its node stays near
+        if (now() < due) continue;
+        sweep(of);
+        keep(of);
+        due = now() + every;
+    }
+    return NULL;
+}
+
+static void begin_keeping(keeper *of) {
+    check(nrbpf_attach(store, KEEPER, &of->session));
+    check(nrbpf_state_new(store, &of->state));
+    if (pthread_create(&of->thread, NULL, keep_up, of)) fail("limiter");
+}
+
+// Behind the last client.
+static void end_keeping(keeper *of) {
+    stopped = 1;
+    pthread_join(of->thread, NULL);
+    keep(of);
+    check(nrbpf_detach(of->session));
+    nrbpf_state_free(of->state);
 }
 
 // ---- A client
 
 typedef struct client {
     int socket;
-    era *in;
     nrbpf_session *session;
     uint64_t lines, granted;
     struct client *next;
 } client;
 
+// The lock is of all that is static below it.
+static pthread_mutex_t lock = PTHREAD_MUTEX_INITIALIZER;
+static pthread_cond_t left_one = PTHREAD_COND_INITIALIZER;
+static struct { uint64_t clients, turned_away, lines, granted; } figures;
 static client *clients;
-static int count;                               // of them. An era has a session for each
+static int count;                               // of them
 
-// Gives it a session of the era behind this one, in place of the one it has.
-static int move_on(client *of, era *over) {
-    nrbpf_session *session = NULL;
-    era *next = join_era(over);
-    if (!next) return 0;
-    for (uint32_t i = 0; !session && i < NODES; i++)
-        if (nrbpf_attach(next->store, ((uint32_t)of->socket + i) % NODES, &session) == NRBPF_OK) break;
-    if (over) {
-        nrbpf_detach(of->session);
-        leave_era(over);
-    }
-    of->in = next;
-    of->session = session;
-    return 1;
-}
-
-static uint64_t now(void) {
-    struct timespec t;
-    clock_gettime(CLOCK_MONOTONIC, &t);
-    return (uint64_t)t.tv_sec * 1000 + (uint64_t)t.tv_nsec / 1000000;
-}
-
-static nrbpf_status call(client *of, const char *line, nrbpf_answer *answer) {
+// Makes the call that a line says: S1 where it says none.
+static nrbpf_status call(const client *of, const char *line, nrbpf_answer *answer) {
     struct take take = {.now = now()};
     struct left left = {.now = take.now};
     char end;
     if (sscanf(line, "take %" SCNu64 " %" SCNu64 "%c", &take.user, &take.tokens, &end) == 3 && end == '\n')
-        return nrbpf_update(of->session, of->in->take, &take, sizeof take, answer);
+        return nrbpf_update(of->session, take_number, &take, sizeof take, answer);
     if (sscanf(line, "left %" SCNu64 "%c", &left.user, &end) == 2 && end == '\n')
-        return nrbpf_read(of->session, of->in->left, &left, sizeof left, answer);
-    return NRBPF_S1;
+        return nrbpf_read(of->session, left_number, &left, sizeof left, answer);
+    return NRBPF_UNKNOWN_PROGRAM;
 }
 
 // Answers its lines until it goes away.
@@ -166,7 +246,6 @@ static void serve(client *of, FILE *in, FILE *out) {
     while (fgets(line, sizeof line, in)) {
         nrbpf_answer answer;
         nrbpf_status status = call(of, line, &answer);
-        while (status == NRBPF_S4 && move_on(of, of->in)) status = call(of, line, &answer);
         int written = status ? fputs("bad\n", out) : fprintf(out, "%" PRId64 "\n", (int64_t)answer.reply);
         if (written < 0 || fflush(out)) return;
         of->lines++;
@@ -179,9 +258,8 @@ static void *work(void *at) {
     FILE *in = fdopen(of->socket, "r"), *out = fdopen(dup(of->socket), "w");
     if (!in || !out) fail("limiter");
     serve(of, in, out);
-    nrbpf_detach(of->session);
-    leave_era(of->in);
     pthread_mutex_lock(&lock);
+    nrbpf_detach(of->session);
     while (*place != of) place = &(*place)->next;
     *place = of->next;
     fclose(in);                                 // under the lock, so that `stop` shuts no socket down that is another's by now
@@ -189,10 +267,22 @@ static void *work(void *at) {
     figures.lines += of->lines;
     figures.granted += of->granted;
     count--;
-    pthread_cond_signal(&left);
+    pthread_cond_signal(&left_one);
     pthread_mutex_unlock(&lock);
     free(of);
     return NULL;
+}
+
+// Under the lock. Whether there is a session for it, of one node or the other.
+static int joins(client *of, int socket) {
+    if (count == MOST_CLIENTS) return 0;
+    const uint32_t first = (uint32_t)count % NODES;
+    if (nrbpf_attach(store, first, &of->session) && nrbpf_attach(store, 1 - first, &of->session)) return 0;
+    of->socket = socket;
+    of->next = clients;
+    clients = of;
+    count++;
+    return 1;
 }
 
 // Gives a client a session and a thread, or turns it away.
@@ -200,22 +290,16 @@ static void welcome(int socket) {
     pthread_t thread;
     client *of = calloc(1, sizeof *of);
     pthread_mutex_lock(&lock);
-    int is_in = of && count < MOST_CLIENTS;
-    count += is_in;
+    int is_in = of && joins(of, socket);
     figures.clients += is_in ? 1 : 0;
     figures.turned_away += is_in ? 0 : 1;
-    if (is_in) {
-        of->socket = socket;
-        of->next = clients;
-        clients = of;
-    }
     pthread_mutex_unlock(&lock);
     if (!is_in) {
         close(socket);
         free(of);
         return;
     }
-    if (!move_on(of, NULL) || pthread_create(&thread, NULL, work, of)) fail("limiter");
+    if (pthread_create(&thread, NULL, work, of)) fail("limiter");
     pthread_detach(thread);
 }
 
@@ -240,10 +324,8 @@ static int listen_at(const char *path) {
 static void stop(void) {
     pthread_mutex_lock(&lock);
     for (client *of = clients; of; of = of->next) shutdown(of->socket, SHUT_RDWR);
-    while (count) pthread_cond_wait(&left, &lock);
+    while (count) pthread_cond_wait(&left_one, &lock);
     pthread_mutex_unlock(&lock);
-    nrbpf_close(current->store);
-    free(current);
 }
 
 static int is_number(const char *word, uint32_t *number) {
@@ -251,20 +333,32 @@ static int is_number(const char *word, uint32_t *number) {
     return sscanf(word, "%" SCNu32 "%c", number, &end) == 1;
 }
 
+// What the command line says.
+static int is_told(int words, char **word) {
+    if (words < 4 || words > 6 || !is_number(word[2], &settings.burst) || !is_number(word[3], &settings.period)) return 0;
+    if (words > 4) state_path = word[4];
+    if (words > 5 && (!is_number(word[5], &every) || every == 0)) return 0;
+    return !state_path || strlen(state_path) <= MOST_PATH;
+}
+
 int main(int words, char **word) {
-    if (words < 4 || words > 5 || !is_number(word[2], &settings.burst) || !is_number(word[3], &settings.period) || (words == 5 && !is_number(word[4], &limit))) {
-        fprintf(stderr, "limiter SOCKET BURST PERIOD [LIMIT]\n");
+    sigset_t ends;
+    int which;
+    pthread_t thread;
+    keeper kept = {.session = NULL};
+    if (!is_told(words, word)) {
+        fprintf(stderr, "limiter SOCKET BURST PERIOD [STATE [EVERY]]\n");
         return 2;
     }
-    sigset_t ends;
-    int which, listener = listen_at(word[1]);
-    pthread_t thread;
+    open_store();
+    configure();
+    int listener = listen_at(word[1]);
     sigemptyset(&ends);
     sigaddset(&ends, SIGINT);
     sigaddset(&ends, SIGTERM);
     signal(SIGPIPE, SIG_IGN);
     pthread_sigmask(SIG_BLOCK, &ends, NULL);    // in the threads too, which begin below
-    if (!(current = begin_era())) return 1;
+    begin_keeping(&kept);
     if (pthread_create(&thread, NULL, welcome_all, &listener)) fail("limiter");
     printf("limiter: ready\n");
     fflush(stdout);
@@ -272,9 +366,12 @@ int main(int words, char **word) {
     shutdown(listener, SHUT_RDWR);
     pthread_join(thread, NULL);
     stop();
+    end_keeping(&kept);
+    check(nrbpf_close(store));
     close(listener);
     unlink(word[1]);
-    printf("limiter: %" PRIu64 " clients, %" PRIu64 " turned away; %" PRIu64 " lines, %" PRIu64 " times tokens granted; %" PRIu64 " stores\n", figures.clients,
-           figures.turned_away, figures.lines, figures.granted, figures.stores);
+    printf("limiter: %" PRIu64 " clients, %" PRIu64 " turned away; %" PRIu64 " lines, %" PRIu64 " times tokens granted; ", figures.clients,
+           figures.turned_away, figures.lines, figures.granted);
+    printf("%" PRIu64 " full buckets swept, the state written %" PRIu64 " times\n", kept.swept, kept.written);
     return 0;
 }

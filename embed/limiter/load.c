@@ -1,8 +1,9 @@
 // load.c: clients of limiter.c, a thread each, which take a token as often as they can; and whether the limit was kept.
 //
 //     load SOCKET CLIENTS CALLS USERS BURST PERIOD
+//     load SOCKET LINE
 //
-// Prints how many calls a second were answered, and how long they took.
+// The first prints how many calls a second were answered, and how long they took; the second the answer to one line.
 #include <pthread.h>
 #include <signal.h>
 #include <stdio.h>
@@ -86,12 +87,25 @@ static int is_kept(const client *all, double milliseconds) {
     return 1;
 }
 
+static int ask(const char *said) {
+    int socket_ = connected();
+    FILE *in = fdopen(socket_, "r"), *out = fdopen(dup(socket_), "w");
+    char line[80];
+    if (!in || !out || fprintf(out, "%s\n", said) < 0 || fflush(out) || !fgets(line, sizeof line, in)) fail("load");
+    fputs(line, stdout);
+    fclose(in);
+    fclose(out);
+    return 0;
+}
+
 int main(int words, char **word) {
-    if (words != 7) {
-        fprintf(stderr, "load SOCKET CLIENTS CALLS USERS BURST PERIOD\n");
+    if (words != 7 && words != 3) {
+        fprintf(stderr, "load SOCKET CLIENTS CALLS USERS BURST PERIOD\nload SOCKET LINE\n");
         return 2;
     }
-    load.socket = word[1], load.clients = atoi(word[2]), load.calls = atoi(word[3]);
+    load.socket = word[1];
+    if (words == 3) return ask(word[2]);
+    load.clients = atoi(word[2]), load.calls = atoi(word[3]);
     load.users = atoi(word[4]), load.burst = atoi(word[5]), load.period = atoi(word[6]);
     if (load.clients < 1 || load.calls < 1 || load.users < 1 || load.period < 1) return 2;
     signal(SIGPIPE, SIG_IGN);
@@ -113,9 +127,9 @@ int main(int words, char **word) {
     }
     int kept = is_kept(all, (to - from) / 1e6);
     qsort(took, all_calls, sizeof *took, by_size);
-    printf("load: %d clients, %.0f calls a second; a call takes %.1f us, 99 of 100 at most %.1f, the longest %.1f; the limit of %d users %s kept\n", load.clients,
-           (double)all_calls / (to - from) * 1e9, took[all_calls / 2] / 1e3, took[all_calls / 100 * 99] / 1e3, took[all_calls - 1] / 1e3, load.users,
-           kept ? "is" : "is NOT");
+    printf("load: %d clients, %.0f calls a second; a call takes %.1f us, 99 of 100 at most %.1f, the longest %.1f; ", load.clients,
+           (double)all_calls / (to - from) * 1e9, took[all_calls / 2] / 1e3, took[all_calls / 100 * 99] / 1e3, took[all_calls - 1] / 1e3);
+    printf("the limit of %d users %s kept\n", load.users, kept ? "is" : "is NOT");
     free(all), free(took), free(granted);
     return !kept;
 }
