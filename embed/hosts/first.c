@@ -31,7 +31,7 @@ int main(void) {
     nrbpf_error why;
     if (nrbpf_open(&config, manifest, len, files, 2, &store, &why)) {
         char text[512];
-        nrbpf_explain(&why, text, sizeof text);
+        nrbpf_error_text(&why, text, sizeof text);
         fprintf(stderr, "%s\n", text);
         return 1;
     }
@@ -46,9 +46,9 @@ int main(void) {
     if ((status = nrbpf_attach(store, 0, &session))) return complain(status);
 
     if ((status = nrbpf_update(session, bump, key, sizeof key, &answer))) return complain(status);
-    printf("update %" PRIu64 " reply %" PRIu64 ", ", answer.place, answer.reply);
+    printf("update %" PRIu64 " reply %" PRIu64 ", ", answer.point, answer.reply);
     if ((status = nrbpf_read(session, peek, key, sizeof key, &answer))) return complain(status);
-    printf("read %" PRIu64 " reply %" PRIu64 "\n", answer.place, answer.reply);
+    printf("read %" PRIu64 " reply %" PRIu64 "\n", answer.point, answer.reply);
 
     nrbpf_detach(session);
     nrbpf_close(store);

@@ -74,6 +74,33 @@ static inline nrbpf_store *opened(const nrbpf_config *config) {
     return store;
 }
 
+static inline nrbpf_session *attached(nrbpf_store *store, uint32_t node) {
+    nrbpf_session *session = NULL;
+    EXPECT_STATUS(nrbpf_attach(store, node, &session), NRBPF_OK);
+    return session;
+}
+
+// What a state is dumped into: a text with a zero behind it.
+typedef struct dump {
+    char text[65536];
+    size_t len;
+} dump;
+
+static inline int keep(void *to, const char *bytes, size_t len) {
+    dump *into = (dump *)to;
+    EXPECT(len > 0 && len <= 16384 && into->len + len < sizeof into->text);
+    memcpy(into->text + into->len, bytes, len);
+    into->len += len;
+    into->text[into->len] = 0;
+    return 0;
+}
+
+static inline void dump_state(const nrbpf_state *state, dump *into) {
+    into->len = 0;
+    into->text[0] = 0;
+    EXPECT_STATUS(nrbpf_state_dump(state, keep, into), NRBPF_OK);
+}
+
 // The argument of both programs: a counter's number, 0 to 15, in four bytes, the low one first.
 typedef struct key {
     uint8_t bytes[4];

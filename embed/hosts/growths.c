@@ -1,6 +1,6 @@
-// growths.c: refuses nrbpf_open, nrbpf_open_on and nrbpf_close_into each growth of memory in turn, once alone and once with all behind it. Opening
-// answers C6 or O2 then, and closing O2; nothing is left of what was to be opened, and a store that was to be closed goes on. The other calls ask for
-// no memory at all.
+// growths.c: refuses each call that takes memory each growth of it in turn, once alone and once with all behind it. Opening answers C6 or O2 then,
+// closing and a new state O2, a dump E0, loading C6, E0 or O2; nothing is left of what was to be made, and a store that was to be closed goes on. The
+// other calls ask for no memory at all.
 //
 // It is linked with -Wl,--wrap=malloc,--wrap=calloc,--wrap=realloc,--wrap=aligned_alloc,--wrap=free, so that these come here first.
 #include "fixture.h"
@@ -112,19 +112,68 @@ static nrbpf_status closed_with(long first, long behind) {
     return told;
 }
 
-// Refuses a call each of its growths in turn, and writes how often it answered what: C6 so often as is returned.
-static long refused_in_turn(const char *name, nrbpf_status (*call)(long, long)) {
+// ---- States: of a store in which 1 is counted, and of its dump
+
+static nrbpf_store *counted_once;
+static const nrbpf_state *dumped;
+static dump text;
+
+static nrbpf_status made_with(long first, long behind) {
+    nrbpf_state *state = NULL;
+    long before = blocks;
+    refuse(first, behind);
+    nrbpf_status told = nrbpf_state_new(counted_once, &state);
+    refuse_none();
+    EXPECT(told == NRBPF_OK ? state != NULL : told == NRBPF_O2 && state == NULL);
+    nrbpf_state_free(state);
+    EXPECT(blocks == before);
+    return told;
+}
+
+static nrbpf_status dumped_with(long first, long behind) {
+    static dump into;
+    long before = blocks;
+    into.len = 0;
+    refuse(first, behind);
+    nrbpf_status told = nrbpf_state_dump(dumped, keep, &into);
+    refuse_none();
+    EXPECT(told == NRBPF_OK ? into.len == text.len && memcmp(into.text, text.text, text.len) == 0 : told == NRBPF_E0 && into.len == 0);
+    EXPECT(blocks == before);
+    return told;
+}
+
+static nrbpf_status loaded_with(long first, long behind) {
+    nrbpf_config config = two_by_two();
+    nrbpf_state *state = NULL;
+    nrbpf_error why = {0, 0, 0, 0};
+    long before = blocks;
+    refuse(first, behind);
+    nrbpf_status told =
+        nrbpf_state_load(&config, files.manifest, strlen(files.manifest), files.files, programs, text.text, text.len, &state, &why);
+    refuse_none();
+    if (told != NRBPF_OK) EXPECT((told == NRBPF_C6 || told == NRBPF_E0 || told == NRBPF_O2) && why.status == told && state == NULL);
+    nrbpf_state_free(state);
+    EXPECT(blocks == before);
+    return told;
+}
+
+// ---- Each in turn
+
+// Refuses a call each of its growths in turn, and writes how often it answered what.
+static void refused_in_turn(const char *name, nrbpf_status (*call)(long, long)) {
     EXPECT_STATUS(call(0, 0), NRBPF_OK);
-    long asked = growths, spared = 0, loading = 0;
+    const long asked = growths;
+    long spared = 0, loading = 0, dumping = 0;
     for (long n = 1; n <= asked; n++) {
         nrbpf_status alone = call(n, n + 1);
         spared += alone == NRBPF_OK;
         loading += alone == NRBPF_C6;
+        dumping += alone == NRBPF_E0;
         EXPECT(call(n, 1000000) != NRBPF_OK);
     }
-    EXPECT(loading + spared < asked);
-    printf("%s: %ld growths refused in turn: %ld times C6, %ld times O2, %ld asked for once more\n", name, asked, loading, asked - loading - spared, spared);
-    return loading;
+    EXPECT(asked > 0 && spared < asked);
+    printf("%s: %ld growths refused in turn: %ld times C6, %ld times E0, %ld times O2, %ld asked for once more\n", name, asked, loading, dumping,
+           asked - loading - dumping - spared, spared);
 }
 
 // All that a store does between its opening and its end, with every growth refused.
@@ -133,31 +182,55 @@ static void calls_without_memory(void) {
     nrbpf_config config = two_by_two();
     nrbpf_store *store = opened(&config);
     nrbpf_session *session;
+    nrbpf_state *state;
     nrbpf_answer answer;
+    nrbpf_found found;
+    nrbpf_scanned scanned;
     nrbpf_error why;
+    uint8_t keys[16][4], values[16][8];
+    uint64_t reply, point;
     uint16_t number;
     key first = key_of(0);
+    const nrbpf_question question = {&first, sizeof first, peek};
+    EXPECT_STATUS(nrbpf_state_new(store, &state), NRBPF_OK);
     refuse(1, 1000000);
     EXPECT_STATUS(nrbpf_attach(store, 1, &session), NRBPF_OK);
     EXPECT_STATUS(nrbpf_program_number(store, "peek", 4, &number), NRBPF_OK);
     for (int i = 0; i < 5000; i++) EXPECT_STATUS(nrbpf_update(session, bump, &first, sizeof first, &answer), NRBPF_OK);
+    EXPECT_STATUS(nrbpf_poll(session, &answer), NRBPF_H11);
     EXPECT_STATUS(nrbpf_read(session, peek, &first, sizeof first, &answer), NRBPF_OK);
     EXPECT_STATUS(nrbpf_install(session, NRBPF_MODE_READ, 0, five, sizeof five, &answer, &why), NRBPF_OK);
     EXPECT_STATUS(nrbpf_install(session, NRBPF_MODE_READ, 0, five, 8, &answer, &why), NRBPF_S8);
+    EXPECT_STATUS(nrbpf_get(session, 0, &first, sizeof first, values, 8, &found), NRBPF_OK);
+    EXPECT_STATUS(nrbpf_scan(session, 0, 0, keys, sizeof keys, values, sizeof values, &scanned), NRBPF_OK);
+    EXPECT_STATUS(nrbpf_read_each(session, &question, 1, &reply, &point, &why), NRBPF_OK);
+    EXPECT(reply == 5000 && point == 5001);
+    EXPECT_STATUS(nrbpf_snapshot(session, state, &point), NRBPF_OK);
     EXPECT_STATUS(nrbpf_detach(session), NRBPF_OK);
     EXPECT(growths == 0);
     refuse_none();
+    nrbpf_state_free(state);
     EXPECT_STATUS(nrbpf_close(store), NRBPF_OK);
 }
 
 int main(void) {
     nrbpf_status told;
+    nrbpf_config config = two_by_two();
     files = counter_files();
-    EXPECT(refused_in_turn("nrbpf_open", opened_with) > 0);
-    EXPECT(refused_in_turn("nrbpf_close_into", closed_with) == 0);
+    refused_in_turn("nrbpf_open", opened_with);
+    refused_in_turn("nrbpf_close_into", closed_with);
     on = closed_state(0, 0, &told);
-    EXPECT(refused_in_turn("nrbpf_open_on", opened_with) > 0);
+    refused_in_turn("nrbpf_open_on", opened_with);
+    dumped = on;
+    dump_state(on, &text);
+    EXPECT(strcmp(text.text, "0 03000000 0100000000000000\n") == 0);
+    refused_in_turn("nrbpf_state_dump", dumped_with);
+    refused_in_turn("nrbpf_state_load", loaded_with);
     nrbpf_state_free(on);
+    counted_once = opened(&config);
+    counts(counted_once, 1);
+    refused_in_turn("nrbpf_state_new", made_with);
+    EXPECT_STATUS(nrbpf_close(counted_once), NRBPF_OK);
     calls_without_memory();
     give_back(&files);
     EXPECT(blocks == 0);

@@ -7,7 +7,7 @@ int main(void) {
     const nrbpf_file *files = given.files;
     const uint8_t key[4] = {0};
 #include "readme.inc"
-    EXPECT(told.place == 0 && told.reply == 1 && seen.place == 1 && seen.reply == 1);
+    EXPECT(told.point == 0 && told.reply == 1 && seen.point == 1 && seen.reply == 1);
     give_back(&given);
     printf("the lines of C in the README count to %d\n", (int)seen.reply);
     return 0;

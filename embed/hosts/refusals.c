@@ -1,13 +1,10 @@
 // refusals.c: what a store refuses, each with its status; and then nothing has changed: neither the store nor an answer nor a handle.
 #include "fixture.h"
-#include <pthread.h>
-#include <stdatomic.h>
-#include <time.h>
 
 static counter files;
 static int refused;                             // how many refusals were asked for
 
-// Room for a store or a session in which none was ever opened.
+// Room for a session in which none was ever attached.
 static _Alignas(64) uint64_t never_opened[64];
 
 // ---- Opening
@@ -42,7 +39,9 @@ static void refuse_manifest(const char *manifest, const char *other, fault wante
 
 static void configurations(void) {
     const nrbpf_config good = NRBPF_CONFIG(1, 1);
-    nrbpf_config wrong = good;
+    nrbpf_config wrong;
+    EXPECT_STATUS(nrbpf_config_init(&wrong, NRBPF_VERSION, 1, 1), NRBPF_OK);
+    EXPECT(memcmp(&wrong, &good, sizeof good) == 0);
     const uint32_t versions[] = {0, NRBPF_VERSION - 1000, NRBPF_VERSION + 1000, NRBPF_VERSION + 1, UINT32_MAX};
     for (int i = 0; i < 5; i++) {
         wrong.version = versions[i];
@@ -109,7 +108,7 @@ static void expect_nothing_changed(void) {
     for (int node = 0; node < 2; node++) {
         nrbpf_answer answer;
         EXPECT_STATUS(nrbpf_read(sessions[node][0], peek, argument, 4, &answer), NRBPF_OK);
-        EXPECT(answer.place == 1 && answer.reply == 1);
+        EXPECT(answer.point == 1 && answer.reply == 1);
     }
     refused++;
 }
@@ -136,7 +135,7 @@ static void runs(run *call, uint16_t program, uint16_t of_other_mode) {
     REFUSE(call(session, program, argument, 4, NULL), NRBPF_H7);
     REFUSE(call(NULL, program, argument, 4, &answer), NRBPF_H7);
     REFUSE(call((nrbpf_session *)never_opened, program, argument, 4, &answer), NRBPF_H2);
-    EXPECT(answer.place == 77 && answer.reply == 77);
+    EXPECT(answer.point == 77 && answer.reply == 77);
 }
 
 typedef nrbpf_status install(nrbpf_session *, uint32_t, uint32_t, const void *, size_t, nrbpf_answer *, nrbpf_error *);
@@ -147,7 +146,7 @@ static void refuse_install(install *call, uint32_t mode, uint32_t argument_len, 
     REFUSE(call(sessions[0][0], mode, argument_len, bytes, len, &answer, &why), wanted.status);
     EXPECT(why.status == wanted.status && why.inner == wanted.inner && why.line == 0 && why.slot == wanted.slot);
     REFUSE(call(sessions[0][0], mode, argument_len, bytes, len, &answer, NULL), wanted.status);
-    EXPECT(answer.place == 77 && answer.reply == 77);
+    EXPECT(answer.point == 77 && answer.reply == 77);
 }
 
 static void installs(install *call) {
@@ -181,10 +180,126 @@ static void names(void) {
     REFUSE(nrbpf_program_number(store, NULL, 4, &number), NRBPF_H7);
     REFUSE(nrbpf_program_number(NULL, "bump", 4, &number), NRBPF_H7);
     REFUSE(nrbpf_program_number(store, "bump", 4, NULL), NRBPF_H7);
-    REFUSE(nrbpf_program_number((nrbpf_store *)never_opened, "bump", 4, &number), NRBPF_H2);
     EXPECT(number == 77);
     EXPECT_STATUS(nrbpf_program_number(store, "peek", 4, &number), NRBPF_OK);
     EXPECT(number == peek);
+}
+
+// ---- Reads of maps, and states
+
+typedef nrbpf_status get(nrbpf_session *, uint32_t, const void *, size_t, void *, size_t, nrbpf_found *);
+
+static void gets(get *call) {
+    nrbpf_session *session = sessions[0][0], *none = (nrbpf_session *)never_opened;
+    uint8_t value[9] = {77, 77, 77, 77, 77, 77, 77, 77, 77};
+    nrbpf_found found = {77, 77};
+    REFUSE(call(session, 1, argument, 4, value, 8, &found), NRBPF_UNKNOWN_MAP);
+    REFUSE(call(session, UINT32_MAX, argument, 4, value, 8, &found), NRBPF_S9);
+    REFUSE(call(session, 0, argument, 3, value, 8, &found), NRBPF_KEY_LENGTH);
+    REFUSE(call(session, 0, NULL, 0, value, 7, &found), NRBPF_S11);
+    REFUSE(call(session, 0, argument, 4, value, 7, &found), NRBPF_VALUE_LENGTH);
+    REFUSE(call(session, 0, argument, 4, value, 9, &found), NRBPF_S12);
+    REFUSE(call(session, 0, argument, 4, NULL, 0, &found), NRBPF_S12);
+    REFUSE(call(none, 0, argument, 4, value, 8, &found), NRBPF_DETACHED);
+    REFUSE(call(NULL, 0, argument, 4, value, 8, &found), NRBPF_NULL_POINTER);
+    REFUSE(call(session, 0, NULL, 4, value, 8, &found), NRBPF_H7);
+    REFUSE(call(session, 0, argument, 4, NULL, 8, &found), NRBPF_H7);
+    REFUSE(call(session, 0, argument, 4, value, 8, NULL), NRBPF_H7);
+    EXPECT(found.point == 77 && found.is_there == 77);
+    for (int i = 0; i < 9; i++) EXPECT(value[i] == 77);
+}
+
+typedef nrbpf_status scan(nrbpf_session *, uint32_t, uint32_t, void *, size_t, void *, size_t, nrbpf_scanned *);
+
+static void scans(scan *call) {
+    nrbpf_session *session = sessions[0][0], *none = (nrbpf_session *)never_opened;
+    uint8_t keys[4] = {77, 77, 77, 77}, values[8] = {77};
+    nrbpf_scanned scanned = {77, 77, 77};
+    REFUSE(call(session, 1, 0, keys, 4, values, 8, &scanned), NRBPF_S9);
+    REFUSE(call(session, 0, 16, keys, 4, values, 8, &scanned), NRBPF_UNKNOWN_PLACE);
+    REFUSE(call(session, 0, NRBPF_END, keys, 4, values, 8, &scanned), NRBPF_S10);
+    REFUSE(call(none, 0, 0, keys, 4, values, 8, &scanned), NRBPF_H2);
+    REFUSE(call(NULL, 0, 0, keys, 4, values, 8, &scanned), NRBPF_H7);
+    REFUSE(call(session, 0, 0, NULL, 4, values, 8, &scanned), NRBPF_H7);
+    REFUSE(call(session, 0, 0, keys, 4, NULL, 8, &scanned), NRBPF_H7);
+    REFUSE(call(session, 0, 0, keys, 4, values, 8, NULL), NRBPF_H7);
+    EXPECT(scanned.point == 77 && scanned.count == 77 && scanned.next == 77 && keys[0] == 77 && values[0] == 77);
+}
+
+typedef nrbpf_status read_each(nrbpf_session *, const nrbpf_question *, size_t, uint64_t *, uint64_t *, nrbpf_error *);
+
+static void reads_of_many(read_each *call) {
+    nrbpf_session *session = sessions[0][0], *none = (nrbpf_session *)never_opened;
+    nrbpf_question questions[17];
+    uint64_t replies[17] = {77}, point = 77;
+    nrbpf_error why = {77, 77, 77, 77};
+    const nrbpf_question good = {argument, 4, peek}, wrong[] = {{argument, 4, UINT16_MAX}, {argument, 5, peek}, {argument, 4, bump}};
+    for (int i = 0; i < 17; i++) questions[i] = good;
+    for (int i = 0; i < 3; i++) {
+        questions[i + 7] = wrong[i];
+        REFUSE(call(session, questions, 16, replies, &point, &why), NRBPF_REFUSAL('S', i + 1));
+        EXPECT(why.status == NRBPF_REFUSAL('S', i + 1) && why.inner == 0 && why.line == 0 && why.slot == (uint32_t)i + 7);
+        REFUSE(call(session, questions, 16, replies, &point, NULL), NRBPF_REFUSAL('S', i + 1));
+        questions[i + 7] = good;
+    }
+    REFUSE(call(session, questions, 17, replies, &point, &why), NRBPF_BAD_CALL);
+    EXPECT(why.status == NRBPF_H5 && why.slot == 0);
+    questions[2].argument = NULL;
+    REFUSE(call(session, questions, 3, replies, &point, &why), NRBPF_H7);
+    REFUSE(call(none, questions, 2, replies, &point, &why), NRBPF_H2);
+    REFUSE(call(NULL, questions, 2, replies, &point, &why), NRBPF_H7);
+    REFUSE(call(session, NULL, 2, replies, &point, &why), NRBPF_H7);
+    REFUSE(call(session, questions, 2, NULL, &point, &why), NRBPF_H7);
+    REFUSE(call(session, questions, 2, replies, NULL, &why), NRBPF_H7);
+    EXPECT(point == 77 && replies[0] == 77);
+}
+
+static int stops(void *to, const char *bytes, size_t len) {
+    (void)bytes;
+    *(size_t *)to += len;
+    return 1;
+}
+
+// A state of this store, and one that has another number of places.
+static void states(void) {
+    nrbpf_session *session = sessions[0][0], *none = (nrbpf_session *)never_opened;
+    nrbpf_config other = NRBPF_CONFIG(1, 1);
+    nrbpf_store *other_store = opened(&other);
+    nrbpf_state *other_state = NULL, *state = NULL;
+    uint64_t point = 77;
+    size_t written = 0;
+    EXPECT_STATUS(nrbpf_state_new(other_store, &other_state), NRBPF_OK);
+    EXPECT_STATUS(nrbpf_close(other_store), NRBPF_OK);
+    REFUSE(nrbpf_state_new(NULL, &state), NRBPF_H7);
+    REFUSE(nrbpf_state_new(store, NULL), NRBPF_H7);
+    EXPECT(state == NULL);
+    EXPECT_STATUS(nrbpf_state_new(store, &state), NRBPF_OK);
+    REFUSE(nrbpf_snapshot(session, other_state, &point), NRBPF_OTHER_SIZES);
+    REFUSE(nrbpf_try_snapshot(session, other_state, &point), NRBPF_H9);
+    REFUSE(nrbpf_snapshot(none, state, &point), NRBPF_H2);
+    REFUSE(nrbpf_try_snapshot(none, state, &point), NRBPF_H2);
+    REFUSE(nrbpf_snapshot(NULL, state, &point), NRBPF_H7);
+    REFUSE(nrbpf_snapshot(session, NULL, &point), NRBPF_H7);
+    REFUSE(nrbpf_snapshot(session, state, NULL), NRBPF_H7);
+    REFUSE(nrbpf_try_snapshot(session, NULL, &point), NRBPF_H7);
+    EXPECT(point == 77);
+    EXPECT_STATUS(nrbpf_snapshot(session, state, &point), NRBPF_OK);
+    EXPECT(point == 1);
+    REFUSE(nrbpf_state_dump(state, stops, &written), NRBPF_STOPPED);
+    EXPECT(written == strlen("0 03000000 0100000000000000\n"));
+    REFUSE(nrbpf_state_dump(NULL, stops, &written), NRBPF_H7);
+    REFUSE(nrbpf_state_dump(state, NULL, &written), NRBPF_H7);
+    nrbpf_state_free(state);
+    nrbpf_state_free(other_state);
+}
+
+static void nothing_posted(void) {
+    nrbpf_answer answer = {77, 77};
+    REFUSE(nrbpf_poll(sessions[0][0], &answer), NRBPF_NOTHING_POSTED);
+    REFUSE(nrbpf_poll((nrbpf_session *)never_opened, &answer), NRBPF_H2);
+    REFUSE(nrbpf_poll(NULL, &answer), NRBPF_H7);
+    REFUSE(nrbpf_poll(sessions[0][0], NULL), NRBPF_H7);
+    EXPECT(answer.point == 77 && answer.reply == 77);
 }
 
 // All four sessions are attached.
@@ -197,7 +312,6 @@ static void attaching(void) {
     REFUSE(nrbpf_attach(store, UINT32_MAX, &one), NRBPF_H1);
     REFUSE(nrbpf_attach(NULL, 0, &one), NRBPF_H7);
     REFUSE(nrbpf_attach(store, 0, NULL), NRBPF_H7);
-    REFUSE(nrbpf_attach((nrbpf_store *)never_opened, 0, &one), NRBPF_H2);
     REFUSE(nrbpf_detach(NULL), NRBPF_H7);
     REFUSE(nrbpf_detach((nrbpf_session *)never_opened), NRBPF_H2);
     EXPECT(one == untouched);
@@ -206,14 +320,19 @@ static void attaching(void) {
     REFUSE(nrbpf_detach(sessions[1][1]), NRBPF_H2);
     REFUSE(nrbpf_update(sessions[1][1], bump, argument, 4, &answer), NRBPF_H2);
     REFUSE(nrbpf_read(sessions[1][1], peek, argument, 4, &answer), NRBPF_H2);
+    REFUSE(nrbpf_poll(sessions[1][1], &answer), NRBPF_H2);
     EXPECT_STATUS(nrbpf_attach(store, 1, &sessions[1][1]), NRBPF_OK);
-    EXPECT(answer.place == 77 && answer.reply == 77);
+    EXPECT(answer.point == 77 && answer.reply == 77);
 }
 
 static void closing(void) {
+    nrbpf_state *into = NULL;
     REFUSE(nrbpf_close(store), NRBPF_S5);
     REFUSE(nrbpf_close(NULL), NRBPF_H7);
-    REFUSE(nrbpf_close((nrbpf_store *)never_opened), NRBPF_H2);
+    REFUSE(nrbpf_close_into(store, &into), NRBPF_S5);
+    REFUSE(nrbpf_close_into(NULL, &into), NRBPF_H7);
+    REFUSE(nrbpf_close_into(store, NULL), NRBPF_H7);
+    EXPECT(into == NULL);
     for (int i = 1; i < 4; i++) EXPECT_STATUS(nrbpf_detach(sessions[i % 2][i / 2]), NRBPF_OK);
     EXPECT_STATUS(nrbpf_close(store), NRBPF_S5);
     EXPECT_STATUS(nrbpf_detach(sessions[0][0]), NRBPF_OK);
@@ -227,13 +346,21 @@ static void calls(void) {
     store = opened(&config);
     for (uint32_t i = 0; i < 4; i++) EXPECT_STATUS(nrbpf_attach(store, i % 2, &sessions[i % 2][i / 2]), NRBPF_OK);
     EXPECT_STATUS(nrbpf_update(sessions[1][1], bump, argument, 4, &answer), NRBPF_OK);
-    EXPECT(answer.place == 0 && answer.reply == 1);
+    EXPECT(answer.point == 0 && answer.reply == 1);
     runs(nrbpf_update, bump, peek);
     runs(nrbpf_try_update, bump, peek);
     runs(nrbpf_read, peek, bump);
     runs(nrbpf_try_read, peek, bump);
     installs(nrbpf_install);
     installs(nrbpf_try_install);
+    gets(nrbpf_get);
+    gets(nrbpf_try_get);
+    scans(nrbpf_scan);
+    scans(nrbpf_try_scan);
+    reads_of_many(nrbpf_read_each);
+    reads_of_many(nrbpf_try_read_each);
+    nothing_posted();
+    states();
     names();
     attaching();
     closing();
@@ -251,105 +378,27 @@ static void full_history(void) {
     store = opened(&config);
     EXPECT_STATUS(nrbpf_attach(store, 0, &session), NRBPF_OK);
     EXPECT_STATUS(nrbpf_install(session, NRBPF_MODE_READ, 0, five, sizeof five, &answer, NULL), NRBPF_OK);
-    EXPECT(answer.place == 0 && answer.reply == programs);
+    EXPECT(answer.point == 0 && answer.reply == programs);
     EXPECT_STATUS(nrbpf_install(session, NRBPF_MODE_READ, 0, five, sizeof five, &answer, NULL), NRBPF_OK);
-    EXPECT(answer.place == 1 && answer.reply == UINT64_MAX - 6);
+    EXPECT(answer.point == 1 && answer.reply == NRBPF_REPLY_NO_ROOM);
     EXPECT_STATUS(nrbpf_read(session, programs, NULL, 0, &answer), NRBPF_OK);
-    EXPECT(answer.place == 2 && answer.reply == 5);
-    for (uint64_t place = 2; place < 4; place++) {
+    EXPECT(answer.point == 2 && answer.reply == 5);
+    for (uint64_t index = 2; index < 4; index++) {
         EXPECT_STATUS(nrbpf_update(session, bump, argument, 4, &answer), NRBPF_OK);
-        EXPECT(answer.place == place && answer.reply == place - 1);
+        EXPECT(answer.point == index && answer.reply == index - 1);
     }
     for (int again = 0; again < 2; again++) {
         answer = (nrbpf_answer){77, 77};
         EXPECT_STATUS(nrbpf_update(session, bump, argument, 4, &answer), NRBPF_S4);
         EXPECT_STATUS(nrbpf_try_update(session, bump, argument, 4, &answer), NRBPF_S4);
         EXPECT_STATUS(nrbpf_install(session, NRBPF_MODE_READ, 0, five, sizeof five, &answer, NULL), NRBPF_S4);
-        EXPECT(answer.place == 77 && answer.reply == 77);
+        EXPECT(answer.point == 77 && answer.reply == 77);
         EXPECT_STATUS(nrbpf_read(session, peek, argument, 4, &answer), NRBPF_OK);
-        EXPECT(answer.place == 4 && answer.reply == 2);
+        EXPECT(answer.point == 4 && answer.reply == 2);
         refused += 3;
     }
     EXPECT_STATUS(nrbpf_detach(session), NRBPF_OK);
     EXPECT_STATUS(nrbpf_close(store), NRBPF_OK);
-}
-
-// ---- While an update is out
-
-enum { OTHERS = 3, MOST_TRIED = 50000, MOST_COUNTED = 300000 };
-static pthread_barrier_t start;
-static atomic_int stopped;
-static uint64_t counted[OTHERS];
-
-static void *count(void *at) {
-    nrbpf_session *session;
-    nrbpf_answer answer;
-    EXPECT_STATUS(nrbpf_attach(store, 0, &session), NRBPF_OK);
-    pthread_barrier_wait(&start);
-    uint64_t made = 0;
-    for (; !stopped && made < MOST_COUNTED; made++) EXPECT_STATUS(nrbpf_update(session, bump, argument, 4, &answer), NRBPF_OK);
-    EXPECT_STATUS(nrbpf_detach(session), NRBPF_OK);
-    *(uint64_t *)at = made;
-    return NULL;
-}
-
-// Tries updates beside threads that are in the way, until one is posted and not answered. Adds how many were answered before.
-static int is_posted(nrbpf_session *session, uint64_t *made) {
-    nrbpf_answer answer;
-    for (uint64_t tried = 0; tried < MOST_TRIED;) {
-        nrbpf_status told = nrbpf_try_update(session, bump, argument, 4, &answer);
-        if (told == NRBPF_POSTED) return 1;
-        if (told == NRBPF_BUSY) continue;
-        EXPECT_STATUS(told, NRBPF_OK);
-        tried++;
-        ++*made;
-    }
-    return 0;
-}
-
-static void refuse_others(nrbpf_session *session) {
-    static const uint8_t other[4] = {4}, exits[] = {0x95, 0, 0, 0, 0, 0, 0, 0};
-    nrbpf_answer answer = {77, 77};
-    EXPECT_STATUS(nrbpf_try_read(session, peek, argument, 4, &answer), NRBPF_H3);
-    EXPECT_STATUS(nrbpf_read(session, peek, argument, 4, &answer), NRBPF_H3);
-    EXPECT_STATUS(nrbpf_try_update(session, bump, other, 4, &answer), NRBPF_H3);
-    EXPECT_STATUS(nrbpf_update(session, bump, other, 4, &answer), NRBPF_H3);
-    EXPECT_STATUS(nrbpf_try_install(session, NRBPF_MODE_READ, 0, exits, 8, &answer, NULL), NRBPF_H3);
-    EXPECT_STATUS(nrbpf_detach(session), NRBPF_H3);
-    EXPECT(answer.place == 77 && answer.reply == 77);
-    refused += 6;
-}
-
-// Whether an update was out at all: that takes threads which are in each other's way.
-static int while_out(void) {
-    nrbpf_config config = NRBPF_CONFIG(1, OTHERS + 1);
-    nrbpf_session *session;
-    nrbpf_answer answer;
-    pthread_t threads[OTHERS];
-    uint64_t made = 0;
-    store = opened(&config);
-    stopped = 0;
-    EXPECT(pthread_barrier_init(&start, NULL, OTHERS + 1) == 0);
-    EXPECT_STATUS(nrbpf_attach(store, 0, &session), NRBPF_OK);
-    for (int i = 0; i < OTHERS; i++) EXPECT(pthread_create(&threads[i], NULL, count, &counted[i]) == 0);
-    pthread_barrier_wait(&start);
-    int posted = is_posted(session, &made);
-    stopped = 1;
-    if (posted) {
-        refuse_others(session);
-        EXPECT_STATUS(nrbpf_update(session, bump, argument, 4, &answer), NRBPF_OK);
-        made++;
-    }
-    for (int i = 0; i < OTHERS; i++) {
-        EXPECT(pthread_join(threads[i], NULL) == 0);
-        made += counted[i];
-    }
-    pthread_barrier_destroy(&start);
-    EXPECT_STATUS(nrbpf_read(session, peek, argument, 4, &answer), NRBPF_OK);
-    EXPECT(answer.place == made && answer.reply == made);
-    EXPECT_STATUS(nrbpf_detach(session), NRBPF_OK);
-    EXPECT_STATUS(nrbpf_close(store), NRBPF_OK);
-    return posted;
 }
 
 // ---- Texts
@@ -358,19 +407,20 @@ static void texts(void) {
     const char *const line = "line 2: C4: the program is not accepted: slot 7: V18: a program in Read mode changes a map";
     nrbpf_error why = {NRBPF_C4, NRBPF_REFUSAL('V', 18), 2, 7};
     char text[600], cut[10] = "untouched";
-    EXPECT(nrbpf_explain(&why, text, sizeof text) == strlen(line) && strcmp(text, line) == 0);
-    EXPECT(nrbpf_explain(&why, cut, 5) == strlen(line) && strcmp(cut, "line") == 0);
-    EXPECT(nrbpf_explain(&why, NULL, 0) == strlen(line));
-    EXPECT(nrbpf_explain(NULL, text, sizeof text) > 0 && strcmp(text, nrbpf_status_text(NRBPF_H7)) == 0);
+    EXPECT(nrbpf_error_text(&why, text, sizeof text) == strlen(line) && strcmp(text, line) == 0);
+    EXPECT(nrbpf_error_text(&why, cut, 5) == strlen(line) && strcmp(cut, "line") == 0);
+    EXPECT(nrbpf_error_text(&why, NULL, 0) == strlen(line));
+    EXPECT(nrbpf_error_text(NULL, text, sizeof text) > 0 && strcmp(text, nrbpf_status_text(NRBPF_H7)) == 0);
     why = (nrbpf_error){NRBPF_S7, NRBPF_REFUSAL('D', 2), 0, 0};
-    EXPECT(nrbpf_explain(&why, text, sizeof text) && strcmp(text, "S7: the bytes are no program: slot 0: D2: there are no bytes") == 0);
+    EXPECT(nrbpf_error_text(&why, text, sizeof text) && strcmp(text, "S7: the bytes are no program: slot 0: D2: there are no bytes") == 0);
     why = (nrbpf_error){.status = NRBPF_S1};
-    EXPECT(nrbpf_explain(&why, text, sizeof text) && strcmp(text, "S1: unknown program") == 0);
+    EXPECT(nrbpf_error_text(&why, text, sizeof text) && strcmp(text, "S1: unknown program") == 0);
 
     // Every refusal has a text of its own that begins with its letter and number, and nothing else has one.
-    static const struct { char letter; int first, last; } letters[] = {{'C', 1, 6}, {'O', 1, 3}, {'S', 1, 8}, {'H', 1, 8}, {'D', 0, 9}, {'V', 0, 18}};
+    static const struct { char letter; int first, last; } letters[] = {{'C', 1, 6},  {'O', 1, 3}, {'S', 1, 12}, {'H', 1, 11},
+                                                                             {'D', 0, 9}, {'E', 0, 9}, {'V', 0, 18}};
     const char *unknown = nrbpf_status_text(UINT32_MAX);
-    for (int i = 0; i < 6; i++) {
+    for (int i = 0; i < 7; i++) {
         for (int number = 0; number < 256; number++) {
             const char *told = nrbpf_status_text(NRBPF_REFUSAL(letters[i].letter, number));
             snprintf(text, sizeof text, "%c%d: ", letters[i].letter, number);
@@ -383,15 +433,13 @@ static void texts(void) {
 int main(void) {
     files = counter_files();
     EXPECT(nrbpf_version() == NRBPF_VERSION);
+    EXPECT_STATUS(nrbpf_config_init(NULL, NRBPF_VERSION, 1, 1), NRBPF_H7);
     configurations();
     manifests();
     null_pointers_of_open();
     names_and_ends();
     calls();
     full_history();
-    int turns = 0;
-    while (!while_out() && turns < 20) turns++;
-    if (turns == 20) printf("no update was ever out: H3 is not tried\n");
     texts();
     give_back(&files);
     printf("%d refusals, each with its status, and nothing changed\n", refused);

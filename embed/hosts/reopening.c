@@ -10,12 +10,6 @@ static nrbpf_status open_on(const nrbpf_config *config, const char *manifest, co
     return nrbpf_open_on(config, manifest, strlen(manifest), files.files, programs, state, store, why);
 }
 
-static nrbpf_session *attached(nrbpf_store *store, uint32_t node) {
-    nrbpf_session *session;
-    EXPECT_STATUS(nrbpf_attach(store, node, &session), NRBPF_OK);
-    return session;
-}
-
 // The state of a store that has counted twice and installed a program.
 static nrbpf_state *counted_twice(const nrbpf_config *config) {
     nrbpf_store *store = opened(config);
@@ -24,7 +18,7 @@ static nrbpf_state *counted_twice(const nrbpf_config *config) {
     nrbpf_answer answer;
     for (uint64_t i = 0; i < 2; i++) {
         EXPECT_STATUS(nrbpf_update(session, bump, &third, sizeof third, &answer), NRBPF_OK);
-        EXPECT(answer.place == i && answer.reply == i + 1);
+        EXPECT(answer.point == i && answer.reply == i + 1);
     }
     EXPECT_STATUS(nrbpf_install(session, NRBPF_MODE_READ, 0, five, sizeof five, &answer, NULL), NRBPF_OK);
     EXPECT(answer.reply == programs);
@@ -33,7 +27,7 @@ static nrbpf_state *counted_twice(const nrbpf_config *config) {
     EXPECT_STATUS(nrbpf_close_into(store, NULL), NRBPF_H7);
     EXPECT(state == NULL);
     EXPECT_STATUS(nrbpf_read(session, peek, &third, sizeof third, &answer), NRBPF_OK);
-    EXPECT(answer.place == 3 && answer.reply == 2);
+    EXPECT(answer.point == 3 && answer.reply == 2);
     EXPECT_STATUS(nrbpf_detach(session), NRBPF_OK);
     EXPECT_STATUS(nrbpf_close_into(store, &state), NRBPF_OK);
     return state;
@@ -47,11 +41,11 @@ static void goes_on(const nrbpf_config *config, const nrbpf_state *state) {
     for (uint32_t node = 0; node < config->nodes; node++) {
         nrbpf_session *session = attached(store, node);
         EXPECT_STATUS(nrbpf_read(session, peek, &third, sizeof third, &answer), NRBPF_OK);
-        EXPECT(answer.place == node && answer.reply == 2 + node);
+        EXPECT(answer.point == node && answer.reply == 2 + node);
         EXPECT_STATUS(nrbpf_read(session, programs, NULL, 0, &answer), NRBPF_OK);
         EXPECT(answer.reply == 5);
         EXPECT_STATUS(nrbpf_update(session, bump, &third, sizeof third, &answer), NRBPF_OK);
-        EXPECT(answer.place == node && answer.reply == 3 + node);
+        EXPECT(answer.point == node && answer.reply == 3 + node);
         EXPECT_STATUS(nrbpf_detach(session), NRBPF_OK);
     }
     EXPECT_STATUS(nrbpf_close(store), NRBPF_OK);

@@ -1,4 +1,4 @@
-// threads.c: eight threads on two nodes count together. Each update has a place of its own, each read sees all that came before it, and the
+// threads.c: eight threads on two nodes count together. Each update has an index of its own, each read sees all that came before it, and the
 // sum is right.
 #include "fixture.h"
 #include <pthread.h>
@@ -7,7 +7,7 @@ enum { NODES = 2, SLOTS = 4, THREADS = NODES * SLOTS, UPDATES = 10000, COUNTERS 
 
 static nrbpf_store *store;
 static pthread_barrier_t start;
-static uint8_t given[THREADS * UPDATES];        // how often each place was given: by the owner of that place alone, if they are given once
+static uint8_t given[THREADS * UPDATES];        // how often each index was given: by its owner alone, if they are given once
 
 // Half of the calls are reads of another counter than the one that was just counted up.
 static void *count(void *of_node) {
@@ -19,12 +19,12 @@ static void *count(void *of_node) {
     for (uint32_t i = 0; i < UPDATES; i++) {
         key counted = key_of(i % COUNTERS), read = key_of((i + 1) % COUNTERS);
         EXPECT_STATUS(nrbpf_update(session, bump, &counted, sizeof counted, &answer), NRBPF_OK);
-        EXPECT(answer.place >= seen && answer.place < THREADS * UPDATES && answer.reply >= i / COUNTERS + 1);
-        given[answer.place]++;
-        seen = answer.place + 1;
+        EXPECT(answer.point >= seen && answer.point < THREADS * UPDATES && answer.reply >= i / COUNTERS + 1);
+        given[answer.point]++;
+        seen = answer.point + 1;
         EXPECT_STATUS(nrbpf_read(session, peek, &read, sizeof read, &answer), NRBPF_OK);
-        EXPECT(answer.place >= seen);
-        seen = answer.place;
+        EXPECT(answer.point >= seen);
+        seen = answer.point;
     }
     EXPECT_STATUS(nrbpf_detach(session), NRBPF_OK);
     return NULL;
@@ -43,7 +43,7 @@ int main(void) {
     for (int i = 0; i < THREADS; i++) EXPECT(pthread_join(threads[i], NULL) == 0);
     pthread_barrier_destroy(&start);
 
-    for (int place = 0; place < THREADS * UPDATES; place++) EXPECT(given[place] == 1);
+    for (int index = 0; index < THREADS * UPDATES; index++) EXPECT(given[index] == 1);
     for (uint32_t node = 0; node < NODES; node++) {
         nrbpf_session *session;
         nrbpf_answer answer;
@@ -52,13 +52,13 @@ int main(void) {
         for (uint32_t i = 0; i < COUNTERS; i++) {
             key read = key_of(i);
             EXPECT_STATUS(nrbpf_read(session, peek, &read, sizeof read, &answer), NRBPF_OK);
-            EXPECT(answer.place == THREADS * UPDATES);
+            EXPECT(answer.point == THREADS * UPDATES);
             sum += answer.reply;
         }
         EXPECT(sum == THREADS * UPDATES);
         EXPECT_STATUS(nrbpf_detach(session), NRBPF_OK);
     }
     EXPECT_STATUS(nrbpf_close(store), NRBPF_OK);
-    printf("%d threads on %d nodes: %d places, each given once, and the sum is right\n", THREADS, NODES, THREADS * UPDATES);
+    printf("%d threads on %d nodes: %d indices, each given once, and the sum is right\n", THREADS, NODES, THREADS * UPDATES);
     return 0;
 }
