@@ -19,6 +19,7 @@ struct load {
 struct poller {
     pthread_t thread;
     nrbpf_session *sessions[EACH];
+    int is_posted[EACH]; /* whether the session's update is, which is gone on with */
     struct load load;
     int tries;
     long turns;
@@ -36,6 +37,7 @@ static double now(void) {
 static nrbpf_status ask(struct poller *mine, int session, long call) {
     key counted = key_of((uint32_t)call % 16);
     nrbpf_answer answer;
+    if (mine->is_posted[session]) return nrbpf_poll(mine->sessions[session], &answer);
     return call % 100 < mine->load.reads ? nrbpf_try_read(mine->sessions[session], peek, &counted, sizeof counted, &answer)
                                          : nrbpf_try_update(mine->sessions[session], bump, &counted, sizeof counted, &answer);
 }
@@ -44,6 +46,7 @@ static nrbpf_status ask(struct poller *mine, int session, long call) {
 static int turn(struct poller *mine, int session, long call) {
     for (int i = 0; i < mine->tries; i++) {
         nrbpf_status told = ask(mine, session, call);
+        mine->is_posted[session] = told == NRBPF_POSTED;
         if (told == NRBPF_BUSY || told == NRBPF_POSTED) continue;
         EXPECT_STATUS(told, NRBPF_OK);
         return 1;

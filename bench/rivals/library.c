@@ -90,7 +90,7 @@ static void install(const char *what, const uint8_t *bytes, size_t size) {
     nrbpf_error why;
     char text[300];
     if (nrbpf_install(sessions[0], NRBPF_MODE_UPDATE, 8, bytes, size, &answer, &why) == NRBPF_OK) fail("it was accepted");
-    nrbpf_explain(&why, text, sizeof text);
+    nrbpf_error_text(&why, text, sizeof text);
     printf("%s is refused before it runs (%s). ", what, text);
 }
 
