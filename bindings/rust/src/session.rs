@@ -1,0 +1,477 @@
+//! Sessions: one slot of one node, by which a thread makes its calls.
+
+use crate::error::{check, check_with};
+use crate::{sys, Error, MapShape, QuestionRefused, State, Store};
+use std::cell::Cell;
+use std::ffi::c_void;
+use std::fmt;
+use std::marker::PhantomData;
+use std::ptr::NonNull;
+use std::sync::Arc;
+use std::thread;
+
+/// The reply of an install that found no place that is free. A program replies it too, by custom, where a map has no room for its key.
+pub const REPLY_NO_ROOM: u64 = u64::MAX - 6;
+
+/// The reply of a call that found no program of its number, mode and argument length at its index.
+pub const REPLY_INVALID: u64 = u64::MAX - 21;
+
+/// What a program may do.
+#[derive(Clone, Copy, Debug, PartialEq, Eq, Hash)]
+pub enum Mode {
+    /// It may change maps.
+    Update = 0,
+    /// It changes nothing.
+    Read = 1,
+}
+
+/// What a program answered.
+#[derive(Clone, Copy, Debug, Default, PartialEq, Eq, Hash)]
+pub struct Answer {
+    /// Of an update its index, how many stand before it; of a read how many updates it has seen.
+    pub point: u64,
+    /// What the program replied; of an install the number of the program, or [`REPLY_NO_ROOM`].
+    pub reply: u64,
+}
+
+impl Answer {
+    /// Of an install the number of the program, if there was a place for it.
+    pub fn program(self) -> Option<u16> {
+        u16::try_from(self.reply).ok()
+    }
+
+    fn of(told: sys::nrbpf_answer) -> Answer {
+        Answer { point: told.point, reply: told.reply }
+    }
+}
+
+/// How far an update is that waits for nobody.
+#[derive(Clone, Copy, Debug, PartialEq, Eq, Hash)]
+pub enum Tried {
+    /// It is answered.
+    Answered(Answer),
+    /// Another session was in the way, and nothing is asked: call again, or let it be.
+    Busy,
+    /// The store has it, once, and has not answered it yet: [`poll`](Session::poll) or [`wait`](Session::wait) is the session's next call. Other updates
+    /// of its node may have to wait for it: so go on with it soon.
+    Posted,
+}
+
+/// Whether a key is there.
+#[derive(Clone, Copy, Debug, PartialEq, Eq, Hash)]
+pub struct Found {
+    /// How many updates the map had seen.
+    pub point: u64,
+    /// Whether the key is there, and its value was written.
+    pub is_there: bool,
+}
+
+/// What a page of a scan has.
+#[derive(Clone, Copy, Debug, PartialEq, Eq, Hash)]
+pub struct Page {
+    /// How many updates the map had seen.
+    pub point: u64,
+    /// How many entries were given.
+    pub count: usize,
+    /// The place to go on from, if it isn't the end.
+    pub next: Option<u32>,
+}
+
+impl Page {
+    fn of(told: sys::nrbpf_scanned) -> Page {
+        Page { point: told.point, count: told.count as usize, next: (told.next != sys::NRBPF_END).then_some(told.next) }
+    }
+}
+
+/// A read of [`Session::read_each`].
+#[derive(Clone, Copy)]
+#[repr(transparent)]
+pub struct Question<'a> {
+    told: sys::nrbpf_question,
+    _argument: PhantomData<&'a [u8]>,
+}
+
+impl<'a> Question<'a> {
+    /// A call of a program with an argument.
+    pub fn new(program: u16, argument: &'a [u8]) -> Question<'a> {
+        Question { told: sys::nrbpf_question { argument: bytes_at(argument), len: argument.len(), program }, _argument: PhantomData }
+    }
+}
+
+/// Whose session it is.
+enum Of<'a> {
+    One(&'a Store),
+    Several(Arc<Store>),
+}
+
+/// A session. It borrows its store, or is one of its owners ([`Store::attach_shared`]), and is given back when it is dropped: where an update is posted
+/// and not answered, once that is answered.
+///
+/// It may be sent to another thread, and is used by one at a time:
+///
+/// ```
+/// fn is_sent<T: Send>() {}
+/// is_sent::<nrbpf::Session<'static>>();
+/// ```
+///
+/// ```compile_fail,E0277
+/// fn is_shared<T: Sync>() {}
+/// is_shared::<nrbpf::Session<'static>>();
+/// ```
+pub struct Session<'a> {
+    at: NonNull<sys::nrbpf_session>,
+    of: Of<'a>,
+    _is_not_sync: PhantomData<Cell<()>>,
+}
+
+// SAFETY: a session takes calls of any thread, one at a time. It is not `Sync`, and its calls take it by `&mut`.
+unsafe impl Send for Session<'_> {}
+
+impl<'a> Session<'a> {
+    pub(crate) fn borrowing(store: &'a Store, at: NonNull<sys::nrbpf_session>) -> Session<'a> {
+        Session { at, of: Of::One(store), _is_not_sync: PhantomData }
+    }
+
+    pub(crate) fn sharing(store: Arc<Store>, at: NonNull<sys::nrbpf_session>) -> Session<'static> {
+        Session { at, of: Of::Several(store), _is_not_sync: PhantomData }
+    }
+
+    /// Its store.
+    pub fn store(&self) -> &Store {
+        match &self.of {
+            Of::One(store) => store,
+            Of::Several(store) => store,
+        }
+    }
+
+    fn as_ptr(&mut self) -> *mut sys::nrbpf_session {
+        self.at.as_ptr()
+    }
+
+    // (In each call: the session is attached and this thread's, and each pointer has as many bytes behind it as the call is told.)
+
+    /// Runs a program that may change the maps, and waits for other sessions where they are in the way.
+    ///
+    /// # Errors
+    ///
+    /// S1 to S4, and H3 while an update is posted.
+    pub fn update(&mut self, program: u16, argument: &[u8]) -> Result<Answer, Error> {
+        let mut out = sys::nrbpf_answer::default();
+        // SAFETY: as above.
+        check(unsafe { sys::nrbpf_update(self.as_ptr(), program, bytes_at(argument), argument.len(), &mut out) })?;
+        Ok(Answer::of(out))
+    }
+
+    /// Runs a program that changes nothing, on all updates that were answered when the call began.
+    ///
+    /// # Errors
+    ///
+    /// S1 to S3, and H3 while an update is posted.
+    pub fn read(&mut self, program: u16, argument: &[u8]) -> Result<Answer, Error> {
+        let mut out = sys::nrbpf_answer::default();
+        // SAFETY: as above.
+        check(unsafe { sys::nrbpf_read(self.as_ptr(), program, bytes_at(argument), argument.len(), &mut out) })?;
+        Ok(Answer::of(out))
+    }
+
+    /// Adds a program to the store while it runs, whose arguments have so many bytes. [`Answer::program`] is its number from then on.
+    ///
+    /// # Errors
+    ///
+    /// S4, S6 to S8, and H3 while an update is posted.
+    pub fn install(&mut self, mode: Mode, argument_len: u32, code: &[u8]) -> Result<Answer, Error> {
+        let (mut out, mut why) = (sys::nrbpf_answer::default(), sys::nrbpf_error::default());
+        // SAFETY: as above.
+        let status =
+            unsafe { sys::nrbpf_install(self.as_ptr(), mode as u32, argument_len, bytes_at(code), code.len(), &mut out, &mut why) };
+        check_with(status, why)?;
+        Ok(Answer::of(out))
+    }
+
+    /// As [`update`](Session::update), and waits for nobody.
+    ///
+    /// # Errors
+    ///
+    /// The same.
+    pub fn try_update(&mut self, program: u16, argument: &[u8]) -> Result<Tried, Error> {
+        let mut out = sys::nrbpf_answer::default();
+        // SAFETY: as above.
+        let status = unsafe { sys::nrbpf_try_update(self.as_ptr(), program, bytes_at(argument), argument.len(), &mut out) };
+        tried(status, out, sys::nrbpf_error::default())
+    }
+
+    /// As [`read`](Session::read), and waits for nobody: none where another session was in the way.
+    ///
+    /// # Errors
+    ///
+    /// The same.
+    pub fn try_read(&mut self, program: u16, argument: &[u8]) -> Result<Option<Answer>, Error> {
+        let mut out = sys::nrbpf_answer::default();
+        // SAFETY: as above.
+        let status = unsafe { sys::nrbpf_try_read(self.as_ptr(), program, bytes_at(argument), argument.len(), &mut out) };
+        Ok(unless_busy(status, sys::nrbpf_error::default())?.then(|| Answer::of(out)))
+    }
+
+    /// As [`install`](Session::install), and waits for nobody.
+    ///
+    /// # Errors
+    ///
+    /// The same.
+    pub fn try_install(&mut self, mode: Mode, argument_len: u32, code: &[u8]) -> Result<Tried, Error> {
+        let (mut out, mut why) = (sys::nrbpf_answer::default(), sys::nrbpf_error::default());
+        // SAFETY: as above.
+        let status =
+            unsafe { sys::nrbpf_try_install(self.as_ptr(), mode as u32, argument_len, bytes_at(code), code.len(), &mut out, &mut why) };
+        tried(status, out, why)
+    }
+
+    /// Goes on with the update or the install that is posted, and waits for nobody: none where it is not answered yet.
+    ///
+    /// # Errors
+    ///
+    /// S4, with which it is over and has done nothing; H11: nothing is posted.
+    pub fn poll(&mut self) -> Result<Option<Answer>, Error> {
+        let mut out = sys::nrbpf_answer::default();
+        // SAFETY: as above.
+        let status = unsafe { sys::nrbpf_poll(self.as_ptr(), &mut out) };
+        match tried(status, out, sys::nrbpf_error::default())? {
+            Tried::Answered(answer) => Ok(Some(answer)),
+            Tried::Busy | Tried::Posted => Ok(None),
+        }
+    }
+
+    /// Goes on with the update or the install that is posted until it is answered.
+    ///
+    /// # Errors
+    ///
+    /// Those of [`poll`](Session::poll).
+    pub fn wait(&mut self) -> Result<Answer, Error> {
+        loop {
+            match self.poll()? {
+                Some(answer) => return Ok(answer),
+                None => thread::yield_now(),
+            }
+        }
+    }
+
+    /// The value of a key of a map, counted from 0 as the manifest has them. An array's key is its index in 4 bytes, the low one first.
+    ///
+    /// # Errors
+    ///
+    /// S9, S11, and H3 while an update is posted.
+    pub fn get(&mut self, map: u32, key: &[u8]) -> Result<Option<Vec<u8>>, Error> {
+        let mut value = vec![0; self.shape(map)?.value];
+        Ok(self.get_into(map, key, &mut value)?.is_there.then_some(value))
+    }
+
+    /// The same, into room of the value's length; it is written where the key is there.
+    ///
+    /// # Errors
+    ///
+    /// S12 besides: the value has another length.
+    pub fn get_into(&mut self, map: u32, key: &[u8], value: &mut [u8]) -> Result<Found, Error> {
+        let mut out = sys::nrbpf_found::default();
+        let (room, len) = (value.as_mut_ptr().cast(), value.len());
+        // SAFETY: as above.
+        check(unsafe { sys::nrbpf_get(self.as_ptr(), map, bytes_at(key), key.len(), room, len, &mut out) })?;
+        Ok(Found { point: out.point, is_there: out.is_there != 0 })
+    }
+
+    /// The same, and waits for nobody: none where another session was in the way.
+    ///
+    /// # Errors
+    ///
+    /// The same.
+    pub fn try_get_into(&mut self, map: u32, key: &[u8], value: &mut [u8]) -> Result<Option<Found>, Error> {
+        let mut out = sys::nrbpf_found::default();
+        let (room, len) = (value.as_mut_ptr().cast(), value.len());
+        // SAFETY: as above.
+        let status = unsafe { sys::nrbpf_try_get(self.as_ptr(), map, bytes_at(key), key.len(), room, len, &mut out) };
+        let is_answered = unless_busy(status, sys::nrbpf_error::default())?;
+        Ok(is_answered.then_some(Found { point: out.point, is_there: out.is_there != 0 }))
+    }
+
+    /// All entries of a map, by pages. They may be of several points of the history, and a deletion may move a key to another page; a
+    /// [`snapshot`](Session::snapshot) is of one point.
+    ///
+    /// # Errors
+    ///
+    /// S9: there is no such map. The pages' own are those of [`scan_page`](Session::scan_page).
+    pub fn scan(&mut self, map: u32) -> Result<Scan<'_, 'a>, Error> {
+        const PAGE: usize = 256;
+        let shape = self.shape(map)?;
+        let (keys, values) = (vec![0; PAGE * shape.key], vec![0; PAGE * shape.value]);
+        Ok(Scan { session: self, map, shape, keys, values, at: 0, count: 0, next: Some(0) })
+    }
+
+    /// Entries of a map from a place on, 0 at first, at one point of the history: keys one behind another, and values, as many as both rooms hold. It may give
+    /// none and have a place to go on from.
+    ///
+    /// # Errors
+    ///
+    /// S9, S10, and H3 while an update is posted.
+    pub fn scan_page(&mut self, map: u32, from: u32, keys: &mut [u8], values: &mut [u8]) -> Result<Page, Error> {
+        let mut out = sys::nrbpf_scanned::default();
+        let ((keys, keys_len), (values, values_len)) = (room_of(keys), room_of(values));
+        // SAFETY: as above.
+        check(unsafe { sys::nrbpf_scan(self.as_ptr(), map, from, keys, keys_len, values, values_len, &mut out) })?;
+        Ok(Page::of(out))
+    }
+
+    /// The same, and waits for nobody: none where another session was in the way.
+    ///
+    /// # Errors
+    ///
+    /// The same.
+    pub fn try_scan_page(&mut self, map: u32, from: u32, keys: &mut [u8], values: &mut [u8]) -> Result<Option<Page>, Error> {
+        let mut out = sys::nrbpf_scanned::default();
+        let ((keys, keys_len), (values, values_len)) = (room_of(keys), room_of(values));
+        // SAFETY: as above.
+        let status = unsafe { sys::nrbpf_try_scan(self.as_ptr(), map, from, keys, keys_len, values, values_len, &mut out) };
+        Ok(unless_busy(status, sys::nrbpf_error::default())?.then(|| Page::of(out)))
+    }
+
+    /// Answers up to 16 reads at one point of the history, which it tells: `replies` gets that of each question. Without any it brings the session's node
+    /// up to what is completed.
+    ///
+    /// # Errors
+    ///
+    /// The first question with one of S1 to S3, and H5 of more than 16.
+    ///
+    /// # Panics
+    ///
+    /// There are not as many replies as questions.
+    pub fn read_each(&mut self, questions: &[Question<'_>], replies: &mut [u64]) -> Result<u64, QuestionRefused> {
+        assert_eq!(questions.len(), replies.len(), "a reply for each question");
+        let (mut point, mut why) = (0, sys::nrbpf_error::default());
+        let (asked, count) = (questions.as_ptr().cast(), questions.len());
+        // SAFETY: as above, and a question is the library's own.
+        let status = unsafe { sys::nrbpf_read_each(self.as_ptr(), asked, count, replies.as_mut_ptr(), &mut point, &mut why) };
+        match status {
+            sys::NRBPF_OK => Ok(point),
+            _ => Err(QuestionRefused::of(sys::nrbpf_error { status, ..why })),
+        }
+    }
+
+    /// The same, and waits for nobody: none where another session was in the way.
+    ///
+    /// # Errors
+    ///
+    /// The same.
+    ///
+    /// # Panics
+    ///
+    /// There are not as many replies as questions.
+    pub fn try_read_each(&mut self, questions: &[Question<'_>], replies: &mut [u64]) -> Result<Option<u64>, QuestionRefused> {
+        assert_eq!(questions.len(), replies.len(), "a reply for each question");
+        let (mut point, mut why) = (0, sys::nrbpf_error::default());
+        let (asked, count) = (questions.as_ptr().cast(), questions.len());
+        // SAFETY: as above, and a question is the library's own.
+        let status = unsafe { sys::nrbpf_try_read_each(self.as_ptr(), asked, count, replies.as_mut_ptr(), &mut point, &mut why) };
+        match status {
+            sys::NRBPF_OK => Ok(Some(point)),
+            sys::NRBPF_BUSY => Ok(None),
+            _ => Err(QuestionRefused::of(sys::nrbpf_error { status, ..why })),
+        }
+    }
+
+    /// Makes a state the store's at one point of the history, and tells the point. Other sessions go on; those of the same node wait meanwhile.
+    ///
+    /// # Errors
+    ///
+    /// H9: the state is none of such a store. H3 while an update is posted.
+    pub fn snapshot(&mut self, into: &mut State) -> Result<u64, Error> {
+        let mut point = 0;
+        // SAFETY: as above, and the state is this call's alone.
+        check(unsafe { sys::nrbpf_snapshot(self.as_ptr(), into.as_ptr(), &mut point) })?;
+        Ok(point)
+    }
+
+    /// The same, and waits for nobody: none where another session was in the way, and then the state is as it was.
+    ///
+    /// # Errors
+    ///
+    /// The same.
+    pub fn try_snapshot(&mut self, into: &mut State) -> Result<Option<u64>, Error> {
+        let mut point = 0;
+        // SAFETY: as above, and the state is this call's alone.
+        let status = unsafe { sys::nrbpf_try_snapshot(self.as_ptr(), into.as_ptr(), &mut point) };
+        Ok(unless_busy(status, sys::nrbpf_error::default())?.then_some(point))
+    }
+
+    fn shape(&self, map: u32) -> Result<MapShape, Error> {
+        self.store().maps().get(map as usize).copied().ok_or(Error::UnknownMap)
+    }
+}
+
+impl Drop for Session<'_> {
+    fn drop(&mut self) {
+        // SAFETY: as above.
+        while check(unsafe { sys::nrbpf_detach(self.as_ptr()) }) == Err(Error::Unanswered) {
+            let _ = self.wait();
+        }
+    }
+}
+
+impl fmt::Debug for Session<'_> {
+    fn fmt(&self, f: &mut fmt::Formatter<'_>) -> fmt::Result {
+        f.debug_struct("Session").finish_non_exhaustive()
+    }
+}
+
+/// The entries of a map, of [`Session::scan`]: keys and values.
+#[derive(Debug)]
+pub struct Scan<'s, 'a> {
+    session: &'s mut Session<'a>,
+    map: u32,
+    shape: MapShape,
+    keys: Vec<u8>,
+    values: Vec<u8>,
+    at: usize,
+    count: usize,
+    next: Option<u32>,
+}
+
+impl Iterator for Scan<'_, '_> {
+    type Item = Result<(Vec<u8>, Vec<u8>), Error>;
+
+    fn next(&mut self) -> Option<Self::Item> {
+        while self.at == self.count {
+            let from = self.next.take()?;
+            match self.session.scan_page(self.map, from, &mut self.keys, &mut self.values) {
+                Ok(page) => (self.at, self.count, self.next) = (0, page.count, page.next),
+                Err(why) => return Some(Err(why)),
+            }
+        }
+        let (key, value) = (self.shape.key, self.shape.value);
+        let entry = (self.keys[self.at * key..][..key].to_vec(), self.values[self.at * value..][..value].to_vec());
+        self.at += 1;
+        Some(Ok(entry))
+    }
+}
+
+impl std::iter::FusedIterator for Scan<'_, '_> {}
+
+fn bytes_at(bytes: &[u8]) -> *const c_void {
+    bytes.as_ptr().cast()
+}
+
+fn room_of(bytes: &mut [u8]) -> (*mut c_void, usize) {
+    (bytes.as_mut_ptr().cast(), bytes.len())
+}
+
+fn tried(status: u32, out: sys::nrbpf_answer, why: sys::nrbpf_error) -> Result<Tried, Error> {
+    match status {
+        sys::NRBPF_BUSY => Ok(Tried::Busy),
+        sys::NRBPF_POSTED => Ok(Tried::Posted),
+        _ => check_with(status, why).map(|()| Tried::Answered(Answer::of(out))),
+    }
+}
+
+/// Whether a read is answered, or another session was in the way.
+fn unless_busy(status: u32, why: sys::nrbpf_error) -> Result<bool, Error> {
+    match status {
+        sys::NRBPF_BUSY => Ok(false),
+        _ => check_with(status, why).map(|()| true),
+    }
+}

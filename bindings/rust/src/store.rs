@@ -1,0 +1,218 @@
+//! Stores, which all threads share, and their sizes.
+
+use crate::error::{check, check_with};
+use crate::{sys, Error, Manifest, MapShape, Session, State};
+use std::fmt;
+use std::mem::ManuallyDrop;
+use std::ptr::{null_mut, NonNull};
+use std::sync::Arc;
+
+/// No end of a history.
+pub const ENDLESS: u32 = 0;
+
+/// The sizes of a store.
+#[derive(Clone, Copy, Debug, PartialEq, Eq, Hash)]
+pub struct Config {
+    /// 1 to 8: each has a copy of the maps, by which it answers reads.
+    pub nodes: u32,
+    /// 1 to 16: the sessions of a node.
+    pub slots: u32,
+    /// 16 to 4,096: the updates that the log keeps.
+    pub window: u32,
+    /// The updates of the whole history, behind which there is [`Error::Full`]; or [`ENDLESS`].
+    pub limit: u32,
+    /// 0 to 16: the programs that may be installed later.
+    pub spare: u32,
+}
+
+impl Config {
+    /// So many nodes, so many sessions of each, a window of 4,096, no end, and no spare place.
+    pub const fn new(nodes: u32, slots: u32) -> Config {
+        Config { nodes, slots, window: 4_096, limit: ENDLESS, spare: 0 }
+    }
+
+    /// The same with another window.
+    #[must_use]
+    pub const fn window(self, window: u32) -> Config {
+        Config { window, ..self }
+    }
+
+    /// The same with another limit.
+    #[must_use]
+    pub const fn limit(self, limit: u32) -> Config {
+        Config { limit, ..self }
+    }
+
+    /// The same with other spare places.
+    #[must_use]
+    pub const fn spare(self, spare: u32) -> Config {
+        Config { spare, ..self }
+    }
+
+    pub(crate) fn told(self) -> sys::nrbpf_config {
+        let Config { nodes, slots, window, limit, spare } = self;
+        let mut told = sys::nrbpf_config::default();
+        // SAFETY: it writes what it is lent.
+        unsafe { sys::nrbpf_config_init(&mut told, sys::NRBPF_VERSION, nodes, slots) };
+        sys::nrbpf_config { window, limit, spare, ..told }
+    }
+}
+
+/// A store of a manifest's maps and programs, each program verified. Any thread may use it. It ends when it is dropped.
+pub struct Store {
+    at: NonNull<sys::nrbpf_store>,
+    maps: Vec<MapShape>,
+}
+
+// SAFETY: a store takes calls of any threads at once, and its end comes beside no other call: nothing borrows it then, and no session shares it.
+unsafe impl Send for Store {}
+unsafe impl Sync for Store {}
+
+impl Store {
+    /// Opens a store of a manifest.
+    ///
+    /// # Errors
+    ///
+    /// C1 to C6 and H4 of the manifest, O1 and O2 of the sizes, H8 of a library of another version.
+    pub fn open(config: Config, manifest: &Manifest) -> Result<Store, Error> {
+        let config = config.told();
+        let (mut out, mut why) = (null_mut(), sys::nrbpf_error::default());
+        // SAFETY: each pointer has as many bytes behind it as the call is told.
+        let status = manifest.with(|text, files| unsafe {
+            sys::nrbpf_open(&config, text.as_ptr().cast(), text.len(), files.as_ptr(), files.len(), &mut out, &mut why)
+        });
+        check_with(status, why)?;
+        Ok(Store::at(out, manifest))
+    }
+
+    /// The same, going on from a state, which may be opened on again. Its history begins at point 0.
+    ///
+    /// # Errors
+    ///
+    /// O3 besides: the manifest has other maps than the state, or there are fewer spare places than it has installed programs.
+    pub fn open_on(config: Config, manifest: &Manifest, state: &State) -> Result<Store, Error> {
+        let config = config.told();
+        let (mut out, mut why) = (null_mut(), sys::nrbpf_error::default());
+        // SAFETY: the same; and a state that is borrowed is used by this thread alone, since it is not `Sync`.
+        let status = manifest.with(|text, files| unsafe {
+            let (at, count) = (files.as_ptr(), files.len());
+            sys::nrbpf_open_on(&config, text.as_ptr().cast(), text.len(), at, count, state.as_ptr(), &mut out, &mut why)
+        });
+        check_with(status, why)?;
+        Ok(Store::at(out, manifest))
+    }
+
+    fn at(out: *mut sys::nrbpf_store, manifest: &Manifest) -> Store {
+        Store { at: NonNull::new(out).expect("an opened store is somewhere"), maps: manifest.maps() }
+    }
+
+    /// The shapes of its maps, in the manifest's order.
+    pub fn maps(&self) -> &[MapShape] {
+        &self.maps
+    }
+
+    /// The number of a program of the manifest.
+    ///
+    /// # Errors
+    ///
+    /// S1: there is none of this name.
+    pub fn program(&self, name: &str) -> Result<u16, Error> {
+        let mut number = 0;
+        // SAFETY: the name is as long as the call is told.
+        check(unsafe { sys::nrbpf_program_number(self.at.as_ptr(), name.as_ptr().cast(), name.len(), &mut number) })?;
+        Ok(number)
+    }
+
+    /// A free session of a node, counted from 0. It borrows the store, which can't end before it:
+    ///
+    /// ```compile_fail,E0505
+    /// # fn with(store: nrbpf::Store) {
+    /// let session = store.attach(0).unwrap();
+    /// drop(store);
+    /// drop(session);
+    /// # }
+    /// ```
+    ///
+    /// # Errors
+    ///
+    /// H1: every session of the node is attached, or there is no such node.
+    pub fn attach(&self, node: u32) -> Result<Session<'_>, Error> {
+        Ok(Session::borrowing(self, self.attached(node)?))
+    }
+
+    /// The same of a store that several own: the session is one of them, and lives as long as it likes.
+    ///
+    /// # Errors
+    ///
+    /// Those of [`attach`](Store::attach).
+    pub fn attach_shared(self: &Arc<Store>, node: u32) -> Result<Session<'static>, Error> {
+        Ok(Session::sharing(Arc::clone(self), self.attached(node)?))
+    }
+
+    fn attached(&self, node: u32) -> Result<NonNull<sys::nrbpf_session>, Error> {
+        let mut out = null_mut();
+        // SAFETY: the store is open as long as this value.
+        check(unsafe { sys::nrbpf_attach(self.at.as_ptr(), node, &mut out) })?;
+        Ok(NonNull::new(out).expect("an attached session is somewhere"))
+    }
+
+    /// A state for snapshots of this store. It takes the memory of one node's maps.
+    ///
+    /// # Errors
+    ///
+    /// O2: there is none.
+    pub fn new_state(&self) -> Result<State, Error> {
+        let mut out = null_mut();
+        // SAFETY: the store is open as long as this value.
+        check(unsafe { sys::nrbpf_state_new(self.at.as_ptr(), &mut out) })?;
+        Ok(State::at(out))
+    }
+
+    /// Ends the store, and gives the state that it ends in.
+    ///
+    /// # Errors
+    ///
+    /// O2: there is no memory for it. S5: a session was forgotten (`mem::forget`). The store comes back.
+    pub fn close_into(self) -> Result<State, NotClosed> {
+        let mut out = null_mut();
+        // SAFETY: nothing borrows the store, so no other call is made on it.
+        match check(unsafe { sys::nrbpf_close_into(self.at.as_ptr(), &mut out) }) {
+            Ok(()) => {
+                let mut ended = ManuallyDrop::new(self);
+                ended.maps = Vec::new();
+                Ok(State::at(out))
+            }
+            Err(why) => Err(NotClosed { store: self, why }),
+        }
+    }
+}
+
+impl Drop for Store {
+    fn drop(&mut self) {
+        // SAFETY: nothing borrows the store, so no other call is made on it. Where a session was forgotten it is refused, and the store stays.
+        unsafe { sys::nrbpf_close(self.at.as_ptr()) };
+    }
+}
+
+impl fmt::Debug for Store {
+    fn fmt(&self, f: &mut fmt::Formatter<'_>) -> fmt::Result {
+        f.debug_struct("Store").field("maps", &self.maps).finish_non_exhaustive()
+    }
+}
+
+/// A store that could not end, and why.
+#[derive(Debug)]
+pub struct NotClosed {
+    /// The store, as it was.
+    pub store: Store,
+    /// Why.
+    pub why: Error,
+}
+
+impl fmt::Display for NotClosed {
+    fn fmt(&self, f: &mut fmt::Formatter<'_>) -> fmt::Result {
+        self.why.fmt(f)
+    }
+}
+
+impl std::error::Error for NotClosed {}

@@ -1,0 +1,211 @@
+//! The functions and structs of `nrbpf.h`, version 2.0, as they stand there.
+
+#![allow(missing_docs, non_camel_case_types)]
+
+use std::ffi::{c_char, c_int, c_void};
+
+pub const NRBPF_VERSION: u32 = 2_000;
+pub const NRBPF_OK: u32 = 0;
+pub const NRBPF_BUSY: u32 = 1;
+pub const NRBPF_POSTED: u32 = 2;
+pub const NRBPF_END: u32 = u32::MAX;
+
+#[repr(C)]
+pub struct nrbpf_store {
+    _own: [u8; 0],
+}
+
+#[repr(C)]
+pub struct nrbpf_session {
+    _own: [u8; 0],
+}
+
+#[repr(C)]
+pub struct nrbpf_state {
+    _own: [u8; 0],
+}
+
+#[repr(C)]
+#[derive(Clone, Copy, Debug, Default)]
+pub struct nrbpf_error {
+    pub status: u32,
+    pub inner: u32,
+    pub line: u32,
+    pub slot: u32,
+}
+
+#[repr(C)]
+#[derive(Clone, Copy, Debug, Default)]
+pub struct nrbpf_config {
+    pub version: u32,
+    pub nodes: u32,
+    pub slots: u32,
+    pub window: u32,
+    pub limit: u32,
+    pub spare: u32,
+}
+
+#[repr(C)]
+#[derive(Clone, Copy, Debug)]
+pub struct nrbpf_file {
+    pub name: *const c_char,
+    pub name_len: usize,
+    pub text: *const c_char,
+    pub text_len: usize,
+}
+
+#[repr(C)]
+#[derive(Clone, Copy, Debug, Default)]
+pub struct nrbpf_answer {
+    pub point: u64,
+    pub reply: u64,
+}
+
+#[repr(C)]
+#[derive(Clone, Copy, Debug, Default)]
+pub struct nrbpf_found {
+    pub point: u64,
+    pub is_there: u32,
+}
+
+#[repr(C)]
+#[derive(Clone, Copy, Debug, Default)]
+pub struct nrbpf_scanned {
+    pub point: u64,
+    pub count: u32,
+    pub next: u32,
+}
+
+#[repr(C)]
+#[derive(Clone, Copy, Debug)]
+pub struct nrbpf_question {
+    pub argument: *const c_void,
+    pub len: usize,
+    pub program: u16,
+}
+
+pub type nrbpf_writer = extern "C" fn(to: *mut c_void, bytes: *const c_char, len: usize) -> c_int;
+
+extern "C" {
+    pub fn nrbpf_version() -> u32;
+    pub fn nrbpf_status_text(status: u32) -> *const c_char;
+    pub fn nrbpf_error_text(why: *const nrbpf_error, text: *mut c_char, room: usize) -> usize;
+    pub fn nrbpf_config_init(config: *mut nrbpf_config, version: u32, nodes: u32, slots: u32) -> u32;
+    pub fn nrbpf_open(
+        config: *const nrbpf_config,
+        manifest: *const c_char,
+        manifest_len: usize,
+        files: *const nrbpf_file,
+        count: usize,
+        out: *mut *mut nrbpf_store,
+        why: *mut nrbpf_error,
+    ) -> u32;
+    pub fn nrbpf_open_on(
+        config: *const nrbpf_config,
+        manifest: *const c_char,
+        manifest_len: usize,
+        files: *const nrbpf_file,
+        count: usize,
+        state: *const nrbpf_state,
+        out: *mut *mut nrbpf_store,
+        why: *mut nrbpf_error,
+    ) -> u32;
+    pub fn nrbpf_close(store: *mut nrbpf_store) -> u32;
+    pub fn nrbpf_close_into(store: *mut nrbpf_store, out: *mut *mut nrbpf_state) -> u32;
+    pub fn nrbpf_program_number(store: *mut nrbpf_store, name: *const c_char, len: usize, out: *mut u16) -> u32;
+    pub fn nrbpf_attach(store: *mut nrbpf_store, node: u32, out: *mut *mut nrbpf_session) -> u32;
+    pub fn nrbpf_detach(session: *mut nrbpf_session) -> u32;
+    pub fn nrbpf_update(session: *mut nrbpf_session, program: u16, argument: *const c_void, len: usize, out: *mut nrbpf_answer) -> u32;
+    pub fn nrbpf_read(session: *mut nrbpf_session, program: u16, argument: *const c_void, len: usize, out: *mut nrbpf_answer) -> u32;
+    pub fn nrbpf_install(
+        session: *mut nrbpf_session,
+        mode: u32,
+        argument_len: u32,
+        bytes: *const c_void,
+        len: usize,
+        out: *mut nrbpf_answer,
+        why: *mut nrbpf_error,
+    ) -> u32;
+    pub fn nrbpf_try_update(session: *mut nrbpf_session, program: u16, argument: *const c_void, len: usize, out: *mut nrbpf_answer) -> u32;
+    pub fn nrbpf_try_read(session: *mut nrbpf_session, program: u16, argument: *const c_void, len: usize, out: *mut nrbpf_answer) -> u32;
+    pub fn nrbpf_try_install(
+        session: *mut nrbpf_session,
+        mode: u32,
+        argument_len: u32,
+        bytes: *const c_void,
+        len: usize,
+        out: *mut nrbpf_answer,
+        why: *mut nrbpf_error,
+    ) -> u32;
+    pub fn nrbpf_poll(session: *mut nrbpf_session, out: *mut nrbpf_answer) -> u32;
+    pub fn nrbpf_get(
+        session: *mut nrbpf_session,
+        map: u32,
+        key: *const c_void,
+        key_len: usize,
+        value: *mut c_void,
+        value_len: usize,
+        out: *mut nrbpf_found,
+    ) -> u32;
+    pub fn nrbpf_try_get(
+        session: *mut nrbpf_session,
+        map: u32,
+        key: *const c_void,
+        key_len: usize,
+        value: *mut c_void,
+        value_len: usize,
+        out: *mut nrbpf_found,
+    ) -> u32;
+    pub fn nrbpf_scan(
+        session: *mut nrbpf_session,
+        map: u32,
+        from: u32,
+        keys: *mut c_void,
+        keys_room: usize,
+        values: *mut c_void,
+        values_room: usize,
+        out: *mut nrbpf_scanned,
+    ) -> u32;
+    pub fn nrbpf_try_scan(
+        session: *mut nrbpf_session,
+        map: u32,
+        from: u32,
+        keys: *mut c_void,
+        keys_room: usize,
+        values: *mut c_void,
+        values_room: usize,
+        out: *mut nrbpf_scanned,
+    ) -> u32;
+    pub fn nrbpf_read_each(
+        session: *mut nrbpf_session,
+        questions: *const nrbpf_question,
+        count: usize,
+        replies: *mut u64,
+        point: *mut u64,
+        why: *mut nrbpf_error,
+    ) -> u32;
+    pub fn nrbpf_try_read_each(
+        session: *mut nrbpf_session,
+        questions: *const nrbpf_question,
+        count: usize,
+        replies: *mut u64,
+        point: *mut u64,
+        why: *mut nrbpf_error,
+    ) -> u32;
+    pub fn nrbpf_state_new(store: *mut nrbpf_store, out: *mut *mut nrbpf_state) -> u32;
+    pub fn nrbpf_snapshot(session: *mut nrbpf_session, into: *mut nrbpf_state, point: *mut u64) -> u32;
+    pub fn nrbpf_try_snapshot(session: *mut nrbpf_session, into: *mut nrbpf_state, point: *mut u64) -> u32;
+    pub fn nrbpf_state_dump(state: *const nrbpf_state, write: nrbpf_writer, to: *mut c_void) -> u32;
+    pub fn nrbpf_state_load(
+        config: *const nrbpf_config,
+        manifest: *const c_char,
+        manifest_len: usize,
+        files: *const nrbpf_file,
+        count: usize,
+        text: *const c_char,
+        len: usize,
+        out: *mut *mut nrbpf_state,
+        why: *mut nrbpf_error,
+    ) -> u32;
+    pub fn nrbpf_state_free(state: *mut nrbpf_state);
+}

@@ -1,0 +1,247 @@
+//! What calls answer: the rows of the examples, which `nrbpf run` answers too; reads; threads; and tries beside others.
+
+mod fixture;
+
+use fixture::{answer, answered, bytes_of, counter, example, key, text_of, tried, BUMP, FIVE, PEEK};
+use nrbpf::{Config, Error, Mode, Question, Session, State, Store, Tried, REPLY_NO_ROOM};
+use std::collections::BTreeMap;
+use std::sync::atomic::{AtomicBool, Ordering};
+use std::sync::Arc;
+use std::thread;
+
+/// What a line of a script is answered with, without the steps of `nrbpf run`.
+fn row(store: &Store, session: &mut Session<'_>, line: &str) -> String {
+    let words: Vec<&str> = line.split(' ').collect();
+    let argument = bytes_of(words[words.len() - 1]);
+    let told = |kind: &str, it: nrbpf::Answer| format!("{kind} {} reply {}", it.point, it.reply);
+    let mut call = || match words[..] {
+        ["install", mode, len, _] => {
+            let mode = if mode == "read" { Mode::Read } else { Mode::Update };
+            session.install(mode, len.parse().expect(line), &argument).map(|it| told("install", it))
+        }
+        ["invoke", number, _] => session.update(number.parse().expect(line), &argument).map(|it| told("update", it)),
+        ["read", number, _] => session.read(number.parse().expect(line), &argument).map(|it| told("read", it)),
+        [name, ..] => {
+            let program = store.program(name)?;
+            match session.update(program, &argument) {
+                Err(Error::OtherMode) => session.read(program, &argument).map(|it| told("read", it)),
+                other => other.map(|it| told("update", it)),
+            }
+        }
+        [] => unreachable!(),
+    };
+    call().unwrap_or_else(|refused| match refused {
+        Error::NotAccepted { why, slot } | Error::NotDecoded { why, slot } => {
+            format!("refused {:?} {why:?} slot {slot}", refused.refusal())
+        }
+        _ => format!("refused {:?}", refused.refusal()),
+    })
+}
+
+fn run(name: &str, store: &Store) -> Vec<String> {
+    let mut session = store.attach(0).expect("a session is free");
+    let script = text_of(&format!("{name}/script"));
+    script.lines().filter(|line| !line.is_empty() && !line.starts_with('#')).map(|line| row(store, &mut session, line)).collect()
+}
+
+fn rows(path: &str) -> Vec<String> {
+    text_of(path).lines().map(|line| line.split(" steps ").next().unwrap_or(line).to_owned()).collect()
+}
+
+#[test]
+fn the_examples_answer_their_rows() {
+    for (name, spare) in [("counter", 0), ("key_value", 0), ("install", 4)] {
+        let store = Store::open(Config::new(1, 1).spare(spare), &example(name)).expect(name);
+        assert_eq!(run(name, &store), rows(&format!("{name}/run.out")));
+    }
+}
+
+#[test]
+fn the_counter_goes_on_from_a_dump() {
+    let state = State::load(&example("counter"), 0, text_of("counter/state").as_bytes()).expect("the state is one");
+    let store = Store::open_on(Config::new(1, 1), &example("counter"), &state).expect("it is the counter's");
+    let told = run("counter", &store);
+    assert_eq!(told, rows("counter/run_on.out")[..told.len()]);
+}
+
+#[test]
+fn keys_are_looked_up() -> Result<(), Error> {
+    let store = Store::open(Config::new(1, 1), &example("key_value"))?;
+    let mut session = store.attach(0)?;
+    session.update(store.program("put")?, &[1, 0, 0, 0, 7, 0, 0, 0])?;
+    assert_eq!(session.get(0, &key(1))?, Some(vec![7, 0, 0, 0]));
+    assert_eq!(session.get(0, &key(2))?, None);
+    let mut value = [9; 4];
+    let found = session.get_into(0, &key(2), &mut value)?;
+    assert_eq!((found.point, found.is_there, value), (1, false, [9; 4]));
+    let found = answered(|| session.try_get_into(0, &key(1), &mut value))?;
+    assert_eq!((found.point, found.is_there, value), (1, true, [7, 0, 0, 0]));
+    Ok(())
+}
+
+#[test]
+fn maps_are_scanned() -> Result<(), Error> {
+    let store = Store::open(Config::new(1, 1), &example("key_value"))?;
+    let mut session = store.attach(0)?;
+    assert_eq!(session.scan(0)?.count(), 0);
+    for argument in [[1, 0, 0, 0, 7, 0, 0, 0], [2, 0, 0, 0, 8, 0, 0, 0]] {
+        session.update(store.program("put")?, &argument)?;
+    }
+    let all = session.scan(0)?.collect::<Result<BTreeMap<_, _>, _>>()?;
+    assert_eq!(all, BTreeMap::from([(vec![1, 0, 0, 0], vec![7, 0, 0, 0]), (vec![2, 0, 0, 0], vec![8, 0, 0, 0])]));
+    Ok(())
+}
+
+#[test]
+fn arrays_are_scanned_in_pages() -> Result<(), Error> {
+    let store = counter(Config::new(1, 1));
+    let mut session = store.attach(0)?;
+    session.update(BUMP, &key(5))?;
+    let (mut keys, mut values) = ([0; 16], [0; 32]);
+    let page = session.scan_page(0, 4, &mut keys, &mut values)?;
+    assert_eq!((page.point, page.count, page.next), (1, 4, Some(8)));
+    assert_eq!(keys[..8], [4, 0, 0, 0, 5, 0, 0, 0]);
+    assert_eq!(values[..16], [0, 0, 0, 0, 0, 0, 0, 0, 1, 0, 0, 0, 0, 0, 0, 0]);
+    let page = answered(|| session.try_scan_page(0, 12, &mut keys, &mut values))?;
+    assert_eq!((page.point, page.count, page.next), (1, 4, None));
+    assert_eq!(session.scan(0)?.count(), 16);
+    Ok(())
+}
+
+#[test]
+fn several_reads_are_of_one_point() -> Result<(), Error> {
+    let store = counter(Config::new(1, 1));
+    let mut session = store.attach(0)?;
+    session.update(BUMP, &key(1))?;
+    session.update(BUMP, &key(1))?;
+    let (one, two, none) = (key(1), key(2), key(16));
+    let questions = [Question::new(PEEK, &one), Question::new(PEEK, &two), Question::new(PEEK, &none)];
+    let mut replies = [9; 3];
+    assert_eq!(session.read_each(&questions, &mut replies)?, 2);
+    assert_eq!(replies, [2, 0, u64::MAX]);
+    assert_eq!(answered(|| session.try_read_each(&questions, &mut replies))?, 2);
+    assert_eq!(session.read_each(&[], &mut [])?, 2);
+    assert_eq!(session.read_each(&[questions[0]; 16], &mut [0; 16])?, 2);
+    Ok(())
+}
+
+#[test]
+fn tries_are_answered() -> Result<(), Error> {
+    let store = counter(Config::new(2, 2).spare(1));
+    let mut session = store.attach(1)?;
+    for index in 0..100 {
+        assert_eq!(tried(&mut session, |it| it.try_update(BUMP, &key(3)))?, answer(index, index + 1));
+    }
+    assert_eq!(answered(|| session.try_read(PEEK, &key(3)))?, answer(100, 100));
+    let five = tried(&mut session, |it| it.try_install(Mode::Read, 0, &FIVE))?;
+    assert_eq!((five, five.program()), (answer(100, 2), Some(2)));
+    assert_eq!(session.read(2, &[])?, answer(101, 5));
+    let none = session.install(Mode::Read, 0, &FIVE)?;
+    assert_eq!((none, none.program()), (answer(101, REPLY_NO_ROOM), None));
+    Ok(())
+}
+
+/// A session tries beside three threads that are in its way: what is posted is made once, and until it is answered nothing else is.
+#[test]
+fn tries_beside_others() -> Result<(), Error> {
+    let store = counter(Config::new(1, 4));
+    let is_done = AtomicBool::new(false);
+    let mut session = store.attach(0)?;
+    let (mut mine, mut posted) = (0, false);
+    let others: u64 = thread::scope(|scope| {
+        let count = || {
+            let mut session = store.attach(0).expect("there is one for each");
+            let mut made = 0;
+            while !is_done.load(Ordering::Relaxed) && made < 300_000 {
+                session.update(BUMP, &key(3)).expect("the history has no end");
+                made += 1;
+            }
+            made
+        };
+        let threads = [(); 3].map(|()| scope.spawn(count));
+        while mine < 50_000 && !posted {
+            let told = session.try_update(BUMP, &key(3)).expect("the history has no end");
+            posted = told == Tried::Posted;
+            mine += u64::from(told != Tried::Busy);
+        }
+        is_done.store(true, Ordering::Relaxed);
+        if posted {
+            assert_eq!(session.read(PEEK, &key(3)), Err(Error::Unanswered));
+            assert_eq!(session.try_update(BUMP, &key(4)), Err(Error::Unanswered));
+            session.wait().expect("the history has no end");
+        }
+        threads.map(|it| it.join().expect("it ends")).iter().sum()
+    });
+    assert_eq!(session.read(PEEK, &key(3))?, answer(mine + others, mine + others));
+    Ok(())
+}
+
+/// A session that is dropped while its update is out is given back once that is answered.
+#[test]
+fn a_posted_update_is_made() -> Result<(), Error> {
+    let store = counter(Config::new(1, 3));
+    let mut posted = 0;
+    thread::scope(|scope| {
+        for _ in 0..2 {
+            scope.spawn(|| {
+                let mut session = store.attach(0).expect("there is one for each");
+                for _ in 0..20_000 {
+                    session.update(BUMP, &key(4)).expect("the history has no end");
+                }
+            });
+        }
+        for _ in 0..1_000 {
+            let mut session = store.attach(0).expect("it was given back");
+            posted += u64::from(session.try_update(BUMP, &key(3)).expect("the history has no end") != Tried::Busy);
+        }
+    });
+    assert_eq!(store.attach(0)?.read(PEEK, &key(3))?.reply, posted);
+    Ok(())
+}
+
+#[test]
+fn four_threads_count() -> Result<(), Error> {
+    let store = counter(Config::new(2, 2));
+    thread::scope(|scope| {
+        for node in [0, 1, 0, 1] {
+            let mut session = store.attach(node).expect("there is one for each");
+            scope.spawn(move || (0..1_000).for_each(|_| assert!(session.update(BUMP, &key(3)).is_ok())));
+        }
+    });
+    assert_eq!(store.attach(1)?.read(PEEK, &key(3))?, answer(4_000, 4_000));
+    Ok(())
+}
+
+#[test]
+fn sessions_that_share_their_store_outlive_its_name() {
+    let store = Arc::new(counter(Config::new(1, 2)));
+    let threads = [(); 2].map(|()| {
+        let mut session = store.attach_shared(0).expect("there is one for each");
+        thread::spawn(move || (0..1_000).for_each(|_| assert!(session.update(BUMP, &key(3)).is_ok())))
+    });
+    for thread in threads {
+        thread.join().expect("it ends");
+    }
+    let mut last = store.attach_shared(0).expect("one was given back");
+    drop(store);
+    assert_eq!(last.read(PEEK, &key(3)), Ok(answer(2_000, 2_000)));
+}
+
+#[test]
+fn a_history_has_an_end_or_none() -> Result<(), Error> {
+    let store = counter(Config::new(1, 1).limit(2));
+    let mut session = store.attach(0)?;
+    session.update(BUMP, &key(3))?;
+    session.update(BUMP, &key(3))?;
+    assert_eq!(session.update(BUMP, &key(3)), Err(Error::Full));
+    assert_eq!(tried(&mut session, |it| it.try_update(BUMP, &key(3))), Err(Error::Full));
+    assert_eq!(session.read(PEEK, &key(3))?, answer(2, 2));
+
+    let store = counter(Config::new(1, 1).window(16).limit(nrbpf::ENDLESS));
+    let mut session = store.attach(0)?;
+    for _ in 0..10_000 {
+        session.update(BUMP, &key(3))?;
+    }
+    assert_eq!(session.read(PEEK, &key(3))?, answer(10_000, 10_000));
+    Ok(())
+}
