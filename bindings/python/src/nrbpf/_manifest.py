@@ -1,0 +1,83 @@
+"""Manifests and their program files, and the sizes of a store."""
+
+from __future__ import annotations
+
+import ctypes
+import os
+from collections.abc import Mapping
+from pathlib import Path
+from typing import Literal, NamedTuple, Union
+
+from . import _native
+
+Buffer = Union[bytes, bytearray, memoryview]
+
+
+def as_bytes(given: Buffer) -> bytes:
+    return given if type(given) is bytes else bytes(memoryview(given))
+
+
+class MapShape(NamedTuple):
+    """A map of a manifest: its kind, the bytes of a key and of a value, and how many entries it has room for."""
+
+    kind: Literal["array", "hash"]
+    key: int
+    value: int
+    entries: int
+
+
+class Manifest:
+    """Which maps a store has and which programs it offers: a text (docs/FORMATS.md), and the program files that it
+    names."""
+
+    def __init__(self, text: str | bytes, files: Mapping[str, str | bytes]) -> None:
+        self.text = text.encode() if isinstance(text, str) else bytes(text)
+        self.files = {name: text.encode() if isinstance(text, str) else bytes(text) for name, text in files.items()}
+
+    @classmethod
+    def read(cls, path: str | os.PathLike[str], folder: str | os.PathLike[str] = ".") -> Manifest:
+        """Reads a manifest and the files that it names, all by paths from the folder. OSError if one can't be read."""
+        text = Path(folder, path).read_bytes()
+        lines = (line.split(b" ") for line in text.split(b"\n"))
+        names = {os.fsdecode(words[4]) for words in lines if words[0] == b"program" and len(words) == 5}
+        return cls(text, {name: Path(folder, name).read_bytes() for name in sorted(names)})
+
+    def maps(self) -> tuple[MapShape, ...]:
+        """The shapes of the maps, of a manifest that a store was opened with."""
+        lines = (line.split(b" ") for line in self.text.split(b"\n"))
+        return tuple(_shape(words) for words in lines if words[0] == b"map")
+
+    def native(self) -> tuple[bytes, int, ctypes.Array[_native.File], int]:
+        """The manifest as the library takes it."""
+        named = [(name.encode(), text) for name, text in self.files.items()]
+        files = (_native.File * len(named))(*[_native.File(name, len(name), text, len(text)) for name, text in named])
+        return self.text, len(self.text), files, len(named)
+
+
+def _shape(words: list[bytes]) -> MapShape:
+    if words[1] == b"array":
+        return MapShape("array", 4, int(words[2]), int(words[3]))
+    return MapShape("hash", int(words[2]), int(words[3]), int(words[4]))
+
+
+class Sizes(NamedTuple):
+    """The sizes of a store: its nodes, the sessions of each, the updates that the log keeps, those that its history may
+    have (0: no end), and the programs that may be installed later."""
+
+    nodes: int = 1
+    slots: int = 1
+    window: int = 4096
+    limit: int = 0
+    spare: int = 0
+
+    def native(self) -> _native.Config:
+        for name, number in self._asdict().items():
+            if not 0 <= number < 1 << 32:
+                raise ValueError(f"{name} is a number from 0 to 2^32 - 1")
+        config = _native.Config()
+        _native.library.nrbpf_config_init(config, _native.VERSION, self.nodes, self.slots)
+        config.window, config.limit, config.spare = self.window, self.limit, self.spare
+        return config
+
+
+ONE_SESSION = Sizes()

@@ -1,0 +1,99 @@
+"""States: all keys, values and installed programs at one point of a history."""
+
+from __future__ import annotations
+
+import ctypes
+import threading
+from collections.abc import Callable
+from types import TracebackType
+from typing import Any, Protocol
+
+from . import _native
+from ._errors import Status, check
+from ._manifest import Buffer, Manifest, Sizes, as_bytes
+
+_library = _native.library
+
+
+class Sink(Protocol):
+    """What a dump is written to: a file that was opened for bytes, or the like."""
+
+    def write(self, data: bytes, /) -> object:
+        """Takes a part."""
+
+
+class State:
+    """A state. It holds nothing of any store, serves any number of snapshots, and is ended by `free`, a `with`, or when
+    nothing refers to it. It takes one call at a time: RuntimeError of a second one meanwhile.
+
+    `Store.new_state` makes one for snapshots, `Store.close_into` gives the one that a store ends in, `State.load` that
+    of a dump.
+    """
+
+    def __init__(self, at: int | None) -> None:
+        self._at = at
+        self._lock = threading.Lock()
+
+    @classmethod
+    def load(cls, manifest: Manifest, dump: Buffer, *, spare: int = 0) -> State:
+        """The state that a dump says, for stores of this manifest with so many spare places. An empty dump is a new
+        store's."""
+        out, fault, text = ctypes.c_void_p(), _native.Fault(), as_bytes(dump)
+        config = Sizes(spare=spare).native()
+        check(_library.nrbpf_state_load(config, *manifest.native(), text, len(text), out, fault), fault)
+        return cls(out.value)
+
+    def dump(self) -> bytes:
+        """The state as text, which `nrbpf --load` takes too."""
+        parts: list[bytes] = []
+        self._dump(parts.append)
+        return b"".join(parts)
+
+    def dump_to(self, file: Sink) -> None:
+        """Writes the same to a file that was opened for bytes. What its `write` raises ends the dump, and is raised."""
+        self._dump(file.write)
+
+    def _dump(self, write: Callable[[bytes], object]) -> None:
+        raised: list[BaseException] = []
+
+        def take(_to: object, data: ctypes._Pointer[ctypes.c_char], size: int) -> int:
+            try:
+                write(ctypes.string_at(data, size))
+            except BaseException as why:
+                raised.append(why)
+            return len(raised)
+
+        status = self.use(lambda at: _library.nrbpf_state_dump(at, _native.Writer(take), None))
+        if status == Status.STOPPED and raised:
+            raise raised[0]
+        check(status)
+
+    def use(self, call: Callable[[int], Any]) -> int:
+        """Makes a call of the library on this state."""
+        if not self._lock.acquire(blocking=False):
+            raise RuntimeError("a state takes one call at a time")
+        try:
+            if self._at is None:
+                raise RuntimeError("the state is ended")
+            status: int = call(self._at)
+            return status
+        finally:
+            self._lock.release()
+
+    def free(self) -> None:
+        """Gives its memory back. A second time does nothing."""
+        if self._at is not None:
+            self.use(lambda at: _library.nrbpf_state_free(at) or 0)
+            self._at = None
+
+    def __enter__(self) -> State:
+        return self
+
+    def __exit__(
+        self, kind: type[BaseException] | None, why: BaseException | None, trace: TracebackType | None
+    ) -> None:
+        self.free()
+
+    def __del__(self) -> None:
+        if getattr(self, "_at", None) is not None:
+            self.free()

@@ -1,0 +1,154 @@
+"""Stores, which all threads share."""
+
+from __future__ import annotations
+
+import ctypes
+import threading
+import warnings
+from types import TracebackType
+
+from . import _native
+from ._errors import Status, check, error_of, within
+from ._manifest import ONE_SESSION, Manifest, MapShape, Sizes
+from ._session import Session
+from ._state import State
+
+_library = _native.library
+
+
+class Store:
+    """A store of a manifest's maps and programs, each program verified. It is ended by `close` or a `with`, once all
+    its sessions are given back."""
+
+    def __init__(self, manifest: Manifest, sizes: Sizes = ONE_SESSION, state: State | None = None) -> None:
+        self._at: int | None = None
+        self._lock = threading.RLock()  # a session may be given back by the collector, in the middle of a call here
+        self._sessions = 0
+        self._is_left = False
+        out, fault = ctypes.c_void_p(), _native.Fault()
+        given = (sizes.native(), *manifest.native())
+        if state is None:
+            status = _library.nrbpf_open(*given, out, fault)
+        else:
+            status = state.use(lambda at: _library.nrbpf_open_on(*given, at, out, fault))
+        check(status, fault)
+        self._at = out.value
+        self._maps = manifest.maps()
+
+    @property
+    def maps(self) -> tuple[MapShape, ...]:
+        """The shapes of its maps, as the manifest has them."""
+        return self._maps
+
+    def shape(self, map: int) -> MapShape:
+        """The shape of a map, counted from 0. S9 where there is none."""
+        if not 0 <= map < len(self._maps):
+            raise error_of(Status.UNKNOWN_MAP)
+        return self._maps[map]
+
+    def program(self, name: str) -> int:
+        """The number of a program of the manifest."""
+        number, text = ctypes.c_uint16(), name.encode()
+        with self._lock:
+            check(_library.nrbpf_program_number(self._open(), text, len(text), number))
+        return number.value
+
+    def attach(self, node: int = 0) -> Session:
+        """A free session of a node, counted from 0."""
+        return Session(self, node)
+
+    def new_state(self) -> State:
+        """A state for snapshots of this store, any number of them. It takes the memory of one node's maps."""
+        out = ctypes.c_void_p()
+        with self._lock:
+            check(_library.nrbpf_state_new(self._open(), out))
+        return State(out.value)
+
+    def close(self) -> None:
+        """Ends the store and gives its memory back. Refused with S5 while a session is attached; once it is ended this
+        does nothing."""
+        with self._lock:
+            if self._at is not None:
+                self._check_alone()
+                check(_library.nrbpf_close(self._at))
+                self._at = None
+
+    def close_into(self) -> State:
+        """Ends the store, and gives the state that it ends in. Refused with S5 while a session is attached."""
+        out = ctypes.c_void_p()
+        with self._lock:
+            at = self._open()
+            self._check_alone()
+            check(_library.nrbpf_close_into(at, out))
+            self._at = None
+        return State(out.value)
+
+    def __enter__(self) -> Store:
+        return self
+
+    def __exit__(
+        self, kind: type[BaseException] | None, why: BaseException | None, trace: TracebackType | None
+    ) -> None:
+        self.close()
+
+    def __del__(self) -> None:
+        if getattr(self, "_at", None) is None:
+            return
+        warnings.warn(f"unclosed store {self!r}", ResourceWarning, source=self, stacklevel=2)
+        with self._lock:
+            self._is_left = True
+            self._close_left()
+
+    # ---- What sessions call
+
+    def _open(self) -> int:
+        if self._at is None:
+            raise RuntimeError("the store is closed")
+        return self._at
+
+    def _check_alone(self) -> None:
+        """A store's end comes beside no other call on it: a session that is attached may make one at any time."""
+        if self._sessions:
+            raise error_of(Status.ATTACHED)
+
+    def _attached(self, node: int) -> int | None:
+        out = ctypes.c_void_p()
+        with self._lock:
+            check(_library.nrbpf_attach(self._open(), within(node, 32, Status.NO_SESSION), out))
+            self._sessions += 1
+        return out.value
+
+    def _given_back(self, session: int) -> int:
+        with self._lock:
+            status: int = _library.nrbpf_detach(session)
+            if not status:
+                self._sessions -= 1
+                self._close_left()
+        return status
+
+    def _close_left(self) -> None:
+        """Ends a store that nothing refers to any more, once its last session is given back."""
+        if self._is_left and not self._sessions and self._at is not None:
+            _library.nrbpf_close(self._at)
+            self._at = None
+
+
+def open(
+    manifest: Manifest,
+    *,
+    nodes: int = 1,
+    slots: int = 1,
+    window: int = 4096,
+    limit: int = 0,
+    spare: int = 0,
+    state: State | None = None,
+) -> Store:
+    """Opens a store of a manifest, or goes on from a state, which may be opened on again.
+
+    nodes: 1 to 8, each with a copy of the maps, by which it answers reads
+    slots: 1 to 16, the sessions of a node
+    window: 16 to 4,096, the updates that the log keeps
+    limit: the updates of the whole history, behind which there is S4; ENDLESS, 0: no end
+    spare: 0 to 16, the programs that may be installed later
+    """
+    return Store(manifest, Sizes(nodes, slots, window, limit, spare), state)

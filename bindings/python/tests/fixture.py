@@ -1,0 +1,48 @@
+"""What the tests share: the examples of the repository, and programs that are installed."""
+
+from __future__ import annotations
+
+import contextlib
+import os
+import struct
+from collections.abc import Callable, Iterator
+from pathlib import Path
+from typing import TypeVar
+
+import nrbpf
+
+TOP = Path(__file__).resolve().parents[3]
+FIVE = bytes.fromhex("b700000005000000 9500000000000000")  # replies 5
+NOTHING_IN_R0 = bytes.fromhex("9500000000000000")
+T = TypeVar("T")
+
+
+def example(name: str) -> nrbpf.Manifest:
+    return nrbpf.Manifest.read(TOP / "examples" / name / "manifest", TOP)
+
+
+def text_of(path: str) -> str:
+    return (TOP / "examples" / path).read_text("utf-8")
+
+
+def u32(number: int) -> bytes:
+    return struct.pack("<I", number)
+
+
+@contextlib.contextmanager
+def counter(**sizes: int) -> Iterator[tuple[nrbpf.Store, nrbpf.Session, int, int]]:
+    """A store of examples/counter, a session of it, and the numbers of bump and peek."""
+    with nrbpf.open(example("counter"), **sizes) as store, store.attach() as session:
+        yield store, session, store.program("bump"), store.program("peek")
+
+
+def answered(session: nrbpf.Session, told: T | nrbpf.Pending, again: Callable[[], T | nrbpf.Pending]) -> T:
+    """The answer of a call that waits for nobody, which is asked again while others are in the way."""
+    while isinstance(told, nrbpf.Pending):
+        told = session.poll() if told is nrbpf.POSTED else again()  # type: ignore[assignment]
+        os.sched_yield()
+    return told
+
+
+def tried(session: nrbpf.Session, call: Callable[[], T | nrbpf.Pending]) -> T:
+    return answered(session, call(), call)

@@ -1,0 +1,212 @@
+"""What calls answer: the rows of the examples, which `nrbpf run` answers too."""
+
+import re
+import threading
+import unittest
+
+import nrbpf
+from tests.fixture import FIVE, counter, example, text_of, tried, u32
+
+
+def run(name, spare=0, state=None):
+    """The lines that a script is answered with, without the steps of `nrbpf run`, by a store of one session."""
+    with nrbpf.open(example(name), spare=spare, state=state) as store, store.attach() as session:
+        lines = (line for line in text_of(f"{name}/script").splitlines() if line and not line.startswith("#"))
+        return [answer(store, session, line.split(" ")) for line in lines]
+
+
+def told(kind, answer):
+    return f"{kind} {answer.point} reply {answer.reply}"
+
+
+def called(store, session, words):
+    """What a line answers: an install, a call by a number, or one by a name, which takes either mode."""
+    argument = bytes.fromhex(words[-1])
+    if words[0] == "install":
+        return told("install", session.install(nrbpf.Mode[words[1].upper()], int(words[2]), argument))
+    if words[0] == "invoke":
+        return told("update", session.update(int(words[1]), argument))
+    if words[0] == "read":
+        return told("read", session.read(int(words[1]), argument))
+    program = store.program(words[0])
+    try:
+        return told("update", session.update(program, argument))
+    except nrbpf.CallError as why:
+        if why.status != nrbpf.Status.OTHER_MODE:
+            raise
+    return told("read", session.read(program, argument))
+
+
+def answer(store, session, words):
+    try:
+        return called(store, session, words)
+    except nrbpf.CallError as why:
+        return f"refused {why.code}" + (f" {why.inner} slot {why.slot}" if why.inner else "")
+
+
+def rows(name):
+    return [re.sub(r" steps \d+$", "", line) for line in text_of(name).splitlines()]
+
+
+class Examples(unittest.TestCase):
+    def test_counter(self):
+        self.assertEqual(run("counter"), rows("counter/run.out"))
+
+    def test_key_value(self):
+        self.assertEqual(run("key_value"), rows("key_value/run.out"))
+
+    def test_install(self):
+        self.assertEqual(run("install", spare=4), rows("install/run.out"))
+
+    def test_counter_goes_on_from_a_dump(self):
+        with nrbpf.State.load(example("counter"), text_of("counter/state").encode()) as state:
+            told = run("counter", state=state)
+        self.assertEqual(told, rows("counter/run_on.out")[: len(told)])
+
+
+class Reads(unittest.TestCase):
+    def test_get(self):
+        with nrbpf.open(example("key_value")) as store, store.attach() as session:
+            session.update(store.program("put"), u32(1) + u32(7))
+            self.assertEqual(session.get(0, u32(1)), (1, u32(7)))
+            self.assertEqual(session.get(0, u32(2)), (1, None))
+            self.assertEqual(tried(session, lambda: session.try_get(0, bytearray(u32(1)))), (1, u32(7)))
+
+    def test_get_of_an_array(self):
+        with counter() as (_, session, bump, _):
+            session.update(bump, u32(3))
+            self.assertEqual(session.get(0, u32(3)), (1, (1).to_bytes(8, "little")))
+            self.assertEqual(session.get(0, u32(16)), (1, None))
+
+    def test_scan(self):
+        with nrbpf.open(example("key_value")) as store, store.attach() as session:
+            put = store.program("put")
+            self.assertEqual(list(session.scan(0)), [])
+            session.update(put, u32(1) + u32(7))
+            session.update(put, u32(2) + u32(8))
+            self.assertEqual(dict(session.scan(0)), {u32(1): u32(7), u32(2): u32(8)})
+            self.assertEqual(dict(session.scan(0, room=1)), {u32(1): u32(7), u32(2): u32(8)})
+
+    def test_pages(self):
+        with counter() as (_, session, bump, _):
+            session.update(bump, u32(5))
+            whole = [(u32(key), (key == 5).to_bytes(8, "little")) for key in range(16)]
+            self.assertEqual(session.scan_page(0, room=16), (1, whole, None))
+            self.assertEqual(session.scan_page(0, 4, room=4), (1, whole[4:8], 8))
+            self.assertEqual(tried(session, lambda: session.try_scan_page(0, 8, room=100)), (1, whole[8:], None))
+
+    def test_read_each(self):
+        with counter() as (_, session, bump, peek):
+            session.update(bump, u32(1))
+            session.update(bump, u32(1))
+            questions = [(peek, u32(1)), (peek, u32(2)), (peek, u32(16))]
+            self.assertEqual(session.read_each(questions), (2, [2, 0, 2**64 - 1]))
+            self.assertEqual(tried(session, lambda: session.try_read_each(questions)), (2, [2, 0, 2**64 - 1]))
+            self.assertEqual(session.read_each([]), (2, []))
+            self.assertEqual(session.read_each([(peek, u32(1))] * 16), (2, [2] * 16))
+
+
+class Tries(unittest.TestCase):
+    def test_updates_and_reads(self):
+        with counter(nodes=2, slots=2) as (_, session, bump, peek):
+            for index in range(100):
+                told = tried(session, lambda: session.try_update(bump, u32(3)))
+                self.assertEqual(told, (index, index + 1))
+            self.assertEqual(tried(session, lambda: session.try_read(peek, u32(3))), (100, 100))
+
+    def test_install(self):
+        with counter(spare=1) as (_, session, _, _):
+            told = tried(session, lambda: session.try_install(nrbpf.Mode.READ, 0, FIVE))
+            self.assertEqual(told, (0, 2))
+            self.assertEqual(session.read(told.reply), (1, 5))
+            told = tried(session, lambda: session.try_install(nrbpf.Mode.READ, 0, FIVE))
+            self.assertEqual(told, (1, nrbpf.REPLY_NO_ROOM))
+
+    def test_beside_others(self):
+        """A session tries beside three threads that are in its way: what is posted is made once, and until it is
+        answered nothing else is."""
+        with counter(slots=4) as (store, session, bump, peek):
+            done, made = threading.Event(), []
+            threads = [threading.Thread(target=count_until, args=(store, bump, done, made)) for _ in range(3)]
+            for thread in threads:
+                thread.start()
+            mine = posted = 0
+            while mine < 20_000 and not posted:
+                told = session.try_update(bump, u32(3))
+                posted += told is nrbpf.POSTED
+                mine += told is not nrbpf.BUSY
+            done.set()
+            if posted:
+                with self.assertRaises(nrbpf.HostError) as refused:
+                    session.read(peek, u32(3))
+                self.assertEqual(refused.exception.status, nrbpf.Status.UNANSWERED)
+                with self.assertRaises(nrbpf.HostError):
+                    session.detach()
+                session.wait()
+            for thread in threads:
+                thread.join()
+            self.assertEqual(session.read(peek, u32(3)), (mine + sum(made), mine + sum(made)))
+
+
+def count_until(store, bump, done, made):
+    with store.attach() as session:
+        count = 0
+        while not done.is_set() and count < 200_000:
+            session.update(bump, u32(3))
+            count += 1
+        made.append(count)
+
+
+class Threads(unittest.TestCase):
+    def test_four_threads_count(self):
+        def count(node):
+            with store.attach(node) as session:
+                for _ in range(1000):
+                    session.update(bump, u32(3))
+
+        with counter(nodes=2, slots=3) as (store, session, bump, peek):
+            threads = [threading.Thread(target=count, args=(number % 2,)) for number in range(4)]
+            for thread in threads:
+                thread.start()
+            for thread in threads:
+                thread.join()
+            self.assertEqual(session.read(peek, u32(3)), (4000, 4000))
+
+    def test_one_session_of_two_threads(self):
+        """A session's own lock sees to it that its calls come one after another."""
+
+        def count():
+            for _ in range(1000):
+                session.update(bump, u32(3))
+
+        with counter() as (_, session, bump, peek):
+            threads = [threading.Thread(target=count) for _ in range(2)]
+            for thread in threads:
+                thread.start()
+            for thread in threads:
+                thread.join()
+            self.assertEqual(session.read(peek, u32(3)), (2000, 2000))
+
+
+class Limits(unittest.TestCase):
+    def test_a_history_with_an_end(self):
+        with counter(limit=2) as (_, session, bump, peek):
+            session.update(bump, u32(3))
+            session.update(bump, u32(3))
+            with self.assertRaises(nrbpf.CallError) as refused:
+                session.update(bump, u32(3))
+            self.assertEqual(refused.exception.status, nrbpf.Status.FULL)
+            with self.assertRaises(nrbpf.CallError) as refused:
+                tried(session, lambda: session.try_update(bump, u32(3)))
+            self.assertEqual(refused.exception.status, nrbpf.Status.FULL)
+            self.assertEqual(session.read(peek, u32(3)), (2, 2))
+
+    def test_a_history_without_an_end(self):
+        with counter(limit=nrbpf.ENDLESS, window=16) as (_, session, bump, peek):
+            for _ in range(10_000):
+                session.update(bump, u32(3))
+            self.assertEqual(session.read(peek, u32(3)), (10_000, 10_000))
+
+
+if __name__ == "__main__":
+    unittest.main()
