@@ -39,13 +39,14 @@ is-built:
 	@test -x $(program) && test -f embed/out/libnrbpf.a || { echo 'make: the program or the library is not built yet: run make' >&2; exit 1; }
 	@test "$$(sed -n 2p $(program).sums 2>/dev/null)" = "$$(./nrbpf --sum)" || { echo 'make: the program is built of other sources: run make' >&2; exit 1; }
 
-installed = $(bindir)/nrbpf $(includedir)/nrbpf.h $(libdir)/libnrbpf.a $(libdir)/$(shared).$(minor) $(libdir)/$(shared) $(libdir)/libnrbpf.so \
+installed = $(bindir)/nrbpf $(includedir)/nrbpf.h $(includedir)/nrbpf.hpp $(libdir)/libnrbpf.a $(libdir)/$(shared).$(minor) $(libdir)/$(shared) $(libdir)/libnrbpf.so \
 	$(libdir)/pkgconfig/nrbpf.pc $(datadir)/man/man1/nrbpf.1 $(datadir)/bash-completion/completions/nrbpf
 
 install: is-built
 	$(INSTALL) -d $(sort $(dir $(addprefix $(DESTDIR),$(installed))))
 	$(INSTALL) -m 755 $(program) $(DESTDIR)$(bindir)/nrbpf
 	$(INSTALL) -m 644 embed/nrbpf.h $(DESTDIR)$(includedir)/nrbpf.h
+	$(INSTALL) -m 644 bindings/cpp/nrbpf.hpp $(DESTDIR)$(includedir)/nrbpf.hpp
 	$(INSTALL) -m 644 embed/out/libnrbpf.a $(DESTDIR)$(libdir)/libnrbpf.a
 	$(INSTALL) -m 644 embed/out/$(shared).$(minor) $(DESTDIR)$(libdir)/$(shared).$(minor)
 	ln -sf $(shared).$(minor) $(DESTDIR)$(libdir)/$(shared)

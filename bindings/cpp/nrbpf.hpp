@@ -1,0 +1,499 @@
+// nrbpf.hpp: the library for C as types of C++17 that end themselves. Header only, over nrbpf.h.
+//
+//     auto manifest = nrbpf::manifest::read("examples/counter/manifest");
+//     nrbpf::store store(manifest, nrbpf::config(2, 4));                      // two nodes, four sessions of each
+//     auto bump = store.program("bump");
+//     auto session = store.attach(0);                                         // a session for this thread
+//     std::cout << session.update(bump, nrbpf::bytes_of(key)).reply;
+//
+// A refusal is an nrbpf::error. A store may be used by any thread, a session and a state by one thread at a time. A store ends when it and all sessions of it
+// are gone, so their order doesn't matter. A session, a store or a state that was moved from may be destroyed or assigned to alone.
+#ifndef NRBPF_HPP
+#define NRBPF_HPP
+
+#include <nrbpf.h>
+
+#include <array>
+#include <cerrno>
+#include <cstddef>
+#include <cstdint>
+#include <exception>
+#include <filesystem>
+#include <fstream>
+#include <iterator>
+#include <map>
+#include <memory>
+#include <optional>
+#include <stdexcept>
+#include <string>
+#include <string_view>
+#include <system_error>
+#include <thread>
+#include <type_traits>
+#include <utility>
+#include <vector>
+
+namespace nrbpf {
+
+// ---- Refusals
+
+// Why a call refused. Its text is the library's.
+class error : public std::runtime_error {
+    nrbpf_error said;
+
+    static std::string text(const nrbpf_error &why) {
+        std::array<char, 512> room;
+        nrbpf_error_text(&why, room.data(), room.size());
+        return room.data();
+    }
+
+public:
+    explicit error(const nrbpf_error &why) : std::runtime_error(text(why)), said(why) {}
+
+    nrbpf_status status() const noexcept { return said.status; } // NRBPF_FULL, ..
+    nrbpf_status inner() const noexcept { return said.inner; }   // of a program: the letter D or V, or 0
+    std::uint32_t line() const noexcept { return said.line; }    // of the manifest or the dump, from 1, or 0
+    std::uint32_t slot() const noexcept { return said.slot; }    // of the program; of read_each the question's number
+};
+
+namespace detail {
+
+inline void check(nrbpf_status status, nrbpf_error why = {}) {
+    why.status = status;
+    if (status != NRBPF_OK) throw error(why);
+}
+// Whether a read is answered, or another session was in the way.
+inline bool is_answered(nrbpf_status status, const nrbpf_error &why = {}) {
+    if (status == NRBPF_BUSY) return false;
+    check(status, why);
+    return true;
+}
+
+struct ends {
+    void operator()(nrbpf_store *at) const noexcept { nrbpf_close(at); } // no session is attached: each has a part in the store
+    void operator()(nrbpf_state *at) const noexcept { nrbpf_state_free(at); }
+};
+
+} // namespace detail
+
+// ---- Bytes that are lent to a call
+
+class bytes {
+    const void *at = nullptr;
+    std::size_t count = 0;
+
+public:
+    bytes() noexcept = default;
+    bytes(const void *data, std::size_t size) noexcept : at(data), count(size) {}
+    bytes(std::string_view text) noexcept : at(text.data()), count(text.size()) {}
+    bytes(const std::string &text) noexcept : at(text.data()), count(text.size()) {}
+    template <std::size_t n> bytes(const std::array<std::uint8_t, n> &of) noexcept : at(of.data()), count(n) {}
+    template <std::size_t n> bytes(const std::uint8_t (&of)[n]) noexcept : at(of), count(n) {}
+    bytes(const std::vector<std::uint8_t> &of) noexcept : at(of.data()), count(of.size()) {}
+
+    const void *data() const noexcept { return at; }
+    std::size_t size() const noexcept { return count; }
+};
+
+// Those of a value, as it lies in memory: of a number the low byte first where the machine has it so.
+template <class T> bytes bytes_of(const T &value) noexcept {
+    static_assert(std::is_trivially_copyable_v<T> && !std::is_pointer_v<T>, "a value of plain bytes");
+    return {&value, sizeof value};
+}
+
+// ---- What a store is opened with
+
+// The sizes of a store: nrbpf_config with the members that nrbpf.h has, and this version.
+struct config : nrbpf_config {
+    explicit config(std::uint32_t node_count = 1, std::uint32_t slot_count = 1) : nrbpf_config(NRBPF_CONFIG(node_count, slot_count)) {}
+    config &with_window(std::uint32_t count) noexcept { return window = count, *this; }
+    config &with_limit(std::uint32_t count) noexcept { return limit = count, *this; }
+    config &with_spare(std::uint32_t count) noexcept { return spare = count, *this; }
+};
+
+// A map of a manifest. An array's key is its index in 4 bytes, the low one first.
+struct map_shape {
+    bool is_array;
+    std::uint32_t key, value, entries;
+};
+
+// Which maps a store has and which programs it offers: a text (docs/FORMATS.md), and the program files that it names.
+class manifest {
+    std::string said;
+    std::map<std::string, std::string> files;
+
+    static std::string text_of(const std::filesystem::path &path) {
+        std::ifstream file(path, std::ios::binary);
+        if (!file) throw std::system_error(errno, std::generic_category(), path.string());
+        return {std::istreambuf_iterator<char>(file), {}};
+    }
+
+    std::vector<std::vector<std::string>> lines() const {
+        std::vector<std::vector<std::string>> told(1, {""});
+        for (char sign : said) {
+            if (sign == '\n') told.push_back({""});
+            else if (sign == ' ') told.back().emplace_back();
+            else told.back().back() += sign;
+        }
+        return told;
+    }
+
+public:
+    explicit manifest(std::string text) : said(std::move(text)) {}
+
+    // A program file: its name as the manifest has it, and its hexadecimal digits.
+    manifest &file(std::string name, std::string text) {
+        files.insert_or_assign(std::move(name), std::move(text));
+        return *this;
+    }
+
+    // Reads a manifest and the files that it names, all by paths from the folder. std::system_error where one can't be read.
+    static manifest read(const std::filesystem::path &path, const std::filesystem::path &folder = {}) {
+        manifest it(text_of(folder / path));
+        for (const auto &words : it.lines())
+            if (words.size() == 5 && words[0] == "program") it.file(words[4], text_of(folder / words[4]));
+        return it;
+    }
+
+    // The shapes of the maps, of a manifest that a store was opened with.
+    std::vector<map_shape> maps() const {
+        std::vector<map_shape> told;
+        const auto number = [](const std::string &word) { return static_cast<std::uint32_t>(std::stoul(word)); };
+        for (const auto &words : lines()) {
+            if (words[0] != "map") continue;
+            if (words[1] == "array") told.push_back({true, 4, number(words[2]), number(words[3])});
+            else told.push_back({false, number(words[2]), number(words[3]), number(words[4])});
+        }
+        return told;
+    }
+
+    const std::string &text() const noexcept { return said; }
+
+    // The files as the library takes them, as long as this manifest is as it is.
+    std::vector<nrbpf_file> native() const {
+        std::vector<nrbpf_file> given;
+        for (const auto &[name, text] : files) given.push_back({name.data(), name.size(), text.data(), text.size()});
+        return given;
+    }
+};
+
+// ---- States: all keys, values and installed programs at one point of a history
+
+// A state holds nothing of any store, and serves any number of snapshots.
+class state {
+    std::unique_ptr<nrbpf_state, detail::ends> at;
+
+    struct taker {
+        void *write;
+        void (*call)(void *write, std::string_view part);
+        std::exception_ptr raised;
+    };
+
+    // What the library calls for each part. What is thrown is thrown again behind the library's call.
+    static int take(void *to, const char *part, std::size_t len) noexcept {
+        taker &it = *static_cast<taker *>(to);
+        try {
+            it.call(it.write, {part, len});
+        } catch (...) {
+            it.raised = std::current_exception();
+        }
+        return it.raised ? 1 : 0;
+    }
+
+public:
+    explicit state(nrbpf_state *given) noexcept : at(given) {}
+
+    // The state that a dump says, for stores of this manifest with so many spare places. An empty dump is a new store's.
+    static state load(const manifest &of, std::string_view dump, std::uint32_t spare = 0) {
+        const auto files = of.native();
+        const config sizes = config().with_spare(spare);
+        nrbpf_state *out = nullptr;
+        nrbpf_error why{};
+        detail::check(nrbpf_state_load(&sizes, of.text().data(), of.text().size(), files.data(), files.size(), dump.data(), dump.size(), &out, &why), why);
+        return state(out);
+    }
+
+    // Gives the state as text, which `nrbpf --load` takes too, to a function of a std::string_view, by parts of at most 16,384 bytes. What that throws ends
+    // it. It may make calls, but none on this state.
+    template <class Write> void dump_to(Write &&write) const {
+        using writer = std::remove_reference_t<Write>;
+        const auto call = [](void *it, std::string_view part) { (*static_cast<writer *>(it))(part); };
+        taker it{const_cast<std::remove_const_t<writer> *>(std::addressof(write)), call, nullptr};
+        const nrbpf_status status = nrbpf_state_dump(at.get(), take, &it);
+        if (it.raised) std::rethrow_exception(it.raised);
+        detail::check(status);
+    }
+
+    std::string dump() const {
+        std::string text;
+        dump_to([&text](std::string_view part) { text += part; });
+        return text;
+    }
+
+    nrbpf_state *native() const noexcept { return at.get(); }
+};
+
+// ---- Sessions
+
+enum class mode : std::uint32_t { update = NRBPF_MODE_UPDATE, read = NRBPF_MODE_READ };
+
+using answer = nrbpf_answer;
+
+// How far an update is that waits for nobody: NRBPF_OK and its answer; NRBPF_BUSY, another session was in the way, and nothing is asked; or NRBPF_POSTED, the
+// store has it, once, and `poll` or `wait` is the session's next call.
+struct tried {
+    nrbpf_status status;
+    answer told;
+
+    explicit operator bool() const noexcept { return status == NRBPF_OK; }
+    bool is_posted() const noexcept { return status == NRBPF_POSTED; }
+    const answer &operator*() const noexcept { return told; }
+    const answer *operator->() const noexcept { return &told; }
+};
+
+// The value of a key, if it is there, and how many updates the map had seen.
+struct found {
+    std::uint64_t point;
+    std::optional<std::string> value;
+};
+
+using entry = std::pair<std::string, std::string>; // a key and its value
+
+// Entries of a map, how many updates it had seen, and the place to go on from, if it isn't the end.
+struct page {
+    std::uint64_t point;
+    std::vector<entry> entries;
+    std::optional<std::uint32_t> next;
+};
+
+struct question {
+    std::uint16_t program;
+    bytes argument;
+};
+
+// The reply to each question, and how many updates the maps had seen.
+struct replies {
+    std::uint64_t point;
+    std::vector<std::uint64_t> each;
+};
+
+namespace detail {
+
+// What a store's sessions share with it.
+struct shared_store {
+    std::unique_ptr<nrbpf_store, ends> at;
+    std::vector<map_shape> maps;
+
+    const map_shape &shape(std::uint32_t map) const {
+        if (map >= maps.size()) check(NRBPF_UNKNOWN_MAP);
+        return maps[map];
+    }
+};
+
+} // namespace detail
+
+// One slot of one node. It is given back when it ends: where an update is posted and not answered, once that is answered.
+class session {
+    std::shared_ptr<detail::shared_store> of;
+    nrbpf_session *at;
+
+    void give_back() noexcept {
+        if (!at) return;
+        nrbpf_answer out;
+        while (nrbpf_detach(at) == NRBPF_UNANSWERED)
+            if (nrbpf_poll(at, &out) == NRBPF_POSTED) std::this_thread::yield();
+    }
+
+    // Each by a call of nrbpf.h or its twin that waits for nobody: none where another session was in the way.
+    template <class Call> std::optional<answer> run(Call call, std::uint16_t program, bytes argument) {
+        answer out;
+        if (!detail::is_answered(call(at, program, argument.data(), argument.size(), &out))) return {};
+        return out;
+    }
+    template <class Call> std::optional<found> look_up(Call call, std::uint32_t map, bytes key) {
+        std::string value(of->shape(map).value, '\0');
+        nrbpf_found told{};
+        if (!detail::is_answered(call(at, map, key.data(), key.size(), value.data(), value.size(), &told))) return {};
+        return found{told.point, told.is_there ? std::optional(std::move(value)) : std::nullopt};
+    }
+    template <class Call> std::optional<page> turn(Call call, std::uint32_t map, std::uint32_t from, std::size_t room) {
+        const auto [is_array, key, value, entries] = of->shape(map);
+        std::string keys(room * key, '\0'), values(room * value, '\0');
+        nrbpf_scanned told{};
+        if (!detail::is_answered(call(at, map, from, keys.data(), keys.size(), values.data(), values.size(), &told))) return {};
+        page it{told.point, {}, told.next == NRBPF_END ? std::nullopt : std::optional(told.next)};
+        for (std::size_t k = 0; k < told.count; k++) it.entries.emplace_back(keys.substr(k * key, key), values.substr(k * value, value));
+        return it;
+    }
+    template <class Call> std::optional<replies> ask(Call call, const std::vector<question> &questions) {
+        std::vector<nrbpf_question> asked;
+        for (const auto &[program, argument] : questions) asked.push_back({argument.data(), argument.size(), program});
+        replies told{0, std::vector<std::uint64_t>(questions.size())};
+        nrbpf_error why{};
+        const nrbpf_status status = call(at, asked.data(), asked.size(), told.each.data(), &told.point, &why);
+        if (!detail::is_answered(status, why)) return {};
+        return told;
+    }
+    template <class Call> std::optional<std::uint64_t> copy(Call call, state &into) {
+        std::uint64_t point = 0;
+        if (!detail::is_answered(call(at, into.native(), &point))) return {};
+        return point;
+    }
+
+    static tried tried_of(nrbpf_status status, const answer &out, const nrbpf_error &why = {}) {
+        if (status != NRBPF_BUSY && status != NRBPF_POSTED) detail::check(status, why);
+        return {status, out};
+    }
+
+public:
+    session(std::shared_ptr<detail::shared_store> store, nrbpf_session *attached) noexcept : of(std::move(store)), at(attached) {}
+    session(session &&other) noexcept : of(std::move(other.of)), at(std::exchange(other.at, nullptr)) {}
+    session &operator=(session &&other) noexcept {
+        if (this != &other) {
+            give_back();
+            at = std::exchange(other.at, nullptr);
+            of = std::move(other.of);
+        }
+        return *this;
+    }
+    ~session() { give_back(); }
+
+    nrbpf_session *native() const noexcept { return at; }
+
+    // Run a program, and wait for other sessions where they are in the way.
+    answer update(std::uint16_t program, bytes argument = {}) { return *run(nrbpf_update, program, argument); }
+    answer read(std::uint16_t program, bytes argument = {}) { return *run(nrbpf_read, program, argument); }
+
+    // Adds a program to the store while it runs. The reply is its number from then on, or NRBPF_REPLY_NO_ROOM where no spare place is left.
+    answer install(mode of_program, std::uint32_t argument_len, bytes code) {
+        answer out;
+        nrbpf_error why{};
+        detail::check(nrbpf_install(at, static_cast<std::uint32_t>(of_program), argument_len, code.data(), code.size(), &out, &why), why);
+        return out;
+    }
+
+    // The same, and wait for nobody.
+    tried try_update(std::uint16_t program, bytes argument = {}) {
+        answer out{};
+        const nrbpf_status status = nrbpf_try_update(at, program, argument.data(), argument.size(), &out);
+        return tried_of(status, out);
+    }
+    std::optional<answer> try_read(std::uint16_t program, bytes argument = {}) { return run(nrbpf_try_read, program, argument); }
+    tried try_install(mode of_program, std::uint32_t argument_len, bytes code) {
+        answer out{};
+        nrbpf_error why{};
+        const nrbpf_status status =
+            nrbpf_try_install(at, static_cast<std::uint32_t>(of_program), argument_len, code.data(), code.size(), &out, &why);
+        return tried_of(status, out, why);
+    }
+
+    // Goes on with the update or the install that is posted: none where it is not answered yet.
+    std::optional<answer> poll() {
+        answer out{};
+        const nrbpf_status status = nrbpf_poll(at, &out);
+        return tried_of(status, out) ? std::optional(out) : std::nullopt;
+    }
+
+    // The same until it is answered.
+    answer wait() {
+        for (;;) {
+            if (const auto told = poll()) return *told;
+            std::this_thread::yield();
+        }
+    }
+
+    // The value of a key of a map, counted from 0 as the manifest has them.
+    found get(std::uint32_t map, bytes key) { return *look_up(nrbpf_get, map, key); }
+    std::optional<found> try_get(std::uint32_t map, bytes key) { return look_up(nrbpf_try_get, map, key); }
+
+    // Entries of a map from a place on, 0 at first, at most so many, at one point of the history. It may give none and have a place to go on from.
+    page scan_page(std::uint32_t map, std::uint32_t from = 0, std::size_t room = 256) { return *turn(nrbpf_scan, map, from, room); }
+    std::optional<page> try_scan_page(std::uint32_t map, std::uint32_t from = 0, std::size_t room = 256) {
+        return turn(nrbpf_try_scan, map, from, room);
+    }
+
+    // Gives each key and value of a map to a function of two strings, by pages. They may be of several points of the history, and a deletion may move a
+    // key to another page; a snapshot is of one point.
+    template <class Take> void scan(std::uint32_t map, Take &&take) {
+        for (std::optional<std::uint32_t> from = 0; from;) {
+            const page it = scan_page(map, *from);
+            for (const auto &[key, value] : it.entries) take(key, value);
+            from = it.next;
+        }
+    }
+
+    // Answers up to 16 reads at one point of the history. Without any it brings the session's node up to what is completed.
+    replies read_each(const std::vector<question> &questions) { return *ask(nrbpf_read_each, questions); }
+    std::optional<replies> try_read_each(const std::vector<question> &questions) { return ask(nrbpf_try_read_each, questions); }
+
+    // Makes a state the store's at one point of the history, and answers the point. Other sessions go on; those of the same node wait meanwhile.
+    std::uint64_t snapshot(state &into) { return *copy(nrbpf_snapshot, into); }
+    std::optional<std::uint64_t> try_snapshot(state &into) { return copy(nrbpf_try_snapshot, into); }
+};
+
+// ---- A store
+
+// It may be moved, and is shared with its sessions: it ends when it and all of them are gone.
+class store {
+    std::shared_ptr<detail::shared_store> of = std::make_shared<detail::shared_store>();
+
+    template <class Open> void open(const manifest &with, Open &&call) {
+        const auto files = with.native();
+        nrbpf_store *out = nullptr;
+        nrbpf_error why{};
+        detail::check(call(with.text().data(), with.text().size(), files.data(), files.size(), &out, &why), why);
+        of->at.reset(out);
+        of->maps = with.maps();
+    }
+
+public:
+    // Loads the programs of a manifest, each verified here, and opens a store of them.
+    explicit store(const manifest &with, const nrbpf_config &sizes = config()) {
+        open(with, [&sizes](auto... given) { return nrbpf_open(&sizes, given...); });
+    }
+
+    // The same, going on from a state, which may be opened on again. Its history begins at point 0.
+    store(const manifest &with, const nrbpf_config &sizes, const state &on) {
+        open(with, [&](const char *text, std::size_t len, const nrbpf_file *files, std::size_t count, nrbpf_store **out, nrbpf_error *why) {
+            return nrbpf_open_on(&sizes, text, len, files, count, on.native(), out, why);
+        });
+    }
+
+    nrbpf_store *native() const noexcept { return of->at.get(); }
+    const std::vector<map_shape> &maps() const noexcept { return of->maps; }
+
+    // The number of a program of the manifest.
+    std::uint16_t program(std::string_view name) const {
+        std::uint16_t number = 0;
+        detail::check(nrbpf_program_number(native(), name.data(), name.size(), &number));
+        return number;
+    }
+
+    // A free session of a node, counted from 0.
+    session attach(std::uint32_t node = 0) const {
+        nrbpf_session *attached = nullptr;
+        detail::check(nrbpf_attach(native(), node, &attached));
+        return session(of, attached);
+    }
+
+    // A state for snapshots of this store. It takes the memory of one node's maps.
+    state new_state() const {
+        nrbpf_state *out = nullptr;
+        detail::check(nrbpf_state_new(native(), &out));
+        return state(out);
+    }
+
+    // Ends the store, and gives the state that it ends in: `std::move(store).close_into()`. S5 while there are sessions of it, and then it is as it was.
+    state close_into() && {
+        nrbpf_state *out = nullptr;
+        if (of.use_count() > 1) detail::check(NRBPF_ATTACHED);
+        detail::check(nrbpf_close_into(native(), &out));
+        of->at.release();
+        of.reset();
+        return state(out);
+    }
+};
+
+} // namespace nrbpf
+
+#endif
