@@ -1,0 +1,3 @@
+module nrbpf
+
+go 1.19

@@ -1,0 +1,233 @@
+package nrbpf_test
+
+import (
+	"bytes"
+	"errors"
+	"fmt"
+	"io"
+	"os"
+	"strings"
+	"testing"
+
+	"nrbpf"
+)
+
+// The programs of examples/key_value, a store of two keys, by their places in the manifest.
+const (
+	put uint16 = iota
+	get
+	del
+)
+
+func TestGet(t *testing.T) {
+	session := attached(t, opened(t, "key_value", 0), 0)
+	value := u32(1)
+	same(t, "no key", must(session.Get(0, u32(7), value)), nrbpf.Found{Point: 0, IsThere: false})
+	same(t, "the value as it was", bytes.Equal(value, u32(1)), true)
+	same(t, "put", must(session.Update(put, u32(7, 9))).Reply, 0)
+	same(t, "the key", must(session.Get(0, u32(7), value)), nrbpf.Found{Point: 1, IsThere: true})
+	same(t, "the value", bytes.Equal(value, u32(9)), true)
+	refused(t, last(session.Get(1, u32(7), value)), nrbpf.ErrUnknownMap)
+	refused(t, last(session.Get(0, nil, value)), nrbpf.ErrKeyLength)
+	refused(t, last(session.Get(0, u32(7), make([]byte, 8))), nrbpf.ErrValueLength)
+}
+
+// Pages of a map, one behind another, are its entries.
+func TestScan(t *testing.T) {
+	session := attached(t, opened(t, "counter", 0), 0)
+	must(session.Update(bump, u32(13)))
+	keys, values := make([]byte, 3*4), make([]byte, 3*8+7)
+	var foundKeys, foundValues []byte
+	for from := uint32(0); from != nrbpf.End; {
+		page := must(session.Scan(0, from, keys, values))
+		if page.Point != 1 || page.Count > 3 {
+			t.Fatalf("a page of three: %v", page)
+		}
+		foundKeys = append(foundKeys, keys[:4*page.Count]...)
+		foundValues = append(foundValues, values[:8*page.Count]...)
+		from = page.Next
+	}
+	wantKeys, wantValues := u32(0, 1, 2, 3, 4, 5, 6, 7, 8, 9, 10, 11, 12, 13, 14, 15), make([]byte, 16*8)
+	wantValues[13*8] = 1
+	same(t, "keys", bytes.Equal(foundKeys, wantKeys), true)
+	same(t, "values", bytes.Equal(foundValues, wantValues), true)
+	refused(t, last(session.Scan(1, 0, keys, values)), nrbpf.ErrUnknownMap)
+	refused(t, last(session.Scan(0, 17, keys, values)), nrbpf.ErrUnknownPlace)
+}
+
+func TestReadEach(t *testing.T) {
+	session := attached(t, opened(t, "counter", 0), 0)
+	must(session.Update(bump, u32(1)))
+	must(session.Update(bump, u32(2)))
+	must(session.Update(bump, u32(2)))
+	var questions []nrbpf.Question
+	for k := uint32(0); k < nrbpf.MostQuestions; k++ {
+		questions = append(questions, nrbpf.Question{Program: peek, Argument: u32(k)})
+	}
+	replies, point, err := session.ReadEach(questions)
+	must(0, err)
+	same(t, "the point", point, 3)
+	for k, reply := range replies {
+		same(t, "a counter", reply, [nrbpf.MostQuestions]uint64{1: 1, 2: 2}[k])
+	}
+	replies, point, err = session.ReadEach(nil)
+	same(t, "no question", len(must(replies, err)), 0)
+	same(t, "the point of none", point, 3)
+
+	_, _, err = session.ReadEach(append(questions, questions[0]))
+	refused(t, err, nrbpf.ErrBadCall)
+	questions[5].Program = bump
+	_, _, err = session.ReadEach(questions)
+	same(t, "the question's number", refused(t, err, nrbpf.ErrOtherMode).Slot, 5)
+	questions[4].Argument = make([]byte, 100)
+	_, _, err = session.ReadEach(questions)
+	same(t, "the first one's number", refused(t, err, nrbpf.ErrArgumentLength).Slot, 4)
+	questions[3].Program = 2
+	_, _, err = session.ReadEach(questions)
+	same(t, "the first one's number", refused(t, err, nrbpf.ErrUnknownProgram).Slot, 3)
+}
+
+// counterState is the state in docs/FORMATS.md: the counter 0 has 2.
+const counterState = "0 00000000 0200000000000000\n"
+
+func TestSnapshotDumpLoad(t *testing.T) {
+	store := opened(t, "counter", 1)
+	session := attached(t, store, 0)
+	state := must(store.NewState())
+	defer state.Free()
+	same(t, "a new store's", dumpOf(state), "")
+	must(session.Update(bump, u32(0)))
+	must(session.Update(bump, u32(0)))
+	same(t, "the point", must(session.Snapshot(state)), 2)
+	must(session.Update(bump, u32(0)))
+	same(t, "as of point 2", dumpOf(state), counterState)
+	must(session.Install(nrbpf.ModeRead, 0, fiveProgram))
+	same(t, "the next point", must(session.Snapshot(state)), 4)
+	later := "0 00000000 0300000000000000\np read 0 b7000000050000009500000000000000\n"
+	same(t, "with a program", dumpOf(state), later)
+
+	config := nrbpf.NewConfig(1, 1)
+	config.Spare = 1
+	loaded := must(nrbpf.Load(config, manifest("counter"), []byte(later)))
+	defer loaded.Free()
+	same(t, "loaded and dumped", dumpOf(loaded), later)
+	next := must(nrbpf.OpenOn(config, manifest("counter"), loaded))
+	on := must(next.Attach(0))
+	same(t, "the history begins anew", must(on.Update(bump, u32(0))), nrbpf.Answer{Point: 0, Reply: 4})
+	same(t, "the program is there", must(on.Read(2, nil)).Reply, 5)
+	must(0, on.Detach())
+	ended := must(next.CloseInto())
+	defer ended.Free()
+	same(t, "what it ended in", dumpOf(ended), strings.Replace(later, "03", "04", 1))
+}
+
+// In a snapshot that is taken while others count, the counter is the point.
+func TestSnapshotWhileOthersCount(t *testing.T) {
+	store := opened(t, "counter", 0)
+	taker := attached(t, store, 1)
+	done := make(chan struct{})
+	counting := attached(t, store, 0)
+	go func() {
+		defer close(done)
+		for range [2000]int{} {
+			must(counting.Update(bump, u32(0)))
+		}
+	}()
+	config := nrbpf.NewConfig(1, 1)
+	state := must(store.NewState())
+	defer state.Free()
+	for range [20]int{} {
+		point := must(taker.Snapshot(state))
+		on := must(nrbpf.OpenOn(config, manifest("counter"), state))
+		reader := must(on.Attach(0))
+		same(t, "the counter", must(reader.Read(peek, u32(0))), nrbpf.Answer{Point: 0, Reply: point})
+		must(0, reader.Detach())
+		must(0, on.Close())
+	}
+	<-done
+}
+
+func TestRefusedStates(t *testing.T) {
+	store := opened(t, "counter", 1)
+	session := attached(t, store, 0)
+	config, counter := nrbpf.NewConfig(1, 1), manifest("counter")
+	other := must(nrbpf.Load(config, manifest("key_value"), nil))
+	defer other.Free()
+	refused(t, last(session.Snapshot(other)), nrbpf.ErrOtherSizes)
+	refused(t, last(nrbpf.OpenOn(config, counter, other)), nrbpf.ErrOtherState)
+	five := "p read 0 b7000000050000009500000000000000\n"
+	for _, it := range []struct {
+		text string
+		line uint32
+		want nrbpf.Status
+	}{
+		{"0 00000000 0200000000000000", 1, nrbpf.ErrBadDumpLine},
+		{"0 00000000 02000000000000\n", 1, nrbpf.ErrBadDumpValue},
+		{counterState + counterState, 2, nrbpf.ErrBadDumpOrder},
+		{"1 00000000 0200000000000000\n", 1, nrbpf.ErrBadDumpMap},
+		{"0 10000000 0200000000000000\n", 1, nrbpf.ErrBadDumpKey},
+		{counterState + "0 01000000 0000000000000000\n", 2, nrbpf.ErrBadDumpZeros},
+		{five, 1, nrbpf.ErrDumpTooManyPrograms},
+	} {
+		same(t, it.text, refused(t, last(nrbpf.Load(config, counter, []byte(it.text))), it.want).Line, it.line)
+	}
+	three := "0 01000000 01000000\n0 02000000 01000000\n0 03000000 01000000\n"
+	same(t, three, refused(t, last(nrbpf.Load(config, manifest("key_value"), []byte(three))), nrbpf.ErrDumpTooManyKeys).Line, 3)
+	config.Spare = 1
+	why := refused(t, last(nrbpf.Load(config, counter, []byte("p read 0 95000000\n"))), nrbpf.ErrDumpBadProgram)
+	same(t, "half a slot", why.Inner, nrbpf.Refusal('D', 1))
+	config.Spare = 17
+	refused(t, last(nrbpf.Load(config, counter, nil)), nrbpf.ErrOutOfLimits)
+	refused(t, last(nrbpf.Load(nrbpf.NewConfig(1, 1), counter, []byte("\xff\n"))), nrbpf.ErrNotUTF8)
+}
+
+// full takes some bytes and then no more.
+type full struct{ room int }
+
+var errNoMore = errors.New("no more")
+
+func (f *full) Write(piece []byte) (int, error) {
+	if len(piece) > 16384 {
+		return 0, io.ErrShortBuffer
+	}
+	f.room -= len(piece)
+	if f.room < 0 {
+		return 0, errNoMore
+	}
+	return len(piece), nil
+}
+
+type panics struct{}
+
+func (panics) Write([]byte) (int, error) { panic("in the writer") }
+
+// A writer that fails or panics ends the dump, and the state is as good as before.
+func TestWriters(t *testing.T) {
+	large := nrbpf.Manifest{Text: "map array 8 65536\nprogram five read 0 five\n", Files: map[string]string{"five": "b7000000050000009500000000000000"}}
+	var text bytes.Buffer
+	for k := 0; k < 256; k++ { // index 256 k, whose key has its low byte first: these stand in the order of k
+		fmt.Fprintf(&text, "0 00%02x0000 %s\n", k, strings.Repeat("01", 8))
+	}
+	for k := 0; k < 256; k++ {
+		fmt.Fprintf(&text, "0 01%02x0000 %s\n", k, strings.Repeat("02", 8))
+	}
+	for k := 0; k < 256; k++ {
+		fmt.Fprintf(&text, "0 ff%02x0000 %s\n", k, strings.Repeat("03", 8))
+	}
+	state := must(nrbpf.Load(nrbpf.NewConfig(1, 1), large, text.Bytes()))
+	defer state.Free()
+	same(t, "the text", dumpOf(state), text.String())
+	refused(t, state.Dump(&full{room: 20000}), errNoMore)
+	must(0, state.Dump(&full{room: text.Len()}))
+	func() {
+		defer func() { same(t, "the panic goes on", recover() == "in the writer", true) }()
+		_ = state.Dump(panics{})
+	}()
+	same(t, "the text again", dumpOf(state), text.String())
+}
+
+func TestManifestWithoutFile(t *testing.T) {
+	path := t.TempDir() + "/manifest"
+	must(0, os.WriteFile(path, []byte("map array 8 1\nprogram gone update 0 gone.hex\n"), 0o600))
+	refused(t, last(nrbpf.ReadManifest(path)), os.ErrNotExist)
+}

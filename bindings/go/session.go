@@ -1,0 +1,144 @@
+package nrbpf
+
+// #include "calls.h"
+import "C"
+
+import "sync"
+
+// Session makes one call at a time. It goes back to its store by Detach.
+type Session struct {
+	lock   sync.Mutex // of all below it
+	store  *Store
+	at     *C.nrbpf_session // null once it is detached
+	answer C.nrbpf_answer   // the room of a call's, which would be of the heap each time
+	why    C.nrbpf_error
+}
+
+// Answer is what an update or a read is told.
+type Answer struct {
+	Point uint64 // of an update: its index, how many stand before it. Of a read: how many it has seen
+	Reply uint64 // what the program left in R0
+}
+
+// Two replies of an operation that did nothing.
+const (
+	ReplyNoRoom  uint64 = C.NRBPF_REPLY_NO_ROOM // -7: an install found no free place; by custom also of a program whose map has no room
+	ReplyInvalid uint64 = C.NRBPF_REPLY_INVALID // -22: the call found no program of its number, mode and argument length at its index
+)
+
+// Mode is what a program may do.
+type Mode uint32
+
+// The two modes.
+const (
+	ModeUpdate Mode = C.NRBPF_MODE_UPDATE
+	ModeRead   Mode = C.NRBPF_MODE_READ
+)
+
+// enter begins a call, and the caller ends it by giving the lock back.
+func (s *Session) enter() error {
+	s.lock.Lock()
+	if s.at == nil {
+		return ErrDetached
+	}
+	return nil
+}
+
+// answered is what a call has told.
+func (s *Session) answered(status C.nrbpf_status) (Answer, error) {
+	if status != C.NRBPF_OK {
+		return Answer{}, told(status)
+	}
+	return Answer{uint64(s.answer.point), uint64(s.answer.reply)}, nil
+}
+
+// Detach gives the session back. H2, H3.
+func (s *Session) Detach() error {
+	defer s.lock.Unlock()
+	if err := s.enter(); err != nil {
+		return err
+	}
+	if err := told(C.nrbpf_detach(s.at)); err != nil {
+		return err
+	}
+	s.at = nil
+	s.store.lock.Lock()
+	s.store.sessions--
+	s.store.lock.Unlock()
+	return nil
+}
+
+// Update runs a program that may change the maps, and waits for other sessions where they are in the way. S1 to S4, H2, H3.
+func (s *Session) Update(program uint16, argument []byte) (Answer, error) {
+	defer s.lock.Unlock()
+	if err := s.enter(); err != nil {
+		return Answer{}, err
+	}
+	return s.answered(C.go_update(s.at, C.uint16_t(program), first(argument), size(argument), &s.answer))
+}
+
+// TryUpdate is an Update that waits for nobody: ErrBusy, and then nothing is asked, or ErrPosted. Then the store has it, once, and the
+// session takes no other call but Poll until that has answered. Other updates of its node may have to wait for it.
+func (s *Session) TryUpdate(program uint16, argument []byte) (Answer, error) {
+	defer s.lock.Unlock()
+	if err := s.enter(); err != nil {
+		return Answer{}, err
+	}
+	return s.answered(C.go_try_update(s.at, C.uint16_t(program), first(argument), size(argument), &s.answer))
+}
+
+// Poll goes on with the update or the install that is posted, and waits for nobody: ErrPosted again, or its answer, or ErrFull, with which
+// it is over and done nothing. H2, H11.
+func (s *Session) Poll() (Answer, error) {
+	defer s.lock.Unlock()
+	if err := s.enter(); err != nil {
+		return Answer{}, err
+	}
+	return s.answered(C.nrbpf_poll(s.at, &s.answer))
+}
+
+// Read runs a program that changes nothing, and waits for other sessions where they are in the way. S1 to S3, H2, H3.
+func (s *Session) Read(program uint16, argument []byte) (Answer, error) {
+	defer s.lock.Unlock()
+	if err := s.enter(); err != nil {
+		return Answer{}, err
+	}
+	return s.answered(C.go_read(s.at, C.uint16_t(program), first(argument), size(argument), &s.answer))
+}
+
+// TryRead is a Read that waits for nobody: ErrBusy besides.
+func (s *Session) TryRead(program uint16, argument []byte) (Answer, error) {
+	defer s.lock.Unlock()
+	if err := s.enter(); err != nil {
+		return Answer{}, err
+	}
+	return s.answered(C.go_try_read(s.at, C.uint16_t(program), first(argument), size(argument), &s.answer))
+}
+
+// Install adds a program to the store while it runs. The reply is its number from then on, or ReplyNoRoom where no spare place is left.
+// S4, S6 to S8, H2, H3, H5, of which an *Error says more.
+func (s *Session) Install(mode Mode, argumentLen uint32, program []byte) (Answer, error) {
+	defer s.lock.Unlock()
+	if err := s.enter(); err != nil {
+		return Answer{}, err
+	}
+	status := C.go_install(s.at, C.uint32_t(mode), C.uint32_t(argumentLen), first(program), size(program), &s.answer, &s.why)
+	return s.installed(status)
+}
+
+// TryInstall is an Install that waits for nobody: ErrBusy and ErrPosted besides, as of TryUpdate.
+func (s *Session) TryInstall(mode Mode, argumentLen uint32, program []byte) (Answer, error) {
+	defer s.lock.Unlock()
+	if err := s.enter(); err != nil {
+		return Answer{}, err
+	}
+	status := C.go_try_install(s.at, C.uint32_t(mode), C.uint32_t(argumentLen), first(program), size(program), &s.answer, &s.why)
+	return s.installed(status)
+}
+
+func (s *Session) installed(status C.nrbpf_status) (Answer, error) {
+	if status != C.NRBPF_OK {
+		return Answer{}, explained(status, &s.why)
+	}
+	return s.answered(status)
+}
