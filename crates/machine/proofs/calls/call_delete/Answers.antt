@@ -1,12 +1,11 @@
-use Rattle.std.proofs.Common.{◌≡◌, ℕ, ◌<◌, ◌≤◌, List, length, take, replicate, ap, sym, subst, ◌∙◌, arith}
+use Rattle.std.proofs.Common.{◌≡◌, ℕ, ◌<◌, List, length, ap, sym, subst, ◌∙◌}
 use Rattle.std.specs.Prelude.{slice_index_or, IfSome}
-use Rattle.std.proofs.lemmas.List.{length-take-le}
 use Rattle.std.proofs.lemmas.Option.{slice_get_within}
 use Rattle.maps.specs.Shapes.{AreShapesOk, key_size}
 use Rattle.regkind.specs.declared.frames.Kind.TheVariants.{Unreadable}
 use Rattle.machine.specs.Accesses.{IsRead}
 use Rattle.machine.proofs.Looking.{same_map}
-use Rattle.machine.proofs.Altering.{shape_ok, deletes, delete_key_told, deleted_leads}
+use Rattle.machine.proofs.Altering.{key_room, deletes, delete_key_told, deleted_leads}
 use Rattle.machine.proofs.calls.call_delete.Goals as goal
 
 pub map_named-m-requires : goal.map_named-m-requires
@@ -18,46 +17,38 @@ map_named-m-requires c =
 pub slice_bounds-key_room-end : goal.slice_bounds-key_room-end
 slice_bounds-key_room-end c =
     let s = c.requires.told in
-    let ok = shape_ok c.args.maps.now s.signature c.map_named-m.result c.shape.result s.limits s.shapes c.shape.ensures.shape in
-    omega (arith, ok.key.1, c.key_bytes-key_bytes.ensures.key)
+    let room = key_room c.args.maps.now s.signature c.map_named-m.result c.shape.result s.limits s.shapes c.shape.ensures.shape c.key_bytes-key_bytes.result c.key_bytes-key_bytes.ensures.key in
+    room.few
 
 pub slice_bounds-key-end : goal.slice_bounds-key-end
 slice_bounds-key-end c =
     let s = c.requires.told in
-    let ok = shape_ok c.args.maps.now s.signature c.map_named-m.result c.shape.result s.limits s.shapes c.shape.ensures.shape in
-    let few : c.key_bytes-key_bytes.result ≤ 64 = omega (arith, ok.key.1, c.key_bytes-key_bytes.ensures.key) in
-    let count : length (take c.key_bytes-key_bytes.result (replicate 64 0)) ≡ c.key_bytes-key_bytes.result = length-take-le c.key_bytes-key_bytes.result (replicate 64 0) few in
-    sym count
+    let room = key_room c.args.maps.now s.signature c.map_named-m.result c.shape.result s.limits s.shapes c.shape.ensures.shape c.key_bytes-key_bytes.result c.key_bytes-key_bytes.ensures.key in
+    sym room.count
 
 pub fetch-requires-clause-some : goal.fetch-requires-clause-some
 fetch-requires-clause-some c =
     let s = c.requires.told in
-    let ok = shape_ok c.args.maps.now s.signature c.map_named-m.result c.shape.result s.limits s.shapes c.shape.ensures.shape in
-    let few : c.key_bytes-key_bytes.result ≤ 64 = omega (arith, ok.key.1, c.key_bytes-key_bytes.ensures.key) in
-    let count : length (take c.key_bytes-key_bytes.result (replicate 64 0)) ≡ c.key_bytes-key_bytes.result = length-take-le c.key_bytes-key_bytes.result (replicate 64 0) few in
-    subst (λ k. 0 < k) (sym count) (omega (arith, ok.key.0, c.key_bytes-key_bytes.ensures.key))
+    let room = key_room c.args.maps.now s.signature c.map_named-m.result c.shape.result s.limits s.shapes c.shape.ensures.shape c.key_bytes-key_bytes.result c.key_bytes-key_bytes.ensures.key in
+    subst (λ k. 0 < k) (sym room.count) room.some
+
+pub fetch-requires-clause-told : goal.fetch-requires-clause-told
+fetch-requires-clause-told c =
+    let s = c.requires.told in
+    let room = key_room c.args.maps.now s.signature c.map_named-m.result c.shape.result s.limits s.shapes c.shape.ensures.shape c.key_bytes-key_bytes.result c.key_bytes-key_bytes.ensures.key in
+    subst (λ k. (bs : List ℕ) × IsRead c.args.machine.now.stack c.args.maps.now c.args.argument.now c.at-key_base.result k bs) (sym room.count)
+    (subst (λ b. (bs : List ℕ) × IsRead c.args.machine.now.stack c.args.maps.now c.args.argument.now b c.key_bytes-key_bytes.result bs) (sym c.at-key_base.ensures.base)
+    (delete_key_told c.args.kinds c.args.machine.now c.args.maps.now c.args.argument.now s c.map_named-m.result c.key_bytes-key_bytes.result c.shape.result (same_map s.frame c.args.kinds c.map_named-m.result s.same_kinds c.map_named-m.ensures.map) c.shape.ensures.shape c.key_bytes-key_bytes.ensures.key))
 
 pub fetch-requires-clause-limits : goal.fetch-requires-clause-limits
 fetch-requires-clause-limits c =
     subst AreShapesOk c.requires.told.shapes c.requires.told.limits
 
-pub fetch-requires-clause-told : goal.fetch-requires-clause-told
-fetch-requires-clause-told c =
-    let s = c.requires.told in
-    let ok = shape_ok c.args.maps.now s.signature c.map_named-m.result c.shape.result s.limits s.shapes c.shape.ensures.shape in
-    let few : c.key_bytes-key_bytes.result ≤ 64 = omega (arith, ok.key.1, c.key_bytes-key_bytes.ensures.key) in
-    let count : length (take c.key_bytes-key_bytes.result (replicate 64 0)) ≡ c.key_bytes-key_bytes.result = length-take-le c.key_bytes-key_bytes.result (replicate 64 0) few in
-    subst (λ k. (bs : List ℕ) × IsRead c.args.machine.now.stack c.args.maps.now c.args.argument.now c.at-key_base.result k bs) (sym count)
-    (subst (λ b. (bs : List ℕ) × IsRead c.args.machine.now.stack c.args.maps.now c.args.argument.now b c.key_bytes-key_bytes.result bs) (sym c.at-key_base.ensures.base)
-    (delete_key_told c.args.kinds c.args.machine.now c.args.maps.now c.args.argument.now s c.map_named-m.result c.key_bytes-key_bytes.result c.shape.result (same_map s.frame c.args.kinds c.map_named-m.result s.same_kinds c.map_named-m.ensures.map) c.shape.ensures.shape c.key_bytes-key_bytes.ensures.key))
-
 pub delete-requires-clause-key : goal.delete-requires-clause-key
 delete-requires-clause-key c =
     let s = c.requires.told in
-    let ok = shape_ok c.args.maps.now s.signature c.map_named-m.result c.shape.result s.limits s.shapes c.shape.ensures.shape in
-    let few : c.key_bytes-key_bytes.result ≤ 64 = omega (arith, ok.key.1, c.key_bytes-key_bytes.ensures.key) in
-    let count : length (take c.key_bytes-key_bytes.result (replicate 64 0)) ≡ c.key_bytes-key_bytes.result = length-take-le c.key_bytes-key_bytes.result (replicate 64 0) few in
-    subst (λ o. IfSome o (λ shape. length c.fetch.new.room ≡ key_size shape)) (sym c.shape.ensures.shape) (c.fetch.ensures.count ∙ count ∙ c.key_bytes-key_bytes.ensures.key)
+    let room = key_room c.args.maps.now s.signature c.map_named-m.result c.shape.result s.limits s.shapes c.shape.ensures.shape c.key_bytes-key_bytes.result c.key_bytes-key_bytes.ensures.key in
+    subst (λ o. IfSome o (λ shape. length c.fetch.new.room ≡ key_size shape)) (sym c.shape.ensures.shape) (c.fetch.ensures.count ∙ room.count ∙ c.key_bytes-key_bytes.ensures.key)
 
 pub delete-requires-clause-map : goal.delete-requires-clause-map
 delete-requires-clause-map c =
@@ -66,12 +57,10 @@ delete-requires-clause-map c =
 pub returns : goal.returns
 returns c =
     let s = c.requires.told in
-    let ok = shape_ok c.args.maps.now s.signature c.map_named-m.result c.shape.result s.limits s.shapes c.shape.ensures.shape in
-    let key_few : c.key_bytes-key_bytes.result ≤ 64 = omega (arith, ok.key.1, c.key_bytes-key_bytes.ensures.key) in
-    let key_count : length (take c.key_bytes-key_bytes.result (replicate 64 0)) ≡ c.key_bytes-key_bytes.result = length-take-le c.key_bytes-key_bytes.result (replicate 64 0) key_few in
+    let key = key_room c.args.maps.now s.signature c.map_named-m.result c.shape.result s.limits s.shapes c.shape.ensures.shape c.key_bytes-key_bytes.result c.key_bytes-key_bytes.ensures.key in
     record {
       executes = λ s.
           deleted_leads c.args.kinds c.args.machine.now c.args.maps.now c.args.argument.now s c.map_named-m.result c.key_bytes-key_bytes.result c.shape.result (same_map s.frame c.args.kinds c.map_named-m.result s.same_kinds c.map_named-m.ensures.map) c.shape.ensures.shape c.key_bytes-key_bytes.ensures.key
-          c.fetch.new.room c.delete.new.maps c.delete.result (λ bs told. c.fetch.ensures.copied bs (subst (λ k. IsRead c.args.machine.now.stack c.args.maps.now c.args.argument.now c.at-key_base.result k bs) (sym key_count) (subst (λ b. IsRead c.args.machine.now.stack c.args.maps.now c.args.argument.now b c.key_bytes-key_bytes.result bs) (sym c.at-key_base.ensures.base) told))) c.delete.ensures.answers
+          c.fetch.new.room c.delete.new.maps c.delete.result (λ bs told. c.fetch.ensures.copied bs (subst (λ k. IsRead c.args.machine.now.stack c.args.maps.now c.args.argument.now c.at-key_base.result k bs) (sym key.count) (subst (λ b. IsRead c.args.machine.now.stack c.args.maps.now c.args.argument.now b c.key_bytes-key_bytes.result bs) (sym c.at-key_base.ensures.base) told))) c.delete.ensures.answers
           (record { maps = c.delete.ensures.others; shapes = c.delete.ensures.shapes });
     }

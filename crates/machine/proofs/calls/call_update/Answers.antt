@@ -1,12 +1,11 @@
-use Rattle.std.proofs.Common.{◌≡◌, ℕ, ◌<◌, ◌≤◌, List, length, take, replicate, ap, sym, subst, ◌∙◌, arith}
+use Rattle.std.proofs.Common.{◌≡◌, ℕ, ◌<◌, List, length, ap, sym, subst, ◌∙◌}
 use Rattle.std.specs.Prelude.{slice_index_or, IfSome}
-use Rattle.std.proofs.lemmas.List.{length-take-le}
 use Rattle.std.proofs.lemmas.Option.{slice_get_within}
 use Rattle.maps.specs.Shapes.{AreShapesOk, key_size, value_size}
 use Rattle.regkind.specs.declared.frames.Kind.TheVariants.{Unreadable}
 use Rattle.machine.specs.Accesses.{IsRead}
 use Rattle.machine.proofs.Looking.{same_map}
-use Rattle.machine.proofs.Altering.{shape_ok, updates, update_key_told, update_value_told, updated_leads}
+use Rattle.machine.proofs.Altering.{key_room, value_room, updates, update_key_told, update_value_told, updated_leads}
 use Rattle.machine.proofs.calls.call_update.Goals as goal
 
 pub map_named-m-requires : goal.map_named-m-requires
@@ -18,24 +17,20 @@ map_named-m-requires c =
 pub slice_bounds-key_room-end : goal.slice_bounds-key_room-end
 slice_bounds-key_room-end c =
     let s = c.requires.told in
-    let ok = shape_ok c.args.maps.now s.signature c.map_named-m.result c.shape-shape.result s.limits s.shapes c.shape-shape.ensures.shape in
-    omega (arith, ok.key.1, c.key_bytes-key_bytes.ensures.key)
+    let room = key_room c.args.maps.now s.signature c.map_named-m.result c.shape-shape.result s.limits s.shapes c.shape-shape.ensures.shape c.key_bytes-key_bytes.result c.key_bytes-key_bytes.ensures.key in
+    room.few
 
 pub slice_bounds-key-end : goal.slice_bounds-key-end
 slice_bounds-key-end c =
     let s = c.requires.told in
-    let ok = shape_ok c.args.maps.now s.signature c.map_named-m.result c.shape-shape.result s.limits s.shapes c.shape-shape.ensures.shape in
-    let few : c.key_bytes-key_bytes.result ≤ 64 = omega (arith, ok.key.1, c.key_bytes-key_bytes.ensures.key) in
-    let count : length (take c.key_bytes-key_bytes.result (replicate 64 0)) ≡ c.key_bytes-key_bytes.result = length-take-le c.key_bytes-key_bytes.result (replicate 64 0) few in
-    sym count
+    let room = key_room c.args.maps.now s.signature c.map_named-m.result c.shape-shape.result s.limits s.shapes c.shape-shape.ensures.shape c.key_bytes-key_bytes.result c.key_bytes-key_bytes.ensures.key in
+    sym room.count
 
 pub fetch-requires-clause-some : goal.fetch-requires-clause-some
 fetch-requires-clause-some c =
     let s = c.requires.told in
-    let ok = shape_ok c.args.maps.now s.signature c.map_named-m.result c.shape-shape.result s.limits s.shapes c.shape-shape.ensures.shape in
-    let few : c.key_bytes-key_bytes.result ≤ 64 = omega (arith, ok.key.1, c.key_bytes-key_bytes.ensures.key) in
-    let count : length (take c.key_bytes-key_bytes.result (replicate 64 0)) ≡ c.key_bytes-key_bytes.result = length-take-le c.key_bytes-key_bytes.result (replicate 64 0) few in
-    subst (λ k. 0 < k) (sym count) (omega (arith, ok.key.0, c.key_bytes-key_bytes.ensures.key))
+    let room = key_room c.args.maps.now s.signature c.map_named-m.result c.shape-shape.result s.limits s.shapes c.shape-shape.ensures.shape c.key_bytes-key_bytes.result c.key_bytes-key_bytes.ensures.key in
+    subst (λ k. 0 < k) (sym room.count) room.some
 
 pub fetch-requires-clause-limits : goal.fetch-requires-clause-limits
 fetch-requires-clause-limits c =
@@ -44,42 +39,34 @@ fetch-requires-clause-limits c =
 pub fetch-requires-clause-told : goal.fetch-requires-clause-told
 fetch-requires-clause-told c =
     let s = c.requires.told in
-    let ok = shape_ok c.args.maps.now s.signature c.map_named-m.result c.shape-shape.result s.limits s.shapes c.shape-shape.ensures.shape in
-    let few : c.key_bytes-key_bytes.result ≤ 64 = omega (arith, ok.key.1, c.key_bytes-key_bytes.ensures.key) in
-    let count : length (take c.key_bytes-key_bytes.result (replicate 64 0)) ≡ c.key_bytes-key_bytes.result = length-take-le c.key_bytes-key_bytes.result (replicate 64 0) few in
-    subst (λ k. (bs : List ℕ) × IsRead c.args.machine.now.stack c.args.maps.now c.args.argument.now c.at-key_base.result k bs) (sym count)
+    let room = key_room c.args.maps.now s.signature c.map_named-m.result c.shape-shape.result s.limits s.shapes c.shape-shape.ensures.shape c.key_bytes-key_bytes.result c.key_bytes-key_bytes.ensures.key in
+    subst (λ k. (bs : List ℕ) × IsRead c.args.machine.now.stack c.args.maps.now c.args.argument.now c.at-key_base.result k bs) (sym room.count)
     (subst (λ b. (bs : List ℕ) × IsRead c.args.machine.now.stack c.args.maps.now c.args.argument.now b c.key_bytes-key_bytes.result bs) (sym c.at-key_base.ensures.base)
     (update_key_told c.args.kinds c.args.machine.now c.args.maps.now c.args.argument.now s c.map_named-m.result c.key_bytes-key_bytes.result c.value_bytes-value_bytes.result c.shape-shape.result (same_map s.frame c.args.kinds c.map_named-m.result s.same_kinds c.map_named-m.ensures.map) c.shape-shape.ensures.shape c.key_bytes-key_bytes.ensures.key c.value_bytes-value_bytes.ensures.value))
 
 pub update-requires-clause-key : goal.update-requires-clause-key
 update-requires-clause-key c =
     let s = c.requires.told in
-    let ok = shape_ok c.args.maps.now s.signature c.map_named-m.result c.shape-shape.result s.limits s.shapes c.shape-shape.ensures.shape in
-    let few : c.key_bytes-key_bytes.result ≤ 64 = omega (arith, ok.key.1, c.key_bytes-key_bytes.ensures.key) in
-    let count : length (take c.key_bytes-key_bytes.result (replicate 64 0)) ≡ c.key_bytes-key_bytes.result = length-take-le c.key_bytes-key_bytes.result (replicate 64 0) few in
-    subst (λ o. IfSome o (λ shape. length c.fetch.new.room ≡ key_size shape)) (sym c.shape-shape.ensures.shape) (c.fetch.ensures.count ∙ count ∙ c.key_bytes-key_bytes.ensures.key)
+    let room = key_room c.args.maps.now s.signature c.map_named-m.result c.shape-shape.result s.limits s.shapes c.shape-shape.ensures.shape c.key_bytes-key_bytes.result c.key_bytes-key_bytes.ensures.key in
+    subst (λ o. IfSome o (λ shape. length c.fetch.new.room ≡ key_size shape)) (sym c.shape-shape.ensures.shape) (c.fetch.ensures.count ∙ room.count ∙ c.key_bytes-key_bytes.ensures.key)
 
 pub slice_bounds-value_room-end : goal.slice_bounds-value_room-end
 slice_bounds-value_room-end c =
     let s = c.requires.told in
-    let ok = shape_ok c.args.maps.now s.signature c.map_named-m.result c.shape-shape.result s.limits s.shapes c.shape-shape.ensures.shape in
-    omega (arith, ok.value.1, c.value_bytes-value_bytes.ensures.value)
+    let room = value_room c.args.maps.now s.signature c.map_named-m.result c.shape-shape.result s.limits s.shapes c.shape-shape.ensures.shape c.value_bytes-value_bytes.result c.value_bytes-value_bytes.ensures.value in
+    room.few
 
 pub slice_bounds-value-end : goal.slice_bounds-value-end
 slice_bounds-value-end c =
     let s = c.requires.told in
-    let ok = shape_ok c.args.maps.now s.signature c.map_named-m.result c.shape-shape.result s.limits s.shapes c.shape-shape.ensures.shape in
-    let few : c.value_bytes-value_bytes.result ≤ 256 = omega (arith, ok.value.1, c.value_bytes-value_bytes.ensures.value) in
-    let count : length (take c.value_bytes-value_bytes.result (replicate 256 0)) ≡ c.value_bytes-value_bytes.result = length-take-le c.value_bytes-value_bytes.result (replicate 256 0) few in
-    sym count
+    let room = value_room c.args.maps.now s.signature c.map_named-m.result c.shape-shape.result s.limits s.shapes c.shape-shape.ensures.shape c.value_bytes-value_bytes.result c.value_bytes-value_bytes.ensures.value in
+    sym room.count
 
 pub fetch-requires-2-clause-some : goal.fetch-requires-2-clause-some
 fetch-requires-2-clause-some c =
     let s = c.requires.told in
-    let ok = shape_ok c.args.maps.now s.signature c.map_named-m.result c.shape-shape.result s.limits s.shapes c.shape-shape.ensures.shape in
-    let few : c.value_bytes-value_bytes.result ≤ 256 = omega (arith, ok.value.1, c.value_bytes-value_bytes.ensures.value) in
-    let count : length (take c.value_bytes-value_bytes.result (replicate 256 0)) ≡ c.value_bytes-value_bytes.result = length-take-le c.value_bytes-value_bytes.result (replicate 256 0) few in
-    subst (λ k. 0 < k) (sym count) (omega (arith, ok.value.0, c.value_bytes-value_bytes.ensures.value))
+    let room = value_room c.args.maps.now s.signature c.map_named-m.result c.shape-shape.result s.limits s.shapes c.shape-shape.ensures.shape c.value_bytes-value_bytes.result c.value_bytes-value_bytes.ensures.value in
+    subst (λ k. 0 < k) (sym room.count) room.some
 
 pub fetch-requires-2-clause-limits : goal.fetch-requires-2-clause-limits
 fetch-requires-2-clause-limits c =
@@ -88,20 +75,16 @@ fetch-requires-2-clause-limits c =
 pub fetch-requires-2-clause-told : goal.fetch-requires-2-clause-told
 fetch-requires-2-clause-told c =
     let s = c.requires.told in
-    let ok = shape_ok c.args.maps.now s.signature c.map_named-m.result c.shape-shape.result s.limits s.shapes c.shape-shape.ensures.shape in
-    let few : c.value_bytes-value_bytes.result ≤ 256 = omega (arith, ok.value.1, c.value_bytes-value_bytes.ensures.value) in
-    let count : length (take c.value_bytes-value_bytes.result (replicate 256 0)) ≡ c.value_bytes-value_bytes.result = length-take-le c.value_bytes-value_bytes.result (replicate 256 0) few in
-    subst (λ k. (bs : List ℕ) × IsRead c.args.machine.now.stack c.args.maps.now c.args.argument.now c.at-value_base.result k bs) (sym count)
+    let room = value_room c.args.maps.now s.signature c.map_named-m.result c.shape-shape.result s.limits s.shapes c.shape-shape.ensures.shape c.value_bytes-value_bytes.result c.value_bytes-value_bytes.ensures.value in
+    subst (λ k. (bs : List ℕ) × IsRead c.args.machine.now.stack c.args.maps.now c.args.argument.now c.at-value_base.result k bs) (sym room.count)
     (subst (λ b. (bs : List ℕ) × IsRead c.args.machine.now.stack c.args.maps.now c.args.argument.now b c.value_bytes-value_bytes.result bs) (sym c.at-value_base.ensures.base)
     (update_value_told c.args.kinds c.args.machine.now c.args.maps.now c.args.argument.now s c.map_named-m.result c.key_bytes-key_bytes.result c.value_bytes-value_bytes.result c.shape-shape.result (same_map s.frame c.args.kinds c.map_named-m.result s.same_kinds c.map_named-m.ensures.map) c.shape-shape.ensures.shape c.key_bytes-key_bytes.ensures.key c.value_bytes-value_bytes.ensures.value))
 
 pub update-requires-clause-value : goal.update-requires-clause-value
 update-requires-clause-value c =
     let s = c.requires.told in
-    let ok = shape_ok c.args.maps.now s.signature c.map_named-m.result c.shape-shape.result s.limits s.shapes c.shape-shape.ensures.shape in
-    let few : c.value_bytes-value_bytes.result ≤ 256 = omega (arith, ok.value.1, c.value_bytes-value_bytes.ensures.value) in
-    let count : length (take c.value_bytes-value_bytes.result (replicate 256 0)) ≡ c.value_bytes-value_bytes.result = length-take-le c.value_bytes-value_bytes.result (replicate 256 0) few in
-    subst (λ o. IfSome o (λ shape. length c.fetch-2.new.room ≡ value_size shape)) (sym c.shape-shape.ensures.shape) (c.fetch-2.ensures.count ∙ count ∙ c.value_bytes-value_bytes.ensures.value)
+    let room = value_room c.args.maps.now s.signature c.map_named-m.result c.shape-shape.result s.limits s.shapes c.shape-shape.ensures.shape c.value_bytes-value_bytes.result c.value_bytes-value_bytes.ensures.value in
+    subst (λ o. IfSome o (λ shape. length c.fetch-2.new.room ≡ value_size shape)) (sym c.shape-shape.ensures.shape) (c.fetch-2.ensures.count ∙ room.count ∙ c.value_bytes-value_bytes.ensures.value)
 
 pub update-requires-clause-map : goal.update-requires-clause-map
 update-requires-clause-map c =
@@ -110,14 +93,11 @@ update-requires-clause-map c =
 pub returns : goal.returns
 returns c =
     let s = c.requires.told in
-    let ok = shape_ok c.args.maps.now s.signature c.map_named-m.result c.shape-shape.result s.limits s.shapes c.shape-shape.ensures.shape in
-    let key_few : c.key_bytes-key_bytes.result ≤ 64 = omega (arith, ok.key.1, c.key_bytes-key_bytes.ensures.key) in
-    let key_count : length (take c.key_bytes-key_bytes.result (replicate 64 0)) ≡ c.key_bytes-key_bytes.result = length-take-le c.key_bytes-key_bytes.result (replicate 64 0) key_few in
-    let value_few : c.value_bytes-value_bytes.result ≤ 256 = omega (arith, ok.value.1, c.value_bytes-value_bytes.ensures.value) in
-    let value_count : length (take c.value_bytes-value_bytes.result (replicate 256 0)) ≡ c.value_bytes-value_bytes.result = length-take-le c.value_bytes-value_bytes.result (replicate 256 0) value_few in
+    let key = key_room c.args.maps.now s.signature c.map_named-m.result c.shape-shape.result s.limits s.shapes c.shape-shape.ensures.shape c.key_bytes-key_bytes.result c.key_bytes-key_bytes.ensures.key in
+    let value = value_room c.args.maps.now s.signature c.map_named-m.result c.shape-shape.result s.limits s.shapes c.shape-shape.ensures.shape c.value_bytes-value_bytes.result c.value_bytes-value_bytes.ensures.value in
     record {
       executes = λ s.
           updated_leads c.args.kinds c.args.machine.now c.args.maps.now c.args.argument.now s c.map_named-m.result c.key_bytes-key_bytes.result c.value_bytes-value_bytes.result c.shape-shape.result (same_map s.frame c.args.kinds c.map_named-m.result s.same_kinds c.map_named-m.ensures.map) c.shape-shape.ensures.shape c.key_bytes-key_bytes.ensures.key c.value_bytes-value_bytes.ensures.value
-          c.fetch.new.room c.fetch-2.new.room c.update.new.maps c.update.result (λ bs told. c.fetch.ensures.copied bs (subst (λ k. IsRead c.args.machine.now.stack c.args.maps.now c.args.argument.now c.at-key_base.result k bs) (sym key_count) (subst (λ b. IsRead c.args.machine.now.stack c.args.maps.now c.args.argument.now b c.key_bytes-key_bytes.result bs) (sym c.at-key_base.ensures.base) told))) (λ bs told. c.fetch-2.ensures.copied bs (subst (λ k. IsRead c.args.machine.now.stack c.args.maps.now c.args.argument.now c.at-value_base.result k bs) (sym value_count) (subst (λ b. IsRead c.args.machine.now.stack c.args.maps.now c.args.argument.now b c.value_bytes-value_bytes.result bs) (sym c.at-value_base.ensures.base) told))) c.update.ensures.answers
+          c.fetch.new.room c.fetch-2.new.room c.update.new.maps c.update.result (λ bs told. c.fetch.ensures.copied bs (subst (λ k. IsRead c.args.machine.now.stack c.args.maps.now c.args.argument.now c.at-key_base.result k bs) (sym key.count) (subst (λ b. IsRead c.args.machine.now.stack c.args.maps.now c.args.argument.now b c.key_bytes-key_bytes.result bs) (sym c.at-key_base.ensures.base) told))) (λ bs told. c.fetch-2.ensures.copied bs (subst (λ k. IsRead c.args.machine.now.stack c.args.maps.now c.args.argument.now c.at-value_base.result k bs) (sym value.count) (subst (λ b. IsRead c.args.machine.now.stack c.args.maps.now c.args.argument.now b c.value_bytes-value_bytes.result bs) (sym c.at-value_base.ensures.base) told))) c.update.ensures.answers
           (record { maps = c.update.ensures.others; shapes = c.update.ensures.shapes });
     }
