@@ -1,6 +1,6 @@
 // Operations, and the records of them.
 
-ghost use Rattle.std.specs.Prelude.{◌≡◌, ◌<◌, ◌≤◌, ◌++◌, ◌∷◌, length, vec_capacity, []};
+ghost use Rattle.std.specs.Prelude.{◌≡◌, ◌<◌, ◌≤◌, ◌-◌, ◌++◌, ◌∷◌, length, take, drop, replicate, vec_capacity, []};
 ghost use Rattle.maps.specs.Maps.{AreBytes};
 ghost use Rattle.oplog.specs.declared.records.Op.TheVariants.{Run};
 ghost use Rattle.oplog.specs.Calls.{padded};
@@ -51,6 +51,24 @@ impl Call {
             argument_len: argument.len() as u8,
             argument_bytes: padded_argument(argument),
         }
+    }
+
+    /// Becomes the call of a program, by its number in the catalogue, on an argument of at most [`MAX_ARG_LEN`], in its place.
+    pub fn set(&mut self, program: u16, argument: &[u8])
+        requires fits { length argument.now ≤ MAX_ARG_LEN }
+        ensures call { self.new ≡ record { program = program; argument = argument.now } }
+    {
+        let old = self.argument_len as usize;
+        refill(&mut self.argument_bytes, old, argument);
+        self.argument_len = argument.len() as u8;
+        self.program = program;
+    }
+
+    /// Becomes the other, in its place.
+    pub fn assign(&mut self, from: &Call)
+        ensures same { self.new ≡ from.now }
+    {
+        *self = *from;
     }
 
     /// The program's number in the catalogue.
@@ -157,6 +175,53 @@ pub enum Op {
     Install(NewProgram),
 }
 
+impl Op {
+    /// Becomes the call of a program, by its number in the catalogue, on an argument of at most [`MAX_ARG_LEN`], in its place.
+    pub fn set_call(&mut self, program: u16, argument: &[u8])
+        requires fits { length argument.now ≤ MAX_ARG_LEN }
+        ensures call { self.new ≡ Run (record { program = program; argument = argument.now }) }
+    {
+        if let Op::Run(to) = self {
+            to.set(program, argument);
+            return;
+        }
+        self.become_call(program, argument);
+    }
+
+    /// Becomes the other, in its place: a call over a call is written without the room of a program.
+    pub fn assign(&mut self, from: &Op)
+        ensures same { self.new ≡ from.now }
+    {
+        if let Op::Run(call) = from {
+            if let Op::Run(to) = self {
+                to.assign(call);
+                return;
+            }
+        }
+        self.replace(from);
+    }
+
+    // Becomes the call where it is another operation.
+    #[inline(never)]
+    fn become_call(&mut self, program: u16, argument: &[u8])
+        requires fits { length argument.now ≤ MAX_ARG_LEN }
+        ensures call { self.new ≡ Run (record { program = program; argument = argument.now }) }
+    {
+        *self = Op::Run(Call::new(program, argument));
+    }
+
+    // Becomes the other where one of both has a program. What it makes on the way has the room of a program, which is cleared.
+    #[inline(never)]
+    fn replace(&mut self, from: &Op)
+        ensures same { self.new ≡ from.now }
+    {
+        match from {
+            Op::Run(call) => *self = Op::Run(*call),
+            Op::Install(program) => *self = Op::Install(*program),
+        }
+    }
+}
+
 impl Default for Op {
     /// The run of the first program, without an argument.
     fn default() -> Op
@@ -175,6 +240,17 @@ pub struct Record {
     pub op: Op,
     /// The number of the author's earlier records.
     pub seq: u64,
+}
+
+impl Record {
+    /// Becomes the other, in its place.
+    pub fn assign(&mut self, from: &Record)
+        ensures same { self.new ≡ from.now }
+    {
+        self.author = from.author;
+        self.seq = from.seq;
+        self.op.assign(&from.op);
+    }
 }
 
 // Puts a copy of a record at the end. It is made by the case of its operation: a call has a third of a program's bytes.
@@ -206,6 +282,28 @@ fn padded_argument(argument: &[u8]) -> [u8; MAX_ARG_LEN]
     let front = &mut bytes[..argument.len()];
     front.copy_from_slice(argument);
     bytes
+}
+
+// Puts an argument in the place of another of this length, with zeros behind it.
+fn refill(bytes: &mut [u8; MAX_ARG_LEN], old: usize, argument: &[u8])
+    requires zeros { bytes.old ≡ padded MAX_ARG_LEN (take old bytes.old) }
+    requires within { old ≤ MAX_ARG_LEN }
+    requires fits { length argument.now ≤ MAX_ARG_LEN }
+    ensures padded { bytes.new ≡ padded MAX_ARG_LEN argument.now }
+{
+    blank(bytes, argument.len(), old);
+    bytes[..argument.len()].copy_from_slice(argument);
+}
+
+// Writes zeros from one place to another, behind which there are zeros.
+fn blank(bytes: &mut [u8; MAX_ARG_LEN], from: usize, to: usize)
+    requires zeros { bytes.old ≡ padded MAX_ARG_LEN (take to bytes.old) }
+    requires within { to ≤ MAX_ARG_LEN }
+    ensures zeros { drop from bytes.new ≡ replicate (MAX_ARG_LEN - from) 0 }
+{
+    if from < to {
+        bytes[from..to].fill(0);
+    }
 }
 
 // The bytes of a program, and zeros after them.
