@@ -2,13 +2,12 @@
 use Rattle.std.proofs.Common.{◌≡◌, ℕ, zero, suc, ◌+◌, ◌*◌, ◌<◌, ◌≤◌, List, [], ◌∷◌, ◌++◌, length, map, Option, Some, None, refl, sym, ap, ◌∙◌, subst, arith}
 use Rattle.std.specs.Prelude.{slice_get, slice_set}
 use Rattle.std.proofs.lemmas.Option.{none-some, same_Some}
-use Rattle.std.proofs.lemmas.List.{append-nil, map-append}
+use Rattle.std.proofs.lemmas.List.{map-append}
 use Rattle.oplog.specs.declared.records.Record.{Record}
 use Rattle.combiner.specs.declared.slots.Stage.{Stage}
 use Rattle.combiner.specs.declared.slots.Stage.TheVariants.{Empty, Posted, Claimed, Answered}
 use Rattle.combiner.specs.declared.slots.Slot.{Slot}
-use Rattle.oplog.specs.Operations.{Operation}
-use Rattle.combiner.specs.Slots.{slot, claimed_slot, claimed_stage, requested, requests_from}
+use Rattle.combiner.specs.Slots.{claimed_slot, requested, requests_from}
 use Rattle.combiner.specs.declared.slots.Reply.{Reply}
 use Rattle.combiner.specs.Desks.{DeskView, BatchView, first_author, with_slot, claimed, batch_of}
 use Rattle.combiner.specs.Claiming.{ClaimsSlot, claimed_up_to, requests_up_to, claimed_to}
@@ -77,8 +76,6 @@ some_at [] n h = absurd (omega arith)
 some_at (x ∷ xs) zero h = (x, refl)
 some_at (x ∷ xs) (suc n) h = some_at xs n (omega arith)
 
--- ---- a slot that has no request to claim
-
 -- a slot that is put back as it was changes nothing
 same_slots : (xs : List Slot) (n : ℕ) (x : Slot) → slice_get xs n ≡ Some x → slice_set xs n x ≡ xs
 same_slots [] n x h = absurd (none-some x h)
@@ -87,35 +84,6 @@ same_slots (y ∷ xs) (suc n) x h = ap (λ zs. y ∷ zs) (same_slots xs n x h)
 
 pub put_same : (d : DeskView) (s : ℕ) (x : Slot) → slice_get d.slots s ≡ Some x → d ≡ with_slot d s x
 put_same d s x h = ap (desk_of d.node) (sym (same_slots d.slots s x h))
-
-abbrev NotPosted : Stage → Type 0
-NotPosted stage = (op : Operation) → stage ≡ Posted op → ⊥
-
-unclaimed : (stage : Stage) → NotPosted stage → claimed_stage stage ≡ stage
-unclaimed Empty h = refl
-unclaimed (Posted op) h = absurd (h op refl)
-unclaimed Claimed h = refl
-unclaimed (Answered reply) h = refl
-
-unrequested : (a count : ℕ) (stage : Stage) → NotPosted stage → requested a count stage [] ≡ []
-unrequested a count Empty h = refl
-unrequested a count (Posted op) h = absurd (h op refl)
-unrequested a count Claimed h = refl
-unrequested a count (Answered reply) h = refl
-
-pub stays_desk : (d : DeskView) (s : ℕ) (x y : Slot) → slice_get d.slots s ≡ Some x → NotPosted x.stage → slice_get d.slots s ≡ Some y → d ≡ with_slot d s (claimed_slot y)
-stays_desk d s x y at other at_y =
-    let same : x ≡ y = same_Some x y (sym at ∙ at_y) in
-    put_same d s x at ∙ ap (λ stage. with_slot d s (slot stage x.count)) (sym (unclaimed x.stage other)) ∙ ap (λ z. with_slot d s (claimed_slot z)) same
-
-pub stays_batch : (d : DeskView) (s a : ℕ) (b : BatchView) (x y : Slot) → slice_get d.slots s ≡ Some x → NotPosted x.stage → slice_get d.slots s ≡ Some y → ClaimsSlot y a b b
-stays_batch d s a b x y at other at_y =
-    let same : x ≡ y = same_Some x y (sym at ∙ at_y) in
-    let none : requested a y.count y.stage [] ≡ [] = subst (λ z. requested a z.count z.stage [] ≡ []) same (unrequested a x.count x.stage other) in
-    record {
-      records = sym (append-nil b.records) ∙ ap (λ rs. b.records ++ rs) (sym none);
-      answers = sym (append-nil b.answers) ∙ ap (λ rs. b.answers ++ map (λ r. None) rs) (sym none);
-    }
 
 -- ---- one turn
 

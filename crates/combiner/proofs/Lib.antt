@@ -1,2 +1,3 @@
+mod Placed
 mod Claims
 mod Replies

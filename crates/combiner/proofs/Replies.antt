@@ -10,10 +10,10 @@ use Rattle.combiner.specs.declared.slots.Reply.{Reply}
 use Rattle.combiner.specs.declared.slots.Stage.{Stage}
 use Rattle.combiner.specs.declared.slots.Stage.TheVariants.{Empty, Posted, Claimed, Answered}
 use Rattle.combiner.specs.declared.slots.Slot.{Slot}
-use Rattle.combiner.specs.Slots.{slot, is_claimed, answered_slot, answered_stage}
+use Rattle.combiner.specs.Slots.{slot, is_claimed, answered_slot}
 use Rattle.combiner.specs.Desks.{DeskView, BatchView, first_author, with_slot, claimed_from, answer_for, answered_from, replied, IsBatchOf, IsAnswered}
 use Rattle.combiner.specs.Answering.{answer_no, uses, behind, used_by, answered_up_to, answered_to}
-use Rattle.combiner.proofs.Claims.{put_same, some_at}
+use Rattle.combiner.proofs.Claims.{some_at}
 
 abbrev desk_of : ℕ → List Slot → DeskView
 desk_of node xs = record { node = node; slots = xs }
@@ -87,34 +87,6 @@ claimed_uses Claimed h = refl
 claimed_uses Empty h = absurd (false≢true h)
 claimed_uses (Posted op) h = absurd (false≢true h)
 claimed_uses (Answered reply) h = absurd (false≢true h)
-
--- ---- a slot whose request is not claimed
-
-abbrev NotClaimed : Stage → Type 0
-NotClaimed stage = stage ≡ Claimed → ⊥
-
-unanswered : (answer : Option Reply) (stage : Stage) → NotClaimed stage → answered_stage answer stage ≡ stage
-unanswered answer Empty h = refl
-unanswered answer (Posted op) h = refl
-unanswered answer Claimed h = absurd (h refl)
-unanswered answer (Answered reply) h = refl
-
-useless : (stage : Stage) → NotClaimed stage → uses stage ≡ 0
-useless Empty h = refl
-useless (Posted op) h = refl
-useless Claimed h = absurd (h refl)
-useless (Answered reply) h = refl
-
-pub stays_desk : (d : DeskView) (s : ℕ) (answer : Option Reply) (x y : Slot) → slice_get d.slots s ≡ Some x → NotClaimed x.stage → slice_get d.slots s ≡ Some y → d ≡ with_slot d s (answered_slot answer y)
-stays_desk d s answer x y at other at_y =
-    let same : x ≡ y = same_Some x y (sym at ∙ at_y) in
-    put_same d s x at ∙ ap (λ stage. with_slot d s (slot stage x.count)) (sym (unanswered answer x.stage other)) ∙ ap (λ z. with_slot d s (answered_slot answer z)) same
-
-pub stays_next : (d : DeskView) (s next : ℕ) (x y : Slot) → slice_get d.slots s ≡ Some x → NotClaimed x.stage → slice_get d.slots s ≡ Some y → next ≡ next + uses y.stage
-stays_next d s next x y at other at_y =
-    let same : x ≡ y = same_Some x y (sym at ∙ at_y) in
-    let none : uses y.stage ≡ 0 = ap (λ z. uses z.stage) (sym same) ∙ useless x.stage other in
-    omega (arith, none)
 
 -- ---- one turn
 

@@ -48,23 +48,18 @@ impl Batch {
         self.count = 0;
     }
 
-    // One more request, by its record's fields. It has no answer yet. The operation is copied by its case.
+    // One more request, by its record's fields. It has no answer yet. They are written where an earlier record lies, since
+    // a whole record has the room of a program.
     pub(crate) fn push(&mut self, author: u16, op: &Op, seq: u64)
         requires room { length self.old.records < 16 }
         ensures records { self.new.records ≡ self.old.records ++ record { author = author; op = op.now; seq = seq } ∷ [] }
         ensures answers { self.new.answers ≡ self.old.answers ++ None ∷ [] }
     {
         let k = self.count;
-        match op {
-            Op::Run(call) => {
-                let op = Op::Run(*call);
-                self.records[k] = Record { author, op, seq };
-            }
-            Op::Install(program) => {
-                let op = Op::Install(*program);
-                self.records[k] = Record { author, op, seq };
-            }
-        }
+        let here = &mut self.records[k];
+        here.author = author;
+        here.seq = seq;
+        here.op.assign(op);
         self.answers[k] = None;
         self.count = k + 1;
     }

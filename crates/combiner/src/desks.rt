@@ -10,7 +10,8 @@ ghost use Rattle.combiner.specs.Desks.{opened_desk, first_author, with_slot, pos
 ghost use Rattle.combiner.specs.Answering.{answered_by, uses};
 
 use crate::batches::Batch;
-use crate::slots::{DeskRefused, Reply, Slot, Stage};
+use crate::places::Place;
+use crate::slots::{DeskRefused, Reply, Slot};
 use oplog::Op;
 use std::marker::Model;
 
@@ -19,17 +20,19 @@ use std::marker::Model;
 pub struct Desk {
     node: u16,
     count: usize,
-    slots: [Slot; 16],
+    places: [Place; 16],
 }
 
 impl Model for Desk {
-    ghost use Rattle.std.specs.Prelude.{◌<◌, ◌≤◌, take};
+    ghost use Rattle.std.specs.Prelude.{◌<◌, ◌≤◌, take, map};
     ghost use Rattle.oplog.specs.declared.configuration.TheConstants.{MAX_NODES, MAX_NODE_SLOTS};
     ghost use Rattle.combiner.specs.Desks.{DeskView};
 
     ghost Value = { DeskView };
 
-    ghost view = { λ d. record { node = d.node; slots = take d.count d.slots } };
+    ghost use Rattle.combiner.specs.Places.{slot_in};
+
+    ghost view = { λ d. record { node = d.node; slots = map slot_in (take d.count d.places) } };
 
     ghost invariant = { λ d. (d.node < MAX_NODES) × (d.count ≤ MAX_NODE_SLOTS) };
 }
@@ -44,7 +47,7 @@ impl Desk {
         Desk {
             node,
             count: slots,
-            slots: [Slot::default(); 16],
+            places: [Place::default(); 16],
         }
     }
 
@@ -53,21 +56,13 @@ impl Desk {
     /// # Errors
     ///
     /// B1 where the slot has a request already; nothing is changed then.
-    pub fn post(&mut self, slot: usize, op: Op) -> Result<(), DeskRefused>
+    pub fn post(&mut self, slot: usize, op: &Op) -> Result<(), DeskRefused>
         requires slot { slot < length self.old.slots }
-        ensures posted { MatchResult result (λ _. posted slot op self.old ≡ Some self.new) (λ e. (e ≡ SlotBusy) × (posted slot op self.old ≡ None)) }
+        ensures posted { MatchResult result (λ _. posted slot op.now self.old ≡ Some self.new) (λ e. (e ≡ SlotBusy) × (posted slot op.now self.old ≡ None)) }
         ensures same { OnErr result (self.new ≡ self.old) }
     {
-        let here = self.at(slot);
-        match here.stage {
-            Stage::Empty => {
-                let count = here.count;
-                let stage = Stage::Posted(op);
-                self.put(slot, Slot { stage, count });
-                Ok(())
-            }
-            _ => Err(DeskRefused::SlotBusy),
-        }
+        let places = &mut self.places[..self.count];
+        places[slot].post(op)
     }
 
     /// What stands in a slot.
@@ -75,42 +70,25 @@ impl Desk {
         requires slot { slot < length self.now.slots }
         ensures slot { slice_get self.now.slots slot ≡ Some result }
     {
-        *self.at(slot)
-    }
-
-    // A slot, where it lies.
-    fn at(&self, slot: usize) -> &Slot
-        requires slot { slot < length self.now.slots }
-        ensures slot { slice_get self.now.slots slot ≡ Some result.now }
-    {
-        &self.slots[..self.count][slot]
-    }
-
-    // Puts something else into a slot.
-    fn put(&mut self, slot: usize, new: Slot)
-        requires slot { slot < length self.old.slots }
-        ensures put { self.new ≡ with_slot self.old slot new }
-    {
-        let slots = &mut self.slots[..self.count];
-        slots[slot] = new;
+        self.places[..self.count][slot].slot()
     }
 
     /// Whether a combiner is at work: it has claimed a batch, and has not replied.
     pub fn claimed(&self) -> bool
         ensures claimed { result ≡ has_combiner self.now }
     {
-        self.slots[..self.count]
+        self.places[..self.count]
             .iter()
-            .any(|slot| matches!(slot.stage, Stage::Claimed))
+            .any(|place| place.is_claimed())
     }
 
     /// Whether a slot has a request that no combiner has.
     pub fn has_request(&self) -> bool
         ensures request { result ≡ has_request self.now }
     {
-        self.slots[..self.count]
+        self.places[..self.count]
             .iter()
-            .any(|slot| matches!(slot.stage, Stage::Posted(_)))
+            .any(|place| place.is_posted())
     }
 
     // How many slots the desk has.
@@ -118,7 +96,7 @@ impl Desk {
         ensures count { result ≡ length self.now.slots }
         ensures few { result ≤ MAX_NODE_SLOTS }
     {
-        self.slots[..self.count].len()
+        self.places[..self.count].len()
     }
 
     // The session of a slot, by its number among all.
@@ -140,14 +118,27 @@ impl Desk {
         ensures refused { MatchResult result (λ _. claim_refusal self.old ≡ None) (λ e. claim_refusal self.old ≡ Some e) }
         ensures same { OnErr result ((self.new ≡ self.old) × (batch.new ≡ batch.old)) }
     {
-        if self.claimed() {
-            Err(DeskRefused::CombinerAtWork)
-        } else if self.has_request() {
-            self.claim_posted(batch);
-            Ok(())
-        } else {
-            Err(DeskRefused::NothingPosted)
+        if let Some(refusal) = self.claim_refusal() {
+            return Err(refusal);
         }
+        self.claim_posted(batch);
+        Ok(())
+    }
+
+    // Why nothing can be claimed.
+    fn claim_refusal(&self) -> Option<DeskRefused>
+        ensures refusal { result ≡ claim_refusal self.now }
+    {
+        let mut refusal = Some(DeskRefused::NothingPosted);
+        for place in &self.places[..self.count] {
+            if place.is_claimed() {
+                return Some(DeskRefused::CombinerAtWork);
+            }
+            if place.is_posted() {
+                refusal = None;
+            }
+        }
+        refusal
     }
 
     // All posted requests, which are claimed, go into the batch, and nothing else.
@@ -169,14 +160,9 @@ impl Desk {
         ensures claims { (x : TheSlot) → slice_get self.old.slots slot ≡ Some x → ClaimsSlot x (first_author self.old + slot) batch.old batch.new }
         ensures desk { (x : TheSlot) → slice_get self.old.slots slot ≡ Some x → self.new ≡ with_slot self.old slot (claimed_slot x) }
     {
-        let here = self.at(slot);
-        let Stage::Posted(op) = &here.stage else {
-            return;
-        };
-        let count = here.count;
-        batch.push(self.author(slot), op, count);
-        let stage = Stage::Claimed;
-        self.put(slot, Slot { stage, count });
+        let author = self.author(slot);
+        let places = &mut self.places[..self.count];
+        places[slot].claim(author, batch);
     }
 
     /// Hands the answers of a batch to the slots of its requests. The batch is this desk's, and each of its answers is set.
@@ -199,16 +185,8 @@ impl Desk {
         ensures desk { (x : TheSlot) → slice_get self.old.slots slot ≡ Some x → self.new ≡ with_slot self.old slot (answered_by batch.now next x) }
         ensures next { (x : TheSlot) → slice_get self.old.slots slot ≡ Some x → result ≡ next + uses x.stage }
     {
-        let here = self.at(slot);
-        match here.stage {
-            Stage::Claimed => {
-                let count = here.count;
-                let stage = Stage::Answered(batch.answer_no(next));
-                self.put(slot, Slot { stage, count });
-                next + 1
-            }
-            _ => next,
-        }
+        let places = &mut self.places[..self.count];
+        places[slot].answer(batch, next)
     }
 
     /// Takes the answer that waits in a slot, which is empty then; `None`, and nothing changed, where no answer waits.
@@ -217,16 +195,7 @@ impl Desk {
         requires countable { (x : TheSlot) → slice_get self.old.slots slot ≡ Some x → suc x.count < 2 ^ 64 }
         ensures collected { TakesAnswer slot self.old self.new result }
     {
-        let here = self.at(slot);
-        let Stage::Answered(reply) = here.stage else {
-            return None;
-        };
-        let count = match reply {
-            Reply::Placed { .. } => here.count + 1,
-            Reply::Ended => here.count,
-        };
-        let stage = Stage::Empty;
-        self.put(slot, Slot { stage, count });
-        Some(reply)
+        let places = &mut self.places[..self.count];
+        places[slot].collect()
     }
 }

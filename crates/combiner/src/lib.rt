@@ -4,6 +4,7 @@
 
 mod batches;
 mod desks;
+mod places;
 mod slots;
 
 pub use batches::Batch;

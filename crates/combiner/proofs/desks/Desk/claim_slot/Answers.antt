@@ -1,10 +1,13 @@
-use Rattle.combiner.specs.Desks.{first_author}
-use Rattle.std.proofs.Common.{◌+◌}
-use Rattle.combiner.proofs.Claims.{stays_desk, stays_batch}
+use Rattle.std.proofs.Common.{◌≤◌, ap, sym, ◌∙◌, arith, length}
+use Rattle.std.proofs.lemmas.Option.{same_Some}
+use Rattle.combiner.specs.Slots.{claimed_slot}
+use Rattle.combiner.specs.Desks.{with_slot}
+use Rattle.combiner.proofs.Placed.{place_there, put_place}
 use Rattle.combiner.proofs.desks.Desk.claim_slot.Goals as goal
 
-pub returns-in_default : goal.returns-in_default
-returns-in_default c = record {
-  claims = λ x is. stays_batch c.args.self.now c.args.slot (first_author c.args.self.now + c.args.slot) c.args.batch.now c.at-here.result.now x c.at-here.ensures.slot c.in_default.not-Posted is;
-  desk = λ x is. stays_desk c.args.self.now c.args.slot c.at-here.result.now x c.at-here.ensures.slot c.in_default.not-Posted is;
-}
+pub returns-clause-desk : goal.returns-clause-desk
+returns-clause-desk c =
+    let fits : c.self.inside.count ≤ length c.self.inside.places = omega (arith, c.self.invariant) in
+    let here = place_there c.self.inside c.args.slot _ c.args.self.now c.self.view_is c.requires.slot in
+    λ x at. put_place c.self.inside _ c.args.slot c.claim.new.self c.args.self.now c.self.view_is fits
+    ∙ ap (with_slot c.args.self.now c.args.slot) (c.claim.ensures.claimed ∙ ap claimed_slot (same_Some _ x (sym here ∙ at)))

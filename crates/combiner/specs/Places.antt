@@ -1,0 +1,25 @@
+-- Which slot lies in a place. No public clause cites this module.
+use Rattle.std.specs.Prelude.{Option, Some, None, if◌then◌else◌}
+use Rattle.oplog.specs.Operations.{Operation}
+use Rattle.combiner.specs.declared.slots.Reply.{Reply}
+use Rattle.combiner.specs.declared.slots.Stage.{Stage}
+use Rattle.combiner.specs.declared.slots.Stage.TheVariants as stages
+use Rattle.combiner.specs.declared.slots.Slot.{Slot}
+use Rattle.combiner.specs.declared.places.PlaceStage.{PlaceStage}
+use Rattle.combiner.specs.declared.places.PlaceStage.TheVariants.{Empty, Posted, Claimed, Answered}
+use Rattle.combiner.specs.declared.places.Place.{Place}
+use Rattle.combiner.specs.Slots.{slot, is_empty}
+
+-- the stage, with the operation of a request that is posted, or the reply of one that is answered
+abbrev pub stage_in : PlaceStage → Operation → Reply → Stage
+stage_in Empty op reply = stages.Empty
+stage_in Posted op reply = stages.Posted op
+stage_in Claimed op reply = stages.Claimed
+stage_in Answered op reply = stages.Answered reply
+
+abbrev pub slot_in : Place → Slot
+slot_in p = slot (stage_in p.stage p.op p.reply) p.count
+
+-- the slot once this operation is posted there, where it is empty
+abbrev pub posted_slot : Operation → Slot → Option Slot
+posted_slot op x = if is_empty x.stage then Some (slot (stages.Posted op) x.count) else None
