@@ -150,7 +150,7 @@ impl Node {
         if !self.is_idle(slot) {
             return StepAnswer::NotNow;
         }
-        match self.desk.post(slot as usize, op) {
+        match self.desk.post(slot as usize, &op) {
             Ok(()) => StepAnswer::Done,
             Err(_) => StepAnswer::NotNow,
         }

@@ -11,9 +11,9 @@ fn fourth_program(argument: &[u8; 1]) -> Op {
 #[test]
 fn one_request_a_slot(rt: HostRuntime) {
     let mut desk = Desk::new(0, 2);
-    let first = desk.post(0, fourth_program(&[1]));
+    let first = desk.post(0, &fourth_program(&[1]));
     assert!(&rt; first == Ok(()));
-    let second = desk.post(0, fourth_program(&[2]));
+    let second = desk.post(0, &fourth_program(&[2]));
     assert!(&rt; second == Err(DeskRefused::SlotBusy));
 }
 
@@ -29,7 +29,7 @@ fn nothing_to_claim(rt: HostRuntime) {
 #[test]
 fn one_combiner_at_a_time(rt: HostRuntime) {
     let mut desk = Desk::new(1, 2);
-    assert!(&rt; desk.post(1, fourth_program(&[1])).is_ok());
+    assert!(&rt; desk.post(1, &fourth_program(&[1])).is_ok());
     let mut batch = Batch::new();
     assert!(&rt; desk.claim(&mut batch).is_ok());
     assert!(&rt; desk.claimed());
