@@ -4,7 +4,7 @@ use mathlib.Core.Option as kernel
 use mathlib.Core.Option.{some-injective, some-ne-none}
 use lib.Seq.{set-get_or}
 use Rattle.std.proofs.lemmas.Option.{same_Some}
-use Rattle.atomic_table.specs.Table.{State, Me, gives, step, stepped, Allows, Valid, carried_after, homes_after, rest}
+use Rattle.atomic_table.specs.Table.{Me, gives, step, stepped, Allows, Valid, carried_after, homes_after, rest}
 use Rattle.atomic_table.proofs.Lists.{set_here, set_else, set_again}
 use Rattle.ownlock.specs.declared.known.Known.{Known}
 use Rattle.ownlock.specs.Rules.{Rules, Laws, Move, IsAmong}
@@ -13,7 +13,7 @@ use Rattle.ownlock.specs.Seats.{At, Opened, place_of, without, left_with}
 use Rattle.ownlock.specs.Knowledge.{Possible, MayPut}
 use Rattle.ownlock.specs.Invariant.{emptied, SessionInvariant, LockInvariant, StepsAs, fronted, freed}
 use Rattle.ownlock.proofs.Spread.{one_slot}
-use Rattle.ownlock.proofs.Keeps.{at_below, one_session, one_place, Goes, goes, mine_of, not_of_others, word_there, word_else, tail_else, place_there, slot_there}
+use Rattle.ownlock.proofs.Keeps.{LockState, LockSeat, SlotHomes, at_below, one_session, one_place, Goes, goes, mine_of, not_of_others, word_there, word_else, tail_else, place_there, slot_there}
 use Rattle.ownlock.proofs.Without.{was_held, still_held, not_held, apart_without, part_of}
 use Rattle.ownlock.proofs.Fronts.{bring, brings}
 
@@ -21,19 +21,10 @@ module _ {P N V : Type 0} (R : Rules P N V) (laws : Laws R) (opened : Opened P) 
   abbrev K : Type 0
   K = Known P N V
 
-  abbrev St : Type 0
-  St = State (Option V) (List K)
-
-  abbrev M : Type 0
-  M = Me (Option V) (List K)
-
-  abbrev Homes : Type 0
-  Homes = List (kernel.Option (Option V))
-
-  abbrev me : K → List (ℕ × Option V) → M
+  abbrev me : K → List (ℕ × Option V) → LockSeat P N V
   me k c = (k ∷ [], c)
 
-  module _ (s : St) (r : LockInvariant R opened s) (id p : ℕ) (k : K) (at : At id (k ∷ []) s.views) (below : p < opened.places)
+  module _ (s : LockState P N V) (r : LockInvariant R opened s) (id p : ℕ) (k : K) (at : At id (k ∷ []) s.views) (below : p < opened.places)
       (x y : V) (a : ℕ) (top : At a (p, x) k.held) (grown : P → P) (noting : N → N)
       (may : (progress : P) (notes : List N) → Possible R k progress notes → R.Moves p k.session x progress k.note (grown progress) (noting k.note) × R.AgreesWith p (grown progress) (set notes k.session (noting k.note)) y) where
     abbrev progress_after : P
@@ -73,7 +64,7 @@ module _ {P N V : Type 0} (R : Rules P N V) (laws : Laws R) (opened : Opened P) 
     give_allowed = laws.allows_on k.progress progress_after k.session (map place_of giver.held) give_extends
         (laws.allows_part k.progress k.session (map place_of giver.held) (map place_of k.held) (part_of p k.held) was.allowed)
 
-    abbrev homes_given : Homes
+    abbrev homes_given : SlotHomes V
     homes_given = set s.homes (slot_of p) (kernel.some (Some y))
 
     give_fits : SessionInvariant R progress_after notes_after homes_given r.holder giver
@@ -140,10 +131,10 @@ module _ {P N V : Type 0} (R : Rules P N V) (laws : Laws R) (opened : Opened P) 
       inside = place_there R laws opened s r slots p long below
 
   -- the word of the place p goes to 0, and the value y is at home
-  pub frees : (slots id p word : ℕ) (m : M) (k : K) (y : V) (c : List (ℕ × Option V)) (grown : P → P) (noting : N → N) → word ≡ word_of p → m ≡ (k ∷ [], (slot_of p, Some y) ∷ c) → slot_of p < slots → MayPut R grown noting k p y
+  pub frees : (slots id p word : ℕ) (m : LockSeat P N V) (k : K) (y : V) (c : List (ℕ × Option V)) (grown : P → P) (noting : N → N) → word ≡ word_of p → m ≡ (k ∷ [], (slot_of p, Some y) ∷ c) → slot_of p < slots → MayPut R grown noting k p y
       → Allows (LockInvariant R opened) slots id m word (λ _. 0) (λ n. freed R grown noting (step slots word 0 0 kernel.none) m 0)
   frees slots id p word m k y c grown noting at is below may =
-      subst (λ (z : ℕ × M). Allows (LockInvariant R opened) slots id z.1 z.0 (λ _. 0) (λ n. freed R grown noting (step slots z.0 0 0 kernel.none) z.1 0)) (λ i. (sym at i, sym is i)) (frees_at slots id p k y c grown noting below may)
+      subst (λ (z : ℕ × LockSeat P N V). Allows (LockInvariant R opened) slots id z.1 z.0 (λ _. 0) (λ n. freed R grown noting (step slots z.0 0 0 kernel.none) z.1 0)) (λ i. (sym at i, sym is i)) (frees_at slots id p k y c grown noting below may)
 
   -- a look at the word of a held place brings its slot to the front
   fronts_at : (slots id p : ℕ) (k : K) (x : V) (a : ℕ) → At a (p, x) k.held → slot_of p < slots
@@ -152,7 +143,7 @@ module _ {P N V : Type 0} (R : Rules P N V) (laws : Laws R) (opened : Opened P) 
     k ∷ [],
     bring p k.held,
     moved.0,
-    subst (λ (z : List ℕ × Homes × List (List K)). LockInvariant R opened record { words = z.0; homes = z.1; views = z.2 })
+    subst (λ (z : List ℕ × SlotHomes V × List (List K)). LockInvariant R opened record { words = z.0; homes = z.1; views = z.2 })
         (λ i. (sym (set-get_or s.words (word_of p) 0) i, sym moved.1 i, sym (set_again s.views id (k ∷ []) at) i)) r,
     λ k2 p2 sits same. subst (λ (z : ℕ × K). me k (carried_after (map emptied k.held) (bring p k.held)) ≡ me z.1 ((slot_of z.0, None) ∷ map emptied (without z.0 z.1.held)))
         (λ i. (one_place p p2 same i, one_session (k ∷ [], map emptied k.held) k k2 refl sits i)) (λ i. (k ∷ [], moved.2 i)),
@@ -164,10 +155,10 @@ module _ {P N V : Type 0} (R : Rules P N V) (laws : Laws R) (opened : Opened P) 
       moved : Valid s.homes (map emptied k.held) (bring p k.held) × (homes_after s.homes (map emptied k.held) (bring p k.held) ≡ s.homes) × (carried_after (map emptied k.held) (bring p k.held) ≡ (slot_of p, None) ∷ map emptied (without p k.held))
       moved = brings p k.held a x top fit.apart s.homes (λ b u e. (fit.out b u e).1)
 
-  pub fronts : (slots id p word : ℕ) (m : M) (k : K) (x : V) (a : ℕ) → word ≡ word_of p → StepsAs m k → At a (p, x) k.held → slot_of p < slots
+  pub fronts : (slots id p word : ℕ) (m : LockSeat P N V) (k : K) (x : V) (a : ℕ) → word ≡ word_of p → StepsAs m k → At a (p, x) k.held → slot_of p < slots
       → Allows (LockInvariant R opened) slots id m word (λ n. n) (fronted R (step slots word 0 0 kernel.none) m)
   fronts slots id p word m k x a is sits top below =
-      subst (λ (z : ℕ × M). Allows (LockInvariant R opened) slots id z.1 z.0 (λ n. n) (fronted R (step slots z.0 0 0 kernel.none) z.1)) (λ i. (sym is i, sym sits i)) (fronts_at slots id p k x a top below)
+      subst (λ (z : ℕ × LockSeat P N V). Allows (LockInvariant R opened) slots id z.1 z.0 (λ n. n) (fronted R (step slots z.0 0 0 kernel.none) z.1)) (λ i. (sym is i, sym sits i)) (fronts_at slots id p k x a top below)
 
 module _ {P N V : Type 0} where
   -- the slot of the place is the first of those that are out, and it is empty

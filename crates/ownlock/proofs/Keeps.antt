@@ -36,21 +36,23 @@ one_place p q e = omega (arith, e)
 pub one_session : {P N V : Type 0} (m : Me (Option V) (List (Known P N V))) (k k2 : Known P N V) → StepsAs m k → StepsAs m k2 → k ≡ k2
 one_session {P} {N} {V} m k k2 e f = ap (λ (z : Me (Option V) (List (Known P N V))). get_or z.0 0 k) (sym e ∙ f)
 
+-- the table of a shelf, and one of its seats, as plain data
+abbrev pub LockState : (P N V : Type 0) → Type 0
+LockState P N V = State (Option V) (List (Known P N V))
+
+abbrev pub LockSeat : (P N V : Type 0) → Type 0
+LockSeat P N V = Me (Option V) (List (Known P N V))
+
+-- the slots, each with its value where it is at home
+abbrev pub SlotHomes : Type 0 → Type 0
+SlotHomes V = List (kernel.Option (Option V))
+
 module _ {P N V : Type 0} (R : Rules P N V) (laws : Laws R) (opened : Opened P) where
   abbrev K : Type 0
   K = Known P N V
 
-  abbrev St : Type 0
-  St = State (Option V) (List K)
-
-  abbrev M : Type 0
-  M = Me (Option V) (List K)
-
-  abbrev Homes : Type 0
-  Homes = List (kernel.Option (Option V))
-
   -- what a step of the session k at the place p owes
-  pub record Goes (s : St) (r : LockInvariant R opened s) (id p : ℕ) (k k' : K) (progress : P) (notes : List N) (words : List ℕ) (homes : Homes) (holder : ℕ → ℕ) : Type 0 where
+  pub record Goes (s : LockState P N V) (r : LockInvariant R opened s) (id p : ℕ) (k k' : K) (progress : P) (notes : List N) (words : List ℕ) (homes : SlotHomes V) (holder : ℕ → ℕ) : Type 0 where
     pub here : At id (k ∷ []) s.views
     pub session : k'.session ≡ k.session
     pub accounts : R.Accounts progress notes
@@ -71,7 +73,7 @@ module _ {P N V : Type 0} (R : Rules P N V) (laws : Laws R) (opened : Opened P) 
     pub busy_here : p < opened.places → get_or words (word_of p) 0 ≢ 0 → (a : ℕ) × (u : ℕ × V) × At a u k'.held × (u.0 ≡ p)
     pub held_else : (a : ℕ) (u : ℕ × V) → At a u k.held → u.0 ≢ p → (b : ℕ) × At b u k'.held
 
-  module _ (s : St) (r : LockInvariant R opened s) (id p : ℕ) (k k' : K) (progress : P) (notes : List N) (words : List ℕ) (homes : Homes) (holder : ℕ → ℕ) (g : Goes s r id p k k' progress notes words homes holder) where
+  module _ (s : LockState P N V) (r : LockInvariant R opened s) (id p : ℕ) (k k' : K) (progress : P) (notes : List N) (words : List ℕ) (homes : SlotHomes V) (holder : ℕ → ℕ) (g : Goes s r id p k k' progress notes words homes holder) where
     abbrev after : List (List K)
     after = set s.views id (k' ∷ [])
 
@@ -155,11 +157,11 @@ module _ {P N V : Type 0} (R : Rules P N V) (laws : Laws R) (opened : Opened P) 
     }
 
   -- the seat that is the session k
-  pub mine_of : (s : St) (r : LockInvariant R opened s) (id : ℕ) (k : K) → At id (k ∷ []) s.views → SessionInvariant R r.progress r.notes s.homes r.holder k
+  pub mine_of : (s : LockState P N V) (r : LockInvariant R opened s) (id : ℕ) (k : K) → At id (k ∷ []) s.views → SessionInvariant R r.progress r.notes s.homes r.holder k
   mine_of s r id k at = (r.each id 0 (k ∷ []) k at refl).0
 
   -- no other session holds what is held by the session k
-  pub not_of_others : (s : St) (r : LockInvariant R opened s) (id p : ℕ) (k : K) → At id (k ∷ []) s.views → r.holder p ≡ k.session
+  pub not_of_others : (s : LockState P N V) (r : LockInvariant R opened s) (id p : ℕ) (k : K) → At id (k ∷ []) s.views → r.holder p ≡ k.session
       → (j i : ℕ) (v : List K) (m : K) (a : ℕ) (u : ℕ × V) → j ≢ id → At j v s.views → At i m v → At a u m.held → u.0 ≢ p
   not_of_others s r id p k at holds j i v m a u other at_j at_i at_a e =
       let known = r.each j i v m at_j at_i in
@@ -167,7 +169,7 @@ module _ {P N V : Type 0} (R : Rules P N V) (laws : Laws R) (opened : Opened P) 
       other (sym known.1 ∙ (ap r.owner same ∙ (r.each id 0 (k ∷ []) k at refl).1))
 
   -- the word of a place, or that of the completed tail, is there
-  pub word_there : (s : St) (r : LockInvariant R opened s) (p : ℕ) → p ≤ opened.places → word_of p < length s.words
+  pub word_there : (s : LockState P N V) (r : LockInvariant R opened s) (p : ℕ) → p ≤ opened.places → word_of p < length s.words
   word_there s r p below = let long = r.wide in omega (arith, long, below)
 
   -- the words of two places are two
@@ -175,16 +177,16 @@ module _ {P N V : Type 0} (R : Rules P N V) (laws : Laws R) (opened : Opened P) 
   word_else words p q n ne = get_or-set_other words (word_of p) (word_of q) n 0 (λ e. ne (omega (arith, e)))
 
   -- a step at a place leaves the word of the completed tail as it is
-  pub tail_else : (s : St) (r : LockInvariant R opened s) (p n : ℕ) → p < opened.places → get_or (set s.words (word_of p) n) (word_of opened.places) 0 ≡ R.completed r.progress
+  pub tail_else : (s : LockState P N V) (r : LockInvariant R opened s) (p n : ℕ) → p < opened.places → get_or (set s.words (word_of p) n) (word_of opened.places) 0 ≡ R.completed r.progress
   tail_else s r p n below = word_else s.words p opened.places n (λ e. omega (arith, e, below)) ∙ r.tail
 
   -- a place whose slot the table has is one of those that the shelf was opened with, and its slot is there
-  pub place_there : (s : St) (r : LockInvariant R opened s) (slots p : ℕ) → length s.homes ≡ slots → slot_of p < slots → p < opened.places
+  pub place_there : (s : LockState P N V) (r : LockInvariant R opened s) (slots p : ℕ) → length s.homes ≡ slots → slot_of p < slots → p < opened.places
   place_there s r slots p long below = let placed = r.placed in omega (arith, long, below, placed)
 
-  pub slot_there : (s : St) (r : LockInvariant R opened s) (p : ℕ) → p < opened.places → slot_of p < length s.homes
+  pub slot_there : (s : LockState P N V) (r : LockInvariant R opened s) (p : ℕ) → p < opened.places → slot_of p < length s.homes
   slot_there s r p below = let placed = r.placed in omega (arith, below, placed)
 
   -- a step that changes nothing
-  pub unmoved : (s : St) (r : LockInvariant R opened s) (id w : ℕ) (k : K) (c : List (ℕ × Option V)) → At id (k ∷ []) s.views → LockInvariant R opened (stepped s w (get_or s.words w 0) id c (k ∷ []) keeps)
+  pub unmoved : (s : LockState P N V) (r : LockInvariant R opened s) (id w : ℕ) (k : K) (c : List (ℕ × Option V)) → At id (k ∷ []) s.views → LockInvariant R opened (stepped s w (get_or s.words w 0) id c (k ∷ []) keeps)
   unmoved s r id w k c at = subst (λ (z : List ℕ × List (List K)). LockInvariant R opened record { words = z.0; homes = s.homes; views = z.1 }) (λ i. (sym (set-get_or s.words w 0) i, sym (set_again s.views id (k ∷ []) at) i)) r

@@ -6,7 +6,7 @@ use mathlib.Core.Option.{some-injective, some-ne-none}
 use native.Mathlib.Decide.{ℕ_discrete}
 use lib.ListN.{get_elem?}
 use prog.Atomic.{either}
-use Rattle.atomic_table.specs.Table.{State, Me, opening, Splits, Joins}
+use Rattle.atomic_table.specs.Table.{Me, opening, Splits, Joins}
 use Rattle.atomic_table.proofs.Lists.{at_set, set_here, set_else, at_longer, at_last, at_map}
 use Rattle.ownlock.specs.declared.known.Known.{Known}
 use Rattle.ownlock.specs.Rules.{Rules, Laws}
@@ -16,7 +16,7 @@ use Rattle.ownlock.specs.Seats.{At, Opened, opened_with, SeatView, IsSession, al
 use Rattle.ownlock.specs.Knowledge.{AllAgree}
 use Rattle.ownlock.specs.Invariant.{SessionInvariant, HeldBySome, LockInvariant, first_of, others_of, out_of, emptied, StepsAs}
 use Rattle.ownlock.proofs.Spread.{long_spread, at_spread, none_between}
-use Rattle.ownlock.proofs.Keeps.{at_below, at_only, at_one}
+use Rattle.ownlock.proofs.Keeps.{LockState, at_below, at_only, at_one}
 
 module _ {A : Type 0} where
   pub at_snoc_last : (l : List A) (a b : A) (j : ℕ) → At j b (l ++ a ∷ []) → At j b l ⊎ ((j ≡ length l) × (a ≡ b))
@@ -101,9 +101,6 @@ module _ {P N V : Type 0} (R : Rules P N V) (laws : Laws R) where
   abbrev K : Type 0
   K = Known P N V
 
-  abbrev St : Type 0
-  St = State (Option V) (List K)
-
   all_sessions_at : (progress : P) (n : ℕ) (ns : List N) (i : ℕ) (k : K) → At i k (all_sessions progress n ns) → (k.session ≡ n + i) × (k.progress ≡ progress) × (k.held ≡ []) × At i k.note ns
   all_sessions_at progress n [] i k e = absurd (some-ne-none k (sym e))
   all_sessions_at progress n (x ∷ xs) zero k e =
@@ -174,9 +171,12 @@ module _ {P N V : Type 0} (R : Rules P N V) (laws : Laws R) where
           omega (arith, one, two, e)
 
   module _ (opened : Opened P) where
-    -- the first session of a seat goes to a new seat
-    pub splits : (id : ℕ) (k : K) (ks : List K) → Splits (LockInvariant R opened) id (k ∷ ks) (others_of (k ∷ ks)) (first_of (k ∷ ks))
-    splits id k ks s r at = record {
+    -- the rule is kept where only the seats change: whose session each is, what is held, and that no two are the same
+    seated : (s : LockState P N V) (r : LockInvariant R opened s) (views : List (List K)) (owner : ℕ → ℕ) → ((p : ℕ) → HeldBySome R p s.views → HeldBySome R p views)
+        → ((j i : ℕ) (v : List K) (k : K) → At j v views → At i k v → SessionInvariant R r.progress r.notes s.homes r.holder k × (owner k.session ≡ j))
+        → ((j a b : ℕ) (v : List K) (k m : K) → At j v views → At a k v → At b m v → k.session ≡ m.session → a ≡ b)
+        → LockInvariant R opened record { words = s.words; homes = s.homes; views = views }
+    seated s r views owner held each distinct = record {
       progress = r.progress;
       notes = r.notes;
       owner = owner;
@@ -193,6 +193,10 @@ module _ {P N V : Type 0} (R : Rules P N V) (laws : Laws R) where
       each = each;
       distinct = distinct;
     }
+
+    -- the first session of a seat goes to a new seat
+    pub splits : (id : ℕ) (k : K) (ks : List K) → Splits (LockInvariant R opened) id (k ∷ ks) (others_of (k ∷ ks)) (first_of (k ∷ ks))
+    splits id k ks s r at = seated s r (left ++ (k ∷ []) ∷ []) owner held each distinct
       where
         left : List (List K)
         left = set s.views id ks
@@ -261,23 +265,7 @@ module _ {P N V : Type 0} (R : Rules P N V) (laws : Laws R) where
 
     -- a seat takes in the sessions of another
     pub joins : (id : ℕ) (v : List K) (other : ℕ) (w : List K) → Joins (LockInvariant R opened) id v other w (v ++ w) []
-    joins id v other w s r at apart there = record {
-      progress = r.progress;
-      notes = r.notes;
-      owner = owner;
-      holder = r.holder;
-      grown = r.grown;
-      placed = r.placed;
-      accounts = r.accounts;
-      counted = r.counted;
-      wide = r.wide;
-      tail = r.tail;
-      gaps = r.gaps;
-      free = r.free;
-      busy = λ p below ne. held p (r.busy p below ne);
-      each = each;
-      distinct = distinct;
-    }
+    joins id v other w s r at apart there = seated s r last owner held each distinct
       where
         mid : List (List K)
         mid = set s.views id (v ++ w)

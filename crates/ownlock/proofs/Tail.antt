@@ -1,7 +1,7 @@
 -- A step on the word of the completed tail keeps the invariant, and what it tells.
 use Rattle.std.proofs.Common.{◌≡◌, ◌≢◌, ℕ, max, List, [], ◌∷◌, length, get_or, set, sym, refl, ap, ◌∙◌, subst, arith, length-set, get_or-set_same, Option}
 use mathlib.Core.Option as kernel
-use Rattle.atomic_table.specs.Table.{State, Me, keeps, step, stepped, Allows}
+use Rattle.atomic_table.specs.Table.{keeps, step, stepped, Allows}
 use Rattle.ownlock.specs.declared.known.Known.{Known}
 use Rattle.ownlock.specs.declared.known.ShelfStep.{ShelfStep}
 use Rattle.ownlock.specs.declared.known.ShelfStep.TheVariants.{Read, Raised}
@@ -10,23 +10,17 @@ use Rattle.ownlock.specs.Words.{word_of, slot_of}
 use Rattle.ownlock.specs.Seats.{At, Opened, having_raised, having_read}
 use Rattle.ownlock.specs.Knowledge.{Later, Possible}
 use Rattle.ownlock.specs.Invariant.{SessionInvariant, LockInvariant, done_read, done_raised}
-use Rattle.ownlock.proofs.Keeps.{at_below, Goes, goes, mine_of, word_there, word_else}
+use Rattle.ownlock.proofs.Keeps.{LockState, LockSeat, at_below, Goes, goes, mine_of, word_there, word_else}
 
 module _ {P N V : Type 0} (R : Rules P N V) (laws : Laws R) (opened : Opened P) where
   abbrev K : Type 0
   K = Known P N V
 
-  abbrev St : Type 0
-  St = State (Option V) (List K)
-
-  abbrev M : Type 0
-  M = Me (Option V) (List K)
-
-  abbrev me : K → List (ℕ × Option V) → M
+  abbrev me : K → List (ℕ × Option V) → LockSeat P N V
   me k c = (k ∷ [], c)
 
   -- the session goes on to a progress with the same history and the completed tail n
-  module _ (s : St) (r : LockInvariant R opened s) (id : ℕ) (k : K) (at : At id (k ∷ []) s.views) (progress : P) (n : ℕ) (extends : R.Extends r.progress progress) (same : R.SameHistory r.progress progress)
+  module _ (s : LockState P N V) (r : LockInvariant R opened s) (id : ℕ) (k : K) (at : At id (k ∷ []) s.views) (progress : P) (n : ℕ) (extends : R.Extends r.progress progress) (same : R.SameHistory r.progress progress)
       (accounts : R.Accounts progress r.notes) (agrees : (q : ℕ) (y : V) → R.AgreesWith q r.progress r.notes y → R.AgreesWith q progress r.notes y) (completed : R.completed progress ≡ n) (steps : List (ShelfStep V)) where
     -- it has taken these steps then
     abbrev later : K
@@ -73,7 +67,7 @@ module _ {P N V : Type 0} (R : Rules P N V) (laws : Laws R) (opened : Opened P) 
     tail_stands c = goes R laws opened s r id last k later progress r.notes (set s.words (word_of last) n) s.homes r.holder moves_tail
 
   -- what the session may find
-  now : (s : St) (r : LockInvariant R opened s) (id : ℕ) (k : K) → At id (k ∷ []) s.views → Possible R k r.progress r.notes
+  now : (s : LockState P N V) (r : LockInvariant R opened s) (id : ℕ) (k : K) → At id (k ∷ []) s.views → Possible R k r.progress r.notes
   now s r id k at = (mine_of R laws opened s r id k at).possible
 
   -- and what it may find once the completed tail is raised
@@ -89,7 +83,7 @@ module _ {P N V : Type 0} (R : Rules P N V) (laws : Laws R) (opened : Opened P) 
   only_one k k2 e = ap (λ l. get_or l 0 k) e
 
   -- the table has the slots of as many places as the shelf was opened with
-  all_places : (s : St) (r : LockInvariant R opened s) (slots places : ℕ) → slots ≡ slot_of places → length s.homes ≡ slots → places ≡ opened.places
+  all_places : (s : LockState P N V) (r : LockInvariant R opened s) (slots places : ℕ) → slots ≡ slot_of places → length s.homes ≡ slots → places ≡ opened.places
   all_places s r slots places wide long = let placed = r.placed in omega (arith, wide, long, placed)
 
   reads_at : (slots places id : ℕ) (k : K) (c : List (ℕ × Option V)) → slots ≡ slot_of places
@@ -126,11 +120,11 @@ module _ {P N V : Type 0} (R : Rules P N V) (laws : Laws R) (opened : Opened P) 
       )
 
   -- the completed tail is read
-  pub reads : (slots places id word : ℕ) (m : M) (k : K) → slots ≡ slot_of places → word ≡ word_of places → m.0 ≡ k ∷ [] → Allows (LockInvariant R opened) slots id m word (λ n. n) (done_read R (step slots word 0 0 kernel.none) m)
+  pub reads : (slots places id word : ℕ) (m : LockSeat P N V) (k : K) → slots ≡ slot_of places → word ≡ word_of places → m.0 ≡ k ∷ [] → Allows (LockInvariant R opened) slots id m word (λ n. n) (done_read R (step slots word 0 0 kernel.none) m)
   reads slots places id word m k wide is sits =
       subst (λ (z : ℕ × List K). Allows (LockInvariant R opened) slots id (z.1, m.1) z.0 (λ n. n) (done_read R (step slots z.0 0 0 kernel.none) (z.1, m.1))) (λ i. (sym is i, sym sits i)) (reads_at slots places id k m.1 wide)
 
   -- the completed tail is raised
-  pub raises : (slots places id word n : ℕ) (m : M) (k : K) → slots ≡ slot_of places → word ≡ word_of places → m.0 ≡ k ∷ [] → R.Reaches k.progress n → Allows (LockInvariant R opened) slots id m word (λ o. max o n) (done_raised R (step slots word n 0 kernel.none) m)
+  pub raises : (slots places id word n : ℕ) (m : LockSeat P N V) (k : K) → slots ≡ slot_of places → word ≡ word_of places → m.0 ≡ k ∷ [] → R.Reaches k.progress n → Allows (LockInvariant R opened) slots id m word (λ o. max o n) (done_raised R (step slots word n 0 kernel.none) m)
   raises slots places id word n m k wide is sits reaches =
       subst (λ (z : ℕ × List K). Allows (LockInvariant R opened) slots id (z.1, m.1) z.0 (λ o. max o n) (done_raised R (step slots z.0 n 0 kernel.none) (z.1, m.1))) (λ i. (sym is i, sym sits i)) (raises_at slots places id n k m.1 wide reaches)

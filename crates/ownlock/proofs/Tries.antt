@@ -5,7 +5,7 @@ use mathlib.Core.Option.{some-injective, some-ne-none}
 use lib.ListN.{get_elem?}
 use Rattle.std.specs.Option.{unwrap_or}
 use prog.Atomic.{either}
-use Rattle.atomic_table.specs.Table.{State, Me, Act, keeps, takes, step, stepped, Allows, Valid, carried_after, rest}
+use Rattle.atomic_table.specs.Table.{Me, Act, keeps, takes, step, stepped, Allows, Valid, carried_after, rest}
 use Rattle.atomic_table.proofs.Lists.{set_here, set_else, exchanged}
 use Rattle.ownlock.specs.declared.known.Known.{Known}
 use Rattle.ownlock.specs.Rules.{Rules, Laws}
@@ -14,22 +14,13 @@ use Rattle.ownlock.specs.Seats.{At, Opened, place_of, holding}
 use Rattle.ownlock.specs.Knowledge.{HeldAgree, Possible, Acquired, MayTake}
 use Rattle.ownlock.specs.Invariant.{emptied, SessionInvariant, LockInvariant, StepsAs, tried}
 use Rattle.ownlock.proofs.Spread.{one_slot}
-use Rattle.ownlock.proofs.Keeps.{one_session, one_place, Goes, goes, mine_of, word_there, word_else, tail_else, place_there, slot_there, unmoved}
+use Rattle.ownlock.proofs.Keeps.{LockState, LockSeat, one_session, one_place, Goes, goes, mine_of, word_there, word_else, tail_else, place_there, slot_there, unmoved}
 
 module _ {P N V : Type 0} (R : Rules P N V) (laws : Laws R) (opened : Opened P) where
   abbrev K : Type 0
   K = Known P N V
 
-  abbrev St : Type 0
-  St = State (Option V) (List K)
-
-  abbrev M : Type 0
-  M = Me (Option V) (List K)
-
-  abbrev Homes : Type 0
-  Homes = List (kernel.Option (Option V))
-
-  module _ (s : St) (r : LockInvariant R opened s) (id p : ℕ) (k : K) (at : At id (k ∷ []) s.views) (below : p < opened.places) (may : MayTake R p k)
+  module _ (s : LockState P N V) (r : LockInvariant R opened s) (id p : ℕ) (k : K) (at : At id (k ∷ []) s.views) (below : p < opened.places) (may : MayTake R p k)
       (x : V) (home : At (slot_of p) (kernel.some (Some x)) s.homes) (agrees : R.AgreesWith p r.progress r.notes x) where
     abbrev taker : K
     taker = holding k r.progress p x
@@ -93,11 +84,11 @@ module _ {P N V : Type 0} (R : Rules P N V) (laws : Laws R) (opened : Opened P) 
     takes_stand : LockInvariant R opened (stepped s (word_of p) 1 id (map emptied k.held) (taker ∷ []) (takes (slot_of p) (Some x)))
     takes_stand = goes R laws opened s r id p k taker r.progress r.notes (set s.words (word_of p) 1) (set s.homes (slot_of p) kernel.none) now_holds takes_it
 
-  abbrev me : K → List (ℕ × Option V) → M
+  abbrev me : K → List (ℕ × Option V) → LockSeat P N V
   me k c = (k ∷ [], c)
 
   -- what a try tells the session k
-  abbrev Told : ℕ → M → ℕ → M → K → Type 0
+  abbrev Told : ℕ → LockSeat P N V → ℕ → LockSeat P N V → K → Type 0
   Told p m n m' k = (n ≢ 0 → m' ≡ m) × (n ≡ 0 → (w : K) × (x : V) × Acquired R p k w x × (m' ≡ me w ((slot_of p, Some x) ∷ m.1)))
 
   tries_at : (slots id p : ℕ) (k : K) → slot_of p < slots → MayTake R p k
@@ -124,10 +115,10 @@ module _ {P N V : Type 0} (R : Rules P N V) (laws : Laws R) (opened : Opened P) 
       (λ miss. (k ∷ [], keeps, tt, unmoved R laws opened s r id (word_of p) k (map emptied k.held) at, λ k2 p2 sits same. ((λ _. refl), (λ hit. absurd (miss hit)))))
 
   -- a try at the place p
-  pub tries : (slots id p word : ℕ) (m : M) (k : K) → word ≡ word_of p → StepsAs m k → slot_of p < slots → MayTake R p k
+  pub tries : (slots id p word : ℕ) (m : LockSeat P N V) (k : K) → word ≡ word_of p → StepsAs m k → slot_of p < slots → MayTake R p k
       → Allows (LockInvariant R opened) slots id m word (λ n. either (eqb n 0) 1 n) (tried R (step slots word 0 1 kernel.none) m)
   tries slots id p word m k is sits below may =
-      subst (λ (z : ℕ × M). Allows (LockInvariant R opened) slots id z.1 z.0 (λ n. either (eqb n 0) 1 n) (tried R (step slots z.0 0 1 kernel.none) z.1)) (λ i. (sym is i, sym sits i)) (tries_at slots id p k below may)
+      subst (λ (z : ℕ × LockSeat P N V). Allows (LockInvariant R opened) slots id z.1 z.0 (λ n. either (eqb n 0) 1 n) (tried R (step slots z.0 0 1 kernel.none) z.1)) (λ i. (sym is i, sym sits i)) (tries_at slots id p k below may)
 
 module _ {P N V : Type 0} (R : Rules P N V) where
   -- what the seat has, once the value is out of its slot

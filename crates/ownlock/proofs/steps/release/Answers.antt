@@ -1,4 +1,4 @@
-use Rattle.std.proofs.Common.{rules, ap, map, None}
+use Rattle.std.proofs.Common.{rules, map, None}
 use Rattle.ownlock.specs.Seats.{without}
 use Rattle.ownlock.specs.Invariant.{emptied}
 use Rattle.ownlock.proofs.Frees.{fronts, frees, put_out, none_left, put_in}
