@@ -64,7 +64,7 @@ abbrev pub log_of : logs.Inside → Log
 log_of a = record {
   base = a.base;
   base_state = state_of (maps_of a.base_maps) a.base_programs;
-  records = a.records.items;
+  records = a.records.records;
   done = a.done;
   window = a.window;
   limit = a.limit;

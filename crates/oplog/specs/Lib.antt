@@ -9,3 +9,4 @@ pub mod CopyAnswers
 -- How models tell the values of the log apart and read their fields.
 pub mod Codes
 pub mod Fields
+pub mod Kept

@@ -1,33 +1,33 @@
 // The buffer that records are copied into from the log.
 
-ghost use Rattle.std.specs.Prelude.{◌≡◌, ◌↔◌, ◌<◌, ◌≤◌, ◌+◌, ◌^◌, ◌++◌, ◌∷◌, [], length, drop, slice_get, vec_capacity, Some, IsTrue, IfOk};
+ghost use Rattle.std.specs.Prelude.{◌≡◌, ◌↔◌, ◌<◌, ◌≤◌, ◌+◌, ◌^◌, ◌++◌, ◌∷◌, [], length, drop, slice_get, Some, IsTrue, IfOk};
 ghost use Rattle.oplog.specs.Limits.{IsWindow};
 ghost use Rattle.oplog.specs.Logs.{opened_hand};
 
-use crate::records::{Record, push_copy};
+use crate::kept::Kept;
+use crate::records::Record;
 use std::alloc::{AllocError, Global};
 use std::marker::Model;
-use std::mem::swap;
 
 /// A buffer for records of the log, with the index of the first. All its room is taken when it is opened: no later call
 /// takes memory.
 #[derive(Drop)]
 pub struct Hand {
     begin: u64,
-    records: Vec<Record>,
+    records: Kept,
     window: usize,
 }
 
 impl Model for Hand {
-    ghost use Rattle.std.specs.Prelude.{◌≤◌, vec_capacity};
+    ghost use Rattle.std.specs.Prelude.{◌≤◌};
     ghost use Rattle.oplog.specs.Logs.{HandView};
 
     ghost Value = { HandView };
 
-    ghost view = { λ h. record { begin = h.begin; records = h.records.items; window = h.window } };
+    ghost view = { λ h. record { begin = h.begin; records = h.records.records; window = h.window } };
 
     // There is room for a whole window.
-    ghost invariant = { λ h. h.window ≤ vec_capacity h.records };
+    ghost invariant = { λ h. h.window ≤ h.records.room };
 }
 
 impl Hand {
@@ -40,7 +40,7 @@ impl Hand {
         requires window { IsWindow window }
         ensures opened { IfOk result (λ h. h ≡ opened_hand window) }
     {
-        let records = Vec::with_capacity(alloc, window)?;
+        let records = Kept::open(alloc, window)?;
         Ok(Hand {
             begin: 0,
             records,
@@ -66,7 +66,7 @@ impl Hand {
     pub fn is_empty(&self) -> bool
         ensures empty { IsTrue result ↔ (length self.now.records ≡ 0) }
     {
-        self.records.is_empty()
+        self.records.len() == 0
     }
 
     /// The record at an index of the hand, from 0 on.
@@ -74,7 +74,7 @@ impl Hand {
         requires index { k < length self.now.records }
         ensures record { slice_get self.now.records k ≡ Some result.now }
     {
-        &self.records[k]
+        &self.records.as_slice()[k]
     }
 
     /// Makes the hand empty, with its beginning at an index of the history.
@@ -90,7 +90,7 @@ impl Hand {
         requires room { length self.old.records < self.old.window }
         ensures pushed { self.new ≡ record self.old { records = self.old.records ++ next.now ∷ [] } }
     {
-        push_copy(&mut self.records, next);
+        self.records.push(next);
     }
 
     /// Puts copies of these records at the end. There is room for them.
@@ -109,8 +109,7 @@ impl Hand {
         requires short { self.old.begin + count < 2 ^ 64 }
         ensures dropped { self.new ≡ record self.old { begin = self.old.begin + count; records = drop count self.old.records } }
     {
-        self.records.copy_within(count.., 0);
-        self.records.truncate(self.records.len() - count);
+        self.records.drop_first(count);
         self.begin += count as u64;
     }
 
@@ -118,16 +117,16 @@ impl Hand {
     pub(crate) fn records(&self) -> &[Record]
         ensures records { result.now ≡ self.now.records }
     {
-        &self.records
+        self.records.as_slice()
     }
 
     /// Takes the records of a log, the first of which has this index, and leaves its own there. Nothing is copied.
-    pub(crate) fn exchange(&mut self, begin: u64, records: &mut Vec<Record>)
-        requires room { self.old.window ≤ vec_capacity records.old }
-        ensures taken { self.new ≡ record self.old { begin = begin; records = records.old.items } }
-        ensures room { self.old.window ≤ vec_capacity records.new }
+    pub(crate) fn exchange(&mut self, begin: u64, records: &mut Kept)
+        requires room { self.old.window ≤ records.old.room }
+        ensures taken { self.new ≡ record self.old { begin = begin; records = records.old.records } }
+        ensures room { self.old.window ≤ records.new.room }
     {
-        swap(&mut self.records, records);
+        self.records.exchange(records);
         self.begin = begin;
     }
 }

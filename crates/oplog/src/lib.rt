@@ -5,6 +5,7 @@
 mod answers;
 mod configuration;
 mod hand;
+mod kept;
 mod log_state;
 mod records;
 

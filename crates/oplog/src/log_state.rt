@@ -1,6 +1,6 @@
 // The log.
 
-ghost use Rattle.std.specs.Prelude.{◌≡◌, ◌↔◌, ◌<◌, ◌≤◌, ◌+◌, ◌-◌, ◌++◌, length, set, take, min, max, vec_capacity, IfOk, IsErr, OnErr};
+ghost use Rattle.std.specs.Prelude.{◌≡◌, ◌↔◌, ◌<◌, ◌≤◌, ◌+◌, ◌-◌, ◌++◌, length, set, take, min, max, IfOk, IsErr, OnErr};
 ghost use Rattle.maps.specs.Maps.{HasShapes, shapes_of};
 ghost use Rattle.maps.specs.MapSets.{maps_of};
 ghost use Rattle.loader.specs.StoreState.{installed_in, state_of};
@@ -12,7 +12,8 @@ ghost use Rattle.oplog.specs.CopyAnswers.{IfCopied, IfBelow};
 use crate::answers::{Appended, CopyAnswer, Ended};
 use crate::configuration::MAX_SESSIONS;
 use crate::hand::Hand;
-use crate::records::{Record, push_copy};
+use crate::kept::Kept;
+use crate::records::Record;
 use loader::{Installed, StoreState};
 use maps::MapSet;
 use std::alloc::{AllocError, Global};
@@ -23,19 +24,20 @@ use std::mem::swap;
 /// far it is completed. All its room, a window of records, the maps and the programs, is taken when it is opened: no later call takes memory.
 #[derive(Drop)]
 pub struct LogState {
+    // What each append reads stands together.
     base: u64,
-    base_maps: MapSet,
-    base_programs: Installed,
-    records: Vec<Record>,
     done: u64,
     window: usize,
     limit: usize,
+    records: Kept,
+    base_maps: MapSet,
+    base_programs: Installed,
     // Up to which place of the history the records of each author go, as far as it was told.
     ends: [u64; MAX_SESSIONS],
 }
 
 impl Model for LogState {
-    ghost use Rattle.std.specs.Prelude.{◌≤◌, vec_capacity};
+    ghost use Rattle.std.specs.Prelude.{◌≤◌};
     ghost use Rattle.std.specs.Prelude.{◌≡◌};
     ghost use Rattle.maps.specs.Maps.{shapes_of};
     ghost use Rattle.maps.specs.MapSets.{maps_of};
@@ -51,8 +53,8 @@ impl Model for LogState {
     ghost view = { log_of };
 
     // There is room for a whole window, the programs are for the maps, and the ends are those of the records.
-    ghost invariant = { λ a. IsLog (log_of a) × (a.window ≤ vec_capacity a.records) × (a.base_programs.shapes ≡ shapes_of (maps_of a.base_maps))
-        × HasEnds a.base a.records.items a.ends };
+    ghost invariant = { λ a. IsLog (log_of a) × (a.window ≤ a.records.room) × (a.base_programs.shapes ≡ shapes_of (maps_of a.base_maps))
+        × HasEnds a.base a.records.records a.ends };
 }
 
 impl LogState {
@@ -71,7 +73,7 @@ impl LogState {
         requires limit { IsLimit limit }
         ensures opened { IfOk result (λ g. g ≡ opened_log state window limit) }
     {
-        let records = Vec::with_capacity(alloc, window)?;
+        let records = Kept::open(alloc, window)?;
         let (base_maps, base_programs) = state.into_parts();
         Ok(LogState {
             base: 0,
@@ -133,7 +135,8 @@ impl LogState {
             records,
             ..
         } = self;
-        (StoreState::of(base_maps, base_programs), records)
+        let state = StoreState::of(base_maps, base_programs);
+        (state, records.into_records())
     }
 
     /// The length of the history.
@@ -181,7 +184,7 @@ impl LogState {
         let count = batch.len().min(left);
         let mut end = first;
         for record in &batch[..count] {
-            push_copy(&mut self.records, record);
+            self.records.push(record);
             end += 1;
             note(&mut self.ends, record.author, end);
         }
@@ -203,7 +206,7 @@ impl LogState {
         }
         hand.clear(index);
         let start = (index - self.base) as usize;
-        for record in &self.records[start..] {
+        for record in &self.records.as_slice()[start..] {
             hand.push(record);
         }
         CopyAnswer::Copied
@@ -215,7 +218,7 @@ impl LogState {
         requires tail { index ≤ tail_of self.now }
         ensures records { result.now ≡ records_from self.now index }
     {
-        &self.records[(index - self.base) as usize..]
+        &self.records.as_slice()[(index - self.base) as usize..]
     }
 
     /// The completed tail becomes the greater of itself and `n`, which is a length of the history so far.
@@ -240,8 +243,7 @@ impl LogState {
         self.base_maps.copy_from(maps);
         self.base_programs.copy_from(programs);
         let dropped = (at - self.base) as usize;
-        self.records.copy_within(dropped.., 0);
-        self.records.truncate(self.records.len() - dropped);
+        self.records.drop_first(dropped);
         self.base = at;
     }
 
@@ -287,13 +289,12 @@ fn note(ends: &mut [u64; MAX_SESSIONS], author: u16, end: u64)
 }
 
 // Becomes a copy of these records. There is room for them.
-fn copy_records(records: &mut Vec<Record>, from: &[Record])
-    requires room { length from.now ≤ vec_capacity records.old }
-    ensures copied { records.new.items ≡ from.now }
-    ensures capacity { vec_capacity records.new ≡ vec_capacity records.old }
+fn copy_records(records: &mut Kept, from: &[Record])
+    requires room { length from.now ≤ records.old.room }
+    ensures copied { records.new ≡ record records.old { records = from.now } }
 {
     records.clear();
     for record in from {
-        push_copy(records, record);
+        records.push(record);
     }
 }

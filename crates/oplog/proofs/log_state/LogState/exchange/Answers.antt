@@ -8,6 +8,6 @@ use Rattle.oplog.proofs.log_state.LogState.exchange.Goals as goal
 pub invariant_of-self : goal.invariant_of-self
 invariant_of-self c =
     let g = c.self.inside in
-    let kept : c.copy_records.new.records.items ≡ drop (c.args.at - g.base) g.records.items = grind (arith, common_steps) in
+    let kept : c.copy_records.new.records.records ≡ drop (c.args.at - g.base) g.records.records = grind (arith, common_steps) in
     let up : g.base ≤ c.args.at = search rules in
-    (search rules, grind (arith, common_steps), search rules, subst (λ (rs : History). HasEnds c.args.at rs g.ends) (sym kept) (based g.base c.args.at g.records.items g.ends up c.self.invariant.3))
+    (search rules, grind (arith, common_steps), search rules, subst (λ (rs : History). HasEnds c.args.at rs g.ends) (sym kept) (based g.base c.args.at g.records.records g.ends up c.self.invariant.3))

@@ -1,6 +1,7 @@
-use Rattle.std.proofs.Common.{rules, ◌≡◌, ◌-◌, ◌≤◌, drop, subst, sym, ap, ◌∙◌, arith}
+use Rattle.std.proofs.Common.{rules, ◌≡◌, ◌-◌, ◌≤◌, length, drop, subst, sym, ap, ◌∙◌, arith}
 use Rattle.maps.specs.Maps.{shapes_of}
 use Rattle.std.proofs.lemmas.Grind.{common_steps}
+use Rattle.std.proofs.lemmas.List.{length-drop}
 use Rattle.oplog.specs.Fields.{HasEnds}
 use Rattle.oplog.specs.History.{History}
 use Rattle.oplog.specs.Logs.{Log}
@@ -15,6 +16,7 @@ copy_from-requires c =
 pub invariant_of-self : goal.invariant_of-self
 invariant_of-self c =
     let g = c.self.inside in
-    let kept : c.truncate.new.self.items ≡ drop (c.args.at - g.base) g.records.items = grind (arith, common_steps) in
+    let kept : c.drop_first.new.self.records ≡ drop (c.args.at - g.base) g.records.records = grind (arith, common_steps) in
+    let long : length c.drop_first.new.self.records ≡ length g.records.records - (c.args.at - g.base) = ap length kept ∙ length-drop (c.args.at - g.base) g.records.records in
     let up : g.base ≤ c.args.at = search rules in
-    (search rules, grind (arith, common_steps), search rules, subst (λ (rs : History). HasEnds c.args.at rs g.ends) (sym kept) (based g.base c.args.at g.records.items g.ends up c.self.invariant.3))
+    (search rules, grind (arith, common_steps), search rules, subst (λ (rs : History). HasEnds c.args.at rs g.ends) (sym kept) (based g.base c.args.at g.records.records g.ends up c.self.invariant.3))
