@@ -234,12 +234,13 @@ impl Default for Op {
 /// An operation of the history: whose it is, and how many records its author had before.
 #[derive(Clone, Copy, Default)]
 pub struct Record {
+    // What is short stands in front of the operation, whose room is mostly not in use.
+    /// The number of the author's earlier records.
+    pub seq: u64,
     /// The session: its node's number times the slots of a node, plus its slot.
     pub author: u16,
     /// The operation itself.
     pub op: Op,
-    /// The number of the author's earlier records.
-    pub seq: u64,
 }
 
 impl Record {
