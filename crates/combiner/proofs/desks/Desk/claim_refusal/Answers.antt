@@ -11,7 +11,8 @@ use Rattle.combiner.proofs.desks.Desk.claim_refusal.Goals as goal
 pub returns-then-is_claimed : goal.returns-then-is_claimed
 returns-then-is_claimed c =
     let items : List Place = take c.self.inside.count c.self.inside.places in
-    let claimed = list_any_at (λ p. is_claimed (slot_in p).stage) items c.loop-place.place-index _ c.loop-place-test.true (sym c.is_claimed.ensures.claimed ∙ c.if-is_claimed.true) in
+    let here = ap (λ p. is_claimed (slot_in p).stage) (sym c.place-item.is) ∙ sym c.is_claimed.ensures.claimed ∙ c.if-is_claimed.true in
+    let claimed = list_any_at (λ p. is_claimed (slot_in p).stage) items c.loop-place.place-index c.place-item.result c.loop-place-test.true here in
     record { refusal = sym (refusal_there c.self.inside c.args.self.now true _ c.self.view_is claimed refl) }
 
 pub returns : goal.returns
