@@ -57,6 +57,7 @@ impl Call {
     pub fn set(&mut self, program: u16, argument: &[u8])
         requires fits { length argument.now ≤ MAX_ARG_LEN }
         ensures call { self.new ≡ record { program = program; argument = argument.now } }
+        ensures bytes { AreBytes self.new.argument }
     {
         let old = self.argument_len as usize;
         refill(&mut self.argument_bytes, old, argument);
@@ -180,6 +181,7 @@ impl Op {
     pub fn set_call(&mut self, program: u16, argument: &[u8])
         requires fits { length argument.now ≤ MAX_ARG_LEN }
         ensures call { self.new ≡ Run (record { program = program; argument = argument.now }) }
+        ensures bytes { AreBytes argument.now }
     {
         if let Op::Run(to) = self {
             to.set(program, argument);
@@ -206,6 +208,7 @@ impl Op {
     fn become_call(&mut self, program: u16, argument: &[u8])
         requires fits { length argument.now ≤ MAX_ARG_LEN }
         ensures call { self.new ≡ Run (record { program = program; argument = argument.now }) }
+        ensures bytes { AreBytes argument.now }
     {
         *self = Op::Run(Call::new(program, argument));
     }
