@@ -4,7 +4,7 @@
 ghost use Rattle.std.specs.Prelude.{◌≡◌, IfSome};
 
 use insn::decode;
-use machine::run;
+use machine::{Machine, run_in};
 use maps::{MapSet, Shape, shapes_ok};
 use std::alloc::Global;
 use verifier::{Accepted, Mode, verify};
@@ -21,7 +21,7 @@ fn accepted(alloc: Global, code: &[u8], shapes: &[Shape], arg_len: usize) -> Opt
     verify(alloc, program, shapes, arg_len, Mode::Update).ok()
 }
 
-/// Opens one array of so many 8-byte values, verifies the program once, runs it so often, and answers the sum of the
+/// Opens one array of so many 8-byte values, verifies the program once, runs it so often in one room, and answers the sum of the
 /// replies, modulo 2^64; 0 where the program or the array is refused.
 #[unsafe(no_mangle)]
 pub extern "C" fn bench_run(
@@ -38,9 +38,10 @@ pub extern "C" fn bench_run(
     let Ok(mut maps) = MapSet::open(alloc, program.shapes()) else {
         return 0;
     };
+    let mut room = Machine::new();
     let mut sum = 0u64;
     for _ in 0..times {
-        sum = sum.wrapping_add(run(&program, &mut maps, argument).reply);
+        sum = sum.wrapping_add(run_in(&mut room, &program, &mut maps, argument).reply);
     }
     sum
 }
