@@ -93,9 +93,9 @@ pub fn find_program_of<'a>(
     argument: &[u8],
 ) -> Result<&'a Accepted, StoreRefused>
     ensures found { IfOk result (λ p. program_at catalogue.now program ≡ Some p.now) }
+    ensures mode { IfOk result (λ p. p.now.mode ≡ mode) }
     ensures length { IfOk result (λ p. (length argument.now ≡ p.now.arg_len) × (length argument.now ≤ MAX_ARG_LEN)) }
     ensures shapes { IfOk result (λ p. p.now.shapes ≡ catalogue.now.shapes) }
-    ensures mode { IfOk result (λ p. p.now.mode ≡ mode) }
     ensures refusal { IsRefusedAs (offered_refusal catalogue.now mode program argument.now) result }
 {
     let accepted = find_program(catalogue, program, argument)?;
