@@ -3,5 +3,6 @@ pub mod StoreMeaning
 pub mod Refusals
 pub mod Views
 pub mod Replaying
+pub mod Grounds
 -- Laws: in every history each operation has an effect.
 pub mod HistoryLaws

@@ -6,7 +6,7 @@ ghost use Rattle.loader.specs.StoreState.{sizes_of};
 ghost use Rattle.oplog.specs.History.{after};
 ghost use Rattle.replica.specs.StoreMeaning.{AreUpdates, store_meaning};
 
-use crate::operations::perform_all;
+use crate::operations::{Ground, perform_all};
 use loader::{Catalogue, StoreState};
 use oplog::LogState;
 
@@ -18,7 +18,8 @@ pub fn last_state(log: LogState, catalogue: &Catalogue) -> StoreState
     ensures state { result ≡ after store_meaning catalogue.now log.base_state log.records }
 {
     let (state, records) = log.into_base();
-    let (mut maps, mut programs) = state.into_parts();
-    perform_all(catalogue, &mut programs, &mut maps, &records);
-    StoreState::of(maps, programs)
+    let (maps, programs) = state.into_parts();
+    let mut ground = Ground::new(maps, programs);
+    perform_all(&mut ground, catalogue, &records);
+    StoreState::of(ground.maps, ground.programs)
 }

@@ -8,14 +8,38 @@ ghost use Rattle.verifier.specs.declared.refusal.Mode.TheVariants.{Update, Read}
 ghost use Rattle.loader.specs.StoreState.{state_of};
 ghost use Rattle.oplog.specs.declared.records.Op.TheVariants.{Install};
 ghost use Rattle.replica.specs.StoreMeaning.{no_program, no_place, is_mode, suits, program_among, run_in, ran_to, answered, updated, is_operation, AreUpdates};
+ghost use Rattle.replica.specs.Grounds.{state_in};
 ghost use Rattle.replica.specs.Replaying.{KeepsOutcomes, Leaves};
 
 use crate::replying::Replies;
 use loader::{Catalogue, Installed};
-use machine::{Outcome, run};
+use machine::{Machine, Outcome, run_in};
 use maps::MapSet;
 use oplog::{Hand, NewProgram, Op, Record};
 use verifier::{Accepted, Mode};
+
+/// What operations run on.
+#[derive(Drop)]
+pub(crate) struct Ground {
+    pub(crate) maps: MapSet,
+    /// The programs that were installed.
+    pub(crate) programs: Installed,
+    /// The room of the runs. No operation reads what the one before it has left there.
+    pub(crate) machine: Machine,
+}
+
+impl Ground {
+    /// These maps and programs, with a room.
+    pub(crate) fn new(maps: MapSet, programs: Installed) -> Ground
+        ensures same { (result.maps ≡ maps) × (result.programs ≡ programs) }
+    {
+        Ground {
+            maps,
+            programs,
+            machine: Machine::new(),
+        }
+    }
+}
 
 /// What a call replies where no program of its number suits it: -22, as 64 bits.
 pub const NO_PROGRAM: u64 = 18_446_744_073_709_551_594;
@@ -65,6 +89,7 @@ pub(crate) fn program_of<'a>(
 
 // Runs a program that suits; else nothing is done, and the reply says so.
 pub(crate) fn run_suitable(
+    machine: &mut Machine,
     program: Option<&Accepted>,
     mode: Mode,
     maps: &mut MapSet,
@@ -78,7 +103,7 @@ pub(crate) fn run_suitable(
 {
     if let Some(accepted) = program {
         if does_suit(accepted, mode, argument) {
-            return run(accepted, maps, argument);
+            return run_in(machine, accepted, maps, argument);
         }
     }
     Outcome {
@@ -112,66 +137,65 @@ fn install(catalogue: &Catalogue, programs: &mut Installed, new: &NewProgram) ->
 }
 
 // Performs one operation.
-fn perform(catalogue: &Catalogue, programs: &mut Installed, maps: &mut MapSet, op: &Op) -> Outcome
-    requires shapes { HasShapes catalogue.now.shapes (maps_of maps.old) }
-    requires programs { programs.old.shapes ≡ catalogue.now.shapes }
+fn perform(on: &mut Ground, catalogue: &Catalogue, op: &Op) -> Outcome
+    requires shapes { HasShapes catalogue.now.shapes (maps_of on.old.maps) }
+    requires programs { on.old.programs.shapes ≡ catalogue.now.shapes }
     requires update { is_operation Update catalogue.now op.now ≡ true }
-    ensures updated { updated catalogue.now op.now (state_of (maps_of maps.old) programs.old)
-        ≡ Some (answered result (state_of (maps_of maps.new) programs.new)) }
-    ensures shapes { HasShapes catalogue.now.shapes (maps_of maps.new) }
-    ensures sizes { (programs.new.shapes ≡ programs.old.shapes) × (programs.new.places ≡ programs.old.places) }
+    ensures updated { updated catalogue.now op.now (state_in on.old) ≡ Some (answered result (state_in on.new)) }
+    ensures shapes { HasShapes catalogue.now.shapes (maps_of on.new.maps) }
+    ensures sizes { (on.new.programs.shapes ≡ on.old.programs.shapes) × (on.new.programs.places ≡ on.old.programs.places) }
 {
     match op {
         Op::Run(call) => {
-            let program = program_of(catalogue, programs, call.program());
-            run_suitable(program, Mode::Update, maps, call.argument())
+            let program = program_of(catalogue, &on.programs, call.program());
+            run_suitable(
+                &mut on.machine,
+                program,
+                Mode::Update,
+                &mut on.maps,
+                call.argument(),
+            )
         }
-        Op::Install(new) => install(catalogue, programs, new),
+        Op::Install(new) => install(catalogue, &mut on.programs, new),
     }
 }
 
 // Performs the operations of the first records in a hand, one after the other, and keeps what they answer.
 pub(crate) fn perform_first(
+    on: &mut Ground,
     catalogue: &Catalogue,
-    programs: &mut Installed,
-    maps: &mut MapSet,
     hand: &Hand,
     count: usize,
     replies: &mut Replies,
 )
     requires count { count ≤ length hand.now.records }
-    requires shapes { HasShapes catalogue.now.shapes (maps_of maps.old) }
-    requires programs { programs.old.shapes ≡ catalogue.now.shapes }
+    requires shapes { HasShapes catalogue.now.shapes (maps_of on.old.maps) }
+    requires programs { on.old.programs.shapes ≡ catalogue.now.shapes }
     requires allowed { AreUpdates catalogue.now hand.now.records }
     requires fits { hand.now.begin + length hand.now.records < 2 ^ 64 }
-    ensures state { Leaves catalogue.now (state_of (maps_of maps.old) programs.old) (take count hand.now.records) (state_of (maps_of maps.new) programs.new) }
-    ensures shapes { HasShapes catalogue.now.shapes (maps_of maps.new) }
-    ensures sizes { (programs.new.shapes ≡ programs.old.shapes) × (programs.new.places ≡ programs.old.places) }
-    ensures kept { KeepsOutcomes catalogue.now (state_of (maps_of maps.old) programs.old) hand.now.begin (take count hand.now.records) replies.old replies.new }
+    ensures state { Leaves catalogue.now (state_in on.old) (take count hand.now.records) (state_in on.new) }
+    ensures shapes { HasShapes catalogue.now.shapes (maps_of on.new.maps) }
+    ensures sizes { (on.new.programs.shapes ≡ on.old.programs.shapes) × (on.new.programs.places ≡ on.old.programs.places) }
+    ensures kept { KeepsOutcomes catalogue.now (state_in on.old) hand.now.begin (take count hand.now.records) replies.old replies.new }
 {
     let first = hand.begin();
     for k in 0..count {
         let record = hand.record(k);
-        let outcome = perform(catalogue, programs, maps, &record.op);
+        let outcome = perform(on, catalogue, &record.op);
         replies.keep(first + k as u64, outcome);
     }
 }
 
 // Performs the operations of records, one after the other.
-pub(crate) fn perform_all(
-    catalogue: &Catalogue,
-    programs: &mut Installed,
-    maps: &mut MapSet,
-    records: &[Record],
-)
-    requires shapes { HasShapes catalogue.now.shapes (maps_of maps.old) }
-    requires programs { programs.old.shapes ≡ catalogue.now.shapes }
+pub(crate) fn perform_all(on: &mut Ground, catalogue: &Catalogue, records: &[Record])
+    requires shapes { HasShapes catalogue.now.shapes (maps_of on.old.maps) }
+    requires programs { on.old.programs.shapes ≡ catalogue.now.shapes }
     requires allowed { AreUpdates catalogue.now records.now }
-    ensures state { Leaves catalogue.now (state_of (maps_of maps.old) programs.old) records.now (state_of (maps_of maps.new) programs.new) }
-    ensures shapes { HasShapes catalogue.now.shapes (maps_of maps.new) }
-    ensures programs { programs.new.shapes ≡ catalogue.now.shapes }
+    ensures state { Leaves catalogue.now (state_in on.old) records.now (state_in on.new) }
+    ensures shapes { HasShapes catalogue.now.shapes (maps_of on.new.maps) }
+    ensures programs { on.new.programs.shapes ≡ catalogue.now.shapes }
 {
     for record in records {
-        perform(catalogue, programs, maps, &record.op);
+        perform(on, catalogue, &record.op);
     }
 }

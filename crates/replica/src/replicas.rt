@@ -11,7 +11,7 @@ ghost use Rattle.oplog.specs.Logs.{records_from};
 ghost use Rattle.replica.specs.StoreMeaning.{store_meaning, call_of, run_of, ran_to, AreUpdates};
 ghost use Rattle.replica.specs.Replaying.{KeepsOutcomes};
 
-use crate::operations::{perform_first, program_of, run_suitable};
+use crate::operations::{Ground, perform_first, program_of, run_suitable};
 use crate::replying::Replies;
 use loader::{Catalogue, Installed, StoreState};
 use machine::Outcome;
@@ -24,25 +24,25 @@ use verifier::Mode;
 #[derive(Drop)]
 pub struct Replica {
     tail: u64,
-    maps: MapSet,
-    programs: Installed,
+    ground: Ground,
 }
 
 impl Model for Replica {
     ghost use Rattle.maps.specs.Maps.{shapes_of, HasShapes};
     ghost use Rattle.maps.specs.MapSets.{maps_of};
     ghost use Rattle.std.specs.Prelude.{◌≡◌};
-    ghost use Rattle.loader.specs.StoreState.{state_of};
+    ghost use Rattle.replica.specs.Grounds.{state_in};
     ghost use Rattle.replica.specs.Views.{ReplicaView, replica_code};
 
     ghost Value = { ReplicaView };
 
     ghost coded = { replica_code };
 
-    ghost view = { λ r. record { tail = r.tail; state = state_of (maps_of r.maps) r.programs } };
+    ghost view = { λ r. record { tail = r.tail; state = state_in r.ground } };
 
     // The programs are for the maps.
-    ghost invariant = { λ r. HasShapes (shapes_of (maps_of r.maps)) (maps_of r.maps) × (r.programs.shapes ≡ shapes_of (maps_of r.maps)) };
+    ghost invariant = { λ r. HasShapes (shapes_of (maps_of r.ground.maps)) (maps_of r.ground.maps)
+        × (r.ground.programs.shapes ≡ shapes_of (maps_of r.ground.maps)) };
 }
 
 impl Replica {
@@ -53,8 +53,7 @@ impl Replica {
         let (maps, programs) = state.into_parts();
         Replica {
             tail: 0,
-            maps,
-            programs,
+            ground: Ground::new(maps, programs),
         }
     }
 
@@ -70,14 +69,14 @@ impl Replica {
         ensures maps { maps_of result.now ≡ self.now.state.maps }
         ensures shapes { HasShapes (shapes_of self.now.state.maps) self.now.state.maps }
     {
-        &self.maps
+        &self.ground.maps
     }
 
     /// The programs that were installed by them.
     pub fn programs(&self) -> &Installed
         ensures programs { result.now ≡ installed_in self.now.state }
     {
-        &self.programs
+        &self.ground.programs
     }
 
     /// Applies the records of a hand, which begins at the tail, and keeps what they answer. Their operations are updates of
@@ -94,14 +93,7 @@ impl Replica {
         ensures replies { KeepsOutcomes catalogue.now self.old.state self.old.tail hand.old.records replies.old replies.new }
     {
         let count = hand.len();
-        perform_first(
-            catalogue,
-            &mut self.programs,
-            &mut self.maps,
-            hand,
-            count,
-            replies,
-        );
+        perform_first(&mut self.ground, catalogue, hand, count, replies);
         self.tail += count as u64;
         hand.clear(self.tail);
     }
@@ -120,14 +112,7 @@ impl Replica {
         ensures hand { hand.new ≡ record hand.old { begin = self.new.tail; records = drop count hand.old.records } }
     {
         let mut replies = Replies::new(0, 0);
-        perform_first(
-            catalogue,
-            &mut self.programs,
-            &mut self.maps,
-            hand,
-            count,
-            &mut replies,
-        );
+        perform_first(&mut self.ground, catalogue, hand, count, &mut replies);
         self.tail += count as u64;
         hand.drop_first(count);
     }
@@ -140,8 +125,8 @@ impl Replica {
         requires places { programs.now.places ≡ self.old.state.places }
         ensures based { self.new ≡ record { tail = index; state = state_of (maps_of maps.now) programs.now } }
     {
-        self.maps.copy_from(maps);
-        self.programs.copy_from(programs);
+        self.ground.maps.copy_from(maps);
+        self.ground.programs.copy_from(programs);
         self.tail = index;
     }
 
@@ -158,7 +143,12 @@ impl Replica {
         ensures hand { hand.new ≡ record hand.old { begin = log.old.base; records = log.old.records } }
     {
         let base = log.base();
-        log.exchange(self.tail, &mut self.maps, &mut self.programs, hand);
+        log.exchange(
+            self.tail,
+            &mut self.ground.maps,
+            &mut self.ground.programs,
+            hand,
+        );
         self.tail = base;
     }
 
@@ -170,7 +160,13 @@ impl Replica {
             ≡ Some (ran_to result self.old.state.maps) }
         ensures same { self.new ≡ self.old }
     {
-        let found = program_of(catalogue, &self.programs, program);
-        run_suitable(found, Mode::Read, &mut self.maps, argument)
+        let found = program_of(catalogue, &self.ground.programs, program);
+        run_suitable(
+            &mut self.ground.machine,
+            found,
+            Mode::Read,
+            &mut self.ground.maps,
+            argument,
+        )
     }
 }

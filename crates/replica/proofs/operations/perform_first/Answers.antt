@@ -1,15 +1,15 @@
 use Rattle.std.proofs.Common.{◌∙◌}
-use Rattle.maps.specs.MapSets.{maps_of}
-use Rattle.loader.specs.StoreState.{StoreState, state_of}
+use Rattle.loader.specs.StoreState.{StoreState}
+use Rattle.replica.specs.Grounds.{state_in}
 use Rattle.replica.proofs.Afters.{after_one_more}
 use Rattle.replica.proofs.Kept.{keeps_one_more, is_answered, leaves}
 use Rattle.replica.proofs.operations.perform_first.Goals as goal
 
 pub loop-k-preserved : goal.loop-k-preserved
 loop-k-preserved c =
-    let opening : StoreState = state_of (maps_of c.args.maps.now) c.args.programs.now in
-    let before : StoreState = state_of (maps_of c.loop-k.maps) c.loop-k.programs in
-    let after : StoreState = state_of (maps_of c.perform-outcome.new.maps) c.perform-outcome.new.programs in
+    let opening : StoreState = state_in c.args.on.now in
+    let before : StoreState = state_in c.loop-k.on in
+    let after : StoreState = state_in c.perform-outcome.new.on in
     record {
       shapes = c.perform-outcome.ensures.shapes;
       sizes = (c.perform-outcome.ensures.sizes.0 ∙ c.loop-k.invariant.sizes.0, c.perform-outcome.ensures.sizes.1 ∙ c.loop-k.invariant.sizes.1);

@@ -8,5 +8,5 @@ pub returns-then-does_suit-clause-run : goal.returns-then-does_suit-clause-run
 returns-then-does_suit-clause-run c =
     let suitable : suits c.args.mode c.args.argument.now c.in-Some.accepted.now ≡ true = search rules in
     ap (λ o. run_in c.args.mode c.args.argument.now (maps_of c.args.maps.now) (option_map (λ p. p.now) o)) c.in-Some.is
-    ∙ ran c.args.mode c.args.argument.now (maps_of c.args.maps.now) (maps_of c.run.new.maps) c.in-Some.accepted.now c.run.result.steps c.run.result.reply
-    suitable c.run.ensures.runs c.run.ensures.few
+    ∙ ran c.args.mode c.args.argument.now (maps_of c.args.maps.now) (maps_of c.run_in.new.maps) c.in-Some.accepted.now c.run_in.result.steps c.run_in.result.reply
+    suitable c.run_in.ensures.runs c.run_in.ensures.few

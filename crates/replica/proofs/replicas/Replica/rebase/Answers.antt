@@ -6,4 +6,4 @@ use Rattle.replica.proofs.replicas.Replica.rebase.Goals as goal
 
 pub copy_from-requires : goal.copy_from-requires
 copy_from-requires c =
-    record { shapes = stored_are c.self.inside.maps ∙ ap (λ (v : ReplicaView). shapes_of v.state.maps) c.self.view_is ∙ sym c.requires.shapes.same ∙ sym (stored_are c.args.maps.now) }
+    record { shapes = stored_are c.self.inside.ground.maps ∙ ap (λ (v : ReplicaView). shapes_of v.state.maps) c.self.view_is ∙ sym c.requires.shapes.same ∙ sym (stored_are c.args.maps.now) }
