@@ -86,6 +86,7 @@ pub fn has_next(log: &LogState, node: &NodeReplica) -> bool
 }
 
 /// Applies the records of the hand to the replica, and keeps the outcomes of those that have an index in the replies.
+#[inline(always)]
 pub fn replay(node: &mut NodeReplica, catalogue: &Catalogue, replies: &mut Replies)
     requires next { IsNext catalogue.now node.old }
     ensures node { node.new ≡ replayed catalogue.now node.old }
@@ -107,6 +108,7 @@ pub fn replay_first(node: &mut NodeReplica, catalogue: &Catalogue, count: usize)
 }
 
 /// Copies what the replica lacks, and applies it, while the log is lent. The log has all of it.
+#[inline(never)]
 pub fn follow(log: &LogState, node: &mut NodeReplica, catalogue: &Catalogue)
     requires above { is_above log.now node.old ≡ true }
     requires fits { Fits log.now node.old }
@@ -182,6 +184,7 @@ pub fn may_rebase(log: &LogState, node: &NodeReplica) -> bool
 }
 
 /// Makes the log's base the replica, which lies below it.
+#[inline(never)]
 pub fn rebase(log: &LogState, node: &mut NodeReplica)
     requires may { may_rebase log.now node.old ≡ true }
     requires sizes { sizes_of log.now.base_state ≡ sizes_of node.old.replica.state }

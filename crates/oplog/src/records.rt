@@ -66,6 +66,7 @@ impl Call {
     }
 
     /// Becomes the other, in its place.
+    #[inline(always)]
     pub fn assign(&mut self, from: &Call)
         ensures same { self.new ≡ from.now }
     {
@@ -191,6 +192,7 @@ impl Op {
     }
 
     /// Becomes the other, in its place: a call over a call is written without the room of a program.
+    #[inline(always)]
     pub fn assign(&mut self, from: &Op)
         ensures same { self.new ≡ from.now }
     {

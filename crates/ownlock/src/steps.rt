@@ -32,6 +32,7 @@ pub(crate) fn try_once<V: Shelved>(steps: &Steps<V>, pass: &mut Pass<V>, place: 
 }
 
 // Looks at the place's word until it is 0. Nothing is known then: somebody may take the place at once.
+#[inline(never)]
 pub(crate) fn wait_for<V: Shelved, R: Wait>(rt: &R, steps: &Steps<V>, place: usize)
     requires { HasPlace steps.now.table_id place }
 {

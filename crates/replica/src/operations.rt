@@ -113,6 +113,7 @@ pub(crate) fn run_suitable(
 }
 
 // Installs a program that was found to be one, where a place is free.
+#[inline(never)]
 fn install(catalogue: &Catalogue, programs: &mut Installed, new: &NewProgram) -> Outcome
     requires shapes { programs.old.shapes ≡ catalogue.now.shapes }
     requires update { is_operation Update catalogue.now (Install new.now) ≡ true }
@@ -137,6 +138,7 @@ fn install(catalogue: &Catalogue, programs: &mut Installed, new: &NewProgram) ->
 }
 
 // Performs one operation.
+#[inline(always)]
 fn perform(on: &mut Ground, catalogue: &Catalogue, op: &Op) -> Outcome
     requires shapes { HasShapes catalogue.now.shapes (maps_of on.old.maps) }
     requires programs { on.old.programs.shapes ≡ catalogue.now.shapes }

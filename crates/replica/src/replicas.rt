@@ -81,6 +81,7 @@ impl Replica {
 
     /// Applies the records of a hand, which begins at the tail, and keeps what they answer. Their operations are updates of
     /// the catalogue, which has the replica's sizes. The hand is then empty, and begins at the new tail.
+    #[inline(always)]
     pub fn replay(&mut self, hand: &mut Hand, catalogue: &Catalogue, replies: &mut Replies)
         requires begins { hand.old.begin ≡ self.old.tail }
         requires sizes { sizes_of self.old.state ≡ sizes_for catalogue.now }
@@ -100,6 +101,7 @@ impl Replica {
 
     /// Applies the first `count` records of a hand, which begins at the tail, and lets go of what they answer. Their operations are updates
     /// of the catalogue, which has the replica's sizes. The hand then has the others, and begins at the new tail.
+    #[inline(never)]
     pub fn replay_first(&mut self, hand: &mut Hand, count: usize, catalogue: &Catalogue)
         requires begins { hand.old.begin ≡ self.old.tail }
         requires sizes { sizes_of self.old.state ≡ sizes_for catalogue.now }
