@@ -46,36 +46,16 @@ static nrbpf_status told(const nrbpf_session *session, nrbpf_error *why) {
 
 // ---- Updates, reads and installs
 
-// What is asked for.
-struct asked {
-    uint64_t call;
-    uint64_t mode;
-    uint64_t argument;
-    const void *bytes;
-    size_t len;
-    uint16_t program;
-};
-
-static struct asked run_of(uint64_t call, uint16_t program, const void *argument, size_t len) {
-    struct asked it;
-    it.call = call;
-    it.mode = 0;
-    it.argument = 0;
-    it.bytes = argument;
-    it.len = len;
-    it.program = program;
-    return it;
-}
-
-static struct asked install_of(uint32_t mode, uint32_t argument_len, const void *bytes, size_t len) {
-    struct asked it;
-    it.call = NRBPF_RAW_INSTALL;
-    it.mode = mode;
-    it.argument = argument_len;
-    it.bytes = bytes;
-    it.len = len;
-    it.program = 0;
-    return it;
+// Writes the bytes of a call into the session's words.
+static void put_bytes(struct nrbpf_raw_session *raw, const void *bytes, size_t len) {
+    if (len > sizeof raw->bytes) {
+        raw->length = sizeof raw->bytes;        // no argument of a program has as many: S2
+        return;
+    }
+    raw->length = len;
+    if (len > 0) {
+        memcpy(raw->bytes, bytes, len);
+    }
 }
 
 // Makes the call that the session's words ask for, or goes on with what is posted.
@@ -91,74 +71,83 @@ static nrbpf_status go_on(nrbpf_session *session, nrbpf_answer *out, nrbpf_error
     return told(session, why);
 }
 
-static nrbpf_status ask(nrbpf_session *session, const struct asked *it, nrbpf_answer *out, nrbpf_error *why) {
-    if (!session || (!it->bytes && it->len > 0) || !out) {
+// Goes on until a call that was tried is answered.
+static nrbpf_status wait_for(nrbpf_session *session, nrbpf_answer *out, nrbpf_error *why) {
+    nrbpf_status status;
+    unsigned tries = 0;
+    do {
+        pause_behind(tries);
+        tries = one_more(tries);
+        status = go_on(session, out, why);
+    } while (status == NRBPF_BUSY || status == NRBPF_POSTED);
+    return status;
+}
+
+// Runs a program, NRBPF_RAW_UPDATE or NRBPF_RAW_READ.
+static inline nrbpf_status run(nrbpf_session *session, uint64_t call, uint16_t program, const void *argument, size_t len, nrbpf_answer *out) {
+    if (!session || (!argument && len > 0) || !out) {
+        return NRBPF_H7;
+    }
+    const nrbpf_status status = usable(session);
+    if (status != NRBPF_OK) {
+        return status;
+    }
+    session->raw.call = call;
+    session->raw.program = program;
+    put_bytes(&session->raw, argument, len);
+    return go_on(session, out, NULL);
+}
+
+nrbpf_status nrbpf_try_update(nrbpf_session *session, uint16_t program, const void *argument, size_t len, nrbpf_answer *out) {
+    return run(session, NRBPF_RAW_UPDATE, program, argument, len, out);
+}
+
+nrbpf_status nrbpf_try_read(nrbpf_session *session, uint16_t program, const void *argument, size_t len, nrbpf_answer *out) {
+    return run(session, NRBPF_RAW_READ, program, argument, len, out);
+}
+
+nrbpf_status nrbpf_update(nrbpf_session *session, uint16_t program, const void *argument, size_t len, nrbpf_answer *out) {
+    const nrbpf_status status = run(session, NRBPF_RAW_UPDATE, program, argument, len, out);
+    if (status == NRBPF_BUSY || status == NRBPF_POSTED) {
+        return wait_for(session, out, NULL);
+    }
+    return status;
+}
+
+nrbpf_status nrbpf_read(nrbpf_session *session, uint16_t program, const void *argument, size_t len, nrbpf_answer *out) {
+    const nrbpf_status status = run(session, NRBPF_RAW_READ, program, argument, len, out);
+    if (status == NRBPF_BUSY) {
+        return wait_for(session, out, NULL);
+    }
+    return status;
+}
+
+nrbpf_status nrbpf_try_install(nrbpf_session *session, uint32_t mode, uint32_t argument_len, const void *bytes, size_t len, nrbpf_answer *out,
+                               nrbpf_error *why) {
+    if (!session || (!bytes && len > 0) || !out) {
         return refused(why, NRBPF_H7);
     }
     const nrbpf_status status = usable(session);
     if (status != NRBPF_OK) {
         return refused(why, status);
     }
-    struct nrbpf_raw_session *raw = &session->raw;
-    if (it->len > sizeof raw->bytes && it->call == NRBPF_RAW_INSTALL) {
+    if (len > sizeof session->raw.bytes) {
         return refused(why, NRBPF_S6);
     }
-    raw->call = it->call;
-    raw->program = it->program;
-    raw->mode = it->mode;
-    raw->argument = it->argument;
-    if (it->len > sizeof raw->bytes) {
-        raw->length = sizeof raw->bytes;        // no argument of a program has as many: S2
-    } else if (it->len > 0) {
-        raw->length = it->len;
-        memcpy(raw->bytes, it->bytes, it->len);
-    } else {
-        raw->length = 0;
-    }
+    session->raw.call = NRBPF_RAW_INSTALL;
+    session->raw.mode = mode;
+    session->raw.argument = argument_len;
+    put_bytes(&session->raw, bytes, len);
     return go_on(session, out, why);
-}
-
-static nrbpf_status wait_for(nrbpf_session *session, const struct asked *it, nrbpf_answer *out, nrbpf_error *why) {
-    nrbpf_status status = ask(session, it, out, why);
-    unsigned tries = 0;
-    while (status == NRBPF_BUSY || status == NRBPF_POSTED) {
-        pause_behind(tries);
-        tries = one_more(tries);
-        status = go_on(session, out, why);
-    }
-    return status;
-}
-
-nrbpf_status nrbpf_update(nrbpf_session *session, uint16_t program, const void *argument, size_t len, nrbpf_answer *out) {
-    const struct asked it = run_of(NRBPF_RAW_UPDATE, program, argument, len);
-    return wait_for(session, &it, out, NULL);
-}
-
-nrbpf_status nrbpf_read(nrbpf_session *session, uint16_t program, const void *argument, size_t len, nrbpf_answer *out) {
-    const struct asked it = run_of(NRBPF_RAW_READ, program, argument, len);
-    return wait_for(session, &it, out, NULL);
 }
 
 nrbpf_status nrbpf_install(nrbpf_session *session, uint32_t mode, uint32_t argument_len, const void *bytes, size_t len, nrbpf_answer *out,
                            nrbpf_error *why) {
-    const struct asked it = install_of(mode, argument_len, bytes, len);
-    return wait_for(session, &it, out, why);
-}
-
-nrbpf_status nrbpf_try_update(nrbpf_session *session, uint16_t program, const void *argument, size_t len, nrbpf_answer *out) {
-    const struct asked it = run_of(NRBPF_RAW_UPDATE, program, argument, len);
-    return ask(session, &it, out, NULL);
-}
-
-nrbpf_status nrbpf_try_read(nrbpf_session *session, uint16_t program, const void *argument, size_t len, nrbpf_answer *out) {
-    const struct asked it = run_of(NRBPF_RAW_READ, program, argument, len);
-    return ask(session, &it, out, NULL);
-}
-
-nrbpf_status nrbpf_try_install(nrbpf_session *session, uint32_t mode, uint32_t argument_len, const void *bytes, size_t len, nrbpf_answer *out,
-                               nrbpf_error *why) {
-    const struct asked it = install_of(mode, argument_len, bytes, len);
-    return ask(session, &it, out, why);
+    const nrbpf_status status = nrbpf_try_install(session, mode, argument_len, bytes, len, out, why);
+    if (status == NRBPF_BUSY || status == NRBPF_POSTED) {
+        return wait_for(session, out, why);
+    }
+    return status;
 }
 
 nrbpf_status nrbpf_poll(nrbpf_session *session, nrbpf_answer *out) {
