@@ -1,12 +1,13 @@
 -- What the calls tell that look at a node's replica for a key or for its state, and those that look without waiting; and of which steps they
 -- are made.
-use Rattle.std.specs.Prelude.{◌≡◌, ℕ, List, length, Option, None, Result, IfNone, IfOk, IfSome, MatchResult}
+use Rattle.std.specs.Prelude.{◌≡◌, ℕ, List, length, Option, Some, None, Result, Err, IfNone, IfOk, IfSome, MatchResult}
 use Rattle.loader.specs.StoreState.{StoreState}
 use Rattle.store_steps.specs.declared.getting.GetRefused.{GetRefused}
 use Rattle.store_steps.specs.declared.getting.Lookup.{Lookup}
 use Rattle.store_steps.specs.declared.getting.MapKey.{MapKey}
 use Rattle.store_steps.specs.declared.scanning.Beginning.{Beginning}
 use Rattle.store_steps.specs.declared.scanning.Scan.{Scan}
+use Rattle.store_steps.specs.declared.scanning.ScanRefused.{ScanRefused}
 use Rattle.store_steps.specs.declared.steps.Question.{Question}
 use Rattle.store_steps.specs.Getting.{GetTells, GetsBy, get_refusal}
 use Rattle.store_steps.specs.Looking.{EachReadsBy, ScansBy}
@@ -15,6 +16,17 @@ use Rattle.store_steps.specs.Scanning.{ScanGives, scan_refusal}
 use Rattle.store_steps.specs.Snapshots.{TakesBy}
 use Rattle.store_steps.specs.Views.{SessionView}
 use Rattle.store.specs.Sessions.{IsFresh, StoreView, known_of}
+
+-- where it is refused, the call answers why, and P holds
+abbrev pub IsRefused : {A E : Type 0} → Option E → Result A E → Type 0 → Type 0
+IsRefused {A} {E} refusal result P = (r : E) → refusal ≡ Some r → (result ≡ Err r) × P
+
+-- the refusal of a scan, and that there is none
+abbrev pub scan_refused : StoreView → Beginning → Option ScanRefused
+scan_refused store begin = scan_refusal store.catalogue begin.map begin.from
+
+abbrev pub MayScan : StoreView → Beginning → Type 0
+MayScan store begin = scan_refused store begin ≡ None
 
 -- ---- a key
 
@@ -55,10 +67,6 @@ TriedGoes result P = IfOk result (λ o. IfSome o P)
 -- P holds where there is no answer
 abbrev pub UnlessAnswered : {A E : Type 0} → Result (Option A) E → Type 0 → Type 0
 UnlessAnswered result P = MatchResult result (λ o. IfNone o P) (λ _. P)
-
--- the scan may be made
-abbrev pub MayScan : StoreView → Beginning → Type 0
-MayScan store begin = scan_refusal store.catalogue begin.map begin.from ≡ None
 
 -- a scan gave this page, at a point that is not below what was completed when the session looked
 abbrev pub IsScan : (old new : SessionView) → Beginning → (key_room value_room : ℕ) → (keys values : List ℕ) → Scan → Type 0

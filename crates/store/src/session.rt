@@ -8,16 +8,13 @@ ghost use Rattle.replica.specs.declared.refusals.StoreRefused.{StoreRefused};
 ghost use Rattle.replica.specs.Refusals.{early_refusal};
 ghost use Rattle.store.specs.Going.{EachGoes, ReadGoes, ScanGoes, UpdateGoes};
 ghost use Rattle.store.specs.Sessions.{said};
-ghost use Rattle.store_steps.specs.declared.questions.QuestionRefused.{QuestionRefused};
 ghost use Rattle.store_steps.specs.Questions.{first_refused};
 ghost use Rattle.store.specs.Sessions.{EachBegins, TellsEach};
-ghost use Rattle.store_steps.specs.declared.scanning.ScanRefused.{ScanRefused};
-ghost use Rattle.store_steps.specs.Scanning.{scan_refusal};
 ghost use Rattle.store.specs.Sessions.{ScanBegins, TellsScan};
 ghost use Rattle.store_steps.specs.declared.getting.GetRefused.{GetRefused};
 ghost use Rattle.loader.specs.CatalogueView.{sizes_for};
 ghost use Rattle.loader.specs.StoreState.{sizes_of};
-ghost use Rattle.store.specs.Looks.{GetGoes, SnapshotGoes, TellsGet, key_refused};
+ghost use Rattle.store.specs.Looks.{GetGoes, IsRefused, MayScan, SnapshotGoes, TellsGet, key_refused, scan_refused};
 ghost use Rattle.store_steps.specs.Snapshots.{SnapshotTells};
 ghost use Rattle.store_steps.specs.Views.{IsIdle, op_of, session_view};
 ghost use Rattle.store.specs.Sessions.{IsFresh, IsOf, TellsUpdate, TellsRead, BeginsWithin, HasRoom, known_of, install_of, install_refused};
@@ -265,8 +262,7 @@ impl Session {
         ensures same { (self.new.shelf ≡ self.old.shelf) × (self.new.session ≡ self.old.session) × (self.new.note ≡ self.old.note) }
         ensures grown { Extends self.old.progress self.new.progress }
         ensures well_formed { IsWellFormed store_meaning self.new.progress }
-        ensures early { (r : QuestionRefused) → first_refused store.now.catalogue 0 questions.now ≡ Some r → (result ≡ Err r)
-            × (self.new ≡ self.old) × (replies.new ≡ replies.old) }
+        ensures early { IsRefused (first_refused store.now.catalogue 0 questions.now) result ((self.new ≡ self.old) × (replies.new ≡ replies.old)) }
         ensures answered { first_refused store.now.catalogue 0 questions.now ≡ None
             → TellsEach self.old self.new questions.now replies.new result }
         ensures begun { first_refused store.now.catalogue 0 questions.now ≡ None → EachBegins self.old self.new result }
@@ -303,12 +299,11 @@ impl Session {
         ensures same { (self.new.shelf ≡ self.old.shelf) × (self.new.session ≡ self.old.session) × (self.new.note ≡ self.old.note) }
         ensures grown { Extends self.old.progress self.new.progress }
         ensures well_formed { IsWellFormed store_meaning self.new.progress }
-        ensures early { (r : ScanRefused) → scan_refusal store.now.catalogue begin.map begin.from ≡ Some r → (result ≡ Err r)
-            × (self.new ≡ self.old) × (keys.new ≡ keys.old) × (values.new ≡ values.old) }
-        ensures told { scan_refusal store.now.catalogue begin.map begin.from ≡ None
+        ensures early { IsRefused (scan_refused store.now begin) result ((self.new ≡ self.old) × (keys.new ≡ keys.old) × (values.new ≡ values.old)) }
+        ensures told { MayScan store.now begin
             → TellsScan self.old self.new begin.map begin.from (length keys.old) (length values.old) keys.new values.new result }
-        ensures begun { scan_refusal store.now.catalogue begin.map begin.from ≡ None → ScanBegins self.old self.new result }
-        ensures goes { scan_refusal store.now.catalogue begin.map begin.from ≡ None
+        ensures begun { MayScan store.now begin → ScanBegins self.old self.new result }
+        ensures goes { MayScan store.now begin
             → ScanGoes self.old self.new begin.map begin.from (length keys.old) (length values.old) keys.new values.new result }
     {
         let Session { seat, caller, .. } = self;

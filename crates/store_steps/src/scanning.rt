@@ -1,10 +1,11 @@
 // Scans of a map: which are refused, and how one is made.
 
-ghost use Rattle.std.specs.Prelude.{◌≡◌, ◌<◌, length, None, Some, IfOk, IfErr, MatchResult};
+ghost use Rattle.std.specs.Prelude.{◌≡◌, ◌<◌, length, None, IfOk, IfErr};
 ghost use Rattle.maps.specs.Maps.{shapes_of};
-ghost use Rattle.store_steps.specs.Looking.{ScansBy};
+ghost use Rattle.store_steps.specs.Getting.{IsVerdict};
+ghost use Rattle.store_steps.specs.Looking.{HasScanned, ScansFrom};
 ghost use Rattle.store_steps.specs.Knowing.{IsOn, Knows, Learns, Relates};
-ghost use Rattle.store_steps.specs.Scanning.{GivesThere, IsPlaceIn, IsScannedBy, scan_fault_number, scan_refusal};
+ghost use Rattle.store_steps.specs.Scanning.{GivesThere, IsPlaceIn, scan_fault_number, scan_refusal};
 ghost use Rattle.store_steps.specs.Standing.{IsFree};
 ghost use Rattle.store_steps.specs.Trying.{IsStill};
 
@@ -67,8 +68,7 @@ pub struct Beginning {
 ///
 /// S9 unknown map, S10 unknown place.
 pub fn check_scan(catalogue: &Catalogue, begin: Beginning) -> Result<(), ScanRefused>
-    ensures refusal { MatchResult result (λ _. scan_refusal catalogue.now begin.map begin.from ≡ None)
-        (λ e. scan_refusal catalogue.now begin.map begin.from ≡ Some e) }
+    ensures refusal { IsVerdict (scan_refusal catalogue.now begin.map begin.from) result }
 {
     let Some(shape) = catalogue.shapes().get(begin.map) else {
         return Err(ScanRefused::UnknownMap);
@@ -110,10 +110,8 @@ pub fn try_scan(
     ensures held { IfErr result (λ place. place < here.entry.shared.shelf.now.places) }
     ensures stays { IfErr result (λ _. Learns seat.old seat.new IsStill) }
     ensures kept { IfErr result (λ _. (keys.new ≡ keys.old) × (values.new ≡ values.old)) }
-    ensures scanned { IfOk result (λ s. Learns seat.old seat.new (λ k after.
-        IsScannedBy k after begin.map begin.from (length keys.old) (length values.old) keys.new values.new s)) }
-    ensures goes { IfOk result (λ s. Relates seat.old seat.new (λ k after.
-        ScansBy k after begin.map begin.from (length keys.old) (length values.old) keys.new values.new s)) }
+    ensures scanned { IfOk result (λ s. Learns seat.old seat.new (HasScanned begin (length keys.old) (length values.old) keys.new values.new s)) }
+    ensures goes { IfOk result (λ s. Relates seat.old seat.new (ScansFrom begin (length keys.old) (length values.old) keys.new values.new s)) }
 {
     let held = try_hold_ready(here, seat)?;
     let scan = scan_there(held.value.replica(), begin, keys, values);
@@ -135,10 +133,8 @@ pub fn scan_waiting<R: Wait>(
     requires idle { Knows seat.old (λ k. IsFree here.caller k × IsOn here.shared k) }
     requires place { scan_refusal here.shared.catalogue.now begin.map begin.from ≡ None }
     ensures same { seat.new.shelf ≡ seat.old.shelf }
-    ensures scanned { Learns seat.old seat.new (λ k after.
-        IsScannedBy k after begin.map begin.from (length keys.old) (length values.old) keys.new values.new result) }
-    ensures goes { Relates seat.old seat.new (λ k after.
-        ScansBy k after begin.map begin.from (length keys.old) (length values.old) keys.new values.new result) }
+    ensures scanned { Learns seat.old seat.new (HasScanned begin (length keys.old) (length values.old) keys.new values.new result) }
+    ensures goes { Relates seat.old seat.new (ScansFrom begin (length keys.old) (length values.old) keys.new values.new result) }
 {
     for _ in rt.forever() {
         match try_scan(here, seat, begin, keys, values) {
