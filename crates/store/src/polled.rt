@@ -117,17 +117,17 @@ impl Polled {
     }
 
     // Posts an operation that is not refused. `None` where the desk is held.
-    fn post(&mut self, store: &Store, op: Op) -> Option<()>
+    fn post(&mut self, store: &Store, op: &Op) -> Option<()>
         requires own { IsOf store.now self.old }
         requires idle { self.old.note.pending ≡ None }
-        requires update { is_operation Update store.now.catalogue op ≡ true }
+        requires update { is_operation Update store.now.catalogue op.now ≡ true }
         ensures own { IsOf store.now self.new }
         ensures same { (self.new.shelf ≡ self.old.shelf) × (self.new.session ≡ self.old.session) }
         ensures grown { Extends self.old.progress self.new.progress }
         ensures well_formed { IsWellFormed store_meaning self.new.progress }
         ensures stays { IfNone result (self.new ≡ self.old) }
-        ensures posted { IfSome result (λ _. HasPostedFor self.old self.new op) }
-        ensures goes { IfSome result (λ _. PostsBy (known_of self.old) (known_of self.new) op) }
+        ensures posted { IfSome result (λ _. HasPostedFor self.old self.new op.now) }
+        ensures goes { IfSome result (λ _. PostsBy (known_of self.old) (known_of self.new) op.now) }
     {
         let shared = store.shared();
         let Polled {
@@ -140,7 +140,7 @@ impl Polled {
             shared,
             caller: *caller,
         };
-        let Some(()) = try_post(here, seat, &op) else {
+        let Some(()) = try_post(here, seat, op) else {
             return None;
         };
         *stage = Stage::Asked;
@@ -175,7 +175,7 @@ impl Polled {
         let _seat = &self.seat;
         check_call(store.catalogue(), Mode::Update, program, argument)?;
         let call = Call::new(program, argument);
-        let Some(()) = self.post(store, Op::Run(call)) else {
+        let Some(()) = self.post(store, &Op::Run(call)) else {
             return Ok(None);
         };
         Ok(Some(()))
@@ -208,7 +208,7 @@ impl Polled {
     {
         check_install(&mut self.room, mode, arg_len as u64, bytes)?;
         let program = NewProgram::new(mode, arg_len, bytes);
-        let Some(()) = self.post(store, Op::Install(program)) else {
+        let Some(()) = self.post(store, &Op::Install(program)) else {
             return Ok(None);
         };
         Ok(Some(()))

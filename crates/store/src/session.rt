@@ -119,15 +119,15 @@ impl Session {
     }
 
     // Has an update performed that is not refused, as the next operation of the history.
-    fn update<R: Wait>(&mut self, rt: &R, store: &Store, op: Op) -> Result<Answer, StoreRefused>
+    fn update<R: Wait>(&mut self, rt: &R, store: &Store, op: &Op) -> Result<Answer, StoreRefused>
         requires own { IsOf store.now self.old }
-        requires update { is_operation Update store.now.catalogue op ≡ true }
+        requires update { is_operation Update store.now.catalogue op.now ≡ true }
         ensures own { IsOf store.now self.new }
         ensures same { (self.new.shelf ≡ self.old.shelf) × (self.new.session ≡ self.old.session) }
         ensures grown { Extends self.old.progress self.new.progress }
         ensures well_formed { IsWellFormed store_meaning self.new.progress }
-        ensures answered { TellsUpdate self.old self.new op result }
-        ensures goes { UpdateGoes self.old self.new op result }
+        ensures answered { TellsUpdate self.old self.new op.now result }
+        ensures goes { UpdateGoes self.old self.new op.now result }
     {
         let shared = store.shared();
         let here = Here {
@@ -168,7 +168,7 @@ impl Session {
         let _seat = &self.seat;
         check_call(store.catalogue(), Mode::Update, program, argument)?;
         let call = Call::new(program, argument);
-        self.update(rt, store, Op::Run(call))
+        self.update(rt, store, &Op::Run(call))
     }
 
     /// Installs a program in the store, as the next operation of the history: its instructions as bytes, for arguments of `arg_len` bytes. The
@@ -202,7 +202,7 @@ impl Session {
     {
         check_install(&mut self.room, mode, arg_len as u64, bytes)?;
         let program = NewProgram::new(mode, arg_len, bytes);
-        self.update(rt, store, Op::Install(program))
+        self.update(rt, store, &Op::Install(program))
     }
 
     /// Runs a read program of the store on the maps of the session's node, once these have seen everything that was completed

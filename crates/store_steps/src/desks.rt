@@ -27,10 +27,10 @@ pub enum Turn {
 }
 
 /// Posts an update of the store's catalogue in the session's slot. The session waits for no other answer.
-pub fn post(desk: &mut Desk, slot: usize, op: Op)
-    requires own { (k : SessionKnown) × IsAt slot k desk.old × (k.note.pending ≡ None) × IsAllowed store_meaning k.progress.catalogue op }
-    ensures posted { posted slot op desk.old ≡ Some desk.new }
-    ensures step { (k : SessionKnown) → IsAt slot k desk.old → IsAllowed store_meaning k.progress.catalogue op → PostSteps k op desk.old desk.new }
+pub fn post(desk: &mut Desk, slot: usize, op: &Op)
+    requires own { (k : SessionKnown) × IsAt slot k desk.old × (k.note.pending ≡ None) × IsAllowed store_meaning k.progress.catalogue op.now }
+    ensures posted { posted slot op.now desk.old ≡ Some desk.new }
+    ensures step { (k : SessionKnown) → IsAt slot k desk.old → IsAllowed store_meaning k.progress.catalogue op.now → PostSteps k op.now desk.old desk.new }
 {
     match desk.post(slot, op) {
         Ok(()) => {}

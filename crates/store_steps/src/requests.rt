@@ -37,22 +37,22 @@ pub fn try_post(here: Here<'_>, seat: &mut Seat<Value>, op: &Op) -> Option<()>
     else {
         return None;
     };
-    desks::post(held.value.desk_mut(), here.caller.slot, *op);
+    desks::post(held.value.desk_mut(), here.caller.slot, op);
     here.shared.shelf.put::<Brand>(seat, held);
     Some(())
 }
 
 /// The same, but waits while another session holds the desk.
-pub fn post<R: Wait>(rt: &R, here: Here<'_>, seat: &mut Seat<Value>, op: Op)
+pub fn post<R: Wait>(rt: &R, here: Here<'_>, seat: &mut Seat<Value>, op: &Op)
     requires own { seat.old.shelf ≡ here.shared.shelf.now.id }
     requires idle { AwaitsNothing seat.old here.caller here.shared }
-    requires update { is_operation Update here.shared.catalogue.now op ≡ true }
+    requires update { is_operation Update here.shared.catalogue.now op.now ≡ true }
     ensures same { seat.new.shelf ≡ seat.old.shelf }
-    ensures posted { SessionPosts seat.old seat.new op }
-    ensures goes { Relates seat.old seat.new (λ k after. PostsBy k after op) }
+    ensures posted { SessionPosts seat.old seat.new op.now }
+    ensures goes { Relates seat.old seat.new (λ k after. PostsBy k after op.now) }
 {
     for _ in rt.forever() {
-        if let Some(()) = try_post(here, seat, &op) {
+        if let Some(()) = try_post(here, seat, op) {
             return;
         }
         here.shared

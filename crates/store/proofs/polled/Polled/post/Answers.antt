@@ -35,8 +35,8 @@ invariant_of-self-2 c =
     let i = idle_at s.seat s.caller s.batch s.replies s.stage c.self.invariant.0 none in
     let own = subst (λ z. IsOf c.args.store.now z) (sym c.self.view_is) c.requires.own in
     let p = c.in-Some.ensures.posted i.known i.is in (
-      posted_at s.seat new s.caller i p.0 c.args.op p.1 p.2 c.args.store.now.config own.config c.shared-shared.ensures.config,
-      room_on s.seat new s.room (post_grown s.seat new s.caller i p.0 c.args.op p.1 p.2) c.self.invariant.1,
+      posted_at s.seat new s.caller i p.0 c.args.op.now p.1 p.2 c.args.store.now.config own.config c.shared-shared.ensures.config,
+      room_on s.seat new s.room (post_grown s.seat new s.caller i p.0 c.args.op.now p.1 p.2) c.self.invariant.1,
     )
 
 -- ---- the desk is held
@@ -71,7 +71,7 @@ returns-clause-own c =
     let none = ap (λ (z : SessionView). z.note.pending) c.self.view_is ∙ c.requires.idle in
     let i = idle_at s.seat s.caller s.batch s.replies s.stage c.self.invariant.0 none in
     let p = c.in-Some.ensures.posted i.known i.is in
-    own_on c.args.store.now c.args.self.now (session_view new) (subst (λ (z : SessionView). Extends z.progress (session_view new).progress) c.self.view_is (post_grown s.seat new s.caller i p.0 c.args.op p.1 p.2)) (c.try_post.ensures.same ∙ ap (λ (z : SessionView). z.shelf) c.self.view_is) c.requires.own
+    own_on c.args.store.now c.args.self.now (session_view new) (subst (λ (z : SessionView). Extends z.progress (session_view new).progress) c.self.view_is (post_grown s.seat new s.caller i p.0 c.args.op.now p.1 p.2)) (c.try_post.ensures.same ∙ ap (λ (z : SessionView). z.shelf) c.self.view_is) c.requires.own
 
 pub returns-clause-same : goal.returns-clause-same
 returns-clause-same c =
@@ -80,7 +80,7 @@ returns-clause-same c =
     let none = ap (λ (z : SessionView). z.note.pending) c.self.view_is ∙ c.requires.idle in
     let i = idle_at s.seat s.caller s.batch s.replies s.stage c.self.invariant.0 none in
     let p = c.in-Some.ensures.posted i.known i.is in
-    (c.try_post.ensures.same ∙ ap (λ (z : SessionView). z.shelf) c.self.view_is, post_session s.seat new s.caller i p.0 c.args.op p.1 p.2 ∙ ap (λ (z : SessionView). z.session) c.self.view_is)
+    (c.try_post.ensures.same ∙ ap (λ (z : SessionView). z.shelf) c.self.view_is, post_session s.seat new s.caller i p.0 c.args.op.now p.1 p.2 ∙ ap (λ (z : SessionView). z.session) c.self.view_is)
 
 pub returns-clause-grown : goal.returns-clause-grown
 returns-clause-grown c =
@@ -89,7 +89,7 @@ returns-clause-grown c =
     let none = ap (λ (z : SessionView). z.note.pending) c.self.view_is ∙ c.requires.idle in
     let i = idle_at s.seat s.caller s.batch s.replies s.stage c.self.invariant.0 none in
     let p = c.in-Some.ensures.posted i.known i.is in
-    subst (λ (z : SessionView). Extends z.progress (session_view new).progress) c.self.view_is (post_grown s.seat new s.caller i p.0 c.args.op p.1 p.2)
+    subst (λ (z : SessionView). Extends z.progress (session_view new).progress) c.self.view_is (post_grown s.seat new s.caller i p.0 c.args.op.now p.1 p.2)
 
 pub returns-clause-well_formed : goal.returns-clause-well_formed
 returns-clause-well_formed c =
@@ -98,7 +98,7 @@ returns-clause-well_formed c =
     let none = ap (λ (z : SessionView). z.note.pending) c.self.view_is ∙ c.requires.idle in
     let i = idle_at s.seat s.caller s.batch s.replies s.stage c.self.invariant.0 none in
     let p = c.in-Some.ensures.posted i.known i.is in
-    post_well s.seat new s.caller i p.0 c.args.op p.1 p.2
+    post_well s.seat new s.caller i p.0 c.args.op.now p.1 p.2
 
 pub returns-clause-posted : goal.returns-clause-posted
 returns-clause-posted c =
@@ -107,7 +107,7 @@ returns-clause-posted c =
     let none = ap (λ (z : SessionView). z.note.pending) c.self.view_is ∙ c.requires.idle in
     let i = idle_at s.seat s.caller s.batch s.replies s.stage c.self.invariant.0 none in
     let p = c.in-Some.ensures.posted i.known i.is in
-    subst (λ (z : SessionView). HasPostedFor z (session_view new) c.args.op) c.self.view_is (post_told s.seat new s.caller i p.0 c.args.op p.1 p.2)
+    subst (λ (z : SessionView). HasPostedFor z (session_view new) c.args.op.now) c.self.view_is (post_told s.seat new s.caller i p.0 c.args.op.now p.1 p.2)
 
 pub returns-clause-goes : goal.returns-clause-goes
 returns-clause-goes c =
@@ -115,4 +115,4 @@ returns-clause-goes c =
     let none = ap (λ (z : SessionView). z.note.pending) c.self.view_is ∙ c.requires.idle in
     let i = idle_at s.seat s.caller s.batch s.replies s.stage c.self.invariant.0 none in
     let p = c.in-Some.ensures.posted i.known i.is in
-    goes_seen (λ x y. PostsBy x y c.args.op) s.seat c.try_post.new.seat c.args.self.now i.known p.0 i.is i.free.held c.self.view_is p.1 p.2.back.held (c.in-Some.ensures.goes i.known p.0 i.is p.1)
+    goes_seen (λ x y. PostsBy x y c.args.op.now) s.seat c.try_post.new.seat c.args.self.now i.known p.0 i.is i.free.held c.self.view_is p.1 p.2.back.held (c.in-Some.ensures.goes i.known p.0 i.is p.1)

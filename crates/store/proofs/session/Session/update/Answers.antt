@@ -10,7 +10,7 @@ use Rattle.store.proofs.session.Session.update.Goals as goal
 pub invariant_of-self : goal.invariant_of-self
 invariant_of-self g c =
     let k = c.self.invariant.0.known in
-    let op = c.args.op in
+    let op = c.args.op.now in
     let p = c.post.ensures.posted k c.self.invariant.0.is in
     let was = sym c.self.view_is ∙ seen_as c.self.inside.seat k c.self.invariant.0.is in
     let config = ap (λ (z : SessionView). z.progress.config) (sym was) ∙ c.requires.own.config in
@@ -27,7 +27,7 @@ invariant_of-self g c =
 pub returns : goal.returns
 returns g c =
     let k = c.self.invariant.0.known in
-    let op = c.args.op in
+    let op = c.args.op.now in
     let p = c.post.ensures.posted k c.self.invariant.0.is in
     let was = sym c.self.view_is ∙ seen_as c.self.inside.seat k c.self.invariant.0.is in
     let config = ap (λ (z : SessionView). z.progress.config) (sym was) ∙ c.requires.own.config in
