@@ -17,13 +17,15 @@ use oplog::{Config, OpenError, Sizes};
 use ownlock::{Seat, Shelf};
 use std::alloc::{AllocError, Global};
 use std::marker::Model;
-use store_steps::{Setup, Shared, Value};
+use store_steps::{Setup, Shared, Value, records_worth};
 
 /// A log of updates, and a replica of the maps for each node. Sessions work on it from any number of threads.
 #[derive(Drop)]
 pub struct Store {
     shelf: Shelf<Value>,
     setup: Setup,
+    // What its sessions go by that choose between a copy of the maps and a replay.
+    worth: usize,
 }
 
 impl Model for Store {
@@ -182,7 +184,15 @@ impl Store {
             return Err(AllocError);
         };
         push_sessions(&shelf, seat, &setup, rooms, &mut sessions);
-        Ok((Store { shelf, setup }, sessions))
+        let worth = records_worth(&setup.catalogue);
+        Ok((
+            Store {
+                shelf,
+                setup,
+                worth,
+            },
+            sessions,
+        ))
     }
 
     /// Ends the store, and gives its log, its catalogue and each node's replica, once all its sessions are back.
@@ -200,7 +210,7 @@ impl Store {
             return Err((self, sessions));
         }
         let seat = self.join_seats(sessions);
-        let Store { shelf, setup } = self;
+        let Store { shelf, setup, .. } = self;
         let mut values = shelf.close(seat);
         values.truncate(1 + setup.config.nodes as usize);
         Ok(Closed::new(setup.catalogue, values))
@@ -239,6 +249,7 @@ impl Store {
             catalogue: &self.setup.catalogue,
             nodes: self.setup.config.nodes as usize,
             slots: self.setup.config.slots as usize,
+            worth: self.worth,
         }
     }
 

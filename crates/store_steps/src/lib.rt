@@ -21,5 +21,5 @@ pub use questions::{QuestionRefused, check_each, read_each_waiting, try_read_eac
 pub use requests::{complete, post, try_post};
 pub use scanning::{Beginning, Scan, ScanRefused, check_scan, scan_waiting, try_scan};
 pub use snapshots::{snapshot_waiting, try_snapshot};
-pub use steps::{Caller, Here, Question, Shared, query, try_query};
+pub use steps::{Caller, Here, Question, Shared, query, records_worth, try_query};
 pub use values::{Setup, Value, shelved_log, shelved_replica};

@@ -44,6 +44,8 @@ pub struct Shared<'a> {
     pub nodes: usize,
     /// How many slots each has.
     pub slots: usize,
+    /// In about the time in which its maps are copied, so many records are copied once more and applied ([`records_worth`]).
+    pub worth: usize,
 }
 
 /// A slot of a node: the session that works there.
@@ -146,7 +148,7 @@ fn is_base_due(log: &LogState, node: &NodeReplica, shared: Shared<'_>, want: usi
         return true;
     }
     frees_room(log, node, want)
-        && is_exchange_cheaper(log, shared.catalogue)
+        && is_exchange_cheaper(log, shared.worth)
         && is_last(log, node, shared)
 }
 
@@ -180,22 +182,27 @@ fn bytes_of(shape: Shape) -> usize {
     each.saturating_mul(shape.entry_count())
 }
 
-// Whether it costs less to apply a window of records once more than to copy the maps.
-fn is_exchange_cheaper(log: &LogState, catalogue: &Catalogue) -> bool {
+/// How many records are copied once more and applied in about the time in which the maps of the catalogue are copied.
+pub fn records_worth(catalogue: &Catalogue) -> usize {
     let mut bytes = 0usize;
     for shape in catalogue.shapes() {
         bytes = bytes.saturating_add(bytes_of(*shape));
     }
+    bytes / BYTES_A_RECORD
+}
+
+// Whether it costs less to apply a window of records once more than to copy the maps, which are worth so many records.
+fn is_exchange_cheaper(log: &LogState, worth: usize) -> bool {
     let window = log
         .room()
         .saturating_add((log.tail() - log.base()) as usize);
-    window < bytes / BYTES_A_RECORD
+    window < worth
 }
 
 // Makes the replica, all of which is completed, the log's base: where the maps are small by a copy of them, else the replica and the base
 // change places. The hand gets the records that the replica has then to apply to be what it was, which are counted, and those that it
 // lacked before.
-fn bring_base(log: &mut LogState, node: &mut NodeReplica, catalogue: &Catalogue) -> usize
+fn bring_base(log: &mut LogState, node: &mut NodeReplica, worth: usize) -> usize
     requires above { log.old.base < node.old.replica.tail }
     requires fits { Fits log.old node.old }
     requires sizes { sizes_of node.old.replica.state ≡ sizes_of log.old.base_state }
@@ -204,7 +211,7 @@ fn bring_base(log: &mut LogState, node: &mut NodeReplica, catalogue: &Catalogue)
     ensures exchanged { 0 < result → (node.new ≡ exchanged log.old node.old) × (result ≡ node.old.replica.tail - log.old.base) }
     ensures within { tail_of log.new ≤ ENDLESS }
 {
-    if is_exchange_cheaper(log, catalogue) {
+    if is_exchange_cheaper(log, worth) {
         let dropped = (node.replica.tail() - log.base()) as usize;
         exchange(log, node);
         let _tail = log.tail();
@@ -236,13 +243,14 @@ fn make_room(
     let Shared {
         shelf,
         catalogue,
+        worth,
         ..
     } = shared;
     rebase_if_behind(log, node);
     if is_base_due(log, node, shared, want) {
         come_up(log, node, catalogue, want);
         raise_to(shelf, seat, node.replica.tail());
-        bring_base(log, node, catalogue)
+        bring_base(log, node, worth)
     } else {
         copy(log, node);
         0
