@@ -155,12 +155,14 @@ module _ (k t m f : K) (g h h2 : LogView) (n v v2 : NodeReplica) (rs : History) 
 
   pub appends_by : (b : BatchView) → b.records ≡ rs → AppendsBy k f b n v2 kept
   appends_by b same = record {
-    from = t.progress;
-    since = took;
-    log = g;
-    back = h2;
-    log_is = log_is;
-    back_is = back_is;
+    logs = record {
+      from = t.progress;
+      since = took;
+      log = g;
+      back = h2;
+      log_is = log_is;
+      back_is = back_is;
+    };
     low = room.low;
     full = room.full;
     next = room.next;
@@ -228,16 +230,20 @@ module _ (node : ℕ) (k t a r f : K) (b : BatchView) (n v m : NodeReplica) (old
 
   pub answers_by : AnswersBy node k f b new
   answers_by = record {
-    from = first.from;
-    since = store_laws.extends_on k.progress t.progress first.from took first.since;
-    log = first.log;
-    back = later f.progress then.log;
-    log_is = first.log_is;
-    back_is = later_is r.progress f.progress then.log then.log_is back low_f;
-    own = n;
-    left = m;
-    own_is = agrees_on t.progress first.from n first.since (let tail = found.0.tail in let low = stands.accounts.completed in omega (arith, tail, low)) found;
-    left_is = agrees_on r.progress f.progress m back within agrees;
+    ends = record {
+      logs = record {
+        from = first.from;
+        since = store_laws.extends_on k.progress t.progress first.from took first.since;
+        log = first.log;
+        back = later f.progress then.log;
+        log_is = first.log_is;
+        back_is = later_is r.progress f.progress then.log then.log_is back low_f;
+      };
+      own = n;
+      left = m;
+      own_is = agrees_on t.progress first.from n first.since (let tail = found.0.tail in let low = stands.accounts.completed in omega (arith, tail, low)) found;
+      left_is = agrees_on r.progress f.progress m back within agrees;
+    };
     low = first.low;
     full = first.full;
     next = first.next;
@@ -276,16 +282,20 @@ module _ (node : ℕ) (k f z : K) (b : BatchView) (kept : RepliesView) (first : 
   pub combines_by : (answered : BatchView) → answered ≡ answered_batch kept b → k.note.batch ≡ unplaced b.records → f.session ≡ k.session → CombinesBy k z b answered
   combines_by answered answers noted same = record {
     noted = noted;
-    from = first.from;
-    since = first.since;
-    log = first.log;
-    back = last.log;
-    log_is = first.log_is;
-    back_is = last.log_is;
-    own = first.own;
-    left = first.left;
-    own_is = first.own_is;
-    left_is = agrees_on f.progress z.progress first.left end within_f first.left_is;
+    ends = record {
+      logs = record {
+        from = first.from;
+        since = first.since;
+        log = first.log;
+        back = last.log;
+        log_is = first.log_is;
+        back_is = last.log_is;
+      };
+      own = first.own;
+      left = first.left;
+      own_is = first.own_is;
+      left_is = agrees_on f.progress z.progress first.left end within_f first.left_is;
+    };
     kept = kept;
     answers = answers;
     desk = last.desk;
@@ -312,12 +322,14 @@ module _ (node : ℕ) (k f z : K) (b : BatchView) (kept : RepliesView) (first : 
 -- a replica that is ready follows nothing
 pub follows_none : (k : K) (n : NodeReplica) → Agrees k.progress n → Stands k → FollowsBy k k n n
 follows_none k n a stands = record {
-  from = k.progress;
-  since = store_laws.extends_self k.progress;
-  log = log_from k.progress n;
-  back = log_from k.progress n;
-  log_is = log_from_is k.progress n stands.accounts.completed a;
-  back_is = log_from_is k.progress n stands.accounts.completed a;
+  logs = record {
+    from = k.progress;
+    since = store_laws.extends_self k.progress;
+    log = log_from k.progress n;
+    back = log_from k.progress n;
+    log_is = log_from_is k.progress n stands.accounts.completed a;
+    back_is = log_from_is k.progress n stands.accounts.completed a;
+  };
   low = false;
   next = false;
   later = false;
@@ -338,12 +350,14 @@ module _ (k t f after : K) (g : LogView) (n u m : NodeReplica) (took : Extends k
 
   pub follows_by : FollowsBy k after n m
   follows_by = record {
-    from = t.progress;
-    since = took;
-    log = g;
-    back = later after.progress g;
-    log_is = is;
-    back_is = raised_log t.progress f after g m is on up;
+    logs = record {
+      from = t.progress;
+      since = took;
+      log = g;
+      back = later after.progress g;
+      log_is = is;
+      back_is = raised_log t.progress f after g m is on up;
+    };
     low = may_rebase g n;
     next = has_next g u;
     later = nat_lt up.before.completed m.replica.tail;
@@ -384,17 +398,21 @@ module _ (k t r f : K) (p : L) (done : ℕ) (n m : NodeReplica) (point : ℕ) (g
           seen = done;
           more = [];
           read = read;
-          from = first.from;
-          since = store_laws.extends_on k.progress t.progress first.from (store_laws.extends_on k.progress p t.progress grown took) first.since;
+          ends = record {
+            logs = record {
+              from = first.from;
+              since = store_laws.extends_on k.progress t.progress first.from (store_laws.extends_on k.progress p t.progress grown took) first.since;
+              log = first.log;
+              back = later f.progress first.back;
+              log_is = first.log_is;
+              back_is = later_is r.progress f.progress first.back first.back_is back stands_f.accounts.completed;
+            };
+            own = n;
+            left = m;
+            own_is = agrees_on t.progress first.from n first.since (let tail = found.0.tail in let low = stands.accounts.completed in omega (arith, tail, low)) found;
+            left_is = agrees_on r.progress f.progress m back within agrees;
+          };
           begun = omega (arith, done_is, rise_t, rise_s);
-          log = first.log;
-          back = later f.progress first.back;
-          log_is = first.log_is;
-          back_is = later_is r.progress f.progress first.back first.back_is back stands_f.accounts.completed;
-          own = n;
-          left = m;
-          own_is = agrees_on t.progress first.from n first.since (let tail = found.0.tail in let low = stands.accounts.completed in omega (arith, tail, low)) found;
-          left_is = agrees_on r.progress f.progress m back within agrees;
           low = first.low;
           next = first.next;
           later = first.later;

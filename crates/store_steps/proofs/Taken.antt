@@ -5,7 +5,7 @@ use Rattle.std.proofs.lemmas.Option.{none-some, same_Some}
 use Rattle.loader.specs.StoreState.{StoreState}
 use Rattle.ownlock.specs.declared.known.ShelfStep.TheVariants.{Took}
 use Rattle.ownlock.specs.Rules.{leader}
-use Rattle.ownlock.specs.Seats.{At, place_of}
+use Rattle.ownlock.specs.Seats.{At, IsSession, place_of}
 use Rattle.ownlock.specs.Knowledge.{Acquired, MayTake}
 use Rattle.loader.specs.CatalogueView.{CatalogueView}
 use Rattle.oplog.specs.declared.configuration.Sizes.{Sizes}
@@ -17,6 +17,7 @@ use Rattle.accounts.specs.Values.{LogValue, ReplicaValue, StoreValue, TheLog, Th
 use Rattle.accounts.specs.Accounts.{Accounts, Extends, IsWellFormed}
 use Rattle.accounts.specs.Agreement.{LogAgrees, ReplicaAgrees}
 use Rattle.accounts.specs.Moves.{HoldsBoth}
+use Rattle.ownlock.proofs.Seats.{one_known}
 use Rattle.accounts.proofs.Putting.{may_take_first, takes_log, takes_its_replica}
 use Rattle.accounts.proofs.Tellings.{tail_is}
 use Rattle.accounts.proofs.Lists.{at_none}
@@ -26,7 +27,8 @@ use Rattle.store_steps.specs.declared.values.Value.TheVariants.{Log, Replica, De
 use Rattle.store_steps.specs.Shelving.{view_of, IsSized, store_rules, log_value}
 use Rattle.node.specs.declared.following.NodeReplica.{NodeReplica}
 use Rattle.store_steps.specs.Lending.{log_of, replica_of}
-use Rattle.store_steps.specs.Standing.{SessionKnown, Stands, Agrees, Follows, IsLogOf, HoldsReplica, HoldsLog, IsFree, IsOnShelf}
+use Rattle.store_steps.specs.Knowing.{HasReplica, Knows}
+use Rattle.store_steps.specs.Standing.{SessionKnown, StoreSeat, Stands, Agrees, Follows, IsLogOf, HoldsReplica, HoldsLog, IsFree, IsOnShelf}
 use Rattle.store_steps.proofs.Followed.{follows_on}
 use Rattle.store_steps.proofs.Parts.{has_log, has_replica}
 use Rattle.store_steps.proofs.StoreLaws.{session_laws}
@@ -38,6 +40,10 @@ K = SessionKnown
 
 abbrev L : Type 0
 L = Progress CatalogueView
+
+-- what is known of a seat holds of its one session
+pub known_as : (s : StoreSeat) (P : K → Type 0) → Knows s P → (k : K) → IsSession s k → P k
+known_as s P i k is = subst P (one_known s i.0 k i.1 is) i.2
 
 -- ---- the parts of values that agree
 
@@ -137,8 +143,9 @@ pub record TookLog (k t : K) (n : NodeReplica) (x : Value) : Type 0 where
   pub stands : Stands t
   pub well : IsWellFormed store_meaning t.progress
 
-pub took_log : (k t : K) (n : NodeReplica) (x : Value) → Follows k.progress n → Acquired store_rules leader k t x → TookLog k t n x
-took_log k t n x follows won =
+pub took_log : (k t : K) (n : NodeReplica) (x : Value) (c : CatalogueView) → HasReplica k n c → Acquired store_rules leader k t x → TookLog k t n x
+took_log k t n x c has won =
+    let follows = follows_agreed k.progress n (well_formed k.progress has.stands.notes has.stands.accounts) has.agrees in
     let taken = takes_log session_laws view_of IsSized k t x won in
     let i = taken.0 in
     let well = well_formed t.progress i.notes i.accounts in

@@ -27,7 +27,7 @@ use Rattle.store_steps.specs.Shelving.{store_rules}
 use Rattle.store_steps.specs.Standing.{Agrees, SessionKnown, Stands}
 use Rattle.store_steps.specs.Trying.{BeginsBelow, IsStill}
 use Rattle.store_steps.specs.Looking.{EachReadsBy, ScansBy}
-use Rattle.store_steps.specs.Whole.{AnswersBy, LooksBy, ReadsBy, answer_deeds, look_deeds}
+use Rattle.store_steps.specs.Whole.{AnswersBy, BetweenReplicas, LooksBy, ReadsBy, answer_deeds, look_deeds}
 use Rattle.store_steps.specs.Doing.{AReplica, Did, Nothing, Part, PutsBack, Reads}
 use Rattle.store_steps.specs.Lending.{replica_of, with_replica}
 use Rattle.store_steps.proofs.Doing.{did_both, did_none, did_one, did_then, nothing_on, replica_part, with_replica_part}
@@ -132,18 +132,19 @@ answered_since k m f b kept s a = record {
   stands = a.stands;
 }
 
+-- what it found and left is the same then
+abbrev ends_since : (k m f : K) → IsStill k m → BetweenReplicas m f → BetweenReplicas k f
+ends_since k m f s e = record {
+  logs = record { from = e.from; since = store_laws.extends_on k.progress m.progress e.from s.extends e.since; log = e.log; back = e.back; log_is = e.log_is; back_is = e.back_is };
+  own = e.own;
+  left = e.left;
+  own_is = e.own_is;
+  left_is = e.left_is;
+}
+
 pub answers_since : (node : ℕ) (k m f : K) (b : BatchView) (kept : RepliesView) → IsStill k m → AnswersBy node m f b kept → AnswersBy node k f b kept
 answers_since node k m f b kept s a = record {
-  from = a.from;
-  since = store_laws.extends_on k.progress m.progress a.from s.extends a.since;
-  log = a.log;
-  back = a.back;
-  log_is = a.log_is;
-  back_is = a.back_is;
-  own = a.own;
-  left = a.left;
-  own_is = a.own_is;
-  left_is = a.left_is;
+  ends = ends_since k m f s a.ends;
   low = a.low;
   full = a.full;
   next = a.next;
@@ -246,17 +247,8 @@ module _ (k m f : K) (s : IsStill k m) where
           seen = first_read s.more r.seen;
           more = later_reads s.more r.seen r.more;
           read = reads k m f s r.seen r.more r.read;
-          from = r.from;
-          since = store_laws.extends_on k.progress m.progress r.from s.extends r.since;
+          ends = ends_since k m f s r.ends;
           begun = first_below s.more r.seen m.progress.completed r.from.completed s.below r.since.completed r.begun;
-          log = r.log;
-          back = r.back;
-          log_is = r.log_is;
-          back_is = r.back_is;
-          own = r.own;
-          left = r.left;
-          own_is = r.own_is;
-          left_is = r.left_is;
           low = r.low;
           next = r.next;
           later = r.later;

@@ -85,6 +85,26 @@ follow_deeds false g m = []
 abbrev pub look_deeds : ℕ → (lacks : Bool) → LogView → (n m : NodeReplica) → List (ShelfStep Part)
 look_deeds place lacks g n m = Took place (AReplica n) ∷ (follow_deeds lacks g m ++ Put place (AReplica m) ∷ [])
 
+-- ---- what a session found, and what it left
+
+-- the log as it found it, by a progress that has grown from what it knew, and as it is by what the session knows then
+pub record BetweenLogs (k after : SessionKnown) : Type 0 where
+  pub from : Progress CatalogueView
+  pub since : Extends k.progress from
+  pub log : LogView
+  pub back : LogView
+  pub log_is : IsLogOf from log
+  pub back_is : IsLogOf after.progress back
+
+-- the same, and the replica of its node
+pub record BetweenReplicas (k after : SessionKnown) : Type 0 where
+  pub logs : BetweenLogs k after
+  pub open logs use *
+  pub own : NodeReplica
+  pub left : NodeReplica
+  pub own_is : Agrees from own
+  pub left_is : Agrees after.progress left
+
 -- ---- what the inner calls do, of which the session k is after then
 
 -- while it holds the log, the session has made room: g and n are h and m now
@@ -99,12 +119,8 @@ pub record MakesRoom (k after : SessionKnown) (g h : LogView) (n m : NodeReplica
 
 -- it has taken the log, appended the batch, and put the log back
 pub record AppendsBy (k after : SessionKnown) (b : BatchView) (n m : NodeReplica) (kept : RepliesView) : Type 0 where
-  pub from : Progress CatalogueView
-  pub since : Extends k.progress from
-  pub log : LogView
-  pub back : LogView
-  pub log_is : IsLogOf from log
-  pub back_is : IsLogOf after.progress back
+  pub logs : BetweenLogs k after
+  pub open logs use *
   pub low : Bool
   pub full : Bool
   pub next : Bool
@@ -151,12 +167,8 @@ HandsOverAnywhere node k after b kept = (g : LogView) (n : NodeReplica) → IsLo
 
 -- it has brought the replica up to the log, if that lacked something
 pub record FollowsBy (k after : SessionKnown) (n m : NodeReplica) : Type 0 where
-  pub from : Progress CatalogueView
-  pub since : Extends k.progress from
-  pub log : LogView
-  pub back : LogView
-  pub log_is : IsLogOf from log
-  pub back_is : IsLogOf after.progress back
+  pub logs : BetweenLogs k after
+  pub open logs use *
   pub low : Bool
   pub next : Bool
   pub later : Bool
@@ -169,16 +181,8 @@ pub record FollowsBy (k after : SessionKnown) (n m : NodeReplica) : Type 0 where
 -- a combine as far as its answers, with the replica of this node: the batch b is appended, and replayed and completed, and the replica that
 -- did it is put back
 pub record AnswersBy (node : ℕ) (k after : SessionKnown) (b : BatchView) (kept : RepliesView) : Type 0 where
-  pub from : Progress CatalogueView
-  pub since : Extends k.progress from
-  pub log : LogView
-  pub back : LogView
-  pub log_is : IsLogOf from log
-  pub back_is : IsLogOf after.progress back
-  pub own : NodeReplica
-  pub left : NodeReplica
-  pub own_is : Agrees from own
-  pub left_is : Agrees after.progress left
+  pub ends : BetweenReplicas k after
+  pub open ends use *
   pub low : Bool
   pub full : Bool
   pub next : Bool
@@ -198,16 +202,8 @@ pub record AnswersBy (node : ℕ) (k after : SessionKnown) (b : BatchView) (kept
 -- them, to its answers at the desk of the session's own node, as it took that, where just these requests are claimed
 pub record CombinesBy (k after : SessionKnown) (b answered : BatchView) : Type 0 where
   pub noted : k.note.batch ≡ unplaced b.records
-  pub from : Progress CatalogueView
-  pub since : Extends k.progress from
-  pub log : LogView
-  pub back : LogView
-  pub log_is : IsLogOf from log
-  pub back_is : IsLogOf after.progress back
-  pub own : NodeReplica
-  pub left : NodeReplica
-  pub own_is : Agrees from own
-  pub left_is : Agrees after.progress left
+  pub ends : BetweenReplicas k after
+  pub open ends use *
   pub kept : RepliesView
   pub answers : answered ≡ answered_batch kept b
   pub desk : DeskView
@@ -237,17 +233,9 @@ pub record LooksBy (k after : SessionKnown) (point : ℕ) : Type 0 where
   pub seen : ℕ
   pub more : List ℕ
   pub read : tails_in after.steps ≡ tails_in k.steps ++ seen ∷ more
-  pub from : Progress CatalogueView
-  pub since : Extends k.progress from
+  pub ends : BetweenReplicas k after
+  pub open ends use *
   pub begun : seen ≤ from.completed
-  pub log : LogView
-  pub back : LogView
-  pub log_is : IsLogOf from log
-  pub back_is : IsLogOf after.progress back
-  pub own : NodeReplica
-  pub left : NodeReplica
-  pub own_is : Agrees from own
-  pub left_is : Agrees after.progress left
   pub low : Bool
   pub next : Bool
   pub later : Bool

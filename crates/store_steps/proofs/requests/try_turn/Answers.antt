@@ -77,8 +77,7 @@ returns-clause-goes c k after is now =
     let e = one_known c.args.seat.now i.0 k i.2 is in
     let free = subst (λ z. IsFree c.args.here.caller z) e i.3 in
     let on = subst (λ z. IsOnShelf c.args.here.shared.shelf.now.places c.args.here.shared.nodes c.args.here.shared.catalogue.now z) e i.5 in
-    let v = c.in-Some.held.value in
-    let place = 1 + c.args.here.shared.nodes + c.args.here.caller.node in
+    let v = c.in-Some.held.value in let place = 1 + c.args.here.shared.nodes + c.args.here.caller.node in
     let there = ap (λ n. 1 + n + c.args.here.caller.node) (sym on.nodes_are) in
     let t = c.in-Some.ensures.taken k is in
     let b = took_desk k t.0 c.args.here.caller place v free there t.1 in

@@ -2,11 +2,11 @@ use Rattle.std.proofs.Common.{◌≡◌, ap, length, refl, take, sym, subst, ◌
 use Rattle.std.proofs.lemmas.List.{length-replicate}
 use Rattle.ownlock.proofs.Seats.{one_known}
 use Rattle.accounts.specs.Moves.{unplaced}
-use Rattle.store_steps.specs.Standing.{Agrees, Stands}
+use Rattle.store_steps.specs.Knowing.{HasReplica}
 use Rattle.node.specs.Following.{copied, room_for}
 use Rattle.store_steps.specs.Rooms.{caught_up}
 use Rattle.store_steps.specs.Whole.{AppendsBy}
-use Rattle.store_steps.proofs.Taken.{may_take_log, took_log, holds_log, follows_agreed, well_formed}
+use Rattle.store_steps.proofs.Taken.{holds_log, known_as, may_take_log, took_log}
 use Rattle.store_steps.proofs.Appended.{may, put_appended, back_appended, back_log}
 use Rattle.store_steps.proofs.Exchanged.{as_copied, has_room}
 use Rattle.store_steps.proofs.Stretches.{appends_by}
@@ -19,20 +19,16 @@ try_take-requires-clause-may c =
 
 pub log_mut-log-requires : goal.log_mut-log-requires
 log_mut-log-requires c =
-    let i = c.requires.holds in
-    let n = c.args.node.now in
-    let x = c.in-Some.held.value in
+    let i = c.requires.holds in let n = c.args.node.now in let x = c.in-Some.held.value in
     let t = c.in-Some.ensures.taken i.0 i.1 in
-    let b = took_log i.0 t.0 n x (follows_agreed i.0.progress n (well_formed i.0.progress i.2.0.stands.notes i.2.0.stands.accounts) i.2.0.agrees) t.1 in
+    let b = took_log i.0 t.0 n x c.args.shared.catalogue.now i.2.0 t.1 in
     record { log = b.some }
 
 pub make_room-owed-requires-clause-holds : goal.make_room-owed-requires-clause-holds
 make_room-owed-requires-clause-holds c =
-    let i = c.requires.holds in
-    let n = c.args.node.now in
-    let x = c.in-Some.held.value in
+    let i = c.requires.holds in let n = c.args.node.now in let x = c.in-Some.held.value in
     let t = c.in-Some.ensures.taken i.0 i.1 in
-    let b = took_log i.0 t.0 n x (follows_agreed i.0.progress n (well_formed i.0.progress i.2.0.stands.notes i.2.0.stands.accounts) i.2.0.agrees) t.1 in
+    let b = took_log i.0 t.0 n x c.args.shared.catalogue.now i.2.0 t.1 in
     (t.0, t.2, record { holds = holds_log i.0 t.0 n x b; log = b.log c.log_mut-log.result.now c.log_mut-log.ensures.log; follows = b.follows; well = b.well; catalogue = sym b.extends.catalogue ∙ i.2.0.catalogue })
 
 pub append_only-requires-clause-room : goal.append_only-requires-clause-room
@@ -44,15 +40,10 @@ append_only-requires-clause-room c =
 
 pub put-requires-clause-may : goal.put-requires-clause-may
 put-requires-clause-may c =
-    let i = c.requires.holds in
-    let n = c.args.node.now in
-    let x = c.in-Some.held.value in
+    let i = c.requires.holds in let n = c.args.node.now in let x = c.in-Some.held.value in
     let t = c.in-Some.ensures.taken i.0 i.1 in
-    let b = took_log i.0 t.0 n x (follows_agreed i.0.progress n (well_formed i.0.progress i.2.0.stands.notes i.2.0.stands.accounts) i.2.0.agrees) t.1 in
-    let o = c.make_room-owed in
-    let h = o.new.log in
-    let v = caught_up c.args.shared.catalogue.now o.result o.new.node in
-    let a = c.append_only.ensures in
+    let b = took_log i.0 t.0 n x c.args.shared.catalogue.now i.2.0 t.1 in
+    let o = c.make_room-owed in let h = o.new.log in let v = caught_up c.args.shared.catalogue.now o.result o.new.node in let a = c.append_only.ensures in
     let m = o.ensures.room t.0 t.2 in (
       m.0,
       m.1,
@@ -68,61 +59,37 @@ come_back-requires-clause-owed c = c.make_room-owed.ensures.owes.within
 
 pub come_back-requires-clause-room : goal.come_back-requires-clause-room
 come_back-requires-clause-room c =
-    let o = c.make_room-owed in
-    let h = o.new.log in
-    let v = caught_up c.args.shared.catalogue.now o.result o.new.node in
-    let a = c.append_only.ensures in
+    let o = c.make_room-owed in let h = o.new.log in let v = caught_up c.args.shared.catalogue.now o.result o.new.node in let a = c.append_only.ensures in
     let count : length c.append_only.new.replies.outcomes ≡ room_for c.args.records.now h = ap (λ z. length z.outcomes) a.replies ∙ length-replicate (room_for c.args.records.now h) _ in
     has_room c.args.shared.catalogue.now h c.append_only.new.log o.new.node o.new.node o.result c.args.records.now _ o.ensures.owes a.log (ap (λ z. take z c.args.records.now) (c.len.ensures.count ∙ count)) a.kept
 
 pub returns-clause-appended : goal.returns-clause-appended
 returns-clause-appended c k is =
-    let i = c.requires.holds in
-    let n = c.args.node.now in
-    let x = c.in-Some.held.value in
-    let e = one_known c.args.seat.now i.0 k i.1 is in
-    let agrees = subst (λ z. Agrees z.progress n) e i.2.0.agrees in
-    let stands = subst (λ z. Stands z) e i.2.0.stands in
-    let noted = subst (λ z. z.note.batch ≡ unplaced c.args.records.now) e i.2.1 in
-    let t = c.in-Some.ensures.taken k is in
-    let b = took_log k t.0 n x (follows_agreed k.progress n (well_formed k.progress stands.notes stands.accounts) agrees) t.1 in
-    let o = c.make_room-owed in
-    let h = o.new.log in
-    let v = caught_up c.args.shared.catalogue.now o.result o.new.node in
-    let a = c.append_only.ensures in
+    let n = c.args.node.now in let x = c.in-Some.held.value in
+    let has = known_as c.args.seat.now (λ z. HasReplica z n c.args.shared.catalogue.now × (z.note.batch ≡ unplaced c.args.records.now)) c.requires.holds k is in
+    let t = c.in-Some.ensures.taken k is in let b = took_log k t.0 n x c.args.shared.catalogue.now has.0 t.1 in
+    let o = c.make_room-owed in let h = o.new.log in let v = caught_up c.args.shared.catalogue.now o.result o.new.node in let a = c.append_only.ensures in
     let count : length c.append_only.new.replies.outcomes ≡ room_for c.args.records.now h = ap (λ z. length z.outcomes) a.replies ∙ length-replicate (room_for c.args.records.now h) _ in
-    let m = o.ensures.room t.0 t.2 in
-    let p = c.put.ensures.put m.0 m.1 in
+    let m = o.ensures.room t.0 t.2 in let p = c.put.ensures.put m.0 m.1 in
     let back = as_copied c.args.shared.catalogue.now h c.append_only.new.log o.new.node c.come_back.new.node o.result c.args.records.now _ o.ensures.owes a.log (ap (λ z. take z c.args.records.now) (c.len.ensures.count ∙ count)) c.come_back.ensures.node in (
       _,
       p.2,
-      back_appended k t.0 m.0 n c.log_mut-log.result.now h v c.come_back.new.node c.args.records.now c.append_only.new.replies noted o.new.seat.sessions m.1 x c.log_mut-log.ensures.log b m.2 c.append_only.new.log
+      back_appended k t.0 m.0 n c.log_mut-log.result.now h v c.come_back.new.node c.args.records.now c.append_only.new.replies has.1 o.new.seat.sessions m.1 x c.log_mut-log.ensures.log b m.2 c.append_only.new.log
           (a.log, back, a.replies, a.within) _ c.in-Some.ensures.place p.0 p.1.0 p.1.1,
     )
 
 pub returns-clause-goes : goal.returns-clause-goes
 returns-clause-goes c k after is now batch same =
-    let i = c.requires.holds in
-    let n = c.args.node.now in
-    let x = c.in-Some.held.value in
-    let f = c.log_mut-log.result.now in
-    let e = one_known c.args.seat.now i.0 k i.1 is in
-    let agrees = subst (λ z. Agrees z.progress n) e i.2.0.agrees in
-    let stands = subst (λ z. Stands z) e i.2.0.stands in
-    let noted = subst (λ z. z.note.batch ≡ unplaced c.args.records.now) e i.2.1 in
-    let t = c.in-Some.ensures.taken k is in
-    let b = took_log k t.0 n x (follows_agreed k.progress n (well_formed k.progress stands.notes stands.accounts) agrees) t.1 in
-    let o = c.make_room-owed in
-    let h = o.new.log in
-    let v = caught_up c.args.shared.catalogue.now o.result o.new.node in
-    let a = c.append_only.ensures in
+    let n = c.args.node.now in let x = c.in-Some.held.value in let f = c.log_mut-log.result.now in
+    let has = known_as c.args.seat.now (λ z. HasReplica z n c.args.shared.catalogue.now × (z.note.batch ≡ unplaced c.args.records.now)) c.requires.holds k is in
+    let t = c.in-Some.ensures.taken k is in let b = took_log k t.0 n x c.args.shared.catalogue.now has.0 t.1 in
+    let o = c.make_room-owed in let h = o.new.log in let v = caught_up c.args.shared.catalogue.now o.result o.new.node in let a = c.append_only.ensures in
     let count : length c.append_only.new.replies.outcomes ≡ room_for c.args.records.now h = ap (λ z. length z.outcomes) a.replies ∙ length-replicate (room_for c.args.records.now h) _ in
-    let m = o.ensures.room t.0 t.2 in
-    let p = c.put.ensures.put m.0 m.1 in
+    let m = o.ensures.room t.0 t.2 in let p = c.put.ensures.put m.0 m.1 in
     let there = as_copied c.args.shared.catalogue.now h c.append_only.new.log o.new.node c.come_back.new.node o.result c.args.records.now _ o.ensures.owes a.log (ap (λ z. take z c.args.records.now) (c.len.ensures.count ∙ count)) c.come_back.ensures.node in
-    let done = back_appended k t.0 m.0 n f h v c.come_back.new.node c.args.records.now c.append_only.new.replies noted o.new.seat.sessions m.1 x c.log_mut-log.ensures.log b m.2 c.append_only.new.log
+    let done = back_appended k t.0 m.0 n f h v c.come_back.new.node c.args.records.now c.append_only.new.replies has.1 o.new.seat.sessions m.1 x c.log_mut-log.ensures.log b m.2 c.append_only.new.log
     (a.log, there, a.replies, a.within) _ c.in-Some.ensures.place p.0 p.1.0 p.1.1 in
-    let back = back_log k t.0 m.0 n f h v c.come_back.new.node c.args.records.now c.append_only.new.replies noted o.new.seat.sessions m.1 x c.log_mut-log.ensures.log b m.2 c.append_only.new.log
+    let back = back_log k t.0 m.0 n f h v c.come_back.new.node c.args.records.now c.append_only.new.replies has.1 o.new.seat.sessions m.1 x c.log_mut-log.ensures.log b m.2 c.append_only.new.log
     (a.log, there, a.replies, a.within) _ c.in-Some.ensures.place p.0 p.1.0 p.1.1 in
     let room = o.ensures.goes t.0 m.0 t.2 m.1 in
     subst (λ z. AppendsBy k z batch n c.come_back.new.node c.append_only.new.replies) (one_known c.put.new.seat _ after p.2 now)

@@ -4,9 +4,9 @@ use Rattle.ownlock.proofs.Seats.{one_known}
 use Rattle.node.specs.Following.{replayed, copied}
 use Rattle.replica.specs.StoreMeaning.{AreUpdates}
 use Rattle.oplog.specs.Logs.{records_from}
-use Rattle.store_steps.specs.Standing.{Agrees, Stands}
+use Rattle.store_steps.specs.Knowing.{HasReplica}
 use Rattle.store_steps.specs.Whole.{FollowsBy}
-use Rattle.store_steps.proofs.Taken.{may_take_log, took_log, follows_agreed, well_formed}
+use Rattle.store_steps.proofs.Taken.{known_as, may_take_log, took_log}
 use Rattle.store_steps.proofs.Followed.{above, fits, kept_up, updates}
 use Rattle.store_steps.proofs.Played.{followed_all, raised_as}
 use Rattle.store_steps.proofs.Finished.{log_catalogue, same_put, same_back, long_enough, followed}
@@ -21,116 +21,66 @@ try_take-requires-clause-may c =
 pub log-log-requires : goal.log-log-requires
 log-log-requires c =
     let i = c.requires.holds in
-    let n = c.args.node.now in
-    let x = c.in-Some.held.value in
     let t = c.in-Some.ensures.taken i.0 i.1 in
-    let b = took_log i.0 t.0 n x (follows_agreed i.0.progress n (well_formed i.0.progress i.2.stands.notes i.2.stands.accounts) i.2.agrees) t.1 in
+    let b = took_log i.0 t.0 c.args.node.now c.in-Some.held.value c.args.catalogue.now i.2 t.1 in
     record { log = b.some }
 
 pub rebase_if_behind-requires : goal.rebase_if_behind-requires
 rebase_if_behind-requires c =
     let i = c.requires.holds in
-    let n = c.args.node.now in
-    let x = c.in-Some.held.value in
     let t = c.in-Some.ensures.taken i.0 i.1 in
-    let b = took_log i.0 t.0 n x (follows_agreed i.0.progress n (well_formed i.0.progress i.2.stands.notes i.2.stands.accounts) i.2.agrees) t.1 in
+    let b = took_log i.0 t.0 c.args.node.now c.in-Some.held.value c.args.catalogue.now i.2 t.1 in
     let is = b.log c.log-log.result.now c.log-log.ensures.log in
     record { sizes = is.sizes.2 ∙ sym b.follows.sizes }
 
-pub follow-requires-clause-above : goal.follow-requires-clause-above
-follow-requires-clause-above c =
-    let i = c.requires.holds in
-    let n = c.args.node.now in
-    let x = c.in-Some.held.value in
-    let h = c.log-log.result.now in
+pub follow-requires : goal.follow-requires
+follow-requires c =
+    let i = c.requires.holds in let n = c.args.node.now in let x = c.in-Some.held.value in
+    let h = c.log-log.result.now in let y = c.rebase_if_behind.new.node in
     let t = c.in-Some.ensures.taken i.0 i.1 in
-    let b = took_log i.0 t.0 n x (follows_agreed i.0.progress n (well_formed i.0.progress i.2.stands.notes i.2.stands.accounts) i.2.agrees) t.1 in
-    let is = b.log h c.log-log.ensures.log in
-    let u = kept_up t.0.progress h n is b.follows c.rebase_if_behind.new.node c.rebase_if_behind.ensures.behind c.rebase_if_behind.ensures.above in
-    above t.0.progress h c.rebase_if_behind.new.node is u.0 u.1
-
-pub follow-requires-clause-fits : goal.follow-requires-clause-fits
-follow-requires-clause-fits c =
-    let i = c.requires.holds in
-    let n = c.args.node.now in
-    let x = c.in-Some.held.value in
-    let h = c.log-log.result.now in
-    let t = c.in-Some.ensures.taken i.0 i.1 in
-    let b = took_log i.0 t.0 n x (follows_agreed i.0.progress n (well_formed i.0.progress i.2.stands.notes i.2.stands.accounts) i.2.agrees) t.1 in
-    let is = b.log h c.log-log.ensures.log in
-    let u = kept_up t.0.progress h n is b.follows c.rebase_if_behind.new.node c.rebase_if_behind.ensures.behind c.rebase_if_behind.ensures.above in
-    fits t.0.progress h c.rebase_if_behind.new.node is u.0
-
-pub follow-requires-clause-sizes : goal.follow-requires-clause-sizes
-follow-requires-clause-sizes c =
-    let i = c.requires.holds in
-    let n = c.args.node.now in
-    let x = c.in-Some.held.value in
-    let h = c.log-log.result.now in
-    let t = c.in-Some.ensures.taken i.0 i.1 in
-    let b = took_log i.0 t.0 n x (follows_agreed i.0.progress n (well_formed i.0.progress i.2.stands.notes i.2.stands.accounts) i.2.agrees) t.1 in
-    let is = b.log h c.log-log.ensures.log in
-    let u = kept_up t.0.progress h n is b.follows c.rebase_if_behind.new.node c.rebase_if_behind.ensures.behind c.rebase_if_behind.ensures.above in
-    u.0.sizes ∙ ap sizes_for (log_catalogue i.0 t.0 n x b c.args.catalogue.now i.2.catalogue)
-
-pub follow-requires-clause-updates : goal.follow-requires-clause-updates
-follow-requires-clause-updates c =
-    let i = c.requires.holds in
-    let n = c.args.node.now in
-    let x = c.in-Some.held.value in
-    let h = c.log-log.result.now in
-    let y = c.rebase_if_behind.new.node in
-    let t = c.in-Some.ensures.taken i.0 i.1 in
-    let b = took_log i.0 t.0 n x (follows_agreed i.0.progress n (well_formed i.0.progress i.2.stands.notes i.2.stands.accounts) i.2.agrees) t.1 in
+    let b = took_log i.0 t.0 n x c.args.catalogue.now i.2 t.1 in
     let is = b.log h c.log-log.ensures.log in
     let u = kept_up t.0.progress h n is b.follows y c.rebase_if_behind.ensures.behind c.rebase_if_behind.ensures.above in
-    subst (λ d. AreUpdates d (records_from h y.replica.tail)) (log_catalogue i.0 t.0 n x b c.args.catalogue.now i.2.catalogue) (updates t.0.progress h y is u.0 u.1 b.well)
+    let same = log_catalogue i.0 t.0 n x b c.args.catalogue.now i.2.catalogue in
+    record {
+      above = above t.0.progress h y is u.0 u.1;
+      fits = fits t.0.progress h y is u.0;
+      sizes = u.0.sizes ∙ ap sizes_for same;
+      updates = subst (λ d. AreUpdates d (records_from h y.replica.tail)) same (updates t.0.progress h y is u.0 u.1 b.well);
+    }
 
 pub put-requires-clause-may : goal.put-requires-clause-may
 put-requires-clause-may c =
-    let i = c.requires.holds in
-    let n = c.args.node.now in
-    let x = c.in-Some.held.value in
+    let i = c.requires.holds in let n = c.args.node.now in let x = c.in-Some.held.value in
     let t = c.in-Some.ensures.taken i.0 i.1 in
-    let b = took_log i.0 t.0 n x (follows_agreed i.0.progress n (well_formed i.0.progress i.2.stands.notes i.2.stands.accounts) i.2.agrees) t.1 in
+    let b = took_log i.0 t.0 n x c.args.catalogue.now i.2 t.1 in
     (t.0, t.2, same_put i.0 t.0 n x b c.try_take.new.seat.sessions t.2 _ c.in-Some.ensures.place)
 
 pub raise_to-requires-clause-known : goal.raise_to-requires-clause-known
 raise_to-requires-clause-known c =
-    let i = c.requires.holds in
-    let n = c.args.node.now in
-    let x = c.in-Some.held.value in
-    let h = c.log-log.result.now in
-    let y = c.rebase_if_behind.new.node in
+    let i = c.requires.holds in let n = c.args.node.now in let x = c.in-Some.held.value in
+    let h = c.log-log.result.now in let y = c.rebase_if_behind.new.node in let v = c.follow.new.node in
     let t = c.in-Some.ensures.taken i.0 i.1 in
-    let b = took_log i.0 t.0 n x (follows_agreed i.0.progress n (well_formed i.0.progress i.2.stands.notes i.2.stands.accounts) i.2.agrees) t.1 in
+    let b = took_log i.0 t.0 n x c.args.catalogue.now i.2 t.1 in
     let is = b.log h c.log-log.ensures.log in
     let u = kept_up t.0.progress h n is b.follows y c.rebase_if_behind.ensures.behind c.rebase_if_behind.ensures.above in
     let same = sym (log_catalogue i.0 t.0 n x b c.args.catalogue.now i.2.catalogue) in
-    let all = followed_all t.0.progress h y c.follow.new.node is u.0 u.1 (c.follow.ensures.node ∙ ap (λ d. replayed d (copied h y)) same) c.follow.ensures.sizes in
+    let all = followed_all t.0.progress h y v is u.0 u.1 (c.follow.ensures.node ∙ ap (λ d. replayed d (copied h y)) same) c.follow.ensures.sizes in
     let p = c.put.ensures.put t.0 t.2 in
     let s = same_back i.0 t.0 n x b c.try_take.new.seat.sessions t.2 _ c.in-Some.ensures.place p.0 p.1.0 p.1.1 in
-    let low = long_enough i.0 t.0 n x b c.follow.new.node _ i.0 s all in
+    let low = long_enough i.0 t.0 n x b v _ i.0 s all in
     let here = c.tail-followed.ensures.tail in
     (_, p.2, omega (arith, low, here))
 
 pub returns-clause-reached : goal.returns-clause-reached
 returns-clause-reached c k is =
-    let i = c.requires.holds in
-    let n = c.args.node.now in
-    let x = c.in-Some.held.value in
-    let h = c.log-log.result.now in
-    let y = c.rebase_if_behind.new.node in
-    let v = c.follow.new.node in
-    let e = one_known c.args.seat.now i.0 k i.1 is in
-    let stands = subst (λ z. Stands z) e i.2.stands in
-    let agrees = subst (λ z. Agrees z.progress n) e i.2.agrees in
-    let catalogue = subst (λ z. z.progress.catalogue ≡ c.args.catalogue.now) e i.2.catalogue in
-    let t = c.in-Some.ensures.taken k is in
-    let b = took_log k t.0 n x (follows_agreed k.progress n (well_formed k.progress stands.notes stands.accounts) agrees) t.1 in
+    let n = c.args.node.now in let x = c.in-Some.held.value in
+    let h = c.log-log.result.now in let y = c.rebase_if_behind.new.node in let v = c.follow.new.node in
+    let has = known_as c.args.seat.now (λ z. HasReplica z n c.args.catalogue.now) c.requires.holds k is in
+    let t = c.in-Some.ensures.taken k is in let b = took_log k t.0 n x c.args.catalogue.now has t.1 in
     let log_is = b.log h c.log-log.ensures.log in
     let u = kept_up t.0.progress h n log_is b.follows y c.rebase_if_behind.ensures.behind c.rebase_if_behind.ensures.above in
-    let same = sym (log_catalogue k t.0 n x b c.args.catalogue.now catalogue) in
+    let same = sym (log_catalogue k t.0 n x b c.args.catalogue.now has.catalogue) in
     let all = followed_all t.0.progress h y v log_is u.0 u.1 (c.follow.ensures.node ∙ ap (λ d. replayed d (copied h y)) same) c.follow.ensures.sizes in
     let p = c.put.ensures.put t.0 t.2 in
     let s = same_back k t.0 n x b c.try_take.new.seat.sessions t.2 _ c.in-Some.ensures.place p.0 p.1.0 p.1.1 in
@@ -140,20 +90,12 @@ returns-clause-reached c k is =
 
 pub returns-clause-goes : goal.returns-clause-goes
 returns-clause-goes c k after is now =
-    let i = c.requires.holds in
-    let n = c.args.node.now in
-    let x = c.in-Some.held.value in
-    let h = c.log-log.result.now in
-    let y = c.rebase_if_behind.new.node in
-    let v = c.follow.new.node in
-    let e = one_known c.args.seat.now i.0 k i.1 is in
-    let stands = subst (λ z. Stands z) e i.2.stands in
-    let agrees = subst (λ z. Agrees z.progress n) e i.2.agrees in
-    let catalogue = subst (λ z. z.progress.catalogue ≡ c.args.catalogue.now) e i.2.catalogue in
-    let t = c.in-Some.ensures.taken k is in
-    let b = took_log k t.0 n x (follows_agreed k.progress n (well_formed k.progress stands.notes stands.accounts) agrees) t.1 in
+    let n = c.args.node.now in let x = c.in-Some.held.value in
+    let h = c.log-log.result.now in let y = c.rebase_if_behind.new.node in let v = c.follow.new.node in
+    let has = known_as c.args.seat.now (λ z. HasReplica z n c.args.catalogue.now) c.requires.holds k is in
+    let t = c.in-Some.ensures.taken k is in let b = took_log k t.0 n x c.args.catalogue.now has t.1 in
     let log_is = b.log h c.log-log.ensures.log in
-    let same = sym (log_catalogue k t.0 n x b c.args.catalogue.now catalogue) in
+    let same = sym (log_catalogue k t.0 n x b c.args.catalogue.now has.catalogue) in
     let p = c.put.ensures.put t.0 t.2 in
     let s = same_back k t.0 n x b c.try_take.new.seat.sessions t.2 _ c.in-Some.ensures.place p.0 p.1.0 p.1.1 in
     let r = c.raise_to.ensures.raised _ p.2 in
