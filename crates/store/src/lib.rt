@@ -3,6 +3,7 @@
 #![tactic(auto)]
 
 mod answers;
+mod asked;
 mod closed;
 mod opening;
 mod polled;

@@ -6,6 +6,7 @@ ghost use Rattle.accounts.specs.Accounts.{Extends, IsWellFormed};
 ghost use Rattle.replica.specs.StoreMeaning.{store_meaning, is_operation};
 ghost use Rattle.replica.specs.declared.refusals.StoreRefused.{StoreRefused};
 ghost use Rattle.replica.specs.Refusals.{early_refusal};
+ghost use Rattle.store.specs.Asked.{FitsCall, operation_of};
 ghost use Rattle.store.specs.Going.{EachGoes, ReadGoes, ScanGoes, UpdateGoes};
 ghost use Rattle.store.specs.Sessions.{said};
 ghost use Rattle.store_steps.specs.Questions.{first_refused};
@@ -20,10 +21,11 @@ ghost use Rattle.store_steps.specs.Views.{IsIdle, op_of, session_view};
 ghost use Rattle.store.specs.Sessions.{IsFresh, IsOf, TellsUpdate, TellsRead, BeginsWithin, HasRoom, known_of, install_of, install_refused};
 
 use crate::answers::Answer;
+use crate::asked::{Asked, write};
 use crate::store::Store;
 use combiner::Reply;
 use loader::{Installed, StoreState};
-use oplog::{Call, NewProgram, Op};
+use oplog::{NewProgram, Op};
 use ownlock::Seat;
 use readpath::ReadAnswer;
 use replica::{StoreRefused, check_call, check_install};
@@ -45,6 +47,8 @@ pub struct Session {
     combining: Room,
     // Room to find out whether a program may be installed.
     room: Installed,
+    // Room for the operation that it asks for.
+    op: Op,
 }
 
 impl Model for Session {
@@ -83,6 +87,7 @@ impl Session {
             caller,
             combining: Room::new(),
             room,
+            op: Op::default(),
         }
     }
 
@@ -98,6 +103,7 @@ impl Session {
             caller,
             combining: _combining,
             room,
+            op: _op,
         } = self;
         (seat, caller, room)
     }
@@ -119,22 +125,29 @@ impl Session {
     }
 
     // Has an update performed that is not refused, as the next operation of the history.
-    fn update<R: Wait>(&mut self, rt: &R, store: &Store, op: &Op) -> Result<Answer, StoreRefused>
+    fn update<R: Wait>(
+        &mut self,
+        rt: &R,
+        store: &Store,
+        asked: Asked<'_>,
+    ) -> Result<Answer, StoreRefused>
         requires own { IsOf store.now self.old }
-        requires update { is_operation Update store.now.catalogue op.now ≡ true }
+        requires fits { FitsCall asked }
+        requires update { is_operation Update store.now.catalogue (operation_of asked) ≡ true }
         ensures own { IsOf store.now self.new }
         ensures same { (self.new.shelf ≡ self.old.shelf) × (self.new.session ≡ self.old.session) }
         ensures grown { Extends self.old.progress self.new.progress }
         ensures well_formed { IsWellFormed store_meaning self.new.progress }
-        ensures answered { TellsUpdate self.old self.new op.now result }
-        ensures goes { UpdateGoes self.old self.new op.now result }
+        ensures answered { TellsUpdate self.old self.new (operation_of asked.entry) result }
+        ensures goes { UpdateGoes self.old self.new (operation_of asked.entry) result }
     {
         let shared = store.shared();
         let here = Here {
             shared,
             caller: self.caller,
         };
-        post(rt, here, &mut self.seat, op);
+        write(&mut self.op, asked);
+        post(rt, here, &mut self.seat, &self.op);
         let reply = complete(rt, here, &mut self.seat, &mut self.combining);
         answer_of(reply)
     }
@@ -167,8 +180,8 @@ impl Session {
     {
         let _seat = &self.seat;
         check_call(store.catalogue(), Mode::Update, program, argument)?;
-        let call = Call::new(program, argument);
-        self.update(rt, store, &Op::Run(call))
+        let question = Question { program, argument };
+        self.update(rt, store, Asked::Call(question))
     }
 
     /// Installs a program in the store, as the next operation of the history: its instructions as bytes, for arguments of `arg_len` bytes. The
@@ -202,7 +215,7 @@ impl Session {
     {
         check_install(&mut self.room, mode, arg_len as u64, bytes)?;
         let program = NewProgram::new(mode, arg_len, bytes);
-        self.update(rt, store, &Op::Install(program))
+        self.update(rt, store, Asked::New(&program))
     }
 
     /// Runs a read program of the store on the maps of the session's node, once these have seen everything that was completed

@@ -1,13 +1,11 @@
-use Rattle.std.proofs.Common.{rules, ◌≡◌, true, None, sym, subst}
-use Rattle.maps.specs.Maps.{AreBytes}
+use Rattle.std.proofs.Common.{rules, ◌≡◌, None}
+use Rattle.maps.proofs.Kept.{are_bytes}
 use Rattle.verifier.specs.declared.refusal.Mode.TheVariants.{Update}
-use Rattle.replica.specs.StoreMeaning.{is_call}
 use Rattle.replica.specs.Refusals.{early_refusal}
 use Rattle.replica.proofs.Asked.{is_asked}
 use Rattle.store.proofs.session.Session.invoke.Goals as goal
 
 pub update-requires-clause-update : goal.update-requires-clause-update
 update-requires-clause-update g c =
-    let is = c.new-call.ensures.call in
     let none : early_refusal c.args.store.now.catalogue Update c.args.program c.args.argument.now ≡ None = search rules in
-    subst (λ o. is_call Update c.args.store.now.catalogue o ≡ true) (sym is) (is_asked Update c.args.store.now.catalogue c.args.program c.args.argument.now none (subst (λ o. AreBytes o.argument) is c.new-call.ensures.bytes))
+    is_asked Update c.args.store.now.catalogue c.args.program c.args.argument.now none (are_bytes c.args.argument.now c.type_inv.argument)

@@ -1,7 +1,9 @@
 use Rattle.std.proofs.Common.{sym, ap, ◌∙◌, subst, refl}
 use Rattle.loader.specs.CatalogueView.{CatalogueView}
+use Rattle.store_steps.specs.Asking.{SessionPosts}
 use Rattle.store_steps.specs.Views.{SessionView, session_view}
-use Rattle.store_steps.specs.Updating.{UpdatesBy}
+use Rattle.store_steps.specs.Updating.{PostsBy, UpdatesBy}
+use Rattle.store.specs.Asked.{operation_of}
 use Rattle.store.specs.Sessions.{TellsUpdate}
 use Rattle.store_steps.proofs.Views.{seen_as}
 use Rattle.store.proofs.Invoked.{goes_seen, has_asked, has_grown, invoked, is_idle, same_session, stays_well, still_of, tells_update}
@@ -10,8 +12,8 @@ use Rattle.store.proofs.session.Session.update.Goals as goal
 pub invariant_of-self : goal.invariant_of-self
 invariant_of-self g c =
     let k = c.self.invariant.0.known in
-    let op = c.args.op.now in
-    let p = c.post.ensures.posted k c.self.invariant.0.is in
+    let op = operation_of c.args.asked in
+    let p = subst (λ o. SessionPosts c.self.inside.seat c.post.new.seat o) c.write.ensures.op c.post.ensures.posted k c.self.invariant.0.is in
     let was = sym c.self.view_is ∙ seen_as c.self.inside.seat k c.self.invariant.0.is in
     let config = ap (λ (z : SessionView). z.progress.config) (sym was) ∙ c.requires.own.config in
     let asked = has_asked k p.0 op c.args.store.now.config p.2 config c.shared-shared.ensures.config c.self.invariant.0.batch c.self.invariant.0.within c.self.invariant.0.well_formed in
@@ -27,8 +29,8 @@ invariant_of-self g c =
 pub returns : goal.returns
 returns g c =
     let k = c.self.invariant.0.known in
-    let op = c.args.op.now in
-    let p = c.post.ensures.posted k c.self.invariant.0.is in
+    let op = operation_of c.args.asked in
+    let p = subst (λ o. SessionPosts c.self.inside.seat c.post.new.seat o) c.write.ensures.op c.post.ensures.posted k c.self.invariant.0.is in
     let was = sym c.self.view_is ∙ seen_as c.self.inside.seat k c.self.invariant.0.is in
     let config = ap (λ (z : SessionView). z.progress.config) (sym was) ∙ c.requires.own.config in
     let asked = has_asked k p.0 op c.args.store.now.config p.2 config c.shared-shared.ensures.config c.self.invariant.0.batch c.self.invariant.0.within c.self.invariant.0.well_formed in
@@ -48,6 +50,6 @@ returns g c =
         c.complete-reply.result,
         c.answer_of.ensures.said,
         goes_seen (λ k f. UpdatesBy k f op c.complete-reply.result) c.self.inside.seat seat c.args.self.now k f.0 c.self.invariant.0.is c.self.invariant.0.free.held c.self.view_is f.1 v.held
-            (record { asked = p.0; posts = c.post.ensures.goes k p.0 c.self.invariant.0.is p.1; completes = c.complete-reply.ensures.goes p.0 f.0 p.1 f.1 }),
+            (record { asked = p.0; posts = subst (λ o. PostsBy k p.0 o) c.write.ensures.op (c.post.ensures.goes k p.0 c.self.invariant.0.is p.1); completes = c.complete-reply.ensures.goes p.0 f.0 p.1 f.1 }),
       );
     }
