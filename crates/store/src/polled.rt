@@ -117,6 +117,7 @@ impl Polled {
     }
 
     // Posts an operation that is not refused. `None` where the desk is held.
+    #[inline(always)]
     fn post(&mut self, store: &Store, op: &Op) -> Option<()>
         requires own { IsOf store.now self.old }
         requires idle { self.old.note.pending ≡ None }

@@ -145,6 +145,7 @@ fn watch_desk(shelf: &Shelf<Value>, place: usize)
 }
 
 // Waits for the one that combines: until the replica of the node was put back, and then the desk with the answers.
+#[inline(never)]
 fn watch_for_answers(shelf: &Shelf<Value>, replica: usize, desk: usize)
     requires replica { replica < shelf.now.places }
     requires desk { desk < shelf.now.places }

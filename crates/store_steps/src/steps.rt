@@ -154,6 +154,7 @@ fn is_base_due(log: &LogState, node: &NodeReplica, shared: Shared<'_>, want: usi
 
 // Brings the replica up to the log's end, where the log has no room for so many without the records that it has applied. Answers whether
 // it did.
+#[inline(never)]
 fn come_up(log: &LogState, node: &mut NodeReplica, catalogue: &Catalogue, want: usize) -> bool
     requires above { is_above log.now node.old ≡ true }
     requires fits { Fits log.now node.old }
@@ -202,6 +203,7 @@ fn is_exchange_cheaper(log: &LogState, worth: usize) -> bool {
 // Makes the replica, all of which is completed, the log's base: where the maps are small by a copy of them, else the replica and the base
 // change places. The hand gets the records that the replica has then to apply to be what it was, which are counted, and those that it
 // lacked before.
+#[inline(never)]
 fn bring_base(log: &mut LogState, node: &mut NodeReplica, worth: usize) -> usize
     requires above { log.old.base < node.old.replica.tail }
     requires fits { Fits log.old node.old }
@@ -322,6 +324,7 @@ pub(crate) fn replay_and_raise(
 
 // Takes the log, brings the replica up to its end while it is held, puts it back, and raises the completed tail to the replica's.
 // Where another session holds the log it answers `None`, and nothing has changed.
+#[inline(never)]
 fn try_follow_and_raise(
     shelf: &Shelf<Value>,
     seat: &mut Seat<Value>,
@@ -350,6 +353,7 @@ fn try_follow_and_raise(
 
 // Brings the replica up to that completed tail, where it has not reached it. Where another session holds the log, which that takes, it
 // answers `None`, and nothing has changed.
+#[inline(always)]
 fn try_reach(
     shared: Shared<'_>,
     seat: &mut Seat<Value>,
