@@ -34,7 +34,7 @@ use std::sync::Wait;
 use store_steps::{
     Batches, Beginning, Caller, GetRefused, Here, Lookup, MapKey, Question, QuestionRefused, Room,
     Scan, ScanRefused, Value, check_each, check_get, check_scan, complete, get_waiting, post,
-    query, read_each_waiting, scan_waiting, snapshot_waiting,
+    query, read_each_waiting, snapshot_waiting,
 };
 use verifier::Mode;
 
@@ -326,7 +326,7 @@ impl Session {
             shared,
             caller: *caller,
         };
-        Ok(scan_waiting(rt, here, seat, begin, keys, values))
+        Ok(here.scan_waiting(rt, seat, begin, keys, values))
     }
 
     /// Looks for a key of a map, and puts the value there into `value`, which has as many bytes as the map's values, if the key stands in the maps of

@@ -19,7 +19,7 @@ pub use deeds::{Deed, Stage, go_on};
 pub use getting::{GetRefused, Lookup, MapKey, check_get, get_waiting, try_get};
 pub use questions::{QuestionRefused, check_each, read_each_waiting, try_read_each};
 pub use requests::{complete, post, try_post};
-pub use scanning::{Beginning, Scan, ScanRefused, check_scan, scan_waiting, try_scan};
+pub use scanning::{Beginning, Scan, ScanRefused, check_scan, try_scan};
 pub use snapshots::{snapshot_waiting, try_snapshot};
 pub use steps::{Caller, Here, Question, Shared, query, records_worth, try_query};
 pub use values::{Setup, Value, shelved_log, shelved_replica};

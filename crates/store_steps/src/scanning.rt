@@ -119,28 +119,29 @@ pub fn try_scan(
     Ok(scan)
 }
 
-/// Scans the maps of the caller's node, once its replica has reached the tail that is completed now. It waits for the place that another
-/// session holds.
-pub fn scan_waiting<R: Wait>(
-    rt: &R,
-    here: Here<'_>,
-    seat: &mut Seat<Value>,
-    begin: Beginning,
-    keys: &mut [u8],
-    values: &mut [u8],
-) -> Scan
-    requires own { seat.old.shelf ≡ here.shared.shelf.now.id }
-    requires idle { Knows seat.old (λ k. IsFree here.caller k × IsOn here.shared k) }
-    requires place { scan_refusal here.shared.catalogue.now begin.map begin.from ≡ None }
-    ensures same { seat.new.shelf ≡ seat.old.shelf }
-    ensures scanned { Learns seat.old seat.new (HasScanned begin (length keys.old) (length values.old) keys.new values.new result) }
-    ensures goes { Relates seat.old seat.new (ScansFrom begin (length keys.old) (length values.old) keys.new values.new result) }
-{
-    for _ in rt.forever() {
-        match try_scan(here, seat, begin, keys, values) {
-            Ok(scan) => return scan,
-            Err(place) => here.shared.shelf.wait(rt, seat, place),
+impl Here<'_> {
+    /// Scans the maps of the caller's node, as [`try_scan`] does, but waits for the place that another session holds.
+    pub fn scan_waiting<R: Wait>(
+        self,
+        rt: &R,
+        seat: &mut Seat<Value>,
+        begin: Beginning,
+        keys: &mut [u8],
+        values: &mut [u8],
+    ) -> Scan
+        requires own { seat.old.shelf ≡ self.shared.shelf.now.id }
+        requires idle { Knows seat.old (λ k. IsFree self.caller k × IsOn self.shared k) }
+        requires place { scan_refusal self.shared.catalogue.now begin.map begin.from ≡ None }
+        ensures same { seat.new.shelf ≡ seat.old.shelf }
+        ensures scanned { Learns seat.old seat.new (HasScanned begin (length keys.old) (length values.old) keys.new values.new result) }
+        ensures goes { Relates seat.old seat.new (ScansFrom begin (length keys.old) (length values.old) keys.new values.new result) }
+    {
+        for _ in rt.forever() {
+            match try_scan(self, seat, begin, keys, values) {
+                Ok(scan) => return scan,
+                Err(place) => self.shared.shelf.wait(rt, seat, place),
+            }
         }
+        unreachable!()
     }
-    unreachable!()
 }

@@ -6,14 +6,14 @@ use Rattle.store_steps.specs.Standing.{IsFree}
 use Rattle.store_steps.proofs.Taken.{free_on, shelf_on}
 use Rattle.store_steps.proofs.Tried.{scan_goes_since, scanned_since, still_self, still_then}
 use Rattle.store_steps.proofs.Waiting.{still_holds_none}
-use Rattle.store_steps.proofs.scanning.scan_waiting.Goals as goal
+use Rattle.store_steps.proofs.steps.Here.scan_waiting.Goals as goal
 
 pub loop-init : goal.loop-init
 loop-init g c = (
   refl,
   λ k is.
       let i = c.requires.idle in
-      let free = subst (λ z. IsFree c.args.here.caller z) (one_known c.args.seat.now i.0 k i.1 is) i.2.0 in
+      let free = subst (λ z. IsFree c.args.self.caller z) (one_known c.args.seat.now i.0 k i.1 is) i.2.0 in
       (k, is, still_self k free.held),
   refl,
   refl,
@@ -23,7 +23,7 @@ pub try_scan-requires-clause-idle : goal.try_scan-requires-clause-idle
 try_scan-requires-clause-idle g c =
     let i = c.requires.idle in
     let m = c.loop.invariant.1 i.0 i.1 in
-    (m.0, m.1, (free_on c.args.here.caller i.0 m.0 m.2.session m.2.held m.2.extends i.2.0, shelf_on _ _ _ i.0 m.0 m.2.extends i.2.1))
+    (m.0, m.1, (free_on c.args.self.caller i.0 m.0 m.2.session m.2.held m.2.extends i.2.0, shelf_on _ _ _ i.0 m.0 m.2.extends i.2.1))
 
 pub returns-in-Ok-clause-scanned : goal.returns-in-Ok-clause-scanned
 returns-in-Ok-clause-scanned g c k is =
