@@ -1,9 +1,9 @@
 -- What a session has done on the shelf, step by step.
-use Rattle.std.proofs.Common.{◌≡◌, ℕ, ◌<◌, List, [], ◌∷◌, ◌++◌, map, refl, sym, ap, ◌∙◌, subst, Some}
+use Rattle.std.proofs.Common.{◌≡◌, ℕ, List, [], ◌∷◌, ◌++◌, map, refl, ap, ◌∙◌, Some}
 use Rattle.std.proofs.lemmas.Option.{none-some, same_Some}
 use Rattle.ownlock.specs.declared.known.Known.{Known}
 use Rattle.ownlock.specs.declared.known.ShelfStep.{ShelfStep}
-use Rattle.ownlock.specs.declared.known.ShelfStep.TheVariants.{Took, Put, Read, Raised}
+use Rattle.ownlock.specs.declared.known.ShelfStep.TheVariants.{Took, Put}
 use Rattle.oplog.specs.Logs.{Log as LogView}
 use Rattle.combiner.specs.Desks.{DeskView}
 use Rattle.node.specs.declared.following.NodeReplica.{NodeReplica}

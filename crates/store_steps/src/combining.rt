@@ -21,6 +21,7 @@ use std::sync::Wait;
 // Appends the requests that the session claimed, and brings the replica of its node up to them: the replies that are lent have then what
 // their programs answer. It goes on with `hand_over`. Where another session holds the replica or the log, it answers that place: the
 // session holds nothing then, and its requests are as they were.
+#[inline(always)]
 pub(crate) fn try_combine(
     here: Here<'_>,
     seat: &mut Seat<Value>,
@@ -54,6 +55,7 @@ pub(crate) fn try_combine(
 }
 
 // The same, but waits for the place that another session holds.
+#[inline(always)]
 fn append_and_replay<R: Wait>(
     rt: &R,
     here: Here<'_>,
@@ -78,6 +80,7 @@ fn append_and_replay<R: Wait>(
 
 // Combines the requests that the session claimed: appends them, brings the replica of its node up to them, and hands their
 // answers to the slots of its desk. The replies are room for what their programs answer.
+#[inline(always)]
 pub(crate) fn combine<R: Wait>(
     rt: &R,
     here: Here<'_>,
@@ -97,6 +100,7 @@ pub(crate) fn combine<R: Wait>(
 
 // Takes the desk of the caller's node, answers the requests of the batch there, by the outcomes that were kept of it, and puts the
 // desk back. Where another session holds the desk it answers `None`, and nothing has changed.
+#[inline(always)]
 pub(crate) fn try_hand_over(
     here: Here<'_>,
     seat: &mut Seat<Value>,
@@ -124,6 +128,7 @@ pub(crate) fn try_hand_over(
 }
 
 // The same, but waits while another session holds the desk.
+#[inline(always)]
 fn hand_over<R: Wait>(
     rt: &R,
     here: Here<'_>,
@@ -138,13 +143,16 @@ fn hand_over<R: Wait>(
     ensures answered { batch.new ≡ answered_batch replies.now batch.old }
     ensures handed { Relates seat.old seat.new (λ k after. HandsOverAnywhere here.entry.caller.node k after batch.old replies.now) }
 {
+    if let Some(()) = try_hand_over(here, seat, batch, replies) {
+        return;
+    }
     for _ in rt.forever() {
-        if let Some(()) = try_hand_over(here, seat, batch, replies) {
-            return;
-        }
         here.shared
             .shelf
             .wait(rt, seat, 1 + here.shared.nodes + here.caller.node);
+        if let Some(()) = try_hand_over(here, seat, batch, replies) {
+            return;
+        }
     }
     unreachable!()
 }

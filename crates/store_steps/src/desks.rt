@@ -27,6 +27,7 @@ pub enum Turn {
 }
 
 /// Posts an update of the store's catalogue in the session's slot. The session waits for no other answer.
+#[inline(always)]
 pub fn post(desk: &mut Desk, slot: usize, op: &Op)
     requires own { (k : SessionKnown) × IsAt slot k desk.old × (k.note.pending ≡ None) × IsAllowed store_meaning k.progress.catalogue op.now }
     ensures posted { posted slot op.now desk.old ≡ Some desk.new }
@@ -40,6 +41,7 @@ pub fn post(desk: &mut Desk, slot: usize, op: &Op)
 
 /// Collects the answer that waits in the session's slot. Where there is none, claims the posted requests, if nobody combines:
 /// the batch has these then, and is as it was otherwise.
+#[inline(always)]
 pub fn look(desk: &mut Desk, slot: usize, batch: &mut Batch) -> Turn
     requires own { (k : SessionKnown) × (o : Pending) × IsAt slot k desk.old × HasAsked k o }
     ensures turn { IsTurn slot desk.old desk.new batch.new result }
@@ -54,6 +56,7 @@ pub fn look(desk: &mut Desk, slot: usize, batch: &mut Batch) -> Turn
 
 /// Sets the answer of each request of the batch that the session combines, by the outcomes that were kept of those that have a
 /// place, and hands the answers to the slots of these requests.
+#[inline(always)]
 pub fn reply(desk: &mut Desk, batch: &mut Batch, replies: &Replies)
     requires own { (k : SessionKnown) × (slot : ℕ) × IsAt slot k desk.old × IsReady k batch.old replies.now }
     ensures answered { batch.new ≡ answered_batch replies.now batch.old }
@@ -65,6 +68,7 @@ pub fn reply(desk: &mut Desk, batch: &mut Batch, replies: &Replies)
 }
 
 // Claims the posted requests, if nobody combines.
+#[inline(always)]
 fn claim(desk: &mut Desk, batch: &mut Batch) -> Turn
     ensures claims { IsClaim desk.old desk.new batch.new result }
     ensures kept { KeepsBatch batch.old batch.new result }

@@ -22,6 +22,7 @@ use std::marker::Brand;
 use std::sync::Wait;
 
 /// Posts an operation at the desk of the caller's node, unless another session holds the desk: `None` then, and nothing has changed.
+#[inline(always)]
 pub fn try_post(here: Here<'_>, seat: &mut Seat<Value>, op: &Op) -> Option<()>
     requires own { seat.old.shelf ≡ here.shared.shelf.now.id }
     requires idle { AwaitsNothing seat.old here.caller here.shared }
@@ -44,6 +45,7 @@ pub fn try_post(here: Here<'_>, seat: &mut Seat<Value>, op: &Op) -> Option<()>
 }
 
 /// The same, but waits while another session holds the desk.
+#[inline(always)]
 pub fn post<R: Wait>(rt: &R, here: Here<'_>, seat: &mut Seat<Value>, op: &Op)
     requires own { seat.old.shelf ≡ here.shared.shelf.now.id }
     requires idle { AwaitsNothing seat.old here.caller here.shared }
@@ -52,19 +54,23 @@ pub fn post<R: Wait>(rt: &R, here: Here<'_>, seat: &mut Seat<Value>, op: &Op)
     ensures posted { SessionPosts seat.old seat.new op.now }
     ensures goes { Relates seat.old seat.new (λ k after. PostsBy k after op.now) }
 {
+    if let Some(()) = try_post(here, seat, op) {
+        return;
+    }
     for _ in rt.forever() {
-        if let Some(()) = try_post(here, seat, op) {
-            return;
-        }
         here.shared
             .shelf
             .wait(rt, seat, 1 + here.shared.nodes + here.caller.node);
+        if let Some(()) = try_post(here, seat, op) {
+            return;
+        }
     }
     unreachable!()
 }
 
 // One turn at the desk of the caller's node: collects the answer that waits there; else claims the posted requests into the batch,
 // where nobody combines; else nothing. Where another session holds the desk it answers `None`, and nothing has changed.
+#[inline(always)]
 pub(crate) fn try_turn(here: Here<'_>, seat: &mut Seat<Value>, batch: &mut Batch) -> Option<Turn>
     requires own { seat.old.shelf ≡ here.shared.shelf.now.id }
     requires asked { AwaitsAnswer seat.old here.caller here.shared }
@@ -86,6 +92,7 @@ pub(crate) fn try_turn(here: Here<'_>, seat: &mut Seat<Value>, batch: &mut Batch
 }
 
 // The same, but waits while another session holds the desk.
+#[inline(always)]
 fn turn<R: Wait>(rt: &R, here: Here<'_>, seat: &mut Seat<Value>, batch: &mut Batch) -> Turn
     requires own { seat.old.shelf ≡ here.shared.shelf.now.id }
     requires asked { AwaitsAnswer seat.old here.caller here.shared }
@@ -93,13 +100,16 @@ fn turn<R: Wait>(rt: &R, here: Here<'_>, seat: &mut Seat<Value>, batch: &mut Bat
     ensures turned { SessionTurns seat.old seat.new batch.new result }
     ensures goes { Relates seat.old seat.new (λ k after. TurnsBy k after batch.new result) }
 {
+    if let Some(turn) = try_turn(here, seat, batch) {
+        return turn;
+    }
     for _ in rt.forever() {
-        if let Some(turn) = try_turn(here, seat, batch) {
-            return turn;
-        }
         here.shared
             .shelf
             .wait(rt, seat, 1 + here.shared.nodes + here.caller.node);
+        if let Some(turn) = try_turn(here, seat, batch) {
+            return turn;
+        }
     }
     unreachable!()
 }

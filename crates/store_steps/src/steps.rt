@@ -227,6 +227,7 @@ fn bring_base(log: &mut LogState, node: &mut NodeReplica, worth: usize) -> usize
 // While the log is held: a replica behind its base becomes the base, and a log without room for so many records gets the replica
 // as its base, once all that it has applied is completed. The hand has the records that the replica lacks then; where it changed places
 // with the base, those that lead back to what it was come before them, and are counted.
+#[inline(always)]
 fn make_room(
     shared: Shared<'_>,
     seat: &mut Seat<Value>,
@@ -276,6 +277,7 @@ fn come_back(node: &mut NodeReplica, catalogue: &Catalogue, owed: usize, appende
 // the replica has still to apply then. The replies that are lent keep the places of those that were appended. A replica that changed
 // places with the log's base is brought back to what it was, once the log is put back. Where another session holds the log it answers
 // `None`, and nothing has changed.
+#[inline(always)]
 pub(crate) fn try_append_and_copy(
     shared: Shared<'_>,
     seat: &mut Seat<Value>,
@@ -304,6 +306,7 @@ pub(crate) fn try_append_and_copy(
 }
 
 // Replays the records in the hand, and raises the completed tail to the replica's.
+#[inline(always)]
 pub(crate) fn replay_and_raise(
     shelf: &Shelf<Value>,
     seat: &mut Seat<Value>,

@@ -1,4 +1,4 @@
-use Rattle.std.proofs.Common.{◌≡◌, refl, ap, sym, subst, ◌∙◌, arith}
+use Rattle.std.proofs.Common.{refl, ap, sym, subst, ◌∙◌, arith}
 use Rattle.loader.specs.CatalogueView.{sizes_for}
 use Rattle.ownlock.proofs.Seats.{one_known}
 use Rattle.node.specs.Following.{replayed, copied}
