@@ -36,41 +36,38 @@ fn write_number(n: u64, room: &mut [u8; OUTCOME_BYTES], end: usize) -> usize
     write_digits(n, room, end)
 }
 
-// An index in the history, and what a program answered there, behind a word. The line is put together from its end on, and
-// then written at once.
-#[inline(never)]
-fn put_outcome(
-    out: &mut Vec<u8>,
-    word: &[u8],
-    index: u64,
-    outcome: Outcome,
-) -> Result<(), AllocError>
-    requires { length word.now ≤ 7 }
-    ensures { OnOk result (out.new.items ≡ out.old.items ++ (word.now ++ outcome_text index outcome.reply outcome.steps)) }
+// An index in the history, and what a program answered there, so that it ends with the room. Returns where it starts.
+#[inline(always)]
+fn write_outcome(room: &mut [u8; OUTCOME_BYTES], index: u64, outcome: Outcome) -> usize
+    ensures start { 7 ≤ result }
+    ensures written { drop result room.new ≡ outcome_text index outcome.reply outcome.steps }
 {
-    let mut room = [0; OUTCOME_BYTES];
-    let end = write_text(b"\n", &mut room, OUTCOME_BYTES);
-    let end = write_number(outcome.steps as u64, &mut room, end);
-    let end = write_text(b" steps ", &mut room, end);
-    let end = write_number(outcome.reply, &mut room, end);
-    let end = write_text(b" reply ", &mut room, end);
-    let end = write_number(index, &mut room, end);
-    let start = write_text(word, &mut room, end);
-    out.extend_from_slice(&room[start..])
+    let end = write_text(b"\n", room, OUTCOME_BYTES);
+    let end = write_number(outcome.steps as u64, room, end);
+    let end = write_text(b" steps ", room, end);
+    let end = write_number(outcome.reply, room, end);
+    let end = write_text(b" reply ", room, end);
+    write_number(index, room, end)
 }
 
-// The line of an update: its index in the history.
+// The line of an update: its index in the history. It is put together from its end on, and then written at once.
 pub(crate) fn put_update(out: &mut Vec<u8>, index: u64, outcome: Outcome) -> Result<(), AllocError>
     ensures { OnOk result (out.new.items ≡ out.old.items ++ update_text index outcome.reply outcome.steps) }
 {
-    put_outcome(out, b"update ", index, outcome)
+    let mut room = [0; OUTCOME_BYTES];
+    let end = write_outcome(&mut room, index, outcome);
+    let start = write_text(b"update ", &mut room, end);
+    out.extend_from_slice(&room[start..])
 }
 
 // The line of a read: the number of updates before it.
 pub(crate) fn put_read(out: &mut Vec<u8>, point: u64, outcome: Outcome) -> Result<(), AllocError>
     ensures { OnOk result (out.new.items ≡ out.old.items ++ read_text point outcome.reply outcome.steps) }
 {
-    put_outcome(out, b"read ", point, outcome)
+    let mut room = [0; OUTCOME_BYTES];
+    let end = write_outcome(&mut room, point, outcome);
+    let start = write_text(b"read ", &mut room, end);
+    out.extend_from_slice(&room[start..])
 }
 
 // The line of an install: its index in the history, and its program's number.
