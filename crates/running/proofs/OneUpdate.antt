@@ -1,5 +1,5 @@
 -- One update of a node: the record is appended, copied and replayed.
-use Rattle.std.proofs.Common.{◌≡◌, zero, suc, ◌+◌, ◌-◌, ◌<◌, ◌≤◌, true, [], ◌∷◌, length, Option, Some, slice_get, sym, ap, subst, ◌∙◌, arith, lit<}
+use Rattle.std.proofs.Common.{◌≡◌, zero, suc, ◌+◌, ◌-◌, ◌<◌, ◌≤◌, true, [], ◌∷◌, length, Option, Some, None, slice_get, sym, ap, subst, ◌∙◌, arith, lit<}
 use Rattle.std.specs.Prelude.{IfSome, IfNone}
 use Rattle.std.proofs.lemmas.List.{length-append}
 use Rattle.std.proofs.lemmas.Option.{same_Some}
@@ -20,7 +20,7 @@ use Rattle.replica.specs.Replaying.{IsAnswered, KeepsOutcomes}
 use Rattle.node.specs.declared.following.NodeReplica.{NodeReplica}
 use Rattle.node.specs.Following.{IsNext, room_for, grown, copied, replies_for, replayed, told}
 use Rattle.running.specs.declared.single_node.SingleNode.{SingleNode}
-use Rattle.running.specs.Running.{IsUpdated}
+use Rattle.running.specs.Running.{IsSteady, IsUpdated, HasEnded}
 
 only_one : (c : CatalogueView) (r : Record) → is_operation Update c r.op ≡ true → AreUpdates c (r ∷ [])
 only_one c r is zero s e = subst (λ x. is_operation Update c x.op ≡ true) (same_Some r s e) is
@@ -69,9 +69,9 @@ module _ (c : CatalogueView) (g h : Log) (n m : NodeReplica) (r : Record) (log :
         let there = keeps.replayed 0 0 r has_index (ap (λ (x : History). slice_get x 0) holds_one) (omega (arith, tail, at)) in
         (there.0, same_Some got (Some there.0) (sym found ∙ there.1), subst (λ (x : ReplicaView). IsAnswered c r.op x.state there.0) same_replica there.2)
 
-    pub updated : (old : SingleNode) (last : Log) (p : NodeReplica) (room : InstalledView) (op : Operation) → n ≡ old.own → tail_of g ≡ tail_of old.log → g.limit ≡ old.log.limit → r.op ≡ op → p ≡ replayed c m → last ≡ told p h
-        → IfSome got (λ o. IsUpdated c op old (record { log = last; own = p; replies = kept; room = room }) o)
-    updated old last p room op replica tail limit same run raised =
+    pub updated : (old : SingleNode) (last : Log) (p : NodeReplica) (room : InstalledView) (next : Record) (op : Operation) → n ≡ old.own → tail_of g ≡ tail_of old.log → g.limit ≡ old.log.limit → r.op ≡ op → p ≡ replayed c m → last ≡ told p h
+        → IfSome got (λ o. IsUpdated c op old (record { log = last; own = p; replies = kept; room = room; next = next }) o)
+    updated old last p room next op replica tail limit same run raised =
         let a = answered in
         let answer = a.2 in
         let takes : store_meaning.update c op old.own.replica.state ≡ Some answer.done =
@@ -79,7 +79,7 @@ module _ (c : CatalogueView) (g h : Log) (n m : NodeReplica) (r : Record) (log :
         let state : p.replica.state ≡ answer.done.left =
         ap (λ (x : NodeReplica). x.replica.state) run ∙ ap (λ (x : History). after store_meaning c m.replica.state x) holds_one
         ∙ ap (λ (x : ReplicaView). left_by (store_meaning.update c r.op x.state) x.state) same_replica ∙ ap (λ (e : Option (Effect StoreState)). left_by e n.replica.state) answer.takes in
-        subst (λ (x : Option Outcome). IfSome x (λ o. IsUpdated c op old (record { log = last; own = p; replies = kept; room = room }) o)) (sym a.1)
+        subst (λ (x : Option Outcome). IfSome x (λ o. IsUpdated c op old (record { log = last; own = p; replies = kept; room = room; next = next }) o)) (sym a.1)
         (record {
           room = omega (arith, left, tail, limit);
           limit = ap (λ (x : Log). x.limit) raised ∙ same_limit ∙ limit;
@@ -92,3 +92,33 @@ module _ (c : CatalogueView) (g h : Log) (n m : NodeReplica) (r : Record) (log :
 
     pub not_ended : (P : Type 0) → IfNone got P
     not_ended P = subst (λ (x : Option Outcome). IfNone x P) (sym answered.1) tt
+
+-- ---- the record that is appended next says nothing of the node
+
+pub steady_with : (c : CatalogueView) (n : SingleNode) (r : Record) → IsSteady c n → IsSteady c (record n { next = r })
+steady_with c n r s = record {
+  completed = s.completed;
+  base_sizes = s.base_sizes;
+  base = s.base;
+  window = s.window;
+  tail = s.tail;
+  sizes = s.sizes;
+  room = s.room;
+}
+
+pub updated_with : (c : CatalogueView) (op : Operation) (old : SingleNode) (r : Record) (new : SingleNode) (o : Option Outcome) → IfSome o (λ x. IsUpdated c op (record old { next = r }) new x)
+    → IfSome o (λ x. IsUpdated c op old new x)
+updated_with c op old r new None u = tt
+updated_with c op old r new (Some o) u = record {
+  room = u.room;
+  limit = u.limit;
+  tail = u.tail;
+  done = u.done;
+  takes = u.takes;
+  outcome = u.outcome;
+  state = u.state;
+}
+
+pub ended_with : {A : Type 0} (old : SingleNode) (r : Record) (new : SingleNode) (o : Option A) → IfNone o (HasEnded (record old { next = r }) new) → IfNone o (HasEnded old new)
+ended_with old r new (Some o) e = tt
+ended_with old r new None e = record { full = e.full; limit = e.limit; tail = e.tail; replica = e.replica }

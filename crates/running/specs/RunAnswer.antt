@@ -9,7 +9,6 @@ use Rattle.loader.specs.CatalogueView.{CatalogueView, number_named}
 use Rattle.oplog.specs.Calls.{Call as TheCall, NewProgram}
 use Rattle.oplog.specs.Operations.{Operation}
 use Rattle.oplog.specs.declared.records.Op.TheVariants.{Run, Install as AnInstall}
-use Rattle.oplog.specs.declared.configuration.TheConstants.{MAX_LIMIT}
 use Rattle.oplog.specs.History.{Effect, ReadEffect, History, effect_at, read_at}
 use Rattle.replica.specs.StoreMeaning.{program_at, store_meaning}
 use Rattle.replica.specs.Refusals.{store_fault_number, early_refusal, install_refusal}

@@ -1,5 +1,6 @@
 -- What is kept while a script is run.
 use Rattle.std.specs.Prelude.{◌≡◌, ℕ, ◌+◌, ◌<◌, Bool, true, false, List, ◌++◌, length, Option, Some, None, option_map, Result, IfOk, OnOk}
+use Rattle.verifier.specs.declared.refusal.Mode.{Mode}
 use Rattle.loader.specs.StoreState.{StoreState, sizes_of}
 use Rattle.machine.specs.declared.running.Outcome.{Outcome}
 use Rattle.loader.specs.CatalogueView.{CatalogueView, sizes_for, opening_state}
@@ -13,7 +14,7 @@ use Rattle.engine.specs.declared.status.Verdict.{Verdict}
 use Rattle.engine.specs.declared.status.Verdict.TheVariants as verdicts
 use Rattle.engine.specs.Answer.{Answer}
 use Rattle.scripts.specs.Script.{Meaning}
-use Rattle.running.specs.RunAnswer.{Turn, called, taken, line_turn, behind}
+use Rattle.running.specs.RunAnswer.{Turn, called, taken, performed, line_turn, behind}
 
 -- the whole history is completed, and the replica has applied it; the log's base is the replica's state where it is as far
 pub record IsSteady (c : CatalogueView) (n : SingleNode) : Type 0 where
@@ -56,6 +57,10 @@ pub record IsTaken (limit : ℕ) (c : CatalogueView) (turn : Turn) (n : SingleNo
 -- from any history that the node has behind it, its turn is taken, unless memory runs out
 abbrev pub TakesTurn : {A E : Type 0} → CatalogueView → (ℕ → History → Turn) → SingleNode → SingleNode → List ℕ → List ℕ → Result A E → Type 0
 TakesTurn c turn node after old new r = (limit : ℕ) (h : History) → Follows limit c h node → OnOk r (IsTaken limit c (turn limit h) after old new)
+
+-- the turn of an operation, as an update or as a read
+abbrev pub TakesOperation : {A E : Type 0} → CatalogueView → Operation → Mode → SingleNode → SingleNode → List ℕ → List ℕ → Result A E → Type 0
+TakesOperation c op mode = TakesTurn c (λ limit h. performed limit c h op mode)
 
 -- the turn of a call of the program of this name with this argument
 abbrev pub TakesCall : {A E : Type 0} → CatalogueView → (name argument : List ℕ) → SingleNode → SingleNode → List ℕ → List ℕ → Result A E → Type 0

@@ -1,12 +1,13 @@
 // What a line of a script does.
 
 ghost use Rattle.std.specs.Prelude.{◌≡◌, ◌≤◌, true, false, length, Ok, option_map, IfOk};
+ghost use Rattle.maps.specs.declared.shapes.TheConstants.{MAX_ARG_LEN};
 ghost use Rattle.oplog.specs.declared.records.Op.TheVariants.{Run};
 ghost use Rattle.replica.specs.StoreMeaning.{call_of as program_call, is_operation};
 ghost use Rattle.replica.specs.Refusals.{early_refusal, IsRefusedAs};
-ghost use Rattle.running.specs.RunAnswer.{numbered, called, asked, installed, performed};
-ghost use Rattle.running.specs.Running.{IsSteady, TakesCall, TakesTurn, TakesMeaning, TakesLine};
-ghost use Rattle.scripts.specs.Script.{call_meaning};
+ghost use Rattle.running.specs.RunAnswer.{numbered, called, asked, installed};
+ghost use Rattle.running.specs.Running.{IsSteady, TakesCall, TakesOperation, TakesTurn, TakesMeaning, TakesLine};
+ghost use Rattle.scripts.specs.Script.{call_meaning, word_meaning};
 ghost use Rattle.scripts.specs.ScriptShown.{at_number_of, program_of, meaning_of};
 
 use crate::run_texts::{put_install, put_read, put_refused, put_update};
@@ -19,29 +20,34 @@ use std::alloc::AllocError;
 use text::{FIELD_BYTES, LINE_BYTES, LineKind, kind_of, split_at_space};
 use verifier::Mode;
 
-// Performs a call, as an update or as a read.
-fn perform(
-    node: &mut SingleNode,
-    catalogue: &Catalogue,
-    mode: Mode,
-    call: Call,
-    out: &mut Vec<u8>,
-) -> Result<(), AllocError>
-    requires steady { IsSteady catalogue.now node.old }
-    requires call { is_operation mode catalogue.now (Run call) ≡ true }
-    ensures steady { IsSteady catalogue.now node.new }
-    ensures taken { TakesTurn catalogue.now (λ n h. performed n catalogue.now h (Run call) mode) node.old node.new out.old.items out.new.items result }
-{
-    let index = node.tail();
-    match mode {
-        Mode::Read => {
-            let outcome = node.query(catalogue, call.program(), call.argument());
-            put_read(out, index, outcome)
+impl SingleNode {
+    // Performs a call, as an update or as a read, and writes what it answers.
+    #[inline(always)]
+    fn perform(
+        &mut self,
+        catalogue: &Catalogue,
+        mode: Mode,
+        program: u16,
+        argument: &[u8],
+        out: &mut Vec<u8>,
+    ) -> Result<(), AllocError>
+        requires steady { IsSteady catalogue.now self.old }
+        requires call { is_operation mode catalogue.now (Run (program_call program argument.now)) ≡ true }
+        requires fits { length argument.now ≤ MAX_ARG_LEN }
+        ensures steady { IsSteady catalogue.now self.new }
+        ensures taken { TakesOperation catalogue.now (Run (program_call program argument.now)) mode self.old self.new out.old.items out.new.items result }
+    {
+        let index = self.tail();
+        match mode {
+            Mode::Read => {
+                let outcome = self.query(catalogue, program, argument);
+                put_read(out, index, outcome)
+            }
+            Mode::Update => match self.submit_call(catalogue, program, argument) {
+                Some(outcome) => put_update(out, index, outcome),
+                None => put_refused(out, StoreRefused::Ended),
+            },
         }
-        Mode::Update => match node.submit(catalogue, Op::Run(call)) {
-            Some(outcome) => put_update(out, index, outcome),
-            None => put_refused(out, StoreRefused::Ended),
-        },
     }
 }
 
@@ -61,10 +67,7 @@ fn run_numbered(
         return put_refused(out, StoreRefused::UnknownProgram);
     };
     match find_program(catalogue, number, argument) {
-        Ok(program) => {
-            let call = Call::new(number, argument);
-            perform(node, catalogue, program.mode(), call, out)
-        }
+        Ok(program) => node.perform(catalogue, program.mode(), number, argument, out),
         Err(refused) => put_refused(out, refused),
     }
 }
@@ -119,7 +122,7 @@ fn run_asked(
     ensures taken { TakesTurn catalogue.now (λ n h. asked n catalogue.now h mode (at_number_of call.now)) node.old node.new out.old.items out.new.items result }
 {
     match checked_call(catalogue, mode, call.program, call.argument.as_slice()) {
-        Ok(call) => perform(node, catalogue, mode, call, out),
+        Ok(call) => node.perform(catalogue, mode, call.program(), call.argument(), out),
         Err(refused) => put_refused(out, refused),
     }
 }
@@ -172,6 +175,24 @@ fn take_said(
     Ok(true)
 }
 
+// Does what a line says that is no call by a name. It stands apart, since what such a line says has much room.
+#[inline(never)]
+fn take_other(
+    node: &mut SingleNode,
+    catalogue: &Catalogue,
+    word: &str,
+    rest: &str,
+    out: &mut Vec<u8>,
+) -> Result<bool, AllocError>
+    requires rest { length rest.now ≤ LINE_BYTES }
+    requires steady { IsSteady catalogue.now node.old }
+    ensures steady { IsSteady catalogue.now node.new }
+    ensures kept { result ≡ Ok false → node.new ≡ node.old }
+    ensures taken { TakesMeaning catalogue.now (word_meaning word.now rest.now) node.old node.new out.old.items out.new.items result }
+{
+    take_said(node, catalogue, word_line(word, rest), out)
+}
+
 // Does what the words of a line say, and tells whether they say anything. A call by a name has its argument in the room.
 #[tactic(auto, unfolding(scripts::specs::Script::call_meaning))]
 fn take_words(
@@ -195,7 +216,7 @@ fn take_words(
             run_call(node, catalogue, word, argument, out)?;
             Ok(true)
         }
-        None => take_said(node, catalogue, word_line(word, rest), out),
+        None => take_other(node, catalogue, word, rest, out),
     }
 }
 

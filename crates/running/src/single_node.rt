@@ -1,11 +1,12 @@
 // One replica and one log, on one thread.
 
-ghost use Rattle.std.specs.Prelude.{◌≡◌, ◌<◌, [], true, Some, IfOk, IfSome, IfNone};
+ghost use Rattle.std.specs.Prelude.{◌≡◌, ◌<◌, ◌≤◌, [], true, length, Some, IfOk, IfSome, IfNone};
+ghost use Rattle.maps.specs.declared.shapes.TheConstants.{MAX_ARG_LEN};
 ghost use Rattle.verifier.specs.declared.refusal.Mode.TheVariants.{Update, Read};
 ghost use Rattle.loader.specs.CatalogueView.{OpensOn};
 ghost use Rattle.oplog.specs.Limits.{IsLimit};
 ghost use Rattle.oplog.specs.Logs.{tail_of, room_in};
-ghost use Rattle.oplog.specs.declared.records.Op.TheVariants.{Install};
+ghost use Rattle.oplog.specs.declared.records.Op.TheVariants.{Run, Install};
 ghost use Rattle.replica.specs.StoreMeaning.{call_of, run_of, ran_to, is_operation};
 ghost use Rattle.replica.specs.Refusals.{install_refusal, IsRefusedAs};
 ghost use Rattle.scripts.specs.ScriptShown.{program_of};
@@ -18,6 +19,7 @@ use oplog::{Hand, LogState, MAX_WINDOW, NewProgram, Op, Record};
 use replica::{Replica, Replies, StoreRefused, check_install};
 use scripts::ProgramText;
 use std::alloc::{AllocError, Global};
+use std::slice::from_ref;
 
 /// How many programs a run may install.
 pub const RUN_PLACES: usize = 4;
@@ -29,6 +31,8 @@ pub struct SingleNode {
     own: NodeReplica,
     replies: Replies,
     room: Installed,
+    // The record that is appended next, which is written where the last one stood.
+    next: Record,
 }
 
 impl SingleNode {
@@ -51,11 +55,13 @@ impl SingleNode {
         let own = NodeReplica { replica, hand };
         let replies = Replies::new(0, 0);
         let room = Installed::open(alloc, catalogue.shapes(), 1)?;
+        let next = Record::default();
         Ok(SingleNode {
             log,
             own,
             replies,
             room,
+            next,
         })
     }
 
@@ -96,6 +102,7 @@ impl SingleNode {
         ensures limit { self.new.log.limit ≡ self.old.log.limit }
         ensures tail { tail_of self.new.log ≡ tail_of self.old.log }
         ensures own { self.new.own ≡ self.old.own }
+        ensures next { self.new.next ≡ self.old.next }
     {
         let _tail = self.log.tail();
         if self.log.room() == 0 {
@@ -121,6 +128,30 @@ impl SingleNode {
         Ok(NewProgram::new(text.mode, text.arg_len as usize, bytes))
     }
 
+    // Appends the next record, with the number of the updates so far, and brings the replica up to date; `None` where the history has all
+    // its records.
+    #[inline(always)]
+    fn submit_next(&mut self, catalogue: &Catalogue) -> Option<Outcome>
+        requires steady { IsSteady catalogue.now self.old }
+        requires update { is_operation Update catalogue.now self.old.next.op ≡ true }
+        ensures steady { IsSteady catalogue.now self.new }
+        ensures updated { IfSome result (λ o. IsUpdated catalogue.now self.old.next.op self.old self.new o) }
+        ensures ended { IfNone result (HasEnded self.old self.new) }
+    {
+        self.make_room(catalogue);
+        self.next.author = 0;
+        let seq = self.log.tail();
+        self.next.seq = seq;
+        if self.log.left() == 0 {
+            return None;
+        }
+        let records = from_ref(&self.next);
+        append(&mut self.log, &mut self.own, records, &mut self.replies);
+        replay(&mut self.own, catalogue, &mut self.replies);
+        finish(&mut self.log, &self.own);
+        self.replies.get(0)
+    }
+
     /// Appends one record and brings the replica up to date; `None` where the history has all its records.
     pub fn submit(&mut self, catalogue: &Catalogue, op: Op) -> Option<Outcome>
         requires steady { IsSteady catalogue.now self.old }
@@ -129,16 +160,26 @@ impl SingleNode {
         ensures updated { IfSome result (λ o. IsUpdated catalogue.now op self.old self.new o) }
         ensures ended { IfNone result (HasEnded self.old self.new) }
     {
-        self.make_room(catalogue);
-        let seq = self.log.tail();
-        if self.log.left() == 0 {
-            return None;
-        }
-        let record = Record { author: 0, seq, op };
-        append(&mut self.log, &mut self.own, &[record], &mut self.replies);
-        replay(&mut self.own, catalogue, &mut self.replies);
-        finish(&mut self.log, &self.own);
-        self.replies.get(0)
+        self.next.op = op;
+        self.submit_next(catalogue)
+    }
+
+    /// The same of a call, whose argument is written where the record of the call before stood.
+    pub fn submit_call(
+        &mut self,
+        catalogue: &Catalogue,
+        program: u16,
+        argument: &[u8],
+    ) -> Option<Outcome>
+        requires steady { IsSteady catalogue.now self.old }
+        requires update { is_operation Update catalogue.now (Run (call_of program argument.now)) ≡ true }
+        requires fits { length argument.now ≤ MAX_ARG_LEN }
+        ensures steady { IsSteady catalogue.now self.new }
+        ensures updated { IfSome result (λ o. IsUpdated catalogue.now (Run (call_of program argument.now)) self.old self.new o) }
+        ensures ended { IfNone result (HasEnded self.old self.new) }
+    {
+        self.next.op.set_call(program, argument);
+        self.submit_next(catalogue)
     }
 
     /// What the program of a number answers as a read after all updates so far.
