@@ -4,7 +4,7 @@
 
 use crate::proved::{Proved, programs};
 use crate::rounds::in_turn;
-use crate::twins::{Caller, Replicated, Sizes, Twin};
+use crate::twins::{Caller, PLAIN, Replicated, Sizes, Twin};
 use std::hint::black_box;
 use std::time::Instant;
 
@@ -49,7 +49,7 @@ pub fn print(path: &str) {
             let times = 2 * window + 100;
             let [pipe, proved, unproved] = in_turn(|| {
                 let [pipe, proved] = proved_pauses(path, sizes, times);
-                let twin = Replicated::new(programs(), sizes, 1);
+                let twin = Replicated::<PLAIN>::new(programs(), sizes, 1);
                 let unproved = longest(times, || twin.update(Caller { node: 0, slot: 0 }, [1, 0, 0, 0]));
                 [pipe, proved, unproved]
             });

@@ -21,7 +21,7 @@ mod twins;
 use proved::{BUMP, PEEK, Proved, bytes, programs};
 use std::hint::black_box;
 use std::time::{Duration, Instant};
-use twins::{Caller, Locked, Mix, Replicated, Sizes, Twin, call_often};
+use twins::{Caller, Locked, Mix, PLAIN, Replicated, Sizes, Twin, call_often};
 
 unsafe extern "C" {
     // Runs a program so often on an array of so many counters: see crates/bench_machine.
@@ -63,7 +63,7 @@ fn timed(f: impl FnOnce() -> u64) -> (u64, Duration) {
 /// Nanoseconds a call of the proved store, of the same design unproved, and of the mutex: the best of some rounds.
 fn compared(path: &str, sizes: Sizes, call: Call, times: u64) -> [f64; 3] {
     let mut proved = Proved::start(path, 1, 1, sizes);
-    let replicated = Replicated::new(programs(), sizes, 1);
+    let replicated = Replicated::<PLAIN>::new(programs(), sizes, 1);
     let locked = Locked::new(programs(), sizes);
     // So that reads have counts to tell.
     let counted = proved.calls(word(Call::Update), 1_000);
@@ -133,7 +133,7 @@ fn alone(twin: &str, call: &str, times: u64) {
     let sizes = Sizes { window: 4_096, entries: 64, value: 8 };
     let call = if call == "update" { Call::Update } else { Call::Read };
     let sum = match twin {
-        "replicated" => twin_calls(&Replicated::new(programs(), sizes, 1), call, times),
+        "replicated" => twin_calls(&Replicated::<PLAIN>::new(programs(), sizes, 1), call, times),
         _ => twin_calls(&Locked::new(programs(), sizes), call, times),
     };
     println!("{sum}");

@@ -5,7 +5,7 @@
 use crate::classic::Classic;
 use crate::proved::{Proved, programs};
 use crate::rounds::{Spread, in_turn};
-use crate::twins::{Caller, Locked, Mix, ReadersWriter, Replicated, Sizes, Twin, call_often};
+use crate::twins::{APART, Caller, EXCHANGED, Locked, Mix, PLAIN, ReadersWriter, Replicated, Sizes, Twin, call_often};
 use std::hint::black_box;
 use std::sync::Barrier;
 use std::thread;
@@ -78,15 +78,18 @@ fn proved_rate(path: &str, load: Load) -> f64 {
     load.millions(calls, time)
 }
 
-// Millions of calls a second: the proved store, the same design unproved, classic node replication, the readers-writer lock, the mutex.
-fn compared(path: &str, load: Load) -> [Spread; 5] {
+// Millions of calls a second: the proved store, the same design unproved, classic node replication, the readers-writer lock, the mutex; and the
+// same design where a put is an exchange, and where the value lies apart too.
+fn compared(path: &str, load: Load) -> [Spread; 7] {
     in_turn(|| {
         [
             proved_rate(path, load),
-            twin_rate(&Replicated::new(programs(), SIZES, load.nodes), load),
+            twin_rate(&Replicated::<PLAIN>::new(programs(), SIZES, load.nodes), load),
             twin_rate(&Classic::new(programs(), SIZES, load.nodes), load),
             twin_rate(&ReadersWriter::new(programs(), SIZES), load),
             twin_rate(&Locked::new(programs(), SIZES), load),
+            twin_rate(&Replicated::<EXCHANGED>::new(programs(), SIZES, load.nodes), load),
+            twin_rate(&Replicated::<APART>::new(programs(), SIZES, load.nodes), load),
         ]
     })
 }
@@ -94,12 +97,15 @@ fn compared(path: &str, load: Load) -> [Spread; 5] {
 /// Prints how many calls a second each store makes, by threads, nodes and reads: medians, and half the spread of the rounds.
 pub fn print(path: &str) {
     println!("\n{:<32}{:>13}{:>13}{:>13}{:>13}{:>13}{:>9}{:>9}", "millions of calls a second", "proved", "unproved", "classic", "readers", "mutex", "to unpr.", "to mutex");
+    let mut by_table = String::new();
     for reads in [0, 90, 100] {
         for (nodes, threads) in [(1, 1), (1, 2), (1, 4), (2, 2), (2, 4)] {
-            let [proved, replicated, classic, readers_writer, locked] = compared(path, Load { threads, nodes, reads });
+            let [proved, replicated, classic, readers_writer, locked, exchanged, apart] = compared(path, Load { threads, nodes, reads });
             let name = format!("{reads} % reads, {threads} threads, {nodes} nodes");
-            let (to_unproved, to_mutex) = (proved.median / replicated.median, proved.median / locked.median);
-            println!("{name:<32}{proved:>13}{replicated:>13}{classic:>13}{readers_writer:>13}{locked:>13}{to_unproved:>9.2}{to_mutex:>9.2}");
+            let to = |other: Spread| proved.median / other.median;
+            println!("{name:<32}{proved:>13}{replicated:>13}{classic:>13}{readers_writer:>13}{locked:>13}{:>9.2}{:>9.2}", to(replicated), to(locked));
+            by_table += &format!("{name:<32}{exchanged:>13}{:>11.2}{apart:>13}{:>11.2}\n", to(exchanged), to(apart));
         }
     }
+    println!("\n{:<32}{:>13}{:>11}{:>13}{:>11}\n{by_table}", "unproved, by its table", "exchanges", "proved to", "apart too", "proved to");
 }
