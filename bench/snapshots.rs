@@ -6,17 +6,19 @@ use crate::twins::Sizes;
 use std::hint::black_box;
 use std::time::Instant;
 
-// A copy of the maps takes some 4 ms, in which the others make about as many updates as the smaller window has.
-const WINDOWS: [usize; 2] = [4_096, 65_536];
+const SIZES: Sizes = Sizes { window: 4_096, entries: 65_536, value: 248 };
 const BYTES: usize = 16 << 20;
 
-fn sizes(window: usize) -> Sizes {
-    Sizes { window, entries: 65_536, value: 248 }
-}
-
-// How many snapshots are timed, and how many calls each of the others makes.
+// How many snapshots are timed.
 const TIMES: u64 = 20;
-const CALLS: u64 = 100_000;
+
+// What two of three nodes do while the third takes snapshots: so many calls each, of which so many in 100 are reads; and so many looks of the third
+// between two snapshots. A million looks take some 50 ms.
+const BESIDE: [(&str, u64, u64, u32); 3] = [
+    ("100,000 updates each", 100_000, 0, 0),
+    ("1,000,000 with pauses", 1_000_000, 0, 1_000_000),
+    ("2,000,000 reads each", 2_000_000, 100, 0),
+];
 
 // How long this takes, in milliseconds.
 fn milliseconds(call: impl FnOnce() -> u64) -> f64 {
@@ -33,13 +35,12 @@ fn copied(from: &[u8], into: &mut [u8]) -> u64 {
 }
 
 // How long two of three nodes take for their calls, of which so many in 100 are reads, and how many snapshots the third one took.
-fn beside(path: &str, word: &str, reads: u64, window: usize) -> [f64; 2] {
-    let mut proved = Proved::start(path, 3, 1, sizes(window));
+fn beside(path: &str, words: &str, calls: u64) -> [f64; 2] {
+    let mut proved = Proved::start(path, 3, 1, SIZES);
     proved.calls("update", 1);
     let mut taken = 0;
-    let words = format!("{word} 2 {reads}");
     let time = milliseconds(|| {
-        taken = proved.calls(&words, CALLS);
+        taken = proved.calls(words, calls);
         taken
     });
     proved.end();
@@ -49,7 +50,7 @@ fn beside(path: &str, word: &str, reads: u64, window: usize) -> [f64; 2] {
 /// Prints both, in milliseconds.
 pub fn print(path: &str) {
     let (from, mut into) = (vec![1u8; BYTES], vec![0u8; BYTES]);
-    let mut proved = Proved::start(path, 1, 1, sizes(WINDOWS[0]));
+    let mut proved = Proved::start(path, 1, 1, SIZES);
     proved.calls("update", 1);
     proved.calls("snapshot", 1);
     let [room, taken, plain] = in_turn(|| {
@@ -61,12 +62,12 @@ pub fn print(path: &str) {
     println!("\n{:<28}{:>18}{:>18}{:>22}", "16 MiB of maps, ms", "a snapshot", "a memcpy", "room and a snapshot");
     println!("{:<28}{taken:>18}{plain:>18}{room:>22}", "one node");
     println!("\n{:<28}{:>18}{:>22}{:>14}", "two of three nodes, ms", "the third idle", "it takes snapshots", "so many");
-    for window in WINDOWS {
+    for (name, calls, reads, pause) in BESIDE {
         let [idle, taking, taken] = in_turn(|| {
-            let idle = beside(path, "busy", 0, window);
-            let taking = beside(path, "beside", 0, window);
+            let idle = beside(path, &format!("busy 2 {reads}"), calls);
+            let taking = beside(path, &format!("beside {pause} 2 {reads}"), calls);
             [idle[0], taking[0], taking[1]]
         });
-        println!("{:<28}{idle:>18}{taking:>22}{:>14.0}", format!("100,000 updates, {window}"), taken.median);
+        println!("{name:<28}{idle:>18}{taking:>22}{:>14.0}", taken.median);
     }
 }

@@ -4,8 +4,8 @@
 //! the sum of their replies, modulo 2^64, is written. So it is with `put N`, which puts the keys below N into the hash. `scan N` scans the hash so
 //! often from its first place to its last, 16 entries a call, and writes the sum of the keys and values that were given. Or it is `threads R N`: each
 //! session makes so many calls on a thread of its own, R of 100 of them reads, and 0 is written. So it is with `busy K R N`, where the first K
-//! sessions alone make calls, and with `beside K R N`, where another one takes snapshots meanwhile: their number is written. `snapshot N`: the first
-//! session takes so many, and 0 is written. At the first line `reopen N` the store is closed, and a store is opened on the state that it ends in, which
+//! sessions alone make calls, and with `beside P K R N`, where another one takes snapshots meanwhile, with P looks at the others between two: their
+//! number is written. `snapshot N`: the first session takes so many, and 0 is written. At the first line `reopen N` the store is closed, and a store is opened on the state that it ends in, which
 //! goes on; 0 is written.
 #![tactic(auto)]
 
@@ -16,6 +16,7 @@ ghost use Rattle.store_steps.specs.Shelving.{sessions_of};
 use loader::{Catalogue, StoreState, load_manifest};
 use oplog::{ENDLESS, Sizes};
 use std::alloc::Global;
+use std::hint::spin_loop;
 use std::process::ExitCode;
 use std::sync::Wait;
 use std::sync::atomic::{AtomicU64, Ordering};
@@ -61,17 +62,19 @@ struct Mix {
     times: u64,
 }
 
-// Such calls of each of the first so many sessions, and whether the one behind them takes snapshots meanwhile.
+// Such calls of each of the first so many sessions, and whether the one behind them takes snapshots meanwhile, with so many looks between two.
 #[derive(Clone, Copy)]
 struct Crowd {
     busy: usize,
     mix: Mix,
     takes: bool,
+    pause: u32,
 }
 
 // How many of the busy sessions are not done yet, and how many snapshots were taken.
 #[derive(Drop)]
 struct Counts {
+    pause: u32,
     left: AtomicU64,
     taken: AtomicU64,
 }
@@ -213,7 +216,7 @@ fn take_often<R: Wait>(
     Some(0)
 }
 
-// Takes snapshots until the busy sessions are done.
+// Takes snapshots until the busy sessions are done, and looks so often between two of them whether they are.
 fn take_beside<R: Wait>(
     rt: &R,
     alloc: Global,
@@ -233,6 +236,12 @@ fn take_beside<R: Wait>(
         }
         session.snapshot(rt, store, &mut state);
         counts.taken.fetch_add(1, Ordering::SeqCst);
+        for _ in 0..counts.pause {
+            if counts.left.load(Ordering::SeqCst) == 0 {
+                return;
+            }
+            spin_loop();
+        }
     }
 }
 
@@ -254,6 +263,7 @@ fn call_all<R: Threads + Wait + Sync>(
     let counts = Counts {
         left: AtomicU64::new(crowd.busy.min(threads) as u64),
         taken: AtomicU64::new(0),
+        pause: crowd.pause,
     };
     thread::for_each_mut(
         rt,
@@ -305,6 +315,12 @@ fn mix_in(line: &str) -> Option<Mix> {
 fn crowd_in(line: &str, sessions: usize) -> Option<Crowd> {
     let (word, rest) = line.split_once(' ')?;
     let takes = word == "beside";
+    let (pause, rest) = if takes {
+        let (pause, rest) = rest.split_once(' ')?;
+        (pause.parse().ok()?, rest)
+    } else {
+        (0, rest)
+    };
     let (busy, rest) = match word {
         "threads" => (sessions, rest),
         "busy" | "beside" => {
@@ -314,7 +330,12 @@ fn crowd_in(line: &str, sessions: usize) -> Option<Crowd> {
         _ => return None,
     };
     let mix = mix_in(rest)?;
-    Some(Crowd { busy, mix, takes })
+    Some(Crowd {
+        busy,
+        mix,
+        takes,
+        pause,
+    })
 }
 
 // What a line asks for; none where it asks for nothing, or a call is refused.
