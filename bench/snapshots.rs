@@ -13,10 +13,10 @@ const BYTES: usize = 16 << 20;
 const TIMES: u64 = 20;
 
 // What two of three nodes do while the third takes snapshots: so many calls each, of which so many in 100 are reads; and so many looks of the third
-// between two snapshots. A million looks take some 50 ms.
+// between two snapshots. Ten million looks take some 50 ms.
 const BESIDE: [(&str, u64, u64, u32); 3] = [
     ("100,000 updates each", 100_000, 0, 0),
-    ("1,000,000 with pauses", 1_000_000, 0, 1_000_000),
+    ("2,000,000 with pauses", 2_000_000, 0, 10_000_000),
     ("2,000,000 reads each", 2_000_000, 100, 0),
 ];
 
