@@ -17,7 +17,6 @@ use combiner::{Batch, Reply};
 use crossbeam_utils::Backoff;
 use oplog::Op;
 use ownlock::{Seat, Shelf};
-use std::hint::spin_loop;
 use std::marker::Brand;
 use std::sync::Wait;
 
@@ -119,9 +118,9 @@ fn turn<R: Wait>(rt: &R, here: Here<'_>, seat: &mut Seat<Value>, batch: &mut Bat
 const LOOKS: usize = 8;
 
 // Waits until a place was taken or put back, and no longer than so many looks: its word may move between two of them, or not again.
-// The look at the word leaves its cache line with the one that combines, where a turn at the desk would take that of the desk. Answers
-// whether the word has moved.
-fn watch(shelf: &Shelf<Value>, place: usize) -> bool
+// The look at the word leaves its cache line with the one that combines, where a turn at the desk would take that of the desk.
+#[inline(never)]
+fn watch(shelf: &Shelf<Value>, place: usize)
     requires { place < shelf.now.places }
 {
     let seen = shelf.glance(place);
@@ -129,45 +128,14 @@ fn watch(shelf: &Shelf<Value>, place: usize) -> bool
     for _ in 0..LOOKS {
         backoff.snooze();
         if shelf.glance(place) != seen {
-            return true;
-        }
-    }
-    false
-}
-
-// How often a session looks at the word of its desk, once its node's replica was put back: the answers come there soon after.
-const DESK_LOOKS: usize = 24;
-
-// Waits until the desk was seen taken and then free again, and no longer than so many looks. Who comes before the answers do holds up the
-// one that hands them over.
-fn watch_desk(shelf: &Shelf<Value>, place: usize)
-    requires { place < shelf.now.places }
-{
-    let mut was_taken = false;
-    for _ in 0..DESK_LOOKS {
-        let is_taken = shelf.glance(place) != 0;
-        if was_taken && !is_taken {
             return;
         }
-        was_taken = is_taken;
-        spin_loop();
-    }
-}
-
-// Waits for the one that combines: until the replica of the node was put back, and then the desk with the answers.
-#[inline(never)]
-fn watch_for_answers(shelf: &Shelf<Value>, replica: usize, desk: usize)
-    requires replica { replica < shelf.now.places }
-    requires desk { desk < shelf.now.places }
-{
-    if watch(shelf, replica) {
-        watch_desk(shelf, desk);
     }
 }
 
 /// Waits for the answer to the request that the caller has posted, and collects it. Where nobody combines the requests of its
 /// node, the caller does, in the room that is lent, and counts the batch; else it watches
-/// the place of its node's replica, which the one that combines puts back before it hands the answers over, and then that of its desk.
+/// the place of its node's replica, which the one that combines puts back before it hands the answers over.
 pub fn complete<R: Wait>(rt: &R, here: Here<'_>, seat: &mut Seat<Value>, room: &mut Room) -> Reply
     requires own { seat.old.shelf ≡ here.shared.shelf.now.id }
     requires asked { AwaitsAnswer seat.old here.caller here.shared }
@@ -182,11 +150,7 @@ pub fn complete<R: Wait>(rt: &R, here: Here<'_>, seat: &mut Seat<Value>, room: &
                 combine(rt, here, seat, &mut room.batch, &mut room.replies);
                 room.count();
             }
-            Turn::Waits => watch_for_answers(
-                here.shared.shelf,
-                1 + here.caller.node,
-                1 + here.shared.nodes + here.caller.node,
-            ),
+            Turn::Waits => watch(here.shared.shelf, 1 + here.caller.node),
         }
     }
     unreachable!()
