@@ -1,9 +1,5 @@
 //! Stores whose history has no end, or as good as none.
 
-ghost use Rattle.std.specs.Prelude.{◌≡◌};
-ghost use Rattle.store.specs.Sessions.{IsOf};
-ghost use Rattle.oplog.specs.Limits.{AreSizes, IsConfig};
-
 use crate::single_store::{ZERO, close, counter};
 use loader::Catalogue;
 use oplog::{Config, ENDLESS, OpenError, Sizes};
@@ -11,10 +7,7 @@ use std::alloc::Global;
 use store::{Answer, Store};
 
 // One node of one slot and a window of sixteen.
-fn sized(limit: u64) -> Sizes
-    ensures one { (result.nodes ≡ 1) × (result.slots ≡ 1) }
-    ensures limit { result.limit ≡ limit }
-{
+fn sized(limit: u64) -> Sizes {
     Sizes {
         nodes: 1,
         slots: 1,
@@ -25,9 +18,7 @@ fn sized(limit: u64) -> Sizes
 }
 
 // Why there is no store of these sizes.
-fn fault_of(alloc: Global, sizes: Sizes, catalogue: Catalogue) -> OpenError
-    requires out { AreSizes sizes → ⊥ }
-{
+fn fault_of(alloc: Global, sizes: Sizes, catalogue: Catalogue) -> OpenError {
     match Store::open_sized(alloc, sizes, catalogue) {
         Err(error) => error,
         Ok(_) => unreachable!(),
@@ -35,9 +26,7 @@ fn fault_of(alloc: Global, sizes: Sizes, catalogue: Catalogue) -> OpenError
 }
 
 // Why there is none of this configuration.
-fn fault_in(alloc: Global, config: Config, catalogue: Catalogue) -> OpenError
-    requires out { IsConfig config → ⊥ }
-{
+fn fault_in(alloc: Global, config: Config, catalogue: Catalogue) -> OpenError {
     match Store::open(alloc, config, catalogue) {
         Err(error) => error,
         Ok(_) => unreachable!(),

@@ -1,11 +1,5 @@
 //! What goes on while a session holds the log, or the replica of another node.
 
-ghost use Rattle.std.specs.Prelude.{◌≡◌, ◌+◌, ◌*◌, IfSome, length};
-ghost use Rattle.store.specs.Opening.{AreOf};
-ghost use Rattle.store.specs.Sessions.{IsOf};
-ghost use Rattle.store_steps.specs.Standing.{IsThere};
-ghost use Rattle.test_store.specs.Held.{IsThereIn};
-
 use crate::single_store::{ZERO, counter};
 use crate::two_nodes::last_of;
 use crossbeam_utils::Backoff;
@@ -64,10 +58,7 @@ pub(crate) fn opened(
     nodes: u32,
     slots: u32,
     limit: u32,
-) -> Option<(Store, Vec<Session>)>
-    ensures own { IfSome result (λ t. AreOf t.0 t.1.items) }
-    ensures count { IfSome result (λ t. length t.1.items ≡ nodes * slots) }
-{
+) -> Option<(Store, Vec<Session>)> {
     let catalogue = counter(alloc)?;
     let config = Config {
         nodes,
@@ -85,10 +76,7 @@ fn ready_read<R: Wait>(
     shared: Shared<'_>,
     mut seat: Seat<Value>,
     caller: Caller,
-) -> (u64, ReadAnswer)
-    requires own { seat.shelf ≡ shared.shelf.now.id }
-    requires there { IsThere seat caller shared.shelf.now.places shared.nodes shared.catalogue.now }
-{
+) -> (u64, ReadAnswer) {
     shared.shelf.raise(&mut seat, 0);
     let done = shared.shelf.done(&mut seat);
     let question = Question {
@@ -107,9 +95,7 @@ fn read_beside<R: Wait + Threads + Sync>(
     store: &Store,
     one: Session,
     other: Session,
-) -> (u64, ReadAnswer)
-    requires own { IsOf store.now one × IsOf store.now other }
-{
+) -> (u64, ReadAnswer) {
     let shared = store.shared();
     let (mut one, _) = one.into_parts();
     let (other, caller) = other.into_parts();
@@ -117,10 +103,7 @@ fn read_beside<R: Wait + Threads + Sync>(
     let ((), answers) = thread::join(
         rt,
         move || {},
-        move ||
-            requires own { other.shelf ≡ shared.shelf.now.id }
-            requires there { IsThere other caller shared.shelf.now.places shared.nodes shared.catalogue.now }
-        { ready_read(rt, shared, other, caller) },
+        move || { ready_read(rt, shared, other, caller) },
     );
     shared.shelf.put::<Brand>(&mut one, log);
     answers
@@ -132,12 +115,7 @@ fn sees_combiner<R: Wait>(
     shared: Shared<'_>,
     seat: &mut Seat<Value>,
     caller: Caller,
-) -> bool
-    requires own { seat.old.shelf ≡ shared.shelf.now.id }
-    requires there { IsThere seat.old caller shared.shelf.now.places shared.nodes shared.catalogue.now }
-    ensures same { seat.new.shelf ≡ seat.old.shelf }
-    ensures there { IsThere seat.new caller shared.entry.shelf.now.places shared.entry.nodes shared.entry.catalogue.now }
-{
+) -> bool {
     let desk = shared.shelf.take(rt, seat, 1 + shared.nodes + caller.node);
     let claimed = match &desk.value {
         Value::Desk(desk) => desk.claimed(),
@@ -148,10 +126,7 @@ fn sees_combiner<R: Wait>(
 }
 
 // Looks until somebody combines there. It gives up after ten million looks.
-fn waits_for_combiner<R: Wait>(rt: &R, shared: Shared<'_>, own: Own) -> bool
-    requires own { own.seat.shelf ≡ shared.shelf.now.id }
-    requires there { IsThere own.seat own.caller shared.shelf.now.places shared.nodes shared.catalogue.now }
-{
+fn waits_for_combiner<R: Wait>(rt: &R, shared: Shared<'_>, own: Own) -> bool {
     let Own { mut seat, caller } = own;
     let backoff = Backoff::new();
     for _ in 0..10_000_000 {
@@ -181,17 +156,13 @@ fn update<R: Wait>(
     store: &Store,
     session: &mut Session,
     flags: &Flags,
-) -> Result<Answer, StoreRefused>
-    requires own { IsOf store.now session.old }
-{
+) -> Result<Answer, StoreRefused> {
     waits_for(&flags.held);
     session.invoke(rt, store, 0, &ZERO)
 }
 
 // An update and a read, once somebody combines at the other node.
-fn update_and_read<R: Wait>(rt: &R, store: &Store, session: &mut Session, flags: &Flags) -> Calls
-    requires own { IsOf store.now session.old }
-{
+fn update_and_read<R: Wait>(rt: &R, store: &Store, session: &mut Session, flags: &Flags) -> Calls {
     waits_for(&flags.claimed);
     let update = session.invoke(rt, store, 0, &ZERO);
     let read = session.read(rt, store, 1, &ZERO);
@@ -201,11 +172,7 @@ fn update_and_read<R: Wait>(rt: &R, store: &Store, session: &mut Session, flags:
 
 // Holds the replica of its node until somebody combines there, and the calls of the other node are answered. Says whether either
 // came in time.
-fn hold<R: Wait>(rt: &R, shared: Shared<'_>, pair: Pair, flags: &Flags) -> (bool, bool)
-    requires own { (pair.holding.seat.shelf ≡ shared.shelf.now.id) × (pair.watching.seat.shelf ≡ shared.shelf.now.id) }
-    requires holding { IsThere pair.holding.seat pair.holding.caller shared.shelf.now.places shared.nodes shared.catalogue.now }
-    requires watching { IsThere pair.watching.seat pair.watching.caller shared.shelf.now.places shared.nodes shared.catalogue.now }
-{
+fn hold<R: Wait>(rt: &R, shared: Shared<'_>, pair: Pair, flags: &Flags) -> (bool, bool) {
     let Pair { holding, watching } = pair;
     let Own { mut seat, caller } = holding;
     let replica = shared.shelf.take(rt, &mut seat, 1 + caller.node);
@@ -224,23 +191,12 @@ fn beside_held<R: Wait + Threads + Sync>(
     beside: &mut Session,
     pair: Pair,
     flags: &Flags,
-) -> (Calls, (bool, bool))
-    requires own { IsOf store.now beside.old }
-    requires shelf { (pair.holding.seat.shelf ≡ store.now.id) × (pair.watching.seat.shelf ≡ store.now.id) }
-    requires holding { IsThereIn store.now pair.holding.seat pair.holding.caller }
-    requires watching { IsThereIn store.now pair.watching.seat pair.watching.caller }
-{
+) -> (Calls, (bool, bool)) {
     let shared = store.shared();
     thread::join(
         rt,
-        move ||
-            requires { IsOf store.now beside.now }
-        { update_and_read(rt, store, beside, flags) },
-        move ||
-            requires own { (pair.holding.seat.shelf ≡ shared.shelf.now.id) × (pair.watching.seat.shelf ≡ shared.shelf.now.id) }
-            requires holding { IsThere pair.holding.seat pair.holding.caller shared.shelf.now.places shared.nodes shared.catalogue.now }
-            requires watching { IsThere pair.watching.seat pair.watching.caller shared.shelf.now.places shared.nodes shared.catalogue.now }
-        { hold(rt, shared, pair, flags) },
+        move || { update_and_read(rt, store, beside, flags) },
+        move || { hold(rt, shared, pair, flags) },
     )
 }
 
@@ -251,12 +207,7 @@ fn two_nodes<R: Wait + Threads + Sync>(
     asking: &mut Session,
     beside: &mut Session,
     pair: Pair,
-) -> Told
-    requires own { IsOf store.now asking.old × IsOf store.now beside.old }
-    requires shelf { (pair.holding.seat.shelf ≡ store.now.id) × (pair.watching.seat.shelf ≡ store.now.id) }
-    requires holding { IsThereIn store.now pair.holding.seat pair.holding.caller }
-    requires watching { IsThereIn store.now pair.watching.seat pair.watching.caller }
-{
+) -> Told {
     let flags = Flags {
         held: AtomicBool::new(false),
         claimed: AtomicBool::new(false),
@@ -265,15 +216,8 @@ fn two_nodes<R: Wait + Threads + Sync>(
     let flags = &flags;
     let (asked, (calls, in_time)) = thread::join(
         rt,
-        move ||
-            requires { IsOf store.now asking.now }
-        { update(rt, store, asking, flags) },
-        move ||
-            requires own { IsOf store.now beside.now }
-            requires shelf { (pair.holding.seat.shelf ≡ store.now.id) × (pair.watching.seat.shelf ≡ store.now.id) }
-            requires holding { IsThereIn store.now pair.holding.seat pair.holding.caller }
-            requires watching { IsThereIn store.now pair.watching.seat pair.watching.caller }
-        { beside_held(rt, store, beside, pair, flags) },
+        move || { update(rt, store, asking, flags) },
+        move || { beside_held(rt, store, beside, pair, flags) },
     );
     Told {
         in_time,
@@ -283,11 +227,7 @@ fn two_nodes<R: Wait + Threads + Sync>(
 }
 
 // A session's parts.
-fn own_of(store: &Store, session: Session) -> Own
-    requires own { IsOf store.now session }
-    ensures shelf { result.seat.shelf ≡ store.now.id }
-    ensures there { IsThereIn store.now result.seat result.caller }
-{
+fn own_of(store: &Store, session: Session) -> Own {
     let _shared = store.shared();
     let (seat, caller) = session.into_parts();
     Own { seat, caller }
@@ -308,10 +248,7 @@ fn beside_a_held_replica<R: Wait + Threads + Sync>(
     rt: &R,
     store: &Store,
     mut sessions: Vec<Session>,
-) -> Told
-    requires own { AreOf store.now sessions.items }
-    requires six { length sessions.items ≡ 6 }
-{
+) -> Told {
     let _ = last_of(store, &mut sessions).into_parts();
     let _ = last_of(store, &mut sessions).into_parts();
     let mut beside = last_of(store, &mut sessions);

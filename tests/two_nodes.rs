@@ -1,22 +1,12 @@
 //! A store of two nodes of one slot each, call by call.
 
-ghost use Rattle.std.specs.Prelude.{◌≡◌, ◌+◌, ◌<◌, ◌≤◌, [], length, vec_capacity};
-ghost use Rattle.store.specs.Opening.{AreOf};
-ghost use Rattle.store.specs.Sessions.{IsOf};
-
 use crate::single_store::{ZERO, counter};
 use oplog::Config;
 use readpath::ReadAnswer;
 use store::{Answer, Closed, Session, Store};
 
 // The last of the sessions.
-pub(crate) fn last_of(store: &Store, sessions: &mut Vec<Session>) -> Session
-    requires own { AreOf store.now sessions.old.items }
-    requires some { 0 < length sessions.old.items }
-    ensures own { IsOf store.now result }
-    ensures others { AreOf store.now sessions.new.items }
-    ensures count { length sessions.old.items ≡ length sessions.new.items + 1 }
-{
+pub(crate) fn last_of(store: &Store, sessions: &mut Vec<Session>) -> Session {
     let Some(last) = sessions.pop() else {
         unreachable!()
     };
@@ -24,11 +14,7 @@ pub(crate) fn last_of(store: &Store, sessions: &mut Vec<Session>) -> Session
 }
 
 // Ends the store, once both sessions are back.
-fn close_both(store: Store, one: Session, other: Session, mut sessions: Vec<Session>) -> Closed
-    requires own { IsOf store one × IsOf store other }
-    requires two { (store.config.nodes ≡ 2) × (store.config.slots ≡ 1) }
-    requires room { (sessions.items ≡ []) × (2 ≤ vec_capacity sessions) }
-{
+fn close_both(store: Store, one: Session, other: Session, mut sessions: Vec<Session>) -> Closed {
     sessions.push_reserved(one);
     sessions.push_reserved(other);
     match store.close(sessions) {

@@ -1,8 +1,5 @@
 //! A replica, as it opens and as it follows a base.
 
-ghost use Rattle.std.specs.Prelude.{◌≡◌, IfSome};
-ghost use Rattle.loader.specs.StoreState.{opened_state};
-
 use loader::{Installed, StoreState};
 use maps::{MapSet, Shape, shapes_ok};
 use replica::{Replica, Replies};
@@ -14,9 +11,7 @@ const SHAPES: [Shape; 1] = [Shape::Array {
 }];
 
 // A new replica of these maps, in which one program may be installed.
-fn opened_replica(alloc: Global) -> Option<Replica>
-    ensures opened { IfSome result (λ r. r ≡ record { tail = 0; state = opened_state (record { shapes = SHAPES; places = 1 }) }) }
-{
+fn opened_replica(alloc: Global) -> Option<Replica> {
     if shapes_ok(&SHAPES).is_err() {
         return None;
     }

@@ -1,8 +1,5 @@
 //! A store of one node of one slot, call by call.
 
-ghost use Rattle.std.specs.Prelude.{◌≡◌, ◌≤◌, [], vec_capacity};
-ghost use Rattle.store.specs.Sessions.{IsOf};
-
 use loader::{Catalogue, load_manifest};
 use oplog::Config;
 use readpath::ReadAnswer;
@@ -28,9 +25,7 @@ pub(crate) fn counter(alloc: Global) -> Option<Catalogue> {
     load_manifest(alloc, MANIFEST, &files).ok()
 }
 
-pub(crate) fn single(window: u32, limit: u32, spare: u32) -> Config
-    ensures { (result.nodes ≡ 1) × (result.slots ≡ 1) }
-{
+pub(crate) fn single(window: u32, limit: u32, spare: u32) -> Config {
     Config {
         nodes: 1,
         slots: 1,
@@ -41,11 +36,7 @@ pub(crate) fn single(window: u32, limit: u32, spare: u32) -> Config
 }
 
 // Ends the store, once its session is back.
-pub(crate) fn close(store: Store, session: Session, mut sessions: Vec<Session>) -> Closed
-    requires own { IsOf store session }
-    requires one { (store.config.nodes ≡ 1) × (store.config.slots ≡ 1) }
-    requires room { (sessions.items ≡ []) × (1 ≤ vec_capacity sessions) }
-{
+pub(crate) fn close(store: Store, session: Session, mut sessions: Vec<Session>) -> Closed {
     sessions.push_reserved(session);
     match store.close(sessions) {
         Ok(closed) => closed,

@@ -1,8 +1,6 @@
 //! Scans of a hash, page by page. At one point they give each key once. A removal between two pages may move a key, which is passed by then, or
 //! given twice: the pages tell by their points that they are of two states.
 
-ghost use Rattle.store.specs.Sessions.{IsOf};
-
 use crate::single_store::{close, single};
 use loader::{Catalogue, load_manifest};
 use std::alloc::Global;
@@ -34,19 +32,13 @@ fn hash(alloc: Global) -> Option<Catalogue> {
     load_manifest(alloc, MANIFEST, &files).ok()
 }
 
-fn put_each<R: Wait>(rt: &R, store: &Store, session: &mut Session, keys: &[u8])
-    requires own { IsOf store.now session.old }
-    ensures own { IsOf store.now session.new }
-{
+fn put_each<R: Wait>(rt: &R, store: &Store, session: &mut Session, keys: &[u8]) {
     for key in keys {
         let _told = session.invoke(rt, store, 0, &[*key, 7]);
     }
 }
 
-fn page_from<R: Wait>(rt: &R, store: &Store, session: &mut Session, from: u32) -> Option<Page>
-    requires own { IsOf store.now session.old }
-    ensures own { IsOf store.now session.new }
-{
+fn page_from<R: Wait>(rt: &R, store: &Store, session: &mut Session, from: u32) -> Option<Page> {
     let mut keys = [99; 2];
     let begin = Beginning { map: 0, from };
     let told = session.scan(rt, store, begin, &mut keys, &mut [0; 2]);

@@ -1,7 +1,5 @@
 //! A store of every schedule, by its calls, of what no row of crates/test_commands can say.
 
-ghost use Rattle.std.specs.Prelude.{◌≡◌, IfSome};
-
 use combiner::Reply;
 use loader::load_manifest;
 use oplog::{Config, CopyAnswer, Hand, LogState};
@@ -53,9 +51,7 @@ fn read_begin(alloc: Global, node: u64, slot: u64) -> Option<Step> {
 }
 
 // A hand as wide as the log.
-fn hand_for(alloc: Global, log: &LogState) -> Option<Hand>
-    ensures window { IfSome result (λ hand. hand.window ≡ log.now.window) }
-{
+fn hand_for(alloc: Global, log: &LogState) -> Option<Hand> {
     let held = log.tail() - log.base();
     let window = log.room() + held as usize;
     Hand::open(alloc, window).ok()

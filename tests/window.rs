@@ -1,9 +1,5 @@
 //! The log with its window, and the hands that its records are copied into.
 
-ghost use Rattle.std.specs.Prelude.{◌≡◌, ◌≤◌, IfSome};
-ghost use Rattle.loader.specs.StoreState.{opened_state};
-ghost use Rattle.oplog.specs.Logs.{opened_log};
-
 use loader::{Installed, StoreState};
 use maps::{MapSet, Shape, shapes_ok};
 use oplog::{
@@ -19,9 +15,7 @@ const SHAPES: [Shape; 1] = [Shape::Array {
 }];
 
 // A new log over these maps, with a place for one program. It keeps sixteen records, and its history may have three.
-fn opened_log(alloc: Global) -> Option<LogState>
-    ensures opened { IfSome result (λ g. g ≡ opened_log (opened_state (record { shapes = SHAPES; places = 1 })) 16 3) }
-{
+fn opened_log(alloc: Global) -> Option<LogState> {
     if shapes_ok(&SHAPES).is_err() {
         return None;
     }

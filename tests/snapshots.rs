@@ -1,10 +1,5 @@
 //! States that are taken while a store runs, and the value under one key.
 
-ghost use Rattle.std.specs.Prelude.{◌≡◌};
-ghost use Rattle.loader.specs.CatalogueView.{sizes_for};
-ghost use Rattle.loader.specs.StoreState.{sizes_of};
-ghost use Rattle.store.specs.Sessions.{IsOf};
-
 use crate::held_places::opened;
 use crate::single_store::{ZERO, counter, single};
 use crate::two_nodes::last_of;
@@ -35,9 +30,7 @@ fn count_in(state: &StoreState) -> Option<u64> {
 }
 
 // Counts.
-fn count<R: Wait>(rt: &R, store: &Store, session: &mut Session)
-    requires own { IsOf store.now session.old }
-{
+fn count<R: Wait>(rt: &R, store: &Store, session: &mut Session) {
     for _ in 0..TIMES {
         let _ = session.invoke(rt, store, 0, &ZERO);
     }
@@ -54,10 +47,7 @@ struct Taken {
 }
 
 // Takes states.
-fn take<R: Wait>(rt: &R, store: &Store, session: &mut Session, mut state: StoreState) -> Taken
-    requires own { IsOf store.now session.old }
-    requires sizes { sizes_of state ≡ sizes_for store.now.catalogue }
-{
+fn take<R: Wait>(rt: &R, store: &Store, session: &mut Session, mut state: StoreState) -> Taken {
     let mut right = 0u32;
     let mut last = 0;
     for _ in 0..STATES {
@@ -77,19 +67,11 @@ fn take_beside<R: Wait + Threads + Sync>(
     counting: &mut Session,
     taking: &mut Session,
     state: StoreState,
-) -> Taken
-    requires own { IsOf store.now counting.old × IsOf store.now taking.old }
-    requires sizes { sizes_of state ≡ sizes_for store.now.catalogue }
-{
+) -> Taken {
     let ((), taken) = thread::join(
         rt,
-        move ||
-            requires { IsOf store.now counting.now }
-        { count(rt, store, counting) },
-        move ||
-            requires own { IsOf store.now taking.now }
-            requires sizes { sizes_of state ≡ sizes_for store.now.catalogue }
-        { take(rt, store, taking, state) },
+        move || { count(rt, store, counting) },
+        move || { take(rt, store, taking, state) },
     );
     taken
 }
@@ -118,13 +100,8 @@ fn states_beside_counters(rt: HostRuntime) {
     let (counting, beside, taking) = (&mut one, &mut other, &mut third);
     let ((), taken) = thread::join(
         run,
-        move ||
-            requires { IsOf shared.now counting.now }
-        { count(run, shared, counting) },
-        move ||
-            requires own { IsOf shared.now beside.now × IsOf shared.now taking.now }
-            requires sizes { sizes_of state ≡ sizes_for shared.now.catalogue }
-        { take_beside(run, shared, beside, taking, state) },
+        move || { count(run, shared, counting) },
+        move || { take_beside(run, shared, beside, taking, state) },
     );
     let _ = one.into_parts();
     let _ = other.into_parts();
@@ -143,10 +120,7 @@ fn take_if_sized<R: Wait>(
     store: &Store,
     session: &mut Session,
     into: &mut StoreState,
-) -> Option<u64>
-    requires own { IsOf store.now session.old }
-    ensures own { IsOf store.now session.new }
-{
+) -> Option<u64> {
     if !into.is_sized_for(store.catalogue()) {
         return None;
     }
@@ -225,10 +199,7 @@ fn look_at_once(
     session: Session,
     value: &mut [u8; 8],
     state: &mut StoreState,
-) -> Option<Told>
-    requires own { IsOf store.now session }
-    requires sizes { sizes_of state.old ≡ sizes_for store.now.catalogue }
-{
+) -> Option<Told> {
     let mut polled = Polled::new(session);
     if polled.is_waiting() {
         return None;

@@ -1,9 +1,6 @@
 //! What the helper functions answer to many keys, at random and chosen. Errors are told by their negatives modulo 2^64: ENOENT 2, EEXIST 17.
 //! Each answer by itself is in crates/test_commands.
 
-ghost use Rattle.std.specs.Prelude.{◌≡◌, slice_get, Some, vec_len};
-ghost use Rattle.maps.specs.MapSets.{stored_shapes};
-
 use helpers::{delete, update};
 use maps::{MapSet, Shape};
 use std::test::Fail;
@@ -29,10 +26,7 @@ fn key_of(number: u64, chosen: bool) -> [u8; 8] {
 
 /// How many answers are wrong of 131,072 updates with NOEXIST and deletes of keys at random, in a map whose keys are told
 /// beside it.
-fn wrong_answers(maps: &mut MapSet, present: &mut Vec<bool>, chosen: bool) -> u32
-    requires shape { slice_get (stored_shapes maps.old) 0 ≡ Some WIDE }
-    requires present { vec_len present.old ≡ 65536 }
-{
+fn wrong_answers(maps: &mut MapSet, present: &mut Vec<bool>, chosen: bool) -> u32 {
     let mut wrong = 0u32;
     let mut random = 1u64;
     for _ in 0..131_072 {

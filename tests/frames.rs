@@ -1,13 +1,9 @@
 // Frames: what is known at the entry, what a mark or a pointer changes, and what two frames have in common.
 
-ghost use Rattle.std.specs.Prelude.{◌≤◌};
-
 use regkind::{Cell, Frame, Kind, covers, join};
 
 // A frame of the entry in which R2 has this kind and these eight bytes of the stack are marked.
-fn changed(kind: Kind, at: usize) -> Frame
-    requires within { at ≤ 504 }
-{
+fn changed(kind: Kind, at: usize) -> Frame {
     let mut frame = Frame::entry();
     frame.set_kind(2, kind);
     frame.mark(at, 8);

@@ -1,7 +1,5 @@
 //! A session that is answered by another of its node.
 
-ghost use Rattle.store.specs.Sessions.{IsOf};
-
 use crate::held_places::opened;
 use crate::single_store::ZERO;
 use crate::two_nodes::last_of;
@@ -14,9 +12,7 @@ fn answered_by_other<R: Wait>(
     store: &Store,
     first: Session,
     other: &mut Session,
-) -> Option<(Result<Answer, StoreRefused>, Result<Answer, StoreRefused>)>
-    requires own { IsOf store.now first × IsOf store.now other.old }
-{
+) -> Option<(Result<Answer, StoreRefused>, Result<Answer, StoreRefused>)> {
     let mut first = Polled::new(first);
     if first.is_waiting() {
         return None;

@@ -1,2 +1,0 @@
--- Whose seat a test has.
-pub mod Held
