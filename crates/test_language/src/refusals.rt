@@ -1,5 +1,4 @@
-//! Writes what each refusal says, and how programs are installed. The texts that it must write stand beside this program.
-#![tactic(auto)]
+// What each refusal says, and how programs are installed.
 
 use flow::{Broken, StructureRule};
 use insn::{DecodeError, DecodeFault, DecodeRefusal, MAX_INSTALLED_SLOTS};
@@ -107,7 +106,8 @@ fn install_each(rt: &HostRuntime) -> io::Result<()> {
     install(rt, &mut installed, &SEVEN)
 }
 
-fn main(rt: HostRuntime) -> io::Result<()> {
+/// Writes all of it.
+pub fn tell_refusals(rt: &HostRuntime) -> io::Result<()> {
     for why in DECODER {
         println!(rt; "{}", DecodeError::Refused(DecodeRefusal { slot: 3, why }))?;
     }
@@ -125,5 +125,5 @@ fn main(rt: HostRuntime) -> io::Result<()> {
     println!(rt; "{}", DecodeError::NoMemory)?;
     println!(rt; "{}", VerifyError::NoMemory)?;
     println!(rt; "{}", MapError::NoMemory)?;
-    install_each(&rt)
+    install_each(rt)
 }

@@ -1,11 +1,4 @@
-//! Writes what is said of the slips in `data/slips`, small programs that are wrong as an author would write them, and whether the program
-//! beside each, in which only what is advised was changed, is accepted. The slips are named on standard input; what must be said of them
-//! stands beside this program, read by hand against what is wrong with each.
-//!
-//! A slip `NAME.s` is assembler text, and one `NAME.hex` the digits of a program file. At its head stand the lines of a manifest as comments
-//! of the assembler, in which the program's file is `NAME.hex`. The mended program is `NAME.fixed.s` or `NAME.fixed.hex`. A slip `NAME.asm` is
-//! assembler text that is refused, and `NAME.fixed.asm` that which is not.
-#![tactic(auto)]
+// What is said of a slip, and whether the program beside it is accepted.
 
 use asm::assemble;
 use explain::{explain_assembly, explain_manifest};
@@ -96,14 +89,10 @@ fn tell_text(rt: &HostRuntime, name: &str) -> io::Result<()> {
     }
 }
 
-fn main(rt: HostRuntime) -> io::Result<()> {
-    for line in rt.lines(rt.alloc()) {
-        let line = line?;
-        match line.as_str().split_once('.') {
-            Some((name, "asm")) => tell_text(&rt, name)?,
-            Some((name, kind)) => tell(&rt, name, kind)?,
-            None => println!(rt; "{line}")?,
-        }
+/// Writes what is said of the slip of this name and kind, and whether its mended twin is accepted.
+pub fn tell_slip(rt: &HostRuntime, name: &str, kind: &str) -> io::Result<()> {
+    match kind {
+        "asm" => tell_text(rt, name),
+        _ => tell(rt, name, kind),
     }
-    Ok(())
 }

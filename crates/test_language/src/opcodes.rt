@@ -1,7 +1,4 @@
-//! Runs each line of standard input as a program, its bytes in hexadecimal, and writes after it what it replies and in how many
-//! steps. The lines that stand beside this program have every opcode; the replies are computed by `vectors/rows.py` from the tables of
-//! RFC 9669, and not by this repository.
-#![tactic(auto)]
+// A line's bytes in hexadecimal, run as a program.
 
 use insn::decode;
 use machine::{Outcome, run};
@@ -34,13 +31,10 @@ fn outcome(alloc: Global, line: &str) -> Option<Outcome> {
     Some(run(&accepted, &mut maps, &ARGUMENT))
 }
 
-fn main(rt: HostRuntime) -> io::Result<()> {
-    for line in rt.lines(rt.alloc()) {
-        let line = line?;
-        match outcome(rt.alloc(), line.as_str()) {
-            Some(done) => println!(rt; "{line} = {} {}", done.reply, done.steps)?,
-            None => println!(rt; "{line} refused")?,
-        }
+/// Writes after a line what its program replies and in how many steps.
+pub fn run_line(rt: &HostRuntime, line: &str) -> io::Result<()> {
+    match outcome(rt.alloc(), line) {
+        Some(done) => println!(rt; "{line} = {} {}", done.reply, done.steps),
+        None => println!(rt; "{line} refused"),
     }
-    Ok(())
 }
