@@ -244,12 +244,7 @@ module _ (node : ℕ) (k t a r f : K) (b : BatchView) (n v m : NodeReplica) (old
       own_is = agrees_on t.progress first.from n first.since (let tail = found.0.tail in let low = stands.accounts.completed in omega (arith, tail, low)) found;
       left_is = agrees_on r.progress f.progress m back within agrees;
     };
-    low = first.low;
-    full = first.full;
-    next = first.next;
-    later = first.later;
-    more = then.more;
-    ahead = then.ahead;
+    course = record { low = first.low; full = first.full; next = first.next; later = first.later; more = then.more; ahead = then.ahead };
     goes = λ d. goes_on (under t.progress.catalogue c0 (sym took.catalogue) (first.goes d))
         (then_others c0 _ _ _ (replay_steps then.more then.ahead) (under a.progress.catalogue c0 (sym to_a) (then.goes b d))
         (others r.progress f.progress then.log then.log_is back low_f c0 m (InLog (record { batch = b; replies = new })) d));
@@ -301,12 +296,7 @@ module _ (node : ℕ) (k f z : K) (b : BatchView) (kept : RepliesView) (first : 
     desk = last.desk;
     mine = subst (λ (z : Sizes × ℕ). IsSessionOf z.0 last.desk.node z.1) (λ i. (sym on.config i, same i)) last.mine;
     claimed = last.claimed;
-    low = first.low;
-    full = first.full;
-    next = first.next;
-    later = first.later;
-    more = first.more;
-    ahead = first.ahead;
+    course = first.course;
     goes = subst (λ xs. Goes k.progress.catalogue began xs ended) (append_assoc (append_steps first.low first.full first.next first.later) (replay_steps first.more first.ahead) (Replies ∷ []))
         (goes_on (first.goes last.desk) (under f.progress.catalogue k.progress.catalogue (sym on.catalogue) last.goes));
     base = first.base;

@@ -145,12 +145,7 @@ ends_since k m f s e = record {
 pub answers_since : (node : ℕ) (k m f : K) (b : BatchView) (kept : RepliesView) → IsStill k m → AnswersBy node m f b kept → AnswersBy node k f b kept
 answers_since node k m f b kept s a = record {
   ends = ends_since k m f s a.ends;
-  low = a.low;
-  full = a.full;
-  next = a.next;
-  later = a.later;
-  more = a.more;
-  ahead = a.ahead;
+  course = a.course;
   goes = λ d. under m.progress.catalogue k.progress.catalogue (sym s.extends.catalogue) (a.goes d);
   base = a.base;
   put = a.put;

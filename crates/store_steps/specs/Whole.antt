@@ -178,17 +178,23 @@ pub record FollowsBy (k after : SessionKnown) (n m : NodeReplica) : Type 0 where
 
 -- ---- what the whole calls do
 
--- a combine as far as its answers, with the replica of this node: the batch b is appended, and replayed and completed, and the replica that
--- did it is put back
-pub record AnswersBy (node : ℕ) (k after : SessionKnown) (b : BatchView) (kept : RepliesView) : Type 0 where
-  pub ends : BetweenReplicas k after
-  pub open ends use *
+-- which of its steps a combine has taken, in their order: the replica was below the log's base; the log was full, and what the replica lacked then was
+-- applied, and completed; and so was what it lacked of the batch
+pub record Course : Type 0 where
   pub low : Bool
   pub full : Bool
   pub next : Bool
   pub later : Bool
   pub more : Bool
   pub ahead : Bool
+
+-- a combine as far as its answers, with the replica of this node: the batch b is appended, and replayed and completed, and the replica that
+-- did it is put back
+pub record AnswersBy (node : ℕ) (k after : SessionKnown) (b : BatchView) (kept : RepliesView) : Type 0 where
+  pub ends : BetweenReplicas k after
+  pub open ends use *
+  pub course : Course
+  pub open course use *
   pub goes : (d : DeskView) → Goes k.progress.catalogue (sees from log own (Held b) d) (append_steps low full next later ++ replay_steps more ahead)
       (sees after.progress back left (InLog (record { batch = b; replies = kept })) d)
   pub base : NodeReplica
@@ -209,12 +215,8 @@ pub record CombinesBy (k after : SessionKnown) (b answered : BatchView) : Type 0
   pub desk : DeskView
   pub mine : IsSessionOf k.progress.config desk.node k.session
   pub claimed : IsBatchOf desk b
-  pub low : Bool
-  pub full : Bool
-  pub next : Bool
-  pub later : Bool
-  pub more : Bool
-  pub ahead : Bool
+  pub course : Course
+  pub open course use *
   pub goes : Goes k.progress.catalogue (sees from log own (Held b) desk) (combine_steps low full next later more ahead)
       (sees after.progress back left Absent (replied (answered_batch kept b) desk))
   -- the log as it was put back: with the batch, and with another base only where it was full
