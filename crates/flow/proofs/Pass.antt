@@ -59,14 +59,14 @@ stays p f s (suc n) h = let e : s + suc n ≡ suc (s + n) = omega arith in ap (l
 
 -- ---- one instruction
 
-abbrev first_here : List Form → Form → ℕ → Option StructureRule
+abbrev pub first_here : List Form → Form → ℕ → Option StructureRule
 first_here p i s = first_rule (size p) (is_second_half p) (is_reached p s) i s
 
 here : (p : List Form) (i : Form) (s : ℕ) → StandsAt p i s → rule_at p s ≡ first_here p i s
 here p i s stands = ap (option_and_then (λ j. first_here p j s)) stands
 
-pub lowest_next : (p : List Form) (i : Form) (s : ℕ) → Placed p i s → first_here p i s ≡ None → lowest_fault p s ≡ None → lowest_fault p (s + slot_count i) ≡ None
-lowest_next p i s at none before =
+pub lowest_next : {p : List Form} {i : Form} {s : ℕ} → Placed p i s → first_here p i s ≡ None → lowest_fault p s ≡ None → lowest_fault p (s + slot_count i) ≡ None
+lowest_next {p} {i} {s} at none before =
     let after = no_rule p s (here p i s at.stands ∙ none) before in
     ⊎_elim
     (λ one. let n : s + slot_count i ≡ suc s = omega (arith, one) in ap (lowest_fault p) n ∙ after)
@@ -75,8 +75,8 @@ lowest_next p i s at none before =
     ap (lowest_fault p) n ∙ no_rule p (suc s) (ap (option_and_then (λ j. first_here p j (suc s))) (at.wide two.1)) after)
     (one_or_two i)
 
-pub reached_next : (p : List Form) (i : Form) (s : ℕ) → Placed p i s → is_reached p s ≡ true → (t : ℕ) → is_reached_from p (reached_slots p (s + slot_count i)) t ≡ (leads_to (Some i) s t || is_reached_from p (reached_slots p s) t)
-reached_next p i s at reached t =
+pub reached_next : {p : List Form} {i : Form} {s : ℕ} → Placed p i s → is_reached p s ≡ true → (t : ℕ) → is_reached_from p (reached_slots p (s + slot_count i)) t ≡ (leads_to (Some i) s t || is_reached_from p (reached_slots p s) t)
+reached_next {p} {i} {s} at reached t =
     let after = one_slot p i s at.stands reached t in
     ⊎_elim
     (λ one. let n : s + slot_count i ≡ suc s = omega (arith, one) in ap (λ m. is_reached_from p (reached_slots p m) t) n ∙ after)
@@ -85,8 +85,8 @@ reached_next p i s at reached t =
     ap (λ m. is_reached_from p (reached_slots p m) t) n ∙ no_instruction p (suc s) (at.wide two.1) t ∙ after)
     (one_or_two i)
 
-pub fault_here : (p : List Form) (i : Form) (s n : ℕ) (rule : StructureRule) → Placed p i s → first_here p i s ≡ Some rule → lowest_fault p s ≡ None → s < n → lowest_fault p n ≡ Some (fault s rule)
-fault_here p i s n rule at broken before lt =
+pub fault_here : {p : List Form} {i : Form} {s : ℕ} (n : ℕ) (rule : StructureRule) → Placed p i s → first_here p i s ≡ Some rule → lowest_fault p s ≡ None → s < n → lowest_fault p n ≡ Some (fault s rule)
+fault_here {p} {i} {s} n rule at broken before lt =
     let m : n ≡ suc s + (n - suc s) = omega (arith, lt) in
     ap (lowest_fault p) m ∙ stays p (fault s rule) (suc s) (n - suc s) (a_rule p s rule (here p i s at.stands ∙ broken) before)
 
@@ -98,15 +98,15 @@ within_by p i s t Fall stands none le leads =
 within_by p i s t Jump stands none le leads =
     ⊎_elim (λ lt. lt) (λ ge. absurd (none_at p i s stands none TargetOutside (pos t, leads, inr (omega (arith, ints, ge))))) (cases_lt t (size p))
 
-pub targets_within : (p : List Form) (i : Form) (s : ℕ) → Placed p i s → first_here p i s ≡ None → (t : ℕ) → leads_to (Some i) s t ≡ true → t < size p
-targets_within p i s at none t leads =
+pub targets_within : {p : List Form} {i : Form} {s : ℕ} → Placed p i s → first_here p i s ≡ None → (t : ℕ) → leads_to (Some i) s t ≡ true → t < size p
+targets_within {p} {i} {s} at none t leads =
     let edge = edge_found (Some i) s t leads in
     let same : i ≡ edge.0 = cc (edge.2) in
     within_by p edge.0 s t edge.1 (at.stands ∙ edge.2) (here p i s at.stands ∙ none) (omega (arith, at.within, ap slot_count same)) edge.3
 
 -- an instruction that breaks no rule is reached
-pub reached_here : (p : List Form) (i : Form) (s : ℕ) → Placed p i s → first_here p i s ≡ None → is_reached p s ≡ true
-reached_here p i s at none =
+pub reached_here : {p : List Form} {i : Form} {s : ℕ} → Placed p i s → first_here p i s ≡ None → is_reached p s ≡ true
+reached_here {p} {i} {s} at none =
     ⊎_elim
     (λ h. h)
     (λ h. absurd (none_at p i s at.stands (here p i s at.stands ∙ none) Unreachable (λ reached. false≢true (sym h ∙ test_from_reached p s reached))))

@@ -10,6 +10,7 @@ use Rattle.insn.specs.Layout.{slot_contents, slot_count, layout, size, instructi
 use Rattle.insn.proofs.Places.{cells_shape}
 use Rattle.flow.specs.Structure.{StandsAt}
 use Rattle.flow.specs.Faults.{is_half, is_second_half}
+use Rattle.flow.proofs.Forward.{width_some}
 
 abbrev Cells : Type 0
 Cells = List (Option Form)
@@ -77,6 +78,10 @@ placed p k s i h e at = record {
   wide = λ c. ap (λ n. instruction_at p (suc n)) at ∙ behind_wide p k i h e c;
   within = omega (arith, at, size_next p k i h e, size_within p (k + 1));
 }
+
+-- it begins before the program's end
+pub begins_within : {p : List Form} {i : Form} {s : ℕ} → Placed p i s → s < size p
+begins_within {p} {i} at = omega (arith, at.within, width_some i)
 
 -- ---- second halves
 
