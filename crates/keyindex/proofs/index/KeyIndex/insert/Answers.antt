@@ -6,6 +6,7 @@ use Rattle.keyindex.proofs.Leaves.{used_within}
 use Rattle.keyindex.proofs.Listed.{listed_set, keys_counted}
 use Rattle.keyindex.proofs.Taken.{low_node, Takes, took, took_found, took_others, was_free, stands_no_more}
 use Rattle.keyindex.proofs.index.KeyIndex.insert.Goals as goal
+use Rattle.keyindex.proofs.index.KeyIndex.insert.Goals.{After-write_at}
 
 not_false : true ≡ false → ⊥
 not_false e = cc
@@ -22,13 +23,13 @@ index_mut-requires-2 c =
     let low = cell_within s.size s.buckets s.links.items s.depths.items s.keys.items s.free.items s.room c.args.key.now c.find-spot.result.depth in
     let is = c.find-spot.ensures.cell in let len = s.links.ok.0 in omega (arith, low, is, len)
 
-pub invariant_of-self : goal.invariant_of-self
-invariant_of-self c =
+-- what is taken, once the key's bytes are written
+takes : (c : After-write_at) → 0 < c.args.self.now.free_count → Takes c.args.self.now.size c.args.self.now.buckets c.args.self.now.links.items c.args.self.now.depths.items c.args.self.now.keys.items c.write_at.new.block.items c.args.self.now.free.items c.args.self.now.free_count c.args.key.now c.find-spot.result.depth c.find-spot.result.cell c.index-node.result.now
+takes c some =
     let s = c.args.self.now in let k = c.args.key.now in let spot = c.find-spot.result in let v = c.index-node.result.now in
     let none : spot.node ≡ 0 = c.if-spot-ne0.false in
-    let some : 0 < s.free_count = let z = c.if-self-eq0.false in omega (arith, z) in
     let within : s.free_count - 1 < length s.free.items = let p = s.store.within in omega (arith, p, some) in
-    let takes : Takes s.size s.buckets s.links.items s.depths.items s.keys.items c.write_at.new.block.items s.free.items s.free_count k spot.depth spot.cell v = record {
+    record {
       room = s.room;
       index = s.linked;
       store = s.store;
@@ -41,30 +42,20 @@ invariant_of-self c =
       before = c.find-spot.ensures.before none;
       absent = c.find-spot.ensures.absent none;
       wrote = record { len = c.write_at.ensures.len; inside = λ i low. c.write_at.ensures.inside i (let p = c.requires.key in omega (arith, p, low)); below = c.write_at.ensures.below; above = λ i low. c.write_at.ensures.above i (let p = c.requires.key in omega (arith, p, low)) };
-    } in
-    let all = took s.size s.buckets s.links.items s.depths.items s.keys.items c.write_at.new.block.items s.free.items s.free_count k spot.depth spot.cell v takes in
+    }
+
+pub invariant_of-self : goal.invariant_of-self
+invariant_of-self c =
+    let s = c.args.self.now in let k = c.args.key.now in let spot = c.find-spot.result in let v = c.index-node.result.now in
+    let some : 0 < s.free_count = let z = c.if-self-eq0.false in omega (arith, z) in
+    let all = took s.size s.buckets s.links.items s.depths.items s.keys.items c.write_at.new.block.items s.free.items s.free_count k spot.depth spot.cell v (takes (goal.at.invariant_of-self c).After-write_at some) in
     record { room = all.room; linked = all.index; store = all.store }
 
 pub returns : goal.returns
 returns c =
     let s = c.args.self.now in let k = c.args.key.now in let spot = c.find-spot.result in let v = c.index-node.result.now in
-    let none : spot.node ≡ 0 = c.if-spot-ne0.false in
     let some : 0 < s.free_count = let z = c.if-self-eq0.false in omega (arith, z) in
-    let within : s.free_count - 1 < length s.free.items = let p = s.store.within in omega (arith, p, some) in
-    let takes : Takes s.size s.buckets s.links.items s.depths.items s.keys.items c.write_at.new.block.items s.free.items s.free_count k spot.depth spot.cell v = record {
-      room = s.room;
-      index = s.linked;
-      store = s.store;
-      some_free = some;
-      last = get_or_read s.free.items (s.free_count - 1) v within c.index-node.ensures 0;
-      length_is = c.requires.key;
-      deep = c.find-spot.ensures.depth;
-      cell_is = c.find-spot.ensures.cell;
-      nowhere = c.find-spot.ensures.node ∙ none;
-      before = c.find-spot.ensures.before none;
-      absent = c.find-spot.ensures.absent none;
-      wrote = record { len = c.write_at.ensures.len; inside = λ i low. c.write_at.ensures.inside i (let p = c.requires.key in omega (arith, p, low)); below = c.write_at.ensures.below; above = λ i low. c.write_at.ensures.above i (let p = c.requires.key in omega (arith, p, low)) };
-    } in
+    let takes = takes (goal.at.returns c).After-write_at some in
     let node = low_node s.size s.buckets s.links.items s.depths.items s.keys.items c.write_at.new.block.items s.free.items s.free_count k spot.depth spot.cell v takes in
     let low : v - 1 < length s.free.items = let p = s.room.free_len in omega (arith, p, node.0, node.1) in
     record {
@@ -77,7 +68,7 @@ returns c =
       own = λ other e. absurd (no_key _ other (was_free s.size s.buckets s.links.items s.depths.items s.keys.items c.write_at.new.block.items s.free.items s.free_count k spot.depth spot.cell v takes) e);
       found = λ e. absurd (not_false e);
       kept = λ e. absurd (not_false e);
-      new = λ _. stands_no_more s.size s.depths.items s.keys.items k (c.find-spot.ensures.absent none);
+      new = λ _. stands_no_more s.size s.depths.items s.keys.items k (c.find-spot.ensures.absent c.if-spot-ne0.false);
       room = λ _.
           let counted = keys_counted s.size s.depths.items s.keys.items (length s.free.items) s.room.free_len s.linked.null in
           let all = s.store.all in omega (arith, counted, all, some);

@@ -8,6 +8,7 @@ use Rattle.keyindex.proofs.Parts.{byte_at}
 use Rattle.keyindex.proofs.Taken.{stands_here}
 use Rattle.keyindex.proofs.Dropped.{Drops, dropped, dropped_keys, some_place}
 use Rattle.keyindex.proofs.index.KeyIndex.remove.Goals as goal
+use Rattle.keyindex.proofs.index.KeyIndex.remove.Goals.{After-move_in}
 
 pub index_mut-requires : goal.index_mut-requires
 index_mut-requires c =
@@ -21,10 +22,11 @@ index_mut-requires-3 c =
     let low = some_place s.depths.items s.free.items s.free_count leaf.node leaf.depth s.store c.leaf_below-leaf.ensures.depth in
     let len = s.free.ok.0 in omega (arith, low, len)
 
-pub invariant_of-self : goal.invariant_of-self
-invariant_of-self c =
+-- what is taken out, once the leaf's key is moved
+drops : (c : After-move_in) → Drops c.args.self.now.size c.args.self.now.buckets c.args.self.now.links.items c.args.self.now.depths.items c.args.self.now.keys.items c.move_in.new.block.items c.args.self.now.free.items c.args.self.now.free_count c.find-spot.result.depth c.find-spot.result.node c.leaf_below-leaf.result.depth c.leaf_below-leaf.result.cell c.leaf_below-leaf.result.node
+drops c =
     let s = c.args.self.now in let k = c.args.key.now in let spot = c.find-spot.result in let leaf = c.leaf_below-leaf.result in
-    let drops : Drops s.size s.buckets s.links.items s.depths.items s.keys.items c.move_in.new.block.items s.free.items s.free_count spot.depth spot.node leaf.depth leaf.cell leaf.node = record {
+    record {
       room = s.room;
       index = s.linked;
       store = s.store;
@@ -34,24 +36,18 @@ invariant_of-self c =
       over = c.leaf_below-leaf.ensures.over;
       leaf = c.leaf_below-leaf.ensures.leaf;
       wrote = record { len = c.move_in.ensures.len; inside = λ i low. c.move_in.ensures.inside i low ∙ sym (byte_at s.size s.keys.items leaf.node i low); below = c.move_in.ensures.below; above = c.move_in.ensures.above };
-    } in
-    let all = dropped s.size s.buckets s.links.items s.depths.items s.keys.items c.move_in.new.block.items s.free.items s.free_count spot.depth spot.node leaf.depth leaf.cell leaf.node drops in
+    }
+
+pub invariant_of-self : goal.invariant_of-self
+invariant_of-self c =
+    let s = c.args.self.now in let spot = c.find-spot.result in let leaf = c.leaf_below-leaf.result in
+    let all = dropped s.size s.buckets s.links.items s.depths.items s.keys.items c.move_in.new.block.items s.free.items s.free_count spot.depth spot.node leaf.depth leaf.cell leaf.node (drops (goal.at.invariant_of-self c).After-move_in) in
     record { room = all.room; linked = all.index; store = all.store }
 
 pub returns : goal.returns
 returns c =
     let s = c.args.self.now in let k = c.args.key.now in let spot = c.find-spot.result in let leaf = c.leaf_below-leaf.result in
-    let drops : Drops s.size s.buckets s.links.items s.depths.items s.keys.items c.move_in.new.block.items s.free.items s.free_count spot.depth spot.node leaf.depth leaf.cell leaf.node = record {
-      room = s.room;
-      index = s.linked;
-      store = s.store;
-      depth = (s.linked.sound k spot.depth spot.node c.find-spot.ensures.node c.if-spot-eq0.false).0;
-      leaf_depth = c.leaf_below-leaf.ensures.depth;
-      cell_is = c.leaf_below-leaf.ensures.cell;
-      over = c.leaf_below-leaf.ensures.over;
-      leaf = c.leaf_below-leaf.ensures.leaf;
-      wrote = record { len = c.move_in.ensures.len; inside = λ i low. c.move_in.ensures.inside i low ∙ sym (byte_at s.size s.keys.items leaf.node i low); below = c.move_in.ensures.below; above = c.move_in.ensures.above };
-    } in
+    let drops = drops (goal.at.returns c).After-move_in in
     let some = c.if-spot-eq0.false in let low = c.leaf_below-leaf.ensures.some in
     let here = used_within s.depths.items spot.node spot.depth drops.depth in
     let len = s.room.free_len in
