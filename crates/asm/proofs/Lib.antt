@@ -10,4 +10,5 @@ pub mod RoundTrip
 pub mod ReadBack
 pub mod PlainWords
 pub mod Spaces
+pub mod GoodOperands
 pub mod Distances

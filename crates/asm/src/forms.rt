@@ -96,12 +96,11 @@ fn load(size: Size, signed: bool, operands: &Operands<'_>) -> Result<Form, AsmFa
     let dst = register(operands.first)?;
     let address = read_address(operands.second)?;
     let off = off(address.off)?;
-    let src = address.base;
     Ok(Form::Load {
         size,
         signed,
         dst,
-        src,
+        src: address.base,
         off,
     })
 }
@@ -115,10 +114,9 @@ fn store_imm(size: Size, operands: &Operands<'_>) -> Result<Form, AsmFault>
     let number = number(operands.second)?;
     let off = off(address.off)?;
     let src = Source::Imm(imm(number)?);
-    let dst = address.base;
     Ok(Form::Store {
         size,
-        dst,
+        dst: address.base,
         off,
         src,
     })
@@ -132,10 +130,9 @@ fn store_reg(size: Size, operands: &Operands<'_>) -> Result<Form, AsmFault>
     let address = read_address(operands.first)?;
     let src = Source::Reg(register(operands.second)?);
     let off = off(address.off)?;
-    let dst = address.base;
     Ok(Form::Store {
         size,
-        dst,
+        dst: address.base,
         off,
         src,
     })
