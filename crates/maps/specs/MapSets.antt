@@ -7,7 +7,7 @@ use Rattle.maps.specs.declared.shapes.Shape.{Shape}
 use Rattle.maps.specs.declared.shapes.Shape.TheVariants.{Array, Hash}
 use Rattle.maps.specs.declared.entry.Entry.{Entry}
 use Rattle.maps.specs.Shapes.{value_size, entry_count, block_size, IsHash}
-use Rattle.maps.specs.Maps.{Maps, MapState, Entries, index_key, value_at}
+use Rattle.maps.specs.Maps.{Maps, MapState, Entries, AreBytes, HasShapes, index_key, value_at}
 
 -- one map: at each place the key that stands there, if one does; and the bytes of all values, those of place 0 first, also of
 -- places where no key stands
@@ -104,6 +104,10 @@ put_value maps m key value = change_at (λ (s : MapState). record { shape = s.sh
 -- so many bytes, written over the value of an entry, become the value of its key
 abbrev pub PutsValue : Contents → Entry → ℕ → Type 0
 PutsValue c e size = (key w : List ℕ) → key_of c e ≡ Some key → length w ≡ size → maps_of (write_value c e w) ≡ put_value (maps_of c) e.map key w
+
+-- and bytes written over it leave maps of any shapes maps of these shapes
+abbrev pub KeepsShapes : Contents → Entry → ℕ → Type 0
+KeepsShapes c e size = (shapes : List Shape) (w : List ℕ) → HasShapes shapes (maps_of c) → AreBytes w → length w ≡ size → HasShapes shapes (maps_of (write_value c e w))
 
 -- where the bytes of one entry's value are written over in the block of map m, the key of the entry has that value
 abbrev pub PutsOneValue : Contents → ℕ → List ℕ → Type 0

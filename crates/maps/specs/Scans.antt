@@ -4,6 +4,7 @@ use Rattle.std.specs.List.{IsDistinct, flat_map}
 use Rattle.std.specs.FinMap as finite_map
 use Rattle.maps.specs.declared.shapes.Shape.{Shape}
 use Rattle.maps.specs.declared.shapes.Shape.TheVariants.{Array, Hash}
+use Rattle.maps.specs.declared.entry.Scanned.{Scanned}
 use Rattle.maps.specs.Shapes.{key_size, value_size, entry_count}
 use Rattle.maps.specs.Maps.{MapState}
 use Rattle.maps.specs.MapSets.{Stored, flat, index_keys, map_of, value_in}
@@ -38,6 +39,10 @@ pub record Scans (s : MapState) (from room : ℕ) (entries : List KeyValue) (nex
   pub goes_on : IfSome next (λ p. (from ≤ p) × (p < entry_count s.shape) × (p ≤ from + reach room) × ((length entries ≡ room) ⊎ (p ≡ from + reach room)))
   -- and where there is room for any, further on
   pub moves : 1 ≤ room → IfSome next (λ p. from < p)
+
+-- the same of the first entries of two blocks, of keys and of values, each with room for so many bytes
+abbrev pub ScansInto : MapState → ℕ → ℕ → ℕ → List ℕ → List ℕ → Scanned → Type 0
+ScansInto s from key_room value_room keys values r = Scans s from (room_in s.shape key_room value_room) (given s.shape r.count keys values) r.next
 
 -- ---- pages: which entries a scan gives, by the places where the keys stand
 

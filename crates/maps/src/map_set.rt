@@ -7,9 +7,9 @@ ghost use Rattle.std.specs.Borrow.{sem};
 ghost use Rattle.maps.specs.Shapes.{key_size, value_size, entry_count, block_size, first_shape_fault, IsShapeOk, IsHash};
 ghost use Rattle.maps.specs.Blocks.{contents, IsTable};
 ghost use Rattle.maps.specs.declared.shapes.MapError.TheVariants.{NoMemory, Refused};
-ghost use Rattle.maps.specs.Maps.{AreBytes, HasShapes, MapState, value_at};
-ghost use Rattle.maps.specs.MapSets.{maps_of, stored_shapes, key_at, key_of, value_of, block_of, HoldsValues, write_value, write_block, PutsValue, PutsOneValue, opened, opening_maps, PutsWritten, put_value, take_key, HasRoom, IsFull};
-ghost use Rattle.maps.specs.Scans.{IsPage, Scans, given, room_in};
+ghost use Rattle.maps.specs.Maps.{HasShapes, MapState, value_at};
+ghost use Rattle.maps.specs.MapSets.{maps_of, stored_shapes, key_at, key_of, value_of, block_of, HoldsValues, write_value, write_block, KeepsShapes, PutsValue, PutsOneValue, opened, opening_maps, PutsWritten, put_value, take_key, HasRoom, IsFull};
+ghost use Rattle.maps.specs.Scans.{IsPage, ScansInto, given};
 
 use crate::entry::{Entry, Inserted, Scanned};
 use crate::shapes::{MapError, Shape, shapes_ok};
@@ -144,7 +144,7 @@ impl MapSet {
         requires place { IfSome (slice_get (stored_shapes self.now) m) (λ s. from < entry_count s) }
         ensures page { IfSome (slice_get self.now m) (λ s. IsPage s from (given s.shape result.count keys.new values.new) result.next) }
         ensures scanned { (s : MapState) → slice_get (maps_of self.now) m ≡ Some s
-            → Scans s from (room_in s.shape (length keys.old) (length values.old)) (given s.shape result.count keys.new values.new) result.next }
+            → ScansInto s from (length keys.old) (length values.old) keys.new values.new result }
     {
         let table = &self.tables[m];
         let room = table.room_in(keys.len(), values.len());
@@ -164,8 +164,7 @@ impl MapSet {
         // Bytes as many as the value has become the value of the entry's key. Every other key of every map keeps its
         // value, and each place its key.
         ensures written { PutsValue self.old entry (length result.now) }
-        ensures maps { (shapes : List Shape) (w : List ℕ) → HasShapes shapes (maps_of self.old) → AreBytes w → length w ≡ length result.now
-            → HasShapes shapes (maps_of (write_value self.old entry w)) }
+        ensures maps { KeepsShapes self.old entry (length result.now) }
         ensures places { (w : List ℕ) (other : Entry) → key_of (write_value self.old entry w) other ≡ key_of self.old other }
         ensures shapes { (w : List ℕ) → stored_shapes (write_value self.old entry w) ≡ stored_shapes self.old }
     {
