@@ -13,7 +13,7 @@ use maps::{MAX_ARG_LEN, Shape};
 use std::alloc::{AllocError, Global};
 use std::marker::Model;
 use thiserror::Error;
-use verifier::{Accepted, Mode, Refused, Scratch, verify_into};
+use verifier::{Accepted, Mode, Refused, Scratch, Signature, verify_into};
 
 /// The most programs that may be installed behind a catalogue's.
 pub const MAX_PLACES: usize = 16;
@@ -160,15 +160,8 @@ impl Installed {
     {
         decode_into(bytes, &mut self.decoded).map_err(InstallRefusal::Decode)?;
         let room = &mut self.rooms[self.count];
-        verify_into(
-            &self.decoded,
-            &self.shapes,
-            arg_len,
-            mode,
-            &mut self.scratch,
-            room,
-        )
-        .map_err(InstallRefusal::Verify)?;
+        let l = Signature::new(&self.shapes, arg_len, mode);
+        verify_into(&self.decoded, &l, &mut self.scratch, room).map_err(InstallRefusal::Verify)?;
         self.count += 1;
         Ok(())
     }

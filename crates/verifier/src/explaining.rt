@@ -101,26 +101,22 @@ fn explain_kinds(alloc: Global, program: &[Insn], l: &Signature) -> Result<Expla
 pub fn frame_on_edge(
     insn: &Insn,
     before: &Frame,
-    shapes: &[Shape],
-    arg_len: usize,
-    mode: Mode,
+    signature: &Signature,
     edge: Edge,
 ) -> Option<Frame>
-    requires shapes { AreShapesOk shapes.now }
-    requires argument { arg_len ≤ MAX_ARG_LEN }
+    requires limits { IsSignatureOk signature.now }
     ensures along { IfSome result (λ f. f ≡ frame_after insn.now before.now edge) }
-    ensures goes { IsSome result ↔ (first_broken (signature shapes.now arg_len mode) insn.now before.now ≡ None) }
+    ensures goes { IsSome result ↔ (first_broken signature.now insn.now before.now ≡ None) }
 {
-    let l = Signature::new(shapes, arg_len, mode);
     let on = Context {
-        signature: &l,
+        signature,
         frame: before,
     };
     match broken_rule(&on, insn.form()) {
         Some(_) => None,
         None => {
             let mut after = *before;
-            advance(&mut after, &l, insn.form(), edge);
+            advance(&mut after, signature, insn.form(), edge);
             Some(after)
         }
     }

@@ -26,4 +26,5 @@ pub use laws::{
 };
 pub use refusal::{Mode, Refused, VerifyError, VerifyFault};
 pub use rooms::Scratch;
+pub use signature::Signature;
 pub use verification::{verify, verify_into};

@@ -13,7 +13,7 @@ use std::marker::Model;
 
 /// What a program is checked for: the shapes of its maps, the length of its argument in bytes, and its mode.
 #[derive(Drop)]
-pub(crate) struct Signature<'a> {
+pub struct Signature<'a> {
     shapes: &'a [Shape],
     arg_len: usize,
     mode: Mode,
@@ -28,8 +28,8 @@ impl<'a> Model for Signature<'a> {
 }
 
 impl<'a> Signature<'a> {
-    // These shapes, a length and a mode, as a caller gives them.
-    pub(crate) fn new(shapes: &'a [Shape], arg_len: usize, mode: Mode) -> Self
+    /// These shapes, a length and a mode, as a caller gives them.
+    pub fn new(shapes: &'a [Shape], arg_len: usize, mode: Mode) -> Self
         ensures { result ≡ signature shapes.now arg_len mode }
     {
         Signature {

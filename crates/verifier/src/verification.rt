@@ -63,25 +63,21 @@ pub fn verify(
 /// takes the place of the one that was there; where it is refused, that one stays.
 pub fn verify_into(
     program: &[Insn],
-    shapes: &[Shape],
-    arg_len: usize,
-    mode: Mode,
+    signature: &Signature,
     scratch: &mut Scratch,
     room: &mut Accepted,
 ) -> Result<(), Refused>
     requires few { size program.now ≤ MAX_INSTALLED_SLOTS }
-    requires shapes { AreShapesOk shapes.now }
-    requires argument { arg_len ≤ MAX_ARG_LEN }
-    ensures accepted { OnOk result (room.new ≡ checked program.now shapes.now arg_len mode) }
+    requires limits { IsSignatureOk signature.now }
+    ensures accepted { OnOk result (room.new ≡ checked program.now signature.now.shapes signature.now.arg_len signature.now.mode) }
     ensures same { OnErr result (room.new ≡ room.old) }
-    ensures typable { OnOk result (IsTypable program.now (signature shapes.now arg_len mode)) }
-    ensures refused { IfErr result (Refuses program.now (signature shapes.now arg_len mode)) }
-    ensures reading { IsVerdict (verdict program.now (signature shapes.now arg_len mode)) result }
+    ensures typable { OnOk result (IsTypable program.now signature.now) }
+    ensures refused { IfErr result (Refuses program.now signature.now) }
+    ensures reading { IsVerdict (verdict program.now signature.now) result }
 {
-    let l = Signature::new(shapes, arg_len, mode);
     check_structure(program)?;
-    check_kinds(program, &l, &mut scratch.frames)?;
-    room.refill(program, &scratch.frames, &mut scratch.places, &l);
+    check_kinds(program, signature, &mut scratch.frames)?;
+    room.refill(program, &scratch.frames, &mut scratch.places, signature);
     Ok(())
 }
 

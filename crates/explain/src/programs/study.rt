@@ -10,7 +10,7 @@ use insn::{Edge, Form, Insn, MAX_SLOTS};
 use maps::{MAX_ARG_LEN, shapes_ok};
 use regkind::{Frame, Kind};
 use std::alloc::{AllocError, Global};
-use verifier::{Explained, explain, frame_on_edge};
+use verifier::{Explained, Signature, explain, frame_on_edge};
 
 // An edge, with the slot of the instruction that it leaves.
 #[derive(Clone, Copy)]
@@ -168,7 +168,8 @@ impl<'a> Study<'a> {
         if shapes_ok(shapes).is_err() || arg_len > MAX_ARG_LEN {
             return None;
         }
-        frame_on_edge(insn, before, shapes, arg_len, self.subject.mode, step.edge)
+        let signature = Signature::new(shapes, arg_len, self.subject.mode);
+        frame_on_edge(insn, before, &signature, step.edge)
     }
 }
 

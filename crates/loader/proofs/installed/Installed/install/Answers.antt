@@ -16,7 +16,7 @@ verify_into-requires-clause-few c =
     let read : decoded bytes ≡ Ok c.decode_into.new.program.items = search rules in
     let spelled = read_is_spelled bytes c.decode_into.new.program.items (are_bytes bytes (λ k. omega (arith, c.type_inv.bytes k))) read in
     let few = few_slots bytes c.decode_into.new.program.items spelled c.requires.few in
-    subst (λ p. size p ≤ MAX_INSTALLED_SLOTS) (sym c.deref.ensures.value) few
+    subst (λ p. size p ≤ MAX_INSTALLED_SLOTS) (sym c.deref-2.ensures.value) few
 
 pub invariant_of-self-2 : goal.invariant_of-self-2
 invariant_of-self-2 c =
