@@ -1,5 +1,5 @@
 -- Refusals, and that no memory is left, which is no line's fault.
-use Rattle.std.specs.Prelude.{◌≡◌, ℕ, Result, Ok, Err}
+use Rattle.std.specs.Prelude.{◌≡◌, ℕ, Result, Ok, Err, MatchResult}
 use Rattle.dumps.specs.declared.refusals.DumpFault.{DumpFault}
 use Rattle.dumps.specs.declared.refusals.DumpFault.TheVariants as faults
 use Rattle.dumps.specs.declared.refusals.DumpRefusal.{DumpRefusal}
@@ -33,6 +33,10 @@ line_of (errors.Refused refusal) = refusal.line
 abbrev pub LoadFails : {Y : Type 0} → DumpError → Result Y DumpRefusal → Type 0
 LoadFails errors.NoMemory read = Unit {0}
 LoadFails (errors.Refused refusal) read = read ≡ Err refusal
+
+-- what is answered is this reading: what it gives, or why it fails
+abbrev pub IsLoadAnswer : {Y : Type 0} → Result Y DumpRefusal → Result Y DumpError → Type 0
+IsLoadAnswer read answer = MatchResult answer (λ y. read ≡ Ok y) (λ e. LoadFails e read)
 
 -- ---- clauses of private functions alone cite what follows
 

@@ -56,24 +56,7 @@ fn put_line(
     out.extend_from_slice(b"\n")
 }
 
-// The same, unless the entry is left out.
-fn put_kept(
-    alloc: Global,
-    out: &mut Vec<u8>,
-    map: u64,
-    shape: Shape,
-    key: &[u8],
-    value: &[u8],
-) -> Result<(), AllocError>
-    ensures { OnOk result (out.new.items ≡ out.old.items ++ kept_text map shape (key.now, value.now)) }
-{
-    if is_left_out(shape, value) {
-        return Ok(());
-    }
-    put_line(alloc, out, map, key, value)
-}
-
-// Adds the lines of a map's entries.
+// Adds the lines of a map's entries that aren't left out.
 fn put_sorted(
     alloc: Global,
     out: &mut Vec<u8>,
@@ -84,7 +67,9 @@ fn put_sorted(
     ensures { OnOk result (out.new.items ≡ out.old.items ++ flat_map (kept_text map shape) (shown sorted.now.entries)) }
 {
     for entry in sorted {
-        put_kept(alloc, out, map, shape, entry.0, entry.1)?;
+        if !is_left_out(shape, entry.1) {
+            put_line(alloc, out, map, entry.0, entry.1)?;
+        }
     }
     Ok(())
 }

@@ -10,7 +10,7 @@ ghost use Rattle.loader.specs.CatalogueView.{MayOpenOn};
 ghost use Rattle.loader.specs.Installed.{installed_program};
 ghost use Rattle.dumps.specs.Loading.{is_hash, is_zero, is_behind, is_in_order, is_key_for, is_left_out, has_room, entry_fault, without_place, after_entry, after_program, after_line, after_ended, opening, loaded_state};
 ghost use Rattle.dumps.specs.declared.refusals.DumpError.TheVariants.{NoMemory};
-ghost use Rattle.dumps.specs.Refusal.{Fails, Makes, LoadFails};
+ghost use Rattle.dumps.specs.Refusal.{Fails, Makes, IsLoadAnswer};
 ghost use Rattle.dumps.specs.Shown.{entry_of, program_of, key_of, view_of, ProgramFits, IsFor};
 
 use crate::lines::{EndedLines, EntryLine, Line, ProgramLine, read_line};
@@ -287,8 +287,7 @@ pub fn load(
 ) -> Result<StoreState, DumpError>
     requires shapes { AreShapesOk shapes.now }
     requires places { places ≤ MAX_PLACES }
-    ensures loaded { MatchResult result (λ s. loaded_state shapes.now places text.now ≡ Ok s)
-        (λ e. LoadFails e (loaded_state shapes.now places text.now)) }
+    ensures loaded { IsLoadAnswer (loaded_state shapes.now places text.now) result }
 {
     let mut so_far = opened(alloc, shapes, places)?;
     let mut lines = EndedLines::new(text);
@@ -307,8 +306,7 @@ pub fn load(
 ///
 /// As [`load`].
 pub fn load_for(alloc: Global, catalogue: &Catalogue, text: &str) -> Result<StoreState, DumpError>
-    ensures loaded { MatchResult result (λ s. loaded_state catalogue.now.shapes catalogue.now.places text.now ≡ Ok s)
-        (λ e. LoadFails e (loaded_state catalogue.now.shapes catalogue.now.places text.now)) }
+    ensures loaded { IsLoadAnswer (loaded_state catalogue.now.shapes catalogue.now.places text.now) result }
     ensures fits { IfOk result (MayOpenOn catalogue.now) }
 {
     let places = catalogue.places();
