@@ -27,7 +27,7 @@ use Rattle.dumps.specs.Grammar.{EntryLine, ProgramLine, Meaning, Entry, Program,
 use Rattle.dumps.specs.Loading.{Loading, is_behind, is_in_order, entry_fault, with_entry, in_map, unless, in_place, with_program, after_entry, after_program, after_meaning, after_line, either, after_lines, opening, loaded_state}
 use Rattle.dumps.specs.Dumping.{entries_of, program_line, lines_of, text_of, dump}
 use Rattle.dumps.proofs.Entries.{Passes, passes}
-use Rattle.dumps.proofs.SpelledLines.{HasBytes, said}
+use Rattle.dumps.proofs.SpelledLines.{IsBound, said}
 use Rattle.dumps.proofs.TextLines.{joined, text_is_lines}
 use Rattle.dumps.proofs.Placing.{IsBefore, AllBefore, before, before_both, all_joined, all_mapped, map_joined, keeps, placed_last, all_empty}
 
@@ -114,9 +114,9 @@ program_grows shapes so after p bytes rising h =
     ∙ sym (append_assoc (map Entry (entries_of so.state.maps)) (map (λ (d : Checked). Program (program_line d)) so.state.programs) (Program p ∷ [])) in
     subst (λ a. Grows so a (Program p)) taken.2 (record { lines = lines; rising = rising })
 
-pub grows : (shapes : List Shape) (so after : Loading) (m : Meaning) → HasBytes m → IsRising so → after_meaning shapes so (Some m) ≡ Ok after → Grows so after m
-grows shapes so after (Entry e) bytes rising h = entry_grows so after e rising h
-grows shapes so after (Program p) bytes rising h = program_grows shapes so after p bytes rising h
+pub grows : (shapes : List Shape) (so after : Loading) (m : Meaning) → IsBound m → IsRising so → after_meaning shapes so (Some m) ≡ Ok after → Grows so after m
+grows shapes so after (Entry e) bound rising h = entry_grows so after e rising h
+grows shapes so after (Program p) bound rising h = program_grows shapes so after p bound.1 rising h
 
 -- ---- the lines
 

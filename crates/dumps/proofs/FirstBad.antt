@@ -2,6 +2,7 @@
 use Rattle.std.proofs.Common.{append_assoc, append-nil, ◌≡◌, ℕ, ◌+◌, ◌≤◌, ◌-◌, ◌^◌, min, true, List, [], ◌∷◌, ◌++◌, map, length, Option, Some, None, Result, Ok, Err, refl, sym, ap, ap₂, ◌∙◌, subst, arith}
 use Rattle.std.proofs.lemmas.List.{length-map}
 use Rattle.std.specs.Prelude.{slice_get}
+use Rattle.insn.proofs.Slots.{are_bytes}
 use Rattle.maps.specs.declared.shapes.Shape.{Shape}
 use Rattle.maps.specs.Shapes.{AreShapesOk}
 use Rattle.text.specs.Lines.{next_line}
@@ -19,7 +20,7 @@ use Rattle.dumps.specs.Loading.{Loading, after_ended, after_line, after_lines, a
 use Rattle.dumps.proofs.CutLines.{appended, cut}
 use Rattle.dumps.proofs.Dumped.{IsRising, entry_listed, grows, in_map_ok, in_place_ok, meant, no_lines, opening_rising, texts}
 use Rattle.dumps.proofs.Entries.{passes}
-use Rattle.dumps.proofs.LoadedState.{line_bound, line_is}
+use Rattle.dumps.proofs.LoadedState.{line_is}
 use Rattle.dumps.proofs.LowestFaults.{Answers, answered, one_lowest}
 use Rattle.dumps.proofs.Placing.{AllBefore, IsBefore, all_parts, behind}
 use Rattle.dumps.proofs.Reread.{dump_is_read}
@@ -165,7 +166,7 @@ module _ (shapes : List Shape) (places : ℕ) (ok : AreShapesOk shapes) where
   unfolding after_line
   line_answered so None kept = answered shapes so None (sym kept.state.maps.same) kept.state.maps.each kept.rising kept.last (λ e none. absurd cc)
   line_answered so (Some text) kept =
-      answered shapes so (line_meaning text) (sym kept.state.maps.same) kept.state.maps.each kept.rising kept.last (λ e means. (line_bound text (Entry e) means).0)
+      answered shapes so (line_meaning text) (sym kept.state.maps.same) kept.state.maps.each kept.rising kept.last (λ e means. are_bytes e.key (said text (Entry e) means).1.0)
 
 lowest_of : (s : StoreState) (l : Option (List ℕ)) (r : Result Loading DumpFault) (why : DumpFault) → Answers s (meaning_of l) r → r ≡ Err why → IsLowestFault s (meaning_of l) why
 lowest_of s l (Ok after) why a e = absurd cc

@@ -1,84 +1,26 @@
 -- A state that a text says is a state of the maps and the places that it was read for.
-use Rattle.std.proofs.Common.{◌≡◌, ◌≤◌, ◌<◌, ◌*◌, ℕ, Bool, true, false, cond, leb, ltb, ◌&&◌, List, [], ◌∷◌, length, codes, bytes_eq, Option, Some, None, Result, Ok, Err, refl, sym, subst}
+use Rattle.std.proofs.Common.{◌≡◌, ◌≤◌, ◌<◌, ℕ, Bool, true, false, List, [], ◌∷◌, length, Option, Some, None, Result, Ok, Err, refl, sym, subst}
 use Rattle.std.specs.Prelude.{nat_lt, slice_get, if◌then◌else◌}
-use Rattle.std.proofs.lemmas.Bool.{and_parts, leb-true, ltb-true}
-use Rattle.insn.specs.declared.decoding.TheConstants.{MAX_INSTALLED_SLOTS}
+use Rattle.std.proofs.lemmas.Bool.{ltb-true}
 use Rattle.insn.proofs.Slots.{are_bytes}
 use Rattle.maps.specs.declared.shapes.Shape.{Shape}
-use Rattle.maps.specs.declared.shapes.TheConstants.{MAX_ARG_LEN}
 use Rattle.maps.specs.Shapes.{AreShapesOk}
-use Rattle.maps.specs.Maps.{AreBytes}
 use Rattle.verifier.specs.Accepted.{Checked}
 use Rattle.text.specs.Lines.{next_line}
-use Rattle.text.specs.Fields.{split_at_space}
-use Rattle.text.specs.Words.{number_of, number_within}
-use Rattle.text.proofs.Cuts.{steps, where_true, unless}
 use Rattle.loader.specs.declared.installed.InstallRefusal.{InstallRefusal}
 use Rattle.loader.specs.declared.installed.TheConstants.{MAX_PLACES}
-use Rattle.loader.specs.Grammar.{mode_of}
 use Rattle.loader.specs.Installed.{installed_program}
 use Rattle.loader.specs.StoreState.{StoreState, IsState}
 use Rattle.loader.proofs.Installing.{installed_is_accepted, one_more_installed}
 use Rattle.loader.proofs.States.{opened_is_state}
-use Rattle.dumps.specs.declared.lines.TheConstants.{DUMP_LINE_BYTES}
 use Rattle.dumps.specs.declared.refusals.DumpFault.{DumpFault}
 use Rattle.dumps.specs.declared.refusals.DumpFault.TheVariants as faults
-use Rattle.dumps.specs.Grammar.{EntryLine, ProgramLine, Meaning, Entry, Program, ended_lines, lower_bytes, entry_meaning, program_meaning, words_meaning, line_meaning}
+use Rattle.dumps.specs.Grammar.{EntryLine, ProgramLine, Meaning, Entry, Program, ended_lines, line_meaning}
 use Rattle.dumps.specs.Loading.{Loading, in_map, with_program, in_place, after_meaning, after_line, after_ended, after_lines, either, opening, loaded_state}
 use Rattle.dumps.proofs.Entries.{passes, key_fits}
 use Rattle.dumps.proofs.Kept.{maps_keep}
-use Rattle.dumps.proofs.LowerHex.{lower_from}
+use Rattle.dumps.proofs.SpelledLines.{IsBound, said}
 use Rattle.dumps.proofs.Dumped.{in_map_ok}
-
--- ---- what a line says
-
--- its keys, values and programs are bytes, and a program is within its limits
-abbrev IsBound : Meaning → Type 0
-IsBound (Entry e) = AreBytes e.key × AreBytes e.value
-IsBound (Program p) = (p.arg_len ≤ MAX_ARG_LEN) × AreBytes p.bytes × (length p.bytes ≤ 8 * MAX_INSTALLED_SLOTS)
-
-hex_bytes : (field bytes : List ℕ) → lower_bytes field ≡ Some bytes → AreBytes bytes
-hex_bytes field bytes e = are_bytes bytes (lower_from field bytes e).1
-
-number_bound : (text : List ℕ) (n : ℕ) → number_within 0 MAX_ARG_LEN text ≡ Some n → n ≤ MAX_ARG_LEN
-unfolding number_within
-number_bound text n e =
-    let read = steps (number_of text) _ n e in
-    let parts = where_true (leb 0 read.0 && leb read.0 MAX_ARG_LEN) read.0 n read.2 in
-    subst (λ x. x ≤ MAX_ARG_LEN) parts.1 (leb-true read.0 MAX_ARG_LEN (and_parts (leb 0 read.0) (leb read.0 MAX_ARG_LEN) parts.0).1)
-
-entry_bound : (map text : List ℕ) (m : Meaning) → entry_meaning map text ≡ Some m → IsBound m
-unfolding entry_meaning
-entry_bound map text m e =
-    let field = steps (split_at_space text) _ m e in
-    let number = steps (number_of map) _ m field.2 in
-    let key = steps (lower_bytes field.0.0) _ m number.2 in
-    let value = steps (lower_bytes field.0.1) _ m key.2 in
-    let is : Entry (record { map = number.0; key = key.0; value = value.0 }) ≡ m = cc in
-    subst IsBound is (hex_bytes field.0.0 key.0 key.1, hex_bytes field.0.1 value.0 value.1)
-
-program_bound : (text : List ℕ) (m : Meaning) → program_meaning text ≡ Some m → IsBound m
-unfolding program_meaning
-program_bound text m e =
-    let first = steps (split_at_space text) _ m e in
-    let second = steps (split_at_space first.0.1) _ m first.2 in
-    let mode = steps (mode_of first.0.0) _ m second.2 in
-    let len = steps (number_within 0 MAX_ARG_LEN second.0.0) _ m mode.2 in
-    let bytes = steps (lower_bytes second.0.1) _ m len.2 in
-    let parts = where_true (leb (length bytes.0) (8 * MAX_INSTALLED_SLOTS)) (Program (record { mode = mode.0; arg_len = len.0; bytes = bytes.0 })) m bytes.2 in
-    subst IsBound parts.1 (number_bound second.0.0 len.0 len.1, hex_bytes second.0.1 bytes.0 bytes.1, leb-true (length bytes.0) (8 * MAX_INSTALLED_SLOTS) parts.0)
-
-pub line_bound : (line : List ℕ) (m : Meaning) → line_meaning line ≡ Some m → IsBound m
-unfolding line_meaning words_meaning
-line_bound line m e =
-    let field = steps (split_at_space line) _ m (unless (ltb DUMP_LINE_BYTES (length line)) (words_meaning line) m e).1 in
-    by_letter field.0.0 field.0.1 (bytes_eq field.0.0 (codes "p")) field.2
-  where
-    by_letter : (w r : List ℕ) (p : Bool) → cond p (program_meaning r) (entry_meaning w r) ≡ Some m → IsBound m
-    by_letter w r true e = program_bound r m e
-    by_letter w r false e = entry_bound w r m e
-
--- ---- the state behind it
 
 module _ (shapes : List Shape) (places : ℕ) (ok : AreShapesOk shapes) where
   abbrev Is : StoreState → Type 0
@@ -93,14 +35,14 @@ module _ (shapes : List Shape) (places : ℕ) (ok : AreShapesOk shapes) where
         let taken = in_map_ok so after e (slice_get so.state.maps e.map) h in
         let s = taken.0 in
         let p = passes so e s (sym taken.2) in
-        let maps = maps_keep shapes so.state.maps e.map s e.key e.value is.maps taken.1 (key_fits s e.key p.key, bound.0) (p.value, bound.1) p.room in
+        let maps = maps_keep shapes so.state.maps e.map s e.key e.value is.maps taken.1 (key_fits s e.key p.key, are_bytes e.key bound.0) (p.value, are_bytes e.value bound.1) p.room in
         subst (λ (x : Loading). Is x.state) taken.3 (record { maps = maps; places = is.places; programs = is.programs })
 
     program_put : (p : ProgramLine) (c : Checked) (b : Bool) → IsBound (Program p) → installed_program shapes p.mode p.arg_len p.bytes ≡ Ok c → nat_lt (length so.state.programs) so.state.places ≡ b
         → (if b then Ok (with_program so c) else Err faults.TooManyPrograms) ≡ Ok after → Is after.state
     program_put p c false bound read full h = absurd cc
     program_put p c true bound read free h =
-        let known = installed_is_accepted shapes p.mode p.arg_len p.bytes c ok bound.0 bound.1 bound.2 read in
+        let known = installed_is_accepted shapes p.mode p.arg_len p.bytes c ok bound.0 (are_bytes p.bytes bound.1) bound.2 read in
         let below : length so.state.programs < places = subst (λ n. length so.state.programs < n) is.places (ltb-true (length so.state.programs) so.state.places free) in
         let programs = one_more_installed (record { shapes = shapes; places = places; programs = so.state.programs }) c is.programs below known.0 known.1 known.2 in
         ends_at (with_program so c) (record { maps = is.maps; places = is.places; programs = programs }) cc
@@ -117,7 +59,7 @@ module _ (shapes : List Shape) (places : ℕ) (ok : AreShapesOk shapes) where
     pub line_is : (l : Option (List ℕ)) → after_ended shapes so l ≡ Ok after → Is after.state
     unfolding after_line
     line_is None h = absurd cc
-    line_is (Some line) h = meaning_is (line_meaning line) (line_bound line) h
+    line_is (Some line) h = meaning_is (line_meaning line) (λ m means. (said line m means).1) h
 
   lines_are : (n : ℕ) (so : Loading) (ls : List (Option (List ℕ))) (s : StoreState) → Is so.state → after_lines shapes n so ls ≡ Ok s → Is s
   unfolding after_lines

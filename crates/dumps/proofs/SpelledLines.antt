@@ -1,11 +1,10 @@
 -- What a line says is how it is spelled, and what is spelled so says that.
-use Rattle.std.proofs.Common.{◌≡◌, ℕ, ◌*◌, ◌^◌, ◌<◌, ◌≤◌, Bool, true, false, cond, leb, ltb, ◌&&◌, List, ◌∷◌, ◌++◌, length, codes, bytes_eq, decimal, Some, None, refl, sym, ap, ap₂, ◌∙◌, subst, arith, lit<}
+use Rattle.std.proofs.Common.{◌≡◌, ℕ, ◌*◌, ◌^◌, ◌<◌, ◌≤◌, Bool, true, false, cond, leb, ltb, List, ◌∷◌, ◌++◌, length, codes, bytes_eq, decimal, Some, refl, sym, ap, ap₂, ◌∙◌, subst, arith, lit<}
 use Rattle.std.specs.Str.{all_ascii_digits}
-use Rattle.std.proofs.lemmas.Bool.{le-leb, le-ltb}
+use Rattle.std.proofs.lemmas.Bool.{le-leb, leb-true, le-ltb}
 use Rattle.std.proofs.lemmas.Bool.Decides.{nat_tests}
 use Rattle.std.proofs.lemmas.Fmt.{digits_decimal, length-decimal-le}
 use Rattle.std.proofs.lemmas.List.{length-append}
-use Rattle.std.proofs.lemmas.Slice.Eq.{bytes_eq-Decides}
 use Rattle.hex.specs.Hex.{IsBytes, encode_lower, lower_digits}
 use Rattle.hex.proofs.HexLemmas.{length-encode_with}
 use Rattle.insn.specs.declared.decoding.TheConstants.{MAX_INSTALLED_SLOTS}
@@ -19,7 +18,9 @@ use Rattle.text.proofs.Numerals.{numerals_are_decimals}
 use Rattle.text.proofs.Cuts.{steps, where_true, unless, split_from, split_to}
 use Rattle.loader.specs.Grammar.{mode_of}
 use Rattle.loader.specs.Spelling.{mode_word}
-use Rattle.loader.proofs.Respelled.{no_space_from}
+use Rattle.loader.proofs.Respelled.{no_space_from, no_space_in_number, no_space_in_mode, mode_to}
+use Rattle.loader.proofs.Spelled.{within, mode_from}
+use Rattle.loader.proofs.WordLemmas.{word_is}
 use Rattle.dumps.specs.declared.lines.TheConstants.{DUMP_LINE_BYTES}
 use Rattle.dumps.specs.Grammar.{EntryLine, ProgramLine, Meaning, Entry, Program, is_lower_digit, lower_bytes, entry_meaning, program_meaning, words_meaning, line_meaning}
 use Rattle.dumps.specs.Dumping.{entry_text, program_text, text_of}
@@ -27,33 +28,13 @@ use Rattle.dumps.proofs.LowerHex.{lower_from, lower_to, lower_all}
 
 -- ---- a line that says something
 
--- the bytes of a program
-abbrev pub HasBytes : Meaning → Type 0
-HasBytes (Entry e) = Unit {0}
-HasBytes (Program p) = IsBytes p.bytes
-
-within : (low high : ℕ) (t : List ℕ) (n : ℕ) → number_within low high t ≡ Some n → t ≡ decimal n
-unfolding number_within
-within low high t n e =
-    let read = steps (number_of t) _ n e in
-    let parts = where_true (leb low read.0 && leb read.0 high) read.0 n read.2 in
-    ((numerals_are_decimals t read.0).0 read.1).0 ∙ ap decimal parts.1
-
-word_is : (w word : List ℕ) → bytes_eq w word ≡ true → w ≡ word
-word_is w word e = (bytes_eq-Decides w word).0 e
-
-mode_from : (w : List ℕ) (m : Mode) → mode_of w ≡ Some m → w ≡ mode_word m
-mode_from w m e = by_word (bytes_eq w (codes "update")) (bytes_eq w (codes "read")) m e (word_is w (codes "update")) (word_is w (codes "read"))
-  where
-    by_word : (u r : Bool) (m : Mode) → cond u (Some Update) (cond r (Some Read) None) ≡ Some m → (u ≡ true → w ≡ codes "update") → (r ≡ true → w ≡ codes "read") → w ≡ mode_word m
-    by_word true r Update e f g = f refl
-    by_word true r Read e f g = absurd cc
-    by_word false true Update e f g = absurd cc
-    by_word false true Read e f g = g refl
-    by_word false false m e f g = absurd cc
+-- its keys, values and programs are bytes, and a program is within its limits
+abbrev pub IsBound : Meaning → Type 0
+IsBound (Entry e) = IsBytes e.key × IsBytes e.value
+IsBound (Program p) = (p.arg_len ≤ MAX_ARG_LEN) × IsBytes p.bytes × (length p.bytes ≤ 8 * MAX_INSTALLED_SLOTS)
 
 abbrev IsSpelled : List ℕ → Meaning → Type 0
-IsSpelled line m = (line ≡ text_of m) × HasBytes m
+IsSpelled line m = (line ≡ text_of m) × IsBound m
 
 entry_from : (map text : List ℕ) (m : Meaning) → entry_meaning map text ≡ Some m → IsSpelled (map ++ 32 ∷ text) m
 unfolding entry_meaning
@@ -63,11 +44,12 @@ entry_from map text m e =
     let key = steps (lower_bytes field.0.0) _ m number.2 in
     let value = steps (lower_bytes field.0.1) _ m key.2 in
     let is : Entry (record { map = number.0; key = key.0; value = value.0 }) ≡ m = cc in
-    let rest : text ≡ encode_lower key.0 ++ 32 ∷ encode_lower value.0 =
-    split_from text field.0 field.1 ∙ ap₂ (λ a b. a ++ 32 ∷ b) (lower_from _ _ key.1).0 (lower_from _ _ value.1).0 in
+    let key_hex = lower_from _ _ key.1 in
+    let value_hex = lower_from _ _ value.1 in
+    let rest : text ≡ encode_lower key.0 ++ 32 ∷ encode_lower value.0 = split_from text field.0 field.1 ∙ ap₂ (λ a b. a ++ 32 ∷ b) key_hex.0 value_hex.0 in
     let whole : map ++ 32 ∷ text ≡ decimal number.0 ++ 32 ∷ (encode_lower key.0 ++ 32 ∷ encode_lower value.0) =
     ap₂ (λ a b. a ++ 32 ∷ b) ((numerals_are_decimals map number.0).0 number.1).0 rest in
-    subst (λ x. IsSpelled (map ++ 32 ∷ text) x) is (whole, tt)
+    subst (λ x. IsSpelled (map ++ 32 ∷ text) x) is (whole, (key_hex.1, value_hex.1))
 
 program_from : (text : List ℕ) (m : Meaning) → program_meaning text ≡ Some m → IsSpelled (codes "p " ++ text) m
 unfolding program_meaning
@@ -78,12 +60,13 @@ program_from text m e =
     let len = steps (number_within 0 MAX_ARG_LEN second.0.0) _ m mode.2 in
     let bytes = steps (lower_bytes second.0.1) _ m len.2 in
     let parts = where_true (leb (length bytes.0) (8 * MAX_INSTALLED_SLOTS)) (Program (record { mode = mode.0; arg_len = len.0; bytes = bytes.0 })) m bytes.2 in
+    let number = within 0 MAX_ARG_LEN second.0.0 len.0 len.1 in
     let hex = lower_from _ _ bytes.1 in
     let rest : first.0.1 ≡ decimal len.0 ++ 32 ∷ encode_lower bytes.0 =
-    split_from first.0.1 second.0 second.1 ∙ ap₂ (λ a b. a ++ 32 ∷ b) (within 0 MAX_ARG_LEN second.0.0 len.0 len.1) hex.0 in
+    split_from first.0.1 second.0 second.1 ∙ ap₂ (λ a b. a ++ 32 ∷ b) number.0 hex.0 in
     let whole : text ≡ mode_word mode.0 ++ 32 ∷ (decimal len.0 ++ 32 ∷ encode_lower bytes.0) =
     split_from text first.0 first.1 ∙ ap₂ (λ a b. a ++ 32 ∷ b) (mode_from first.0.0 mode.0 mode.1) rest in
-    subst (λ x. IsSpelled (codes "p " ++ text) x) parts.1 (ap (λ u. codes "p " ++ u) whole, hex.1)
+    subst (λ x. IsSpelled (codes "p " ++ text) x) parts.1 (ap (λ u. codes "p " ++ u) whole, (number.1.1, hex.1, leb-true _ _ parts.0))
 
 words_from : (line : List ℕ) (m : Meaning) → words_meaning line ≡ Some m → IsSpelled line m
 unfolding words_meaning
@@ -120,25 +103,11 @@ abbrev pub Fits : Meaning → Type 0
 Fits (Entry e) = EntryFits e
 Fits (Program p) = ProgramFits p
 
-digit_no_space : (b : ℕ) → (leb 48 b && leb b 57) ≡ true → is_space b ≡ false
-digit_no_space b h = grind (arith, nat_tests)
-
 lower_no_space : (b : ℕ) → is_lower_digit b ≡ true → is_space b ≡ false
 lower_no_space b h = grind (arith, nat_tests)
 
-plain_number : (n : ℕ) → n < 2 ^ 64 → has_no_space (decimal n) ≡ true
-plain_number n lt = no_space_from (λ b. leb 48 b && leb b 57) digit_no_space (decimal n) (digits_decimal own n lt)
-
 plain_hex : (bytes : List ℕ) → IsBytes bytes → has_no_space (encode_lower bytes) ≡ true
 plain_hex bytes are = no_space_from is_lower_digit lower_no_space (encode_lower bytes) (lower_all bytes are)
-
-plain_mode : (m : Mode) → has_no_space (mode_word m) ≡ true
-plain_mode Update = refl
-plain_mode Read = refl
-
-mode_to : (m : Mode) → mode_of (mode_word m) ≡ Some m
-mode_to Update = refl
-mode_to Read = refl
 
 no_letter : (n : ℕ) → n < 2 ^ 64 → bytes_eq (decimal n) (codes "p") ≡ false
 no_letter n lt = by_test (bytes_eq (decimal n) (codes "p")) (word_is (decimal n) (codes "p"))
@@ -165,7 +134,7 @@ unfolding line_meaning words_meaning entry_meaning
 entry_to e f =
     rw (
       le-ltb DUMP_LINE_BYTES (length (entry_text e)) (entry_short e f),
-      split_to (decimal e.map) (encode_lower e.key ++ 32 ∷ encode_lower e.value) (plain_number e.map f.map),
+      split_to (decimal e.map) (encode_lower e.key ++ 32 ∷ encode_lower e.value) (no_space_in_number e.map f.map),
       no_letter e.map f.map,
       split_to (encode_lower e.key) (encode_lower e.value) (plain_hex e.key f.key),
       (numerals_are_decimals (decimal e.map) e.map).1 (refl, f.map),
@@ -197,8 +166,8 @@ program_to p f =
     rw (
       le-ltb DUMP_LINE_BYTES (length (program_text p)) (program_short p f),
       letter,
-      split_to (mode_word p.mode) behind (plain_mode p.mode),
-      split_to (decimal p.arg_len) (encode_lower p.bytes) (plain_number p.arg_len small),
+      split_to (mode_word p.mode) behind (no_space_in_mode p.mode),
+      split_to (decimal p.arg_len) (encode_lower p.bytes) (no_space_in_number p.arg_len small),
       mode_to p.mode,
       within_to p.arg_len f.argument,
       lower_to p.bytes f.bytes f.some (omega (arith, f.few)),

@@ -1,15 +1,15 @@
 // The lines of a dump.
 
-ghost use Rattle.std.specs.Prelude.{◌≡◌, ◌≤◌, ◌*◌, ◌∷◌, ◌<◌, Some, None, [], length, option_map, IfSome, MatchOption};
+ghost use Rattle.std.specs.Prelude.{◌≡◌, ◌*◌, ◌∷◌, ◌<◌, Some, None, [], length, option_map, IfSome, MatchOption};
 ghost use Rattle.std.specs.List.{list_all};
 ghost use Rattle.insn.specs.declared.decoding.TheConstants.{MAX_INSTALLED_SLOTS};
 ghost use Rattle.maps.specs.declared.shapes.TheConstants.{MAX_ARG_LEN};
-ghost use Rattle.loader.specs.Grammar.{mode_of};
 ghost use Rattle.dumps.specs.Grammar.{ended_lines, Takes, is_lower_digit, lower_bytes, entry_meaning, program_meaning, words_meaning, line_meaning};
 ghost use Rattle.dumps.specs.Shown.{meaning_of, LineFits};
 
 use arrayvec::ArrayVec;
 use insn::MAX_INSTALLED_SLOTS;
+use loader::mode;
 use maps::MAX_ARG_LEN;
 use std::marker::Model;
 use text::{FIELD_BYTES, LINE_BYTES, hex_field, number, number_within, split_at_space};
@@ -117,18 +117,6 @@ fn lower_hex(field: &str) -> Option<ArrayVec<u8, FIELD_BYTES>>
 {
     if field.len() <= LINE_BYTES && are_lower_digits(field.as_bytes()) {
         hex_field(field)
-    } else {
-        None
-    }
-}
-
-fn mode(text: &str) -> Option<Mode>
-    ensures { result ≡ mode_of text.now }
-{
-    if text == "update" {
-        Some(Mode::Update)
-    } else if text == "read" {
-        Some(Mode::Read)
     } else {
         None
     }

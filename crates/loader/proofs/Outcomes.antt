@@ -171,49 +171,15 @@ behind_one ls = numbered 1 ls (omega arith) ∙ ap (λ m. min m last) (omega ari
 
 shown : (fs : Files) (ls : List (List ℕ)) (e : LoadRefusal) → RefusedAt fs ls 1 nothing_yet e → IsFirstBad fs ls e ⊎ HasNoMap fs ls e
 shown fs ls e (inl b) =
-    inl
-    (record {
-      before = b.before;
-      line = b.line;
-      rest = b.rest;
-      split = b.split;
-      so_far = b.so_far;
-      good = offers_from fs b.before b.so_far b.good;
-      bad = b.bad;
-      number = b.number ∙ behind_one b.before;
-    })
+    inl (record { before = b.before; line = b.line; rest = b.rest; split = b.split; so_far = b.so_far; good = offers_from fs b.before b.so_far b.good; bad = b.bad; number = b.number ∙ behind_one b.before })
 shown fs ls e (inr b) =
-    inr
-    (record {
-      so_far = b.so_far;
-      good = offers_from fs ls b.so_far b.good;
-      none = b.none;
-      why = b.why;
-      number = b.number ∙ behind_one ls;
-    })
+    inr (record { so_far = b.so_far; good = offers_from fs ls b.so_far b.good; none = b.none; why = b.why; number = b.number ∙ behind_one ls })
 
 meant : (fs : Files) (ls : List (List ℕ)) (e : LoadRefusal) → IsFirstBad fs ls e ⊎ HasNoMap fs ls e → RefusedAt fs ls 1 nothing_yet e
 meant fs ls e (inl b) =
-    inl
-    (record {
-      before = b.before;
-      line = b.line;
-      rest = b.rest;
-      split = b.split;
-      so_far = b.so_far;
-      good = offers_to fs b.before b.so_far b.good;
-      bad = b.bad;
-      number = b.number ∙ sym (behind_one b.before);
-    })
+    inl (record { before = b.before; line = b.line; rest = b.rest; split = b.split; so_far = b.so_far; good = offers_to fs b.before b.so_far b.good; bad = b.bad; number = b.number ∙ sym (behind_one b.before) })
 meant fs ls e (inr b) =
-    inr
-    (record {
-      so_far = b.so_far;
-      good = offers_to fs ls b.so_far b.good;
-      none = b.none;
-      why = b.why;
-      number = b.number ∙ sym (behind_one ls);
-    })
+    inr (record { so_far = b.so_far; good = offers_to fs ls b.so_far b.good; none = b.none; why = b.why; number = b.number ∙ sym (behind_one ls) })
 
 pub refused_is_first_bad : RefusedIsFirstBad
 unfolding loaded

@@ -39,20 +39,20 @@ digit_no_space b h = grind (arith, nat_tests)
 name_no_space : (b : ℕ) → is_name_byte b ≡ true → is_space b ≡ false
 name_no_space b h = grind (arith, nat_tests)
 
-no_space_in_number : (n : ℕ) → n < 2 ^ 64 → has_no_space (decimal n) ≡ true
+pub no_space_in_number : (n : ℕ) → n < 2 ^ 64 → has_no_space (decimal n) ≡ true
 no_space_in_number n lt = no_space_from (λ b. leb 48 b && leb b 57) digit_no_space (decimal n) (digits_decimal own n lt)
 
-no_space_in_name : (t : List ℕ) → is_name t ≡ true → has_no_space t ≡ true
+pub no_space_in_name : (t : List ℕ) → is_name t ≡ true → has_no_space t ≡ true
 unfolding is_name
 no_space_in_name t h =
     let last = and_parts _ (list_all is_name_byte t) h in
     no_space_from is_name_byte name_no_space t last.1
 
-no_space_in_mode : (m : Mode) → has_no_space (mode_word m) ≡ true
+pub no_space_in_mode : (m : Mode) → has_no_space (mode_word m) ≡ true
 no_space_in_mode Update = refl
 no_space_in_mode Read = refl
 
-mode_to : (m : Mode) → mode_of (mode_word m) ≡ Some m
+pub mode_to : (m : Mode) → mode_of (mode_word m) ≡ Some m
 mode_to Update = refl
 mode_to Read = refl
 

@@ -17,7 +17,7 @@ use Rattle.loader.proofs.WordLemmas.{word_is, is_map, is_program, IsCut, cut_fro
 use Rattle.text.proofs.Numerals.{numerals_are_decimals}
 use Rattle.text.proofs.Cuts.{steps, where_true, split_from}
 
-within : (low high : ℕ) (t : List ℕ) (n : ℕ) → number_within low high t ≡ Some n → (t ≡ decimal n) × IsFrom low high n
+pub within : (low high : ℕ) (t : List ℕ) (n : ℕ) → number_within low high t ≡ Some n → (t ≡ decimal n) × IsFrom low high n
 unfolding number_within
 within low high t n e =
     let read = steps (number_of t) _ n e in
@@ -65,7 +65,7 @@ map_from t x e =
     by_word w r false true e f g whole = subst (λ u. Spells x (codes "map " ++ u)) (sym (whole ∙ ap (λ u. u ++ 32 ∷ r) (g refl))) (hash_from r x e)
     by_word w r false false e f g whole = absurd cc
 
-mode_from : (w : List ℕ) (m : Mode) → mode_of w ≡ Some m → w ≡ mode_word m
+pub mode_from : (w : List ℕ) (m : Mode) → mode_of w ≡ Some m → w ≡ mode_word m
 mode_from w m e = by_word (bytes_eq w (codes "update")) (bytes_eq w (codes "read")) m e (word_is w (codes "update")) (word_is w (codes "read"))
   where
     by_word : (u r : Bool) (m : Mode) → cond u (Some Update) (cond r (Some Read) None) ≡ Some m → (u ≡ true → w ≡ codes "update") → (r ≡ true → w ≡ codes "read") → w ≡ mode_word m

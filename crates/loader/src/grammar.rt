@@ -90,7 +90,8 @@ fn map_line(text: &str) -> Option<Line<'_>>
     }
 }
 
-fn mode(text: &str) -> Option<Mode>
+/// The mode that a word says.
+pub fn mode(text: &str) -> Option<Mode>
     ensures mode { result ≡ mode_of text.now }
 {
     if text == "update" {

@@ -17,7 +17,7 @@ mod store_state;
 
 pub use catalogue::Catalogue;
 pub use file_names::named_files;
-pub use grammar::{Line, ProgramLine, read_line};
+pub use grammar::{Line, ProgramLine, mode, read_line};
 pub use installed::{InstallRefusal, Installed, MAX_PLACES};
 pub use laws::{
     each_line_is_its_spelling, limits, loaded_is_offered, names_are_files, refused_is_first_bad,

@@ -1,7 +1,7 @@
 -- The fields of a line, read and spelled.
-use Rattle.std.proofs.Common.{◌≡◌, ◌⊎◌, inl, inr, ℕ, ◌<◌, ◌≤◌, Bool, true, false, not, cond, leb, ltb, eqb, ◌&&◌, ◌||◌, List, [], ◌∷◌, ◌++◌, length, codes, bytes_eq, decimal, Option, Some, None, Result, Ok, Err, refl, sym, ap, subst, ◌∙◌, arith}
-use Rattle.std.specs.Prelude.{option_map, if◌then◌else◌}
-use Rattle.std.specs.List.{list_all, AllPass}
+use Rattle.std.proofs.Common.{◌≡◌, ℕ, Bool, true, false, not, cond, leb, ltb, eqb, ◌&&◌, List, [], ◌∷◌, ◌++◌, length, codes, bytes_eq, decimal, Option, Some, None, Result, Ok, Err, refl, sym, ap, subst, ◌∙◌, arith}
+use Rattle.std.specs.Prelude.{option_map}
+use Rattle.std.specs.List.{list_all}
 use Rattle.std.proofs.lemmas.Bool.{and_parts, eqb-true, false≢true}
 use Rattle.std.proofs.lemmas.Bool.Decides.{nat_tests}
 use Rattle.std.proofs.lemmas.Fmt.{digits_decimal}
@@ -9,35 +9,22 @@ use Rattle.std.proofs.lemmas.Option.{same_Some}
 use Rattle.std.proofs.lemmas.List.Sums.{list_all-from_AllPass}
 use Rattle.hex.specs.Hex.{decode_of, is_hex_digit}
 use Rattle.hex.proofs.HexLemmas.{decode_of-ok}
-use Rattle.verifier.specs.declared.refusal.Mode.{Mode}
-use Rattle.verifier.specs.declared.refusal.Mode.TheVariants.{Update, Read}
 use Rattle.text.specs.Fields.{is_space, has_no_space, split_at_space}
-use Rattle.text.specs.Words.{is_name_byte, is_lower, is_name, number_of}
+use Rattle.text.specs.Words.{is_lower, is_name, number_of}
 use Rattle.text.specs.Digits.{good, field_bytes}
 use Rattle.text.proofs.Numbers.{own}
 use Rattle.text.proofs.Numerals.{numerals_are_decimals}
 use Rattle.text.proofs.Cuts.{steps, split_from, split_to}
 use Rattle.loader.specs.Grammar.{mode_of}
 use Rattle.loader.specs.Spelling.{mode_word}
+use Rattle.loader.proofs.Respelled.{no_space_from, no_space_in_number, no_space_in_name, no_space_in_mode, mode_to}
+use Rattle.loader.proofs.Spelled.{mode_from}
 use Rattle.loader.proofs.WordLemmas.{word_is}
 use Rattle.oplog.specs.Calls.{NewProgram}
 use Rattle.scripts.specs.Script.{ProgramKey, Named, Numbered, KeyedCall, program_key, keyed_call, program_fields, new_program}
 use Rattle.scripts.specs.LineSpelling.{IsNumber, SpellsBytes, IsKey, key_text}
 
 -- ---- no field has a space
-
--- what passes a test that no space passes has no space
-pub no_space_from : (p : ℕ → Bool) → ((b : ℕ) → p b ≡ true → is_space b ≡ false) → (t : List ℕ) → list_all p t ≡ true → has_no_space t ≡ true
-no_space_from p other [] h = refl
-no_space_from p other (b ∷ t) h =
-    let both = and_parts (p b) (list_all p t) h in
-    rw (other b both.0, no_space_from p other t both.1) refl
-
-digit_no_space : (b : ℕ) → (leb 48 b && leb b 57) ≡ true → is_space b ≡ false
-digit_no_space b h = grind (arith, nat_tests)
-
-name_no_space : (b : ℕ) → is_name_byte b ≡ true → is_space b ≡ false
-name_no_space b h = grind (arith, nat_tests)
 
 hex_no_space : (b : ℕ) → is_hex_digit b ≡ true → is_space b ≡ false
 hex_no_space b h = by (is_space b) refl
@@ -49,20 +36,9 @@ hex_no_space b h = by (is_space b) refl
 pub digits_of_number : (n : ℕ) → IsNumber n → list_all (λ b. leb 48 b && leb b 57) (decimal n) ≡ true
 digits_of_number n lt = digits_decimal own n lt
 
-pub number_plain : (n : ℕ) → IsNumber n → has_no_space (decimal n) ≡ true
-number_plain n lt = no_space_from (λ b. leb 48 b && leb b 57) digit_no_space (decimal n) (digits_of_number n lt)
-
-pub name_plain : (t : List ℕ) → is_name t ≡ true → has_no_space t ≡ true
-unfolding is_name
-name_plain t h = let last = and_parts _ (list_all is_name_byte t) h in no_space_from is_name_byte name_no_space t last.1
-
-pub mode_plain : (m : Mode) → has_no_space (mode_word m) ≡ true
-mode_plain Update = refl
-mode_plain Read = refl
-
 pub key_plain : (key : ProgramKey) → IsKey key → has_no_space (key_text key) ≡ true
-key_plain (Named name) is = name_plain name is
-key_plain (Numbered k) is = number_plain k is
+key_plain (Named name) is = no_space_in_name name is
+key_plain (Numbered k) is = no_space_in_number k is
 
 good_from : {E : Type 0} (r : Result (List ℕ) E) (bytes : List ℕ) → good r ≡ Some bytes → r ≡ Ok bytes
 good_from (Ok b) bytes e = cc
@@ -100,20 +76,6 @@ number_from t n e = (numerals_are_decimals t n).0 e
 
 pub number_to : (n : ℕ) → IsNumber n → number_of (decimal n) ≡ Some n
 number_to n lt = (numerals_are_decimals (decimal n) n).1 (refl, lt)
-
-pub mode_from : (w : List ℕ) (m : Mode) → mode_of w ≡ Some m → w ≡ mode_word m
-mode_from w m e = by (bytes_eq w (codes "update")) (bytes_eq w (codes "read")) m e (word_is w (codes "update")) (word_is w (codes "read"))
-  where
-    by : (u r : Bool) (m : Mode) → cond u (Some Update) (cond r (Some Read) None) ≡ Some m → (u ≡ true → w ≡ codes "update") → (r ≡ true → w ≡ codes "read") → w ≡ mode_word m
-    by true r Update e f g = f refl
-    by true r Read e f g = absurd cc
-    by false true Update e f g = absurd cc
-    by false true Read e f g = g refl
-    by false false m e f g = absurd cc
-
-pub mode_to : (m : Mode) → mode_of (mode_word m) ≡ Some m
-mode_to Update = refl
-mode_to Read = refl
 
 pub mapped : {A B : Type 0} (f : A → B) (o : Option A) (m : B) → option_map f o ≡ Some m → (x : A) × (o ≡ Some x) × (f x ≡ m)
 mapped f None m e = absurd cc
@@ -193,4 +155,4 @@ new_from t new e =
 pub new_to : (new : NewProgram) (digits : List ℕ) → IsNumber new.arg_len → SpellsBytes new.bytes digits → new_program (mode_word new.mode ++ 32 ∷ (decimal new.arg_len ++ 32 ∷ digits)) ≡ Some new
 unfolding new_program
 new_to new digits lt bytes =
-    rw (split_to (mode_word new.mode) (decimal new.arg_len ++ 32 ∷ digits) (mode_plain new.mode), split_to (decimal new.arg_len) digits (number_plain new.arg_len lt)) (program_to new digits lt bytes)
+    rw (split_to (mode_word new.mode) (decimal new.arg_len ++ 32 ∷ digits) (no_space_in_mode new.mode), split_to (decimal new.arg_len) digits (no_space_in_number new.arg_len lt)) (program_to new digits lt bytes)

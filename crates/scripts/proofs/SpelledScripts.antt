@@ -1,5 +1,5 @@
 -- A line of a script says what it spells.
-use Rattle.std.proofs.Common.{◌≡◌, ◌⊎◌, inl, inr, ℕ, ◌<◌, ◌≤◌, Bool, true, false, cond, leb, ltb, eqb, ◌&&◌, List, [], ◌∷◌, ◌++◌, length, codes, bytes_eq, decimal, Option, Some, None, refl, sym, ap, subst, ◌∙◌, arith}
+use Rattle.std.proofs.Common.{◌≡◌, ◌⊎◌, inl, inr, ℕ, ◌≤◌, Bool, true, false, eqb, List, [], ◌∷◌, ◌++◌, length, codes, bytes_eq, decimal, Option, Some, None, refl, sym, ap, subst, ◌∙◌, arith}
 use Rattle.std.specs.Prelude.{option_map, if◌then◌else◌}
 use Rattle.std.specs.Option.{option_or}
 use Rattle.std.specs.List.{list_all}
@@ -14,10 +14,11 @@ use Rattle.text.proofs.LineReadings.{IsSilent, by_kind_from, by_words, by_hash, 
 use Rattle.text.proofs.Cuts.{steps, where_true, split_from, split_to}
 use Rattle.loader.specs.Spelling.{mode_word}
 use Rattle.loader.proofs.WordLemmas.{word_is}
-use Rattle.oplog.specs.Calls.{Call as NumberedCall, NewProgram}
+use Rattle.oplog.specs.Calls.{Call as NumberedCall}
 use Rattle.scripts.specs.Script.{ProgramCall, Meaning, Comment, Call, InvokeAt, ReadAt, Install, named_call, numbered_call, new_program, word_meaning, call_meaning, line_meaning}
 use Rattle.scripts.specs.LineSpelling.{IsNumber, SpellsBytes, Spells, EachLineIsItsSpelling}
-use Rattle.scripts.proofs.Fields.{bytes_plain, key_plain, mapped, name_plain, new_from, new_to, number_from, number_plain, number_to, two_no_bytes}
+use Rattle.loader.proofs.Respelled.{no_space_in_name, no_space_in_number}
+use Rattle.scripts.proofs.Fields.{mapped, new_from, new_to, number_from, number_to, two_no_bytes}
 
 -- ---- by words
 
@@ -121,7 +122,7 @@ empty_to = by_empty Comment (call_meaning [])
 
 call_to : (call : ProgramCall) (digits : List ℕ) → is_name call.name ≡ true → SpellsBytes call.argument digits → call_meaning (call.name ++ 32 ∷ digits) ≡ Some (Call call)
 unfolding call_meaning named_call
-call_to call digits name bytes = rw (split_to call.name digits (name_plain call.name name), bytes, name) refl
+call_to call digits name bytes = rw (split_to call.name digits (no_space_in_name call.name name), bytes, name) refl
 
 word_to : (word rest : List ℕ) (m : Meaning) → has_no_space word ≡ true → field_bytes rest ≡ None → word_meaning word rest ≡ Some m → call_meaning (word ++ 32 ∷ rest) ≡ Some m
 unfolding call_meaning named_call
@@ -129,7 +130,7 @@ word_to word rest m plain none e = rw (split_to word rest plain, none) e
 
 numbered_to : (call : NumberedCall) (digits : List ℕ) → IsNumber call.program → SpellsBytes call.argument digits → numbered_call (decimal call.program ++ 32 ∷ digits) ≡ Some call
 unfolding numbered_call
-numbered_to call digits lt bytes = rw (split_to (decimal call.program) digits (number_plain call.program lt), number_to call.program lt, bytes) refl
+numbered_to call digits lt bytes = rw (split_to (decimal call.program) digits (no_space_in_number call.program lt), number_to call.program lt, bytes) refl
 
 named_line : (call : ProgramCall) (digits line : List ℕ) → line ≡ call.name ++ 32 ∷ digits → is_name call.name ≡ true → SpellsBytes call.argument digits → length line ≤ LINE_BYTES → line_meaning line ≡ Some (Call call)
 named_line call digits line whole name bytes le =

@@ -1,5 +1,5 @@
 -- A line of a list of steps says what it spells.
-use Rattle.std.proofs.Common.{◌≡◌, ◌⊎◌, inl, inr, ℕ, ◌≤◌, true, false, eqb, List, [], ◌∷◌, ◌++◌, length, codes, decimal, Option, Some, refl, sym, ap, subst, ◌∙◌}
+use Rattle.std.proofs.Common.{◌≡◌, ◌⊎◌, inl, inr, ℕ, ◌≤◌, true, false, eqb, List, [], ◌∷◌, ◌++◌, length, codes, decimal, Some, refl, sym, ap, subst, ◌∙◌}
 use Rattle.std.specs.Prelude.{option_map}
 use Rattle.std.proofs.lemmas.Option.{same_Some}
 use Rattle.text.specs.declared.lines.TheConstants.{LINE_BYTES}
@@ -8,10 +8,11 @@ use Rattle.text.specs.Words.{number_of}
 use Rattle.text.proofs.LineReadings.{IsSilent, by_kind_from, by_words, by_hash, by_empty}
 use Rattle.text.proofs.Cuts.{steps, where_true, split_from, split_to}
 use Rattle.loader.specs.Spelling.{mode_word}
-use Rattle.scripts.specs.Script.{KeyedCall, keyed_call, new_program}
+use Rattle.scripts.specs.Script.{keyed_call, new_program}
 use Rattle.scripts.specs.StepLine.{SlotAt, CallAt, InstallAt, StepMeaning, Comment, Post, Install, ReadBegin, Collect, ReadAnswer, Claim, Append, Replay, Finish, Reply, Reclaim, Rebase, is_named_so, slot_at, call_at, install_at, node_step, node_words, step_words, step_meaning, step_line_meaning}
 use Rattle.scripts.specs.LineSpelling.{IsNumber, IsKey, SpellsBytes, SpellsStep, EachStepIsItsSpelling, key_text}
-use Rattle.scripts.proofs.Fields.{key_plain, keyed_from, keyed_to, mapped, new_from, new_to, number_from, number_plain, number_to}
+use Rattle.loader.proofs.Respelled.{no_space_in_number}
+use Rattle.scripts.proofs.Fields.{key_plain, keyed_from, keyed_to, mapped, new_from, new_to, number_from, number_to}
 use Rattle.scripts.proofs.SpelledScripts.{by_word}
 
 -- ---- read
@@ -187,15 +188,15 @@ module _ (n : ℕ) where
 
   slot_to : (at : SlotAt) → IsNumber at.node → IsNumber at.slot → slot_at (decimal at.node ++ 32 ∷ decimal at.slot) ≡ Some at
   unfolding slot_at
-  slot_to at a s = rw (split_to (decimal at.node) (decimal at.slot) (number_plain at.node a), number_to at.node a, number_to at.slot s) refl
+  slot_to at a s = rw (split_to (decimal at.node) (decimal at.slot) (no_space_in_number at.node a), number_to at.node a, number_to at.slot s) refl
 
   at_to : (at : CallAt) (digits : List ℕ) → IsKey at.call.key → SpellsBytes at.call.argument digits → IsNumber at.node → IsNumber at.slot → is_named_so n at.call.key ≡ true
       → call_at n (decimal at.node ++ 32 ∷ (decimal at.slot ++ 32 ∷ (key_text at.call.key ++ 32 ∷ digits))) ≡ Some at
   unfolding call_at
   at_to at digits key bytes a s so =
       rw (
-        split_to (decimal at.node) (decimal at.slot ++ 32 ∷ (key_text at.call.key ++ 32 ∷ digits)) (number_plain at.node a),
-        split_to (decimal at.slot) (key_text at.call.key ++ 32 ∷ digits) (number_plain at.slot s),
+        split_to (decimal at.node) (decimal at.slot ++ 32 ∷ (key_text at.call.key ++ 32 ∷ digits)) (no_space_in_number at.node a),
+        split_to (decimal at.slot) (key_text at.call.key ++ 32 ∷ digits) (no_space_in_number at.slot s),
         split_to (key_text at.call.key) digits (key_plain at.call.key key),
         number_to at.node a,
         number_to at.slot s,
@@ -207,8 +208,8 @@ module _ (n : ℕ) where
   unfolding install_at
   install_to at rest program a s =
       rw (
-        split_to (decimal at.node) (decimal at.slot ++ 32 ∷ rest) (number_plain at.node a),
-        split_to (decimal at.slot) rest (number_plain at.slot s),
+        split_to (decimal at.node) (decimal at.slot ++ 32 ∷ rest) (no_space_in_number at.node a),
+        split_to (decimal at.slot) rest (no_space_in_number at.slot s),
         number_to at.node a,
         number_to at.slot s,
         program,

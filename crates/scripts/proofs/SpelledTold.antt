@@ -6,7 +6,6 @@ use Rattle.std.proofs.lemmas.Option.{same_Some}
 use Rattle.verifier.specs.declared.refusal.Mode.{Mode}
 use Rattle.verifier.specs.declared.refusal.Mode.TheVariants.{Update, Read}
 use Rattle.text.specs.declared.lines.TheConstants.{LINE_BYTES}
-use Rattle.text.specs.Digits.{field_bytes}
 use Rattle.text.specs.Fields.{has_no_space, split_at_space}
 use Rattle.text.specs.Words.{number_of}
 use Rattle.text.proofs.LineReadings.{IsSilent, by_kind_from, by_words, by_hash, by_empty}
@@ -16,7 +15,8 @@ use Rattle.oplog.specs.Calls.{NewProgram}
 use Rattle.scripts.specs.Script.{KeyedCall, keyed_call, program_fields, new_program}
 use Rattle.scripts.specs.Transcript.{AnsweredCall, AnsweredInstall, TranscriptMeaning, Comment, Answered, Installed, Ended, EndedInstall, answered_call, answered_install, ended_call, ended_words, transcript_words, transcript_meaning, transcript_line_meaning}
 use Rattle.scripts.specs.LineSpelling.{IsNumber, IsKey, SpellsBytes, SpellsTold, EachToldIsItsSpelling, key_text, mode_letter}
-use Rattle.scripts.proofs.Fields.{bytes_plain, key_plain, keyed_from, keyed_to, mapped, mode_plain, new_from, new_to, number_from, number_plain, number_to, program_from, program_to, two_no_bytes}
+use Rattle.loader.proofs.Respelled.{no_space_in_mode, no_space_in_number}
+use Rattle.scripts.proofs.Fields.{bytes_plain, key_plain, keyed_from, keyed_to, mapped, new_from, new_to, number_from, number_to, program_from, program_to, two_no_bytes}
 use Rattle.scripts.proofs.SpelledScripts.{by_word}
 
 -- ---- read
@@ -164,7 +164,7 @@ answered_to : (a : AnsweredCall) (digits : List ℕ) → IsKey a.call.key → Sp
 unfolding answered_call
 answered_to a digits key bytes p r =
     rw (
-      split_to (decimal a.index) (key_text a.call.key ++ 32 ∷ (digits ++ 32 ∷ decimal a.reply)) (number_plain a.index p),
+      split_to (decimal a.index) (key_text a.call.key ++ 32 ∷ (digits ++ 32 ∷ decimal a.reply)) (no_space_in_number a.index p),
       split_to (key_text a.call.key) (digits ++ 32 ∷ decimal a.reply) (key_plain a.call.key key),
       split_to digits (decimal a.reply) (bytes_plain digits a.call.argument bytes),
       number_to a.index p,
@@ -177,9 +177,9 @@ installed_to : (a : AnsweredInstall) (digits : List ℕ) → IsNumber a.program.
 unfolding answered_install
 installed_to a digits len bytes p r =
     rw (
-      split_to (decimal a.index) (mode_word a.program.mode ++ 32 ∷ (decimal a.program.arg_len ++ 32 ∷ (digits ++ 32 ∷ decimal a.reply))) (number_plain a.index p),
-      split_to (mode_word a.program.mode) (decimal a.program.arg_len ++ 32 ∷ (digits ++ 32 ∷ decimal a.reply)) (mode_plain a.program.mode),
-      split_to (decimal a.program.arg_len) (digits ++ 32 ∷ decimal a.reply) (number_plain a.program.arg_len len),
+      split_to (decimal a.index) (mode_word a.program.mode ++ 32 ∷ (decimal a.program.arg_len ++ 32 ∷ (digits ++ 32 ∷ decimal a.reply))) (no_space_in_number a.index p),
+      split_to (mode_word a.program.mode) (decimal a.program.arg_len ++ 32 ∷ (digits ++ 32 ∷ decimal a.reply)) (no_space_in_mode a.program.mode),
+      split_to (decimal a.program.arg_len) (digits ++ 32 ∷ decimal a.reply) (no_space_in_number a.program.arg_len len),
       split_to digits (decimal a.reply) (bytes_plain digits a.program.bytes bytes),
       number_to a.index p,
       program_to a.program digits len bytes,
@@ -196,7 +196,7 @@ unfolding ended_call keyed_call
 no_call word a b plain = rw (split_to word (a ++ 32 ∷ b) plain, two_no_bytes a b) refl
 
 ended_install_to : (new : NewProgram) (digits : List ℕ) → IsNumber new.arg_len → SpellsBytes new.bytes digits → ended_words (mode_word new.mode ++ 32 ∷ (decimal new.arg_len ++ 32 ∷ digits)) ≡ Some (EndedInstall new)
-ended_install_to new digits len bytes = rw (no_call (mode_word new.mode) (decimal new.arg_len) digits (mode_plain new.mode), new_to new digits len bytes) refl
+ended_install_to new digits len bytes = rw (no_call (mode_word new.mode) (decimal new.arg_len) digits (no_space_in_mode new.mode), new_to new digits len bytes) refl
 
 answered_line : (mode : Mode) (rest : List ℕ) (m : TranscriptMeaning) (line : List ℕ) → option_map Answered (answered_call mode rest) ≡ Some m → line ≡ mode_letter mode ++ 32 ∷ rest → length line ≤ LINE_BYTES → transcript_line_meaning line ≡ Some m
 answered_line Update rest m line e whole le = said _ rest line m whole le refl refl e

@@ -2,11 +2,11 @@
 
 ghost use Rattle.std.specs.Prelude.{◌≡◌, ◌≤◌, length, option_map, take, IfSome};
 ghost use Rattle.text.specs.Digits.{field_bytes};
-ghost use Rattle.loader.specs.Grammar.{mode_of};
 ghost use Rattle.scripts.specs.Script.{named_call, program_key, keyed_call, numbered_call, program_fields, new_program, word_meaning, call_meaning, line_meaning};
 ghost use Rattle.scripts.specs.ScriptShown.{call_of, key_of, keyed_of, at_number_of, program_of, meaning_of};
 
 use arrayvec::ArrayVec;
+use loader::mode;
 use text::{
     FIELD_BYTES, LINE_BYTES, LineKind, hex_field, is_name, kind_of, number, split_at_space,
 };
@@ -159,19 +159,6 @@ fn numbered_call(text: &str) -> Option<NumberedCall>
     let program = number(program)?;
     let argument = hex_field(digits)?;
     Some(NumberedCall { program, argument })
-}
-
-// The word of a mode.
-fn mode(text: &str) -> Option<Mode>
-    ensures { result ≡ mode_of text.now }
-{
-    if text == "update" {
-        Some(Mode::Update)
-    } else if text == "read" {
-        Some(Mode::Read)
-    } else {
-        None
-    }
 }
 
 // The program that the fields MODE, ARGLEN and HEX say.
