@@ -1,42 +1,19 @@
 -- Digits and the numbers that they say.
-use Rattle.std.proofs.Common.{◌≡◌, ℕ, ◌-◌, ◌^◌, ◌<◌, ◌≤◌, Bool, true, false, ◌&&◌, eqb, ℤ, pos, List, [], ◌∷◌, length, Result, Ok, Err, refl, ap, subst, arith, FitsSigned}
+use Rattle.std.proofs.Common.{◌≡◌, ℕ, ◌-◌, ◌^◌, ◌<◌, ◌≤◌, true, false, eqb, ℤ, pos, List, [], ◌∷◌, length, Result, Ok, Err, refl, ap, subst, arith, FitsSigned}
 use Rattle.std.specs.Int.{w128}
-use Rattle.std.specs.Char.{digit_value, is_digit}
-use Rattle.std.specs.Str.{IsAscii, IsUtf8}
+use Rattle.std.specs.Char.{digit_value}
 use Rattle.std.specs.Result.{result_unwrap_or, OkIff}
 use Rattle.std.specs.Str.Parse.{AllDigits, digits_value, ParsesSigned, IsNumeral, without_leading_sign, signed_digits_value}
-use Rattle.std.proofs.lemmas.Bool.{lt-ltb, le-ltb, ltb-true, ne_eqb, false≢true}
-use Rattle.std.proofs.lemmas.Bool.Decides.{nat_tests}
-use Rattle.std.proofs.lemmas.Str.{IsUtf8-from_ascii}
-use Rattle.std.proofs.lemmas.Str.Ascii.{IsAscii-cons, IsAscii-nil}
+use Rattle.std.proofs.lemmas.Bool.{lt-ltb, le-ltb, ne_eqb}
+use Rattle.text.proofs.DigitTexts.{all_digits}
 use Rattle.asm.specs.Operands.{are_digits, capped, magnitude_of}
 
--- a digit is no sign, and is ASCII
+-- a digit is no sign
 no_plus : (c radix : ℕ) → digit_value c < radix → radix ≤ 36 → eqb c 43 ≡ false
 no_plus c radix h most = ne_eqb c 43 (λ e. let lt : digit_value 43 < radix = subst (λ x. digit_value x < radix) e h in absurd (omega arith))
 
 no_minus : (c radix : ℕ) → digit_value c < radix → radix ≤ 36 → eqb c 45 ≡ false
 no_minus c radix h most = ne_eqb c 45 (λ e. let lt : digit_value 45 < radix = subst (λ x. digit_value x < radix) e h in absurd (omega arith))
-
-digit_is_ascii : (c : ℕ) → digit_value c < 36 → c < 128
-digit_is_ascii c h = grind (arith, nat_tests)
-
-pub and_true : (a b : Bool) → (a && b) ≡ true → (a ≡ true) × (b ≡ true)
-and_true true b e = (refl, e)
-and_true false b e = absurd (false≢true e)
-
-pub all_digits : (radix : ℕ) (ds : List ℕ) → are_digits radix ds ≡ true → AllDigits radix ds
-all_digits radix [] e = tt
-all_digits radix (c ∷ cs) e =
-    let both = and_true (is_digit c radix) (are_digits radix cs) e in
-    (ltb-true (digit_value c) radix both.0, all_digits radix cs both.1)
-
-digits_are_ascii : (radix : ℕ) (ds : List ℕ) → AllDigits radix ds → radix ≤ 36 → IsAscii ds
-digits_are_ascii radix [] all most = IsAscii-nil
-digits_are_ascii radix (c ∷ cs) all most = IsAscii-cons c cs (digit_is_ascii c (omega (arith, all.0))) (digits_are_ascii radix cs all.1 most)
-
-pub digits_are_text : (radix : ℕ) (ds : List ℕ) → are_digits radix ds ≡ true → radix ≤ 36 → IsUtf8 ds
-digits_are_text radix ds e most = IsUtf8-from_ascii ds (digits_are_ascii radix ds (all_digits radix ds e) most)
 
 no_sign : (radix c : ℕ) (cs : List ℕ) → AllDigits radix (c ∷ cs) → radix ≤ 36 → (without_leading_sign (c ∷ cs) ≡ c ∷ cs) × (signed_digits_value radix (c ∷ cs) ≡ pos (digits_value radix (c ∷ cs)))
 no_sign radix c cs all most =

@@ -2,13 +2,12 @@
 use Rattle.std.proofs.Common.{◌≡◌, ℕ, ◌<◌, Bool, true, false, not, cond, ◌&&◌, ltb, eqb, List, [], ◌∷◌, ◌++◌, length, take, drop, Result, Ok, refl, ap, ◌∙◌, arith}
 use Rattle.std.specs.List.{list_all, position_or_len}
 use Rattle.std.proofs.lemmas.Bool.Decides.{nat_tests}
-use Rattle.std.proofs.lemmas.Bool.{false≢true}
+use Rattle.std.proofs.lemmas.Bool.{false≢true, and_parts}
 use Rattle.asm.specs.declared.tokens.Stop.{Stop}
 use Rattle.asm.specs.declared.tokens.Stop.TheVariants.{LineFeed, Semicolon, Visible, TokenEnd, Colon}
 use Rattle.asm.specs.declared.refusals.AsmFault.{AsmFault}
 use Rattle.asm.specs.Tokens.{◌>>=◌, Parts, stops, before, rest_from, operand_of, next_operand_of, operands_of, third_operand, parts}
 use Rattle.asm.specs.Text.{operand_text}
-use Rattle.asm.proofs.Numbers.{and_true}
 
 -- none of white space, `,`, `:` and `;`
 abbrev pub is_plain : ℕ → Bool
@@ -29,11 +28,11 @@ ends stop (c ∷ cs) = stops stop c
 
 pub list_all-append : (p : ℕ → Bool) (xs ys : List ℕ) → list_all p xs ≡ true → list_all p ys ≡ true → list_all p (xs ++ ys) ≡ true
 list_all-append p [] ys h k = k
-list_all-append p (x ∷ xs) ys h k = let both = and_true (p x) (list_all p xs) h in rw both.0 (list_all-append p xs ys both.1 k)
+list_all-append p (x ∷ xs) ys h k = let both = and_parts (p x) (list_all p xs) h in rw both.0 (list_all-append p xs ys both.1 k)
 
 pub list_all-weaken : (p q : ℕ → Bool) → ((c : ℕ) → p c ≡ true → q c ≡ true) → (xs : List ℕ) → list_all p xs ≡ true → list_all q xs ≡ true
 list_all-weaken p q f [] h = refl
-list_all-weaken p q f (x ∷ xs) h = let both = and_true (p x) (list_all p xs) h in rw (f x both.0) (list_all-weaken p q f xs both.1)
+list_all-weaken p q f (x ∷ xs) h = let both = and_parts (p x) (list_all p xs) h in rw (f x both.0) (list_all-weaken p q f xs both.1)
 
 pub not-true : (b : Bool) → not b ≡ true → b ≡ false
 not-true true e = absurd (false≢true e)
@@ -43,7 +42,7 @@ length-before : (stop : Stop) (xs ys : List ℕ) → passes stop xs → ends sto
 length-before stop [] [] h e = refl
 length-before stop [] (y ∷ ys) h e = rw e refl
 length-before stop (x ∷ xs) ys h e =
-    let both = and_true (not (stops stop x)) (list_all (λ c. not (stops stop c)) xs) h in
+    let both = and_parts (not (stops stop x)) (list_all (λ c. not (stops stop c)) xs) h in
     let here : stops stop x ≡ false = not-true (stops stop x) both.0 in
     rw (here, length-before stop xs ys both.1 e) (omega arith)
 
@@ -83,7 +82,7 @@ no_colon = list_all-weaken is_plain (λ c. not (stops Colon c)) (λ c h. (plain_
 -- a token is visible
 pub is_visible : (t rest : List ℕ) → IsToken t → ends Visible (t ++ rest) ≡ true
 is_visible [] rest h = absurd (omega (arith, h.some))
-is_visible (c ∷ cs) rest h = (plain_passes c (and_true (is_plain c) (list_all is_plain cs) h.plain).0).4
+is_visible (c ∷ cs) rest h = (plain_passes c (and_parts (is_plain c) (list_all is_plain cs) h.plain).0).4
 
 -- ---- operands
 

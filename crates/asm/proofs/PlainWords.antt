@@ -1,11 +1,10 @@
 -- Words are tokens.
 use Rattle.std.proofs.Common.{◌≡◌, inl, inr, ℕ, true, ◌&&◌, ltb, List, [], ◌∷◌, length, refl, ap, ◌∙◌, subst}
 use Rattle.std.specs.List.{list_all, AllByRecursion}
-use Rattle.std.proofs.lemmas.Bool.{ltb-true}
+use Rattle.std.proofs.lemmas.Bool.{ltb-true, and_parts}
 use Rattle.asm.specs.declared.words.Mnemonic.{Mnemonic}
 use Rattle.asm.specs.declared.words.TheConstants.{WORDS}
 use Rattle.asm.specs.Words.{word_of, HasWord, IsSpelled, IsSaid}
-use Rattle.asm.proofs.Numbers.{and_true}
 use Rattle.asm.proofs.Parts.{is_plain, IsToken}
 use Rattle.asm.proofs.Table.{rows_are_spelled, each_is_said}
 
@@ -25,5 +24,5 @@ said_row_has spelled P (row ∷ rows) m each is said =
 
 pub word-token : (m : Mnemonic) → HasWord m → IsToken (word_of m)
 word-token m h =
-    let both = and_true (ltb 0 (length (word_of m))) (list_all is_plain (word_of m)) (said_row_has (λ text. text.now) Passes WORDS m rows_pass rows_are_spelled (each_is_said m h)) in
+    let both = and_parts (ltb 0 (length (word_of m))) (list_all is_plain (word_of m)) (said_row_has (λ text. text.now) Passes WORDS m rows_pass rows_are_spelled (each_is_said m h)) in
     record { some = ltb-true 0 (length (word_of m)) both.0; plain = both.1 }

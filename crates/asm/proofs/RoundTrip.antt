@@ -3,7 +3,7 @@ use Rattle.std.proofs.Common.{◌≡◌, inl, inr, ℕ, ◌+◌, ◌-◌, ◌^�
 use Rattle.std.specs.List.{list_all, flat_map, AllByRecursion}
 use Rattle.std.specs.Fmt.{decimal, signed_decimal}
 use Rattle.std.specs.Ordering.{int_eq}
-use Rattle.std.proofs.lemmas.Bool.{le-ltb, le-leb, ne_eqb}
+use Rattle.std.proofs.lemmas.Bool.{le-ltb, le-leb, ne_eqb, and_parts}
 use Rattle.std.proofs.lemmas.List.{append-nil, length-append}
 use Rattle.insn.specs.declared.instruction.TheConstants.{MAX_SLOTS}
 use Rattle.insn.specs.declared.instruction.Source.TheVariants as sources
@@ -21,7 +21,6 @@ use Rattle.asm.specs.Forms.{alu_of, movsx_of, load_of, store_imm_of, store_reg_o
 use Rattle.asm.specs.Text.{mnemonic, register, source, with_sign, address, operands, operand_text, line_text, text_of}
 use Rattle.asm.specs.Assembled.{word_of_line, instruction_of, assembled_from, assembled}
 use Rattle.asm.specs.Laws.{IsReadBack}
-use Rattle.asm.proofs.Numbers.{and_true}
 use Rattle.asm.proofs.Table.{word_is_read}
 use Rattle.asm.proofs.Parts.{is_plain, IsToken, passes, ends, list_all-append, not-true, before-cut, rest-cut, no_feed, no_semicolon, no_end, no_colon, is_visible, no_operand, one_operand, two_operands, three_operands}
 use Rattle.asm.proofs.PlainWords.{word-token}
@@ -197,7 +196,7 @@ program_back marks n slot (i ∷ p) h few =
 cut_line : (xs ys : List ℕ) → passes LineFeed xs → lines_of (xs ++ 10 ∷ ys) ≡ xs ∷ lines_of ys
 cut_line [] ys h = refl
 cut_line (x ∷ xs) ys h =
-    let both = and_true (not (eqb x 10)) (list_all (λ c. not (eqb c 10)) xs) h in
+    let both = and_parts (not (eqb x 10)) (list_all (λ c. not (eqb c 10)) xs) h in
     rw (not-true (eqb x 10) both.0, cut_line xs ys both.1) refl
 
 lines_back : (p : List Form) → AllByRecursion HasEncoding p → lines_of (text_of p) ≡ map bare_line p

@@ -1,36 +1,13 @@
 -- Digits and the numbers that they say.
 use Rattle.std.specs.Prelude.{if◌then◌else◌}
-use Rattle.std.proofs.Common.{◌≡◌, ◌≢◌, ℕ, ◌^◌, ◌<◌, ◌≤◌, Bool, true, false, ◌&&◌, ltb, List, [], ◌∷◌, length, get_or, Some, None, Result, Ok, Err, refl, ap, subst, arith}
-use Rattle.std.specs.Char.{digit_value, is_digit}
-use Rattle.std.specs.Str.{IsAscii, IsUtf8}
+use Rattle.std.proofs.Common.{◌≡◌, ◌≢◌, ℕ, ◌^◌, ◌<◌, ◌≤◌, true, ltb, List, [], ◌∷◌, length, get_or, Some, None, Result, Ok, Err, refl, ap, subst, arith}
+use Rattle.std.specs.Char.{digit_value}
 use Rattle.std.specs.Result.{OkIff, result_ok}
 use Rattle.std.specs.Str.Parse.{AllDigits, digits_value, ParsesUnsigned, IsNumeral, without_leading_plus}
-use Rattle.std.proofs.lemmas.Bool.{lt-ltb, le-ltb, ltb-true, false≢true}
-use Rattle.std.proofs.lemmas.Bool.Decides.{nat_tests}
-use Rattle.std.proofs.lemmas.Str.{IsUtf8-from_ascii}
-use Rattle.std.proofs.lemmas.Str.Ascii.{IsAscii-cons, IsAscii-nil}
+use Rattle.std.proofs.lemmas.Bool.{lt-ltb, le-ltb}
 use Rattle.std.proofs.lemmas.Str.Parse.{without_leading_plus_none}
+use Rattle.text.proofs.DigitTexts.{all_digits}
 use Rattle.encoding.specs.Values.{are_digits, magnitude_of}
-
-digit_is_ascii : (c : ℕ) → digit_value c < 36 → c < 128
-digit_is_ascii c h = grind (arith, nat_tests)
-
-and_true : (a b : Bool) → (a && b) ≡ true → (a ≡ true) × (b ≡ true)
-and_true true b e = (refl, e)
-and_true false b e = absurd (false≢true e)
-
-all_digits : (radix : ℕ) (ds : List ℕ) → are_digits radix ds ≡ true → AllDigits radix ds
-all_digits radix [] e = tt
-all_digits radix (c ∷ cs) e =
-    let both = and_true (is_digit c radix) (are_digits radix cs) e in
-    (ltb-true (digit_value c) radix both.0, all_digits radix cs both.1)
-
-digits_are_ascii : (radix : ℕ) (ds : List ℕ) → AllDigits radix ds → radix ≤ 36 → IsAscii ds
-digits_are_ascii radix [] all most = IsAscii-nil
-digits_are_ascii radix (c ∷ cs) all most = IsAscii-cons c cs (digit_is_ascii c (omega (arith, all.0))) (digits_are_ascii radix cs all.1 most)
-
-pub digits_are_text : (radix : ℕ) (ds : List ℕ) → are_digits radix ds ≡ true → radix ≤ 36 → IsUtf8 ds
-digits_are_text radix ds e most = IsUtf8-from_ascii ds (digits_are_ascii radix ds (all_digits radix ds e) most)
 
 -- a digit is no plus
 no_plus : (radix c : ℕ) (cs : List ℕ) → AllDigits radix (c ∷ cs) → radix ≤ 36 → get_or (c ∷ cs) 0 0 ≢ 43

@@ -1,5 +1,6 @@
 pub mod ByteCuts
 pub mod Cuts
+pub mod DigitTexts
 pub mod FirstLines
 pub mod LineReadings
 pub mod Numbers

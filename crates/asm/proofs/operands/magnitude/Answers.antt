@@ -1,6 +1,7 @@
 use Rattle.std.proofs.Common.{◌≡◌, true, ap, ◌∙◌, rules, Ok, length, ◌<◌}
 use Rattle.asm.specs.Operands.{magnitude_of, are_digits}
-use Rattle.asm.proofs.Numbers.{magnitude_from_parse, digits_are_text}
+use Rattle.text.proofs.DigitTexts.{digits_are_text}
+use Rattle.asm.proofs.Numbers.{magnitude_from_parse}
 use Rattle.asm.proofs.operands.magnitude.Goals as goal
 
 pub returns-then-is_empty-clause-value : goal.returns-then-is_empty-clause-value
