@@ -160,8 +160,10 @@ impl Installed {
     {
         decode_into(bytes, &mut self.decoded).map_err(InstallRefusal::Decode)?;
         let room = &mut self.rooms[self.count];
-        let l = Signature::new(&self.shapes, arg_len, mode);
-        verify_into(&self.decoded, &l, &mut self.scratch, room).map_err(InstallRefusal::Verify)?;
+        let signature = Signature::new(&self.shapes, arg_len, mode);
+        verify_into(&self.decoded, &signature, &mut self.scratch, room).map_err(
+            InstallRefusal::Verify,
+        )?;
         self.count += 1;
         Ok(())
     }
