@@ -19,7 +19,7 @@ abbrev pub name_of : Bor (List ℕ) → List ℕ
 name_of n = n.now
 
 -- the names from i on, split at the first
-names_at : (names : List (Bor (List ℕ))) (i : ℕ) (name : Bor (List ℕ)) → i < length names → name ≡ get_or names i name → map name_of (drop i names) ≡ name.now ∷ map name_of (drop (i + 1) names)
+pub names_at : (names : List (Bor (List ℕ))) (i : ℕ) (name : Bor (List ℕ)) → i < length names → name ≡ get_or names i name → map name_of (drop i names) ≡ name.now ∷ map name_of (drop (i + 1) names)
 names_at names i name lt is = at_drop_more (map name_of) names i name lt ∙ ap (λ n. name_of n ∷ map name_of (drop (i + 1) names)) (sym is)
 
 with_text : (h : Contents) (files : Files) (name bytes : List ℕ) (rest all : List (List ℕ)) → h name ≡ Some bytes → is_text bytes ≡ true → Kept h files (name ∷ rest) all → Kept h (files ++ (name, bytes) ∷ []) rest all

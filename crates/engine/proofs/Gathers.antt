@@ -1,25 +1,19 @@
 -- The files so far, and those of the names that are left.
 use Rattle.std.proofs.Common.{◌≡◌, ℕ, ◌+◌, ◌<◌, ◌≤◌, true, false, List, [], ◌∷◌, ◌++◌, length, get_or, drop, map, Option, Some, None, String, Bor, string_bytes, refl, sym, ap, subst, ◌∙◌, append_assoc}
 use Rattle.std.specs.Prelude.{IfSome}
-use Rattle.std.proofs.lemmas.List.{at_drop_more, at_drop_all, map-append, append-nil}
+use Rattle.std.proofs.lemmas.List.{at_drop_all, map-append, append-nil}
 use Rattle.loader.specs.ProgramFiles.{Files}
 use Rattle.engine.specs.declared.input.InputFault.{InputFault}
 use Rattle.engine.specs.declared.input.InputFault.TheVariants as faults
 use Rattle.engine.specs.Files.{Contents, present, are_texts, is_text}
 use Rattle.engine.specs.InputFaults.{FailsAs}
 use Rattle.engine.specs.Input.{FoundAs, IsNoText, owned_files}
+use Rattle.engine.proofs.GatheredFiles.{name_of, names_at}
 
 -- the files so far, and what is left of all names
 pub record Kept (h : Contents) (files : Files) (rest all : List (List ℕ)) : Type 0 where
   pub joined : files ++ present h rest ≡ present h all
   pub texts : are_texts (present h rest) ≡ are_texts (present h all)
-
-abbrev pub name_of : Bor (List ℕ) → List ℕ
-name_of n = n.now
-
--- the names from i on, split at the first
-names_at : (names : List (Bor (List ℕ))) (i : ℕ) (name : Bor (List ℕ)) → i < length names → name ≡ get_or names i name → map name_of (drop i names) ≡ name.now ∷ map name_of (drop (i + 1) names)
-names_at names i name lt is = at_drop_more (map name_of) names i name lt ∙ ap (λ n. name_of n ∷ map name_of (drop (i + 1) names)) (sym is)
 
 with_text : (h : Contents) (files : Files) (name bytes : List ℕ) (rest all : List (List ℕ)) → h name ≡ Some bytes → is_text bytes ≡ true → Kept h files (name ∷ rest) all → Kept h (files ++ (name, bytes) ∷ []) rest all
 with_text h files name bytes rest all found text kept =

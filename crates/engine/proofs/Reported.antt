@@ -1,5 +1,5 @@
 -- What was written of an answer, and what failed.
-use Rattle.std.proofs.Common.{◌≡◌, ◌⊎◌, inl, inr, ℕ, List, Option, Result, Ok, Err, refl, sym, subst}
+use Rattle.std.proofs.Common.{◌≡◌, inl, inr, ℕ, List, Option, Result, Err, refl, sym, subst}
 use Rattle.std.specs.Io.KnownBytes.{Keeps}
 use Rattle.engine.specs.declared.status.Status.{Status}
 use Rattle.engine.specs.declared.status.Status.TheVariants as statuses
@@ -35,17 +35,6 @@ none_read old new got a h = subst (λ s. ReportsBytes old new s a) (sym h.0) h.1
 -- ---- what failed
 
 module _ (P Q : Type 0) where
-  -- what was written told its status, or a write failed
-  pub status_told : (got : Status) (v : Verdict) → (got ≡ status_of v) ⊎ ((got ≡ statuses.CannotWrite) × Q) → Failed got P Q
-  status_told got verdicts.Good (inl is) = subst (λ s. Failed s P Q) (sym is) tt
-  status_told got verdicts.Refused (inl is) = subst (λ s. Failed s P Q) (sym is) tt
-  status_told got verdicts.Differs (inl is) = subst (λ s. Failed s P Q) (sym is) tt
-  status_told got v (inr broke) = subst (λ s. Failed s P Q) (sym broke.0) broke.1
-
-  pub no_memory_told : (got : Status) → (got ≡ statuses.NoMemory) ⊎ ((got ≡ statuses.CannotWrite) × Q) → Failed got P Q
-  no_memory_told got (inl is) = subst (λ s. Failed s P Q) (sym is) tt
-  no_memory_told got (inr broke) = subst (λ s. Failed s P Q) (sym broke.0) broke.1
-
   -- a command failed only where its preparation or its writing did
   pub failed_only : (got : Status) (prepared : Result Reply InputFault) → Failed got (prepared ≡ Err faults.CannotRead) Q → IfCannotRead prepared P → Failed got P Q
   failed_only statuses.Good prepared told read = tt

@@ -1,5 +1,5 @@
 -- What a command did, from what it made.
-use Rattle.std.proofs.Common.{◌≡◌, ◌⊎◌, inl, inr, ℕ, List, Option, Result, Ok, Err, refl, sym, ap, subst}
+use Rattle.std.proofs.Common.{◌≡◌, inl, inr, ℕ, List, Option, Result, Ok, Err, refl, sym, ap, subst}
 use Rattle.std.specs.Prelude.{IfOk}
 use Rattle.engine.specs.declared.status.Status.{Status}
 use Rattle.engine.specs.declared.status.Status.TheVariants as statuses
@@ -35,17 +35,6 @@ module _ {M : Type 0} (answer : M → Answer) (Is : M → Type 0) (old new : Opt
   reports got (Err faults.CannotRead) wrote is = subst (λ s. Reports answer Is old new s) (sym wrote.0) wrote.1
 
 module _ (P Q : Type 0) where
-  -- what was written told its status, or a write failed
-  pub status_told : (got : Status) (v : Verdict) → (got ≡ status_of v) ⊎ ((got ≡ statuses.CannotWrite) × Q) → Failed got P Q
-  status_told got verdicts.Good (inl is) = subst (λ s. Failed s P Q) (sym is) tt
-  status_told got verdicts.Refused (inl is) = subst (λ s. Failed s P Q) (sym is) tt
-  status_told got verdicts.Differs (inl is) = subst (λ s. Failed s P Q) (sym is) tt
-  status_told got v (inr broke) = subst (λ s. Failed s P Q) (sym broke.0) broke.1
-
-  pub no_memory_told : (got : Status) → (got ≡ statuses.NoMemory) ⊎ ((got ≡ statuses.CannotWrite) × Q) → Failed got P Q
-  no_memory_told got (inl is) = subst (λ s. Failed s P Q) (sym is) tt
-  no_memory_told got (inr broke) = subst (λ s. Failed s P Q) (sym broke.0) broke.1
-
   -- a command failed only where its preparation or its writing did
   pub failed_only : {M : Type 0} (got : Status) (made : Result M ReadFault) → Failed got (made ≡ Err faults.CannotRead) Q → IfCannotRead made P → Failed got P Q
   failed_only statuses.Good made told read = tt

@@ -9,6 +9,7 @@ use Rattle.engine.specs.Transfer.{AppendsBeginning}
 use Rattle.engine.specs.Texts.{no_memory_line}
 use Rattle.engine.specs.Status.{status_of}
 use Rattle.engine.specs.Answer.{Answer}
+use Rattle.engine.specs.Reading.{Given, TextsRead, read}
 use Rattle.engine.specs.Report.{Sends}
 
 -- what was written of something that is so and has an answer: the answer, whose verdict is the status, or a
@@ -18,6 +19,10 @@ Reports answer Is old new statuses.NoMemory = Appends old new no_memory_line
 Reports answer Is old new statuses.CannotRead = Keeps old new
 Reports {M} answer Is old new statuses.CannotWrite = ((m : M) × Is m × AppendsBeginning old new (answer m).text) ⊎ AppendsBeginning old new no_memory_line
 Reports {M} answer Is old new status = (m : M) × Is m × (status ≡ status_of (answer m).verdict) × Appends old new (answer m).text
+
+-- the same of what may be made of the texts that are read of these bytes, in a writer by what it holds
+abbrev pub ReportsRead : {M W : Type 0} → (M → Answer) → (Option TextsRead → M → Type 0) → (W → Option (List ℕ)) → W → W → Status → Given → Type 0
+ReportsRead answer may_make contents old new status g = Reports answer (may_make (read g)) (contents old) (contents new) status
 
 -- what is written where this was made
 abbrev pub Writes : {M : Type 0} → (M → Answer) → Option (List ℕ) → Option (List ℕ) → Status → Result M ReadFault → Type 0

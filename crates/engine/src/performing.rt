@@ -7,7 +7,7 @@ ghost use Rattle.engine.specs.Notes.{IsQuiet};
 ghost use Rattle.engine.specs.ReadFaults.{IfCannotRead};
 ghost use Rattle.engine.specs.Reading.{TextsRead, AnyFailed, IfGiven, read, texts_in};
 ghost use Rattle.engine.specs.Report.{Failed, Sends};
-ghost use Rattle.engine.specs.Engine.{Reports, Writes};
+ghost use Rattle.engine.specs.Engine.{Reports, ReportsRead, Writes};
 
 use crate::folder::Folder;
 use crate::notes::Notes;
@@ -103,7 +103,7 @@ pub fn perform<C: Command, F: Folder, R: Source + Drop, W: Sink>(
 where
     C::Made: Answering,
     // Where the readers and the folder tell their bytes, what is written is what the command answers to those.
-    ensures written { IfGiven F.holds R.remaining inputs.old (λ g. Reports C.Made.answer (C.may_make command.now (read g)) (W.contents writer.old) (W.contents writer.new) result) }
+    ensures written { IfGiven F.holds R.remaining inputs.old (ReportsRead C.Made.answer (C.may_make command.now) W.contents writer.old writer.new result) }
     // It says that a read or a write failed only after one did.
     ensures failed { Failed result (AnyFailed R.has_failed F.File.has_failed inputs.new) (W.has_failed writer.new) }
     // Whatever they give, or where they fail.

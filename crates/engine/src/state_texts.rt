@@ -6,7 +6,7 @@ ghost use Rattle.engine.specs.StateAnswer.{reason_text, fault_text, refusal_text
 
 use crate::reporting::Reply;
 use crate::status::Verdict;
-use crate::texts::{put_decode, put_numbered, put_verify};
+use crate::texts::{begin_refusal, put_decode, put_numbered, put_verify};
 use dumps::{DumpFault, DumpRefusal};
 use loader::InstallRefusal;
 use std::alloc::{AllocError, Global};
@@ -34,9 +34,7 @@ fn put_fault(out: &mut Vec<u8>, why: DumpFault) -> Result<(), AllocError>
 fn refusal_text(alloc: Global, refusal: DumpRefusal) -> Result<Vec<u8>, AllocError>
     ensures { IfOk result (λ v. v.items ≡ refusal_text refusal) }
 {
-    let mut out = Vec::new(alloc);
-    put_numbered(&mut out, b"line ", refusal.line as u64)?;
-    out.extend_from_slice(b": ")?;
+    let mut out = begin_refusal(alloc, refusal.line)?;
     put_fault(&mut out, refusal.why)?;
     out.extend_from_slice(b"\n")?;
     Ok(out)

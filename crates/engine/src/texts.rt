@@ -117,13 +117,21 @@ fn put_fault(out: &mut Vec<u8>, why: LoadFault) -> Result<(), AllocError>
     }
 }
 
+// The beginning of a line that tells what is wrong in a text: in which of its lines.
+pub(crate) fn begin_refusal(alloc: Global, line: u32) -> Result<Vec<u8>, AllocError>
+    ensures { IfOk result (λ v. v.items ≡ codes "line " ++ (decimal line ++ codes ": ")) }
+{
+    let mut out = Vec::new(alloc);
+    put_numbered(&mut out, b"line ", line as u64)?;
+    out.extend_from_slice(b": ")?;
+    Ok(out)
+}
+
 // The line of a refused manifest.
 pub(crate) fn refusal_text(alloc: Global, refusal: LoadRefusal) -> Result<Vec<u8>, AllocError>
     ensures { IfOk result (λ v. v.items ≡ refusal_text refusal) }
 {
-    let mut out = Vec::new(alloc);
-    put_numbered(&mut out, b"line ", refusal.line as u64)?;
-    out.extend_from_slice(b": ")?;
+    let mut out = begin_refusal(alloc, refusal.line)?;
     put_fault(&mut out, refusal.why)?;
     out.extend_from_slice(b"\n")?;
     Ok(out)
