@@ -7,7 +7,7 @@ ghost use Rattle.replica.specs.StoreMeaning.{call_of as program_call, is_operati
 ghost use Rattle.replica.specs.Refusals.{early_refusal, IsRefusedAs};
 ghost use Rattle.running.specs.RunAnswer.{numbered, called, asked, installed};
 ghost use Rattle.running.specs.Running.{IsSteady, TakesCall, TakesOperation, TakesTurn, TakesMeaning, TakesLine};
-ghost use Rattle.scripts.specs.Script.{call_meaning, word_meaning};
+ghost use Rattle.scripts.specs.Script.{word_meaning};
 ghost use Rattle.scripts.specs.ScriptShown.{at_number_of, program_of, meaning_of};
 
 use crate::run_texts::{put_install, put_read, put_refused, put_update};
@@ -193,35 +193,9 @@ fn take_other(
     take_said(node, catalogue, word_line(word, rest), out)
 }
 
-// Does what the words of a line say, and tells whether they say anything. A call by a name has its argument in the room.
-#[tactic(auto, unfolding(scripts::specs::Script::call_meaning))]
-fn take_words(
-    node: &mut SingleNode,
-    catalogue: &Catalogue,
-    line: &str,
-    room: &mut [u8; FIELD_BYTES],
-    out: &mut Vec<u8>,
-) -> Result<bool, AllocError>
-    requires line { length line.now ≤ LINE_BYTES }
-    requires steady { IsSteady catalogue.now node.old }
-    ensures steady { IsSteady catalogue.now node.new }
-    ensures kept { result ≡ Ok false → node.new ≡ node.old }
-    ensures taken { TakesMeaning catalogue.now (call_meaning line.now) node.old node.new out.old.items out.new.items result }
-{
-    let Some((word, rest)) = split_at_space(line) else {
-        return Ok(false);
-    };
-    match lent_argument(word, rest, room) {
-        Some(argument) => {
-            run_call(node, catalogue, word, argument, out)?;
-            Ok(true)
-        }
-        None => take_other(node, catalogue, word, rest, out),
-    }
-}
-
-/// Does what a line says, and tells whether the line is good. It is not read as a `ScriptLine`, which would move its argument.
-#[tactic(auto, unfolding(crate::specs::RunAnswer::line_turn, scripts::specs::Script::line_meaning))]
+/// Does what a line says, and tells whether the line is good. It is not read as a `ScriptLine`, which would move its argument:
+/// a call by a name has that in the room.
+#[tactic(auto, unfolding(crate::specs::RunAnswer::line_turn, scripts::specs::Script::line_meaning, scripts::specs::Script::call_meaning))]
 pub fn take_line(
     node: &mut SingleNode,
     catalogue: &Catalogue,
@@ -237,6 +211,17 @@ pub fn take_line(
     match kind_of(line) {
         LineKind::TooLong => Ok(false),
         LineKind::Comment => Ok(true),
-        LineKind::Words => take_words(node, catalogue, line, room, out),
+        LineKind::Words => {
+            let Some((word, rest)) = split_at_space(line) else {
+                return Ok(false);
+            };
+            match lent_argument(word, rest, room) {
+                Some(argument) => {
+                    run_call(node, catalogue, word, argument, out)?;
+                    Ok(true)
+                }
+                None => take_other(node, catalogue, word, rest, out),
+            }
+        }
     }
 }

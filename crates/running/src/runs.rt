@@ -1,19 +1,18 @@
 // The command `run`, and the state that it leaves.
 
-ghost use Rattle.std.specs.Prelude.{◌≡◌, true, Option, option_map, Result, IfOk, string_bytes};
+ghost use Rattle.std.specs.Prelude.{◌≡◌, true, false, Option, option_map, Result, IfOk};
 ghost use Rattle.text.specs.Lines.{lines_of};
 ghost use Rattle.loader.specs.CatalogueView.{CatalogueView, OpensOn, with_places};
-ghost use Rattle.loader.specs.Loading.{loaded};
 ghost use Rattle.oplog.specs.declared.configuration.TheConstants.{MAX_LIMIT};
 ghost use Rattle.oplog.specs.History.{History};
 ghost use Rattle.dumps.specs.Dumping.{dump};
 ghost use Rattle.engine.specs.Answer.{Answer};
 ghost use Rattle.engine.specs.Memory.{Never};
 ghost use Rattle.engine.specs.OpenedState.{IsOpened, OpenedIs};
-ghost use Rattle.engine.specs.Reading.{named_texts};
+ghost use Rattle.engine.specs.Reading.{texts_read};
 ghost use Rattle.engine.specs.Report.{answer_of, Failed};
 ghost use Rattle.engine.specs.StateAnswer.{opened_by};
-ghost use Rattle.running.specs.KeptRun.{state_left, unrun, lines_kept, script_kept, kept, with_signs, run_kept, kept_of, Dumps};
+ghost use Rattle.running.specs.KeptRun.{state_left, unrun, lines_kept, script_kept, with_signs, run_kept, kept_of, Dumps};
 ghost use Rattle.running.specs.Running.{IsSteady, HasLeft};
 
 use crate::lines::take_lines;
@@ -115,7 +114,7 @@ fn catalogue_kept(
 
 // What a manifest, its files, a script and a state's text get.
 fn texts_kept(alloc: Global, texts: &Texts) -> Result<Kept, AllocError>
-    ensures { IfOk result (λ k. kept_of k ≡ kept (loaded (string_bytes texts.now.manifest) (named_texts texts.now.files.items)) (string_bytes texts.now.file) (string_bytes texts.now.state)) }
+    ensures { IfOk result (λ k. kept_of k ≡ run_kept false (Some (texts_read texts.now))) }
 {
     match load_texts(alloc, texts)? {
         Loaded::Catalogue(catalogue) => {
