@@ -57,21 +57,33 @@ pub(crate) fn put_program(
     }
 }
 
+// What a step calls.
+#[derive(Clone, Copy)]
+struct Called<'a> {
+    program: u64,
+    // How many bytes its argument has.
+    length: usize,
+    // What is said of a program of the other mode.
+    other: &'a str,
+}
+
 // How many bytes the argument of a program has.
 fn put_length(
     out: &mut Vec<u8>,
     catalogue: &Catalogue,
-    program: u64,
-    length: usize,
+    called: &Called<'_>,
 ) -> Result<(), AllocError> {
-    put_program(out, catalogue, program)?;
-    let (words, wanted) = match catalogue.program(number_of(program)) {
+    put_program(out, catalogue, called.program)?;
+    let (words, wanted) = match catalogue.program(number_of(called.program)) {
         Some(accepted) => (" takes ", accepted.arg_len()),
         None => (" takes at most ", MAX_ARG_LEN),
     };
     put_facts(
         out,
-        &[(words, wanted as u64), (" bytes, not ", length as u64)],
+        &[
+            (words, wanted as u64),
+            (" bytes, not ", called.length as u64),
+        ],
     )
 }
 
@@ -79,16 +91,14 @@ fn put_length(
 fn put_call(
     out: &mut Vec<u8>,
     catalogue: &Catalogue,
+    called: &Called<'_>,
     refused: StoreRefused,
-    program: u64,
-    length: usize,
-    other: &str,
 ) -> Result<(), AllocError> {
     match refused {
-        StoreRefused::ArgumentLength => put_length(out, catalogue, program, length),
+        StoreRefused::ArgumentLength => put_length(out, catalogue, called),
         StoreRefused::WrongMode => {
-            put_program(out, catalogue, program)?;
-            put_words(out, other)
+            put_program(out, catalogue, called.program)?;
+            put_words(out, called.other)
         }
         _ => put_words(out, "no such program, and no such place"),
     }
@@ -137,16 +147,24 @@ fn put_refused(
             argument,
             ..
         } => {
-            let other = " is a read: readbegin";
-            put_call(out, catalogue, refused, *program, argument.len(), other)
+            let called = Called {
+                program: *program,
+                length: argument.len(),
+                other: " is a read: readbegin",
+            };
+            put_call(out, catalogue, &called, refused)
         }
         Step::ReadBegin {
             program,
             argument,
             ..
         } => {
-            let other = " is an update: post";
-            put_call(out, catalogue, refused, *program, argument.len(), other)
+            let called = Called {
+                program: *program,
+                length: argument.len(),
+                other: " is an update: post",
+            };
+            put_call(out, catalogue, &called, refused)
         }
         Step::Install { arg_len, bytes, .. } => put_install(out, refused, bytes.len(), *arg_len),
         _ => Ok(()),

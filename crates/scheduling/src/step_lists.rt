@@ -1,50 +1,18 @@
 // The command `schedule`.
 
-ghost use Rattle.std.specs.Prelude.{◌≡◌, length, IfOk};
-ghost use Rattle.text.specs.Lines.{lines_of};
+ghost use Rattle.std.specs.Prelude.{◌≡◌, IfOk};
 ghost use Rattle.engine.specs.Notes.{IsQuiet};
 ghost use Rattle.engine.specs.Report.{answer_of};
-ghost use Rattle.running.specs.Running.{AnswersBehind};
-ghost use Rattle.scheduling.specs.ScheduleAnswer.{steps_answer, catalogue_answer, schedule_answer};
+ghost use Rattle.scheduling.specs.ScheduleAnswer.{catalogue_answer, schedule_answer};
 
-use crate::schedule_texts::put_end;
-use crate::stepping::take_step_line;
+use crate::stepping::Stepping;
 use engine::reading::{Gathered, Texts};
 use engine::replies::{not_text, sizes_refused};
-use engine::{Command, Loaded, Notes, Reply, Verdict, load_texts};
+use engine::{Command, Loaded, Notes, Reply, load_texts};
 use loader::Catalogue;
 use oplog::{Config, OpenError};
-use running::put_bad_line;
 use schedule::World;
 use std::alloc::{AllocError, Global};
-use text::NumberedLines;
-
-// Takes the steps of a list up to the first bad line, or writes where the store is at the end, and tells whether
-// the list is good.
-#[tactic(auto, using(engine::proofs::Quiet::quiet_on))]
-fn take_lines(
-    alloc: Global,
-    world: &mut World,
-    nodes: u32,
-    steps: &str,
-    out: &mut Vec<u8>,
-    notes: &mut Notes,
-) -> Result<Verdict, AllocError>
-    requires { length world.old.world.nodes ≡ nodes }
-    ensures quiet { IsQuiet notes.old notes.new }
-    ensures answered { AnswersBehind out.old.items out.new.items result (steps_answer world.old.opening 1 world.old.world (lines_of steps.now)) }
-{
-    let mut lines = NumberedLines::new(steps);
-    while let Some((number, line)) = lines.take_line() {
-        let is_good = take_step_line(alloc, world, number, line, out, notes)?;
-        if !is_good {
-            put_bad_line(out, number)?;
-            return Ok(Verdict::Refused);
-        }
-    }
-    put_end(out, world, nodes)?;
-    Ok(Verdict::Good)
-}
 
 // What a catalogue answers to a list of steps, in a store of these sizes.
 fn catalogue_reply(
@@ -58,9 +26,11 @@ fn catalogue_reply(
     ensures answered { IfOk result (λ r. answer_of r ≡ catalogue_answer config catalogue steps.now) }
 {
     match World::open(alloc, config, catalogue) {
-        Ok(mut world) => {
-            let mut text = Vec::new(alloc);
-            let verdict = take_lines(alloc, &mut world, config.nodes, steps, &mut text, notes)?;
+        Ok(world) => {
+            let text = Vec::new(alloc);
+            let mut stepping = Stepping { world, text };
+            let verdict = stepping.take_lines(alloc, config.nodes, steps, notes)?;
+            let Stepping { text, .. } = stepping;
             Ok(Reply { text, verdict })
         }
         Err(OpenError::OutOfLimits) => sizes_refused(alloc),
