@@ -28,13 +28,19 @@ pub data Asks : Type 0 where
   Reads : Operation → Option StoreRefused → Asks
   Nothing : Asks
 
+abbrev pub asks_update : StoreView → ℕ → List ℕ → Asks
+asks_update store program argument = Updates (op_of program argument) (early_refusal store.catalogue Update program argument)
+
+abbrev pub asks_read : StoreView → ℕ → List ℕ → Asks
+asks_read store program argument = Reads (op_of program argument) (early_refusal store.catalogue Read program argument)
+
 abbrev pub asks_install : StoreView → Mode → ℕ → List ℕ → Asks
 asks_install store mode argument bytes = Updates (install_of mode argument bytes) (install_refused store mode argument bytes)
 
 abbrev pub asks_of : StoreView → Asked → List ℕ → Asks
 asks_of store a bytes =
-    if a.call == 0 then Updates (op_of a.program bytes) (early_refusal store.catalogue Update a.program bytes)
-    else if a.call == 1 then Reads (op_of a.program bytes) (early_refusal store.catalogue Read a.program bytes)
+    if a.call == 0 then asks_update store a.program bytes
+    else if a.call == 1 then asks_read store a.program bytes
     else if a.call == 2 then (if a.mode == 0 then asks_install store Update a.argument bytes else if a.mode == 1 then asks_install store Read a.argument bytes else Nothing)
     else Nothing
 

@@ -2,13 +2,11 @@
 
 ghost use Rattle.std.specs.Prelude.{◌≡◌, ◌≤◌, None, Some, true, false, MatchOption, length, take};
 ghost use Rattle.std.specs.Arc.{arc_value};
-ghost use Rattle.verifier.specs.declared.refusal.Mode.TheVariants.{Update, Read};
 ghost use Rattle.accounts.specs.declared.sessions.Pending.{Pending};
-ghost use Rattle.replica.specs.Refusals.{early_refusal};
-ghost use Rattle.store_steps.specs.Views.{op_of};
-ghost use Rattle.store.specs.Sessions.{IsOf, install_of, install_refused};
+ghost use Rattle.store.specs.Sessions.{IsOf};
+ghost use Rattle.host_calls.specs.Calls.{TellsCall, asks_install, asks_read, asks_update};
 ghost use Rattle.host_calls.specs.Looks.{TellsAnswers, TellsGot, TellsMany, TellsScanned, TellsSnapped, look_each, next_word, questions_of};
-ghost use Rattle.host_calls.specs.Told.{HasGrown, TellsOut, TellsReading, TellsUpdate};
+ghost use Rattle.host_calls.specs.Told.{HasGrown, TellsOut};
 ghost use Rattle.host_calls.specs.Views.{IsSame};
 
 use crate::handles::{AT_END, Asking, MOST_ASKED};
@@ -202,8 +200,7 @@ impl Attached {
     /// Posts an update, or goes on with the one that is out.
     pub fn update(&mut self, program: u16, argument: &[u8]) -> Told
         ensures same { IsSame self.old self.new }
-        ensures tells { TellsUpdate (op_of program argument.now) (early_refusal self.old.store.catalogue Update program argument.now)
-            self.old.session self.new.session result }
+        ensures tells { TellsCall (asks_update self.old.store program argument.now) self.old.session self.new.session result }
     {
         if self.is_waiting() {
             return self.go_on();
@@ -219,8 +216,7 @@ impl Attached {
     /// Posts an install, or goes on with the update that is out.
     pub fn install(&mut self, mode: Mode, argument: u64, bytes: &[u8]) -> Told
         ensures same { IsSame self.old self.new }
-        ensures tells { TellsUpdate (install_of mode argument bytes.now) (install_refused self.old.store mode argument bytes.now)
-            self.old.session self.new.session result }
+        ensures tells { TellsCall (asks_install self.old.store mode argument bytes.now) self.old.session self.new.session result }
     {
         if self.is_waiting() {
             return self.go_on();
@@ -236,8 +232,7 @@ impl Attached {
     /// Reads, where no update is out.
     pub fn read(&mut self, program: u16, argument: &[u8]) -> Told
         ensures same { IsSame self.old self.new }
-        ensures tells { TellsReading (op_of program argument.now) (early_refusal self.old.store.catalogue Read program argument.now)
-            self.old.session self.new.session result }
+        ensures tells { TellsCall (asks_read self.old.store program argument.now) self.old.session self.new.session result }
     {
         let Attached { store, session, .. } = self;
         if session.is_waiting() {
