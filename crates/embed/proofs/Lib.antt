@@ -1,2 +1,3 @@
 pub mod Steps
 mod Left
+mod Lending

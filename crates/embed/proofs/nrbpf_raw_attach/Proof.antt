@@ -1,5 +1,6 @@
 -- `nrbpf_raw_attach` lends the store to `attached`, and writes the handle that this gives into the room.
-use Rattle.embed.proofs.Steps.{[], ◌∷◌, ◌++◌, refl, MutBor, proved, full_share, id⊢, ex, ex_i, sep, emp, fact, fact_i, ftrue, flft, flent, named, vunit, tables, WpFn, ‵, raw, ◌⊛◌, some, later, prop, ◌$◌, ◌∵◌, !, qed, done, move, keep, drop, use0, use1, use2, use3, split, join, fsplit, feq_i, pick, await, regoal, suffices, group, sem, enter, of_opd, unit_lit, addr, init, stop, no_more, and_then, assigns, returns, alloc_all, pass_all, free_all, look_at, get, through, sets, lands_as, Body, lft_new, lft_end, part_in, yes, Is, shows, lends_ref, ref_back, mem, Ptr, RawPtr, block_ptr, lies_at, room_at, in_a_block, rawptr_vals, rawptr_Tells, MutRef, mut_vals, plain, nothing, heard, peeks, calls_at, lasts, on_entry, triple_of, Stays, walk_of, stay_dropped, Goes-dropped, ends_at, framed}
+use Rattle.embed.proofs.Steps.{[], ◌∷◌, ◌++◌, refl, proved, full_share, id⊢, ex, ex_i, sep, emp, fact, fact_i, ftrue, flft, vunit, tables, WpFn, ‵, raw, ◌⊛◌, some, later, prop, ◌$◌, ◌∵◌, !, qed, done, move, keep, drop, use0, use1, use2, use3, split, join, fsplit, feq_i, pick, await, regoal, suffices, group, sem, enter, of_opd, unit_lit, addr, init, stop, no_more, and_then, assigns, returns, alloc_all, pass_all, free_all, look_at, get, through, sets, lands_as, lft_end, part_in, yes, ref_back, mem, Ptr, RawPtr, block_ptr, lies_at, room_at, in_a_block, rawptr_vals, rawptr_Tells, mut_vals, plain, nothing, heard, calls_at, lasts, on_entry, triple_of, Stays, walk_of, stay_dropped, Goes-dropped, ends_at, framed}
+use Rattle.embed.proofs.Lending.{lend, loan, is_typed}
 use Rattle.host_calls.specs.Stores.{Gives}
 use Rattle.host_calls.specs.contracts.handles.SessionHandle.{the_row as R}
 use Rattle.host_calls.specs.contracts.handles.StoreHandle.{the_row as S}
@@ -32,11 +33,9 @@ nrbpf_raw_attach_spec 𝓤 𝓛 𝓜 𝓡 wired =
     sets ! (of_opd ! (get ! refl)) refl (tt, tt) $
     sets ! (of_opd ! (get ! refl)) refl (tt, tt) $
     sets ! (addr ! (through ! refl (stop !))) refl (tt, tt) $
-    lft_new ! tt (λ α. move ! (1 ∷ []) $
-    use1 𝓛 (later (some (λ γ. ‵ ((MutRef (named 0) (α ∷ []) S).own_val (record { ref_ptr = (b, o); ghost_name = γ; now = value }) (mut_vals (record { ref_ptr = (b, o); ghost_name = γ; now = value }))) ⊛ ‵ (flent (α ∷ []) (Body (mem S) b o γ)))))
-    (lends_ref 𝓛 S (named 0) (α ∷ []) value b o) $ await ! tt $ pick ! (λ γ. split ! $
+    lend ! tt S 0 value b o (λ α γ.
     -- [the loan; the lender's part; the token of α; the room; the locals]
-    let r : MutBor S.Denot = record { ref_ptr = (b, o); ghost_name = γ; now = value } in
+    let r = loan S b o γ value in
     let z : G.Ghost = (((α ∷ [], tt), (full_share, tt), tt, (r, tt), (mut_vals r, tt)), tt) in
     nothing ! $ move ! (1 ∷ 0 ∷ []) $ join ! $ nothing ! $ move ! (3 ∷ 0 ∷ []) $ join ! $ join ! $
     nothing ! $ move ! (1 ∷ 0 ∷ []) $ use2 𝓛 (raw (G.pre z)) (id⊢ 𝓤 _) $
@@ -45,8 +44,7 @@ nrbpf_raw_attach_spec 𝓤 𝓛 𝓜 𝓡 wired =
     use1 𝓛 (later (some (λ (h : R.Denot). ((‵ (flft (α ∷ []) full_share) ⊛ ‵ ftrue) ⊛ ‵ (R.own_val h (v ∷ []))) ⊛
     some (λ (ws : S.Denot × Unit {0}). ‵ (lasts g.ended z.0.0 z.0.3 ws) ⊛ raw (fact 𝓤 (Gives value ws.0 h)))))) (id⊢ 𝓤 _) $
     await ! tt $ pick ! (λ h. split ! $ split ! $ split ! $ lft_end ! tt $ move ! (2 ∷ []) $
-    peeks ! R (Is R) (shows 𝓛 R) h (v ∷ []) (λ is.
-    let typed = ((laws.the_row_laws).lawful 𝓛).typed h (v ∷ []) is in
+    is_typed ! R ((laws.the_row_laws).lawful 𝓛) h (v ∷ []) (λ typed.
     lands_as ! refl refl typed.0 $
     -- [what the session owns; α is over; nothing; what the call tells; the lender's part; the room; the locals]
     assigns ! (of_opd ! (get ! refl)) (through ! refl (stop !)) (init ! 5 refl typed.0) $
@@ -61,4 +59,4 @@ nrbpf_raw_attach_spec 𝓤 𝓛 𝓜 𝓡 wired =
     use1 𝓛 (raw (ex 𝓤 (λ (h' : R.Denot). Left ws.0 h'))) (ex_i 𝓤 (λ (h' : R.Denot). Left ws.0 h') h) $
     use1 𝓛 (raw (ex 𝓤 (λ (x : S.Denot). ex 𝓤 (λ (h' : R.Denot). Left x h')))) (ex_i 𝓤 (λ (x : S.Denot). ex 𝓤 (λ (h' : R.Denot). Left x h')) ws.0) $
     suffices ! _ (ends_at 𝓛 f.ended stayed c (y (block_ptr b o) (block_ptr b' o')) vunit tt (tt, (tt, tt)) (tt, (tt, tt))) $
-    feq_i ! _ (vunit ∷ []) _ refl $ nothing ! $ nothing ! $ join ! $ nothing ! $ join ! $ nothing ! $ group ! 3 $ done !)))))))))))
+    feq_i ! _ (vunit ∷ []) _ refl $ nothing ! $ nothing ! $ join ! $ nothing ! $ join ! $ nothing ! $ group ! 3 $ done !))))))))))

@@ -1,5 +1,6 @@
 -- `nrbpf_raw_detach` lends both handles to `detached`.
-use Rattle.embed.proofs.Steps.{[], ◌∷◌, ◌++◌, refl, ap, MutBor, proved, full_share, id⊢, ex, ex_i, sep, emp, fact, fact_i, ftrue, flft, flent, named, vunit, tables, WpFn, ‵, raw, ◌⊛◌, some, later, prop, ◌$◌, ◌∵◌, !, qed, done, move, keep, drop, use0, use1, use2, use3, split, join, fsplit, feq_i, feq_l, pick, await, regoal, suffices, group, sem, enter, of_opd, unit_lit, addr, stop, no_more, and_then, returns, alloc_all, pass_all, free_all, look_at, get, through, sets, lands_as, Body, lft_new, lft_end, unit, yes, lends_ref, ref_back, mem, Ptr, RawPtr, block_ptr, lies_at, in_a_block, rawptr_vals, rawptr_Tells, MutRef, mut_vals, plain, nothing, heard, only, calls_at, lasts, on_entry, triple_of, Stays, walk_of, stay_dropped, Goes-dropped, ends_at, framed}
+use Rattle.embed.proofs.Steps.{[], ◌∷◌, ◌++◌, refl, ap, proved, full_share, id⊢, ex, ex_i, sep, emp, fact, fact_i, ftrue, flft, vunit, tables, WpFn, ‵, raw, ◌⊛◌, some, later, prop, ◌$◌, ◌∵◌, !, qed, done, move, keep, drop, use0, use1, use2, use3, split, join, fsplit, feq_i, feq_l, pick, await, regoal, suffices, group, sem, enter, of_opd, unit_lit, addr, stop, no_more, and_then, returns, alloc_all, pass_all, free_all, look_at, get, through, sets, lands_as, lft_end, unit, yes, ref_back, mem, Ptr, RawPtr, block_ptr, lies_at, in_a_block, rawptr_vals, rawptr_Tells, mut_vals, plain, nothing, heard, only, calls_at, lasts, on_entry, triple_of, Stays, walk_of, stay_dropped, Goes-dropped, ends_at, framed}
+use Rattle.embed.proofs.Lending.{lend, loan}
 use Rattle.host_calls.specs.Stores.{IsItsOwn, Takes}
 use Rattle.host_calls.specs.contracts.handles.SessionHandle.{the_row as R}
 use Rattle.host_calls.specs.contracts.handles.StoreHandle.{the_row as S}
@@ -33,16 +34,12 @@ nrbpf_raw_detach_spec 𝓤 𝓛 𝓜 𝓡 wired =
     sets ! (addr ! (through ! refl (stop !))) refl (tt, tt) $
     sets ! (of_opd ! (get ! refl)) refl (tt, tt) $
     sets ! (addr ! (through ! refl (stop !))) refl (tt, tt) $
-    lft_new ! tt (λ α. move ! (1 ∷ []) $
-    use1 𝓛 (later (some (λ γ. ‵ ((MutRef (named 0) (α ∷ []) S).own_val (record { ref_ptr = (b, o); ghost_name = γ; now = values.0 }) (mut_vals (record { ref_ptr = (b, o); ghost_name = γ; now = values.0 }))) ⊛ ‵ (flent (α ∷ []) (Body (mem S) b o γ)))))
-    (lends_ref 𝓛 S (named 0) (α ∷ []) values.0 b o) $ await ! tt $ pick ! (λ γ. split ! $
+    lend ! tt S 0 values.0 b o (λ α γ.
     -- [the loan of the store; the lender's part of it; the token of α; the session; the locals]
-    lft_new ! tt (λ β. move ! (4 ∷ []) $
-    use1 𝓛 (later (some (λ δ. ‵ ((MutRef (named 1) (β ∷ []) R).own_val (record { ref_ptr = (b', o'); ghost_name = δ; now = values.1 }) (mut_vals (record { ref_ptr = (b', o'); ghost_name = δ; now = values.1 }))) ⊛ ‵ (flent (β ∷ []) (Body (mem R) b' o' δ)))))
-    (lends_ref 𝓛 R (named 1) (β ∷ []) values.1 b' o') $ await ! tt $ pick ! (λ δ. split ! $
+    move ! (3 ∷ []) $ lend ! tt R 1 values.1 b' o' (λ β δ.
     -- [the loan of the session; the lender's part of it; the token of β; the loan of the store; the lender's part of it; the token of α; the locals]
-    let r : MutBor S.Denot = record { ref_ptr = (b, o); ghost_name = γ; now = values.0 } in
-    let r' : MutBor R.Denot = record { ref_ptr = (b', o'); ghost_name = δ; now = values.1 } in
+    let r = loan S b o γ values.0 in
+    let r' = loan R b' o' δ values.1 in
     let z : G.Ghost = (((α ∷ [], (β ∷ [], tt)), (full_share, (full_share, tt)), tt, (r, (r', tt)), (mut_vals r, (mut_vals r', tt))), tt) in
     nothing ! $ move ! (1 ∷ 0 ∷ []) $ join ! $ move ! (3 ∷ 0 ∷ []) $ join ! $
     -- [both loans; the lender's part of the session; the token of β; the lender's part of the store; the token of α; the locals]
@@ -68,4 +65,4 @@ nrbpf_raw_detach_spec 𝓤 𝓛 𝓜 𝓡 wired =
     use1 𝓛 (raw (ex 𝓤 (λ (h' : R.Denot). Left ws.0 h'))) (ex_i 𝓤 (λ (h' : R.Denot). Left ws.0 h') ws.1.0) $
     use1 𝓛 (raw (ex 𝓤 (λ (x : S.Denot). ex 𝓤 (λ (h' : R.Denot). Left x h')))) (ex_i 𝓤 (λ (x : S.Denot). ex 𝓤 (λ (h' : R.Denot). Left x h')) ws.0) $
     suffices ! _ (ends_at 𝓛 f.ended stayed c (y (block_ptr b o) (block_ptr b' o')) vunit tt (tt, (tt, tt)) (tt, (tt, tt))) $
-    feq_i ! _ (vunit ∷ []) _ refl $ nothing ! $ nothing ! $ join ! $ nothing ! $ join ! $ nothing ! $ group ! 3 $ done !))))))))))))))
+    feq_i ! _ (vunit ∷ []) _ refl $ nothing ! $ nothing ! $ join ! $ nothing ! $ join ! $ nothing ! $ group ! 3 $ done !))))))))))))

@@ -1,5 +1,6 @@
 -- `nrbpf_raw_load` writes the handle that `loaded_text` gives into the room.
-use Rattle.embed.proofs.Steps.{[], ◌∷◌, ◌++◌, u8, SliceRefOf, ShrSlice, shr_slice_vals, shr_slice_Tells, refl, proved, full_share, id⊢, ex, ex_i, ex_e, snd∗, sep, emp, fact, fact_i, ftrue, named, vunit, tables, WpFn, ‵, raw, ◌⊛◌, some, later, prop, ◌$◌, ◌∵◌, !, qed, done, move, drop, use0, use1, use2, split, join, feq_i, pick, await, regoal, suffices, group, sem, enter, of_opd, unit_lit, init, stop, no_more, and_then, assigns, returns, alloc_all, pass_all, free_all, look_at, get, through, sets, lands_as, part_in, RefOf, yes, Is, shows, Ptr, RawPtr, block_ptr, lies_at, room_at, in_a_block, rawptr_vals, rawptr_Tells, ShrRef, shr_vals, shr_Tells, named_lft, plain, nothing, heard, peeks, val, tells, calls_at, ensured, lasts, alive, triple_of, Stays, walk_of, stay_dropped, Goes-dropped, ends_at, framed}
+use Rattle.embed.proofs.Steps.{[], ◌∷◌, ◌++◌, u8, SliceRefOf, ShrSlice, shr_slice_vals, shr_slice_Tells, refl, proved, full_share, id⊢, ex, ex_i, ex_e, snd∗, sep, emp, fact, fact_i, ftrue, named, vunit, tables, WpFn, ‵, raw, ◌⊛◌, some, later, prop, ◌$◌, ◌∵◌, !, qed, done, move, drop, use0, use1, use2, split, join, feq_i, pick, await, regoal, suffices, group, sem, enter, of_opd, unit_lit, init, stop, no_more, and_then, assigns, returns, alloc_all, pass_all, free_all, look_at, get, through, sets, lands_as, part_in, RefOf, yes, Ptr, RawPtr, block_ptr, lies_at, room_at, in_a_block, rawptr_vals, rawptr_Tells, ShrRef, shr_vals, shr_Tells, named_lft, plain, nothing, heard, val, tells, calls_at, ensured, lasts, alive, triple_of, Stays, walk_of, stay_dropped, Goes-dropped, ends_at, framed}
+use Rattle.embed.proofs.Lending.{is_typed}
 use Rattle.host_calls.specs.Loadings.{IsLoaded}
 use Rattle.host_calls.specs.contracts.handles.StateHandle.{the_row as R}
 use Rattle.host_calls.proofs.handles.StateHandle.TheLaws as laws
@@ -44,8 +45,7 @@ nrbpf_raw_load_spec 𝓤 𝓛 𝓜 𝓡 wired =
     await ! tt $ pick ! (λ given. split ! $ move ! (1 ∷ []) $
     use1 𝓛 (raw (fact 𝓤 (IsLoaded a.1.0.now text.now given))) (ex_e 𝓤 _ (λ last. snd∗ 𝓤 (sem 𝓛 (lasts g.ended κs z.0.3 last)) (fact 𝓤 (IsLoaded a.1.0.now text.now given)))) $ heard ! (IsLoaded a.1.0.now text.now given) (λ loaded. split ! $ move ! (1 ∷ []) $
     -- [what the handle owns; the tokens; the room; the locals]
-    peeks ! R (Is R) (shows 𝓛 R) given (v ∷ []) (λ shown.
-    let typed = ((laws.the_row_laws).lawful 𝓛).typed given (v ∷ []) shown in
+    is_typed ! R ((laws.the_row_laws).lawful 𝓛) given (v ∷ []) (λ typed.
     lands_as ! refl refl typed.0 $
     assigns ! (of_opd ! (get ! refl)) (through ! refl (stop !)) (init ! 2 refl typed.0) $
     sets ! (of_opd ! (unit_lit !)) refl (tt, tt) $

@@ -1,5 +1,6 @@
 -- `nrbpf_raw_open` writes the handle that `opened` gives into the room.
-use Rattle.embed.proofs.Steps.{[], ◌∷◌, ◌++◌, refl, proved, full_share, id⊢, ex, ex_i, ex_e, snd∗, sep, emp, fact, fact_i, ftrue, named, vunit, tables, WpFn, ‵, raw, ◌⊛◌, some, later, prop, ◌$◌, ◌∵◌, !, qed, done, move, drop, use0, use1, use2, split, join, feq_i, pick, await, regoal, suffices, group, sem, enter, of_opd, unit_lit, init, stop, no_more, and_then, assigns, returns, alloc_all, pass_all, free_all, look_at, get, through, sets, lands_as, part_in, RefOf, yes, Is, shows, Ptr, RawPtr, block_ptr, lies_at, room_at, in_a_block, rawptr_vals, rawptr_Tells, ShrRef, shr_vals, shr_Tells, named_lft, plain, nothing, heard, peeks, val, tells, calls_at, ensured, lasts, alive, triple_of, Stays, walk_of, stay_dropped, Goes-dropped, ends_at, framed}
+use Rattle.embed.proofs.Steps.{[], ◌∷◌, ◌++◌, refl, proved, full_share, id⊢, ex, ex_i, ex_e, snd∗, sep, emp, fact, fact_i, ftrue, named, vunit, tables, WpFn, ‵, raw, ◌⊛◌, some, later, prop, ◌$◌, ◌∵◌, !, qed, done, move, drop, use0, use1, use2, split, join, feq_i, pick, await, regoal, suffices, group, sem, enter, of_opd, unit_lit, init, stop, no_more, and_then, assigns, returns, alloc_all, pass_all, free_all, look_at, get, through, sets, lands_as, part_in, RefOf, yes, Ptr, RawPtr, block_ptr, lies_at, room_at, in_a_block, rawptr_vals, rawptr_Tells, ShrRef, shr_vals, shr_Tells, named_lft, plain, nothing, heard, val, tells, calls_at, ensured, lasts, alive, triple_of, Stays, walk_of, stay_dropped, Goes-dropped, ends_at, framed}
+use Rattle.embed.proofs.Lending.{is_typed}
 use Rattle.std.proofs.Common.{None}
 use Rattle.host_calls.specs.Openings.{IsOpened}
 use Rattle.host_calls.specs.contracts.handles.StoreHandle.{the_row as R}
@@ -44,8 +45,7 @@ nrbpf_raw_open_spec 𝓤 𝓛 𝓜 𝓡 wired =
     await ! tt $ pick ! (λ h. split ! $ move ! (1 ∷ []) $
     use1 𝓛 (raw (fact 𝓤 (IsOpened a.1.0.now None h))) (ex_e 𝓤 _ (λ ws. snd∗ 𝓤 (sem 𝓛 (lasts g.ended κs z.0.3 ws)) (fact 𝓤 (IsOpened a.1.0.now None h)))) $ heard ! (IsOpened a.1.0.now None h) (λ opened. split ! $ move ! (1 ∷ []) $
     -- [what the handle owns; the tokens; the room; the locals]
-    peeks ! R (Is R) (shows 𝓛 R) h (v ∷ []) (λ is.
-    let typed = ((laws.the_row_laws).lawful 𝓛).typed h (v ∷ []) is in
+    is_typed ! R ((laws.the_row_laws).lawful 𝓛) h (v ∷ []) (λ typed.
     lands_as ! refl refl typed.0 $
     assigns ! (of_opd ! (get ! refl)) (through ! refl (stop !)) (init ! 2 refl typed.0) $
     sets ! (of_opd ! (unit_lit !)) refl (tt, tt) $

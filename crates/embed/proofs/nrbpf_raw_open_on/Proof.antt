@@ -1,5 +1,6 @@
 -- `nrbpf_raw_open_on` lends the state to `opened_on`, and writes the handle that this gives into the room.
-use Rattle.embed.proofs.Steps.{ent, [], ◌∷◌, ◌++◌, refl, MutBor, proved, full_share, id⊢, ex, ex_i, sep, emp, fact, fact_i, ftrue, flft, flent, named, vunit, tables, WpFn, ‵, raw, ◌⊛◌, some, later, prop, ◌$◌, ◌∵◌, !, qed, done, move, keep, drop, use0, use1, use2, use3, split, join, fsplit, feq_i, pick, await, regoal, suffices, group, sem, enter, of_opd, unit_lit, addr, init, stop, no_more, and_then, assigns, returns, alloc_all, pass_all, free_all, look_at, get, through, sets, lands_as, Body, lft_new, lft_end, part_in, RefOf, yes, Is, shows, lends_ref, ref_back, mem, Ptr, RawPtr, block_ptr, lies_at, room_at, in_a_block, rawptr_vals, rawptr_Tells, MutRef, mut_vals, ShrRef, shr_vals, shr_Tells, named_lft, plain, nothing, heard, peeks, val, tells, calls_at, lasts, alive, triple_of, Stays, walk_of, stay_dropped, Goes-dropped, ends_at, framed}
+use Rattle.embed.proofs.Steps.{ent, [], ◌∷◌, ◌++◌, refl, proved, full_share, id⊢, ex, ex_i, sep, emp, fact, fact_i, ftrue, flft, named, vunit, tables, WpFn, ‵, raw, ◌⊛◌, some, later, prop, ◌$◌, ◌∵◌, !, qed, done, move, keep, drop, use0, use1, use2, use3, split, join, fsplit, feq_i, pick, await, regoal, suffices, group, sem, enter, of_opd, unit_lit, addr, init, stop, no_more, and_then, assigns, returns, alloc_all, pass_all, free_all, look_at, get, through, sets, lands_as, lft_end, part_in, RefOf, yes, ref_back, mem, Ptr, RawPtr, block_ptr, lies_at, room_at, in_a_block, rawptr_vals, rawptr_Tells, mut_vals, ShrRef, shr_vals, shr_Tells, named_lft, plain, nothing, heard, val, tells, calls_at, lasts, alive, triple_of, Stays, walk_of, stay_dropped, Goes-dropped, ends_at, framed}
+use Rattle.embed.proofs.Lending.{lend, loan, is_typed}
 use Rattle.std.proofs.Common.{◌≡◌, subst}
 use Rattle.host_calls.specs.Openings.{IsOpened}
 use Rattle.host_calls.specs.declared.handles.StateHandle.{StateHandle}
@@ -43,11 +44,9 @@ nrbpf_raw_open_on_spec 𝓤 𝓛 𝓜 𝓡 wired =
     sets ! (of_opd ! (get ! refl)) refl (tt, tt) $
     sets ! (of_opd ! (get ! refl)) refl (tt, tt) $
     sets ! (addr ! (through ! refl (stop !))) refl (tt, tt) $
-    lft_new ! tt (λ α. move ! (1 ∷ []) $
-    use1 𝓛 (later (some (λ γ. ‵ ((MutRef (named 2) (α ∷ []) S).own_val (record { ref_ptr = (b, o); ghost_name = γ; now = value }) (mut_vals (record { ref_ptr = (b, o); ghost_name = γ; now = value }))) ⊛ ‵ (flent (α ∷ []) (Body (mem S) b o γ)))))
-    (lends_ref 𝓛 S (named 2) (α ∷ []) value b o) $ await ! tt $ pick ! (λ γ. split ! $
+    lend ! tt S 2 value b o (λ α γ.
     -- [the loan; the lender's part; the token of α; the room; what the reference owns; what the allocator owns; the tokens; the locals]
-    let r : MutBor S.Denot = record { ref_ptr = (b, o); ghost_name = γ; now = value } in
+    let r = loan S b o γ value in
     let z : G.Ghost = (((κs.0, (κs.1.0, (α ∷ [], tt))), (qs.0, (qs.1.0, (full_share, tt))), bounds, (a.0, (a.1.0, (r, tt))), (vals a.0, (shr_vals a.1.0, (mut_vals r, tt)))), tt) in
     nothing ! $ move ! (1 ∷ 0 ∷ []) $ join ! $ move ! (4 ∷ 0 ∷ []) $ join ! $ move ! (4 ∷ 0 ∷ []) $ join ! $
     -- [what is passed; the lender's part; the token of α; the room; the tokens; the locals]
@@ -64,8 +63,7 @@ nrbpf_raw_open_on_spec 𝓤 𝓛 𝓜 𝓡 wired =
     split ! $ move ! (1 ∷ []) $ split ! $ move ! (1 ∷ []) $ split ! $ lft_end ! tt $
     -- [α is over; nothing; a token; a token; what the store owns; what the call tells; the lender's part; the room; the locals]
     move ! (4 ∷ []) $
-    peeks ! R (Is R) (shows 𝓛 R) h (v ∷ []) (λ is.
-    let typed = ((laws.the_row_laws).lawful 𝓛).typed h (v ∷ []) is in
+    is_typed ! R ((laws.the_row_laws).lawful 𝓛) h (v ∷ []) (λ typed.
     lands_as ! refl refl typed.0 $
     -- [what the store owns; α is over; nothing; a token; a token; what the call tells; the lender's part; the room; the locals]
     assigns ! (of_opd ! (get ! refl)) (through ! refl (stop !)) (init ! 7 refl typed.0) $
@@ -86,4 +84,4 @@ nrbpf_raw_open_on_spec 𝓤 𝓛 𝓜 𝓡 wired =
     nothing ! $ move ! (2 ∷ 0 ∷ []) $ join ! $ move ! (2 ∷ 0 ∷ []) $ join ! $ use1 𝓛 (raw (alive 𝓛 f.signature κs qs)) (id⊢ 𝓤 _) $ move ! (1 ∷ 0 ∷ []) $
     suffices ! _ (ends_at 𝓛 f.ended stayed c (y (block_ptr b o) (block_ptr b' o')) vunit tt (tt, (tt, (tt, (tt, tt)))) (tt, (tt, (tt, (tt, tt))))) $
     -- [what is left; the tokens]
-    feq_i ! _ (vunit ∷ []) _ refl $ nothing ! $ nothing ! $ join ! $ nothing ! $ join ! $ nothing ! $ join ! $ nothing ! $ join ! $ move ! (3 ∷ 0 ∷ 1 ∷ []) $ group ! 3 $ done !)))))))))))
+    feq_i ! _ (vunit ∷ []) _ refl $ nothing ! $ nothing ! $ join ! $ nothing ! $ join ! $ nothing ! $ join ! $ nothing ! $ join ! $ move ! (3 ∷ 0 ∷ 1 ∷ []) $ group ! 3 $ done !))))))))))

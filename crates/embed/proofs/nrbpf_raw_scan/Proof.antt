@@ -1,5 +1,6 @@
 -- `nrbpf_raw_scan` lends the session to `scanned`, and passes the rooms for keys and values on.
-use Rattle.embed.proofs.Steps.{[], ◌∷◌, ◌++◌, ℕ, List, refl, ap, MutBor, proved, full_share, id⊢, ex, ex_i, sep, emp, fact, fact_i, ftrue, flft, flent, named, vunit, tables, WpFn, ‵, raw, ◌⊛◌, some, later, prop, ◌$◌, ◌∵◌, !, qed, done, move, keep, drop, use0, use1, use2, use3, split, join, fsplit, feq_i, feq_l, pick, await, regoal, suffices, group, sem, enter, of_opd, unit_lit, addr, stop, no_more, and_then, returns, alloc_all, pass_all, free_all, look_at, get, get_in, look_in_at, through, sets, lands_as, Body, lft_new, lft_end, unit, yes, lends_ref, ref_back, mem, Ptr, RawPtr, block_ptr, lies_at, in_a_block, rawptr_vals, rawptr_Tells, MutRef, mut_vals, plain, nothing, heard, only, calls_at, lasts, alive, triple_of, Stays, walk_of, stay_dropped, Goes-dropped, gave_slice, Goes-gave_slice, ends_at, framed, whole, sub, agg, from, fld, hop, w32, u8, u32, uint_vals, uint_Tells, MutSlice, mut_slice_vals, mut_slice_Tells}
+use Rattle.embed.proofs.Steps.{[], ◌∷◌, ◌++◌, ℕ, List, refl, ap, proved, full_share, id⊢, ex, ex_i, sep, emp, fact, fact_i, ftrue, flft, named, vunit, tables, WpFn, ‵, raw, ◌⊛◌, some, later, prop, ◌$◌, ◌∵◌, !, qed, done, move, keep, drop, use0, use1, use2, use3, split, join, fsplit, feq_i, feq_l, pick, await, regoal, suffices, group, sem, enter, of_opd, unit_lit, addr, stop, no_more, and_then, returns, alloc_all, pass_all, free_all, look_at, get, get_in, look_in_at, through, sets, lands_as, lft_end, unit, yes, ref_back, mem, Ptr, RawPtr, block_ptr, lies_at, in_a_block, rawptr_vals, rawptr_Tells, mut_vals, plain, nothing, heard, only, calls_at, lasts, alive, triple_of, Stays, walk_of, stay_dropped, Goes-dropped, gave_slice, Goes-gave_slice, ends_at, framed, whole, sub, agg, from, fld, hop, w32, u8, u32, uint_vals, uint_Tells, MutSlice, mut_slice_vals, mut_slice_Tells}
+use Rattle.embed.proofs.Lending.{lend, loan}
 use Rattle.host_calls.specs.Looks.{Scans}
 use Rattle.host_calls.specs.contracts.handles.SessionHandle.{the_row as R}
 use Rattle.embed.specs.contracts.nrbpf_raw_scan as f
@@ -37,11 +38,9 @@ nrbpf_raw_scan_spec 𝓤 𝓛 𝓜 𝓡 wired =
     sets ! (agg ! (and_then ! (get ! refl) (and_then ! (get_in ! (fld ! refl (stop !)) (sub ! 1 refl (whole !))) (no_more !)))) refl (tt, (tt, (record { fits = are.1.1.1.0.0.1.0 }, tt))) $
     sets ! (addr ! (from ! (fld ! refl (hop ! (look_in_at ! 5 (sub ! 0 refl (whole !))) (stop !))))) refl (tt, tt) $
     sets ! (agg ! (and_then ! (get ! refl) (and_then ! (get_in ! (fld ! refl (stop !)) (sub ! 1 refl (whole !))) (no_more !)))) refl (tt, (tt, (record { fits = are.1.1.1.1.0.0.1.0 }, tt))) $
-    lft_new ! tt (λ α. move ! (1 ∷ []) $
-    use1 𝓛 (later (some (λ γ. ‵ ((MutRef (named 0) (α ∷ []) R).own_val (record { ref_ptr = (b, o); ghost_name = γ; now = value }) (mut_vals (record { ref_ptr = (b, o); ghost_name = γ; now = value }))) ⊛ ‵ (flent (α ∷ []) (Body (mem R) b o γ)))))
-    (lends_ref 𝓛 R (named 0) (α ∷ []) value b o) $ await ! tt $ pick ! (λ γ. split ! $
+    lend ! tt R 0 value b o (λ α γ.
     -- [the loan; the lender's part; the token of α; what the others own; the tokens; the locals]
-    let r : MutBor R.Denot = record { ref_ptr = (b, o); ghost_name = γ; now = value } in
+    let r = loan R b o γ value in
     let z : G.Ghost = (((α ∷ [], κs), (full_share, qs), bounds, (r, a.1), (mut_vals r, (uint_vals w32 map, (uint_vals w32 start, (mut_slice_vals keys, (mut_slice_vals values, tt)))))), tt) in
     nothing ! $ move ! (4 ∷ 0 ∷ []) $ join ! $ move ! (4 ∷ 0 ∷ []) $ join ! $ move ! (4 ∷ 0 ∷ []) $ join ! $ move ! (4 ∷ 0 ∷ []) $ join ! $ move ! (1 ∷ 0 ∷ []) $ join ! $
     -- [what is passed; the lender's part; the token of α; the tokens; the locals]
@@ -71,4 +70,4 @@ nrbpf_raw_scan_spec 𝓤 𝓛 𝓜 𝓡 wired =
     nothing ! $ move ! (4 ∷ 5 ∷ []) $ join ! $ join ! $ move ! (2 ∷ 3 ∷ []) $ join ! $ join ! $ nothing ! $ join ! $ nothing ! $ join ! $ nothing ! $ join ! $
     -- [what is had of the parameters; what is left; the tokens]
     move ! (2 ∷ []) $ use1 𝓛 (raw (alive 𝓛 f.signature κs qs)) (id⊢ 𝓤 _) $ move ! (1 ∷ 2 ∷ []) $
-    feq_i ! _ (vunit ∷ []) _ refl $ move ! (3 ∷ 1 ∷ 0 ∷ []) $ group ! 3 $ done !))))))))))))
+    feq_i ! _ (vunit ∷ []) _ refl $ move ! (3 ∷ 1 ∷ 0 ∷ []) $ group ! 3 $ done !)))))))))))

@@ -1,5 +1,6 @@
 -- `nrbpf_raw_snapshot` lends both handles to `snapped`.
-use Rattle.embed.proofs.Steps.{[], ◌∷◌, ◌++◌, refl, ap, MutBor, proved, full_share, id⊢, ex, ex_i, sep, emp, fact, fact_i, ftrue, flft, flent, named, vunit, tables, WpFn, ‵, raw, ◌⊛◌, some, later, prop, ◌$◌, ◌∵◌, !, qed, done, move, keep, drop, use0, use1, use2, use3, split, join, fsplit, feq_i, feq_l, pick, await, regoal, suffices, group, sem, enter, of_opd, unit_lit, addr, stop, no_more, and_then, returns, alloc_all, pass_all, free_all, look_at, get, through, sets, lands_as, Body, lft_new, lft_end, unit, yes, lends_ref, ref_back, mem, Ptr, RawPtr, block_ptr, lies_at, in_a_block, rawptr_vals, rawptr_Tells, MutRef, mut_vals, plain, nothing, heard, only, calls_at, lasts, on_entry, triple_of, Stays, walk_of, stay_dropped, Goes-dropped, ends_at, framed}
+use Rattle.embed.proofs.Steps.{[], ◌∷◌, ◌++◌, refl, ap, proved, full_share, id⊢, ex, ex_i, sep, emp, fact, fact_i, ftrue, flft, vunit, tables, WpFn, ‵, raw, ◌⊛◌, some, later, prop, ◌$◌, ◌∵◌, !, qed, done, move, keep, drop, use0, use1, use2, use3, split, join, fsplit, feq_i, feq_l, pick, await, regoal, suffices, group, sem, enter, of_opd, unit_lit, addr, stop, no_more, and_then, returns, alloc_all, pass_all, free_all, look_at, get, through, sets, lands_as, lft_end, unit, yes, ref_back, mem, Ptr, RawPtr, block_ptr, lies_at, in_a_block, rawptr_vals, rawptr_Tells, mut_vals, plain, nothing, heard, only, calls_at, lasts, on_entry, triple_of, Stays, walk_of, stay_dropped, Goes-dropped, ends_at, framed}
+use Rattle.embed.proofs.Lending.{lend, loan}
 use Rattle.host_calls.specs.Looks.{Snaps}
 use Rattle.host_calls.specs.contracts.handles.StateHandle.{the_row as R}
 use Rattle.host_calls.specs.contracts.handles.SessionHandle.{the_row as S}
@@ -32,16 +33,12 @@ nrbpf_raw_snapshot_spec 𝓤 𝓛 𝓜 𝓡 wired =
     sets ! (addr ! (through ! refl (stop !))) refl (tt, tt) $
     sets ! (of_opd ! (get ! refl)) refl (tt, tt) $
     sets ! (addr ! (through ! refl (stop !))) refl (tt, tt) $
-    lft_new ! tt (λ κ. move ! (1 ∷ []) $
-    use1 𝓛 (later (some (λ γ. ‵ ((MutRef (named 0) (κ ∷ []) S).own_val (record { ref_ptr = (b, o); ghost_name = γ; now = both.0 }) (mut_vals (record { ref_ptr = (b, o); ghost_name = γ; now = both.0 }))) ⊛ ‵ (flent (κ ∷ []) (Body (mem S) b o γ)))))
-    (lends_ref 𝓛 S (named 0) (κ ∷ []) both.0 b o) $ await ! tt $ pick ! (λ γ. split ! $
+    lend ! tt S 0 both.0 b o (λ κ γ.
     -- [the loan of the session; the lender's part of it; the token of α; the state; the locals]
-    lft_new ! tt (λ ι. move ! (4 ∷ []) $
-    use1 𝓛 (later (some (λ δ. ‵ ((MutRef (named 1) (ι ∷ []) R).own_val (record { ref_ptr = (b', o'); ghost_name = δ; now = both.1 }) (mut_vals (record { ref_ptr = (b', o'); ghost_name = δ; now = both.1 }))) ⊛ ‵ (flent (ι ∷ []) (Body (mem R) b' o' δ)))))
-    (lends_ref 𝓛 R (named 1) (ι ∷ []) both.1 b' o') $ await ! tt $ pick ! (λ δ. split ! $
+    move ! (3 ∷ []) $ lend ! tt R 1 both.1 b' o' (λ ι δ.
     -- [the loan of the state; the lender's part of it; the token of β; the loan of the session; the lender's part of it; the token of α; the locals]
-    let r : MutBor S.Denot = record { ref_ptr = (b, o); ghost_name = γ; now = both.0 } in
-    let r' : MutBor R.Denot = record { ref_ptr = (b', o'); ghost_name = δ; now = both.1 } in
+    let r = loan S b o γ both.0 in
+    let r' = loan R b' o' δ both.1 in
     let z : G.Ghost = (((κ ∷ [], (ι ∷ [], tt)), (full_share, (full_share, tt)), tt, (r, (r', tt)), (mut_vals r, (mut_vals r', tt))), tt) in
     nothing ! $ move ! (1 ∷ 0 ∷ []) $ join ! $ move ! (3 ∷ 0 ∷ []) $ join ! $
     -- [both loans; the lender's part of the state; the token of β; the lender's part of the session; the token of α; the locals]
@@ -67,4 +64,4 @@ nrbpf_raw_snapshot_spec 𝓤 𝓛 𝓜 𝓡 wired =
     use1 𝓛 (raw (ex 𝓤 (λ (left : R.Denot). Left last.0 left))) (ex_i 𝓤 (λ (left : R.Denot). Left last.0 left) last.1.0) $
     use1 𝓛 (raw (ex 𝓤 (λ (x : S.Denot). ex 𝓤 (λ (left : R.Denot). Left x left)))) (ex_i 𝓤 (λ (x : S.Denot). ex 𝓤 (λ (left : R.Denot). Left x left)) last.0) $
     suffices ! _ (ends_at 𝓛 f.ended stayed c (y (block_ptr b o) (block_ptr b' o')) vunit tt (tt, (tt, tt)) (tt, (tt, tt))) $
-    feq_i ! _ (vunit ∷ []) _ refl $ nothing ! $ nothing ! $ join ! $ nothing ! $ join ! $ nothing ! $ group ! 3 $ done !)))))))))))))
+    feq_i ! _ (vunit ∷ []) _ refl $ nothing ! $ nothing ! $ join ! $ nothing ! $ join ! $ nothing ! $ group ! 3 $ done !)))))))))))
