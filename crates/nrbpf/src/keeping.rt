@@ -118,7 +118,14 @@ pub fn serve_on<R: Files + AllocGlobal + Eprint, F: Folder, I: Read + Drop, W: W
         state,
         ..
     } = inputs;
-    let end = serve(alloc, folder, spare, manifest, state, file, writer);
+    let mut inputs = reading::Inputs {
+        folder,
+        manifest: Some(manifest),
+        file: None,
+        state: Some(state),
+        history: None,
+    };
+    let end = serve(alloc, spare, &mut inputs, file, writer);
     let ServeEnd { status, state } = end;
     match state_text(alloc, files.dump, state) {
         Ok(Some(later)) => later.put(rt, writer),

@@ -1,111 +1,123 @@
--- What `serve` did, from what was loaded.
-use Rattle.std.proofs.Common.{◌≡◌, inl, inr, ℕ, false, List, [], Option, None, Result, Ok, Err, string_bytes, refl, sym, ap, subst}
+-- What `serve` did, from what was opened.
+use Rattle.std.proofs.Common.{◌≡◌, ◌⊎◌, inl, inr, ℕ, List, [], Option, None, Result, Ok, Err, refl, sym, ap, subst, ◌∙◌}
+use Rattle.std.specs.Prelude.{IfOk}
 use Rattle.std.specs.Io.KnownBytes.{Appends, Keeps}
 use Rattle.loader.specs.CatalogueView.{CatalogueView}
-use Rattle.loader.specs.NamedFiles.{named_in}
-use Rattle.loader.specs.Loading.{Outcome, loaded}
+use Rattle.loader.specs.Loading.{Outcome}
+use Rattle.loader.specs.StoreState.{StoreState}
 use Rattle.serving.specs.declared.turns.ServeEnd.{ServeEnd}
-use Rattle.engine.specs.declared.input.InputFault.{InputFault}
-use Rattle.engine.specs.declared.input.InputFault.TheVariants as faults
-use Rattle.engine.specs.declared.inputs.Inputs.{Inputs}
+use Rattle.engine.specs.declared.catalogues.Loaded.{Loaded}
+use Rattle.engine.specs.declared.catalogues.Loaded.TheVariants as loads
+use Rattle.engine.specs.declared.reporting.Reply.{Reply}
+use Rattle.engine.specs.declared.states.Opened.{Opened}
+use Rattle.engine.specs.declared.states.Opened.TheVariants as opens
 use Rattle.engine.specs.declared.status.Status.{Status}
 use Rattle.engine.specs.declared.status.Status.TheVariants as statuses
-use Rattle.engine.specs.Files.{Contents, present}
-use Rattle.engine.specs.InputFaults.{FailsAs}
-use Rattle.engine.specs.Inputs.{IfTextsKnown, all_texts}
-use Rattle.engine.specs.Gathering.{AreInputs, IsOfSome}
+use Rattle.engine.specs.declared.transfer.ReadFault.{ReadFault}
+use Rattle.engine.specs.declared.transfer.ReadFault.TheVariants as faults
+use Rattle.engine.specs.Answer.{Answer}
+use Rattle.engine.specs.Engine.{Writes}
 use Rattle.engine.specs.Loaded.{LoadedIs}
+use Rattle.engine.specs.OpenedState.{IsOpened, OpenedIs}
+use Rattle.engine.specs.ReadFaults.{IfCannotRead}
+use Rattle.engine.specs.Reading.{TextsRead}
+use Rattle.engine.specs.Report.{Failed, Sends, answer_of}
 use Rattle.engine.specs.Texts.{no_memory_line}
-use Rattle.engine.specs.Answer.{Answer, not_text}
-use Rattle.engine.specs.Report.{ReportsBytes, Sends, Writes}
-use Rattle.serving.specs.ServeAnswer.{Serves, ServesBytes, IsService, served_text, nothing_served, state_served, to_serve, service}
-use Rattle.engine.proofs.InputTexts.{as_known}
-use Rattle.engine.proofs.Reported.{sent, no_memory_sent, none_read}
+use Rattle.engine.proofs.Reports.{reports}
+use Rattle.serving.specs.ServeAnswer.{Serves, ServesBytes, served_text, nothing_served, state_served, service, to_serve}
 use Rattle.serving.proofs.Served.{none_served}
 use Rattle.serving.proofs.Turned.{appends_none, appends_kept, consumes_none, never_good, no_memory_at, none_given}
 
--- no memory for a service
-pub none_opened : (c : CatalogueView) (given old new : Option (List ℕ)) (got : Status) (ended : ServeEnd) → ended ≡ record { status = got; state = None }
-    → Sends old new got no_memory_line statuses.NoMemory → Serves c given given old new ended
-none_opened c given old new got ended told sends =
-    subst (λ (x : ServeEnd). Serves c given given old new x) (sym told)
-    record {
-      bytes = [];
-      read = consumes_none given;
-      whole = λ good. absurd (never_good old new got sends good);
-      answers = no_memory_at old old new got (served_text c) [] 0 (subst (λ (t : List ℕ). Appends old old t) (sym (ap (λ x. x.text) (none_served c nothing_served))) (appends_none old)) sends;
-      state = none_given old new got (state_served c []) sends;
-    }
+-- ---- nothing was served
 
--- no read for it
-none_loaded : (c : CatalogueView) (given old new : Option (List ℕ)) (got : Status) → (got ≡ statuses.CannotRead) × Keeps old new → Serves c given given old new (record { status = got; state = None })
-none_loaded c given old new got (is, kept) =
-    subst (λ (s : Status). Serves c given given old new (record { status = s; state = None })) (sym is)
-    record {
-      bytes = [];
-      read = consumes_none given;
-      whole = λ good. absurd cc;
-      answers = subst (λ (t : List ℕ). Appends old new t) (sym (ap (λ x. x.text) (none_served c nothing_served))) (appends_kept old new kept);
-      state = refl;
-    }
-
-module _ (spare : ℕ) (given left old new : Option (List ℕ)) (ended : ServeEnd) where
-  loaded_at : (i : Inputs) → ((outcome : Outcome) → LoadedIs outcome i.loaded → ServesBytes (to_serve spare outcome (string_bytes i.text)) given left old new ended)
-      → (m : List ℕ) (h : Contents) (s : List ℕ) → AreInputs m h s i → ServesBytes (service spare m h s) given left old new ended
-  unfolding service
-  loaded_at i serves m h s read =
-      rw read.texts
-      (subst (λ (t : List ℕ). ServesBytes (to_serve spare (loaded m (present h (named_in m))) t) given left old new ended) read.same (serves (loaded m (present h (named_in m))) read.catalogue))
-
-  pub served_known : (r : Option (List ℕ)) (o : Option Contents) (q : Option (List ℕ)) (i : Inputs) → IfTextsKnown r o q (λ m h s. AreInputs m h s i)
-      → ((outcome : Outcome) → LoadedIs outcome i.loaded → ServesBytes (to_serve spare outcome (string_bytes i.text)) given left old new ended)
-      → IfTextsKnown r o q (λ m h s. ServesBytes (service spare m h s) given left old new ended)
-  served_known r o q i read serves = as_known (λ m h s. AreInputs m h s i) (λ m h s. ServesBytes (service spare m h s) given left old new ended) (loaded_at i serves) r o q read
-
-  pub served_some : (i : Inputs) → IsOfSome i.loaded → ((outcome : Outcome) → LoadedIs outcome i.loaded → ServesBytes (to_serve spare outcome (string_bytes i.text)) given left old new ended)
-      → (opening : Result CatalogueView Answer) × IsService spare opening × ServesBytes opening given left old new ended
-  served_some i some serves =
-      (to_serve spare (loaded some.0 some.1) (string_bytes i.text), inr (some.0, some.1, string_bytes i.text, refl), serves (loaded some.0 some.1) some.2)
-
--- nothing was served
 module _ (given old new : Option (List ℕ)) (got : Status) (ended : ServeEnd) (told : ended ≡ record { status = got; state = None }) where
-  -- what was answered in its place
-  instead : (a : Answer) → ReportsBytes old new got a → ServesBytes (Err a) given given old new ended
-  instead a wrote = subst (λ (x : ServeEnd). ServesBytes (Err a) given given old new x) (sym told) (wrote, refl, refl)
+  -- no memory for a service
+  pub none_opened : (c : CatalogueView) → Sends old new got no_memory_line statuses.NoMemory → Serves c given given old new ended
+  none_opened c sends =
+      subst (λ (x : ServeEnd). Serves c given given old new x) (sym told)
+      record {
+        bytes = [];
+        read = consumes_none given;
+        whole = λ good. absurd (never_good old new got sends good);
+        answers = no_memory_at old old new got (served_text c) [] 0 (subst (λ (t : List ℕ). Appends old old t) (sym (ap (λ x. x.text) (none_served c nothing_served))) (appends_none old)) sends;
+        state = none_given old new got (state_served c []) sends;
+      }
 
-  pub by_no_memory : (opening : Result CatalogueView Answer) → Sends old new got no_memory_line statuses.NoMemory → ServesBytes opening given given old new ended
-  by_no_memory (Ok c) sends = none_opened c given old new got ended told sends
-  by_no_memory (Err a) sends = instead a (no_memory_sent old new got a sends)
+  -- no read for it
+  none_loaded : (c : CatalogueView) → (got ≡ statuses.CannotRead) × Keeps old new → Serves c given given old new ended
+  none_loaded c (is, kept) =
+      subst (λ (x : ServeEnd). Serves c given given old new x) (sym (told ∙ ap (λ (s : Status). record { status = s; state = None }) is))
+      record {
+        bytes = [];
+        read = consumes_none given;
+        whole = λ good. absurd cc;
+        answers = subst (λ (t : List ℕ). Appends old new t) (sym (ap (λ x. x.text) (none_served c nothing_served))) (appends_kept old new kept);
+        state = refl;
+      }
 
-  by_no_read : (opening : Result CatalogueView Answer) → (got ≡ statuses.CannotRead) × Keeps old new → ServesBytes opening given given old new ended
-  by_no_read (Ok c) kept = subst (λ (x : ServeEnd). Serves c given given old new x) (sym told) (none_loaded c given old new got kept)
-  by_no_read (Err a) kept = instead a (none_read old new got a kept)
+  -- what is answered in its place
+  pub instead : (a : Answer) (made : Result Reply ReadFault) → Writes answer_of old new got made → IfOk made (λ r. answer_of r ≡ a) → ServesBytes (Err a) given given old new ended
+  instead a made wrote is =
+      subst (λ (x : ServeEnd). ServesBytes (Err a) given given old new x) (sym told) (reports answer_of (λ r. answer_of r ≡ a) old new got made wrote is, refl, refl)
 
-  module _ (spare : ℕ) (e : InputFault) (wrote : Writes old new got (Err e)) where
-    is_no_text : (m : List ℕ) (h : Contents) (s : List ℕ) → all_texts m h s ≡ false → service spare m h s ≡ Err not_text
-    unfolding service
-    is_no_text m h s off = rw off refl
+  pub unopened : (on : Result CatalogueView Answer) (e : ReadFault) → Writes answer_of old new got (Err e) → ServesBytes on given given old new ended
+  unopened (Ok c) faults.NoMemory wrote = none_opened c wrote
+  unopened (Ok c) faults.CannotRead wrote = none_loaded c wrote
+  unopened (Err a) e wrote = instead a (Err e) wrote tt
 
-    unread_at : (m : List ℕ) (h : Contents) (s : List ℕ) → FailsAs e (all_texts m h s ≡ false) → ServesBytes (service spare m h s) given given old new ended
-    unread_at m h s stop = by e wrote stop
-      where
-        by : (e : InputFault) → Writes old new got (Err e) → FailsAs e (all_texts m h s ≡ false) → ServesBytes (service spare m h s) given given old new ended
-        by faults.NoMemory wrote stop = by_no_memory (service spare m h s) wrote
-        by faults.CannotRead wrote stop = by_no_read (service spare m h s) wrote
-        by faults.NotText wrote stop =
-            subst (λ (x : Result CatalogueView Answer). ServesBytes x given given old new ended) (sym (is_no_text m h s stop)) (instead not_text (sent old new got not_text wrote))
+-- the same of what was made in the place of a service
+module _ (given old new : Option (List ℕ)) (ended : ServeEnd) (none : ended.state ≡ None) where
+  left : ended ≡ record { status = ended.status; state = None }
+  left = ap (λ (s : Option StoreState). record { status = ended.status; state = s }) none
 
-    pub unread_known : (r : Option (List ℕ)) (o : Option Contents) (q : Option (List ℕ)) → IfTextsKnown r o q (λ m h s. FailsAs e (all_texts m h s ≡ false))
-        → IfTextsKnown r o q (λ m h s. ServesBytes (service spare m h s) given given old new ended)
-    unread_known = as_known (λ m h s. FailsAs e (all_texts m h s ≡ false)) (λ m h s. ServesBytes (service spare m h s) given given old new ended) unread_at
+  pub of_refused : {E : Type 0} (opened : Result Opened E) (r : Reply) → opened ≡ Ok (opens.Refused r) → Writes answer_of old new ended.status (Ok r)
+      → (on : Result CatalogueView Answer) → IfOk opened (OpenedIs on) → ServesBytes on given given old new ended
+  of_refused opened r is wrote (Ok c) such = absurd (subst (λ o. IfOk o (OpenedIs (Ok c))) is such)
+  of_refused opened r is wrote (Err a) such = instead given old new ended.status ended left a (Ok r) wrote (subst (λ o. IfOk o (OpenedIs (Err a))) is such)
 
-    unread_reports : ReportsBytes old new got not_text
-    unread_reports = by e wrote
-      where
-        by : (e : InputFault) → Writes old new got (Err e) → ReportsBytes old new got not_text
-        by faults.NotText wrote = sent old new got not_text wrote
-        by faults.NoMemory wrote = no_memory_sent old new got not_text wrote
-        by faults.CannotRead wrote = none_read old new got not_text wrote
+  pub of_fault : (e : ReadFault) → Writes answer_of old new ended.status (Err e) → (on : Result CatalogueView Answer) → ServesBytes on given given old new ended
+  of_fault e wrote on = unopened given old new ended.status ended left on e wrote
 
-    pub unread_some : (opening : Result CatalogueView Answer) × IsService spare opening × ServesBytes opening given given old new ended
-    unread_some = (Err not_text, inl refl, instead not_text unread_reports)
+-- ---- what was opened
+
+-- of a catalogue that was loaded
+pub of_catalogue : {E : Type 0} (spare : ℕ) (outcome : Outcome) (l : Loaded) (c : CatalogueView) (text state : List ℕ) (r : Result Opened E) → l ≡ loads.Catalogue c
+    → LoadedIs outcome l → text ≡ state → IfOk r IsOpened → IfOk r (OpenedIs (to_serve spare (Ok c) text)) → IfOk r (λ o. IsOpened o × OpenedIs (to_serve spare outcome state) o)
+of_catalogue spare outcome l c text state (Err e) is was same opened such = tt
+of_catalogue spare (Ok d) l c text state (Ok o) is was same opened such =
+    let one : c ≡ d = subst (λ (x : Loaded). LoadedIs (Ok d) x) is was in
+    (opened, subst (λ (x : CatalogueView). OpenedIs (to_serve spare (Ok x) state) o) one (subst (λ (x : List ℕ). OpenedIs (to_serve spare (Ok c) x) o) same such))
+of_catalogue spare (Err e) l c text state (Ok o) is was same opened such = absurd (subst (λ (x : Loaded). LoadedIs (Err e) x) is was)
+
+module _ {E : Type 0} (spare : ℕ) where
+  pub opened_as : (r : Result Opened E) (t : Option TextsRead) → IfOk r (λ o. IsOpened o × OpenedIs (service spare t) o) → IfOk r (OpenedIs (service spare t))
+  opened_as (Ok o) t is = is.1
+  opened_as (Err e) t is = tt
+
+  abbrev Some_opened : Result Opened E → Type 0
+  Some_opened r = IfOk r (λ o. (t : Option TextsRead) × (IsOpened o × OpenedIs (service spare t) o))
+
+  pub is_opened : (r : Result Opened E) → Some_opened r → IfOk r IsOpened
+  is_opened (Ok o) some = some.1.0
+  is_opened (Err e) some = tt
+
+  pub of_some : (r : Result Opened E) → Some_opened r → (t : Option TextsRead) × IfOk r (OpenedIs (service spare t))
+  of_some (Ok o) some = (some.0, some.1.1)
+  of_some (Err e) some = (None, tt)
+
+-- ---- what failed
+
+module _ (P Q W : Type 0) where
+  -- from one reason of a failed read to another
+  pub failed_so : (got : Status) → (P → Q) → Failed got P W → Failed got Q W
+  failed_so statuses.Good f told = tt
+  failed_so statuses.Refused f told = tt
+  failed_so statuses.Differs f told = tt
+  failed_so statuses.NoMemory f told = tt
+  failed_so statuses.CannotRead f told = f told
+  failed_so statuses.CannotWrite f told = told
+
+-- a read before the service, or of its input
+pub before_or_in : {X : Type 0} (made : Result X ReadFault) (P Q : Type 0) → IfCannotRead made P → (made ≡ Err faults.CannotRead) ⊎ Q → P ⊎ Q
+before_or_in made P Q read (inl is) = inl (subst (λ r. IfCannotRead r P) is read)
+before_or_in made P Q read (inr failed) = inr failed

@@ -6,24 +6,23 @@ use Rattle.text.specs.Lines.{next_line}
 use Rattle.loader.specs.StoreState.{StoreState}
 use Rattle.loader.specs.CatalogueView.{CatalogueView, with_places}
 use Rattle.loader.specs.declared.installed.TheConstants.{MAX_PLACES}
-use Rattle.loader.specs.NamedFiles.{named_in}
-use Rattle.loader.specs.ProgramFiles.{Files}
 use Rattle.loader.specs.Loading.{Outcome, loaded}
 use Rattle.oplog.specs.declared.configuration.TheConstants.{ENDLESS}
 use Rattle.oplog.specs.History.{History}
 use Rattle.serving.specs.declared.turns.ServeEnd.{ServeEnd}
 use Rattle.engine.specs.declared.status.Status.{Status}
 use Rattle.engine.specs.declared.status.Status.TheVariants as statuses
-use Rattle.engine.specs.Files.{Contents, is_text, present}
+use Rattle.engine.specs.Files.{is_text}
 use Rattle.engine.specs.Texts.{no_memory_line}
 use Rattle.engine.specs.Answer.{Answer, not_text, refusal_answer}
 use Rattle.running.specs.RunAnswer.{Turn, bad_line_text, line_turn}
-use Rattle.engine.specs.Inputs.{IfTextsKnown, all_texts}
+use Rattle.engine.specs.Reading.{Given, TextsRead, read}
 use Rattle.engine.specs.StateAnswer.{on_text}
 use Rattle.running.specs.KeptRun.{state_left}
 use Rattle.engine.specs.Sizes.{sizes_refused}
 use Rattle.engine.specs.Transfer.{AppendsBeginning}
-use Rattle.engine.specs.Report.{ReportsBytes}
+use Rattle.engine.specs.Report.{answer_of}
+use Rattle.engine.specs.Engine.{Reports}
 
 -- ---- lines as they end
 
@@ -115,30 +114,21 @@ abbrev pub to_serve : ℕ → Outcome → List ℕ → Result CatalogueView Answ
 to_serve spare (Ok c) state = if nat_le spare MAX_PLACES then on_text (with_places c spare) state else Err sizes_refused
 to_serve spare (Err refusal) state = Err (refusal_answer refusal)
 
--- what is served, with so many places behind the manifest's programs and on a state, or what is answered in its place: all files are read first
-unfoldable pub service : ℕ → List ℕ → Contents → List ℕ → Result CatalogueView Answer
-service spare manifest folder state =
-    if all_texts manifest folder state then to_serve spare (loaded manifest (present folder (named_in manifest))) state else Err not_text
-
--- what is served, or answered in its place, of some manifest, files and state
-abbrev pub IsService : ℕ → Result CatalogueView Answer → Type 0
-IsService spare opening =
-    (opening ≡ Err not_text) ⊎ ((manifest : List ℕ) × (files : Files) × (state : List ℕ) × (opening ≡ to_serve spare (loaded manifest files) state))
-
--- the same is so of one of these
-abbrev pub SomeService : ℕ → (Result CatalogueView Answer → Type 0) → Type 0
-SomeService spare P = (opening : Result CatalogueView Answer) × IsService spare opening × P opening
+-- what is served of what was read, with so many places behind the manifest's programs and on the state, or what is answered in its place
+abbrev pub service : ℕ → Option TextsRead → Result CatalogueView Answer
+service spare None = Err not_text
+service spare (Some t) = to_serve spare (loaded t.manifest t.files) t.state
 
 -- what `serve` did with its input and its output; what is answered in its place leaves no state, and nothing of
 -- the input is read then
 abbrev pub ServesBytes : Result CatalogueView Answer → Option (List ℕ) → Option (List ℕ) → Option (List ℕ) → Option (List ℕ) → ServeEnd → Type 0
 ServesBytes (Ok c) given left old new ended = Serves c given left old new ended
-ServesBytes (Err a) given left old new ended = ReportsBytes old new ended.status a × (ended.state ≡ None) × (left ≡ given)
+ServesBytes (Err a) given left old new ended = Reports answer_of (λ r. answer_of r ≡ a) old new ended.status × (ended.state ≡ None) × (left ≡ given)
 
 -- the same of a reader and a writer, by what is known of them
 abbrev pub ServesAll : {R W : Type 0} → (R → Option (List ℕ)) → R → R → (W → Option (List ℕ)) → W → W → ServeEnd → Result CatalogueView Answer → Type 0
 ServesAll remaining given left contents old new ended opening = ServesBytes opening (remaining given) (remaining left) (contents old) (contents new) ended
 
--- where the bytes of the manifest, of the files and of the state are known, this is so of what is served then, or answered in its place
-abbrev pub IfServeKnown : ℕ → Option (List ℕ) → Option Contents → Option (List ℕ) → (Result CatalogueView Answer → Type 0) → Type 0
-IfServeKnown spare manifest folder state P = IfTextsKnown manifest folder state (λ m h s. P (service spare m h s))
+-- the same of what there was to read before
+abbrev pub ServesGiven : {R W : Type 0} → ℕ → (R → Option (List ℕ)) → R → R → (W → Option (List ℕ)) → W → W → ServeEnd → Given → Type 0
+ServesGiven spare remaining given left contents old new ended g = ServesAll remaining given left contents old new ended (service spare (read g))

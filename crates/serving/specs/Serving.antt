@@ -5,11 +5,18 @@ use Rattle.loader.specs.CatalogueView.{CatalogueView}
 use Rattle.oplog.specs.declared.configuration.TheConstants.{ENDLESS}
 use Rattle.engine.specs.declared.status.Status.{Status}
 use Rattle.engine.specs.declared.status.Status.TheVariants as statuses
+use Rattle.engine.specs.declared.states.Opened.{Opened}
+use Rattle.engine.specs.Answer.{Answer}
+use Rattle.engine.specs.OpenedState.{OpenedIs}
 use Rattle.serving.specs.declared.service.TheConstants.{KEPT_BYTES}
 use Rattle.serving.specs.declared.service.Service.{Service}
 use Rattle.running.specs.RunAnswer.{Turn}
 use Rattle.running.specs.Running.{Follows, LineTaken}
 use Rattle.serving.specs.ServeAnswer.{Serving, nothing_served, text_turn, served, served_text, AnswersBytes}
+
+-- this is so of what is served, or answered in its place, where that was opened
+abbrev pub IfOpened : {E : Type 0} → Result Opened E → (Result CatalogueView Answer → Type 0) → Type 0
+IfOpened opened P = (on : Result CatalogueView Answer) → IfOk opened (OpenedIs on) → P on
 
 -- of a line that is longer than any good one, its first bytes are enough
 pub record Stands (s : Serving) (service : Service) : Type 0 where

@@ -2,6 +2,7 @@
 #![tactic(auto)]
 
 mod laws;
+mod opening;
 mod service;
 mod turns;
 

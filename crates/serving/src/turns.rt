@@ -1,28 +1,25 @@
 // The command `serve`.
 
-ghost use Rattle.std.specs.Prelude.{◌≡◌, ◌⊎◌, ◌<◌, length, Ok, None, Some, Result, IfSome, IfOk, string_bytes};
-ghost use Rattle.loader.specs.CatalogueView.{CatalogueView};
+ghost use Rattle.std.specs.Prelude.{◌≡◌, ◌⊎◌, ◌<◌, length, Ok, Err, None, Some, Option, IfSome, IfOk};
 ghost use Rattle.loader.specs.StoreState.{with_room};
-ghost use Rattle.loader.specs.Loading.{Outcome};
 ghost use Rattle.engine.specs.declared.status.Status.TheVariants as statuses;
-ghost use Rattle.engine.specs.Answer.{Answer};
-ghost use Rattle.engine.specs.Files.{SomeFile};
-ghost use Rattle.engine.specs.Memory.{Never};
-ghost use Rattle.engine.specs.Report.{Failed, ReportsBytes, Sends, answer_of};
-ghost use Rattle.engine.specs.Loaded.{LoadedIs};
-ghost use Rattle.engine.specs.OpenedState.{IsOpened, OpenedIs};
+ghost use Rattle.engine.specs.declared.transfer.ReadFault.TheVariants as faults;
+ghost use Rattle.engine.specs.Engine.{Writes};
+ghost use Rattle.engine.specs.OpenedState.{IsOpened};
+ghost use Rattle.engine.specs.Reading.{AnyFailed, IfGiven, TextsRead};
+ghost use Rattle.engine.specs.Report.{Failed, Sends, answer_of};
 ghost use Rattle.engine.specs.Texts.{no_memory_line};
 ghost use Rattle.running.specs.Running.{IsSteady};
-ghost use Rattle.serving.specs.ServeAnswer.{Serves, ServesAll, given_back, nothing_served, to_serve, IfServeKnown, SomeService};
-ghost use Rattle.serving.specs.Serving.{Stands, TakesTurns};
+ghost use Rattle.serving.specs.ServeAnswer.{Serves, ServesAll, ServesGiven, given_back, nothing_served, service};
+ghost use Rattle.serving.specs.Serving.{IfOpened, Stands, TakesTurns};
 
+use crate::opening::Opening;
 use crate::service::Service;
+use engine::performing::report;
+use engine::reading::Inputs;
 use engine::texts::no_memory;
-use engine::{
-    Feed, Folder, InputFault, Inputs, Loaded, Opened, Reply, Sink, Source, Status, open_on,
-    read_inputs, report, sizes_refused,
-};
-use loader::{Catalogue, MAX_PLACES, StoreState};
+use engine::{Feed, Folder, Notes, Opened, ReadFault, Reply, Sink, Source, Status, prepare};
+use loader::{Catalogue, StoreState};
 use std::alloc::{AllocError, Global};
 
 // How many bytes are read at once, at most.
@@ -129,15 +126,12 @@ fn serve_input<R: Feed, W: Sink>(
 }
 
 // Writes what is answered in place of a service.
-fn answer_instead<W: Sink>(writer: &mut W, reply: Result<Reply, AllocError>) -> ServeEnd
-    ensures written { (a : Answer) → IfOk reply (λ r. answer_of r ≡ a) → ReportsBytes (W.contents writer.old) (W.contents writer.new) result.status a }
+fn answer_instead<W: Sink>(writer: &mut W, made: Result<Reply, ReadFault>) -> ServeEnd
+    ensures written { Writes answer_of (W.contents writer.old) (W.contents writer.new) result.status made }
     ensures state { result.state ≡ None }
-    ensures failed { Failed result.status Never (W.has_failed writer.new) }
+    ensures failed { Failed result.status (made ≡ Err faults.CannotRead) (W.has_failed writer.new) }
 {
-    match reply {
-        Ok(reply) => without_state(report(writer, Ok(reply))),
-        Err(_) => without_state(report(writer, Err(InputFault::NoMemory))),
-    }
+    without_state(report(writer, &made))
 }
 
 // A service of a catalogue on a copy of this state, which is let go.
@@ -172,96 +166,47 @@ fn serve_on<R: Feed, W: Sink>(
     }
 }
 
-// Serves what was opened, or writes the refusal of its state.
+// Serves what was opened, or writes what is answered in its place.
 fn serve_opened<R: Feed, W: Sink>(
     alloc: Global,
-    opened: Opened,
+    opened: Result<Opened, ReadFault>,
     reader: &mut R,
     writer: &mut W,
 ) -> ServeEnd
-    requires opened { IsOpened opened }
-    ensures served { (on : Result CatalogueView Answer) → OpenedIs on opened
-        → ServesAll R.remaining reader.old reader.new W.contents writer.old writer.new result on }
-    ensures failed { Failed result.status (R.has_failed reader.new) (W.has_failed writer.new) }
+    requires opened { IfOk opened IsOpened }
+    ensures served { IfOpened opened (ServesAll R.remaining reader.old reader.new W.contents writer.old writer.new result) }
+    ensures failed { Failed result.status ((opened ≡ Err faults.CannotRead) ⊎ R.has_failed reader.new) (W.has_failed writer.new) }
 {
     match opened {
-        Opened::On(catalogue, state) => serve_on(alloc, catalogue, state, reader, writer),
-        Opened::Refused(reply) => answer_instead(writer, Ok(reply)),
-    }
-}
-
-// Serves a catalogue, with so many places behind its programs, on the state that a text says.
-fn serve_catalogue<R: Feed, W: Sink>(
-    alloc: Global,
-    spare: u32,
-    catalogue: Catalogue,
-    state: &str,
-    reader: &mut R,
-    writer: &mut W,
-) -> ServeEnd
-    ensures served { ServesAll R.remaining reader.old reader.new W.contents writer.old writer.new result (to_serve spare (Ok catalogue) state.now) }
-    ensures failed { Failed result.status (R.has_failed reader.new) (W.has_failed writer.new) }
-{
-    let places = spare as usize;
-    if places > MAX_PLACES {
-        return answer_instead(writer, sizes_refused(alloc));
-    }
-    match open_on(alloc, catalogue.with_places(places), state) {
-        Ok(opened) => serve_opened(alloc, opened, reader, writer),
-        Err(_) => without_state(end_without_memory(writer)),
-    }
-}
-
-// Serves what was loaded, or writes the refusal of its manifest.
-fn serve_loaded<R: Feed, W: Sink>(
-    alloc: Global,
-    spare: u32,
-    inputs: Inputs,
-    reader: &mut R,
-    writer: &mut W,
-) -> ServeEnd
-    ensures served { (outcome : Outcome) → LoadedIs outcome inputs.loaded
-        → ServesAll R.remaining reader.old reader.new W.contents writer.old writer.new result (to_serve spare outcome (string_bytes inputs.text)) }
-    ensures failed { Failed result.status (R.has_failed reader.new) (W.has_failed writer.new) }
-{
-    let Inputs { loaded, text } = inputs;
-    match loaded {
-        Loaded::Catalogue(catalogue) => {
-            serve_catalogue(alloc, spare, catalogue, text.as_str(), reader, writer)
-        }
-        Loaded::Refused(reply) => answer_instead(writer, Ok(reply)),
+        Ok(Opened::On(catalogue, state)) => serve_on(alloc, catalogue, state, reader, writer),
+        Ok(Opened::Refused(reply)) => answer_instead(writer, Ok(reply)),
+        Err(fault) => answer_instead(writer, Err(fault)),
     }
 }
 
 /// Answers the lines of a script as they come in, on a store with the maps and the programs of a manifest, and so many places behind
 /// these: one log, which has no end ([`oplog::ENDLESS`]), and one replica, on one thread. The store opens on the state that a text says, as
-/// [`dumps::dump`] writes one; an empty text is a new state.
+/// [`dumps::dump`] writes one; without a text it is a new one.
 ///
 /// Writes for each line what `run` writes for it. A line that is bad writes `line N bad`, changes nothing, and the service goes on; so does
 /// one that is not UTF-8. What a read brings is answered, and all that was answered is written, before the next read. A last line
 /// that has no line feed is not answered. A refused manifest writes only its refusal, more than 16 places `refused O1`, and a refused state
 /// `line N: En`; then nothing of the input is read. Says how it ended: at the end of input well, and then gives the state that the answered
 /// lines leave. Where memory runs out, `no memory` stands behind the answers so far.
-pub fn serve<F: Folder, M: Source, L: Source, R: Feed, W: Sink>(
+pub fn serve<F: Folder, S: Source + Drop, R: Feed, W: Sink>(
     alloc: Global,
-    folder: &F,
     spare: u32,
-    manifest: &mut M,
-    state: &mut L,
+    inputs: &mut Inputs<'_, F, S>,
     reader: &mut R,
     writer: &mut W,
 ) -> ServeEnd
-    // Where the manifest, the folder and the state tell their bytes, those are served.
-    ensures written { IfServeKnown spare (M.remaining manifest.old) (F.holds folder.now) (L.remaining state.old)
-        (ServesAll R.remaining reader.old reader.new W.contents writer.old writer.new result) }
+    // Where the readers and the folder tell their bytes, those are served.
+    ensures written { IfGiven F.holds S.remaining inputs.old (ServesGiven spare R.remaining reader.old reader.new W.contents writer.old writer.new result) }
     // It says that a read or a write failed only after one did.
-    ensures failed { Failed result.status (M.has_failed manifest.new ⊎ SomeFile F.File.has_failed ⊎ L.has_failed state.new ⊎ R.has_failed reader.new)
-        (W.has_failed writer.new) }
+    ensures failed { Failed result.status (AnyFailed S.has_failed F.File.has_failed inputs.new ⊎ R.has_failed reader.new) (W.has_failed writer.new) }
     // Whatever they give, or where they fail.
-    ensures ended { SomeService spare (ServesAll R.remaining reader.old reader.new W.contents writer.old writer.new result) }
+    ensures ended { (t : Option TextsRead) × ServesAll R.remaining reader.old reader.new W.contents writer.old writer.new result (service spare t) }
 {
-    match read_inputs(alloc, folder, manifest, state) {
-        Ok(inputs) => serve_loaded(alloc, spare, inputs, reader, writer),
-        Err(fault) => without_state(report(writer, Err(fault))),
-    }
+    let opened = prepare(alloc, &Opening { spare }, inputs, &mut Notes::none(alloc));
+    serve_opened(alloc, opened, reader, writer)
 }

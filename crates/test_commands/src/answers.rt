@@ -62,14 +62,14 @@ fn on_both<'a>(folder: &'a Offered<'a>, manifest: &'a [u8]) -> Inputs<'a, Offere
 
 // What `schedule` answers in a store of the sizes behind its name, and `replay` and `serve` with the places behind their names.
 fn sized(
-    alloc: Global,
     folder: &Offered,
     command: &str,
-    mut manifest: &[u8],
+    manifest: &[u8],
     notes: &mut Notes,
     out: &mut Vec<u8>,
 ) -> Option<Status> {
     let (name, text) = command.split_once(':')?;
+    let alloc = *out.allocator();
     if name == "replay" {
         let spare = text.parse::<u32>().ok()?;
         let mut inputs = on_both(folder, manifest);
@@ -77,20 +77,7 @@ fn sized(
     }
     if name == "serve" {
         let spare = text.parse::<u32>().ok()?;
-        let mut other = folder.other;
-        let mut new_state: &[u8] = &[];
-        return Some(
-            serve(
-                alloc,
-                folder,
-                spare,
-                &mut manifest,
-                &mut new_state,
-                &mut other,
-                out,
-            )
-            .status,
-        );
+        return Some(served(alloc, spare, folder, manifest, out));
     }
     if name != "schedule" {
         return None;
@@ -110,7 +97,7 @@ fn told(
 ) -> Option<Answer> {
     let mut notes = Notes::new(alloc, telling);
     let mut out = Vec::new(alloc);
-    let status = sized(alloc, folder, command, manifest, &mut notes, &mut out)?;
+    let status = sized(folder, command, manifest, &mut notes, &mut out)?;
     Some(Answer {
         status: status.code(),
         text: notes.text,
@@ -240,20 +227,17 @@ fn replayed(alloc: Global, folder: &Offered, manifest: &[u8], out: &mut Vec<u8>)
     perform(alloc, &command, &mut inputs, &mut Notes::none(alloc), out)
 }
 
-// What `serve` writes on a new state.
-fn served(alloc: Global, folder: &Offered, mut manifest: &[u8], out: &mut Vec<u8>) -> Status {
-    let mut input = folder.other;
-    let mut new_state: &[u8] = &[];
-    let end = serve(
-        alloc,
-        folder,
-        4,
-        &mut manifest,
-        &mut new_state,
-        &mut input,
-        out,
-    );
-    end.status
+// What `serve` writes on a new state, with so many places.
+fn served(
+    alloc: Global,
+    spare: u32,
+    folder: &Offered,
+    manifest: &[u8],
+    out: &mut Vec<u8>,
+) -> Status {
+    let mut inputs = on_texts(folder, manifest, &[], &[], &[]);
+    let mut lines = folder.other;
+    serve(alloc, spare, &mut inputs, &mut lines, out).status
 }
 
 // What a command of one text writes.
@@ -305,13 +289,13 @@ fn plain(alloc: Global, folder: &Offered, command: &str, text: &[u8]) -> Option<
     let status = match command {
         "check" => on_manifest(alloc, folder, &Check, text, &mut out),
         "replay" => replayed(alloc, folder, text, &mut out),
-        "serve" => served(alloc, folder, text, &mut out),
+        "serve" => served(alloc, 4, folder, text, &mut out),
         "assembled" => assembled(alloc, folder, text, &mut out),
         "asm" => on_text(alloc, folder, &Assemble, text, &mut out),
         "dis" => disassembled(alloc, folder, false, text, &mut out),
         "dis:slots" => disassembled(alloc, folder, true, text, &mut out),
         "encode" => on_text(alloc, folder, &Encode, text, &mut out),
-        _ => sized(alloc, folder, command, text, &mut notes, &mut out)?,
+        _ => sized(folder, command, text, &mut notes, &mut out)?,
     };
     Some(Answer {
         status: status.code(),

@@ -43,13 +43,11 @@ pub fn run_on<'a>(
 
 // The same of `serve`, with four places.
 pub fn serve_on(alloc: Global, folder: &Offered, name: &str, manifest: &[u8]) -> Option<Answer> {
-    let mut text = manifest;
-    let mut input = folder.other;
-    let mut state = text_of(folder.files, name).unwrap_or(&[]);
+    let state = text_of(folder.files, name).unwrap_or(&[]);
+    let mut inputs = on_texts(folder, manifest, &[], state, &[]);
+    let mut lines = folder.other;
     let mut out = Vec::new(alloc);
-    let end = serve(
-        alloc, folder, 4, &mut text, &mut state, &mut input, &mut out,
-    );
+    let end = serve(alloc, 4, &mut inputs, &mut lines, &mut out);
     let ServeEnd { status, state } = end;
     if let Some(state) = state {
         out.extend_from_slice(b"left\n").ok()?;

@@ -49,19 +49,15 @@ fn stressed<R: Threads + Wait + Sync>(
 
 // `serve` on the manifest and its script, on a new state.
 fn served(alloc: Global, reads: &Turns, out: &mut Narrow<'_>) -> Status {
-    let mut manifest = Slow::new(MANIFEST, reads);
-    let mut new_state: &[u8] = &[];
-    let mut input = Slow::new(SCRIPT, reads);
-    let end = serve(
-        alloc,
-        &Programs { turns: reads },
-        4,
-        &mut manifest,
-        &mut new_state,
-        &mut input,
-        out,
-    );
-    end.status
+    let mut inputs = Inputs {
+        folder: &Programs { turns: reads },
+        manifest: Some(Slow::new(MANIFEST, reads)),
+        file: None,
+        state: None,
+        history: None,
+    };
+    let mut lines = Slow::new(SCRIPT, reads);
+    serve(alloc, 4, &mut inputs, &mut lines, out).status
 }
 
 // The texts that a command reads, where it reads them.

@@ -1,22 +1,26 @@
-use Rattle.serving.proofs.ServedAll.{served_known, served_some, unread_known, unread_some}
+use Rattle.std.specs.Prelude.{IfOk}
+use Rattle.engine.specs.OpenedState.{IsOpened, OpenedIs}
+use Rattle.engine.specs.Reading.{AnyFailed, read}
+use Rattle.engine.proofs.Known.{given_so}
+use Rattle.serving.specs.ServeAnswer.{service}
+use Rattle.serving.proofs.ServedAll.{before_or_in, failed_so, is_opened, of_some, opened_as}
 use Rattle.serving.proofs.turns.serve.Goals as goal
 
-pub returns-in-Ok-clause-written : goal.returns-in-Ok-clause-written
-returns-in-Ok-clause-written g c =
-    served_known c.args.spare (g.R.Feed.remaining c.args.reader.now) (g.R.Feed.remaining c.serve_loaded.new.reader) (g.W.Sink.contents c.args.writer.now) (g.W.Sink.contents c.serve_loaded.new.writer)
-    c.serve_loaded.result (g.M.Source.remaining c.args.manifest.now) (g.F.Folder.holds c.args.folder.now) (g.L.Source.remaining c.args.state.now) c.in-Ok.inputs c.in-Ok.ensures.known c.serve_loaded.ensures.served
+pub serve_opened-requires : goal.serve_opened-requires
+serve_opened-requires g c = record { opened = is_opened c.args.spare c.prepare-opened.result c.prepare-opened.ensures.some }
 
-pub returns-in-Ok-clause-ended : goal.returns-in-Ok-clause-ended
-returns-in-Ok-clause-ended g c =
-    served_some c.args.spare (g.R.Feed.remaining c.args.reader.now) (g.R.Feed.remaining c.serve_loaded.new.reader) (g.W.Sink.contents c.args.writer.now) (g.W.Sink.contents c.serve_loaded.new.writer)
-    c.serve_loaded.result c.in-Ok.inputs c.in-Ok.ensures.some c.serve_loaded.ensures.served
+pub returns-clause-written : goal.returns-clause-written
+returns-clause-written g c =
+    given_so g.F.Folder.holds g.S.Source.remaining c.args.inputs.now (λ it. IfOk c.prepare-opened.result (λ o. IsOpened o × OpenedIs (service c.args.spare (read it)) o)) _
+    (λ it is. c.serve_opened.ensures.served (service c.args.spare (read it)) (opened_as c.args.spare c.prepare-opened.result (read it) is)) c.prepare-opened.ensures.known
 
-pub returns-in-Err-clause-written : goal.returns-in-Err-clause-written
-returns-in-Err-clause-written g c =
-    unread_known (g.R.Feed.remaining c.args.reader.now) (g.W.Sink.contents c.args.writer.now) (g.W.Sink.contents c.report.new.writer) c.report.result c.without_state.result c.without_state.ensures c.args.spare
-    c.in-Err.fault c.report.ensures.written (g.M.Source.remaining c.args.manifest.now) (g.F.Folder.holds c.args.folder.now) (g.L.Source.remaining c.args.state.now) c.in-Err.ensures.known
+pub returns-clause-failed : goal.returns-clause-failed
+returns-clause-failed g c =
+    failed_so _ _ _ c.serve_opened.result.status
+    (before_or_in c.prepare-opened.result (AnyFailed g.S.Source.has_failed g.F.File.Source.has_failed c.prepare-opened.new.inputs) (g.R.Feed.has_failed c.serve_opened.new.reader)
+    c.prepare-opened.ensures.failed) c.serve_opened.ensures.failed
 
-pub returns-in-Err-clause-ended : goal.returns-in-Err-clause-ended
-returns-in-Err-clause-ended g c =
-    unread_some (g.R.Feed.remaining c.args.reader.now) (g.W.Sink.contents c.args.writer.now) (g.W.Sink.contents c.report.new.writer) c.report.result c.without_state.result c.without_state.ensures c.args.spare
-    c.in-Err.fault c.report.ensures.written
+pub returns-clause-ended : goal.returns-clause-ended
+returns-clause-ended g c =
+    let some = of_some c.args.spare c.prepare-opened.result c.prepare-opened.ensures.some in
+    (some.0, c.serve_opened.ensures.served (service c.args.spare some.0) some.1)
