@@ -1,9 +1,5 @@
 pub mod Appended
-pub mod Found
-pub mod Gathers
-pub mod Reported
 pub mod ProgramLines
-pub mod InputTexts
 pub mod Quiet
 pub mod Known
 pub mod FoundTexts

@@ -2,13 +2,11 @@
 pub mod Files
 pub mod Memory
 pub mod ReadFaults
-pub mod InputFaults
 pub mod Reading
 pub mod Texts
 pub mod Status
 pub mod Answer
 pub mod Sizes
-pub mod Inputs
 pub mod StateAnswer
 pub mod Notes
 pub mod Report
@@ -16,7 +14,5 @@ pub mod Engine
 pub mod Transfer
 -- The steps between reading and writing.
 pub mod Unread
-pub mod Input
 pub mod Loaded
 pub mod OpenedState
-pub mod Gathering

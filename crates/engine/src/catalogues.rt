@@ -2,12 +2,9 @@
 
 ghost use Rattle.std.specs.Prelude.{Err, IfOk, string_bytes};
 ghost use Rattle.loader.specs.Loading.{loaded};
-ghost use Rattle.loader.specs.ProgramFiles.{files_of};
-ghost use Rattle.engine.specs.Input.{owned_files};
 ghost use Rattle.engine.specs.Loaded.{LoadedIs};
 ghost use Rattle.engine.specs.Reading.{named_texts};
 
-use crate::input;
 use crate::reading::{Texts, lent};
 use crate::reporting::Reply;
 use crate::status::Verdict;
@@ -34,29 +31,6 @@ fn refused(alloc: Global, refusal: LoadRefusal) -> Result<Loaded, AllocError>
     }))
 }
 
-// Loads a manifest with these files.
-fn load_lent(alloc: Global, manifest: &str, files: &[(&str, &str)]) -> Result<Loaded, AllocError>
-    ensures { IfOk result (LoadedIs (loaded manifest.now (files_of files.now))) }
-{
-    match load_manifest(alloc, manifest, files) {
-        Ok(catalogue) => Ok(Loaded::Catalogue(catalogue)),
-        Err(LoadError::NoMemory) => Err(AllocError),
-        Err(LoadError::Refused(refusal)) => refused(alloc, refusal),
-    }
-}
-
-// Loads a manifest with its files.
-pub(crate) fn load(
-    alloc: Global,
-    manifest: &str,
-    files: &[(&str, String)],
-) -> Result<Loaded, AllocError>
-    ensures { IfOk result (LoadedIs (loaded manifest.now (owned_files files.now))) }
-{
-    let files = input::lent(alloc, files)?;
-    load_lent(alloc, manifest, &files)
-}
-
 /// Loads the manifest that was read, with its files.
 ///
 /// # Errors
@@ -66,5 +40,9 @@ pub fn load_texts(alloc: Global, texts: &Texts) -> Result<Loaded, AllocError>
     ensures { IfOk result (LoadedIs (loaded (string_bytes texts.now.manifest) (named_texts texts.now.files.items))) }
 {
     let files = lent(alloc, &texts.files)?;
-    load_lent(alloc, texts.manifest.as_str(), &files)
+    match load_manifest(alloc, texts.manifest.as_str(), &files) {
+        Ok(catalogue) => Ok(Loaded::Catalogue(catalogue)),
+        Err(LoadError::NoMemory) => Err(AllocError),
+        Err(LoadError::Refused(refusal)) => refused(alloc, refusal),
+    }
 }
