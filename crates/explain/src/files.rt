@@ -15,7 +15,9 @@ mod strangers;
 
 pub use assembly::explain_assembly;
 pub use graph::graph_manifest;
+use insn::{DecodeError, Insn, decode};
 pub use manifest::explain_manifest;
+use std::alloc::{AllocError, Global};
 pub use strangers::explain_stranger;
 
 // What stands before what to do.
@@ -31,4 +33,13 @@ fn text_of<'a>(files: &[(&'a str, &'a str)], name: &str) -> Option<&'a str>
         }
     }
     None
+}
+
+// The instructions that bytes spell, if they spell some.
+fn decoded(alloc: Global, bytes: &[u8]) -> Result<Option<Vec<Insn>>, AllocError> {
+    match decode(alloc, bytes) {
+        Ok(program) => Ok(Some(program)),
+        Err(DecodeError::NoMemory) => Err(AllocError),
+        Err(DecodeError::Refused(_)) => Ok(None),
+    }
 }

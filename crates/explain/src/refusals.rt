@@ -12,32 +12,45 @@ mod unreadable;
 
 use crate::programs::{Lack, Study, Way, way_to};
 use crate::refusals::calls::{unknown, wrong_argument};
-use crate::refusals::memory::{
-    argument_written, gap_at, maybe_null, outside, read_mode, stored_pointer, unwritten,
-};
-use crate::refusals::operations::{moved_out, pointer_reply, stack_end_written, undefined};
+use crate::refusals::memory::{base_at, gap_at, maybe_null, outside, stored_pointer, unwritten};
+use crate::refusals::operations::{moved_out, pointer_reply, undefined};
 use crate::refusals::structural::broken_structure;
 use crate::refusals::unreadable::{unreadable, unreadable_at};
-use crate::sentences::{Told, Word, Written, one, put_all, say};
+use crate::sentences::{Told, Word, Written, put_all, say};
 use itoa::Buffer;
+use regkind::Kind;
 use std::alloc::AllocError;
 use verifier::{Refused, VerifyFault};
 
 // What stands before what to do.
 const TO_DO: &str = "\n      To do: ";
 
+// What is told where R10 is written.
+const STACK_END_WRITTEN: &str =
+    "r10 is the stack's end, and can't be changed.|Move a copy: `mov64 r2, r10`, then `add64 r2, -8`.";
+
+// Where the argument is written.
+const ARGUMENT_WRITTEN: &str =
+    "{0} points into the argument, which is read-only.|Copy it to the stack (`ldxdw`, `stxdw`) and change it there.";
+
+// Where a program that only reads changes a map; its line says so.
+const WRITE_IN_READ_MODE: &str =
+    "Line {0} of the manifest says `read`, and this instruction changes a map.|Write `update` there, or take the change out.";
+
+// The map of which a register has something, in words.
+fn map_in(kind: Kind) -> Word<'static> {
+    match kind {
+        Kind::Map(map) | Kind::Value(map, _) | Kind::ValueOrNull(map) => Word::Small(map),
+        _ => Word::Nothing,
+    }
+}
+
 // What a way to a refusal lacks.
 fn lack_at(study: &Study<'_>, refused: Refused) -> Lack {
     let slot = refused.slot as usize;
-    match refused.why {
-        VerifyFault::UnreadableRegister => match unreadable_at(study, slot) {
-            Some(register) => Lack::Register(register),
-            None => Lack::Nothing,
-        },
-        VerifyFault::UninitialisedStack => match gap_at(study, slot) {
-            Some(gap) => gap.lack(),
-            None => Lack::Nothing,
-        },
+    match (refused.why, unreadable_at(study, slot), gap_at(study, slot)) {
+        (VerifyFault::UnreadableRegister, Some(register), _) => Lack::Register(register),
+        (VerifyFault::UninitialisedStack, _, Some(gap)) => Lack::Byte(gap.first),
         _ => Lack::Nothing,
     }
 }
@@ -46,24 +59,27 @@ fn lack_at(study: &Study<'_>, refused: Refused) -> Lack {
 fn broken_kinds(study: &Study<'_>, way: &Way, why: VerifyFault) -> Told<'static> {
     let told = match why {
         VerifyFault::UnreadableRegister => unreadable(study, way),
-        VerifyFault::FramePointerWritten => Some(stack_end_written()),
+        VerifyFault::FramePointerWritten => Some(say(STACK_END_WRITTEN, &[])),
         VerifyFault::UndefinedOperation => undefined(study, way),
         VerifyFault::OffsetOutOfRange => moved_out(study, way.end),
         VerifyFault::OutOfRegion => outside(study, way.end),
         VerifyFault::UninitialisedStack => unwritten(study, way),
-        VerifyFault::ArgumentWritten => Some(argument_written(study, way.end)),
+        VerifyFault::ArgumentWritten => Some(say(
+            ARGUMENT_WRITTEN,
+            &[Word::Register(base_at(study, way.end))],
+        )),
         VerifyFault::PointerStored => stored_pointer(study, way.end),
         VerifyFault::UncheckedNull => Some(maybe_null(study, way)),
         VerifyFault::HelperArgument => Some(wrong_argument(study, way)),
         VerifyFault::UnknownHelperOrMap => unknown(study, way.end),
         VerifyFault::PointerReply => Some(pointer_reply(study, way.end)),
-        VerifyFault::WriteInReadMode => Some(read_mode(study.subject.line)),
+        VerifyFault::WriteInReadMode => Some(say(
+            WRITE_IN_READ_MODE,
+            &[Word::Field(u64::from(study.subject.line))],
+        )),
         _ => None,
     };
-    match told {
-        Some(told) => told,
-        None => say("{0}.", "REFUSALS has more of it.", one(Word::Fault(why))),
-    }
+    told.unwrap_or(say("{0}.|REFUSALS has more of it.", &[Word::Fault(why)]))
 }
 
 // Adds under which number it is refused, and where.

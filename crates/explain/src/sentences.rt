@@ -6,7 +6,7 @@ mod words;
 
 pub(crate) use pieces::put_all;
 use std::alloc::AllocError;
-pub(crate) use told::{Told, four, none, one, put, say, say_that, three, two};
+pub(crate) use told::{Told, put, say, say_both};
 pub(crate) use words::Word;
 
 // That something was added to a text, or no memory is left.

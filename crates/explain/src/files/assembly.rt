@@ -8,11 +8,17 @@ ghost use Rattle.explain.specs.Assembly.{fault_text, IsToldOfText};
 
 use crate::files::operand_kinds::{OperandKind, kinds_of};
 use crate::files::probes::{fault_of, is_word};
-use crate::sentences::{Told, Word, Written, none, one, put, put_all, say_that};
+use crate::sentences::{Told, Word, Written, put, put_all, say};
 use asm::{AsmError, AsmFault, AsmRefusal, assemble};
 use itoa::Buffer;
 use std::alloc::{AllocError, Global};
 use text::NumberedLines;
+
+// What is wanted where a jump leads to no label of the text.
+const NO_LABEL: &str = "a label that stands in the text, with a colon, on a line of its own";
+
+// The same where it leads too far.
+const TOO_FAR: &str = "a slot that is nearer: 32768 slots back to 32767 on (`ja32` goes farther)";
 
 // A part of a line: from a byte up to another one.
 #[derive(Clone, Copy)]
@@ -27,14 +33,9 @@ struct Parts<'a> {
     // The line without its comment.
     code: &'a str,
     word: Span,
+    // What the operands behind this word are.
+    kinds: &'static [OperandKind],
     operands: Vec<Span>,
-}
-
-// What is wanted at a place of a line.
-#[derive(Clone, Copy)]
-struct Wanted<'a> {
-    at: usize,
-    what: Told<'a>,
 }
 
 fn is_blank(byte: u8) -> bool {
@@ -66,25 +67,21 @@ fn token(code: &str, from: usize) -> Span {
     Span { begin, end }
 }
 
-// The byte at a place.
-fn byte_at(code: &str, at: usize) -> Option<u8> {
-    code.as_bytes().get(at).copied()
-}
-
 impl<'a> Parts<'a> {
-    // Those of a line, with so many operands at most.
-    fn of(alloc: Global, line: &'a str, count: usize) -> Result<Parts<'a>, AllocError> {
+    // Those of a line, with at most as many operands as its word has.
+    fn of(alloc: Global, line: &'a str) -> Result<Parts<'a>, AllocError> {
         let code = match line.split_once(';') {
             Some((code, _)) => code,
             None => line,
         };
         let word = token(code, 0);
+        let kinds = kinds_of(code.get(word.begin..word.end).unwrap_or(""));
         let mut operands = Vec::new(alloc);
         let mut at = word.end;
-        for k in 0..count {
+        for k in 0..kinds.len() {
             if k > 0 {
                 let comma = visible(code, at);
-                if byte_at(code, comma) != Some(b',') {
+                if code.as_bytes().get(comma) != Some(&b',') {
                     break;
                 }
                 at = comma.saturating_add(1);
@@ -96,6 +93,7 @@ impl<'a> Parts<'a> {
         Ok(Parts {
             code,
             word,
+            kinds,
             operands,
         })
     }
@@ -105,122 +103,89 @@ impl<'a> Parts<'a> {
         self.code.get(span.begin..span.end).unwrap_or("")
     }
 
-    // Where the last part ends, without the white space behind it.
-    fn end(&self) -> usize {
-        match self.operands.last() {
-            Some(operand) => operand.end,
-            None => self.word.end,
-        }
+    // The last part.
+    fn last(&self) -> Span {
+        self.operands.last().copied().unwrap_or(self.word)
     }
 }
 
-// What is wanted at a place, in a text with no gap.
-fn plain_at<'a>(at: usize, text: &'a str) -> Wanted<'a> {
-    let what = say_that(text, none());
-    Wanted { at, what }
-}
-
 // What is wanted in place of a word.
-fn wanted_word(alloc: Global, word: &str) -> Result<Told<'_>, AllocError> {
+fn wanted_word(alloc: Global, word: &str) -> Result<&'static str, AllocError> {
     let wide = format!(in alloc; "{word}64")?;
     if is_word(alloc, wide.as_str())? {
-        return Ok(say_that(
-            "a word with a width: `{0}64`, or `{0}32` for the lower half",
-            one(Word::Text(word)),
-        ));
+        return Ok("a word with a width: `{0}64`, or `{0}32` for the lower half");
     }
     let mut lower = String::new(alloc);
     for byte in word.as_bytes() {
         lower.push(char::from(byte.to_ascii_lowercase()))?;
     }
-    let what = if is_word(alloc, lower.as_str())? {
+    Ok(if is_word(alloc, lower.as_str())? {
         "the word in lower case"
     } else {
         "the word of an instruction (docs/LANGUAGE.md has them), or a label and a colon; `;` begins a comment"
-    };
-    Ok(say_that(what, none()))
+    })
 }
 
-// The operand that is wrong in this way, and what is wanted there.
-fn wanted_operand<'a>(
+// The place of the operand that is wrong in this way, and what is wanted there.
+fn wanted_operand(
     alloc: Global,
-    parts: &Parts<'a>,
-    kinds: &[OperandKind],
+    parts: &Parts<'_>,
     why: AsmFault,
-) -> Result<Wanted<'a>, AllocError> {
+) -> Result<(usize, &'static str), AllocError> {
     let word = parts.text(parts.word);
-    for (k, span) in parts.operands.iter().enumerate() {
-        if let Some(kind) = kinds.get(k) {
-            if fault_of(alloc, word, kinds, k, parts.text(*span))? == Some(why) {
-                return Ok(plain_at(span.begin, kind.wanted(word, why)));
-            }
+    for (k, (kind, span)) in parts.kinds.iter().zip(&parts.operands).enumerate() {
+        if fault_of(alloc, word, parts.kinds, k, parts.text(*span))? == Some(why) {
+            return Ok((span.begin, kind.wanted(word, why)));
         }
     }
-    let what = match kinds.get(parts.operands.len()) {
+    let what = match parts.kinds.get(parts.operands.len()) {
         Some(kind) if parts.operands.is_empty() => kind.wanted(word, why),
         _ => "a comma, and one more operand",
     };
-    Ok(plain_at(parts.end(), what))
+    Ok((parts.last().end, what))
 }
 
-// The place of what a jump leads to.
-fn target_at(parts: &Parts<'_>) -> usize {
-    match parts.operands.last() {
+// Where the end of an instruction or a label is wanted.
+fn wanted_end(parts: &Parts<'_>) -> (usize, &'static str) {
+    match parts.text(parts.word).split_once(':') {
+        Some((label, _)) => {
+            let at = parts
+                .word
+                .begin
+                .saturating_add(label.len())
+                .saturating_add(1);
+            let what = "the end of the line: an instruction stands on a line behind its label";
+            (visible(parts.code, at), what)
+        }
+        None => {
+            let what = "the end of the line: one instruction stands there; `;` begins a comment";
+            (visible(parts.code, parts.last().end), what)
+        }
+    }
+}
+
+// What is wanted in a line that is wrong in this way, and where.
+fn wanted_in(alloc: Global, line: &str, why: AsmFault) -> Result<(usize, Told<'_>), AllocError> {
+    let parts = Parts::of(alloc, line)?;
+    let word = parts.text(parts.word);
+    let begin = parts.word.begin;
+    let target = match parts.operands.last() {
         Some(operand) => operand.begin,
-        None => parts.end(),
-    }
-}
-
-// The place behind the colon of a label.
-fn behind_label(parts: &Parts<'_>) -> usize {
-    let mut at = parts.word.begin;
-    for byte in parts.code.as_bytes().iter().skip(at) {
-        at = at.saturating_add(1);
-        if *byte == b':' {
-            break;
-        }
-    }
-    at
-}
-
-// What is wanted behind the end of an instruction or a label: nothing.
-fn wanted_end<'a>(parts: &Parts<'a>) -> Wanted<'a> {
-    let is_label = parts.text(parts.word).split_once(':').is_some();
-    let (at, what) = if is_label {
-        let what = "the end of the line: an instruction stands on a line behind its label";
-        (behind_label(parts), what)
-    } else {
-        let what = "the end of the line: one instruction stands there; `;` begins a comment";
-        (parts.end(), what)
+        None => parts.word.end,
     };
-    plain_at(visible(parts.code, at), what)
-}
-
-// What is wanted in a line that is wrong in this way.
-fn wanted_in<'a>(alloc: Global, line: &'a str, why: AsmFault) -> Result<Wanted<'a>, AllocError> {
-    let first = Parts::of(alloc, line, 0)?;
-    let word = first.text(first.word);
-    let kinds = kinds_of(word);
-    let parts = Parts::of(alloc, line, kinds.len())?;
-    let at = parts.word.begin;
-    Ok(match why {
-        AsmFault::UnknownWord => {
-            let what = wanted_word(alloc, word)?;
-            Wanted { at, what }
-        }
-        AsmFault::BadOperand | AsmFault::OutOfRange => wanted_operand(alloc, &parts, kinds, why)?,
-        AsmFault::UnknownLabel => plain_at(
-            target_at(&parts),
-            "a label that stands in the text, with a colon, on a line of its own",
+    let (at, text) = match why {
+        AsmFault::UnknownWord => (begin, wanted_word(alloc, word)?),
+        AsmFault::BadOperand | AsmFault::OutOfRange => wanted_operand(alloc, &parts, why)?,
+        AsmFault::UnknownLabel => (target, NO_LABEL),
+        AsmFault::LabelTwice => (begin, "another name: a line above has this label too"),
+        AsmFault::JumpTooFar => (target, TOO_FAR),
+        AsmFault::TooLong => (
+            begin,
+            "the end of the text: a program has at most 4096 slots",
         ),
-        AsmFault::LabelTwice => plain_at(at, "another name: a line above has this label too"),
-        AsmFault::JumpTooFar => plain_at(
-            target_at(&parts),
-            "a slot that is nearer: 32768 slots back to 32767 on (`ja32` goes farther)",
-        ),
-        AsmFault::TooLong => plain_at(at, "the end of the text: a program has at most 4096 slots"),
         AsmFault::TextBehind => wanted_end(&parts),
-    })
+    };
+    Ok((at, say(text, &[Word::Text(word)])))
 }
 
 // Adds white space up to a place of a line, so that what follows stands below it.
@@ -249,7 +214,7 @@ fn line_at(text: &str, wanted: u32) -> &str {
 // What is wanted in a refused text: the column, what is wanted there, the line, and a mark below the column.
 fn wanted_text(alloc: Global, text: &str, refusal: AsmRefusal) -> Result<String, AllocError> {
     let line = line_at(text, refusal.line);
-    let Wanted { at, what } = wanted_in(alloc, line, refusal.why)?;
+    let (at, what) = wanted_in(alloc, line, refusal.why)?;
     let mut out = String::new(alloc);
     let column = Word::Count(at.saturating_add(1));
     put(&mut out, " column {0}: wanted ", &[column])?;

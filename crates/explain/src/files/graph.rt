@@ -1,15 +1,22 @@
 // Programs as graphs, in the language of Graphviz: a node for each piece of a program that is run from its first instruction to its last, and an edge
 // for each way on. What is quoted are names of programs and words of the assembler, in which no sign asks for a backslash.
 
-use crate::files::text_of;
-use crate::programs::successor;
-use crate::sentences::{Word, Written, put};
+use crate::files::{decoded, text_of};
+use crate::programs::{jump_target, successor};
+use crate::sentences::Word::{Count, Field, Number, Text};
+use crate::sentences::{Written, put};
 use asm::disassemble;
-use insn::{DecodeError, Edge, Form, Insn, decode};
+use insn::{Edge, Form, Insn};
 use loader::{Line, ProgramLine, read_line};
 use std::alloc::{AllocError, Global};
 use std::fmt::Write;
 use text::{NumberedLines, spaced_hex};
+
+// A node where the program has no instruction.
+const MISSING: &str = "    \"{0}.{2}\" [shape=plaintext, label=\"no instruction at slot {2}\"];\n";
+
+// An edge of a jump.
+const JUMP: &str = "    \"{0}.{1}\" -> \"{0}.{2}\" [label=\"jump\"];\n";
 
 // What is drawn at a slot.
 #[derive(Clone, Copy)]
@@ -20,51 +27,31 @@ struct Spot {
     form: Option<Form>,
 }
 
-// A slot as a number that may be below 0, too.
-fn number_of(slot: usize) -> i64 {
-    i64::try_from(slot).unwrap_or(i64::MAX)
-}
-
-// The slot to which an instruction leads by an edge, which the program may not have.
-fn target(form: Form, slot: usize, edge: Edge) -> Option<i64> {
-    match (successor(form, slot, edge), edge) {
-        (Some(to), _) => Some(number_of(to)),
-        (None, Edge::Fall) => None,
-        (None, Edge::Jump) => {
-            let next = number_of(slot).saturating_add(1);
-            Some(next.saturating_add(i64::from(form.displacement()?)))
-        }
-    }
-}
-
-// Notes that nodes begin where jumps lead.
-fn mark(spots: &mut [Spot], program: &[Insn]) {
-    let mut slot = 0usize;
-    for insn in program {
-        if let Some(to) = successor(insn.form(), slot, Edge::Jump) {
-            if let Some(spot) = spots.get_mut(to) {
-                spot.leads = true;
-            }
-        }
-        slot = slot.saturating_add(insn.slot_count());
-    }
-}
-
 // The slots of a program. A node begins at slot 0, where a jump leads, and behind a jump and an exit.
 fn spots_of(alloc: Global, program: &[Insn]) -> Result<Vec<Spot>, AllocError> {
     let mut spots = Vec::new(alloc);
     let mut leads = true;
     for insn in program {
-        let form = Some(insn.form());
-        spots.push(Spot { leads, form })?;
-        if insn.slot_count() == 2 {
-            let (leads, form) = (false, None);
-            spots.push(Spot { leads, form })?;
-        }
         let form = insn.form();
+        spots.push(Spot {
+            leads,
+            form: Some(form),
+        })?;
+        if insn.slot_count() == 2 {
+            spots.push(Spot {
+                leads: false,
+                form: None,
+            })?;
+        }
         leads = form.displacement().is_some() || !form.falls_through();
     }
-    mark(&mut spots, program);
+    for slot in 0..spots.len() {
+        let form = spots.get(slot).and_then(|spot| spot.form);
+        let to = form.and_then(|form| successor(form, slot, Edge::Jump));
+        if let Some(spot) = to.and_then(|to| spots.get_mut(to)) {
+            spot.leads = true;
+        }
+    }
     Ok(spots)
 }
 
@@ -76,43 +63,27 @@ struct Drawing<'a> {
 }
 
 impl Drawing<'_> {
-    // What begins at a slot, if the program has it.
-    fn spot_at(&self, slot: i64) -> Option<&Spot> {
-        match usize::try_from(slot) {
-            Ok(slot) => self.spots.get(slot),
-            Err(_) => None,
-        }
-    }
-
     // Adds a text in whose gaps stand the name, the slot of a node, and that to which an edge leads.
     fn put(&self, out: &mut String, text: &str, node: usize, to: i64) -> Written {
-        put(
-            out,
-            text,
-            &[Word::Text(self.name), Word::Count(node), Word::Number(to)],
-        )
+        put(out, text, &[Text(self.name), Count(node), Number(to)])
     }
 
     // Adds an edge from a node, unless it leads to the next instruction of the same node, and a node where none begins.
-    fn put_edge(&self, out: &mut String, node: usize, to: i64, edge: Edge) -> Written {
-        match self.spot_at(to) {
+    fn put_edge(&self, out: &mut String, node: usize, to: i64, text: &str) -> Written {
+        let spot = usize::try_from(to).ok().and_then(|to| self.spots.get(to));
+        match spot {
             Some(
                 Spot {
-                    leads: false,
+                    leads,
                     form: Some(_),
                 },
-            ) => return Ok(()),
-            Some(Spot { form: Some(_), .. }) => {}
-            _ => {
-                let missing =
-                    "    \"{0}.{2}\" [shape=plaintext, label=\"no instruction at slot {2}\"];\n";
-                self.put(out, missing, node, to)?;
+            ) => {
+                if !*leads {
+                    return Ok(());
+                }
             }
+            _ => self.put(out, MISSING, node, to)?,
         }
-        let text = match edge {
-            Edge::Jump => "    \"{0}.{1}\" -> \"{0}.{2}\" [label=\"jump\"];\n",
-            Edge::Fall => "    \"{0}.{1}\" -> \"{0}.{2}\";\n",
-        };
         self.put(out, text, node, to)
     }
 
@@ -140,10 +111,16 @@ impl Drawing<'_> {
                 if spot.leads {
                     node = slot;
                 }
-                for edge in [Edge::Fall, Edge::Jump] {
-                    if let Some(to) = target(form, slot, edge) {
-                        self.put_edge(out, node, to, edge)?;
-                    }
+                if let Some(to) = successor(form, slot, Edge::Fall) {
+                    self.put_edge(
+                        out,
+                        node,
+                        i64::try_from(to).unwrap_or(i64::MAX),
+                        "    \"{0}.{1}\" -> \"{0}.{2}\";\n",
+                    )?;
+                }
+                if let Some(to) = jump_target(form, slot) {
+                    self.put_edge(out, node, to, JUMP)?;
                 }
             }
         }
@@ -158,29 +135,10 @@ fn put_program(out: &mut String, name: &str, program: &[Insn]) -> Written {
     let drawing = Drawing { name, spots };
     let words = disassemble(alloc, program)?;
     let head = "  subgraph \"cluster_{0}\" {1}\n    label=\"{0}\";\n";
-    put(out, head, &[Word::Text(name), Word::Text("{")])?;
+    put(out, head, &[Text(name), Text("{")])?;
     drawing.put_nodes(out, words.as_str())?;
     drawing.put_edges(out)?;
     out.push_str("  }\n")
-}
-
-// The instructions of the program of a line, if it has some.
-fn program_of(
-    alloc: Global,
-    line: ProgramLine<'_>,
-    files: &[(&str, &str)],
-) -> Result<Option<Vec<Insn>>, AllocError> {
-    let Some(text) = text_of(files, line.file) else {
-        return Ok(None);
-    };
-    let Some(bytes) = spaced_hex(alloc, text)? else {
-        return Ok(None);
-    };
-    match decode(alloc, &bytes) {
-        Ok(program) => Ok(Some(program)),
-        Err(DecodeError::NoMemory) => Err(AllocError),
-        Err(DecodeError::Refused(_)) => Ok(None),
-    }
 }
 
 // Adds the graph of the program of a line, or a remark that it has none.
@@ -190,17 +148,20 @@ fn put_line(
     line: ProgramLine<'_>,
     files: &[(&str, &str)],
 ) -> Written {
-    match program_of(*out.allocator(), line, files)? {
-        Some(program) => put_program(out, line.name, &program),
-        None => {
-            let words = [Word::Field(u64::from(number)), Word::Text(line.name)];
-            put(
-                out,
-                "  // line {0}: {1} has no instructions to draw\n",
-                &words,
-            )
+    let alloc = *out.allocator();
+    if let Some(text) = text_of(files, line.file) {
+        if let Some(bytes) = spaced_hex(alloc, text)? {
+            if let Some(program) = decoded(alloc, &bytes)? {
+                return put_program(out, line.name, &program);
+            }
         }
     }
+    let words = [Field(u64::from(number)), Text(line.name)];
+    put(
+        out,
+        "  // line {0}: {1} has no instructions to draw\n",
+        &words,
+    )
 }
 
 /// The programs of a manifest with these files as a graph in the language of Graphviz, each in a cluster of its own; where a name is given,

@@ -25,7 +25,7 @@ use crate::files::lines::{too_many, wrong_line};
 use crate::files::program_files::bad_hex;
 use crate::files::{TO_DO, text_of};
 use crate::programs::{Subject, explain_program};
-use crate::sentences::{Told, Word, Written, none, one, put_all, say, say_that, two};
+use crate::sentences::{Told, Word, Written, put_all, say};
 use insn::{DecodeError, Insn, decode};
 use itoa::Buffer;
 use loader::{Line, ProgramLine, read_line};
@@ -35,6 +35,14 @@ use text::{NumberedLines, spaced_hex};
 
 // How many programs a manifest has at most.
 const MAX_PROGRAMS: usize = 256;
+
+// What is told where a program's file isn't there.
+const NO_FILE: &str =
+    "There is no file {0}.|check the path, which is taken from the working folder.";
+
+// Where no line is that of a map.
+const NO_MAP: &str =
+    "The manifest has no map.|begin it with a line `map array VALUE ENTRIES` or `map hash KEY VALUE ENTRIES`.";
 
 // What is known of the lines of a manifest so far.
 #[derive(Drop)]
@@ -131,12 +139,9 @@ impl<'a> Explanation<'a> {
         match self.names.first() {
             None => self.push_map(shape),
             Some((name, line)) => {
-                let told = say(
-                    "A map stands behind program {0} of line {1}.",
-                    "put the maps first.",
-                    two(Word::Text(*name), Word::Field(u64::from(*line))),
-                );
-                Ok(Some((1, told)))
+                let what = "A map stands behind program {0} of line {1}.|put the maps first.";
+                let words = [Word::Text(*name), Word::Field(u64::from(*line))];
+                Ok(Some((1, say(what, &words))))
             }
         }
     }
@@ -160,18 +165,13 @@ impl<'a> Explanation<'a> {
     {
         if !self.has_map() {
             return Some(say(
-                "The program stands before any map.",
-                "put a map before it.",
-                none(),
+                "The program stands before any map.|put a map before it.",
+                &[],
             ));
         }
         let line = Word::Field(u64::from(self.line_of(name)?));
-        let what = "Line {0} has the name {1} too.";
-        Some(say(
-            what,
-            "give one of them another.",
-            two(line, Word::Text(name)),
-        ))
+        let what = "Line {0} has the name {1} too.|give one of them another.";
+        Some(say(what, &[line, Word::Text(name)]))
     }
 
     // Adds that a program may not stand there, or has the name of another, if so it is.
@@ -191,7 +191,7 @@ impl<'a> Explanation<'a> {
         if self.names.len() < MAX_PROGRAMS {
             return Ok(());
         }
-        let told = say_that("A manifest has at most 256 programs.", none());
+        let told = say("A manifest has at most 256 programs.", &[]);
         put_fault(out, self.line, 5, told)
     }
 
@@ -289,8 +289,7 @@ impl<'a> Explanation<'a> {
         match text_of(self.files, line.file) {
             Some(text) => self.put_text(out, line, text),
             None => {
-                let fix = "check the path, which is taken from the working folder.";
-                let told = say("There is no file {0}.", fix, one(Word::Text(line.file)));
+                let told = say(NO_FILE, &[Word::Text(line.file)]);
                 put_fault(out, self.line, 1, told)
             }
         }
@@ -384,8 +383,7 @@ impl<'a> Explanation<'a> {
         if self.name.is_some() || self.has_map() {
             return Ok(());
         }
-        let fix = "begin it with a line `map array VALUE ENTRIES` or `map hash KEY VALUE ENTRIES`.";
-        put_fault(out, number, 1, say("The manifest has no map.", fix, none()))
+        put_fault(out, number, 1, say(NO_MAP, &[]))
     }
 }
 

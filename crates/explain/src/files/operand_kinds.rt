@@ -31,17 +31,12 @@ pub(crate) fn kinds_of(word: &str) -> &'static [OperandKind] {
         _ if word.starts_with("ldx") => &[Register, Address],
         _ if word.starts_with("stx") => &[Address, Register],
         _ if word.starts_with("st") => &[Address, Number],
-        _ if is_of_one(word) => &[Register],
+        _
+            if ["neg", "swap", "le", "be"]
+                .iter()
+                .any(|of_one| word.starts_with(*of_one)) => &[Register],
         _ => &[Register, Source],
     }
-}
-
-// Whether an instruction changes one register, and reads nothing else.
-fn is_of_one(word: &str) -> bool {
-    word.starts_with("neg")
-        || word.starts_with("swap")
-        || word.starts_with("le")
-        || word.starts_with("be")
 }
 
 impl OperandKind {
@@ -63,16 +58,13 @@ impl OperandKind {
             (Bits, _) if word == "movsx32" => "a number of bits: 8 or 16",
             (Bits, _) => "a number of bits: 8, 16 or 32",
             (Long, AsmFault::OutOfRange) => "a number from -2^63 to 2^64 - 1",
-            (_, AsmFault::OutOfRange) => {
-                "a number from -2147483648 to 2147483647 (`lddw` takes 64 bits)"
-            }
+            (_, AsmFault::OutOfRange) =>
+                "a number from -2147483648 to 2147483647 (`lddw` takes 64 bits)",
             (Register, _) => "a register: `r0` to `r10`",
-            (Source, _) => {
-                "a register, `r0` to `r10`, or a number: decimal digits, or `0x` and hexadecimal ones, with `-` before them where it is negative"
-            }
-            (Number | Long, _) => {
-                "a number: decimal digits, or `0x` and hexadecimal ones, with `-` before them where it is negative"
-            }
+            (Source, _) =>
+                "a register, `r0` to `r10`, or a number: decimal digits, or `0x` and hexadecimal ones, with `-` before them where it is negative",
+            (Number | Long, _) =>
+                "a number: decimal digits, or `0x` and hexadecimal ones, with `-` before them where it is negative",
             (Address, _) => "an address: `[rN+off]` or `[rN-off]`, also where off is 0",
             (Target, _) => "a label, or `+n` or `-n`: so many slots from the next instruction",
         }

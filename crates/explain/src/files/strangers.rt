@@ -1,38 +1,20 @@
 // What a file is that isn't UTF-8.
 
-use crate::files::TO_DO;
-use crate::sentences::{Told, Word, none, one, put, say, three};
-use insn::{DecodeError, decode};
+use crate::files::{TO_DO, decoded};
+use crate::sentences::Word::{Count, Hex, Text};
+use crate::sentences::{Told, put, say};
 use std::alloc::{AllocError, Global};
 use std::str;
 
 // What an object file (ELF) begins with.
 pub(crate) const ELF: &[u8] = b"\x7fELF";
 
-// What is to be done about an object file.
-pub(crate) fn object_file() -> Told<'static> {
-    say(
-        "The file is an object file (ELF).",
-        "take the bytes of the program's section out (`llvm-objcopy -O binary -j .text`), and write them as hexadecimal digits (`xxd -p`); c/c2hex does both.",
-        none(),
-    )
-}
+// What is told of one.
+pub(crate) const OBJECT_FILE: &str =
+    "The file is an object file (ELF).|take the bytes of the program's section out (`llvm-objcopy -O binary -j .text`), and write them as hexadecimal digits (`xxd -p`); c/c2hex does both.";
 
-// How many instructions bytes begin with; `None` where they begin with none.
-fn begins(alloc: Global, bytes: &[u8]) -> Result<Option<usize>, AllocError> {
-    match decode(alloc, bytes) {
-        Ok(program) => Ok(Some(program.len())),
-        Err(DecodeError::NoMemory) => Err(AllocError),
-        Err(DecodeError::Refused(_)) => Ok(None),
-    }
-}
-
-// The first byte that is none of UTF-8, with its line and its column.
-fn first_bad(bytes: &[u8]) -> Told<'static> {
-    let at = match str::from_utf8(bytes) {
-        Ok(_) => bytes.len(),
-        Err(error) => error.valid_up_to(),
-    };
+// The line and the column of a byte.
+pub(crate) fn place_of(bytes: &[u8], at: usize) -> (usize, usize) {
     let (mut line, mut column) = (1usize, 1usize);
     for byte in bytes.iter().take(at) {
         if *byte == b'\n' {
@@ -42,34 +24,33 @@ fn first_bad(bytes: &[u8]) -> Told<'static> {
             column = column.saturating_add(1);
         }
     }
-    let byte = Word::Hex(bytes.get(at).copied().unwrap_or(0));
-    say(
-        "Line {0} of the file has the byte {1} in column {2}, which is none of UTF-8.",
-        "write plain ASCII.",
-        three(Word::Count(line), byte, Word::Count(column)),
-    )
+    (line, column)
 }
 
 // What bytes are that are no text.
 fn stranger(alloc: Global, bytes: &[u8]) -> Result<Told<'static>, AllocError> {
-    if bytes.starts_with(ELF) {
-        return Ok(object_file());
-    }
-    if bytes.starts_with(b"\xff\xfe") || bytes.starts_with(b"\xfe\xff") {
-        return Ok(say(
-            "The file is text of two bytes a character (UTF-16).",
-            "save it as UTF-8, or as ASCII.",
-            none(),
-        ));
-    }
-    match begins(alloc, bytes)? {
-        Some(count) => Ok(say(
-            "The file has the bytes of a program of {0} instructions.",
-            "write them as hexadecimal digits (`xxd -p FILE`).",
-            one(Word::Count(count)),
-        )),
-        None => Ok(first_bad(bytes)),
-    }
+    let instructions = match decoded(alloc, bytes)? {
+        Some(program) => Some(program.len()),
+        None => None,
+    };
+    let what = match instructions {
+        _ if bytes.starts_with(ELF) => OBJECT_FILE,
+        _ if bytes.starts_with(b"\xff\xfe") || bytes.starts_with(b"\xfe\xff") =>
+            "The file is text of two bytes a character (UTF-16).|save it as UTF-8, or as ASCII.",
+        Some(_) =>
+            "The file has the bytes of a program of {0} instructions.|write them as hexadecimal digits (`xxd -p FILE`).",
+        None =>
+            "Line {1} of the file has the byte {3} in column {2}, which is none of UTF-8.|write plain ASCII.",
+    };
+    // The first byte that is none of UTF-8.
+    let at = match str::from_utf8(bytes) {
+        Ok(_) => bytes.len(),
+        Err(error) => error.valid_up_to(),
+    };
+    let (line, column) = place_of(bytes, at);
+    let byte = bytes.get(at).copied().unwrap_or(0);
+    let count = Count(instructions.unwrap_or(0));
+    Ok(say(what, &[count, Count(line), Count(column), Hex(byte)]))
 }
 
 /// What a file is that isn't UTF-8, and what to do about it: a part of an explanation. The name is that of the file, or of what it is.
@@ -80,7 +61,7 @@ fn stranger(alloc: Global, bytes: &[u8]) -> Result<Told<'static>, AllocError> {
 pub fn explain_stranger(alloc: Global, name: &str, bytes: &[u8]) -> Result<String, AllocError> {
     let told = stranger(alloc, bytes)?;
     let mut out = String::new(alloc);
-    put(&mut out, "\n{0}: not UTF-8\n      ", &[Word::Text(name)])?;
+    put(&mut out, "\n{0}: not UTF-8\n      ", &[Text(name)])?;
     told.put(&mut out, TO_DO)?;
     Ok(out)
 }

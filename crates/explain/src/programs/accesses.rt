@@ -34,9 +34,10 @@ struct Reach {
     bytes: usize,
 }
 
-// The first place of a region, and the one behind its last.
+// A region by its name, its first place, and the one behind its last.
 #[derive(Clone, Copy)]
 pub(crate) struct Region {
+    pub name: &'static str,
     pub low: i64,
     pub high: i64,
 }
@@ -66,13 +67,13 @@ fn count(bytes: usize) -> i64 {
 
 // The region into which a pointer points, if it is one.
 pub(crate) fn region_of(study: &Study<'_>, kind: Kind) -> Option<Region> {
-    let (low, high) = match kind {
-        Kind::Stack(_) => (-512, 0),
-        Kind::Arg(_) => (0, count(study.subject.arg_len)),
-        Kind::Value(map, _) => (0, count(sizes(study, map).1)),
+    let (name, low, high) = match kind {
+        Kind::Stack(_) => ("stack", -512, 0),
+        Kind::Arg(_) => ("argument", 0, count(study.subject.arg_len)),
+        Kind::Value(map, _) => ("value", 0, count(sizes(study, map).1)),
         _ => return None,
     };
-    Some(Region { low, high })
+    Some(Region { name, low, high })
 }
 
 // What an access wants.

@@ -41,27 +41,17 @@ pub(crate) struct Change<'a> {
 }
 
 impl Change<'_> {
-    // Whether a byte of the stack is written, or isn't any more, and wasn't so before.
-    fn is_told(&self, written: bool, byte: usize) -> bool {
-        let (old, new) = (byte_in(self.before, byte), byte_in(Some(self.frame), byte));
-        if written {
-            new == Byte::Number && old != Byte::Number
-        } else {
-            new == Byte::Unwritten && old != Byte::Unwritten
-        }
-    }
-
-    // Adds the bytes of the stack that became written or unwritten, those in a row together.
-    fn put_bytes(&self, out: &mut String, written: bool) -> Written {
+    // Adds the bytes of the stack that became so, those in a row together.
+    fn put_bytes(&self, out: &mut String, text: &str, known: Byte) -> Written {
         let mut first = None;
         for byte in 0..=STACK_BYTES {
-            let is_in = byte < STACK_BYTES && self.is_told(written, byte);
+            let is_known = byte_in(Some(self.frame), byte) == known;
+            let is_new = is_known && byte_in(self.before, byte) != known;
             match first {
-                None if is_in => first = Some(byte),
-                Some(begin) if !is_in => {
+                None if is_new => first = Some(byte),
+                Some(begin) if !is_new => {
                     let bytes = Word::Range(from_end(begin), from_end(byte).saturating_sub(1));
-                    let un = Word::Text(if written { "" } else { "un" });
-                    put(out, "; stack {0} {1}written", &[bytes, un])?;
+                    put(out, text, &[bytes])?;
                     first = None;
                 }
                 _ => {}
@@ -70,29 +60,27 @@ impl Change<'_> {
         Ok(())
     }
 
-    // Whether a cell of the stack is otherwise than before.
-    fn is_changed(&self, cell: usize) -> bool {
-        match self.before {
-            Some(before) if cell < 64 => before.cell(cell) != self.frame.cell(cell),
-            _ => true,
-        }
-    }
-
     // Adds the pointers that came to stand in the stack.
     fn put_pointers(&self, out: &mut String) -> Written {
         for cell in 0..64 {
-            if let Cell::Spilled(kind) = self.frame.cell(cell) {
-                if self.is_changed(cell) {
+            let known = self.frame.cell(cell);
+            let before = match self.before {
+                Some(before) => before.cell(cell),
+                None => Cell::Marks(0),
+            };
+            match known {
+                Cell::Spilled(kind) if known != before => {
                     let at = Word::Number(from_end(cell.min(64) * 8));
                     put(out, "; stack {0} holds {1}", &[at, Word::Known(kind)])?;
                 }
+                _ => {}
             }
         }
         Ok(())
     }
 
-    // Adds what the registers have otherwise than before.
-    fn put_registers(&self, out: &mut String) -> Written {
+    // Adds all that is known otherwise than before, each thing behind a semicolon.
+    pub(crate) fn put(&self, out: &mut String) -> Written {
         for register in 0..11 {
             let known = kind_in(Some(self.frame), register);
             if known != kind_in(self.before, register) {
@@ -100,25 +88,8 @@ impl Change<'_> {
                 put(out, "; {0} = {1}", &words)?;
             }
         }
-        Ok(())
-    }
-
-    // Whether some cell of the stack is.
-    fn is_any_changed(&self) -> bool {
-        let mut is_changed = false;
-        for cell in 0..64 {
-            is_changed = is_changed || self.is_changed(cell);
-        }
-        is_changed
-    }
-
-    // Adds all that is known otherwise than before, each thing behind a semicolon.
-    pub(crate) fn put(&self, out: &mut String) -> Written {
-        self.put_registers(out)?;
-        if self.is_any_changed() {
-            self.put_bytes(out, true)?;
-            self.put_bytes(out, false)?;
-        }
+        self.put_bytes(out, "; stack {0} written", Byte::Number)?;
+        self.put_bytes(out, "; stack {0} unwritten", Byte::Unwritten)?;
         self.put_pointers(out)
     }
 }

@@ -25,6 +25,9 @@ const NAMED: usize = 4;
 // The column in which stands what is known at a slot, counted from the words of its instruction.
 const COLUMN: usize = 24;
 
+// As many blanks.
+const BLANKS: &str = "                        ";
+
 // The word of a mode in a manifest.
 fn mode_word(mode: Mode) -> &'static str
     ensures { result.now ≡ mode_word mode }
@@ -72,23 +75,21 @@ fn put_head(out: &mut String, subject: &Subject<'_>) -> Written
 // Adds from where the instruction at a slot is reached, where not from the line above alone.
 fn put_sources(out: &mut String, study: &Study<'_>, slot: usize) -> Written {
     let jumps = study.jumps_into(slot);
+    let mut separator = Word::Text(" ");
     out.push_str("from")?;
-    for (k, step) in jumps.iter().take(NAMED).enumerate() {
-        let text = if k == 0 { " {0}" } else { ", {0}" };
-        put(out, text, &[Word::Count(step.from)])?;
+    for step in jumps.iter().take(NAMED) {
+        put(out, "{0}{1}", &[separator, Word::Count(step.from)])?;
+        separator = Word::Text(", ");
     }
     if jumps.len() > NAMED {
         put(out, " and {0} more", &[Word::Count(jumps.len() - NAMED)])?;
     }
     match study.above(slot) {
-        Some(above) if study.frame_at(above).is_some() => {
-            let text = if jumps.is_empty() {
-                " {0}: "
-            } else {
-                ", {0}: "
-            };
-            put(out, text, &[Word::Count(above)])
-        }
+        Some(above) if study.frame_at(above).is_some() => put(
+            out,
+            "{0}{1}: ",
+            &[separator, Word::Count(above)],
+        ),
         _ => out.push_str(": "),
     }
 }
@@ -121,15 +122,12 @@ fn aside(alloc: Global, width: usize, known: &str) -> Result<String, AllocError>
     ensures { IfOk result (λ s. IsAside (string_bytes s)) }
 {
     let mut out = String::new(alloc);
-    if known.is_empty() {
-        return Ok(out);
-    }
     let mut padded = String::new(alloc);
-    for _column in width..COLUMN {
-        padded.push_str(" ")?;
-    }
-    padded.push_str(known)?;
-    if padded.as_bytes().contains(&b'\n') {
+    put_all(
+        &mut padded,
+        &[BLANKS.get(width..COLUMN).unwrap_or(""), known],
+    )?;
+    if known.is_empty() || padded.as_bytes().contains(&b'\n') {
         return Ok(out);
     }
     put_all(&mut out, &[" ", padded.as_str()])?;

@@ -11,15 +11,6 @@ fn register_of(src: Source) -> Option<u8> {
     }
 }
 
-// The registers of a helper's arguments.
-fn arguments(id: i32) -> [Option<u8>; 4] {
-    match Helper::numbered(id) {
-        Some(Helper::Lookup | Helper::Delete) => [Some(1), Some(2), None, None],
-        Some(Helper::Update) => [Some(1), Some(2), Some(3), Some(4)],
-        None => [None; 4],
-    }
-}
-
 // The registers that an instruction reads, in the order of its operands.
 pub(crate) fn reads(form: Form) -> [Option<u8>; 4] {
     match form {
@@ -33,7 +24,11 @@ pub(crate) fn reads(form: Form) -> [Option<u8>; 4] {
         Form::Neg { dst, .. } | Form::Swap { dst, .. } => [Some(dst), None, None, None],
         Form::MovSx { src, .. } | Form::Load { src, .. } => [Some(src), None, None, None],
         Form::Imm64 { .. } | Form::MapRef { .. } | Form::Ja { .. } => [None; 4],
-        Form::Call { id } => arguments(id),
+        Form::Call { id } => match Helper::numbered(id) {
+            Some(Helper::Lookup | Helper::Delete) => [Some(1), Some(2), None, None],
+            Some(Helper::Update) => [Some(1), Some(2), Some(3), Some(4)],
+            None => [None; 4],
+        },
         Form::Exit => [Some(0), None, None, None],
     }
 }

@@ -52,24 +52,24 @@ pub(crate) fn successor(form: Form, slot: usize, edge: Edge) -> Option<usize> {
     }
 }
 
-// Adds an edge to those into its end, where that is a later slot of the program.
-fn put_edge(edges: &mut [Vec<Step>], form: Form, step: Step) -> Result<(), AllocError> {
-    match successor(form, step.from, step.edge) {
-        Some(to) if step.from < to => {
-            if let Some(into) = edges.get_mut(to) {
-                into.push(step)?;
-            }
-        }
-        _ => {}
-    }
-    Ok(())
+// The slot to which an instruction jumps, which the program may not have.
+pub(crate) fn jump_target(form: Form, slot: usize) -> Option<i64> {
+    let next = i64::try_from(slot).unwrap_or(i64::MAX).saturating_add(1);
+    Some(next.saturating_add(i64::from(form.displacement()?)))
 }
 
-// Adds the edges of one kind.
+// Adds the edges of one kind, each to those into its end, where that is a later slot of the program.
 fn put_edges(edges: &mut [Vec<Step>], program: &[Insn], edge: Edge) -> Result<(), AllocError> {
     let mut from = 0usize;
     for insn in program {
-        put_edge(edges, insn.form(), Step { from, edge })?;
+        match successor(insn.form(), from, edge) {
+            Some(to) if from < to => {
+                if let Some(into) = edges.get_mut(to) {
+                    into.push(Step { from, edge })?;
+                }
+            }
+            _ => {}
+        }
         from = from.saturating_add(insn.slot_count());
     }
     Ok(())
@@ -116,18 +116,12 @@ impl<'a> Study<'a> {
 
     // The same by its meaning.
     pub(crate) fn form_at(&self, slot: usize) -> Option<Form> {
-        match self.insn_at(slot) {
-            Some(insn) => Some(insn.form()),
-            None => None,
-        }
+        Some(self.insn_at(slot)?.form())
     }
 
     // What is known before the instruction at a slot, if something is.
     pub(crate) fn frame_at(&self, slot: usize) -> Option<&Frame> {
-        match self.known.frames.get(slot) {
-            Some(Some(frame)) => Some(frame),
-            _ => None,
-        }
+        self.known.frames.get(slot)?.as_ref()
     }
 
     // What a register has before the instruction at a slot.

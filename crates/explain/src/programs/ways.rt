@@ -3,9 +3,10 @@
 use crate::programs::knowledge::{Byte, byte_in};
 use crate::programs::operands::{copied, written};
 use crate::programs::study::{Step, Study, kind_in};
-use crate::sentences::{Word, Written, put};
-use insn::{Edge, Form};
-use regkind::{Frame, Kind};
+use crate::sentences::Word::Count;
+use crate::sentences::{Written, put};
+use insn::Edge;
+use regkind::Kind;
 use std::alloc::AllocError;
 
 // What is missing at the end of a way.
@@ -19,21 +20,15 @@ pub(crate) enum Lack {
 }
 
 impl Lack {
-    // Whether it is missing in a frame.
-    fn is_in(self, frame: &Frame) -> bool {
-        match self {
-            Lack::Nothing => true,
-            Lack::Register(register) => kind_in(Some(frame), register) == Kind::Unreadable,
-            Lack::Byte(byte) => byte_in(Some(frame), byte) != Byte::Number,
-        }
-    }
-
     // Whether it is missing along an edge.
     fn is_along(self, study: &Study<'_>, step: Step) -> bool {
-        match study.along(step) {
-            Some(frame) => self.is_in(&frame),
-            None => false,
-        }
+        let frame = study.along(step);
+        let is_missing = match self {
+            Lack::Nothing => true,
+            Lack::Register(register) => kind_in(frame.as_ref(), register) == Kind::Unreadable,
+            Lack::Byte(byte) => byte_in(frame.as_ref(), byte) != Byte::Number,
+        };
+        frame.is_some() && is_missing
     }
 }
 
@@ -98,38 +93,21 @@ pub(crate) fn way_to(study: &Study<'_>, end: usize, missing: Lack) -> Result<Way
 }
 
 impl Way {
-    // The last instruction of the way before this step that writes a register, with its place among the steps and its slot.
-    fn writer(
-        &self,
-        study: &Study<'_>,
-        register: u8,
-        before: usize,
-    ) -> Option<(usize, usize, Form)> {
-        let mut found = None;
-        for (k, step) in self.steps.iter().enumerate().take(before) {
-            if let Some(form) = study.form_at(step.from) {
-                if written(form) == Some(register) {
-                    found = Some((k, step.from, form));
-                }
-            }
-        }
-        found
-    }
-
     // The slot of the instruction from which a register has its value where the way has taken so many steps; copies are followed back.
     pub(crate) fn origin(&self, study: &Study<'_>, register: u8, before: usize) -> Option<usize> {
-        let (mut register, mut before) = (register, before);
+        let mut register = register;
         let mut found = None;
-        for _copy in 0..self.steps.len() {
-            let Some((k, slot, form)) = self.writer(study, register, before) else {
-                break;
-            };
-            found = Some(slot);
-            let Some(source) = copied(form) else {
-                break;
-            };
-            register = source;
-            before = k;
+        for step in self.steps.iter().take(before).rev() {
+            match study.form_at(step.from) {
+                Some(form) if written(form) == Some(register) => {
+                    found = Some(step.from);
+                    let Some(source) = copied(form) else {
+                        break;
+                    };
+                    register = source;
+                }
+                _ => {}
+            }
         }
         found
     }
@@ -147,18 +125,15 @@ impl Way {
             None => self.end,
         };
         for step in &self.steps {
+            let words = [Count(first), Count(step.from)];
             if !is_long {
-                put(out, "{0} ", &[Word::Count(step.from)])?;
+                put(out, "{1} ", &words)?;
             } else if step.edge == Edge::Jump {
-                put(
-                    out,
-                    "{0} to {1}, ",
-                    &[Word::Count(first), Word::Count(step.from)],
-                )?;
+                put(out, "{0} to {1}, ", &words)?;
                 first = step.from;
             }
         }
         let text = if is_long { "{0} to {1}" } else { "{1}" };
-        put(out, text, &[Word::Count(first), Word::Count(self.end)])
+        put(out, text, &[Count(first), Count(self.end)])
     }
 }

@@ -1,14 +1,16 @@
 // Why an access to memory is refused: V10 to V14, and V18.
 
-use crate::programs::{Access, Byte, Lack, Study, Use, Way, accesses, byte_in, from_end, tested};
-use crate::sentences::{Told, Word, four, one, say, two};
+use crate::programs::{Access, Byte, Study, Use, Way, accesses, byte_in, from_end, tested};
+use crate::refusals::map_in;
+use crate::sentences::Word::{Bytes, Count, Known, Number, Range, Register, Small, Text};
+use crate::sentences::{Told, Word, say, say_both};
 use insn::{Form, Source};
 use regkind::{Frame, Kind};
 
 // A map, in words; nothing of what is no map's.
 fn map_of(what: Use) -> Word<'static> {
     match what {
-        Use::Key(map) | Use::Value(map) => Word::Small(map),
+        Use::Key(map) | Use::Value(map) => Small(map),
         Use::Load | Use::Store => Word::Nothing,
     }
 }
@@ -16,27 +18,14 @@ fn map_of(what: Use) -> Word<'static> {
 // What to do where a pointer leaves its region.
 fn way_back(access: Access, needed: i64) -> &'static str {
     match access.kind {
-        Kind::Arg(_) if access.at >= 0 && needed <= 64 => {
-            "Raise ARGLEN to {7} in the manifest, and give as many bytes in each call; or {8}."
-        }
-        Kind::Value(_, _) if access.at >= 0 && needed <= 256 => {
-            "Raise VALUE of map {9} to {7} in the manifest, or {8}."
-        }
-        Kind::Stack(_) if access.is_of_call() && access.bytes > 1 && access.at >= -512 => {
-            "Give all {1} bytes: write them in the stack, the first at r10 - {1} or below, and pass its address."
-        }
+        Kind::Arg(_) if access.at >= 0 && needed <= 64 =>
+            "Raise ARGLEN to {7} in the manifest, and give as many bytes in each call; or {8}.",
+        Kind::Value(_, _) if access.at >= 0 && needed <= 256 =>
+            "Raise VALUE of map {9} to {7} in the manifest, or {8}.",
+        Kind::Stack(_) if access.is_of_call() && access.bytes > 1 && access.at >= -512 =>
+            "Give all {1} bytes: write them in the stack, the first at r10 - {1} or below, and pass its address.",
         Kind::Stack(_) => "Stay between r10 - 512 and r10.",
         _ => "Stay within the bytes that are there.",
-    }
-}
-
-// The name of the region into which a pointer points, and the map whose value it is, if it is one's.
-fn region_name(kind: Kind) -> (&'static str, Word<'static>) {
-    match kind {
-        Kind::Stack(_) => ("stack", Word::Nothing),
-        Kind::Arg(_) => ("argument", Word::Nothing),
-        Kind::Value(map, _) => ("value", Word::Small(map)),
-        _ => ("value", Word::Nothing),
     }
 }
 
@@ -45,41 +34,36 @@ pub(crate) fn outside(study: &Study<'_>, slot: usize) -> Option<Told<'static>> {
     for access in accesses(study, slot).iter().flatten() {
         if let Some(region) = access.left(study) {
             let needed = access.last().saturating_add(1);
-            let (name, map) = region_name(access.kind);
-            let (head, other) = match access.what {
-                Use::Key(_) => (
-                    "Map {0} has keys of {1} bytes, and {2} is {3}: ",
-                    "give another address",
-                ),
-                Use::Value(_) => (
-                    "Map {0} has values of {1} bytes, and {2} is {3}: ",
-                    "give another address",
-                ),
-                Use::Load | Use::Store => ("{2} is {3}: ", "take fewer bytes"),
+            let what = match access.what {
+                Use::Key(_) =>
+                    "Map {0} has keys of {1} bytes, and {2} is {3}: bytes {4} of the {5} are wanted, and it has {6}.|",
+                Use::Value(_) =>
+                    "Map {0} has values of {1} bytes, and {2} is {3}: bytes {4} of the {5} are wanted, and it has {6}.|",
+                Use::Load | Use::Store =>
+                    "{2} is {3}: bytes {4} of the {5} are wanted, and it has {6}.|",
             };
-            let what = if region.high == 0 && region.low == 0 {
-                "bytes {4} of the {5} are wanted, and it has none."
+            let other = if access.is_of_call() {
+                "give another address"
             } else {
-                "bytes {4} of the {5} are wanted, and it has {6}."
+                "take fewer bytes"
+            };
+            let there = match (region.low, region.high) {
+                (0, 0) => Text("none"),
+                (low, high) => Range(low, high.saturating_sub(1)),
             };
             let words = [
                 map_of(access.what),
-                Word::Number(access.bytes),
-                Word::Register(access.register),
-                Word::Known(access.kind),
-                Word::Range(access.at, access.last()),
-                Word::Text(name),
-                Word::Range(region.low, region.high.saturating_sub(1)),
-                Word::Number(needed),
-                Word::Text(other),
-                map,
+                Number(access.bytes),
+                Register(access.register),
+                Known(access.kind),
+                Range(access.at, access.last()),
+                Text(region.name),
+                there,
+                Number(needed),
+                Text(other),
+                map_in(access.kind),
             ];
-            return Some(Told {
-                head,
-                what,
-                fix: way_back(*access, needed),
-                words,
-            });
+            return Some(say_both([what, way_back(*access, needed)], &words));
         }
     }
     None
@@ -89,7 +73,7 @@ pub(crate) fn outside(study: &Study<'_>, slot: usize) -> Option<Told<'static>> {
 #[derive(Clone, Copy)]
 pub(crate) struct Gap {
     access: Access,
-    first: usize,
+    pub first: usize,
     last: usize,
     // How many of all can be read.
     readable: usize,
@@ -105,10 +89,8 @@ fn gap_of(frame: &Frame, access: Access) -> Option<Gap> {
     for byte in begin..end {
         if byte_in(Some(frame), byte) == Byte::Number {
             readable = readable.saturating_add(1);
-        } else if first.is_none() {
-            first = Some(byte);
-            last = byte;
-        } else if last.saturating_add(1) == byte {
+        } else if first.is_none() || last.saturating_add(1) == byte {
+            first = first.or(Some(byte));
             last = byte;
         }
     }
@@ -149,11 +131,6 @@ fn ended_pointer(study: &Study<'_>, way: &Way, byte: usize) -> Option<usize> {
 }
 
 impl Gap {
-    // What a way to it lacks.
-    pub(crate) fn lack(self) -> Lack {
-        Lack::Byte(self.first)
-    }
-
     // How many bytes of all can be read.
     fn head(self) -> &'static str {
         match self.access.what {
@@ -165,33 +142,21 @@ impl Gap {
 
     // Whether some bytes of a key or a value were left out, as the padding of a struct in C is.
     fn is_padding(self) -> bool {
-        matches!(self.access.what, Use::Key(_) | Use::Value(_))
-            && self.readable > 0
-            && self.last.saturating_sub(self.first) < 7
+        self.access.is_of_call() && self.readable > 0 && self.last.saturating_sub(self.first) < 7
     }
 
     // What is wrong and what to do; `ended` is the slot at which a pointer ended there, and `parted` that at which another edge brings the bytes.
-    fn texts(self, ended: Option<usize>, parted: Option<usize>) -> (&'static str, &'static str) {
-        if self.is_pointer {
-            return (
-                "stack {4} is a part of a pointer.",
-                "Load a pointer by the 8 bytes into which it was stored; keys and values are numbers.",
-            );
-        }
+    fn text(self, ended: Option<usize>, parted: Option<usize>) -> &'static str {
         match (ended, parted) {
-            (Some(_), _) => (
-                "stack {4} had a pointer, which ended at slot {5}.",
-                "Look its key up again, or store it elsewhere: an update or a delete ends the stored pointers to values of its map, and a byte stored over a pointer ends it.",
-            ),
-            (None, Some(_)) => (
-                "stack {4} isn't written on this way, as it is on another to slot {5}.",
-                "Write it before the ways part.",
-            ),
-            (None, None) if self.is_padding() => (
-                "stack {4} isn't written.",
-                "Write it too. In C it is often the padding of a struct: clear all of it first (`__builtin_memset(&x, 0, sizeof x)`), or order the fields so that none is left.",
-            ),
-            (None, None) => ("stack {4} isn't written.", "Write it first."),
+            _ if self.is_pointer =>
+                "stack {4} is a part of a pointer.|Load a pointer by the 8 bytes into which it was stored; keys and values are numbers.",
+            (Some(_), _) =>
+                "stack {4} had a pointer, which ended at slot {5}.|Look its key up again, or store it elsewhere: an update or a delete ends the stored pointers to values of its map, and a byte stored over a pointer ends it.",
+            (None, Some(_)) =>
+                "stack {4} isn't written on this way, as it is on another to slot {5}.|Write it before the ways part.",
+            (None, None) if self.is_padding() =>
+                "stack {4} isn't written.|Write it too. In C it is often the padding of a struct: clear all of it first (`__builtin_memset(&x, 0, sizeof x)`), or order the fields so that none is left.",
+            (None, None) => "stack {4} isn't written.|Write it first.",
         }
     }
 }
@@ -200,27 +165,15 @@ impl Gap {
 pub(crate) fn unwritten(study: &Study<'_>, way: &Way) -> Option<Told<'static>> {
     let gap = gap_at(study, way.end)?;
     let ended = ended_pointer(study, way, gap.first);
-    let (what, fix) = gap.texts(ended, way.parted);
-    let told = say(
-        what,
-        fix,
-        [
-            Word::Count(gap.readable),
-            Word::Bytes(usize::try_from(gap.access.bytes).unwrap_or(0)),
-            map_of(gap.access.what),
-            Word::Number(gap.access.at),
-            Word::Range(from_end(gap.first), from_end(gap.last)),
-            Word::Count(ended.or(way.parted).unwrap_or(0)),
-            Word::Nothing,
-            Word::Nothing,
-            Word::Nothing,
-            Word::Nothing,
-        ],
-    );
-    Some(Told {
-        head: gap.head(),
-        ..told
-    })
+    let words = [
+        Count(gap.readable),
+        Bytes(usize::try_from(gap.access.bytes).unwrap_or(0)),
+        map_of(gap.access.what),
+        Number(gap.access.at),
+        Range(from_end(gap.first), from_end(gap.last)),
+        Count(ended.or(way.parted).unwrap_or(0)),
+    ];
+    Some(say_both([gap.head(), gap.text(ended, way.parted)], &words))
 }
 
 // Another register with the answer of a lookup that a way tests, and where.
@@ -237,7 +190,7 @@ fn tested_copy(study: &Study<'_>, way: &Way, register: u8, lookup: usize) -> Opt
 }
 
 // The register through which the access of the instruction at a slot goes.
-fn base_at(study: &Study<'_>, slot: usize) -> u8 {
+pub(crate) fn base_at(study: &Study<'_>, slot: usize) -> u8 {
     match accesses(study, slot)[0] {
         Some(access) => access.register,
         None => 0,
@@ -248,67 +201,40 @@ fn base_at(study: &Study<'_>, slot: usize) -> u8 {
 pub(crate) fn maybe_null(study: &Study<'_>, way: &Way) -> Told<'static> {
     let register = base_at(study, way.end);
     let lookup = way.origin_at_end(study, register);
-    let (name, from) = (Word::Register(register), Word::Count(lookup.unwrap_or(0)));
-    let told = match lookup.and_then(|at| tested_copy(study, way, register, at)) {
-        Some((other, at)) => say(
-            ", and the test at slot {2} is of {3}, which says nothing of {0}.",
-            "Use {3} behind its test, or test {0}. In C without optimisation, or where the pointer lives over a call: test the very variable that is used.",
-            four(name, from, Word::Count(at), Word::Register(other)),
-        ),
-        None => say(
-            ", and nothing on the way tests it.",
-            "Test it first: `jeq {0}, 0, ..` goes past its use where it is null.",
-            two(name, from),
-        ),
-    };
+    let copy = lookup.and_then(|at| tested_copy(study, way, register, at));
     let head = match lookup {
         Some(_) => "{0} may be null: it is the answer of the lookup at slot {1}",
         None => "{0} may be null: it is the answer of the lookup",
     };
-    Told { head, ..told }
-}
-
-// What is told where the argument is written.
-pub(crate) fn argument_written(study: &Study<'_>, slot: usize) -> Told<'static> {
-    say(
-        "{0} points into the argument, which is read-only.",
-        "Copy it to the stack (`ldxdw`, `stxdw`) and change it there.",
-        one(Word::Register(base_at(study, slot))),
+    let text = match copy {
+        Some(_) =>
+            ", and the test at slot {2} is of {3}, which says nothing of {0}.|Use {3} behind its test, or test {0}. In C without optimisation, or where the pointer lives over a call: test the very variable that is used.",
+        None =>
+            ", and nothing on the way tests it.|Test it first: `jeq {0}, 0, ..` goes past its use where it is null.",
+    };
+    let (other, at) = copy.unwrap_or((0, 0));
+    let from = Count(lookup.unwrap_or(0));
+    say_both(
+        [head, text],
+        &[Register(register), from, Count(at), Register(other)],
     )
 }
 
 // What a store of a pointer would need.
 pub(crate) fn stored_pointer(study: &Study<'_>, slot: usize) -> Option<Told<'static>> {
     let access = accesses(study, slot)[0]?;
-    let Some(
+    let register = match study.form_at(slot)? {
         Form::Store {
             src: Source::Reg(register),
             ..
-        },
-    ) = study.form_at(slot)
-    else {
-        return None;
+        } => register,
+        _ => return None,
     };
-    let words = two(Word::Register(register), Word::Number(access.at));
-    Some(match access.kind {
-        Kind::Stack(_) => say(
-            "{0} is a pointer, and stack {1} isn't the first byte of a cell, or not 8 bytes are stored.",
-            "Store its 8 bytes (`stxdw`) at r10 - 8, r10 - 16, .. or r10 - 512, or keep it in r6 to r9.",
-            words,
-        ),
-        _ => say(
-            "{0} is a pointer, and a value keeps numbers alone: another program couldn't use it.",
-            "Store its key, and look it up again; or store what it points to.",
-            words,
-        ),
-    })
-}
-
-// What is told where a program that only reads changes a map; its line says so.
-pub(crate) fn read_mode(line: u32) -> Told<'static> {
-    say(
-        "Line {0} of the manifest says `read`, and this instruction changes a map.",
-        "Write `update` there, or take the change out.",
-        one(Word::Field(u64::from(line))),
-    )
+    let text = match access.kind {
+        Kind::Stack(_) =>
+            "{0} is a pointer, and stack {1} isn't the first byte of a cell, or not 8 bytes are stored.|Store its 8 bytes (`stxdw`) at r10 - 8, r10 - 16, .. or r10 - 512, or keep it in r6 to r9.",
+        _ =>
+            "{0} is a pointer, and a value keeps numbers alone: another program couldn't use it.|Store its key, and look it up again; or store what it points to.",
+    };
+    Some(say(text, &[Register(register), Number(access.at)]))
 }

@@ -1,9 +1,15 @@
 // Why a register can't be read: V6.
 
 use crate::programs::{Step, Study, Way, kind_in, reads, written};
-use crate::sentences::{Told, Word, one, say, three, two};
+use crate::refusals::map_in;
+use crate::sentences::Word::{Count, Known, Register, Text};
+use crate::sentences::{Told, Word, say, say_both};
 use insn::{Edge, Form};
 use regkind::Kind;
+
+// What is told where two edges bring different things to a slot.
+const DIFFERING: &str =
+    "After {0} {1} {2} is {3}; after {4} {5} it is {6}. So nothing is known of it where they meet, at slot {7}.";
 
 // The first register that the instruction at a slot reads and of which nothing is known.
 pub(crate) fn unreadable_at(study: &Study<'_>, slot: usize) -> Option<u8> {
@@ -18,13 +24,12 @@ pub(crate) fn unreadable_at(study: &Study<'_>, slot: usize) -> Option<u8> {
 
 // What an edge brings in a register.
 fn brought(study: &Study<'_>, step: Step, register: u8) -> Kind {
-    let frame = study.along(step);
-    kind_in(frame.as_ref(), register)
+    kind_in(study.along(step).as_ref(), register)
 }
 
 // What leads along an edge.
 fn leads(step: Step) -> Word<'static> {
-    Word::Text(match step.edge {
+    Text(match step.edge {
         Edge::Jump => "the jump at slot",
         Edge::Fall => "slot",
     })
@@ -37,31 +42,22 @@ fn differing(study: &Study<'_>, at: usize, register: u8) -> Option<Told<'static>
     for step in rest {
         let other = brought(study, *step, register);
         if other != one {
-            let is_lookup = matches!(
-                (one, other),
-                (Kind::ValueOrNull(_), _) | (_, Kind::ValueOrNull(_))
-            );
-            let fix = if is_lookup {
-                "Test {2} for null before the ways part."
-            } else {
-                "Do on each way what uses {2}, or make it the same on both."
+            let fix = match (one, other) {
+                (Kind::ValueOrNull(_), _) | (_, Kind::ValueOrNull(_)) =>
+                    "|Test {2} for null before the ways part.",
+                _ => "|Do on each way what uses {2}, or make it the same on both.",
             };
-            return Some(say(
-                "After {0} {1} {2} is {3}; after {4} {5} it is {6}. So nothing is known of it where they meet, at slot {7}.",
-                fix,
-                [
-                    leads(*first),
-                    Word::Count(first.from),
-                    Word::Register(register),
-                    Word::Known(one),
-                    leads(*step),
-                    Word::Count(step.from),
-                    Word::Known(other),
-                    Word::Count(at),
-                    Word::Nothing,
-                    Word::Nothing,
-                ],
-            ));
+            let words = [
+                leads(*first),
+                Count(first.from),
+                Register(register),
+                Known(one),
+                leads(*step),
+                Count(step.from),
+                Known(other),
+                Count(at),
+            ];
+            return Some(say_both([DIFFERING, fix], &words));
         }
     }
     None
@@ -72,11 +68,9 @@ fn lost(study: &Study<'_>, way: &Way, register: u8) -> Option<(usize, Kind)> {
     let mut found = None;
     for step in &way.steps {
         let kind = study.kind_at(step.from, register);
-        let is_lost = match study.along(*step) {
-            Some(frame) => kind_in(Some(&frame), register) == Kind::Unreadable,
-            None => false,
-        };
-        if kind != Kind::Unreadable && is_lost {
+        let after = study.along(*step);
+        let is_lost = after.is_some() && kind_in(after.as_ref(), register) == Kind::Unreadable;
+        if is_lost && kind != Kind::Unreadable {
             found = Some((step.from, kind));
         }
     }
@@ -95,53 +89,16 @@ fn is_written(study: &Study<'_>, way: &Way, register: u8) -> bool {
     false
 }
 
-// What is told where on this way nothing sets a register, but on another to a slot.
-fn not_set_here(register: u8, at: usize) -> Told<'static> {
-    say(
-        "On this way nothing sets {0}; on another to slot {1} something does.",
-        "Set {0} before the ways part. In C: a variable without a first value.",
-        two(Word::Register(register), Word::Count(at)),
-    )
-}
-
-// What is told where a register was lost at a slot.
-fn told_of_lost(register: u8, at: usize, kind: Kind) -> Told<'static> {
-    let (name, slot) = (Word::Register(register), Word::Count(at));
-    match kind {
-        _ if register >= 1 && register <= 5 => say(
-            "{0} was lost at the call at slot {1}: a call takes r1 to r5.",
-            "Keep it in r6, r7, r8 or r9 before the call.",
-            two(name, slot),
-        ),
-        Kind::Value(map, _) | Kind::ValueOrNull(map) => say(
-            "{0} pointed into a value of map {1}, and the call at slot {2} may have moved its values.",
-            "Look the key up again behind that call.",
-            three(name, Word::Small(map), slot),
-        ),
-        _ => not_set_here(register, at),
-    }
-}
-
 // What is told where nothing sets a register.
-fn never_set(study: &Study<'_>, way: &Way, register: u8) -> Told<'static> {
-    let fix = match study.form_at(way.end) {
-        Some(Form::Exit) if !is_written(study, way, register) => {
-            return say(
-                "The reply is {0}, and nothing on the way puts a number there.",
-                "Put `mov64 r0, 0` before `exit`. In C: a function that returns nothing; let it return a number.",
-                one(Word::Register(register)),
-            );
-        }
-        Some(Form::Call { .. }) => {
-            "Set {0} first: a call takes a map in r1, the address of a key in r2, and an update that of a value in r3 and flags in r4 (0 for any key)."
-        }
-        _ => "Set {0} first.",
-    };
-    say(
-        "Nothing on the way sets {0}: at the entry r1 (the argument) and r10 (the stack's end) alone can be read.",
-        fix,
-        one(Word::Register(register)),
-    )
+fn never_set(study: &Study<'_>, way: &Way, register: u8) -> &'static str {
+    match study.form_at(way.end) {
+        Some(Form::Exit) if !is_written(study, way, register) =>
+            "The reply is {0}, and nothing on the way puts a number there.|Put `mov64 r0, 0` before `exit`. In C: a function that returns nothing; let it return a number.",
+        Some(Form::Call { .. }) =>
+            "Nothing on the way sets {0}: at the entry r1 (the argument) and r10 (the stack's end) alone can be read.|Set {0} first: a call takes a map in r1, the address of a key in r2, and an update that of a value in r3 and flags in r4 (0 for any key).",
+        _ =>
+            "Nothing on the way sets {0}: at the entry r1 (the argument) and r10 (the stack's end) alone can be read.|Set {0} first.",
+    }
 }
 
 // Why nothing is known of a register at the end of a way.
@@ -150,9 +107,16 @@ pub(crate) fn unreadable(study: &Study<'_>, way: &Way) -> Option<Told<'static>> 
     if let Some(told) = way.meeting.and_then(|at| differing(study, at, register)) {
         return Some(told);
     }
-    Some(match (lost(study, way, register), way.parted) {
-        (Some((at, kind)), _) => told_of_lost(register, at, kind),
-        (None, Some(at)) => not_set_here(register, at),
+    let lost = lost(study, way, register);
+    let text = match (lost, way.parted) {
+        (Some(_), _) if register >= 1 && register <= 5 =>
+            "{0} was lost at the call at slot {1}: a call takes r1 to r5.|Keep it in r6, r7, r8 or r9 before the call.",
+        (Some((_, Kind::Value(_, _) | Kind::ValueOrNull(_))), _) =>
+            "{0} pointed into a value of map {2}, and the call at slot {1} may have moved its values.|Look the key up again behind that call.",
+        (Some(_), _) | (None, Some(_)) =>
+            "On this way nothing sets {0}; on another to slot {1} something does.|Set {0} before the ways part. In C: a variable without a first value.",
         (None, None) => never_set(study, way, register),
-    })
+    };
+    let (at, kind) = lost.unwrap_or((way.parted.unwrap_or(0), Kind::Unreadable));
+    Some(say(text, &[Register(register), Count(at), map_in(kind)]))
 }

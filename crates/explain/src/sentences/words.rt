@@ -29,81 +29,77 @@ pub(crate) enum Word<'a> {
     Fault(VerifyFault),
 }
 
-// What is written at once.
-#[derive(Clone, Copy)]
-enum Piece<'a> {
-    Text(&'a str),
-    Natural(u64),
-    Small(u8),
-    Number(i64),
-    // An offset behind what it counts from: nothing where it is 0.
-    Offset(i16),
-    Hex(u8),
-    Character(u8),
+use Word::{Count, Field, Nothing, Number, Small, Text};
+
+// A small number.
+fn natural<'a>(number: u8) -> Word<'a> {
+    Field(u64::from(number))
 }
 
-use Piece::{Natural, Number, Offset, Small, Text};
-
-// What a register has, in pieces.
-fn pieces_of_kind<'a>(kind: Kind) -> [Piece<'a>; 3] {
-    let no = Text("");
-    match kind {
-        Kind::Unreadable => [Text("unreadable"), no, no],
-        Kind::Scalar => [Text("a number"), no, no],
-        Kind::Stack(0) => [Text("stack end"), no, no],
-        Kind::Stack(offset) => [Text("stack"), Offset(offset), no],
-        Kind::Arg(offset) => [Text("argument"), Offset(offset), no],
-        Kind::Map(map) => [Text("map "), Small(map), no],
-        Kind::Value(map, offset) => [Text("value of map "), Small(map), Offset(offset)],
-        Kind::ValueOrNull(map) => [Text("value of map "), Small(map), Text(", or null")],
+// An offset behind what it counts from: nothing where it is 0.
+fn offset<'a>(by: i16) -> [Word<'a>; 2] {
+    match by {
+        0 => [Nothing; 2],
+        _ if by < 0 => [Text(" "), Number(i64::from(by))],
+        _ => [Text(" +"), Number(i64::from(by))],
     }
 }
 
+// What a register has, in words.
+fn of_kind<'a>(kind: Kind) -> [Word<'a>; 4] {
+    let (name, map, by) = match kind {
+        Kind::Unreadable => ("unreadable", Nothing, 0),
+        Kind::Scalar => ("a number", Nothing, 0),
+        Kind::Stack(0) => ("stack end", Nothing, 0),
+        Kind::Stack(by) => ("stack", Nothing, by),
+        Kind::Arg(by) => ("argument", Nothing, by),
+        Kind::Map(map) => ("map ", natural(map), 0),
+        Kind::Value(map, by) => ("value of map ", natural(map), by),
+        Kind::ValueOrNull(map) => return [
+            Text("value of map "),
+            natural(map),
+            Text(", or null"),
+            Nothing,
+        ],
+    };
+    let [sign, number] = offset(by);
+    [Text(name), map, sign, number]
+}
+
 impl<'a> Word<'a> {
-    // It, in pieces.
-    fn pieces(self) -> [Piece<'a>; 3] {
-        let no = Text("");
+    // The words of which it is put together.
+    fn parts(self) -> [Word<'a>; 4] {
         match self {
-            Word::Nothing | Word::Fault(_) => [no, no, no],
-            Word::Text(text) => [Text(text), no, no],
-            Word::Count(count) => [Natural(count as u64), no, no],
-            Word::Small(number) => [Small(number), no, no],
-            Word::Number(number) => [Number(number), no, no],
-            Word::Field(number) => [Natural(number), no, no],
-            Word::Hex(byte) => [Piece::Hex(byte), no, no],
-            Word::Character(byte) => [Piece::Character(byte), no, no],
-            Word::Register(register) => [Text("r"), Small(register), no],
-            Word::Known(kind) => pieces_of_kind(kind),
-            Word::Bytes(1) => [Text("1 byte"), no, no],
-            Word::Bytes(count) => [Natural(count as u64), Text(" bytes"), no],
-            Word::Range(first, last) if first == last => [Number(first), no, no],
-            Word::Range(first, last) => [Number(first), Text(" to "), Number(last)],
+            Count(count) => [Field(count as u64), Nothing, Nothing, Nothing],
+            Small(number) => [natural(number), Nothing, Nothing, Nothing],
+            Word::Register(register) => [Text("r"), natural(register), Nothing, Nothing],
+            Word::Known(kind) => of_kind(kind),
+            Word::Bytes(1) => [Text("1 byte"), Nothing, Nothing, Nothing],
+            Word::Bytes(count) => [Field(count as u64), Text(" bytes"), Nothing, Nothing],
+            Word::Range(first, last) if first != last => [
+                Number(first),
+                Text(" to "),
+                Number(last),
+                Nothing,
+            ],
+            Word::Range(first, _) => [Number(first), Nothing, Nothing, Nothing],
+            word => [word, Nothing, Nothing, Nothing],
         }
     }
 
     // Adds it.
     pub(crate) fn put(self, out: &mut String) -> Written {
-        if let Word::Fault(fault) = self {
-            return write!(out, "{fault}");
-        }
-        for piece in self.pieces().iter() {
-            put_piece(out, *piece)?;
+        for part in self.parts() {
+            match part {
+                Text(text) => out.push_str(text),
+                Field(number) => write!(out, "{number}"),
+                Number(number) => write!(out, "{number}"),
+                Word::Hex(byte) => write!(out, "{byte:02x}"),
+                Word::Character(byte) => out.push(char::from(byte)),
+                Word::Fault(fault) => write!(out, "{fault}"),
+                _ => Ok(()),
+            }?;
         }
         Ok(())
-    }
-}
-
-// Adds a piece.
-fn put_piece(out: &mut String, piece: Piece<'_>) -> Written {
-    match piece {
-        Text(text) => out.push_str(text),
-        Natural(number) => write!(out, "{number}"),
-        Small(number) => write!(out, "{number}"),
-        Number(number) => write!(out, "{number}"),
-        Offset(0) => Ok(()),
-        Offset(by) if by < 0 => write!(out, " {by}"),
-        Offset(by) => write!(out, " +{by}"),
-        Piece::Hex(byte) => write!(out, "{byte:02x}"),
-        Piece::Character(byte) => out.push(char::from(byte)),
     }
 }
