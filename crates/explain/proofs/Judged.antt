@@ -19,7 +19,7 @@ use Rattle.loader.proofs.ShapesFit.{shapes_are_ok}
 use Rattle.explain.specs.Explanation.{IsWithin}
 use Rattle.explain.specs.Listing.{TellsOf}
 use Rattle.explain.specs.declared.files.manifest.TheConstants.{MAX_PROGRAMS}
-use Rattle.explain.specs.Manifest.{Above, has_map, so_far, line_fault, named_words, not_judged, program_in, program_of_text, refused_by, slot_fault, IsJudged, TellsOfRead, TellsOfProgram, TellsWhereMap}
+use Rattle.explain.specs.Manifest.{Above, has_map, so_far, line_fault, named_words, not_judged, program_in, program_of_text, refused_by, slot_fault, IsJudged, TellsIfAsked, TellsOfFile, TellsOfRead, TellsOfProgram, TellsWhereMap}
 use Rattle.explain.specs.Told.{BeginsWith, BeginsIf, Adds}
 
 -- ---- what a file spells
@@ -77,6 +77,14 @@ module _ (n : ℕ) (a : Above) (p : ProgramLine) (old new : List ℕ) where
           ∙ sym (append_assoc (refused_by n 3) (named_words p ++ slot_fault e) begins.0),
     ),
   )
+
+  -- where a map stands above
+  pub where_map : (files : Files) → has_map a ≡ true → Adds (TellsOfFile files n a p) old new → Adds (TellsWhereMap (has_map a) files n a p) old new
+  where_map files has told = subst (λ b. Adds (TellsWhereMap b files n a p) old new) (sym has) told
+
+  -- where it is asked for
+  pub if_asked : (files : Files) (asked : Bool) → asked ≡ true → Adds (TellsOfProgram files n a p) old new → Adds (TellsIfAsked asked files n a p) old new
+  if_asked files asked is told = subst (λ b. Adds (TellsIfAsked b files n a p) old new) (sym is) told
 
   -- its place, its number and its file
   pub all_told : (files : Files) (now after : List ℕ) → Adds (BeginsIf (not (has_map a) || is_taken (so_far a).programs p.name) (line_fault n BadLine)) old now

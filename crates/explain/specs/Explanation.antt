@@ -13,7 +13,7 @@ use Rattle.loader.specs.ProgramFiles.{files_of}
 use Rattle.loader.specs.Loading.{are_few, with_map}
 use Rattle.loader.specs.Refusal.{fault_number}
 use Rattle.explain.specs.declared.files.manifest.Explanation.{Explanation}
-use Rattle.explain.specs.Manifest.{Above, so_far, has_map, is_asked, refused_by, with_line, IsJudged, TellsIfAsked, TellsOfFile, TellsOfLine, TellsOfProgram, TellsOfRead, TellsWhereMap}
+use Rattle.explain.specs.Manifest.{Above, so_far, has_map, is_asked, refused_by, with_line, IsJudged, TellsIfAsked, TellsOfLine, TellsOfRead, TellsWhereMap}
 use Rattle.explain.specs.Told.{Adds, BeginsIf}
 
 abbrev pub above_of : Explanation → Above
@@ -40,19 +40,11 @@ Judges e p program text = IsJudged e.bad_map e.shapes.items e.line (program_of p
 abbrev pub TellsRead : Explanation → TheLine → Result (List Form) LoadFault → List ℕ → Type 0
 TellsRead e p read text = TellsOfRead e.line (above_of e) (program_of p) read text
 
--- of the file of its program
-abbrev pub TellsFile : Explanation → TheLine → List ℕ → Type 0
-TellsFile e p text = TellsOfFile (files_of e.files.now) e.line (above_of e) (program_of p) text
-
--- the same, where a map stands above
+-- of the file of its program, where a map stands above
 abbrev pub TellsKnown : Explanation → TheLine → List ℕ → Type 0
 TellsKnown e p text = TellsWhereMap (has_map (above_of e)) (files_of e.files.now) e.line (above_of e) (program_of p) text
 
--- of its program, which is asked for
-abbrev pub TellsProgram : Explanation → TheLine → List ℕ → Type 0
-TellsProgram e p text = TellsOfProgram (files_of e.files.now) e.line (above_of e) (program_of p) text
-
--- of any program
+-- of its program
 abbrev pub TellsAsked : Explanation → TheLine → List ℕ → Type 0
 TellsAsked e p text = TellsIfAsked (is_asked (name_of e) (Some (Program (program_of p)))) (files_of e.files.now) e.line (above_of e) (program_of p) text
 

@@ -46,18 +46,18 @@ fn map_in(kind: Kind) -> Word<'static> {
 }
 
 // What a way to a refusal lacks.
-fn lack_at(study: &Study<'_>, refused: Refused) -> Lack {
+fn lack_at(study: &Study<'_>, refused: Refused) -> Option<Lack> {
     let slot = refused.slot as usize;
-    match (refused.why, unreadable_at(study, slot), gap_at(study, slot)) {
-        (VerifyFault::UnreadableRegister, Some(register), _) => Lack::Register(register),
-        (VerifyFault::UninitialisedStack, _, Some(gap)) => Lack::Byte(gap.first),
-        _ => Lack::Nothing,
+    match refused.why {
+        VerifyFault::UnreadableRegister => Some(Lack::Register(unreadable_at(study, slot)?)),
+        VerifyFault::UninitialisedStack => Some(Lack::Byte(gap_at(study, slot)?.first)),
+        _ => None,
     }
 }
 
-// Why kinds are refused at the end of a way.
-fn broken_kinds(study: &Study<'_>, way: &Way, why: VerifyFault) -> Told<'static> {
-    let told = match why {
+// Why kinds are refused at the end of a way, where more is to be said than by which rule.
+fn broken_kinds(study: &Study<'_>, way: &Way, why: VerifyFault) -> Option<Told<'static>> {
+    match why {
         VerifyFault::UnreadableRegister => unreadable(study, way),
         VerifyFault::FramePointerWritten => Some(say(STACK_END_WRITTEN, &[])),
         VerifyFault::UndefinedOperation => undefined(study, way),
@@ -78,8 +78,7 @@ fn broken_kinds(study: &Study<'_>, way: &Way, why: VerifyFault) -> Told<'static>
             &[Word::Field(u64::from(study.subject.line))],
         )),
         _ => None,
-    };
-    told.unwrap_or(say("{0}.|REFUSALS has more of it.", &[Word::Fault(why)]))
+    }
 }
 
 // Adds under which number it is refused, and where.
@@ -99,11 +98,15 @@ fn put_number(out: &mut String, refused: Refused) -> Written
 
 // Adds the way to a refusal by kinds, and what is told of it.
 fn put_way(out: &mut String, study: &Study<'_>, refused: Refused) -> Written {
-    let way = way_to(study, refused.slot as usize, lack_at(study, refused))?;
+    let lack = lack_at(study, refused).unwrap_or(Lack::Nothing);
+    let way = way_to(study, refused.slot as usize, lack)?;
     out.push_str(" The way: ")?;
     way.put(out)?;
     out.push_str(".\n      ")?;
-    broken_kinds(study, &way, refused.why).put(out, TO_DO)
+    let rule = say("{0}.|REFUSALS has more of it.", &[Word::Fault(refused.why)]);
+    broken_kinds(study, &way, refused.why)
+        .unwrap_or(rule)
+        .put(out, TO_DO)
 }
 
 // What is told of a refusal behind its number: where it is by structure, also that by kinds, as far as these are known.

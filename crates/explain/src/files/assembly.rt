@@ -8,7 +8,7 @@ ghost use Rattle.explain.specs.Assembly.{fault_text, IsToldOfText};
 
 use crate::files::operand_kinds::{OperandKind, kinds_of};
 use crate::files::probes::{fault_of, is_word};
-use crate::sentences::{Told, Word, Written, put, put_all, say};
+use crate::sentences::{Word, Written, put, put_all};
 use asm::{AsmError, AsmFault, AsmRefusal, assemble};
 use itoa::Buffer;
 use std::alloc::{AllocError, Global};
@@ -164,28 +164,29 @@ fn wanted_end(parts: &Parts<'_>) -> (usize, &'static str) {
     }
 }
 
-// What is wanted in a line that is wrong in this way, and where.
-fn wanted_in(alloc: Global, line: &str, why: AsmFault) -> Result<(usize, Told<'_>), AllocError> {
-    let parts = Parts::of(alloc, line)?;
-    let word = parts.text(parts.word);
+// What is wanted in a line that is wrong in this way, and where; {0} is its word.
+fn wanted_in(
+    alloc: Global,
+    parts: &Parts<'_>,
+    why: AsmFault,
+) -> Result<(usize, &'static str), AllocError> {
     let begin = parts.word.begin;
     let target = match parts.operands.last() {
         Some(operand) => operand.begin,
         None => parts.word.end,
     };
-    let (at, text) = match why {
-        AsmFault::UnknownWord => (begin, wanted_word(alloc, word)?),
-        AsmFault::BadOperand | AsmFault::OutOfRange => wanted_operand(alloc, &parts, why)?,
-        AsmFault::UnknownLabel => (target, NO_LABEL),
-        AsmFault::LabelTwice => (begin, "another name: a line above has this label too"),
-        AsmFault::JumpTooFar => (target, TOO_FAR),
-        AsmFault::TooLong => (
+    match why {
+        AsmFault::UnknownWord => Ok((begin, wanted_word(alloc, parts.text(parts.word))?)),
+        AsmFault::BadOperand | AsmFault::OutOfRange => wanted_operand(alloc, parts, why),
+        AsmFault::UnknownLabel => Ok((target, NO_LABEL)),
+        AsmFault::LabelTwice => Ok((begin, "another name: a line above has this label too")),
+        AsmFault::JumpTooFar => Ok((target, TOO_FAR)),
+        AsmFault::TooLong => Ok((
             begin,
             "the end of the text: a program has at most 4096 slots",
-        ),
-        AsmFault::TextBehind => wanted_end(&parts),
-    };
-    Ok((at, say(text, &[Word::Text(word)])))
+        )),
+        AsmFault::TextBehind => Ok(wanted_end(parts)),
+    }
 }
 
 // Adds white space up to a place of a line, so that what follows stands below it.
@@ -214,13 +215,14 @@ fn line_at(text: &str, wanted: u32) -> &str {
 // What is wanted in a refused text: the column, what is wanted there, the line, and a mark below the column.
 fn wanted_text(alloc: Global, text: &str, refusal: AsmRefusal) -> Result<String, AllocError> {
     let line = line_at(text, refusal.line);
-    let (at, what) = wanted_in(alloc, line, refusal.why)?;
+    let parts = Parts::of(alloc, line)?;
+    let (at, wanted) = wanted_in(alloc, &parts, refusal.why)?;
     let mut out = String::new(alloc);
     let column = Word::Count(at.saturating_add(1));
     put(&mut out, " column {0}: wanted ", &[column])?;
-    what.put(&mut out, "")?;
+    put(&mut out, wanted, &[Word::Text(parts.text(parts.word))])?;
     let shown = Word::Text(line.strip_suffix('\r').unwrap_or(line));
-    put(&mut out, "    {0}\n    ", &[shown])?;
+    put(&mut out, "\n    {0}\n    ", &[shown])?;
     put_below(&mut out, line, at)?;
     out.push_str("^\n")?;
     Ok(out)

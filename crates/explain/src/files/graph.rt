@@ -15,6 +15,9 @@ use text::{NumberedLines, spaced_hex};
 // A node where the program has no instruction.
 const MISSING: &str = "    \"{0}.{2}\" [shape=plaintext, label=\"no instruction at slot {2}\"];\n";
 
+// An edge to the next instruction.
+const FALL: &str = "    \"{0}.{1}\" -> \"{0}.{2}\";\n";
+
 // An edge of a jump.
 const JUMP: &str = "    \"{0}.{1}\" -> \"{0}.{2}\" [label=\"jump\"];\n";
 
@@ -32,18 +35,13 @@ fn spots_of(alloc: Global, program: &[Insn]) -> Result<Vec<Spot>, AllocError> {
     let mut spots = Vec::new(alloc);
     let mut leads = true;
     for insn in program {
-        let form = insn.form();
-        spots.push(Spot {
-            leads,
-            form: Some(form),
-        })?;
+        let form = Some(insn.form());
+        spots.push(Spot { leads, form })?;
+        leads = insn.form().displacement().is_some() || !insn.form().falls_through();
         if insn.slot_count() == 2 {
-            spots.push(Spot {
-                leads: false,
-                form: None,
-            })?;
+            let (leads, form) = (false, None);
+            spots.push(Spot { leads, form })?;
         }
-        leads = form.displacement().is_some() || !form.falls_through();
     }
     for slot in 0..spots.len() {
         let form = spots.get(slot).and_then(|spot| spot.form);
@@ -72,16 +70,8 @@ impl Drawing<'_> {
     fn put_edge(&self, out: &mut String, node: usize, to: i64, text: &str) -> Written {
         let spot = usize::try_from(to).ok().and_then(|to| self.spots.get(to));
         match spot {
-            Some(
-                Spot {
-                    leads,
-                    form: Some(_),
-                },
-            ) => {
-                if !*leads {
-                    return Ok(());
-                }
-            }
+            Some(spot) if spot.form.is_some() && !spot.leads => return Ok(()),
+            Some(spot) if spot.form.is_some() => {}
             _ => self.put(out, MISSING, node, to)?,
         }
         self.put(out, text, node, to)
@@ -112,12 +102,8 @@ impl Drawing<'_> {
                     node = slot;
                 }
                 if let Some(to) = successor(form, slot, Edge::Fall) {
-                    self.put_edge(
-                        out,
-                        node,
-                        i64::try_from(to).unwrap_or(i64::MAX),
-                        "    \"{0}.{1}\" -> \"{0}.{2}\";\n",
-                    )?;
+                    let to = i64::try_from(to).unwrap_or(i64::MAX);
+                    self.put_edge(out, node, to, FALL)?;
                 }
                 if let Some(to) = jump_target(form, slot) {
                     self.put_edge(out, node, to, JUMP)?;

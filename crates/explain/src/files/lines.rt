@@ -69,8 +69,8 @@ fn wrong_program<'a>(name: &'a str, mode: &'a str, length: &'a str) -> Option<To
 }
 
 // What is wrong with the words of a line.
-fn wrong_words<'a>(words: &[&'a str]) -> Told<'a> {
-    let told = match words {
+fn wrong_words<'a>(words: &[&'a str]) -> Option<Told<'a>> {
+    match words {
         ["map", "array", v, n] => wrong_sizes(None, v, n),
         ["map", "hash", k, v, n] => wrong_sizes(Some(*k), v, n),
         ["map", "hash", ..] => wrong_count("map hash KEY VALUE ENTRIES"),
@@ -86,8 +86,7 @@ fn wrong_words<'a>(words: &[&'a str]) -> Told<'a> {
             Some(say(what, &[Text(*word)]))
         }
         [] => None,
-    };
-    told.unwrap_or(say("", &[]))
+    }
 }
 
 // What is wrong with a line that is bad by itself.
@@ -105,7 +104,7 @@ pub(crate) fn wrong_line(alloc: Global, line: &str) -> Result<Told<'_>, AllocErr
         ));
     }
     let words: Vec<&str> = line.split(' ').collect(alloc)?;
-    Ok(wrong_words(&words))
+    Ok(wrong_words(&words).unwrap_or(say("", &[])))
 }
 
 // Why there are too many maps, or too large ones.

@@ -14,8 +14,8 @@ ghost use Rattle.loader.specs.Grammar.{Map, Program, line_meaning};
 ghost use Rattle.loader.specs.LineShown.{meaning_of, program_of, LineFits};
 ghost use Rattle.loader.specs.ProgramFiles.{files_of, instructions_of};
 ghost use Rattle.loader.specs.Loading.{is_taken};
-ghost use Rattle.explain.specs.Explanation.{above_of, name_of, IsFault, IsWithin, Judges, TakesLine, TakesMap, TakesNext, TellsAsked, TellsFile};
-ghost use Rattle.explain.specs.Explanation.{TellsKnown, TellsProgram, TellsRead, Writes};
+ghost use Rattle.explain.specs.Explanation.{above_of, name_of, IsFault, IsWithin, Judges, TakesLine, TakesMap, TakesNext, TellsAsked};
+ghost use Rattle.explain.specs.Explanation.{TellsKnown, TellsRead, Writes};
 ghost use Rattle.explain.specs.Manifest.{has_map, has_program, is_asked, is_beyond, is_misplaced, line_fault, no_program, program_of_text, so_far};
 ghost use Rattle.explain.specs.Manifest.{TellsOfAll, TellsOfManifest};
 ghost use Rattle.explain.specs.Told.{BeginsIf};
@@ -109,14 +109,18 @@ impl<'a> Explanation<'a> {
         self.put_wrong(out, 1, told)
     }
 
-    // Takes the map of the line, above which no program stands, or says what is wrong with it, and under which number.
-    fn push_map(&mut self, shape: Shape) -> Result<Option<(u8, Told<'a>)>, AllocError>
+    // Takes the map of the line, or says what is wrong with it, and under which number.
+    fn take_map(&mut self, shape: Shape) -> Result<Option<(u8, Told<'a>)>, AllocError>
         requires within { IsWithin (above_of self.old) }
         requires shape { IsShapeOk shape }
-        requires none { length self.old.names.items ≡ 0 }
         ensures taken { IfOk result (λ o. TakesMap (above_of self.old) shape (above_of self.new) (option_map (λ w. w.0) o)) }
         ensures same { IfOk result (λ _. self.new ≡ record self.old { shapes = self.new.shapes }) }
     {
+        if let Some((name, line)) = self.names.first() {
+            let what = "A map stands behind program {0} of line {1}.|put the maps first.";
+            let words = [Word::Text(*name), Word::Field(u64::from(*line))];
+            return Ok(Some((1, say(what, &words))));
+        }
         let count = self.shapes.as_slice().len();
         self.shapes.push(shape)?;
         match shapes_ok(&self.shapes) {
@@ -125,23 +129,6 @@ impl<'a> Explanation<'a> {
                 let told = too_many(why, &self.shapes);
                 self.shapes.truncate(count);
                 Ok(Some((5, told)))
-            }
-        }
-    }
-
-    // The same of any map.
-    fn take_map(&mut self, shape: Shape) -> Result<Option<(u8, Told<'a>)>, AllocError>
-        requires within { IsWithin (above_of self.old) }
-        requires shape { IsShapeOk shape }
-        ensures taken { IfOk result (λ o. TakesMap (above_of self.old) shape (above_of self.new) (option_map (λ w. w.0) o)) }
-        ensures same { IfOk result (λ _. self.new ≡ record self.old { shapes = self.new.shapes }) }
-    {
-        match self.names.first() {
-            None => self.push_map(shape),
-            Some((name, line)) => {
-                let what = "A map stands behind program {0} of line {1}.|put the maps first.";
-                let words = [Word::Text(*name), Word::Field(u64::from(*line))];
-                Ok(Some((1, say(what, &words))))
             }
         }
     }
@@ -279,24 +266,8 @@ impl<'a> Explanation<'a> {
         }
     }
 
-    // Adds what is known of the program of the line, or what is wrong with its file.
+    // Adds what is known of the program of the line, where a map stands above, or what is wrong with its file.
     fn put_program(&self, out: &mut String, line: ProgramLine<'_>) -> Written
-        requires within { IsWithin (above_of self.now) }
-        requires map { has_map (above_of self.now) ≡ true }
-        requires argument { line.arg_len ≤ MAX_ARG_LEN }
-        ensures { OnOk result (Writes (TellsFile self.now line.entry) out.old out.new) }
-    {
-        match text_of(self.files, line.file) {
-            Some(text) => self.put_text(out, line, text),
-            None => {
-                let told = say(NO_FILE, &[Word::Text(line.file)]);
-                put_fault(out, self.line, 1, told)
-            }
-        }
-    }
-
-    // The same where a map stands above.
-    fn put_known(&self, out: &mut String, line: ProgramLine<'_>) -> Written
         requires within { IsWithin (above_of self.now) }
         requires argument { line.arg_len ≤ MAX_ARG_LEN }
         ensures { OnOk result (Writes (TellsKnown self.now line.entry) out.old out.new) }
@@ -304,18 +275,10 @@ impl<'a> Explanation<'a> {
         if !self.has_map() {
             return Ok(());
         }
-        self.put_program(out, line)
-    }
-
-    // Adds what is to be said of the line of a program that is asked for.
-    fn put_asked(&self, out: &mut String, line: ProgramLine<'a>) -> Written
-        requires within { IsWithin (above_of self.now) }
-        requires argument { line.arg_len ≤ MAX_ARG_LEN }
-        ensures { OnOk result (Writes (TellsProgram self.now line.entry) out.old out.new) }
-    {
-        self.put_misplaced(out, line.name)?;
-        self.put_beyond(out)?;
-        self.put_known(out, line)
+        match text_of(self.files, line.file) {
+            Some(text) => self.put_text(out, line, text),
+            None => put_fault(out, self.line, 1, say(NO_FILE, &[Word::Text(line.file)])),
+        }
     }
 
     // Whether the program of this name is asked for.
@@ -328,8 +291,8 @@ impl<'a> Explanation<'a> {
         }
     }
 
-    // The same of the line of any program.
-    fn put_if_asked(&self, out: &mut String, line: ProgramLine<'a>) -> Written
+    // Adds what is to be said of the line of a program, if it is asked for.
+    fn put_asked(&self, out: &mut String, line: ProgramLine<'a>) -> Written
         requires within { IsWithin (above_of self.now) }
         requires argument { line.arg_len ≤ MAX_ARG_LEN }
         ensures { OnOk result (Writes (TellsAsked self.now line.entry) out.old out.new) }
@@ -337,7 +300,9 @@ impl<'a> Explanation<'a> {
         if !self.is_asked(line) {
             return Ok(());
         }
-        self.put_asked(out, line)
+        self.put_misplaced(out, line.name)?;
+        self.put_beyond(out)?;
+        self.put_program(out, line)
     }
 
     // The same, and its name is taken from then on.
@@ -346,7 +311,7 @@ impl<'a> Explanation<'a> {
         requires argument { program.arg_len ≤ MAX_ARG_LEN }
         ensures { (line : List ℕ) → OnOk result (TakesNext line (Some (Program (program_of program.entry))) self.old self.new out.old out.new) }
     {
-        self.put_if_asked(out, program)?;
+        self.put_asked(out, program)?;
         self.names.push((program.name, self.line))?;
         Ok(())
     }
@@ -418,15 +383,6 @@ fn is_of(line: &str, name: &str) -> bool
     }
 }
 
-// That no program has this name.
-fn no_program(alloc: Global, name: &str) -> Result<String, AllocError>
-    ensures { IfOk result (λ s. string_bytes s ≡ no_program name.now) }
-{
-    let mut out = String::new(alloc);
-    put_all(&mut out, &["\nno program ", name, "\n"])?;
-    Ok(out)
-}
-
 /// What is to be said of a manifest with these files: of each line that is bad what is wrong with it, and of each program what is known
 /// of it; where a name is given, of the program of this name alone, or that there is none.
 ///
@@ -446,7 +402,9 @@ pub fn explain_manifest(
 {
     if let Some(name) = name {
         if !has_program(manifest, name) {
-            return no_program(alloc, name);
+            let mut out = String::new(alloc);
+            put_all(&mut out, &["\nno program ", name, "\n"])?;
+            return Ok(out);
         }
     }
     told(alloc, manifest, files, name)

@@ -26,14 +26,6 @@ pub(crate) struct Access {
     pub bytes: i64,
 }
 
-// So many bytes at a distance from what a register has.
-#[derive(Clone, Copy)]
-struct Reach {
-    register: u8,
-    by: i16,
-    bytes: usize,
-}
-
 // A region by its name, its first place, and the one behind its last.
 #[derive(Clone, Copy)]
 pub(crate) struct Region {
@@ -76,52 +68,43 @@ pub(crate) fn region_of(study: &Study<'_>, kind: Kind) -> Option<Region> {
     Some(Region { name, low, high })
 }
 
-// What an access wants.
-fn wanted(study: &Study<'_>, slot: usize, what: Use, reach: Reach) -> Option<Access> {
-    let kind = study.kind_at(slot, reach.register);
-    Some(Access {
-        what,
-        register: reach.register,
-        kind,
-        at: offset_of(kind).saturating_add(i64::from(reach.by)),
-        bytes: count(reach.bytes),
-    })
-}
-
-// What a call wants of the map in r1.
-fn of_call(study: &Study<'_>, slot: usize, id: i32) -> [Option<Access>; 2] {
-    let Kind::Map(map) = study.kind_at(slot, 1) else {
-        return [None; 2];
-    };
-    let (key, value) = sizes(study, map);
-    let of = |register, bytes| Reach {
-        register,
-        by: 0,
-        bytes,
-    };
-    let key = wanted(study, slot, Use::Key(map), of(2, key));
-    match Helper::numbered(id) {
-        Some(Helper::Lookup | Helper::Delete) => [key, None],
-        Some(Helper::Update) => [key, wanted(study, slot, Use::Value(map), of(3, value))],
-        None => [None; 2],
+impl Study<'_> {
+    // So many bytes at a distance from what a register has, which the instruction at a slot wants for this.
+    fn wanted(&self, slot: usize, what: Use, register: u8, by: i16, bytes: usize) -> Access {
+        let kind = self.kind_at(slot, register);
+        Access {
+            what,
+            register,
+            kind,
+            at: offset_of(kind).saturating_add(i64::from(by)),
+            bytes: count(bytes),
+        }
     }
 }
 
 // What the instruction at a slot wants of memory.
 pub(crate) fn accesses(study: &Study<'_>, slot: usize) -> [Option<Access>; 2] {
-    let (what, register, by, size) = match study.form_at(slot) {
-        Some(Form::Load { size, src, off, .. }) => (Use::Load, src, off, size),
-        Some(Form::Store { size, dst, off, .. }) => (Use::Store, dst, off, size),
-        Some(Form::Call { id }) => return of_call(study, slot, id),
-        _ => return [None; 2],
-    };
-    let bytes = size.bytes();
-    let reach = Reach {
-        register,
-        by,
-        bytes,
-    };
-    [wanted(study, slot, what, reach), None]
+    match (study.form_at(slot), study.kind_at(slot, 1)) {
+        (Some(Form::Load { size, src, off, .. }), _) => [
+            Some(study.wanted(slot, Use::Load, src, off, size.bytes())),
+            None,
+        ],
+        (Some(Form::Store { size, dst, off, .. }), _) => [
+            Some(study.wanted(slot, Use::Store, dst, off, size.bytes())),
+            None,
+        ],
+        (Some(Form::Call { id }), Kind::Map(map)) => {
+            let (key, value) = sizes(study, map);
+            let of_key = Some(study.wanted(slot, Use::Key(map), 2, 0, key));
+            let of_value = Some(study.wanted(slot, Use::Value(map), 3, 0, value));
+            match Helper::numbered(id) {
+                Some(Helper::Lookup | Helper::Delete) => [of_key, None],
+                Some(Helper::Update) => [of_key, of_value],
+                None => [None; 2],
+            }
+        }
+        _ => [None; 2],
+    }
 }
 
 impl Access {

@@ -33,63 +33,61 @@ pub(crate) fn from_end(byte: usize) -> i64 {
     byte.min(STACK_BYTES) as i64 - STACK_BYTES as i64
 }
 
-// A frame, and that of the instruction above, if this is all that leads there.
-#[derive(Clone, Copy)]
-pub(crate) struct Change<'a> {
-    pub before: Option<&'a Frame>,
-    pub frame: &'a Frame,
+// Adds the bytes of the stack that became so, those in a row together.
+fn put_bytes(
+    out: &mut String,
+    before: Option<&Frame>,
+    frame: &Frame,
+    text: &str,
+    known: Byte,
+) -> Written {
+    let mut first = None;
+    for byte in 0..=STACK_BYTES {
+        let is_known = byte_in(Some(frame), byte) == known;
+        let is_new = is_known && byte_in(before, byte) != known;
+        match first {
+            None if is_new => first = Some(byte),
+            Some(begin) if !is_new => {
+                let bytes = Word::Range(from_end(begin), from_end(byte).saturating_sub(1));
+                put(out, text, &[bytes])?;
+                first = None;
+            }
+            _ => {}
+        }
+    }
+    Ok(())
 }
 
-impl Change<'_> {
-    // Adds the bytes of the stack that became so, those in a row together.
-    fn put_bytes(&self, out: &mut String, text: &str, known: Byte) -> Written {
-        let mut first = None;
-        for byte in 0..=STACK_BYTES {
-            let is_known = byte_in(Some(self.frame), byte) == known;
-            let is_new = is_known && byte_in(self.before, byte) != known;
-            match first {
-                None if is_new => first = Some(byte),
-                Some(begin) if !is_new => {
-                    let bytes = Word::Range(from_end(begin), from_end(byte).saturating_sub(1));
-                    put(out, text, &[bytes])?;
-                    first = None;
-                }
-                _ => {}
+// Adds the pointers that came to stand in the stack.
+fn put_pointers(out: &mut String, before: Option<&Frame>, frame: &Frame) -> Written {
+    for cell in 0..64 {
+        let known = frame.cell(cell);
+        let old = match before {
+            Some(before) => before.cell(cell),
+            None => Cell::Marks(0),
+        };
+        match known {
+            Cell::Spilled(kind) if known != old => {
+                let at = Word::Number(from_end(cell.min(64) * 8));
+                put(out, "; stack {0} holds {1}", &[at, Word::Known(kind)])?;
             }
+            _ => {}
         }
-        Ok(())
     }
+    Ok(())
+}
 
-    // Adds the pointers that came to stand in the stack.
-    fn put_pointers(&self, out: &mut String) -> Written {
-        for cell in 0..64 {
-            let known = self.frame.cell(cell);
-            let before = match self.before {
-                Some(before) => before.cell(cell),
-                None => Cell::Marks(0),
-            };
-            match known {
-                Cell::Spilled(kind) if known != before => {
-                    let at = Word::Number(from_end(cell.min(64) * 8));
-                    put(out, "; stack {0} holds {1}", &[at, Word::Known(kind)])?;
-                }
-                _ => {}
-            }
+// Adds all that is known in a frame otherwise than in that of the instruction above, if this is all that leads there, each thing behind a
+// semicolon.
+pub(crate) fn put_changes(out: &mut String, before: Option<&Frame>, frame: &Frame) -> Written {
+    for register in 0..11 {
+        let known = kind_in(Some(frame), register);
+        if known != kind_in(before, register) {
+            let words = [Word::Register(register), Word::Known(known)];
+            put(out, "; {0} = {1}", &words)?;
         }
-        Ok(())
     }
-
-    // Adds all that is known otherwise than before, each thing behind a semicolon.
-    pub(crate) fn put(&self, out: &mut String) -> Written {
-        for register in 0..11 {
-            let known = kind_in(Some(self.frame), register);
-            if known != kind_in(self.before, register) {
-                let words = [Word::Register(register), Word::Known(known)];
-                put(out, "; {0} = {1}", &words)?;
-            }
-        }
-        self.put_bytes(out, "; stack {0} written", Byte::Number)?;
-        self.put_bytes(out, "; stack {0} unwritten", Byte::Unwritten)?;
-        self.put_pointers(out)
-    }
+    put_bytes(out, before, frame, "; stack {0} written", Byte::Number)?;
+    put_bytes(out, before, frame, "; stack {0} unwritten", Byte::Unwritten)?;
+    put_pointers(out, before, frame)
 }

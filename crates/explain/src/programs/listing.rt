@@ -8,7 +8,7 @@ ghost use Rattle.asm.specs.Text.{line_text};
 ghost use Rattle.loader.specs.Spelling.{mode_word};
 ghost use Rattle.explain.specs.Listing.{line_of, byte_word, head_text, instruction_word, left_text, margin, AddsListing, CanBeJudged, Explains, IsAside, IsLine, Lists};
 
-use crate::programs::knowledge::Change;
+use crate::programs::knowledge::put_changes;
 use crate::programs::study::Study;
 use crate::programs::subject::Subject;
 use crate::refusals::put_refusal;
@@ -109,7 +109,7 @@ fn knowledge(study: &Study<'_>, slot: usize) -> Result<String, AllocError> {
         put_sources(&mut out, study, slot)?;
     }
     let mut known = String::new(study.alloc);
-    Change { before, frame }.put(&mut known)?;
+    put_changes(&mut known, before, frame)?;
     let known = known.as_str();
     out.push_str(known.strip_prefix("; ").unwrap_or(known))?;
     Ok(out)

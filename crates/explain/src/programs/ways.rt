@@ -112,11 +112,6 @@ impl Way {
         found
     }
 
-    // The same at the end of the way.
-    pub(crate) fn origin_at_end(&self, study: &Study<'_>, register: u8) -> Option<usize> {
-        self.origin(study, register, self.steps.len())
-    }
-
     // Adds its slots, and of a long way those between which nothing is left out: the first and the last of each piece without a jump.
     pub(crate) fn put(&self, out: &mut String) -> Written {
         let is_long = self.steps.len() > 40;

@@ -16,24 +16,10 @@ const OTHER_MAP: &str =
 
 // The slot of the wide number that a register has, if it has one.
 fn constant_of(study: &Study<'_>, way: &Way, register: u8) -> Option<usize> {
-    let at = way.origin_at_end(study, register)?;
+    let at = way.origin(study, register, way.steps.len())?;
     match study.form_at(at)? {
         Form::Imm64 { .. } => Some(at),
         _ => None,
-    }
-}
-
-// Why R1 is no map.
-fn no_map(study: &Study<'_>, way: &Way, kind: Kind) -> Told<'static> {
-    match constant_of(study, way, 1) {
-        Some(at) => say(
-            "r1 is the number of slot {0}, and no map: a reference that the compiler left there was not resolved.|In C write `NRBPF_MAP(n)`: there is no loader for libbpf's map structs. In assembler text: `ldmap r1, n`.",
-            &[Count(at)],
-        ),
-        None => say(
-            "r1 is {0}, and a call wants a map there.|Put `ldmap r1, n` before the call, with the number of the map.",
-            &[Known(kind)],
-        ),
     }
 }
 
@@ -64,17 +50,26 @@ fn wrong_address(
 
 // Which argument of the call at the end of a way is wrong, and why.
 pub(crate) fn wrong_argument(study: &Study<'_>, way: &Way) -> Told<'static> {
-    let (key, value) = match study.kind_at(way.end, 1) {
-        Kind::Map(map) => sizes(study, map),
-        kind => return no_map(study, way, kind),
+    let kind = study.kind_at(way.end, 1);
+    let Kind::Map(map) = kind else {
+        let constant = constant_of(study, way, 1);
+        let text = match constant {
+            Some(_) =>
+                "r1 is the number of slot {0}, and no map: a reference that the compiler left there was not resolved.|In C write `NRBPF_MAP(n)`: there is no loader for libbpf's map structs. In assembler text: `ldmap r1, n`.",
+            None =>
+                "r1 is {1}, and a call wants a map there.|Put `ldmap r1, n` before the call, with the number of the map.",
+        };
+        return say(text, &[Count(constant.unwrap_or(0)), Known(kind)]);
     };
+    let (key, value) = sizes(study, map);
+    let of_flags = say(
+        "r4 is {0}, and the call wants flags there.|Put a number there: 0 for any key, 1 for a new one only, 2 for one that is there only.",
+        &[Known(study.kind_at(way.end, 4))],
+    );
     let of_key = wrong_address(study, way, 2, key);
     of_key
         .or(wrong_address(study, way, 3, value))
-        .unwrap_or(say(
-            "r4 is {0}, and the call wants flags there.|Put a number there: 0 for any key, 1 for a new one only, 2 for one that is there only.",
-            &[Known(study.kind_at(way.end, 4))],
-        ))
+        .unwrap_or(of_flags)
 }
 
 // Which helper or map isn't there.

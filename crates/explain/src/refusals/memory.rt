@@ -19,13 +19,13 @@ fn map_of(what: Use) -> Word<'static> {
 fn way_back(access: Access, needed: i64) -> &'static str {
     match access.kind {
         Kind::Arg(_) if access.at >= 0 && needed <= 64 =>
-            "Raise ARGLEN to {7} in the manifest, and give as many bytes in each call; or {8}.",
+            "|Raise ARGLEN to {7} in the manifest, and give as many bytes in each call; or {8}.",
         Kind::Value(_, _) if access.at >= 0 && needed <= 256 =>
-            "Raise VALUE of map {9} to {7} in the manifest, or {8}.",
+            "|Raise VALUE of map {9} to {7} in the manifest, or {8}.",
         Kind::Stack(_) if access.is_of_call() && access.bytes > 1 && access.at >= -512 =>
-            "Give all {1} bytes: write them in the stack, the first at r10 - {1} or below, and pass its address.",
-        Kind::Stack(_) => "Stay between r10 - 512 and r10.",
-        _ => "Stay within the bytes that are there.",
+            "|Give all {1} bytes: write them in the stack, the first at r10 - {1} or below, and pass its address.",
+        Kind::Stack(_) => "|Stay between r10 - 512 and r10.",
+        _ => "|Stay within the bytes that are there.",
     }
 }
 
@@ -36,11 +36,11 @@ pub(crate) fn outside(study: &Study<'_>, slot: usize) -> Option<Told<'static>> {
             let needed = access.last().saturating_add(1);
             let what = match access.what {
                 Use::Key(_) =>
-                    "Map {0} has keys of {1} bytes, and {2} is {3}: bytes {4} of the {5} are wanted, and it has {6}.|",
+                    "Map {0} has keys of {1} bytes, and {2} is {3}: bytes {4} of the {5} are wanted, and it has {6}.",
                 Use::Value(_) =>
-                    "Map {0} has values of {1} bytes, and {2} is {3}: bytes {4} of the {5} are wanted, and it has {6}.|",
+                    "Map {0} has values of {1} bytes, and {2} is {3}: bytes {4} of the {5} are wanted, and it has {6}.",
                 Use::Load | Use::Store =>
-                    "{2} is {3}: bytes {4} of the {5} are wanted, and it has {6}.|",
+                    "{2} is {3}: bytes {4} of the {5} are wanted, and it has {6}.",
             };
             let other = if access.is_of_call() {
                 "give another address"
@@ -200,7 +200,7 @@ pub(crate) fn base_at(study: &Study<'_>, slot: usize) -> u8 {
 // What is told where a pointer may be null: the answer of a lookup that nothing tested, or another register with it.
 pub(crate) fn maybe_null(study: &Study<'_>, way: &Way) -> Told<'static> {
     let register = base_at(study, way.end);
-    let lookup = way.origin_at_end(study, register);
+    let lookup = way.origin(study, register, way.steps.len());
     let copy = lookup.and_then(|at| tested_copy(study, way, register, at));
     let head = match lookup {
         Some(_) => "{0} may be null: it is the answer of the lookup at slot {1}",

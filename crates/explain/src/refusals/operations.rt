@@ -8,26 +8,20 @@ use helpers::Helper;
 use insn::{Condition, Form, Operation, Source, distance};
 use regkind::Kind;
 
-// Why nothing is loaded or stored through a register, which the instruction at a slot gave what it has, if one did.
-fn through(study: &Study<'_>, way: &Way, register: u8) -> Told<'static> {
-    let kind = study.kind_at(way.end, register);
-    let origin = way.origin_at_end(study, register);
-    let text = match (kind, origin.and_then(|at| study.form_at(at))) {
+// Why nothing is loaded or stored through what a register has, which this instruction gave it, if one did.
+fn through(kind: Kind, origin: Option<Form>) -> &'static str {
+    match (kind, origin) {
         (Kind::Map(_), _) =>
             "{0} is map {2} itself, and not a value of it.|Call lookup (`call 1`) with the map in r1 and a key's address in r2, and test what it answers.",
         (_, Some(Form::Imm64 { .. })) =>
-            "The number of slot {1} is used as an address, in {0}. Often the compiler left a reference to a global or a constant there, which nothing resolves: a program has the argument, the stack and maps alone.|Put the table into a map, or compute it; for a map write `NRBPF_MAP(n)` in C.",
+            "The number of slot {4} is used as an address, in {0}. Often the compiler left a reference to a global or a constant there, which nothing resolves: a program has the argument, the stack and maps alone.|Put the table into a map, or compute it; for a map write `NRBPF_MAP(n)` in C.",
         (_, Some(Form::Load { .. })) =>
-            "{0} is the number that was loaded at slot {1}: a pointer doesn't come back as one from a value or an argument.|Keep what it points to, or look it up again.",
+            "{0} is the number that was loaded at slot {4}: a pointer doesn't come back as one from a value or an argument.|Keep what it points to, or look it up again.",
         (_, Some(Form::Call { id })) if Helper::numbered(id) == Some(Helper::Lookup) =>
-            "{0} is null here: it is the answer of the lookup at slot {1}, and a test led this way where that is null.|Turn the test round: `jeq` for `jne`, or `jne` for `jeq`.",
+            "{0} is null here: it is the answer of the lookup at slot {4}, and a test led this way where that is null.|Turn the test round: `jeq` for `jne`, or `jne` for `jeq`.",
         _ =>
             "{0} is a number, and no pointer.|Go through a pointer: the argument, the stack, or a value that was looked up.",
-    };
-    say(
-        text,
-        &[Register(register), Count(origin.unwrap_or(0)), map_in(kind)],
-    )
+    }
 }
 
 // What is told where the bits of a pointer are computed with.
@@ -61,15 +55,27 @@ fn comparison(w64: bool, is_test: bool, kind: Kind) -> &'static str {
     }
 }
 
+// Why an instruction is refused, by what its register has, and the instruction that gave it that, if one did.
+fn text_of(form: Form, kind: Kind, origin: Option<Form>) -> &'static str {
+    match form {
+        Form::Load { .. } | Form::Store { .. } => through(kind, origin),
+        Form::Alu { op, src, .. } => arithmetic(op, src, kind),
+        Form::Branch { w64, cond, src, .. } => {
+            let is_equality = matches!(cond, Condition::Jeq | Condition::Jne);
+            comparison(w64, is_equality && src == Source::Imm(0), kind)
+        }
+        _ => POINTER_BITS,
+    }
+}
+
 // Why the operation at the end of a way isn't defined.
 pub(crate) fn undefined(study: &Study<'_>, way: &Way) -> Option<Told<'static>> {
     let form = study.form_at(way.end)?;
+    let none = Source::Imm(0);
     let (dst, src) = match form {
-        Form::Load { src, .. } => return Some(through(study, way, src)),
-        Form::Store { dst, .. } => return Some(through(study, way, dst)),
         Form::Alu { dst, src, .. } | Form::Branch { dst, src, .. } => (dst, src),
-        Form::Neg { dst, .. } | Form::Swap { dst, .. } => (dst, Source::Imm(0)),
-        Form::MovSx { src, .. } => (src, Source::Imm(0)),
+        Form::Store { dst, .. } | Form::Neg { dst, .. } | Form::Swap { dst, .. } => (dst, none),
+        Form::Load { src, .. } | Form::MovSx { src, .. } => (src, none),
         _ => return None,
     };
     // Of two registers that which has a pointer, and the other one.
@@ -79,14 +85,9 @@ pub(crate) fn undefined(study: &Study<'_>, way: &Way) -> Option<Told<'static>> {
         (Source::Imm(_), _) => (dst, dst),
     };
     let kind = study.kind_at(way.end, register);
-    let text = match form {
-        Form::Alu { op, .. } => arithmetic(op, src, kind),
-        Form::Branch { w64, cond, .. } => {
-            let is_equality = matches!(cond, Condition::Jeq | Condition::Jne);
-            comparison(w64, is_equality && src == Source::Imm(0), kind)
-        }
-        _ => POINTER_BITS,
-    };
+    let origin = way.origin(study, register, way.steps.len());
+    let text = text_of(form, kind, origin.and_then(|at| study.form_at(at)));
+    let slot = Count(origin.unwrap_or(0));
     Some(say(
         text,
         &[
@@ -94,6 +95,7 @@ pub(crate) fn undefined(study: &Study<'_>, way: &Way) -> Option<Told<'static>> {
             Known(kind),
             map_in(kind),
             Register(other),
+            slot,
         ],
     ))
 }

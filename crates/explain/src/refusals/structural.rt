@@ -10,10 +10,9 @@ use verifier::{Refused, VerifyFault};
 // Whether a jump from below goes over a slot.
 fn is_crossed(study: &Study<'_>, slot: usize) -> bool {
     for to in slot..study.slots() {
-        for step in study.jumps_into(to) {
-            if step.from < slot {
-                return true;
-            }
+        match study.jumps_into(to).first() {
+            Some(lowest) if lowest.from < slot => return true,
+            _ => {}
         }
     }
     false
@@ -39,17 +38,38 @@ fn is_way(study: &Study<'_>, from: usize, to: usize) -> Result<bool, AllocError>
     Ok(met.contains(&to))
 }
 
-// Why a jump leads back: it is a loop, or the compiler put above what is run last.
-fn backward(study: &Study<'_>, slot: usize, target: i64) -> Result<&'static str, AllocError> {
-    let is_loop = match usize::try_from(target) {
-        Ok(to) => is_way(study, to, slot)?,
-        Err(_) => true,
+// Why a jump is refused, which leads back in a loop or not, or just behind the end or not.
+fn jump_text(why: VerifyFault, is_loop: bool, is_at_end: bool) -> &'static str {
+    match why {
+        VerifyFault::TargetOutside if is_at_end =>
+            "The jump leads to slot {0}, just behind the last instruction: a label at the end of the text names none.|Put an instruction behind the label: `exit`, with a number in r0 before it.",
+        VerifyFault::TargetOutside =>
+            "The jump leads to slot {0}; the program has slots 0 to {3}. A jump is counted in slots from the next instruction, and `lddw` and `ldmap` take two.|Jump to an instruction of the program.",
+        VerifyFault::TargetNotForward if is_loop =>
+            "This is a loop: the jump leads back to slot {0}, and programs have none.|Write the body as often as it may run (in C `#pragma unroll` and a constant bound), or let the caller call again.",
+        // The compiler put above what is run last.
+        VerifyFault::TargetNotForward =>
+            "This is no loop, but the jump leads back to slot {0}, from where no way leads here again; each jump has to lead forward.|Move what stands at slot {0} behind this jump. In C it is an early exit of a loop that was unrolled, as `break` or `return`, which clang put above: write the loop without an exit, as docs/C.md shows.",
+        _ =>
+            "Slot {0} is the second half of the wide instruction at slot {1}.|Jump to slot {1} or {2}.",
+    }
+}
+
+// The same in words.
+fn wrong_jump(study: &Study<'_>, refused: Refused) -> Result<Told<'static>, AllocError> {
+    let (slot, slots) = (refused.slot as usize, study.slots());
+    let target = match study.form_at(slot) {
+        Some(form) => jump_target(form, slot).unwrap_or(i64::from(refused.slot)),
+        None => i64::from(refused.slot),
     };
-    Ok(if is_loop {
-        "This is a loop: the jump leads back to slot {0}, and programs have none.|Write the body as often as it may run (in C `#pragma unroll` and a constant bound), or let the caller call again."
-    } else {
-        "This is no loop, but the jump leads back to slot {0}, from where no way leads here again; each jump has to lead forward.|Move what stands at slot {0} behind this jump. In C it is an early exit of a loop that was unrolled, as `break` or `return`, which clang put above: write the loop without an exit, as docs/C.md shows."
-    })
+    let (is_loop, is_at_end) = match usize::try_from(target) {
+        Ok(to) => (is_way(study, to, slot)?, to == slots),
+        Err(_) => (true, false),
+    };
+    let (above, below) = (target.saturating_sub(1), target.saturating_add(1));
+    let last = Count(slots.saturating_sub(1));
+    let text = jump_text(refused.why, is_loop, is_at_end);
+    Ok(say(text, &[Number(target), Number(above), Number(below), last]))
 }
 
 // The last slot of the instructions in a row, from this slot on, to which nothing leads.
@@ -66,19 +86,14 @@ fn last_unreached(study: &Study<'_>, slot: usize) -> usize {
     last
 }
 
-// The slot above this one at which the answer of a lookup is used without a test.
-fn used_untested(study: &Study<'_>, slot: usize) -> Option<usize> {
-    let kinds = study.known.kinds?;
-    let used = kinds.slot as usize;
-    match kinds.why {
-        VerifyFault::UncheckedNull if used < slot => Some(used),
-        _ => None,
-    }
-}
-
 // Why nothing leads to the instruction at a slot.
 fn unreached(study: &Study<'_>, slot: usize) -> Told<'static> {
-    let used = used_untested(study, slot);
+    // The slot above this one at which the answer of a lookup is used without a test.
+    let used = match study.known.kinds {
+        Some(kinds) if kinds.why == VerifyFault::UncheckedNull && (kinds.slot as usize) < slot =>
+            Some(kinds.slot as usize),
+        _ => None,
+    };
     let last = last_unreached(study, slot);
     let reads_argument = match study.form_at(slot) {
         Some(form) => reads(form)[0] == Some(1),
@@ -116,23 +131,12 @@ pub(crate) fn broken_structure(
     refused: Refused,
 ) -> Result<Option<Told<'static>>, AllocError> {
     let slot = refused.slot as usize;
-    let target = match study.form_at(slot) {
-        Some(form) => jump_target(form, slot).unwrap_or(i64::from(refused.slot)),
-        None => i64::from(refused.slot),
-    };
-    let text = match refused.why {
-        VerifyFault::TargetOutside if usize::try_from(target) == Ok(study.slots()) =>
-            "The jump leads to slot {0}, just behind the last instruction: a label at the end of the text names none.|Put an instruction behind the label: `exit`, with a number in r0 before it.",
-        VerifyFault::TargetOutside =>
-            "The jump leads to slot {0}; the program has slots 0 to {3}. A jump is counted in slots from the next instruction, and `lddw` and `ldmap` take two.|Jump to an instruction of the program.",
-        VerifyFault::TargetNotForward => backward(study, slot, target)?,
-        VerifyFault::TargetInsideWide =>
-            "Slot {0} is the second half of the wide instruction at slot {1}.|Jump to slot {1} or {2}.",
-        VerifyFault::RunsOffTheEnd => return Ok(Some(endless(study, slot))),
-        VerifyFault::Unreachable => return Ok(Some(unreached(study, slot))),
-        _ => return Ok(None),
-    };
-    let (above, below) = (target.saturating_sub(1), target.saturating_add(1));
-    let last = Count(study.slots().saturating_sub(1));
-    Ok(Some(say(text, &[Number(target), Number(above), Number(below), last])))
+    match refused.why {
+        VerifyFault::TargetOutside
+        | VerifyFault::TargetNotForward
+        | VerifyFault::TargetInsideWide => Ok(Some(wrong_jump(study, refused)?)),
+        VerifyFault::RunsOffTheEnd => Ok(Some(endless(study, slot))),
+        VerifyFault::Unreachable => Ok(Some(unreached(study, slot))),
+        _ => Ok(None),
+    }
 }

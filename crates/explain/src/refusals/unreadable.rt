@@ -89,12 +89,18 @@ fn is_written(study: &Study<'_>, way: &Way, register: u8) -> bool {
     false
 }
 
-// What is told where nothing sets a register.
-fn never_set(study: &Study<'_>, way: &Way, register: u8) -> &'static str {
-    match study.form_at(way.end) {
-        Some(Form::Exit) if !is_written(study, way, register) =>
+// Why nothing is known of a register at the end of a way, on which what it had was lost or not.
+fn text_of(study: &Study<'_>, way: &Way, register: u8, lost: Option<Kind>) -> &'static str {
+    match (lost, study.form_at(way.end)) {
+        (Some(_), _) if register >= 1 && register <= 5 =>
+            "{0} was lost at the call at slot {1}: a call takes r1 to r5.|Keep it in r6, r7, r8 or r9 before the call.",
+        (Some(Kind::Value(_, _) | Kind::ValueOrNull(_)), _) =>
+            "{0} pointed into a value of map {2}, and the call at slot {1} may have moved its values.|Look the key up again behind that call.",
+        _ if lost.is_some() || way.parted.is_some() =>
+            "On this way nothing sets {0}; on another to slot {1} something does.|Set {0} before the ways part. In C: a variable without a first value.",
+        (_, Some(Form::Exit)) if !is_written(study, way, register) =>
             "The reply is {0}, and nothing on the way puts a number there.|Put `mov64 r0, 0` before `exit`. In C: a function that returns nothing; let it return a number.",
-        Some(Form::Call { .. }) =>
+        (_, Some(Form::Call { .. })) =>
             "Nothing on the way sets {0}: at the entry r1 (the argument) and r10 (the stack's end) alone can be read.|Set {0} first: a call takes a map in r1, the address of a key in r2, and an update that of a value in r3 and flags in r4 (0 for any key).",
         _ =>
             "Nothing on the way sets {0}: at the entry r1 (the argument) and r10 (the stack's end) alone can be read.|Set {0} first.",
@@ -107,16 +113,11 @@ pub(crate) fn unreadable(study: &Study<'_>, way: &Way) -> Option<Told<'static>> 
     if let Some(told) = way.meeting.and_then(|at| differing(study, at, register)) {
         return Some(told);
     }
-    let lost = lost(study, way, register);
-    let text = match (lost, way.parted) {
-        (Some(_), _) if register >= 1 && register <= 5 =>
-            "{0} was lost at the call at slot {1}: a call takes r1 to r5.|Keep it in r6, r7, r8 or r9 before the call.",
-        (Some((_, Kind::Value(_, _) | Kind::ValueOrNull(_))), _) =>
-            "{0} pointed into a value of map {2}, and the call at slot {1} may have moved its values.|Look the key up again behind that call.",
-        (Some(_), _) | (None, Some(_)) =>
-            "On this way nothing sets {0}; on another to slot {1} something does.|Set {0} before the ways part. In C: a variable without a first value.",
-        (None, None) => never_set(study, way, register),
+    let (at, lost) = match lost(study, way, register) {
+        Some((at, kind)) => (at, Some(kind)),
+        None => (way.parted.unwrap_or(0), None),
     };
-    let (at, kind) = lost.unwrap_or((way.parted.unwrap_or(0), Kind::Unreadable));
-    Some(say(text, &[Register(register), Count(at), map_in(kind)]))
+    let map = map_in(lost.unwrap_or(Kind::Unreadable));
+    let text = text_of(study, way, register, lost);
+    Some(say(text, &[Register(register), Count(at), map]))
 }

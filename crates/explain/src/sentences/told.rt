@@ -57,9 +57,11 @@ impl Told<'_> {
     // Adds it and ends the line; what to do stands behind this.
     pub(crate) fn put(&self, out: &mut String, to_do: &str) -> Written {
         for text in &self.texts {
-            for (k, part) in text.split('|').enumerate() {
-                out.push_str(if k == 0 { "" } else { to_do })?;
-                put(out, part, &self.words)?;
+            let (what, fix) = text.split_once('|').unwrap_or((*text, ""));
+            put(out, what, &self.words)?;
+            if !fix.is_empty() {
+                out.push_str(to_do)?;
+                put(out, fix, &self.words)?;
             }
         }
         out.push_str("\n")
