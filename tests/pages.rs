@@ -1,7 +1,7 @@
 //! Scans of a hash, page by page. At one point they give each key once. A removal between two pages may move a key, which is passed by then, or
 //! given twice: the pages tell by their points that they are of two states.
 
-use crate::single_store::{close, single};
+use crate::single_store::{close, open_one, single};
 use loader::{Catalogue, load_manifest};
 use std::alloc::Global;
 use std::sync::Wait;
@@ -55,11 +55,8 @@ fn page_from<R: Wait>(rt: &R, store: &Store, session: &mut Session, from: u32) -
 #[test]
 fn each_key_once_at_one_point(rt: HostRuntime) {
     let catalogue = hash(rt.alloc()).expect(&rt, "catalogue");
-    let room = Vec::with_capacity(rt.alloc(), 1).expect(&rt, "room");
-    let opened = Store::open(rt.alloc(), single(16, 9, 0), catalogue);
-    let (store, mut sessions) = opened.expect(&rt, "store");
-    let mut session = sessions.pop().expect(&rt, "session");
-    sessions.destroy_empty();
+    let opened = open_one(rt.alloc(), single(16, 9, 0), catalogue);
+    let (store, mut session, room) = opened.expect(&rt, "store");
     put_each(&rt, &store, &mut session, &[1, 2, 4, 8, 16]);
     let first = page_from(&rt, &store, &mut session, 0).expect(&rt, "first");
     let from = first.next.expect(&rt, "a place");
@@ -78,11 +75,8 @@ fn each_key_once_at_one_point(rt: HostRuntime) {
 #[test]
 fn a_key_is_passed_by(rt: HostRuntime) {
     let catalogue = hash(rt.alloc()).expect(&rt, "catalogue");
-    let room = Vec::with_capacity(rt.alloc(), 1).expect(&rt, "room");
-    let opened = Store::open(rt.alloc(), single(16, 9, 0), catalogue);
-    let (store, mut sessions) = opened.expect(&rt, "store");
-    let mut session = sessions.pop().expect(&rt, "session");
-    sessions.destroy_empty();
+    let opened = open_one(rt.alloc(), single(16, 9, 0), catalogue);
+    let (store, mut session, room) = opened.expect(&rt, "store");
     put_each(&rt, &store, &mut session, &[0, 1, 2, 3]);
     let before = page_from(&rt, &store, &mut session, 0);
     let _taken = session.invoke(&rt, &store, 1, &[0]);
@@ -110,11 +104,8 @@ fn a_key_is_passed_by(rt: HostRuntime) {
 #[test]
 fn a_key_is_given_twice(rt: HostRuntime) {
     let catalogue = hash(rt.alloc()).expect(&rt, "catalogue");
-    let room = Vec::with_capacity(rt.alloc(), 1).expect(&rt, "room");
-    let opened = Store::open(rt.alloc(), single(16, 9, 0), catalogue);
-    let (store, mut sessions) = opened.expect(&rt, "store");
-    let mut session = sessions.pop().expect(&rt, "session");
-    sessions.destroy_empty();
+    let opened = open_one(rt.alloc(), single(16, 9, 0), catalogue);
+    let (store, mut session, room) = opened.expect(&rt, "store");
     put_each(&rt, &store, &mut session, &[0, 1, 2]);
     let _taken = session.invoke(&rt, &store, 1, &[1]);
     put_each(&rt, &store, &mut session, &[4]);

@@ -1,7 +1,7 @@
 //! Several reads of a store at one point.
 
-use crate::single_store::{ZERO, close, counter, single};
-use store::{Question, QuestionRefused, Store, StoreRefused};
+use crate::single_store::{ZERO, close, counter, open_one, single};
+use store::{Question, QuestionRefused, StoreRefused};
 
 const ONE: [u8; 4] = [1, 0, 0, 0];
 
@@ -17,11 +17,8 @@ fn peek(key: &[u8]) -> Question<'_> {
 #[test]
 fn two_reads_at_one_point(rt: HostRuntime) {
     let catalogue = counter(rt.alloc()).expect(&rt, "catalogue");
-    let room = Vec::with_capacity(rt.alloc(), 1).expect(&rt, "room");
-    let opened = Store::open(rt.alloc(), single(16, 3, 0), catalogue);
-    let (store, mut sessions) = opened.expect(&rt, "store");
-    let mut session = sessions.pop().expect(&rt, "session");
-    sessions.destroy_empty();
+    let opened = open_one(rt.alloc(), single(16, 3, 0), catalogue);
+    let (store, mut session, room) = opened.expect(&rt, "store");
     let _first = session.invoke(&rt, &store, 0, &ZERO);
     let mut replies = [9; 2];
     let asked = [peek(&ZERO), peek(&ONE)];
@@ -35,11 +32,8 @@ fn two_reads_at_one_point(rt: HostRuntime) {
 #[test]
 fn no_question(rt: HostRuntime) {
     let catalogue = counter(rt.alloc()).expect(&rt, "catalogue");
-    let room = Vec::with_capacity(rt.alloc(), 1).expect(&rt, "room");
-    let opened = Store::open(rt.alloc(), single(16, 3, 0), catalogue);
-    let (store, mut sessions) = opened.expect(&rt, "store");
-    let mut session = sessions.pop().expect(&rt, "session");
-    sessions.destroy_empty();
+    let opened = open_one(rt.alloc(), single(16, 3, 0), catalogue);
+    let (store, mut session, room) = opened.expect(&rt, "store");
     let _first = session.invoke(&rt, &store, 0, &ZERO);
     let point = session.read_each(&rt, &store, &[], &mut []);
     let _closed = close(store, session, room);
@@ -50,11 +44,8 @@ fn no_question(rt: HostRuntime) {
 #[test]
 fn the_first_that_is_refused(rt: HostRuntime) {
     let catalogue = counter(rt.alloc()).expect(&rt, "catalogue");
-    let room = Vec::with_capacity(rt.alloc(), 1).expect(&rt, "room");
-    let opened = Store::open(rt.alloc(), single(16, 3, 0), catalogue);
-    let (store, mut sessions) = opened.expect(&rt, "store");
-    let mut session = sessions.pop().expect(&rt, "session");
-    sessions.destroy_empty();
+    let opened = open_one(rt.alloc(), single(16, 3, 0), catalogue);
+    let (store, mut session, room) = opened.expect(&rt, "store");
     let mut replies = [9; 3];
     let asked = [peek(&ZERO), peek(&ONE[..3]), peek(&[])];
     let told = session.read_each(&rt, &store, &asked, &mut replies);

@@ -5,13 +5,13 @@ use maps::{MapSet, Shape, shapes_ok};
 use replica::{Replica, Replies};
 use std::alloc::Global;
 
-const SHAPES: [Shape; 1] = [Shape::Array {
+pub(crate) const SHAPES: [Shape; 1] = [Shape::Array {
     value: 8,
     entries: 4,
 }];
 
-// A new replica of these maps, in which one program may be installed.
-fn opened_replica(alloc: Global) -> Option<Replica> {
+// A new state of these maps, in which one program may be installed.
+pub(crate) fn new_state(alloc: Global) -> Option<StoreState> {
     if shapes_ok(&SHAPES).is_err() {
         return None;
     }
@@ -21,7 +21,13 @@ fn opened_replica(alloc: Global) -> Option<Replica> {
     let Ok(programs) = Installed::open(alloc, &SHAPES, 1) else {
         return None;
     };
-    Some(Replica::open(StoreState::of(maps, programs)))
+    Some(StoreState::of(maps, programs))
+}
+
+// A new replica of it.
+fn opened_replica(alloc: Global) -> Option<Replica> {
+    let state = new_state(alloc)?;
+    Some(Replica::open(state))
 }
 
 #[test]

@@ -1,7 +1,7 @@
 //! Scans of a store's map, page by page.
 
-use crate::single_store::{ZERO, close, counter, single};
-use store::{Beginning, Scan, ScanRefused, Store};
+use crate::single_store::{ZERO, close, counter, open_one, single};
+use store::{Beginning, Scan, ScanRefused};
 
 fn from(map: usize, from: u32) -> Beginning {
     Beginning { map, from }
@@ -11,11 +11,8 @@ fn from(map: usize, from: u32) -> Beginning {
 #[test]
 fn pages_of_an_array(rt: HostRuntime) {
     let catalogue = counter(rt.alloc()).expect(&rt, "catalogue");
-    let room = Vec::with_capacity(rt.alloc(), 1).expect(&rt, "room");
-    let opened = Store::open(rt.alloc(), single(16, 3, 0), catalogue);
-    let (store, mut sessions) = opened.expect(&rt, "store");
-    let mut session = sessions.pop().expect(&rt, "session");
-    sessions.destroy_empty();
+    let opened = open_one(rt.alloc(), single(16, 3, 0), catalogue);
+    let (store, mut session, room) = opened.expect(&rt, "store");
     let _first = session.invoke(&rt, &store, 0, &ZERO);
     let (mut keys, mut values) = ([0; 20], [9; 47]);
     let page = session.scan(&rt, &store, from(0, 0), &mut keys, &mut values);
@@ -43,11 +40,8 @@ fn pages_of_an_array(rt: HostRuntime) {
 #[test]
 fn scans_that_give_nothing(rt: HostRuntime) {
     let catalogue = counter(rt.alloc()).expect(&rt, "catalogue");
-    let room = Vec::with_capacity(rt.alloc(), 1).expect(&rt, "room");
-    let opened = Store::open(rt.alloc(), single(16, 3, 0), catalogue);
-    let (store, mut sessions) = opened.expect(&rt, "store");
-    let mut session = sessions.pop().expect(&rt, "session");
-    sessions.destroy_empty();
+    let opened = open_one(rt.alloc(), single(16, 3, 0), catalogue);
+    let (store, mut session, room) = opened.expect(&rt, "store");
     let nothing = session.scan(&rt, &store, from(0, 7), &mut [0; 3], &mut [0; 8]);
     let unknown_map = session.scan(&rt, &store, from(1, 0), &mut [0; 4], &mut [0; 8]);
     let unknown_place = session.scan(&rt, &store, from(0, 16), &mut [0; 4], &mut [0; 8]);

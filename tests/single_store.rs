@@ -35,10 +35,23 @@ pub(crate) fn single(window: u32, limit: u32, spare: u32) -> Config {
     }
 }
 
+// A store of one session: it, the session, and the list that this came in, which has room to take it back.
+pub(crate) fn open_one(
+    alloc: Global,
+    config: Config,
+    catalogue: Catalogue,
+) -> Option<(Store, Session, Vec<Session>)> {
+    let (store, mut sessions) = Store::open(alloc, config, catalogue).ok()?;
+    let Some(session) = sessions.pop() else {
+        unreachable!()
+    };
+    Some((store, session, sessions))
+}
+
 // Ends the store, once its session is back.
-pub(crate) fn close(store: Store, session: Session, mut sessions: Vec<Session>) -> Closed {
-    sessions.push_reserved(session);
-    match store.close(sessions) {
+pub(crate) fn close(store: Store, session: Session, mut room: Vec<Session>) -> Closed {
+    room.push_reserved(session);
+    match store.close(room) {
         Ok(closed) => closed,
         Err(_) => unreachable!(),
     }
@@ -47,10 +60,8 @@ pub(crate) fn close(store: Store, session: Session, mut sessions: Vec<Session>) 
 #[test]
 fn one_update_at_most(rt: HostRuntime) {
     let catalogue = counter(rt.alloc()).expect(&rt, "catalogue");
-    let room = Vec::with_capacity(rt.alloc(), 1).expect(&rt, "room");
-    let opened = Store::open(rt.alloc(), single(16, 1, 0), catalogue);
-    let (store, mut sessions) = opened.expect(&rt, "store");
-    let mut session = sessions.pop().expect(&rt, "session");
+    let opened = open_one(rt.alloc(), single(16, 1, 0), catalogue);
+    let (store, mut session, sessions) = opened.expect(&rt, "store");
     let first = Answer { index: 0, reply: 1 };
     assert_eq!(rt; session.invoke(&rt, &store, 0, &ZERO), Ok(first));
     let short = session.invoke(&rt, &store, 0, &[0]);
@@ -71,6 +82,7 @@ fn one_update_at_most(rt: HostRuntime) {
         unreachable!()
     };
     sessions.destroy_empty();
+    let room = Vec::with_capacity(rt.alloc(), 1).expect(&rt, "room");
     assert_eq!(rt; close(store, session, room).log().tail(), 1);
 }
 
@@ -78,11 +90,8 @@ fn one_update_at_most(rt: HostRuntime) {
 #[test]
 fn forty_updates_in_a_window_of_sixteen(rt: HostRuntime) {
     let catalogue = counter(rt.alloc()).expect(&rt, "catalogue");
-    let room = Vec::with_capacity(rt.alloc(), 1).expect(&rt, "room");
-    let opened = Store::open(rt.alloc(), single(16, 40, 0), catalogue);
-    let (store, mut sessions) = opened.expect(&rt, "store");
-    let mut session = sessions.pop().expect(&rt, "session");
-    sessions.destroy_empty();
+    let opened = open_one(rt.alloc(), single(16, 40, 0), catalogue);
+    let (store, mut session, room) = opened.expect(&rt, "store");
     for index in 0..40 {
         let want = Answer {
             index,
@@ -100,11 +109,8 @@ fn forty_updates_in_a_window_of_sixteen(rt: HostRuntime) {
 #[test]
 fn a_program_is_installed(rt: HostRuntime) {
     let catalogue = counter(rt.alloc()).expect(&rt, "catalogue");
-    let room = Vec::with_capacity(rt.alloc(), 1).expect(&rt, "room");
-    let opened = Store::open(rt.alloc(), single(16, 40, 1), catalogue);
-    let (store, mut sessions) = opened.expect(&rt, "store");
-    let mut session = sessions.pop().expect(&rt, "session");
-    sessions.destroy_empty();
+    let opened = open_one(rt.alloc(), single(16, 40, 1), catalogue);
+    let (store, mut session, room) = opened.expect(&rt, "store");
     let early = session.invoke(&rt, &store, 2, &[]);
     let installed = session.install(&rt, &store, Mode::Update, 0, &FIVE);
     let called = session.invoke(&rt, &store, 2, &[]);
@@ -124,11 +130,8 @@ fn a_program_is_installed(rt: HostRuntime) {
 #[test]
 fn no_place_is_left(rt: HostRuntime) {
     let catalogue = counter(rt.alloc()).expect(&rt, "catalogue");
-    let room = Vec::with_capacity(rt.alloc(), 1).expect(&rt, "room");
-    let opened = Store::open(rt.alloc(), single(16, 40, 0), catalogue);
-    let (store, mut sessions) = opened.expect(&rt, "store");
-    let mut session = sessions.pop().expect(&rt, "session");
-    sessions.destroy_empty();
+    let opened = open_one(rt.alloc(), single(16, 40, 0), catalogue);
+    let (store, mut session, room) = opened.expect(&rt, "store");
     let full = session.install(&rt, &store, Mode::Read, 64, &FIVE);
     let large = session.install(&rt, &store, Mode::Read, 65, &FIVE);
     assert_eq!(rt;

@@ -1,7 +1,8 @@
 //! The log with its window, and the hands that its records are copied into.
 
-use loader::{Installed, StoreState};
-use maps::{MapSet, Shape, shapes_ok};
+use crate::replicas::{SHAPES, new_state};
+use loader::Installed;
+use maps::{MapSet, shapes_ok};
 use oplog::{
     Appended, Call, Config, CopyAnswer, ENDLESS, Ended, Hand, LogState, Op, OpenError, Record,
     Sizes,
@@ -9,23 +10,10 @@ use oplog::{
 use std::alloc::Global;
 use std::test::Fail;
 
-const SHAPES: [Shape; 1] = [Shape::Array {
-    value: 8,
-    entries: 4,
-}];
-
 // A new log over these maps, with a place for one program. It keeps sixteen records, and its history may have three.
 fn opened_log(alloc: Global) -> Option<LogState> {
-    if shapes_ok(&SHAPES).is_err() {
-        return None;
-    }
-    let Ok(maps) = MapSet::open(alloc, &SHAPES) else {
-        return None;
-    };
-    let Ok(programs) = Installed::open(alloc, &SHAPES, 1) else {
-        return None;
-    };
-    LogState::open(alloc, StoreState::of(maps, programs), 16, 3).ok()
+    let state = new_state(alloc)?;
+    LogState::open(alloc, state, 16, 3).ok()
 }
 
 fn third_program(author: u16, seq: u64) -> Record {

@@ -1,25 +1,15 @@
 //! A store of every schedule, by its calls, of what no row of crates/test_commands can say.
 
+use crate::single_store;
 use combiner::Reply;
-use loader::load_manifest;
 use oplog::{Config, CopyAnswer, Hand, LogState};
 use readpath::ReadAnswer;
 use schedule::{Step, StepAnswer, World, run_steps};
 use std::alloc::Global;
 
-const BUMP: &str =
-    "bf12000000000000 1851000000000000 0000000000000000 8500000001000000 1500050000000000 7906000000000000 0706000001000000 7b60000000000000 bf60000000000000 9500000000000000 b7000000ffffffff 9500000000000000";
-
-const PEEK: &str =
-    "bf12000000000000 1851000000000000 0000000000000000 8500000001000000 1500020000000000 7900000000000000 9500000000000000 b7000000ffffffff 9500000000000000";
-
-const MANIFEST: &str =
-    "map array 8 16\nprogram bump update 4 bump.hex\nprogram peek read 4 peek.hex\n";
-
 // A store of so many nodes and slots, and a log of 16 records.
 fn counter(alloc: Global, nodes: u32, slots: u32) -> Option<World> {
-    let files = [("bump.hex", BUMP), ("peek.hex", PEEK)];
-    let catalogue = load_manifest(alloc, MANIFEST, &files).ok()?;
+    let catalogue = single_store::counter(alloc)?;
     let config = Config {
         nodes,
         slots,
