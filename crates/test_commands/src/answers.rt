@@ -62,29 +62,34 @@ fn on_both<'a>(folder: &'a Offered<'a>, manifest: &'a [u8]) -> Inputs<'a, Offere
 
 // What `schedule` answers in a store of the sizes behind its name, and `replay` and `serve` with the places behind their names.
 fn sized(
+    alloc: Global,
     folder: &Offered,
     command: &str,
     manifest: &[u8],
     notes: &mut Notes,
-    out: &mut Vec<u8>,
-) -> Option<Status> {
+) -> Option<Answer> {
     let (name, text) = command.split_once(':')?;
-    let alloc = *out.allocator();
-    if name == "replay" {
-        let spare = text.parse::<u32>().ok()?;
-        let mut inputs = on_both(folder, manifest);
-        return Some(perform(alloc, &Replay { spare }, &mut inputs, notes, out));
-    }
-    if name == "serve" {
-        let spare = text.parse::<u32>().ok()?;
-        return Some(served(alloc, spare, folder, manifest, out));
-    }
-    if name != "schedule" {
-        return None;
-    }
-    let config = sizes(text)?;
+    let mut out = Vec::new(alloc);
     let mut inputs = on_both(folder, manifest);
-    Some(perform(alloc, &Schedule { config }, &mut inputs, notes, out))
+    let status = match name {
+        "replay" => {
+            let spare = text.parse::<u32>().ok()?;
+            perform(alloc, &Replay { spare }, &mut inputs, notes, &mut out)
+        }
+        "serve" => {
+            let spare = text.parse::<u32>().ok()?;
+            served(alloc, spare, folder, manifest, &mut out)
+        }
+        "schedule" => {
+            let config = sizes(text)?;
+            perform(alloc, &Schedule { config }, &mut inputs, notes, &mut out)
+        }
+        _ => return None,
+    };
+    Some(Answer {
+        status: status.code(),
+        text: out,
+    })
 }
 
 // What `schedule` or `replay` tells beside its answer.
@@ -96,10 +101,9 @@ fn told(
     manifest: &[u8],
 ) -> Option<Answer> {
     let mut notes = Notes::new(alloc, telling);
-    let mut out = Vec::new(alloc);
-    let status = sized(folder, command, manifest, &mut notes, &mut out)?;
+    let answer = sized(alloc, folder, command, manifest, &mut notes)?;
     Some(Answer {
-        status: status.code(),
+        status: answer.status,
         text: notes.text,
     })
 }
@@ -147,24 +151,41 @@ fn stressed<R: Threads + Wait + Sync>(
     })
 }
 
-// What a command of a manifest writes.
-fn on_manifest<C: Command>(
-    alloc: Global,
-    folder: &Offered,
-    command: &C,
-    manifest: &[u8],
-    out: &mut Vec<u8>,
-) -> Status
-where
-    C::Made: Answering,
-{
-    let mut inputs = Inputs {
+// A manifest alone.
+fn on_manifest<'a>(
+    folder: &'a Offered<'a>,
+    manifest: &'a [u8],
+) -> Inputs<'a, Offered<'a>, &'a [u8]> {
+    Inputs {
         folder,
         manifest: Some(manifest),
         file: None,
         state: None,
         history: None,
-    };
+    }
+}
+
+// A text alone.
+fn on_text<'a>(folder: &'a Offered<'a>, text: &'a [u8]) -> Inputs<'a, Offered<'a>, &'a [u8]> {
+    Inputs {
+        folder,
+        manifest: None,
+        file: Some(text),
+        state: None,
+        history: None,
+    }
+}
+
+// What a command writes that tells nothing beside.
+fn written<'a, C: Command>(
+    alloc: Global,
+    command: &C,
+    mut inputs: Inputs<'a, Offered<'a>, &'a [u8]>,
+    out: &mut Vec<u8>,
+) -> Status
+where
+    C::Made: Answering,
+{
     perform(alloc, command, &mut inputs, &mut Notes::none(alloc), out)
 }
 
@@ -172,7 +193,8 @@ where
 fn explained(alloc: Global, folder: &Offered, command: &str, manifest: &[u8]) -> Answer {
     let mut out = Vec::new(alloc);
     let name = command.strip_prefix("explain:");
-    let status = on_manifest(alloc, folder, &Explain { folder, name }, manifest, &mut out);
+    let command = Explain { folder, name };
+    let status = written(alloc, &command, on_manifest(folder, manifest), &mut out);
     Answer {
         status: status.code(),
         text: out,
@@ -181,11 +203,10 @@ fn explained(alloc: Global, folder: &Offered, command: &str, manifest: &[u8]) ->
 
 // What `run` answers, or as `run:signed` with signed numbers beside.
 fn ran(alloc: Global, folder: &Offered, command: &str, manifest: &[u8]) -> Answer {
-    let mut inputs = on_both(folder, manifest);
     let is_signed = command == "run:signed";
-    let mut notes = Notes::none(alloc);
+    let command = Run { is_signed };
     let mut out = Vec::new(alloc);
-    let status = perform(alloc, &Run { is_signed }, &mut inputs, &mut notes, &mut out);
+    let status = written(alloc, &command, on_both(folder, manifest), &mut out);
     Answer {
         status: status.code(),
         text: out,
@@ -196,7 +217,8 @@ fn ran(alloc: Global, folder: &Offered, command: &str, manifest: &[u8]) -> Answe
 fn drawn(alloc: Global, folder: &Offered, command: &str, manifest: &[u8]) -> Answer {
     let mut out = Vec::new(alloc);
     let name = command.strip_prefix("graph:");
-    let status = on_manifest(alloc, folder, &Draw { name }, manifest, &mut out);
+    let command = Draw { name };
+    let status = written(alloc, &command, on_manifest(folder, manifest), &mut out);
     Answer {
         status: status.code(),
         text: out,
@@ -222,9 +244,8 @@ fn on_files(alloc: Global, folder: &Offered, command: &str, text: &[u8]) -> Opti
 
 // What `replay` writes.
 fn replayed(alloc: Global, folder: &Offered, manifest: &[u8], out: &mut Vec<u8>) -> Status {
-    let mut inputs = on_both(folder, manifest);
     let command = Replay { spare: 4 };
-    perform(alloc, &command, &mut inputs, &mut Notes::none(alloc), out)
+    written(alloc, &command, on_both(folder, manifest), out)
 }
 
 // What `serve` writes on a new state, with so many places.
@@ -240,27 +261,6 @@ fn served(
     serve(alloc, spare, &mut inputs, &mut lines, out).status
 }
 
-// What a command of one text writes.
-fn on_text<C: Command>(
-    alloc: Global,
-    folder: &Offered,
-    command: &C,
-    text: &[u8],
-    out: &mut Vec<u8>,
-) -> Status
-where
-    C::Made: Answering,
-{
-    let mut inputs = Inputs {
-        folder,
-        manifest: None,
-        file: Some(text),
-        state: None,
-        history: None,
-    };
-    perform(alloc, command, &mut inputs, &mut Notes::none(alloc), out)
-}
-
 // What `dis` writes, with slots and bytes or without.
 fn disassembled(
     alloc: Global,
@@ -269,33 +269,38 @@ fn disassembled(
     text: &[u8],
     out: &mut Vec<u8>,
 ) -> Status {
-    on_text(alloc, folder, &Disassemble { has_slots }, text, out)
+    let command = Disassemble { has_slots };
+    written(alloc, &command, on_text(folder, text), out)
 }
 
 // What `check` writes where the files that the manifest names are what `asm` writes.
 fn assembled(alloc: Global, folder: &Offered, manifest: &[u8], out: &mut Vec<u8>) -> Status {
     let mut program = Vec::new(alloc);
-    let _ = on_text(alloc, folder, &Assemble, folder.other, &mut program);
+    let _ = written(
+        alloc,
+        &Assemble,
+        on_text(folder, folder.other),
+        &mut program,
+    );
     let other = program.as_slice();
     let files = folder.files;
     let offered = Offered { files, other };
-    on_manifest(alloc, &offered, &Check, manifest, out)
+    written(alloc, &Check, on_manifest(&offered, manifest), out)
 }
 
 // What a command answers that is neither on a state nor told of.
 fn plain(alloc: Global, folder: &Offered, command: &str, text: &[u8]) -> Option<Answer> {
     let mut out = Vec::new(alloc);
-    let mut notes = Notes::none(alloc);
     let status = match command {
-        "check" => on_manifest(alloc, folder, &Check, text, &mut out),
+        "check" => written(alloc, &Check, on_manifest(folder, text), &mut out),
         "replay" => replayed(alloc, folder, text, &mut out),
         "serve" => served(alloc, 4, folder, text, &mut out),
         "assembled" => assembled(alloc, folder, text, &mut out),
-        "asm" => on_text(alloc, folder, &Assemble, text, &mut out),
+        "asm" => written(alloc, &Assemble, on_text(folder, text), &mut out),
         "dis" => disassembled(alloc, folder, false, text, &mut out),
         "dis:slots" => disassembled(alloc, folder, true, text, &mut out),
-        "encode" => on_text(alloc, folder, &Encode, text, &mut out),
-        _ => sized(folder, command, text, &mut notes, &mut out)?,
+        "encode" => written(alloc, &Encode, on_text(folder, text), &mut out),
+        _ => return sized(alloc, folder, command, text, &mut Notes::none(alloc)),
     };
     Some(Answer {
         status: status.code(),

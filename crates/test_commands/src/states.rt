@@ -2,6 +2,7 @@
 
 use crate::answers::{Answer, on_texts};
 use crate::files::{Offered, text_of};
+use engine::reading::Inputs;
 use engine::{Notes, Status, Verdict, prepare};
 use replaying::Replay;
 use running::{Kept, Run, dump_to};
@@ -17,15 +18,19 @@ fn status_of(verdict: Verdict) -> Status {
     }
 }
 
-// What `run` answers on the state of this name, or on a new one, and behind `left` the state that it leaves.
-pub fn run_on<'a>(
-    alloc: Global,
+// A manifest, the text behind its bar, and the state of this name, or a new one.
+fn on_state<'a>(
     folder: &'a Offered<'a>,
     name: &str,
     manifest: &'a [u8],
-) -> Option<Answer> {
+) -> Inputs<'a, Offered<'a>, &'a [u8]> {
     let state = text_of(folder.files, name).unwrap_or(&[]);
-    let mut inputs = on_texts(folder, manifest, folder.other, state, &[]);
+    on_texts(folder, manifest, folder.other, state, &[])
+}
+
+// What `run` answers on the state of this name, or on a new one, and behind `left` the state that it leaves.
+pub fn run_on(alloc: Global, folder: &Offered, name: &str, manifest: &[u8]) -> Option<Answer> {
+    let mut inputs = on_state(folder, name, manifest);
     let command = Run { is_signed: false };
     let kept = prepare(alloc, &command, &mut inputs, &mut Notes::none(alloc)).ok()?;
     let Kept { reply, state } = kept;
@@ -60,14 +65,8 @@ pub fn serve_on(alloc: Global, folder: &Offered, name: &str, manifest: &[u8]) ->
 }
 
 // What `replay` answers on the state of this name, or on a new one, with four places.
-pub fn replay_on<'a>(
-    alloc: Global,
-    folder: &'a Offered<'a>,
-    name: &str,
-    manifest: &'a [u8],
-) -> Option<Answer> {
-    let state = text_of(folder.files, name).unwrap_or(&[]);
-    let mut inputs = on_texts(folder, manifest, folder.other, state, &[]);
+pub fn replay_on(alloc: Global, folder: &Offered, name: &str, manifest: &[u8]) -> Option<Answer> {
+    let mut inputs = on_state(folder, name, manifest);
     let command = Replay { spare: 4 };
     let reply = prepare(alloc, &command, &mut inputs, &mut Notes::none(alloc)).ok()?;
     Some(Answer {
