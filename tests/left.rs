@@ -1,6 +1,6 @@
 //! What a run of `stress` leaves beside its transcript: the history of its calls in real time, the state that it ends in, and its counts.
 
-use crate::meeting::{MANIFEST, Programs};
+use crate::meeting::{Programs, given};
 use dumps::dump;
 use oplog::Config;
 use std::alloc::Global;
@@ -10,7 +10,7 @@ use std::sync::Wait;
 use std::sync::atomic::{AtomicU64, Ordering};
 use std::thread::Threads;
 use std::time::Duration;
-use stress::{OpenGate, Stressed, Trial, Watch, stress_on};
+use stress::{OpenGate, Stress, Stressed};
 
 // A clock that goes on by a microsecond each time that it is read.
 #[derive(Drop)]
@@ -32,11 +32,14 @@ impl Clock for Ticking {
 fn left_by<R: Threads + Wait + Sync>(
     rt: &R,
     alloc: Global,
-    mut script: &[u8],
-    mut state: &[u8],
+    script: &[u8],
+    state: &[u8],
 ) -> Option<Stressed> {
-    let trial = Trial {
-        alloc,
+    let clock = Ticking {
+        microseconds: AtomicU64::new(0),
+    };
+    let command = Stress {
+        rt,
         config: Config {
             nodes: 1,
             slots: 1,
@@ -44,18 +47,12 @@ fn left_by<R: Threads + Wait + Sync>(
             limit: 3,
             spare: 0,
         },
-        folder: &Programs,
         gate: &OpenGate,
-    };
-    let clock = Ticking {
-        microseconds: AtomicU64::new(0),
-    };
-    let watch = Watch {
-        history: true,
+        has_history: true,
         clock: Some(&clock),
     };
-    let mut manifest = MANIFEST;
-    stress_on(rt, &trial, &watch, &mut manifest, &mut script, &mut state).ok()
+    let mut inputs = given(&Programs, script, state);
+    command.prepare(alloc, &mut inputs).ok()
 }
 
 #[test]

@@ -6,7 +6,7 @@ use oplog::Config;
 use replaying::Replay;
 use std::sync::atomic::{AtomicU64, Ordering};
 use std::thread;
-use stress::{Gate, Trial, stress};
+use stress::{Gate, NoClock, Stress};
 
 const BUMP: &[u8] =
     b"bf12000000000000 1851000000000000 0000000000000000 8500000001000000 1500050000000000 7906000000000000 0706000001000000 7b60000000000000 bf60000000000000 9500000000000000 b7000000ffffffff 9500000000000000";
@@ -28,6 +28,21 @@ impl Folder for Programs {
 
     fn open(&self, _name: &str) -> Option<&'static [u8]> {
         Some(BUMP)
+    }
+}
+
+// The manifest of the one program, a text, and a state, a new one where its text is empty.
+pub(crate) fn given<'a>(
+    folder: &'a Programs,
+    file: &'a [u8],
+    state: &'a [u8],
+) -> Inputs<'a, Programs, &'a [u8]> {
+    Inputs {
+        folder,
+        manifest: Some(MANIFEST),
+        file: Some(file),
+        state: Some(state),
+        history: None,
     }
 }
 
@@ -72,8 +87,8 @@ fn two_sessions_wait_for_each_other(rt: HostRuntime) {
         second: AtomicU64::new(0),
         met: AtomicU64::new(0),
     };
-    let trial = Trial {
-        alloc: rt.alloc(),
+    let command = Stress {
+        rt: &rt,
         config: Config {
             nodes: 2,
             slots: 2,
@@ -81,20 +96,15 @@ fn two_sessions_wait_for_each_other(rt: HostRuntime) {
             limit: 1000,
             spare: 0,
         },
-        folder: &Programs,
         gate: &meeting,
+        has_history: false,
+        clock: None::<&NoClock>,
     };
-    let (mut manifest, mut script) = (MANIFEST, SCRIPT);
+    let mut inputs = given(&Programs, SCRIPT, b"");
     let mut transcript = Vec::new(rt.alloc());
-    let status = stress(&rt, &trial, &mut manifest, &mut script, &mut transcript);
+    let status = command.perform(rt.alloc(), &mut inputs, &mut transcript);
     assert_eq!(rt; (status.code(), meeting.met.load(Ordering::SeqCst)), (0, 2));
-    let mut inputs = Inputs {
-        folder: &Programs,
-        manifest: Some(MANIFEST),
-        file: Some(transcript.as_slice()),
-        state: None,
-        history: None,
-    };
+    let mut inputs = given(&Programs, transcript.as_slice(), b"");
     let mut found = Vec::new(rt.alloc());
     let mut notes = Notes::none(rt.alloc());
     let command = Replay { spare: 4 };

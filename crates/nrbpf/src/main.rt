@@ -26,7 +26,7 @@ use std::process::ExitCode;
 use std::rt::{Clock, Files};
 use std::sync::Wait;
 use std::thread::Threads;
-use stressing::{stress_alone, stress_into};
+use stressing::{ALONE, stress};
 use tasks::{Call, StateTask, Task};
 
 // A manifest with its files, and another text, where there is one.
@@ -85,7 +85,14 @@ fn perform_on_state<
         StateTask::Run(files, command) => run_on(rt, files, command, folder, inputs, writer),
         StateTask::Serve(spare, files) => serve_on(rt, spare, files, folder, inputs, writer),
         StateTask::Stress(config, beside) => {
-            stress_into(rt, config, beside, folder, inputs, writer)
+            let inputs = reading::Inputs {
+                folder,
+                manifest: Some(&mut inputs.manifest),
+                file: Some(&mut inputs.file),
+                state: Some(&mut inputs.state),
+                history: None,
+            };
+            stress(rt, config, beside, inputs, writer)
         }
         StateTask::Replay(spare, telling, files) => {
             let inputs = reading::Inputs {
@@ -139,7 +146,10 @@ fn perform<
             let inputs = given(folder, Some(manifest), Some(file));
             aloud(rt, &Replay { spare }, telling, inputs, writer)
         }
-        Task::Stress(config) => stress_alone(rt, config, folder, manifest, file, writer),
+        Task::Stress(config) => {
+            let inputs = given(folder, Some(manifest), Some(file));
+            stress(rt, config, ALONE, inputs, writer)
+        }
         Task::Schedule(config, telling) => {
             let inputs = given(folder, Some(manifest), Some(file));
             aloud(rt, &Schedule { config }, telling, inputs, writer)

@@ -1,8 +1,10 @@
 // The command `stress`, and what it puts into files and says beside its transcript.
 
-use crate::keeping::{Inputs, Later, state_text};
-use crate::tasks::Beside;
-use engine::{Folder, InputFault, Sink, Status, report};
+use crate::keeping::{Later, state_text};
+use crate::tasks::{Beside, StateFiles};
+use engine::performing::report;
+use engine::reading::Inputs;
+use engine::{Folder, ReadFault, Reply, Sink, Status};
 use loader::StoreState;
 use oplog::Config;
 use std::alloc::{AllocError, Global};
@@ -10,7 +12,17 @@ use std::io::{Eprint, Read, Write};
 use std::rt::{Clock, Files};
 use std::sync::Wait;
 use std::thread::Threads;
-use stress::{Counts, OpenGate, Stressed, Trial, Watch, stress, stress_on};
+use stress::{Counts, OpenGate, Stress, Stressed};
+
+/// A transcript of calls on a new state, and nothing beside it.
+pub const ALONE: Beside<'static> = Beside {
+    files: StateFiles {
+        load: None,
+        dump: None,
+    },
+    history: None,
+    has_stats: false,
+};
 
 // The times of calls and the state that they leave, for the files of their paths.
 fn texts<'a>(
@@ -71,25 +83,6 @@ fn say_counts<R: Eprint>(rt: &R, counts: Counts) {
     );
 }
 
-/// Makes the calls of a script on threads, on a new store, and writes its transcript alone.
-pub fn stress_alone<R: AllocGlobal + Threads + Wait + Sync, F: Folder, I: Read, W: Write>(
-    rt: &R,
-    config: Config,
-    folder: &F,
-    manifest: &mut I,
-    file: &mut I,
-    writer: &mut W,
-) -> Status {
-    let gate = &OpenGate;
-    let trial = Trial {
-        alloc: rt.alloc(),
-        config,
-        folder,
-        gate,
-    };
-    stress(rt, &trial, manifest, file, writer)
-}
-
 // Puts each text where it belongs, up to the first that can't be put there.
 fn put_each<R: Files + Eprint, W: Sink>(
     rt: &R,
@@ -105,9 +98,9 @@ fn put_each<R: Files + Eprint, W: Sink>(
     Status::Good
 }
 
-/// Makes the calls of a script on threads, on the state of a file; puts the times of its calls and the state that it leaves into files, where
-/// all was written, and says how many calls there were.
-pub fn stress_into<
+/// Makes the calls of a script on threads, on the state of a file, or on a new one; puts the times of its calls and the state that it leaves
+/// into files, where all was written, and says how many calls there were.
+pub fn stress<
     R: Files + AllocGlobal + Eprint + Threads + Wait + Clock + Sync,
     F: Folder,
     I: Read + Drop,
@@ -116,39 +109,34 @@ pub fn stress_into<
     rt: &R,
     config: Config,
     beside: Beside<'_>,
-    folder: &F,
-    inputs: &mut Inputs<I>,
+    mut inputs: Inputs<'_, F, I>,
     writer: &mut W,
 ) -> Status {
     let alloc = rt.alloc();
-    let gate = &OpenGate;
-    let trial = Trial {
-        alloc,
+    let command = Stress {
+        rt,
         config,
-        folder,
-        gate,
-    };
-    let watch = Watch {
-        history: beside.history.is_some(),
+        gate: &OpenGate,
+        has_history: beside.history.is_some(),
         clock: if beside.has_stats { Some(rt) } else { None },
     };
-    let Inputs {
-        manifest,
-        file,
-        state,
-        ..
-    } = inputs;
-    let stressed = match stress_on(rt, &trial, &watch, manifest, file, state) {
+    let stressed = match command.prepare(alloc, &mut inputs) {
         Ok(stressed) => stressed,
-        Err(fault) => return report(writer, Err(fault)),
+        Err(fault) => return report(writer, &Err::<Reply, ReadFault>(fault)),
     };
-    let Ok(texts) = texts(alloc, beside, stressed.history, stressed.state) else {
-        return report(writer, Err(InputFault::NoMemory));
+    let Stressed {
+        reply,
+        history,
+        state,
+        counts,
+    } = stressed;
+    let Ok(texts) = texts(alloc, beside, history, state) else {
+        return report(writer, &Err::<Reply, ReadFault>(ReadFault::NoMemory));
     };
-    match report(writer, Ok(stressed.reply)) {
+    match report(writer, &Ok(reply)) {
         Status::Good => {
             if beside.has_stats {
-                say_counts(rt, stressed.counts);
+                say_counts(rt, counts);
             }
             put_each(rt, &texts, writer)
         }

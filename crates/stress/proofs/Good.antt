@@ -1,17 +1,14 @@
 -- To the transcripts that `stress` may write `replay` answers that they are good.
-use Rattle.std.proofs.Common.{◌≡◌, ◌∙◌, ℕ, ◌+◌, true, List, [], ◌∷◌, map, slice_get, nat_le, Some, None, Ok, refl, sym, ap, subst, arith}
+use Rattle.std.proofs.Common.{◌≡◌, ◌∙◌, ℕ, ◌+◌, Bool, true, false, not, List, [], ◌∷◌, ◌++◌, map, slice_get, nat_le, Some, None, Ok, sym, ap, subst, arith}
 use Rattle.std.specs.Prelude.{if◌then◌else◌, codes}
-use Rattle.std.specs.List.{All, find}
+use Rattle.std.specs.List.{All}
 use Rattle.std.specs.Str.{IsUtf8}
-use Rattle.std.proofs.lemmas.Bool.{and_from, and_parts, le-leb}
+use Rattle.std.proofs.lemmas.Bool.{le-leb}
 use Rattle.std.proofs.lemmas.List.Elements.{All-nil, All-cons, All-head, All-tail}
-use Rattle.std.proofs.lemmas.List.Folds.{list_all-append}
 use Rattle.std.proofs.lemmas.List.Sorted.{All-permutation}
-use Rattle.std.proofs.lemmas.Str.{IsUtf8-from_ascii, is_utf8-from_IsUtf8}
-use Rattle.std.proofs.lemmas.Str.Ascii.{IsAscii-nil}
+use Rattle.std.proofs.lemmas.Str.{is_utf8-from_IsUtf8}
 use Rattle.text.specs.Lines.{lines_of}
 use Rattle.loader.specs.declared.installed.TheConstants.{MAX_PLACES}
-use Rattle.loader.specs.NamedFiles.{named_in}
 use Rattle.loader.specs.CatalogueView.{CatalogueView, IsCatalogue, Entry, with_places}
 use Rattle.loader.specs.Loading.{Outcome, loaded}
 use Rattle.loader.specs.ProgramFiles.{Files}
@@ -19,16 +16,16 @@ use Rattle.oplog.specs.declared.configuration.Config.{Config}
 use Rattle.replica.specs.StoreMeaning.{AreUpdates}
 use Rattle.oplog.specs.Limits.{IsConfig}
 use Rattle.engine.specs.Answer.{Answer}
-use Rattle.engine.specs.Files.{Contents, is_text, are_texts, present}
-use Rattle.engine.specs.Reading.{Given, found, in_order, is_strange, read, unless_strange}
+use Rattle.engine.specs.Files.{is_text}
+use Rattle.engine.specs.Reading.{Given, files_in, first_strange, first_stranger, found, is_strange, read, unless_strange}
 use Rattle.engine.specs.Sizes.{are_sizes, sizes_refused}
 use Rattle.engine.specs.StateAnswer.{opened_by}
 use Rattle.engine.specs.declared.status.Verdict.TheVariants as verdicts
 use Rattle.replaying.specs.ReplayAnswer.{good_text, nothing_replayed, replay_answer, replayed, replayed_on, transcript_answer}
 use Rattle.stress.specs.Calls.{Called, script_calls, told_as}
-use Rattle.stress.specs.Good.{IsFoundGood, counted, given_with, good_of}
+use Rattle.stress.specs.Good.{IsFoundGood, counted, good_of}
 use Rattle.stress.specs.Lines.{ToldCall, suits, transcript_text}
-use Rattle.stress.specs.StressAnswer.{IsTranscript, calls_of}
+use Rattle.stress.specs.Transcripts.{IsTranscript, calls_of}
 use Rattle.stress.specs.Timed.{how_many, is_updated, is_seen, is_ended}
 use Rattle.stress.proofs.Agreeing.{transcripts_agree}
 use Rattle.stress.proofs.Fit.{IsFit, script_fit}
@@ -39,32 +36,25 @@ use Rattle.stress.proofs.Sizes.{sizes_from}
 
 -- ---- what is read
 
-no_strangers : (files : Files) → are_texts files ≡ true → find is_strange files ≡ None
-no_strangers [] h = refl
-no_strangers (f ∷ files) h = let both = and_parts (is_text f.1) (are_texts files) h in rw both.0 (no_strangers files both.1)
-
-pub empty_text : is_text [] ≡ true
-empty_text = is_utf8-from_IsUtf8 [] (IsUtf8-from_ascii [] IsAscii-nil)
-
--- all that is given is text
-all_read : (manifest : List ℕ) (folder : Contents) (transcript state : List ℕ) → is_text manifest ≡ true → are_texts (present folder (named_in manifest)) ≡ true → is_text transcript ≡ true → is_text state ≡ true
-    → read (given_with manifest folder transcript state) ≡ Some (found (given_with manifest folder transcript state))
-all_read manifest folder transcript state m fs t s = ap (λ o. unless_strange o (found g)) (no_strangers (in_order g) texts)
+-- where one text stands for another, no text is strange that was none
+replaced : (before behind : Files) (old new : List ℕ × List ℕ) → is_strange new ≡ false → first_strange (before ++ old ∷ behind) ≡ None → first_strange (before ++ new ∷ behind) ≡ None
+replaced [] behind old new fine none = rw fine (by (is_strange old) none)
   where
-    g : Given
-    g = given_with manifest folder transcript state
+    by : (b : Bool) → (if b then Some old else first_strange behind) ≡ None → first_strange behind ≡ None
+    by true e = absurd cc
+    by false e = e
+replaced (f ∷ before) behind old new fine none = by (is_strange f) (replaced before behind old new fine) none
+  where
+    by : (b : Bool) → (first_strange (before ++ old ∷ behind) ≡ None → first_strange (before ++ new ∷ behind) ≡ None)
+        → (if b then Some f else first_strange (before ++ old ∷ behind)) ≡ None → (if b then Some f else first_strange (before ++ new ∷ behind)) ≡ None
+    by true rest e = absurd cc
+    by false rest e = rest e
 
-    files : Files
-    files = present folder (named_in manifest)
-
-    behind : Files
-    behind = (codes "the file", transcript) ∷ (codes "the state", state) ∷ (codes "the history", []) ∷ []
-
-    texts_behind : are_texts behind ≡ true
-    texts_behind = and_from (is_text transcript) _ t (and_from (is_text state) _ s (and_from (is_text []) true empty_text refl))
-
-    texts : are_texts (in_order g) ≡ true
-    texts = and_from (is_text manifest) _ m (list_all-append (λ f. is_text f.1) files behind ∙ and_from (are_texts files) (are_texts behind) fs texts_behind)
+-- a text in place of the file, where all is text
+read_with : (g : Given) (text : List ℕ) → is_text text ≡ true → first_stranger g ≡ None → read (record g { file = text }) ≡ Some (found (record g { file = text }))
+read_with g text is none =
+    ap (λ o. unless_strange o (found (record g { file = text })))
+    (replaced ((codes "the manifest", g.manifest) ∷ files_in g) ((codes "the state", g.state) ∷ (codes "the history", g.history) ∷ []) (codes "the file", g.file) (codes "the file", text) (ap not is) none)
 
 -- ---- what is answered on a catalogue
 
@@ -98,34 +88,26 @@ module _ (c : CatalogueView) (whole : IsCatalogue c) (names : HaveNames c) (conf
 
 -- ---- what is answered to what is given
 
--- the texts but the transcript, and what they say
-pub record IsRead (config : Config) (manifest : List ℕ) (folder : Contents) (state : List ℕ) (base : CatalogueView) : Type 0 where
-  pub manifest_text : is_text manifest ≡ true
-  pub file_texts : are_texts (present folder (named_in manifest)) ≡ true
-  pub state_text : is_text state ≡ true
-  pub is_loaded : loaded manifest (present folder (named_in manifest)) ≡ Ok base
-  pub sizes : are_sizes config ≡ true
-
-module _ (config : Config) (manifest : List ℕ) (folder : Contents) (script state : List ℕ) (a : Answer) (base : CatalogueView) where
-  pub found_good : IsRead config manifest folder state base → (opened : CatalogueView) → IsCatalogue opened → opened.programs ≡ base.programs → opened_by (with_places base config.spare) state ≡ Ok opened
-      → (calls : List Called) → script_calls opened 1 (lines_of script) ≡ Ok calls → IsTranscript config opened calls a → IsFoundGood config manifest folder script state a
-  found_good is opened whole same opens calls asked transcript =
-      let sizes = sizes_from config is.sizes in
-      let names : HaveNames opened = λ k e at. has_name manifest (present folder (named_in manifest)) base k e is.is_loaded (subst (λ (es : List Entry). slice_get es k ≡ Some e) same at) in
-      let good = is_good opened whole names config sizes calls (script_fit opened 1 (lines_of script) calls asked) a transcript in
-      let placed : nat_le config.spare MAX_PLACES ≡ true = le-leb config.spare MAX_PLACES sizes.spare in
+module _ (config : Config) (g : Given) (a : Answer) (texts : first_stranger g ≡ None) (sizes : are_sizes config ≡ true) (base : CatalogueView) (is : loaded g.manifest (files_in g) ≡ Ok base) where
+  pub found_good : (opened : CatalogueView) → IsCatalogue opened → opened.programs ≡ base.programs → opened_by (with_places base config.spare) g.state ≡ Ok opened
+      → (calls : List Called) → script_calls opened 1 (lines_of g.file) ≡ Ok calls → IsTranscript config opened calls a → IsFoundGood config g a
+  found_good opened whole same opens calls asked transcript =
+      let within = sizes_from config sizes in
+      let names : HaveNames opened = λ k e at. has_name g.manifest (files_in g) base k e is (subst (λ (es : List Entry). slice_get es k ≡ Some e) same at) in
+      let good = is_good opened whole names config within calls (script_fit opened 1 (lines_of g.file) calls asked) a transcript in
+      let placed : nat_le config.spare MAX_PLACES ≡ true = le-leb config.spare MAX_PLACES within.spare in
       record {
         catalogue = base;
-        is_loaded = is.is_loaded;
+        is_loaded = is;
         opened = opened;
         opens = opens;
         calls = calls;
         asked = asked;
         transcript = transcript;
         good =
-            ap (replay_answer config.spare) (all_read manifest folder a.text state is.manifest_text is.file_texts good.0 is.state_text)
-            ∙ ap (λ (o : Outcome). replayed config.spare o a.text state) is.is_loaded
-            ∙ ap (λ b. if b then replayed_on a.text (opened_by (with_places base config.spare) state) else sizes_refused) placed
+            ap (replay_answer config.spare) (read_with g a.text good.0 texts)
+            ∙ ap (λ (o : Outcome). replayed config.spare o a.text g.state) is
+            ∙ ap (λ b. if b then replayed_on a.text (opened_by (with_places base config.spare) g.state) else sizes_refused) placed
             ∙ ap (replayed_on a.text) opens
             ∙ good.1;
       }

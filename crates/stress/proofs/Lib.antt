@@ -1,7 +1,6 @@
 mod Script
 pub mod Digits
 pub mod Ready
-mod Texts
 pub mod Playing
 mod Ranks
 mod Told
@@ -13,7 +12,6 @@ pub mod Steady
 pub mod OneHistory
 pub mod Transcripts
 pub mod Turns
-pub mod GivenBack
 pub mod Places
 pub mod Agreeing
 mod Programs

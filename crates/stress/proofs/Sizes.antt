@@ -5,7 +5,7 @@ use Rattle.std.proofs.lemmas.Bool.{and_parts, leb-true}
 use Rattle.oplog.specs.declared.configuration.Config.{Config}
 use Rattle.oplog.specs.Limits.{IsConfig}
 use Rattle.engine.specs.Sizes.{are_sizes}
-use Rattle.stress.specs.StressAnswer.{session_count}
+use Rattle.stress.specs.Transcripts.{session_count}
 
 pub some_session : (config : Config) → IsConfig config → 0 < session_count config
 some_session config is = mul-pos is.nodes.0 is.slots.0

@@ -18,7 +18,7 @@ use Rattle.stress.specs.Timed.{IsHistoryIf, IsInTurn, AreCounted}
 use Rattle.stress.specs.Shown.{called, said_of, told_call, calls_told, to_be_told, told_of, timed_of}
 use Rattle.stress.specs.Playing.{IsLeft, IsWritten, EndsIn, AreSteadyTo, history_if}
 use Rattle.stress.specs.Runs.{state_behind}
-use Rattle.stress.specs.StressAnswer.{calls_of, session_count, IsTranscript}
+use Rattle.stress.specs.Transcripts.{calls_of, session_count, IsTranscript}
 use Rattle.stress.proofs.Dealt.{each_once, dealt_map}
 use Rattle.stress.proofs.OneHistory.{in_order}
 use Rattle.stress.proofs.Sizes.{some_session}

@@ -74,9 +74,13 @@ abbrev pub update_letter : Asked → List ℕ
 update_letter (asks.Run mode k) = codes "u "
 update_letter (asks.Install mode arg_len) = codes "i "
 
+-- behind a place the call and REPLY
+abbrev pub replied_text : CatalogueView → Called → ℕ → List ℕ
+replied_text c call reply = codes " " ++ (call_text c call ++ (codes " " ++ (decimal reply ++ codes "\n")))
+
 -- behind a letter PLACE, the call, and REPLY
 abbrev pub answered_text : CatalogueView → List ℕ → ℕ → Called → ℕ → List ℕ
-answered_text c letter index call reply = letter ++ (decimal index ++ (codes " " ++ (call_text c call ++ (codes " " ++ (decimal reply ++ codes "\n")))))
+answered_text c letter index call reply = letter ++ (decimal index ++ replied_text c call reply)
 
 abbrev pub said_text : CatalogueView → Called → Said → List ℕ
 said_text c call (Updated index reply) = answered_text c (update_letter call.asked) index call reply

@@ -35,7 +35,7 @@ use Rattle.stress.specs.Lines.{ToldCall, AreOrdered, AreSteady, at_rank, transcr
 use Rattle.stress.specs.Timed.{Timed, IsInTurn, AreCounted, history_text}
 use Rattle.stress.specs.OneHistory.{IsSo, IsOfOneHistory, lines_at}
 use Rattle.stress.specs.Shown.{TellsCalls, called, calls_told, said_of, to_be_told, told_of, timed_of}
-use Rattle.stress.specs.StressAnswer.{session_count}
+use Rattle.stress.specs.Transcripts.{session_count}
 use Rattle.stress.specs.Runs.{state_behind}
 
 -- no session of a store of this catalogue is refused this call before it is made
@@ -95,6 +95,11 @@ TellsSteady n m calls told = IfOk told (λ v. AreSteadyTo n m calls v.items)
 abbrev pub TellsAll : {X E : Type 0} → List Player → Result (Vec Told X) E → Type 0
 TellsAll players told =
     (calls : List (Option Called)) → TellTheirs (length players) calls players → TellsCalls told (dealt_to (length players) calls)
+
+-- and each session's answers have their lines in its order
+abbrev pub AllSteady : {X E : Type 0} → List Player → Result (Vec Told X) E → Type 0
+AllSteady players told =
+    (calls : List (Option Called)) → TellTheirs (length players) calls players → TellsSteady (length players) (length players) calls told
 
 -- ---- what the sessions were told, in the history that they know
 

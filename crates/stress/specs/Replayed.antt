@@ -10,7 +10,7 @@ use Rattle.replaying.specs.ReplayAnswer.{Replayed, LineOutcome, Agrees, compared
 use Rattle.stress.specs.Calls.{Called}
 use Rattle.stress.specs.Lines.{Said, Updated, Seen, Ended, ToldCall}
 use Rattle.stress.specs.OneHistory.{Asks}
-use Rattle.stress.specs.StressAnswer.{IsTranscript}
+use Rattle.stress.specs.Transcripts.{IsTranscript}
 
 -- what a replay finds of this operation, of which this was told, behind what was replayed
 abbrev pub told_outcome : CatalogueView → Replayed → Operation → Said → LineOutcome

@@ -1,36 +1,32 @@
--- What a run of `stress` on a loaded state may give back. Which of the transcripts it is depends on how the threads run.
-use Rattle.std.specs.Prelude.{◌≡◌, ◌&&◌, ℕ, Bool, true, false, List, [], length, Option, Some, None, Result, Ok, Err, IfSome, MatchResult}
+-- What `stress` may make of what was read. Which of the transcripts it is depends on how the threads run.
+use Rattle.std.specs.Prelude.{◌≡◌, ℕ, Bool, true, false, List, [], length, Option, Some, None, Result, Ok, Err}
 use Rattle.text.specs.Lines.{lines_of}
-use Rattle.loader.specs.NamedFiles.{named_in}
-use Rattle.loader.specs.ProgramFiles.{Files}
-use Rattle.loader.specs.CatalogueView.{CatalogueView, with_places, opened_on}
+use Rattle.loader.specs.CatalogueView.{CatalogueView, with_places}
 use Rattle.loader.specs.StoreState.{StoreState}
 use Rattle.loader.specs.Loading.{Outcome, loaded}
-use Rattle.dumps.specs.Loading.{Outcome as StateOutcome, loaded_state}
 use Rattle.oplog.specs.declared.configuration.Config.{Config}
 use Rattle.oplog.specs.History.{History, state_after}
 use Rattle.replica.specs.StoreMeaning.{store_meaning}
-use Rattle.engine.specs.declared.input.InputFault.{InputFault}
-use Rattle.engine.specs.Files.{Contents, is_text, present}
-use Rattle.engine.specs.InputFaults.{FailsAs}
-use Rattle.engine.specs.Inputs.{all_texts}
-use Rattle.engine.specs.Answer.{Answer, refusal_answer}
+use Rattle.engine.specs.declared.status.Status.{Status}
+use Rattle.engine.specs.Engine.{Reports}
+use Rattle.engine.specs.Answer.{Answer, not_text, refusal_answer}
+use Rattle.engine.specs.Reading.{TextsRead}
 use Rattle.engine.specs.Report.{answer_of}
 use Rattle.running.specs.RunAnswer.{bad_line}
 use Rattle.engine.specs.Sizes.{are_sizes, sizes_refused}
-use Rattle.engine.specs.StateAnswer.{state_refused}
-use Rattle.stress.specs.declared.command.Trial.{Trial}
-use Rattle.stress.specs.declared.runs.Stressed.{Stressed}
+use Rattle.engine.specs.StateAnswer.{opened_by}
+use Rattle.stress.specs.declared.command.Stress.{Stress}
+use Rattle.stress.specs.declared.stressed.Stressed.{Stressed}
 use Rattle.stress.specs.Calls.{Called, script_calls}
 use Rattle.stress.specs.Timed.{IsHistoryIf, AreCounted}
-use Rattle.stress.specs.StressAnswer.{IsTranscript, IfKnown, session_count}
+use Rattle.stress.specs.Transcripts.{IsTranscript, session_count}
 
 -- the state after the whole of a history
 abbrev pub state_behind : CatalogueView → History → StoreState
 state_behind c history = state_after store_meaning c history (length history)
 
 -- a run of these calls by the sessions of a store of these sizes and this catalogue
-pub record IsRun (config : Config) (c : CatalogueView) (timed : Bool) (calls : List Called) (s : Stressed) : Type 0 where
+pub record IsRun (config : Config) (timed : Bool) (c : CatalogueView) (calls : List Called) (s : Stressed) : Type 0 where
   pub transcript : IsTranscript config c calls (answer_of s.reply)
   -- a line for each line of the transcript, in its order, with the session that its call went to
   pub history : IsHistoryIf timed (session_count config) calls transcript.told s.history.items
@@ -46,50 +42,35 @@ pub record IsOnly (a : Answer) (s : Stressed) : Type 0 where
   pub counts : AreCounted [] s.counts
 
 -- the calls of a script, or its first bad line
-abbrev pub IsScriptRun : Config → CatalogueView → Bool → Result (List Called) ℕ → Stressed → Type 0
-IsScriptRun config c timed (Ok calls) s = IsRun config c timed calls s
-IsScriptRun config c timed (Err number) s = IsOnly (bad_line number) s
+abbrev pub IsScriptRun : Config → Bool → CatalogueView → Result (List Called) ℕ → Stressed → Type 0
+IsScriptRun config timed c (Ok calls) s = IsRun config timed c calls s
+IsScriptRun config timed c (Err number) s = IsOnly (bad_line number) s
 
--- those of a store that opens on what was loaded, or the refusal of its text
-abbrev pub IsStateRun : Config → CatalogueView → Bool → List ℕ → StateOutcome → Stressed → Type 0
-IsStateRun config c timed script (Ok state) s = IsScriptRun config (opened_on c state) timed (script_calls (opened_on c state) 1 (lines_of script)) s
-IsStateRun config c timed script (Err refusal) s = IsOnly (state_refused refusal) s
+-- those of a store that opens as its state says, or the refusal of the state
+abbrev pub IsOpenedRun : Config → Bool → TextsRead → Result CatalogueView Answer → Stressed → Type 0
+IsOpenedRun config timed t (Ok c) s = IsScriptRun config timed c (script_calls c 1 (lines_of t.file)) s
+IsOpenedRun config timed t (Err a) s = IsOnly a s
 
--- by whether each size is within its limits
-abbrev pub OnSizes : Bool → (Stressed → Type 0) → Stressed → Type 0
-OnSizes true Is s = Is s
-OnSizes false Is s = IsOnly sizes_refused s
-
--- those of a catalogue, in a store of these sizes, on the state that a text says
-abbrev pub IsCatalogueRun : Config → CatalogueView → Bool → List ℕ → List ℕ → Stressed → Type 0
-IsCatalogueRun config c timed script state s =
-    let offered : CatalogueView = with_places c config.spare in
-    OnSizes (are_sizes config) (IsStateRun config offered timed script (loaded_state offered.shapes offered.places state)) s
+-- those of a catalogue, in a store of these sizes, unless one is out of its limits
+abbrev pub IsSizedRun : Config → Bool → TextsRead → CatalogueView → Bool → Stressed → Type 0
+IsSizedRun config timed t c true s = IsOpenedRun config timed t (opened_by (with_places c config.spare) t.state) s
+IsSizedRun config timed t c false s = IsOnly sizes_refused s
 
 -- a refused manifest gives back only its refusal
-abbrev pub IsManifestRun : Config → Bool → Outcome → List ℕ → List ℕ → Stressed → Type 0
-IsManifestRun config timed (Ok c) script state s = IsCatalogueRun config c timed script state s
-IsManifestRun config timed (Err refusal) script state s = IsOnly (refusal_answer refusal) s
+abbrev pub IsManifestRun : Config → Bool → TextsRead → Outcome → Stressed → Type 0
+IsManifestRun config timed t (Ok c) s = IsSizedRun config timed t c (are_sizes config) s
+IsManifestRun config timed t (Err refusal) s = IsOnly (refusal_answer refusal) s
 
--- what is given back of some manifest, files, script and state
-abbrev pub IsSomeRun : Config → Bool → Stressed → Type 0
-IsSomeRun config timed s =
-    (manifest : List ℕ) × (files : Files) × (script : List ℕ) × (state : List ℕ) × IsManifestRun config timed (loaded manifest files) script state s
+-- what `stress` may make of what was read, on a store of these sizes, with a history or without: the manifest is loaded, then the sizes are
+-- judged, then the state is loaded, on which the catalogue opens, a new one where its text is empty; then the lines are judged, and the calls made
+abbrev pub IsStressRun : Config → Bool → Option TextsRead → Stressed → Type 0
+IsStressRun config timed None s = IsOnly not_text s
+IsStressRun config timed (Some t) s = IsManifestRun config timed t (loaded t.manifest t.files) s
 
--- all files are UTF-8
-abbrev pub all_four : List ℕ → Contents → List ℕ → List ℕ → Bool
-all_four manifest folder script state = all_texts manifest folder script && is_text state
+-- what this command may make of them
+abbrev pub MayMake : {R G C : Type 0} → Stress R G C → Option TextsRead → Stressed → Type 0
+MayMake c t s = IsStressRun c.config c.has_history t s
 
--- where the bytes of the manifest, of the trial's files, of the script and of the state are known, this is so of the trial's sizes and of these
-abbrev pub IfAllKnown : {F G : Type 0} → (F → Option Contents) → Trial F G → Option (List ℕ) → Option (List ℕ) → Option (List ℕ)
-    → (Config → List ℕ → Contents → List ℕ → List ℕ → Type 0) → Type 0
-IfAllKnown holds trial manifest script state P =
-    IfSome state (λ l. IfKnown holds trial manifest script (λ config m h s. P config m h s l))
-
--- all files are read first, then the manifest is loaded, then the sizes are judged, then the state is loaded, then the lines are judged, then the
--- calls are made; or memory ran out, or a read failed, or what was read is no text
-abbrev pub GivesBack : Bool → Result Stressed InputFault → Config → List ℕ → Contents → List ℕ → List ℕ → Type 0
-GivesBack timed given config manifest folder script state =
-    MatchResult given
-    (λ s. (all_four manifest folder script state ≡ true) × IsManifestRun config timed (loaded manifest (present folder (named_in manifest))) script state s)
-    (λ e. FailsAs e (all_four manifest folder script state ≡ false))
+-- what was written of something that is so: its answer, or a beginning of it; or that memory ran out; and nothing where a read failed
+abbrev pub ReportsRun : (Stressed → Type 0) → Option (List ℕ) → Option (List ℕ) → Status → Type 0
+ReportsRun Is old new status = Reports (λ s. answer_of s.reply) Is old new status

@@ -1,139 +1,203 @@
 // The command `stress`.
 
-ghost use Rattle.std.specs.Prelude.{◌≡◌, ◌⊎◌, None, All, map, IfOk};
+ghost use Rattle.std.specs.Prelude.{◌≡◌, All, map, Option, Some, IfOk, IfSome};
+ghost use Rattle.text.specs.Lines.{lines_of};
+ghost use Rattle.loader.specs.CatalogueView.{MayOpenOn, OpensOn};
 ghost use Rattle.oplog.specs.Limits.{IsConfig};
-ghost use Rattle.loader.specs.Loading.{Outcome};
-ghost use Rattle.engine.specs.Files.{SomeFile};
-ghost use Rattle.engine.specs.Report.{answer_of, Failed};
-ghost use Rattle.engine.specs.InputFaults.{IfCannotRead};
-ghost use Rattle.engine.specs.Loaded.{LoadedIs};
-ghost use Rattle.stress.specs.StressAnswer.{IsTranscript, IsCatalogueAnswer, IsStressed, IsSomeStressAnswer, IfKnown, PreparesOne, ReportsOne, ReportsStress};
+ghost use Rattle.engine.specs.ReadFaults.{IfCannotRead};
+ghost use Rattle.engine.specs.Reading.{AnyFailed, IfGiven, TextsRead, read, texts_in, texts_read};
+ghost use Rattle.engine.specs.Report.{Failed};
+ghost use Rattle.engine.specs.Sizes.{are_sizes};
+ghost use Rattle.stress.specs.Calls.{script_calls};
 ghost use Rattle.stress.specs.Shown.{called};
 ghost use Rattle.stress.specs.Playing.{IsReady};
+ghost use Rattle.stress.specs.Runs.{IsRun, IsScriptRun, IsSizedRun, MayMake, ReportsRun};
 
 use crate::calls::{ScriptCall, ScriptCalls, read_calls};
 use crate::gate::Gate;
-use crate::sharing::tell_all;
-use crate::watching::{NoClock, Watch};
+use crate::lines::Written;
+use crate::sharing::Left;
+use crate::stressed::Stressed;
+use dumps::{DumpError, load_for};
+use engine::performing::report;
+use engine::reading::{Gathered, Inputs, Texts, gather};
+use engine::replies::{not_text, sizes_refused};
 use engine::{
-    Folder, InputFault, Loaded, Reply, Sink, Source, Status, Verdict, read_inputs, report,
-    sizes_refused,
+    Folder, Loaded, ReadFault, Reply, Sink, Source, Status, Verdict, load_texts, state_refused,
 };
-use loader::Catalogue;
+use loader::{Catalogue, StoreState};
 use oplog::Config;
 use running::bad_line;
 use std::alloc::{AllocError, Global};
+use std::rt::Clock;
 use std::sync::Wait;
 use std::thread::Threads;
 
-/// On which store the calls of a script are made, and what each session passes before each of its calls.
+/// Makes the calls of a script on a store of several nodes with the maps and the programs of a manifest. The lines go to the sessions in
+/// turn, and each session makes its own in their order, on a thread of its own.
+///
+/// Answers with a transcript, as `replay` reads it: each update and install at its index in the history with its reply, each read behind the
+/// updates that it has seen, and last those that were told that the history has ended. A line that is bad, or whose call or install
+/// is refused with S1 to S3 or S6 to S8, gets `line N bad`, and no thread starts. The state that the store opens on is given as
+/// [`dumps::dump`] writes one; without a text it is a new one. A refused manifest gets only its refusal, sizes out of their limits
+/// `refused O1`, a refused state `line N: En`, in this order.
+///
+/// Beside the answer it gives back the history of the calls in real time where one is kept, the state that the store ends in, and how many
+/// calls there were.
 #[derive(Drop)]
-pub struct Trial<'a, F, G> {
-    /// Where memory is taken from.
-    pub alloc: Global,
+pub struct Stress<'a, R, G, C> {
+    /// What starts the threads and waits.
+    pub rt: &'a R,
     /// The sizes of the store.
     pub config: Config,
-    /// Where the files lie that the manifest names.
-    pub folder: &'a F,
     /// What each session passes before each of its calls.
     pub gate: &'a G,
+    /// Whether a history is kept. All threads then raise one counter, just before and just behind each call: a barrier each.
+    pub has_history: bool,
+    /// The clock that calls are timed by, where they are.
+    pub clock: Option<&'a C>,
 }
 
-// What is answered to calls that no session is refused.
-fn calls_reply<R: Threads + Wait + Sync, F: Folder, G: Gate + Sync>(
-    rt: &R,
-    trial: &Trial<'_, F, G>,
-    catalogue: Catalogue,
-    calls: &[ScriptCall<'_>],
-) -> Result<Reply, AllocError>
-    requires config { IsConfig trial.now.config }
-    requires places { catalogue.places ≡ trial.now.config.spare }
-    requires nothing { catalogue.opening ≡ None }
-    requires ready { All (IsReady catalogue) calls.now }
-    ensures { IfOk result (λ r. IsTranscript trial.now.config catalogue (map called calls.now) (answer_of r)) }
-{
-    let watch = Watch {
-        history: false,
-        clock: None::<&NoClock>,
-    };
-    let left = tell_all(rt, trial, &watch, catalogue, None, calls)?;
-    Ok(Reply {
-        text: left.written.transcript,
-        verdict: Verdict::Good,
-    })
-}
-
-// What a catalogue answers to a script.
-fn catalogue_reply<R: Threads + Wait + Sync, F: Folder, G: Gate + Sync>(
-    rt: &R,
-    trial: &Trial<'_, F, G>,
-    catalogue: Catalogue,
-    script: &str,
-) -> Result<Reply, AllocError>
-    ensures { IfOk result (λ r. IsCatalogueAnswer trial.now.config catalogue script.now (answer_of r)) }
-{
-    if !trial.config.is_within_limits() {
-        return sizes_refused(trial.alloc);
+impl<'a, R: Threads + Wait + Sync, G: Gate + Sync, C: Clock + Sync> Stress<'a, R, G, C> {
+    // What calls give back that no session is refused.
+    fn calls_run(
+        &self,
+        alloc: Global,
+        catalogue: Catalogue,
+        state: Option<&StoreState>,
+        calls: &[ScriptCall<'_>],
+    ) -> Result<Stressed, AllocError>
+        requires config { IsConfig self.now.config }
+        requires places { catalogue.places ≡ self.now.config.spare }
+        requires fits { IfSome state (λ s. MayOpenOn catalogue s.now) }
+        requires opens { OpensOn catalogue state }
+        requires ready { All (IsReady catalogue) calls.now }
+        ensures { IfOk result (IsRun self.now.config self.now.has_history catalogue (map called calls.now)) }
+    {
+        let Left { written, state } = self.tell_all(alloc, catalogue, state, calls)?;
+        let Written {
+            transcript,
+            history,
+            counts,
+        } = written;
+        Ok(Stressed {
+            reply: Reply {
+                text: transcript,
+                verdict: Verdict::Good,
+            },
+            history,
+            state: Some(state),
+            counts,
+        })
     }
-    let catalogue = catalogue.with_places(trial.config.spare as usize);
-    match read_calls(trial.alloc, &catalogue, script)? {
-        ScriptCalls::Good(calls) => calls_reply(rt, trial, catalogue, &calls),
-        ScriptCalls::Bad(number) => bad_line(trial.alloc, number),
+
+    // What a script gives back on a state, or on a new one.
+    fn script_run(
+        &self,
+        alloc: Global,
+        catalogue: Catalogue,
+        state: Option<&StoreState>,
+        script: &str,
+    ) -> Result<Stressed, AllocError>
+        requires config { IsConfig self.now.config }
+        requires places { catalogue.places ≡ self.now.config.spare }
+        requires fits { IfSome state (λ s. MayOpenOn catalogue s.now) }
+        requires opens { OpensOn catalogue state }
+        ensures { IfOk result (IsScriptRun self.now.config self.now.has_history catalogue (script_calls catalogue 1 (lines_of script.now))) }
+    {
+        match read_calls(alloc, &catalogue, script)? {
+            ScriptCalls::Good(calls) => self.calls_run(alloc, catalogue, state, &calls),
+            ScriptCalls::Bad(number) => Ok(Stressed::only(alloc, bad_line(alloc, number)?)),
+        }
     }
-}
 
-// What a manifest that was loaded and a script get.
-fn loaded_reply<R: Threads + Wait + Sync, F: Folder, G: Gate + Sync>(
-    rt: &R,
-    trial: &Trial<'_, F, G>,
-    loaded: Loaded,
-    script: &str,
-) -> Result<Reply, AllocError>
-    ensures { IfOk result (λ r. (outcome : Outcome) → LoadedIs outcome loaded → IsStressed trial.now.config outcome script.now (answer_of r)) }
-{
-    match loaded {
-        Loaded::Catalogue(catalogue) => catalogue_reply(rt, trial, catalogue, script),
-        Loaded::Refused(reply) => Ok(reply),
+    // What a catalogue gives back of a script and of the text of a state.
+    fn catalogue_run(
+        &self,
+        alloc: Global,
+        catalogue: Catalogue,
+        texts: &Texts,
+    ) -> Result<Stressed, AllocError>
+        ensures { IfOk result (IsSizedRun self.now.config self.now.has_history (texts_read texts.now) catalogue (are_sizes self.now.config)) }
+    {
+        if !self.config.is_within_limits() {
+            return Ok(Stressed::only(alloc, sizes_refused(alloc)?));
+        }
+        let catalogue = catalogue.with_places(self.config.spare as usize);
+        let (script, state) = (texts.file.as_str(), texts.state.as_str());
+        if state.is_empty() {
+            return self.script_run(alloc, catalogue, None, script);
+        }
+        match load_for(alloc, &catalogue, state) {
+            Ok(state) => self.script_run(alloc, catalogue.on(&state), Some(&state), script),
+            Err(DumpError::NoMemory) => Err(AllocError),
+            Err(DumpError::Refused(refusal)) => {
+                Ok(Stressed::only(alloc, state_refused(alloc, refusal)?))
+            }
+        }
     }
-}
 
-// What `stress` has to write.
-fn prepare<R: Threads + Wait + Sync, F: Folder, G: Gate + Sync, M: Source, S: Source>(
-    rt: &R,
-    trial: &Trial<'_, F, G>,
-    manifest: &mut M,
-    script: &mut S,
-) -> Result<Reply, InputFault>
-    ensures known { IfKnown F.holds trial.now (M.remaining manifest.old) (S.remaining script.old) (PreparesOne result) }
-    ensures failed { IfCannotRead result (M.has_failed manifest.new ⊎ SomeFile F.File.has_failed ⊎ S.has_failed script.new) }
-    ensures some { IfOk result (λ r. IsSomeStressAnswer trial.now.config (answer_of r)) }
-{
-    let inputs = read_inputs(trial.alloc, trial.folder, manifest, script)?;
-    Ok(loaded_reply(rt, trial, inputs.loaded, inputs.text.as_str())?)
-}
+    // What texts give back.
+    fn texts_run(&self, alloc: Global, texts: &Texts) -> Result<Stressed, AllocError>
+        ensures { IfOk result (MayMake self.now (Some (texts_read texts.now))) }
+    {
+        match load_texts(alloc, texts)? {
+            Loaded::Catalogue(catalogue) => self.catalogue_run(alloc, catalogue, texts),
+            Loaded::Refused(reply) => Ok(Stressed::only(alloc, reply)),
+        }
+    }
 
-/// Makes the calls of a script on a new store of several nodes with the maps and the programs of a manifest. The lines go to the
-/// sessions in turn, and each session makes its own in their order, on a thread of its own.
-///
-/// Writes a transcript, as `replay` reads it: each update and install at its index in the history with its reply, each read behind the
-/// updates that it has seen, and last those that were told that the history has ended. A line that is bad, or whose call or install
-/// is refused with S1 to S3 or S6 to S8, writes `line N bad`, and no thread starts. Sizes out of their limits write `refused O1`, a
-/// refused manifest only its refusal. Says how it ended. Each file is read whole before anything is written. Where a read fails,
-/// nothing is written.
-pub fn stress<R: Threads + Wait + Sync, F: Folder, G: Gate + Sync, M: Source, S: Source, W: Sink>(
-    rt: &R,
-    trial: &Trial<'_, F, G>,
-    manifest: &mut M,
-    script: &mut S,
-    writer: &mut W,
-) -> Status
-    // Where the readers and the folder tell their bytes, those calls are made.
-    ensures written { IfKnown F.holds trial.now (M.remaining manifest.old) (S.remaining script.old) (ReportsStress W.contents writer.old writer.new result) }
-    // It says that a read or a write failed only after one did.
-    ensures failed { Failed result (M.has_failed manifest.new ⊎ SomeFile F.File.has_failed ⊎ S.has_failed script.new) (W.has_failed writer.new) }
-    // Whatever they give, or where they fail.
-    ensures ended { ReportsOne (IsSomeStressAnswer trial.now.config) W.contents writer.old writer.new result }
-{
-    let prepared = prepare(rt, trial, manifest, script);
-    report(writer, prepared)
+    // What is given back of what was read.
+    fn make(&self, alloc: Global, read: Gathered) -> Result<Stressed, AllocError>
+        ensures { IfOk result (MayMake self.now (texts_in read)) }
+    {
+        match read {
+            Ok(texts) => self.texts_run(alloc, &texts),
+            Err(_) => Ok(Stressed::only(alloc, not_text(alloc)?)),
+        }
+    }
+
+    /// Reads the texts of `stress`, and makes what it makes of them, as [`engine::prepare`] does of a command.
+    ///
+    /// # Errors
+    ///
+    /// Where a read fails, or memory runs out.
+    pub fn prepare<F: Folder, S: Source + Drop>(
+        &self,
+        alloc: Global,
+        inputs: &mut Inputs<'_, F, S>,
+    ) -> Result<Stressed, ReadFault>
+        // Where the readers and the folder tell their bytes, it is made of those.
+        ensures known { IfGiven F.holds S.remaining inputs.old (λ g. IfOk result (MayMake self.now (read g))) }
+        // It says that a read failed only after one did.
+        ensures failed { IfCannotRead result (AnyFailed S.has_failed F.File.has_failed inputs.new) }
+        // Whatever they give.
+        ensures some { IfOk result (λ s. (t : Option TextsRead) × MayMake self.now t s) }
+    {
+        let read = gather(alloc, inputs)?;
+        match self.make(alloc, read) {
+            Ok(made) => Ok(made),
+            Err(_) => Err(ReadFault::NoMemory),
+        }
+    }
+
+    /// Does it: reads the texts, and writes what it answers to them. Says how it ended.
+    ///
+    /// Each text is read whole before anything is written. Where a read fails, nothing is written.
+    pub fn perform<F: Folder, S: Source + Drop, W: Sink>(
+        &self,
+        alloc: Global,
+        inputs: &mut Inputs<'_, F, S>,
+        writer: &mut W,
+    ) -> Status
+        // Where the readers and the folder tell their bytes, what is written is what it answers to those.
+        ensures written { IfGiven F.holds S.remaining inputs.old (λ g. ReportsRun (MayMake self.now (read g)) (W.contents writer.old) (W.contents writer.new) result) }
+        // It says that a read or a write failed only after one did.
+        ensures failed { Failed result (AnyFailed S.has_failed F.File.has_failed inputs.new) (W.has_failed writer.new) }
+        // Whatever they give, or where they fail.
+        ensures ended { ReportsRun (λ s. (t : Option TextsRead) × MayMake self.now t s) (W.contents writer.old) (W.contents writer.new) result }
+    {
+        let made = self.prepare(alloc, inputs);
+        report(writer, &made)
+    }
 }

@@ -1,6 +1,6 @@
 // What the definition of a transcript says, in other words.
 
-ghost use Rattle.stress.specs.Good.{TranscriptsAreGood, TranscriptsOnAStateAreGood};
+ghost use Rattle.stress.specs.Good.{TranscriptsAreGood};
 ghost use Rattle.stress.specs.Replayed.{TranscriptsAgree};
 
 /// The calls of a transcript that `stress` may write agree, one after the other in the order of its lines, as `replay` compares them: an
@@ -10,11 +10,10 @@ pub fn transcripts_agree()
     ensures agree { TranscriptsAgree }
 {}
 
-/// What `stress` may answer, where it is good, is a transcript of its script's calls that `replay` finds good: to the same manifest and
-/// files, this text, and as many places, `replay` answers `good` with the numbers of the updates and installs, of the reads, and of the
-/// calls that were told that the history has ended. So is what `stress_on` may give back, with the same state. Each printed line is read as
-/// the call that it tells, in at most 512 bytes of ASCII.
+/// What `stress` may answer, where it is good, is a transcript of its script's calls that `replay` finds good: to the same manifest,
+/// files and state, this text, and as many places, `replay` answers `good` with the numbers of the updates and installs, of the reads,
+/// and of the calls that were told that the history has ended. It is so on a new state and on the state that a text says. Each printed
+/// line is read as the call that it tells, in at most 512 bytes of ASCII.
 pub fn transcripts_are_good()
-    ensures new { TranscriptsAreGood }
-    ensures loaded { TranscriptsOnAStateAreGood }
+    ensures good { TranscriptsAreGood }
 {}

@@ -7,12 +7,12 @@ mod gate;
 mod laws;
 mod lines;
 mod players;
-mod runs;
 mod sharing;
+mod stressed;
 mod watching;
 
-pub use command::{Trial, stress};
+pub use command::Stress;
 pub use gate::{Gate, OpenGate};
 pub use laws::{transcripts_agree, transcripts_are_good};
-pub use runs::{Stressed, stress_on};
-pub use watching::{Counts, Watch};
+pub use stressed::Stressed;
+pub use watching::{Counts, NoClock};

@@ -3,7 +3,7 @@
 ghost use Rattle.std.specs.Prelude.{◌≡◌, ◌++◌, map, filter, length, slice_get, OnOk, IfOk};
 ghost use Rattle.std.specs.List.{flat_map};
 ghost use Rattle.loader.specs.Spelling.{mode_word};
-ghost use Rattle.stress.specs.Lines.{rank, name_or, asked_text, call_text, update_letter, answered_text, told_text, transcript_text};
+ghost use Rattle.stress.specs.Lines.{rank, name_or, asked_text, call_text, update_letter, replied_text, told_text, transcript_text};
 ghost use Rattle.stress.specs.Timed.{AreCounted, timed_text, history_text, is_updated, is_seen, is_ended};
 ghost use Rattle.stress.specs.Shown.{called, said_of, told_of, timed_of};
 ghost use Rattle.stress.specs.Playing.{IsWritten, history_if};
@@ -95,18 +95,15 @@ fn put_call(out: &mut Vec<u8>, catalogue: &Catalogue, call: &ScriptCall) -> Resu
     out.extend_from_slice(call.digits.as_bytes())
 }
 
-// PLACE, the call, and REPLY behind its letter.
-fn put_answered(
+// The call, and REPLY.
+fn put_replied(
     out: &mut Vec<u8>,
     catalogue: &Catalogue,
-    letter: &[u8],
-    index: u64,
     call: &ScriptCall,
     reply: u64,
 ) -> Result<(), AllocError>
-    ensures { OnOk result (out.new.items ≡ out.old.items ++ answered_text catalogue.now letter.now index (called call.now) reply) }
+    ensures { OnOk result (out.new.items ≡ out.old.items ++ replied_text catalogue.now (called call.now) reply) }
 {
-    put_numbered(out, letter, index)?;
     out.extend_from_slice(b" ")?;
     put_call(out, catalogue, call)?;
     put_numbered(out, b" ", reply)?;
@@ -130,17 +127,12 @@ fn put_told(out: &mut Vec<u8>, catalogue: &Catalogue, told: &Told) -> Result<(),
     let call = told.call;
     match told.said {
         Said::Updated(Answer { index, reply }) => {
-            put_answered(
-                out,
-                catalogue,
-                update_letter(call.asked),
-                index,
-                call,
-                reply,
-            )
+            put_numbered(out, update_letter(call.asked), index)?;
+            put_replied(out, catalogue, call, reply)
         }
         Said::Seen(ReadAnswer { point, reply }) => {
-            put_answered(out, catalogue, b"r ", point, call, reply)
+            put_numbered(out, b"r ", point)?;
+            put_replied(out, catalogue, call, reply)
         }
         Said::Ended => {
             out.extend_from_slice(b"e ")?;

@@ -9,14 +9,14 @@ ghost use Rattle.store.specs.Sessions.{IsOf, StoreView};
 ghost use Rattle.stress.specs.Calls.{Called};
 ghost use Rattle.stress.specs.Dealt.{dealt_to};
 ghost use Rattle.stress.specs.Shown.{TellsCalls, called, to_be_told};
-ghost use Rattle.stress.specs.Playing.{IsReady, AreIn, AreLast, AreNew, AreNumbered, AreTold, IsNew, IsNewPlayer, IsPlaying, IsToldPlayer, IsLeft, IsWritten, NamesTurns, TellTheirs, TellsSteady, TellsAll, calls_for};
+ghost use Rattle.stress.specs.Playing.{IsReady, AllSteady, AreIn, AreLast, AreNew, AreNumbered, AreTold, IsNew, IsNewPlayer, IsPlaying, IsToldPlayer, IsLeft, IsWritten, NamesTurns, TellTheirs, TellsSteady, TellsAll, calls_for};
 
 use crate::calls::ScriptCall;
-use crate::command::Trial;
+use crate::command::Stress;
 use crate::gate::Gate;
 use crate::lines::{Told, Written, write_told};
 use crate::players::{Player, Playground, play};
-use crate::watching::{Spent, Watch, batches_of, nanoseconds_since, time};
+use crate::watching::{Spent, batches_of, nanoseconds_since, time};
 use loader::{Catalogue, StoreState};
 use oplog::{Config, OpenError};
 use std::alloc::{AllocError, Global};
@@ -161,8 +161,7 @@ fn leave<'a>(
     ensures known { All IsToldPlayer players.old.items → IfOk result (λ v. AreTold sessions.new.items v.items) }
     ensures numbers { AreLast (length players.old.items) players.old.items → AreNumbered sessions.new.items }
     ensures turns { (n : ℕ) (calls : List Called) → All (λ p. NamesTurns n calls p.told) players.old.items → NamesTurns n calls result }
-    ensures steady { (calls : List (Option Called)) → All IsToldPlayer players.old.items → TellTheirs (length players.old.items) calls players.old.items
-        → TellsSteady (length players.old.items) (length players.old.items) calls result }
+    ensures steady { All IsToldPlayer players.old.items → AllSteady players.old.items result }
 {
     let mut all = Ok(Vec::new(alloc));
     while let Some(player) = players.pop() {
@@ -246,49 +245,54 @@ fn written(
     write_told(alloc, catalogue, timed, told?, spent)
 }
 
-// Makes the calls on a store that opens on a state, or on a new one, and closes it. What is left of it.
-pub(crate) fn tell_all<R: Threads + Wait + Sync, F, G: Gate + Sync, C: Clock + Sync>(
-    rt: &R,
-    trial: &Trial<'_, F, G>,
-    watch: &Watch<'_, C>,
-    catalogue: Catalogue,
-    state: Option<&StoreState>,
-    calls: &[ScriptCall<'_>],
-) -> Result<Left, AllocError>
-    requires config { IsConfig trial.now.config }
-    requires places { catalogue.places ≡ trial.now.config.spare }
-    requires fits { IfSome state (λ s. MayOpenOn catalogue s.now) }
-    requires opens { OpensOn catalogue state }
-    requires ready { All (IsReady catalogue) calls.now }
-    ensures left { IfOk result (IsLeft trial.now.config catalogue watch.now.history calls.now) }
-{
-    let (alloc, config) = (trial.alloc, trial.config);
-    let count = (config.nodes * config.slots) as usize;
-    let players = Vec::with_capacity(alloc, count)?;
-    let Ok((store, mut sessions)) = open_either(alloc, config, catalogue, state) else {
-        players.destroy_empty();
-        return Err(AllocError);
-    };
-    let counter = AtomicU64::new(0);
-    let ground = Playground {
-        alloc,
-        store: &store,
-        gate: trial.gate,
-        counter: if watch.history { Some(&counter) } else { None },
-        clock: watch.clock,
-        calls,
-        sessions: count,
-    };
-    let start = time(watch.clock);
-    let told = play_all(rt, &ground, &mut sessions, players);
-    let spent = Spent {
-        nanoseconds: nanoseconds_since(watch.clock, start),
-        batches: batches_of(&sessions),
-    };
-    let written = written(alloc, store.catalogue(), watch.history, told, spent);
-    let state = close(store, sessions);
-    Ok(Left {
-        written: written?,
-        state,
-    })
+impl<'t, R: Threads + Wait + Sync, G: Gate + Sync, C: Clock + Sync> Stress<'t, R, G, C> {
+    // Makes the calls on a store that opens on a state, or on a new one, and closes it. What is left of it.
+    pub(crate) fn tell_all(
+        &self,
+        alloc: Global,
+        catalogue: Catalogue,
+        state: Option<&StoreState>,
+        calls: &[ScriptCall<'_>],
+    ) -> Result<Left, AllocError>
+        requires config { IsConfig self.now.config }
+        requires places { catalogue.places ≡ self.now.config.spare }
+        requires fits { IfSome state (λ s. MayOpenOn catalogue s.now) }
+        requires opens { OpensOn catalogue state }
+        requires ready { All (IsReady catalogue) calls.now }
+        ensures left { IfOk result (IsLeft self.now.config catalogue self.now.has_history calls.now) }
+    {
+        let (config, clock) = (self.config, self.clock);
+        let count = (config.nodes * config.slots) as usize;
+        let players = Vec::with_capacity(alloc, count)?;
+        let Ok((store, mut sessions)) = open_either(alloc, config, catalogue, state) else {
+            players.destroy_empty();
+            return Err(AllocError);
+        };
+        let counter = AtomicU64::new(0);
+        let ground = Playground {
+            alloc,
+            store: &store,
+            gate: self.gate,
+            counter: if self.has_history {
+                Some(&counter)
+            } else {
+                None
+            },
+            clock,
+            calls,
+            sessions: count,
+        };
+        let start = time(clock);
+        let told = play_all(self.rt, &ground, &mut sessions, players);
+        let spent = Spent {
+            nanoseconds: nanoseconds_since(clock, start),
+            batches: batches_of(&sessions),
+        };
+        let written = written(alloc, store.catalogue(), self.has_history, told, spent);
+        let state = close(store, sessions);
+        Ok(Left {
+            written: written?,
+            state,
+        })
+    }
 }

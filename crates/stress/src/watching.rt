@@ -6,15 +6,6 @@ use std::sync::atomic::{AtomicU64, Ordering};
 use std::time::{Duration, Instant};
 use store::{Batches, Session};
 
-/// What is noted of a run beside its transcript.
-#[derive(Drop)]
-pub struct Watch<'a, C> {
-    /// Whether a history is kept. All threads then raise one counter, just before and just behind each call: a barrier each.
-    pub history: bool,
-    /// The clock that calls are timed by, where they are.
-    pub clock: Option<&'a C>,
-}
-
 /// How many calls were made, how long they took, and in which batches.
 #[derive(Clone, Copy, Drop)]
 pub struct Counts {
@@ -52,9 +43,9 @@ pub(crate) struct Noted {
     pub waited: u64,
 }
 
-// What `stress` times by, which notes nothing.
-#[derive(Drop)]
-pub(crate) struct NoClock;
+/// The clock of a run that is not timed.
+#[derive(Clone, Copy, Debug, Drop)]
+pub struct NoClock;
 
 impl Clock for NoClock {
     fn monotonic(&self) -> io::Result<Duration> {

@@ -14,7 +14,7 @@ use serving::serve;
 use std::alloc::Global;
 use std::sync::Wait;
 use std::thread::Threads;
-use stress::{OpenGate, Trial, stress};
+use stress::{NoClock, OpenGate, Stress};
 
 // An exit status, and what is written.
 #[derive(Drop)]
@@ -119,16 +119,15 @@ fn stressed<R: Threads + Wait + Sync>(
     let (name, text) = command.split_once(':')?;
     let config = sizes(text)?;
     let spare = config.spare;
-    let trial = Trial {
-        alloc,
+    let command = Stress {
+        rt,
         config,
-        folder,
         gate: &OpenGate,
+        has_history: false,
+        clock: None::<&NoClock>,
     };
-    let mut script = folder.other;
-    let mut text = manifest;
     let mut out = Vec::new(alloc);
-    let status = stress(rt, &trial, &mut text, &mut script, &mut out);
+    let status = command.perform(alloc, &mut on_both(folder, manifest), &mut out);
     if name == "stress" || status.code() != 0 {
         return Some(Answer {
             status: status.code(),

@@ -18,7 +18,7 @@ use serving::serve;
 use std::alloc::Global;
 use std::sync::Wait;
 use std::thread::Threads;
-use stress::{OpenGate, Trial, stress};
+use stress::{NoClock, OpenGate, Stress};
 
 // Sizes of one session: with no other beside it, its calls have the same places each time.
 const ONE_SESSION: Config = Config {
@@ -36,15 +36,21 @@ fn stressed<R: Threads + Wait + Sync>(
     reads: &Turns,
     out: &mut Narrow<'_>,
 ) -> Status {
-    let trial = Trial {
-        alloc,
+    let command = Stress {
+        rt,
         config: ONE_SESSION,
-        folder: &Programs { turns: reads },
         gate: &OpenGate,
+        has_history: false,
+        clock: None::<&NoClock>,
     };
-    let mut manifest = Slow::new(MANIFEST, reads);
-    let mut calls = Slow::new(CALLS, reads);
-    stress(rt, &trial, &mut manifest, &mut calls, out)
+    let mut inputs = Inputs {
+        folder: &Programs { turns: reads },
+        manifest: Some(Slow::new(MANIFEST, reads)),
+        file: Some(Slow::new(CALLS, reads)),
+        state: None,
+        history: None,
+    };
+    command.perform(alloc, &mut inputs, out)
 }
 
 // `serve` on the manifest and its script, on a new state.

@@ -86,7 +86,7 @@ returns-clause-told c calls theirs =
     subst (λ k. IfOk c.loop-player.all (λ v. calls_told v.items ≡ dealt_from n 0 k calls)) done (c.loop-player.invariant.3 calls theirs).1
 
 pub returns-clause-steady : goal.returns-clause-steady
-returns-clause-steady c calls known theirs =
+returns-clause-steady c known calls theirs =
     let n = length c.args.players.now.items in
     let done : length c.loop-player.sessions.items ≡ n = search rules in
     subst (λ k. TellsSteady n k calls c.loop-player.all) done (c.loop-player.invariant.7 calls known theirs)

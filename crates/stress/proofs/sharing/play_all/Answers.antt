@@ -31,7 +31,7 @@ returns g c =
       known = c.leave-told.ensures.known (subst (λ xs. All IsToldPlayer xs) (sym left) c.play_together.ensures.known);
       numbers = c.leave-told.ensures.numbers (subst (λ k. AreLast k seen) (sym count) (subst (λ xs. AreLast n xs) (sym left) c.play_together.ensures.numbers));
       steady = subst (λ k. TellsSteady k k calls c.leave-told.result) count
-          (c.leave-told.ensures.steady calls (subst (λ xs. All IsToldPlayer xs) (sym left) c.play_together.ensures.known) (subst (λ k. TellTheirs k calls seen) (sym count) theirs));
+          (c.leave-told.ensures.steady (subst (λ xs. All IsToldPlayer xs) (sym left) c.play_together.ensures.known) calls (subst (λ k. TellTheirs k calls seen) (sym count) theirs));
       turns = let all = map called c.args.ground.now.calls.now in
           c.leave-told.ensures.turns n all (subst (λ xs. All (λ p. NamesTurns n all p.told) xs) (sym left) c.play_together.ensures.turns);
     }
