@@ -67,12 +67,11 @@ impl<R: Files + AllocGlobal + Eprint> Read for NamedFile<'_, R> {
     }
 }
 
-// A file, or standard input, or what has no bytes.
+// A file, or standard input.
 #[derive(Drop)]
 enum Opened<F: Drop, I: Drop> {
     File(F),
     Input(I),
-    Nothing,
 }
 
 /// A file that is opened when it is first read: what is read before it is judged before it. The path `-` is standard input.
@@ -93,15 +92,11 @@ impl<'a, R: Files + Input + Eprint> LateFile<'a, R> {
         }
     }
 
-    /// The file of this path, if there is one; else one that has no bytes.
-    pub fn of(rt: &'a R, path: Option<&'a str>) -> LateFile<'a, R> {
+    /// The file of this path, if there is one.
+    pub fn of(rt: &'a R, path: Option<&'a str>) -> Option<LateFile<'a, R>> {
         match path {
-            Some(path) => LateFile::new(rt, path),
-            None => LateFile {
-                rt,
-                path: "",
-                opened: Some(Opened::Nothing),
-            },
+            Some(path) => Some(LateFile::new(rt, path)),
+            None => None,
         }
     }
 
@@ -124,7 +119,7 @@ impl<'a, R: Files + Input + Eprint> LateFile<'a, R> {
         match &mut self.opened {
             Some(Opened::File(file)) => file.read(buf),
             Some(Opened::Input(input)) => input.read(buf),
-            Some(Opened::Nothing) | None => Ok(0),
+            None => Ok(0),
         }
     }
 }

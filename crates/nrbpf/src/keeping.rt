@@ -1,29 +1,17 @@
 // What is put into files behind the answers: states, and the times of calls.
 
-use crate::disk::DASH;
-use crate::output::{part_of, save};
-use crate::tasks::StateFiles;
+use crate::disk::{DASH, LateFile};
+use crate::output::{no_memory, part_of, save};
 use dumps::dump;
-use engine::{Folder, InputFault, Notes, ReadFault, Sink, Status, prepare, reading, report};
+use engine::performing::report;
+use engine::reading::Inputs;
+use engine::{Folder, Notes, Sink, Source, Status, prepare};
 use loader::StoreState;
-use running::{Kept, Run};
+use running::Run;
 use serving::{ServeEnd, serve};
 use std::alloc::{AllocError, Global};
-use std::io::{Eprint, Read, Write};
+use std::io::{Eprint, Input};
 use std::rt::Files;
-
-/// What a command reads: the manifest, the file that it is about, and what options name.
-#[derive(Drop)]
-pub struct Inputs<I: Drop> {
-    /// The manifest.
-    pub manifest: I,
-    /// The script, the transcript, or what else the command is about.
-    pub file: I,
-    /// The state to begin with; without bytes where the command names none.
-    pub state: I,
-    /// The times of calls; without bytes where the command names none.
-    pub times: I,
-}
 
 /// A text that is put into the file of a path behind the answers.
 #[derive(Drop)]
@@ -65,71 +53,43 @@ pub fn state_text<'a>(
     }
 }
 
-/// Runs a script on the state of a file, and puts the state that it leaves into a file, where no line was bad and all was
-/// written.
-pub fn run_on<R: Files + AllocGlobal + Eprint, F: Folder, I: Read + Drop, W: Write>(
+/// Runs a script, and puts the state that it leaves into the file of a path, where no line was bad and all was written.
+pub fn run_into<R: Files + AllocGlobal + Eprint, F: Folder, I: Source + Drop, W: Sink>(
     rt: &R,
-    files: StateFiles<'_>,
     command: Run,
-    folder: &F,
-    inputs: &mut Inputs<I>,
+    path: Option<&str>,
+    inputs: &mut Inputs<'_, F, I>,
     writer: &mut W,
 ) -> Status {
     let alloc = rt.alloc();
-    let mut inputs = reading::Inputs {
-        folder,
-        manifest: Some(&mut inputs.manifest),
-        file: Some(&mut inputs.file),
-        state: Some(&mut inputs.state),
-        history: None,
+    let mut made = prepare(alloc, &command, inputs, &mut Notes::none(alloc));
+    let state = match &mut made {
+        Ok(kept) => kept.state.take(),
+        Err(_) => None,
     };
-    let Kept { reply, state } = match prepare(
-        alloc,
-        &command,
-        &mut inputs,
-        &mut Notes::none(alloc),
-    ) {
-        Ok(kept) => kept,
-        Err(ReadFault::NoMemory) => return report(writer, Err(InputFault::NoMemory)),
-        Err(ReadFault::CannotRead) => return Status::CannotRead,
+    let Ok(later) = state_text(alloc, path, state) else {
+        return no_memory(writer);
     };
-    let Ok(later) = state_text(alloc, files.dump, state) else {
-        return report(writer, Err(InputFault::NoMemory));
-    };
-    match (report(writer, Ok(reply)), later) {
+    match (report(writer, &made), later) {
         (Status::Good, Some(later)) => later.put(rt, writer),
         (status, _) => status,
     }
 }
 
-/// Answers lines as they come in, on the state of a file, and puts the state that they leave into a file, where the input came to its end.
-pub fn serve_on<R: Files + AllocGlobal + Eprint, F: Folder, I: Read + Drop, W: Write>(
+/// Answers the lines of standard input as they come in, and puts the state that they leave into the file of a path, where the input came to
+/// its end.
+pub fn serve_into<R: Files + Input + AllocGlobal + Eprint, F: Folder, I: Source + Drop, W: Sink>(
     rt: &R,
     spare: u32,
-    files: StateFiles<'_>,
-    folder: &F,
-    inputs: &mut Inputs<I>,
+    path: Option<&str>,
+    inputs: &mut Inputs<'_, F, I>,
     writer: &mut W,
 ) -> Status {
-    let alloc = rt.alloc();
-    let Inputs {
-        manifest,
-        file,
-        state,
-        ..
-    } = inputs;
-    let mut inputs = reading::Inputs {
-        folder,
-        manifest: Some(manifest),
-        file: None,
-        state: Some(state),
-        history: None,
-    };
-    let end = serve(alloc, spare, &mut inputs, file, writer);
-    let ServeEnd { status, state } = end;
-    match state_text(alloc, files.dump, state) {
+    let mut lines = LateFile::new(rt, DASH);
+    let ServeEnd { status, state } = serve(rt.alloc(), spare, inputs, &mut lines, writer);
+    match state_text(rt.alloc(), path, state) {
         Ok(Some(later)) => later.put(rt, writer),
         Ok(None) => status,
-        Err(_) => report(writer, Err(InputFault::NoMemory)),
+        Err(_) => no_memory(writer),
     }
 }

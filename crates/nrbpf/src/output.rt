@@ -96,7 +96,7 @@ pub(crate) fn save<R: Files + Eprint>(rt: &R, path: &str, part: &str, text: &[u8
 }
 
 // Says that no memory is left.
-fn no_memory<W: Sink>(writer: &mut W) -> Status {
+pub(crate) fn no_memory<W: Sink>(writer: &mut W) -> Status {
     let made: Result<Reply, ReadFault> = Err(ReadFault::NoMemory);
     report(writer, &made)
 }

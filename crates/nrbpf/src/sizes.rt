@@ -1,6 +1,6 @@
 // Which sizes of a store are out of their limits.
 
-use crate::tasks::{StateTask, Task};
+use crate::tasks::Task;
 use engine::Status;
 use loader::MAX_PLACES;
 use oplog::{Config, MAX_LIMIT, MAX_NODE_SLOTS, MAX_NODES, MAX_WINDOW, MIN_WINDOW};
@@ -39,13 +39,8 @@ pub fn say_sizes<R: Eprint>(rt: &R, task: Task<'_>, status: Status) {
         return;
     }
     match task {
-        Task::Schedule(config, _)
-        | Task::Stress(config)
-        | Task::OnState(StateTask::Stress(config, _)) => say_each(rt, config),
-        Task::Replay(spare, _)
-        | Task::OnState(StateTask::Replay(spare, _, _) | StateTask::Serve(spare, _)) => {
-            say_spare(rt, spare)
-        }
+        Task::Schedule(config, _) | Task::Stress(config, _) => say_each(rt, config),
+        Task::Replay(spare, _) | Task::Serve(spare, _) => say_spare(rt, spare),
         _ => {}
     }
 }

@@ -1,10 +1,9 @@
 // The command `stress`, and what it puts into files and says beside its transcript.
 
 use crate::keeping::{Later, state_text};
-use crate::tasks::{Beside, StateFiles};
-use engine::performing::report;
-use engine::reading::Inputs;
-use engine::{Folder, ReadFault, Reply, Sink, Status};
+use crate::output::no_memory;
+use crate::tasks::Beside;
+use engine::{Folder, Inputs, ReadFault, Reply, Sink, Status, report};
 use loader::StoreState;
 use oplog::Config;
 use std::alloc::{AllocError, Global};
@@ -13,16 +12,6 @@ use std::rt::{Clock, Files};
 use std::sync::Wait;
 use std::thread::Threads;
 use stress::{Counts, OpenGate, Stress, Stressed};
-
-/// A transcript of calls on a new state, and nothing beside it.
-pub const ALONE: Beside<'static> = Beside {
-    files: StateFiles {
-        load: None,
-        dump: None,
-    },
-    history: None,
-    has_stats: false,
-};
 
 // The times of calls and the state that they leave, for the files of their paths.
 fn texts<'a>(
@@ -35,7 +24,7 @@ fn texts<'a>(
         Some(path) => Some(Later::new(alloc, path, history)?),
         None => None,
     };
-    Ok([times, state_text(alloc, beside.files.dump, state)?])
+    Ok([times, state_text(alloc, beside.dump, state)?])
 }
 
 // How many calls that is in a second.
@@ -131,7 +120,7 @@ pub fn stress<
         counts,
     } = stressed;
     let Ok(texts) = texts(alloc, beside, history, state) else {
-        return report(writer, &Err::<Reply, ReadFault>(ReadFault::NoMemory));
+        return no_memory(writer);
     };
     match report(writer, &Ok(reply)) {
         Status::Good => {
