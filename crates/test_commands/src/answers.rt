@@ -248,11 +248,11 @@ fn replayed(alloc: Global, folder: &Offered, manifest: &[u8], out: &mut Vec<u8>)
 }
 
 // What `serve` writes on a new state, with so many places.
-fn served(
+fn served<'a>(
     alloc: Global,
     spare: u32,
-    folder: &Offered,
-    manifest: &[u8],
+    folder: &'a Offered<'a>,
+    manifest: &'a [u8],
     out: &mut Vec<u8>,
 ) -> Status {
     let mut inputs = on_texts(folder, manifest, &[], &[], &[]);

@@ -47,10 +47,15 @@ pub fn run_on(alloc: Global, folder: &Offered, name: &str, manifest: &[u8]) -> O
 }
 
 // The same of `serve`, with four places.
-pub fn serve_on(alloc: Global, folder: &Offered, name: &str, manifest: &[u8]) -> Option<Answer> {
+pub fn serve_on<'a>(
+    alloc: Global,
+    folder: &'a Offered<'a>,
+    name: &str,
+    manifest: &'a [u8],
+) -> Option<Answer> {
+    let mut lines = folder.other;
     let state = text_of(folder.files, name).unwrap_or(&[]);
     let mut inputs = on_texts(folder, manifest, &[], state, &[]);
-    let mut lines = folder.other;
     let mut out = Vec::new(alloc);
     let end = serve(alloc, 4, &mut inputs, &mut lines, &mut out);
     let ServeEnd { status, state } = end;
