@@ -1,7 +1,6 @@
 // A store: opened, called and closed. Once it is open nothing takes memory.
 
-ghost use Rattle.std.specs.Prelude.{◌≡◌, ◌≤◌, [], IfOk, length, vec_capacity};
-ghost use Rattle.store.specs.Opening.{AreOf};
+ghost use Rattle.std.specs.Prelude.{◌≡◌, ◌≤◌, [], vec_capacity};
 ghost use Rattle.store.specs.Sessions.{IsOf};
 
 use crate::endings::{Ending, judged};
@@ -47,7 +46,7 @@ fn closes(store: Store, session: Session, mut sessions: Vec<Session>) -> bool
 }
 
 // The sizes of a store of one node of one slot.
-fn single() -> Config
+fn config() -> Config
     ensures { (result.nodes ≡ 1) × (result.slots ≡ 1) }
 {
     Config {
@@ -59,13 +58,12 @@ fn single() -> Config
     }
 }
 
-// How it ends where this was opened.
-fn ended<R: Wait>(rt: &R, opened: Result<(Store, Vec<Session>), OpenError>) -> Ending
-    requires one { IfOk opened (λ t. (t.0.config.nodes ≡ 1) × (t.0.config.slots ≡ 1)) }
-    requires count { IfOk opened (λ t. length t.1.items ≡ 1) }
-    requires own { IfOk opened (λ t. AreOf t.0 t.1.items) }
-{
-    match opened {
+/// A store of one node of one slot.
+pub fn opened<R: Wait>(rt: &R, alloc: Global) -> Ending {
+    let Some(catalogue) = catalogue(alloc) else {
+        return Ending::NotReached;
+    };
+    match Store::open(alloc, config(), catalogue) {
         Ok((store, mut sessions)) => {
             let Some(mut session) = sessions.pop() else {
                 unreachable!()
@@ -79,14 +77,6 @@ fn ended<R: Wait>(rt: &R, opened: Result<(Store, Vec<Session>), OpenError>) -> E
     }
 }
 
-/// A store of one node of one slot.
-pub fn opened<R: Wait>(rt: &R, alloc: Global) -> Ending {
-    let Some(catalogue) = catalogue(alloc) else {
-        return Ending::NotReached;
-    };
-    ended(rt, Store::open(alloc, single(), catalogue))
-}
-
 /// The same on a state, which is a new one.
 pub fn opened_on<R: Wait>(rt: &R, alloc: Global) -> Ending {
     let Some(catalogue) = catalogue(alloc) else {
@@ -95,5 +85,16 @@ pub fn opened_on<R: Wait>(rt: &R, alloc: Global) -> Ending {
     let Ok(state) = StoreState::open(alloc, &catalogue) else {
         return Ending::NotReached;
     };
-    ended(rt, Store::open_on(alloc, single(), catalogue, &state))
+    match Store::open_on(alloc, config(), catalogue, &state) {
+        Ok((store, mut sessions)) => {
+            let Some(mut session) = sessions.pop() else {
+                unreachable!()
+            };
+            let is_answered = answers(rt, &store, &mut session);
+            let is_closed = closes(store, session, sessions);
+            judged(is_answered && is_closed)
+        }
+        Err(OpenError::NoMemory) => Ending::NoMemory,
+        Err(_) => Ending::Other,
+    }
 }
