@@ -51,7 +51,8 @@ fn left_by<R: Threads + Wait + Sync>(
         has_history: true,
         clock: Some(&clock),
     };
-    let mut inputs = given(&Programs, script, state);
+    let folder = Programs;
+    let mut inputs = given(&folder, script, state);
     command.prepare(alloc, &mut inputs).ok()
 }
 

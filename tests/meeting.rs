@@ -100,11 +100,12 @@ fn two_sessions_wait_for_each_other(rt: HostRuntime) {
         has_history: false,
         clock: None::<&NoClock>,
     };
-    let mut inputs = given(&Programs, SCRIPT, b"");
+    let folder = Programs;
+    let mut inputs = given(&folder, SCRIPT, b"");
     let mut transcript = Vec::new(rt.alloc());
     let status = command.perform(rt.alloc(), &mut inputs, &mut transcript);
     assert_eq!(rt; (status.code(), meeting.met.load(Ordering::SeqCst)), (0, 2));
-    let mut inputs = given(&Programs, transcript.as_slice(), b"");
+    let mut inputs = given(&folder, transcript.as_slice(), b"");
     let mut found = Vec::new(rt.alloc());
     let mut notes = Notes::none(rt.alloc());
     let command = Replay { spare: 4 };
