@@ -5,14 +5,14 @@ States are those that a program writes, and so is what transcripts are made of: 
 
 from collections import namedtuple
 
-from faults import STRANGE, Draw, spoiled_text, text_of
+from faults import STRANGE, Draw, exchanged, spoiled_text, text_of
 from programs import any_line, program_file, program_lines
 from texts import NAMES, Caller, assembler_text, call_line, history_of, manifest, shape, spoiled_state, step_lines, transcript_of
 
 # `files` by their names: bytes; text, which is where a link leads; `None`, a folder. Where `is_full`, standard output takes no byte.
 Case = namedtuple("Case", "words files given is_full", defaults=(None, False))
-OPTIONS = """--help -h --version -V help --explain --lanes --graph --signed --stats --slots --slots=17 --spare --spare=16 --spare=17 --spare=-1 --spare=4294967296
---nodes=9 --limit=0 --limit=5 --window=15 --load --dump=- --dump -o -o- --output=out --history=x -- - --nosuch -x é""".split() + [""]
+OPTIONS = """--help -h --version -V help --explain --lanes --graph --signed --stats --slots --slots=17 --spare --spare=16 --spare=17 --spare=-1
+--spare=4294967296 --nodes=9 --limit=0 --limit=5 --window=15 --load --dump=- --dump -o -o- --output=out --history=x -- - --nosuch -x é""".split() + [""]
 # The sizes of a store, and such as are out of their limits.
 SIZES = {"window": [16, 16, 17, 64, 4096], "limit": [1, 3, 10, 1000000], "spare": [0, 1, 4, 16]}
 WRONG = {"nodes": [0, 9], "slots": [0, 17], "window": [15, 4097], "limit": [0, 1000001], "spare": [17, 4294967295]}
@@ -143,10 +143,11 @@ def replay(draw, room):
     lines, times = transcript(draw, room, words[words.index("--load") :] if "--load" in words else [], store, caller)
     if draw.chance(0.5):
         words += ["--history", "times"]
-        store.files["times"] = times if draw.chance(0.65) else spoiled_text(draw, times)
+        store.files["times"] = draw.choice([exchanged, spoiled_text])(draw, times) if draw.chance(0.4) else times
     if draw.chance(0.1):
         words += ["--spare", draw.choice(["0", "3", "4", "16", "17"])]
-    return Case([*words, "manifest", "transcript"], store.files | {"transcript": text_of(draw, lines, 0.3)})
+    text = text_of(draw, lines, 0.15)
+    return Case([*words, "manifest", "transcript"], store.files | {"transcript": exchanged(draw, text) if draw.chance(0.2) else text})
 
 
 def stress(draw, room):

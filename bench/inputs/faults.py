@@ -4,12 +4,13 @@ import random
 import re
 
 EDGES = [0, 1, 2, 3, 4, 7, 8, 16, 31, 32, 63, 64, 255, 256, 32767, 65535, 2**31 - 1]
-FIELDS = """0 1 2 4 5 16 17 63 64 65 256 257 65536 65537 2147483648 4294967296 18446744073709551615 18446744073709551616 007 +1 -1 -7 0x10 - -- 0 00 0g ABCD ffffffff
-update read install invoke array hash map program post claim u r i e nope r0 r10 r11 exit é str:"a" u8:256 s8:-128""".split()
+FIELDS = """0 1 2 4 5 16 17 63 64 65 256 257 65536 65537 2147483648 4294967296 18446744073709551615 18446744073709551616 007 +1 -1 -7 0x10 - -- 00 0g ABCD
+ffffffff update read install invoke array hash map program post claim u r i e nope r0 r10 r11 exit é str:"a" u8:256 s8:-128""".split()
 FAULTY = [b"\xff", b"\xc3", b"\xed\xa0\x80", b"\xc0\x80", b"\xf4\x90\x80\x80", b"\xe2\x82", b"caf\xe9", "é".encode(), "𝄞".encode()]
-# Files that are something else: an object file, a program's own bytes, text of two bytes a character, one with a mark before it, and less than a text.
-STRANGE = [b"", b"\n", b"-", b"\r\n", b"#", b"\x7fELF\x02\x01\x01" + bytes(9), bytes.fromhex("b7000000050000009500000000000000"), bytes.fromhex("bf16000000000000") * 2]
-STRANGE += ["map array 8 16\n".encode("utf-16"), "b700".encode("utf-16-be"), b"\xef\xbb\xbfmap array 8 16\n", b"#" * 512, b"#" * 513, b"# caf\xe9\n", b"\0" * 64]
+# Files that are something else: less than a text, an object file, a program's own bytes, text of two bytes a character or with a mark before it.
+STRANGE = [b"", b"\n", b"-", b"\r\n", b"\r", b"#", b"#" * 512, b"#" * 513, b"\0" * 64, b"# caf\xe9\n", b"\x7fELF\x02\x01\x01" + bytes(9)]
+STRANGE += [bytes.fromhex(it) for it in ("b7000000050000009500000000000000", "bf16000000000000bf16000000000000")]
+STRANGE += ["map array 8 16\n".encode("utf-16"), "b700".encode("utf-16-be"), b"\xef\xbb\xbfmap array 8 16\n"]
 
 
 class Draw(random.Random):
@@ -70,6 +71,18 @@ def faulted(draw, data):
             words[draw.below(len(words))] = draw.choice(FIELDS).encode()
             lines[at] = b" ".join(words)
     return b"\n".join(lines)
+
+
+def exchanged(draw, data):
+    """A text in which two lines have each other's field, or a number is one more, so that their form is good still."""
+    lines = [it.split(b" ") for it in data.split(b"\n")[:-1]]
+    first, second = draw.choice(lines or [[b""]]), draw.choice(lines or [[b""]])
+    at = draw.below(min(len(first), len(second)))
+    if draw.chance(0.5) and first[-1].isdigit():
+        first[-1] = b"%d" % (int(first[-1]) + draw.choice([-1, 1]) & 2**64 - 1)
+    else:
+        first[at], second[at] = second[at], first[at]
+    return b"".join(b" ".join(it) + b"\n" for it in lines)
 
 
 def text_of(draw, lines, faults=0.0):

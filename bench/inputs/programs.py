@@ -5,8 +5,8 @@ import struct
 
 from faults import STRANGE, spoiled_text
 
-# Each word with its opcode, the form of its operands, and its offset and number where no operand says them. In a form r is a register, x a register or a number,
-# n a number, w one of 64 bits, m a map, b a width, t a target, a an address.
+# Each word with its opcode, the form of its operands, and its offset and number where no operand says them. In a form r is a register, x a register or a
+# number, n a number, w one of 64 bits, m a map, b a width, t a target, a an address.
 TABLE = {"lddw": (0x18, "rw", 0, 0), "ldmap": (0x18, "rm", 0, 0), "call": (0x85, "n", 0, 0), "exit": (0x95, "", 0, 0)}
 MATH = "add sub mul div or and lsh rsh neg mod xor mov arsh".split()
 JUMPS = dict(jeq=1, jgt=2, jge=3, jset=4, jne=5, jsgt=6, jsge=7, jlt=10, jle=11, jslt=12, jsle=13)
@@ -23,6 +23,36 @@ for bits, group in (("", 5), ("32", 6)):
     TABLE |= {f"{stem}{bits}": (code << 4 | group, "rxt", 0, 0) for stem, code in JUMPS.items()} | {f"ja{bits}": (group, "t", 0, 0)}
 WORDS = list(TABLE)
 SIZES = {1: "b", 2: "h", 4: "w", 8: "dw"}
+
+
+# What authors and compilers get wrong: lines that are put into a program. LOOK looks up a key of at most 8 bytes in map 0, KEY points R2 to one.
+KEY = "stdw [r10-8], 0; mov64 r2, r10; add64 r2, -8; "
+LOOK = KEY + "ldmap r1, 0; call 1; "
+PITFALLS = """mov32 r7, r10|add32 r6, 1|add64 r6, r10|mov64 r9, 4; add64 r6, r9|ldxb r9, [r6+0]; mov64 r8, r10; sub64 r8, r9|neg64 r6|xor64 r6, 1|add64 r6, 65
+sub64 r10, 8|mov64 r10, 0|ldxdw r3, [r6+0]; ldxb r4, [r3+0]|mov64 r3, r6; stxdw [r10-8], r3; ldxdw r4, [r6+0]; ldxb r4, [r4+0]|stb [r6+0], 1
+stxdw [r10-12], r6|stxw [r10-8], r6|stxdw [r6+0], r10|stxdw [r10-8], r6; ldxw r0, [r10-8]|stxdw [r10-8], r6; stb [r10-4], 0; ldxdw r7, [r10-8]
+ldxdw r0, [r10-504]|ldxdw r0, [r10+0]|ldxdw r0, [r10-520]|ldxb r0, [r6+64]|lddw r3, 4096; ldxdw r0, [r3+0]|mov64 r3, 5; stb [r3+0], 1
+ldmap r3, 0; ldxdw r0, [r3+0]|ldmap r3, 16|ldmap r3, 0; add64 r3, 1|jeq r6, 0, past; past:|jgt r10, r6, past; past:|LOOKldxdw r0, [r0+0]
+LOOKmov64 r7, r0; jeq r0, 0, past; ldxb r3, [r7+0]; past:|LOOKjne r0, 0, past; ldxb r3, [r0+0]; past:|LOOKjeq32 r0, 0, past; ldxb r3, [r0+0]; past:
+LOOKjgt r0, 0, past; past:|LOOKjeq r0, 1, past; past:|LOOKadd64 r0, 1|LOOKexit|LOOKjne r0, 0, past; exit; past:; exit|LOOKmov64 r0, r1
+LOOKstxdw [r10-16], r0; jeq r0, 0, past; ldxdw r3, [r10-16]; ldxb r3, [r3+0]; past:|LOOKjeq r0, 0, past; mov64 r3, 1; add64 r0, r3; past:
+LOOKjeq r0, 0, past; stxdw [r0+0], r10; past:|LOOKjeq r0, 0, past; ldxdw r3, [r0+256]; past:|LOOKjeq r0, 0, past; add64 r0, 257; past:
+LOOKjeq r0, 0, past; mov64 r9, r0; KEYldmap r1, 0; call 3; ldxb r3, [r9+0]; past:; mov64 r0, 0
+LOOKjeq r0, 0, past; stxdw [r10-16], r0; KEYldmap r1, 0; call 3; ldxdw r3, [r10-16]; past:; mov64 r0, 0|LOOKmov64 r2, r0; ldmap r1, 0; call 1
+LOOKjne r0, 0, past; exit; past:|LOOKjeq r0, 0, past; mov64 r7, r0; past:; ldxb r3, [r7+0]|LOOKmov64 r8, r0; ja on; on:; ldxb r3, [r8+0]|call 4|call -1
+mov64 r1, 0; call 1|KEYlddw r1, 0; call 1|KEYmov64 r1, r2; call 1|mov64 r2, 5; ldmap r1, 0; call 1|KEYldmap r1, 0; ldmap r2, 0; call 1
+KEYmov64 r3, r2; mov64 r4, r2; ldmap r1, 0; call 2|KEYmov64 r3, 0; mov64 r4, 0; ldmap r1, 0; call 2|KEYldmap r1, 0; call 2
+mov64 r2, r10; add64 r2, -4; ldmap r1, 0; call 1|mov64 r2, r10; add64 r2, -200; ldmap r1, 0; call 1|exit|exit; exit|ja -1|ja -2|ja +300|ja32 +1
+jeq r3, 0, +900|jne r6, 0, -3|mov64 r0, r10; exit|mov64 r0, r6; exit|ldmap r0, 0; exit
+mov64 r3, 1; jset r3, 1, past; stdw [r10-24], 1; past:; ldxdw r3, [r10-24]|mov64 r3, 1; jset r3, 1, past; mov64 r9, 1; past:; add64 r9, 1
+mov64 r3, 0; jeq r3, 0, past; mov64 r9, r10; ja on; past:; mov64 r9, r6; on:; ldxb r3, [r9-1]|mov64 r3, 0; jeq r3, 0, on; ja past; on:; exit; past:
+ja past; mov64 r0, 0; exit; past:|mov64 r3, 0; jeq r3, 0, past; stxdw [r10-32], r6; past:; ldxdw r9, [r10-32]|jeq r3, 0, past; exit; lddw r3, 5; past:
+mov64 r3, 0; jeq r3, 0, +1; lddw r3, 5|mov64 r0, 0; exit; jeq r0, 0, -3"""
+PITFALLS = [it.replace("LOOK", LOOK).replace("KEY", KEY).split("; ") for it in PITFALLS.replace("\n", "|").split("|")]
+# Slots that are no instruction: calls of other kinds, halves of wide ones, atomics, packets, a call through a register, garbage in a field.
+ODD_SLOTS = """8510000000000000 85100000ffffffff 8520000001000000 1811000000000000 1821000000000000 1801000000000000 1855000000000000 db12000000000000
+c312000000000000 2000000000000000 8d00000000000000 8d01000000000000 0f12010000000000 b701000100000000 9500000000000001 950a000000000000 b70b000000000000
+d700000011000000 3701020000000000 0000000000000000""".split()
 
 
 def encoded(line, slot, labels):
@@ -84,7 +114,8 @@ def any_operand(draw, word, letter):
         case "t":
             return f"{draw.choice([0, 0, 1, 1, 2, 3, 5, 9, -1, -2]):+d}"
         case "a":
-            return f"[r{draw.choice([0, 1, 6, 10, 10, draw.below(11)])}{draw.choice([0, 0, 4, 8, -4, -8, -8, -16, -512, -513, draw.below(700) - 600]):+d}]"
+            off = draw.choice([0, 0, 4, 8, -4, -8, -8, -16, -512, -513, draw.below(700) - 600])
+            return f"[r{draw.choice([0, 1, 6, 10, 10, draw.below(11)])}{off:+d}]"
     return str(draw.below(5) if word == "call" else draw.number())
 
 
@@ -182,7 +213,7 @@ class Author:
         self.say(f"{word} {self.number()}, {self.second()}, {label}")
         known = list(self.numbers), list(self.cells)
         for _ in range(self.draw.below(3) + 1):
-            self.draw.choice([Author.reckon, Author.load, Author.keep])(self)
+            self.draw.choice([self.reckon, self.load, self.keep])()
         if self.draw.chance(0.2):
             self.leave()
         self.say(f"{label}:")
@@ -251,9 +282,9 @@ class Author:
         """A program of at most so many parts."""
         if self.has_argument:
             self.say("mov64 r6, r1")
-        parts = [Author.reckon, Author.reckon, Author.load, Author.keep, Author.fetch, Author.spill, Author.branch, Author.look, Author.look, *[Author.change] * 3]
+        parts = [self.reckon, self.load, self.keep, self.fetch, self.spill, self.branch, self.look, self.look, self.change, self.change]
         for _ in range(self.draw.below(size) + 1):
-            self.draw.choice(parts)(self)
+            self.draw.choice(parts)()
         self.leave()
         return self.lines
 
@@ -263,7 +294,7 @@ def spoiled(draw, lines):
     lines = list(lines)
     for _ in range(draw.choice([1, 1, 1, 2, 4])):
         at = draw.below(len(lines))
-        match draw.below(5):
+        match draw.below(9):
             case 0:
                 lines.insert(at, any_line(draw))
             case 1:
@@ -272,8 +303,10 @@ def spoiled(draw, lines):
                 del lines[at]
             case 3:
                 lines[at] = re.sub(r"\br\d+", f"r{draw.below(11)}", lines[at], count=1)
-            case _:
+            case 4:
                 lines[at] = re.sub(r"([+-]?)\b(\d+)(\]?)$", lambda it: f"{it[1]}{int(it[2]) + draw.choice([1, 4, 8, 500])}{it[3]}", lines[at])
+            case _:
+                lines[at:at] = draw.choice(PITFALLS)
     return lines
 
 
@@ -312,7 +345,9 @@ def program_file(draw, lines, faults):
             case 2:
                 made = made[: draw.below(len(made) + 1)]
             case 3:
-                made = draw.randbytes(8 * draw.below(4)) + made
+                at = 8 * draw.below(len(made) // 8 + 1)
+                odd = [bytes.fromhex(draw.choice(ODD_SLOTS)), draw.randbytes(8), made * (4097 * 8 // len(made)) if draw.chance(0.02) else b""]
+                made[at:at] = draw.choice(odd)
             case _:
                 for _ in range(draw.below(2) + 1):
                     made[draw.below(len(made))] ^= 1 << draw.below(8)

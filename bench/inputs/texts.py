@@ -178,10 +178,10 @@ def step_lines(draw, caller, nodes, slots):
 
 # ---- other texts
 
-MISTAKES = """addd64 r0, 1;mov64 r0, r11;mov64 r0;mov64 r0,, 1;mov64 r0, 2147483648;mov64 r0, -2147483649;mov64 r0, 0x;mov64 r0, 0XFF;mov64 r0, +5;ja nowhere;ja +32768
-ja -32769;ja32 +2147483648;jeq r0, 0;exit now;mov64 r0, 5 6;here: exit;1a:;a:;a:;ldxw r1, [ r1+0 ];ldxw r1, [r1];ldxw r1, [r1+32768];stw [r10-8], r1;movsx32 r0, r1, 32
-movsx64 r0, r1, 9;lddw r0, 18446744073709551616;lddw r0, -9223372036854775809;ldmap r0, r1;call r1;le8 r1;ldxsdw r0, [r1+0];EXIT;exit,;mov64 r0 5;: ;abcdefghijklmnopqrstuvwxyz_0123456:
-mov64 r00, 1;mov64 r0, 00x1;mov64 r0, --1;é;mov64 r0, é""".replace("\n", ";").split(";")
+MISTAKES = """addd64 r0, 1;mov64 r0, r11;mov64 r0;mov64 r0,, 1;mov64 r0, 2147483648;mov64 r0, -2147483649;mov64 r0, 0x;mov64 r0, 0XFF;mov64 r0, +5;ja nowhere
+ja +32768;ja -32769;ja32 +2147483648;jeq r0, 0;exit now;mov64 r0, 5 6;here: exit;1a:;a:;a:;ldxw r1, [ r1+0 ];ldxw r1, [r1];ldxw r1, [r1+32768];stw [r10-8], r1
+movsx32 r0, r1, 32;movsx64 r0, r1, 9;lddw r0, 18446744073709551616;lddw r0, -9223372036854775809;ldmap r0, r1;call r1;le8 r1;ldxsdw r0, [r1+0];EXIT;exit,
+mov64 r0 5;: ;abcdefghijklmnopqrstuvwxyz_0123456:;mov64 r00, 1;mov64 r0, 00x1;mov64 r0, --1;é;mov64 r0, é""".replace("\n", ";").split(";")
 
 
 def assembler_text(draw):
