@@ -8,7 +8,7 @@ use Rattle.insn.specs.Refusal as decoding
 use Rattle.asm.specs.declared.refusals.AsmRefusal.{AsmRefusal}
 use Rattle.asm.specs.Assembled.{assembled}
 use Rattle.asm.specs.Refusal as assembling
-use Rattle.engine.specs.declared.status.Verdict.TheVariants as verdicts
+use Rattle.engine.specs.declared.replies.Verdict.TheVariants as verdicts
 use Rattle.engine.specs.Reading.{TextsRead}
 use Rattle.engine.specs.Answer.{Answer, not_text}
 

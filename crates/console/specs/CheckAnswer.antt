@@ -1,7 +1,7 @@
 -- What `check` answers, as a function of the manifest and of the files that were read.
 use Rattle.std.specs.Prelude.{Option, Some, None, Ok, Err}
 use Rattle.loader.specs.Loading.{Outcome, loaded}
-use Rattle.engine.specs.declared.status.Verdict.TheVariants as verdicts
+use Rattle.engine.specs.declared.replies.Verdict.TheVariants as verdicts
 use Rattle.engine.specs.Texts.{programs_text}
 use Rattle.engine.specs.Answer.{Answer, not_text, refusal_answer}
 use Rattle.engine.specs.Reading.{TextsRead}

@@ -9,7 +9,7 @@ use Rattle.insn.specs.Layout.{slot_count}
 use Rattle.insn.specs.Decoded.{decoded}
 use Rattle.asm.specs.Text.{line_text, text_of}
 use Rattle.text.specs.Digits.{spaced_bytes}
-use Rattle.engine.specs.declared.status.Verdict.TheVariants as verdicts
+use Rattle.engine.specs.declared.replies.Verdict.TheVariants as verdicts
 use Rattle.engine.specs.Reading.{TextsRead}
 use Rattle.engine.specs.Answer.{Answer, not_text}
 use Rattle.console.specs.AsmAnswer.{decode_refusal_text, bad_hex_line}

@@ -1,10 +1,10 @@
 -- What a command did, from what it made.
 use Rattle.std.proofs.Common.{◌≡◌, inl, inr, ℕ, List, Option, Result, Ok, Err, refl, sym, ap, subst}
 use Rattle.std.specs.Prelude.{IfOk}
-use Rattle.engine.specs.declared.status.Status.{Status}
-use Rattle.engine.specs.declared.status.Status.TheVariants as statuses
-use Rattle.engine.specs.declared.status.Verdict.{Verdict}
-use Rattle.engine.specs.declared.status.Verdict.TheVariants as verdicts
+use Rattle.engine.specs.declared.replies.Status.{Status}
+use Rattle.engine.specs.declared.replies.Status.TheVariants as statuses
+use Rattle.engine.specs.declared.replies.Verdict.{Verdict}
+use Rattle.engine.specs.declared.replies.Verdict.TheVariants as verdicts
 use Rattle.engine.specs.declared.transfer.ReadFault.{ReadFault}
 use Rattle.engine.specs.declared.transfer.ReadFault.TheVariants as faults
 use Rattle.engine.specs.Status.{status_of}

@@ -1,8 +1,8 @@
 -- What a command answers.
 use Rattle.std.specs.Prelude.{ℕ, List}
 use Rattle.loader.specs.declared.refusals.LoadRefusal.{LoadRefusal}
-use Rattle.engine.specs.declared.status.Verdict.{Verdict}
-use Rattle.engine.specs.declared.status.Verdict.TheVariants as verdicts
+use Rattle.engine.specs.declared.replies.Verdict.{Verdict}
+use Rattle.engine.specs.declared.replies.Verdict.TheVariants as verdicts
 use Rattle.engine.specs.Texts.{refusal_text, not_text_line}
 
 -- a text to write, and whether what was read is good

@@ -1,8 +1,8 @@
 -- What a command wrote, over what the writer held, from what it made.
 use Rattle.std.specs.Prelude.{◌≡◌, ◌⊎◌, ℕ, List, Option, Result, Ok, Err}
 use Rattle.std.specs.Io.KnownBytes.{Appends, Keeps}
-use Rattle.engine.specs.declared.status.Status.{Status}
-use Rattle.engine.specs.declared.status.Status.TheVariants as statuses
+use Rattle.engine.specs.declared.replies.Status.{Status}
+use Rattle.engine.specs.declared.replies.Status.TheVariants as statuses
 use Rattle.engine.specs.declared.transfer.ReadFault.{ReadFault}
 use Rattle.engine.specs.declared.transfer.ReadFault.TheVariants as faults
 use Rattle.engine.specs.Transfer.{AppendsBeginning}

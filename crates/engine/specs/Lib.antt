@@ -8,11 +8,10 @@ pub mod Status
 pub mod Answer
 pub mod Sizes
 pub mod StateAnswer
+pub mod Opening
 pub mod Notes
 pub mod Report
 pub mod Engine
 pub mod Transfer
 -- The steps between reading and writing.
 pub mod Unread
-pub mod Loaded
-pub mod OpenedState

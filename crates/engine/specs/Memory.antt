@@ -1,8 +1,8 @@
 -- Texts and files in memory.
 use Rattle.std.specs.Prelude.{ℕ, List, [], ◌∷◌, Option, Some, None, bytes_eq, if◌then◌else◌}
 use Rattle.std.specs.Borrow.{Bor}
-use Rattle.engine.specs.declared.memory.Held.{Held}
-use Rattle.engine.specs.declared.memory.HeldFiles.{HeldFiles}
+use Rattle.engine.specs.declared.in_memory.Held.{Held}
+use Rattle.engine.specs.declared.in_memory.HeldFiles.{HeldFiles}
 use Rattle.engine.specs.declared.reading.Inputs.{Inputs}
 use Rattle.engine.specs.Files.{Contents}
 use Rattle.engine.specs.Reading.{Given}

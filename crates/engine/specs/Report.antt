@@ -1,9 +1,9 @@
 -- What a command did, from its status: what it wrote, over what the writer held.
 use Rattle.std.specs.Prelude.{◌≡◌, ℕ, List, Option, ◌⊎◌}
 use Rattle.std.specs.Io.KnownBytes.{Appends}
-use Rattle.engine.specs.declared.status.Status.{Status}
-use Rattle.engine.specs.declared.status.Status.TheVariants as statuses
-use Rattle.engine.specs.declared.reporting.Reply.{Reply}
+use Rattle.engine.specs.declared.replies.Status.{Status}
+use Rattle.engine.specs.declared.replies.Status.TheVariants as statuses
+use Rattle.engine.specs.declared.replies.Reply.{Reply}
 use Rattle.engine.specs.Transfer.{AppendsBeginning}
 use Rattle.engine.specs.Answer.{Answer}
 

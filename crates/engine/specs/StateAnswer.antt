@@ -8,7 +8,7 @@ use Rattle.dumps.specs.declared.refusals.DumpFault.TheVariants as faults
 use Rattle.dumps.specs.declared.refusals.DumpRefusal.{DumpRefusal}
 use Rattle.dumps.specs.Refusal.{fault_number}
 use Rattle.dumps.specs.Loading.{Outcome, loaded_state}
-use Rattle.engine.specs.declared.status.Verdict.TheVariants as verdicts
+use Rattle.engine.specs.declared.replies.Verdict.TheVariants as verdicts
 use Rattle.engine.specs.Texts.{decode_text, verify_text}
 use Rattle.engine.specs.Answer.{Answer}
 

@@ -2,32 +2,17 @@
 //! texts, and writes what the command makes of them.
 #![tactic(auto)]
 
-mod catalogues;
-mod feeding;
-mod folder;
 pub mod in_memory;
-mod memory;
-mod notes;
-pub mod performing;
-pub mod reading;
-pub mod replies;
-mod reporting;
-mod state_texts;
-mod states;
-mod status;
+mod opening;
+mod performing;
+mod reading;
+mod replies;
 pub mod texts;
 mod transfer;
 
-pub use catalogues::{Loaded, load_texts};
-pub use feeding::{CannotRead, Feed};
-pub use folder::Folder;
-pub use memory::{Held, HeldFiles, Page};
-pub use notes::{Notes, Telling};
-pub use performing::{Command, perform, prepare, report};
-pub use reading::Inputs;
-pub use replies::{Answering, sizes_refused};
-pub use reporting::Reply;
-pub use state_texts::state_refused;
-pub use states::{Opened, open_on};
-pub use status::{Status, Verdict};
-pub use transfer::{CannotWrite, ReadFault, Sink, Source};
+pub use in_memory::{Held, HeldFiles, Page};
+pub use opening::{Loaded, Opened, load_texts, open_texts, places_within};
+pub use performing::{Command, perform, prepare, report, write_text};
+pub use reading::{Folder, Gathered, Inputs, NamedText, Stranger, Texts, gather, lent};
+pub use replies::{Answering, Notes, Reply, Status, Telling, Verdict, not_text, sizes_refused};
+pub use transfer::{CannotRead, CannotWrite, Feed, ReadFault, Sink, Source};

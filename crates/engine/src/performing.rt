@@ -1,7 +1,7 @@
 // The engine of all commands: reads all, makes an answer, writes it.
 
 ghost use Rattle.std.specs.Prelude.{◌≡◌, ◌⊎◌, Option, Err, IfOk};
-ghost use Rattle.engine.specs.declared.status.Status.TheVariants as statuses;
+ghost use Rattle.engine.specs.declared.replies.Status.TheVariants as statuses;
 ghost use Rattle.engine.specs.declared.transfer.ReadFault.TheVariants as faults;
 ghost use Rattle.engine.specs.Notes.{IsQuiet};
 ghost use Rattle.engine.specs.ReadFaults.{IfCannotRead};
@@ -9,11 +9,8 @@ ghost use Rattle.engine.specs.Reading.{TextsRead, AnyFailed, IfGiven, read, text
 ghost use Rattle.engine.specs.Report.{Failed, Sends};
 ghost use Rattle.engine.specs.Engine.{Reports, ReportsRead, Writes};
 
-use crate::folder::Folder;
-use crate::notes::Notes;
-use crate::reading::{Gathered, Inputs, gather};
-use crate::replies::Answering;
-use crate::status::{Status, status_of};
+use crate::reading::{Folder, Gathered, Inputs, gather};
+use crate::replies::{Answering, Notes, Status, status_of};
 use crate::texts::no_memory;
 use crate::transfer::{ReadFault, Sink, Source};
 use std::alloc::{AllocError, Global};
@@ -67,8 +64,8 @@ pub fn prepare<C: Command, F: Folder, R: Source + Drop>(
     }
 }
 
-// Writes a text, and ends so.
-pub(crate) fn write_text<W: Sink>(writer: &mut W, text: &[u8], status: Status) -> Status
+/// Writes a text, and ends so, or as one that cannot write.
+pub fn write_text<W: Sink>(writer: &mut W, text: &[u8], status: Status) -> Status
     ensures sent { Sends (W.contents writer.old) (W.contents writer.new) result text.now status }
     ensures failed { (result ≡ status) ⊎ ((result ≡ statuses.CannotWrite) × W.has_failed writer.new) }
 {

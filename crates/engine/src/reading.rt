@@ -1,18 +1,31 @@
 // What a command reads: a manifest and the files that it names, the file that it is about, a state and a history.
 
-ghost use Rattle.std.specs.Prelude.{◌≡◌, Some, IfOk, IfErr, IfSome, MatchResult, string_bytes};
+ghost use Rattle.std.specs.Prelude.{◌≡◌, Option, None, Some, IfOk, IfErr, IfSome, MatchOption, MatchResult, string_bytes};
 ghost use Rattle.loader.specs.NamedFiles.{named_in};
 ghost use Rattle.loader.specs.ProgramFiles.{files_of};
 ghost use Rattle.engine.specs.declared.reading.Unread.TheVariants as faults;
-ghost use Rattle.engine.specs.Files.{SomeFile};
+ghost use Rattle.engine.specs.Files.{Contents, IsFile, SomeFile};
 ghost use Rattle.engine.specs.ReadFaults.{IfCannotRead};
 ghost use Rattle.engine.specs.Reading.{AnyFailed, IfGiven, OneFailed, first_stranger, given_text, named_texts, read, strange_text, texts_in};
 ghost use Rattle.engine.specs.Unread.{AreRead, FailsAs, FoundAs, Gathered, IfUnread, IsStrangeFile, TextIs};
 
-use crate::folder::Folder;
 use crate::transfer::{ReadFault, Source};
 use loader::named_files;
 use std::alloc::{AllocError, AllocFailed, Global};
+
+/// Files by their names.
+pub trait Folder {
+    /// An opened file.
+    type File: Source + Drop;
+
+    // The bytes of each file by its name, where they are known.
+    ghost holds: { Self → Option Contents } = { λ _. None };
+
+    /// The file of this name; `None` where it cannot be opened.
+    fn open(&self, name: &str) -> Option<Self::File>
+        ensures { IfSome (holds self.now) (λ folder. MatchOption result (folder name.now ≡ None)
+            (λ file. IsFile (Self.File.remaining file) (folder name.now))) };
+}
 
 /// Where the texts of a command are, in the order in which they are read. One that is absent is empty.
 #[derive(Drop)]

@@ -1,15 +1,88 @@
-// What a command makes that is written.
+// What a command makes that is written, how the command ends, and what is told beside.
 
-ghost use Rattle.std.specs.Prelude.{◌≡◌, IfOk};
-ghost use Rattle.engine.specs.declared.status.Verdict.TheVariants as verdicts;
+ghost use Rattle.std.specs.Prelude.{◌≡◌, IfOk, option_map};
+ghost use Rattle.engine.specs.declared.replies.Telling.TheVariants.{Nothing};
+ghost use Rattle.engine.specs.declared.replies.Verdict.TheVariants as verdicts;
 ghost use Rattle.engine.specs.Answer.{Answer, not_text};
-ghost use Rattle.engine.specs.Sizes.{sizes_refused};
 ghost use Rattle.engine.specs.Report.{answer_of};
+ghost use Rattle.engine.specs.Sizes.{sizes_refused};
+ghost use Rattle.engine.specs.Status.{code_of, complaint_of, status_of};
 
-use crate::reporting::Reply;
-use crate::status::Verdict;
-use crate::texts;
 use std::alloc::{AllocError, Global};
+
+/// How a command ended.
+#[derive(Clone, Copy, Debug, PartialEq, Eq)]
+pub enum Status {
+    /// All is well.
+    Good,
+    /// What was read is refused, and the refusal is written.
+    Refused,
+    /// Memory ran out, and `no memory` is written.
+    NoMemory,
+    /// A read failed. Nothing is written.
+    CannotRead,
+    /// A write failed. What went out is a beginning of what was to be written.
+    CannotWrite,
+    /// What was read tells something else than what is so, and where it does is written.
+    Differs,
+}
+
+/// Whether what was read is good.
+#[derive(Clone, Copy)]
+pub enum Verdict {
+    /// It is.
+    Good,
+    /// It is refused.
+    Refused,
+    /// It tells something else than what is so.
+    Differs,
+}
+
+impl Status {
+    /// The exit status of the program.
+    pub fn code(self) -> u8
+        ensures code { result ≡ code_of self }
+    {
+        match self {
+            Status::Good => 0,
+            Status::Refused => 3,
+            Status::NoMemory => 4,
+            Status::CannotRead | Status::CannotWrite => 5,
+            Status::Differs => 6,
+        }
+    }
+
+    /// What the program writes to standard error, where it writes something there.
+    pub fn complaint(self) -> Option<&'static str>
+        ensures complaint { option_map (λ t. t.now) result ≡ complaint_of self }
+    {
+        match self {
+            Status::CannotRead => Some("cannot read"),
+            Status::CannotWrite => Some("cannot write"),
+            _ => None,
+        }
+    }
+}
+
+// How a command ends whose answer was written.
+pub(crate) fn status_of(verdict: Verdict) -> Status
+    ensures { result ≡ status_of verdict }
+{
+    match verdict {
+        Verdict::Good => Status::Good,
+        Verdict::Refused => Status::Refused,
+        Verdict::Differs => Status::Differs,
+    }
+}
+
+/// What a command has to write, and how it then ends.
+#[derive(Drop)]
+pub struct Reply {
+    /// All of it.
+    pub text: Vec<u8>,
+    /// Whether what was read is good.
+    pub verdict: Verdict,
+}
 
 /// What a command makes that has an answer.
 pub trait Answering: Drop {
@@ -55,21 +128,62 @@ impl Reply {
     }
 }
 
+// A refusal in these words.
+fn refusal(alloc: Global, words: &[u8]) -> Result<Reply, AllocError>
+    ensures { IfOk result (λ r. answer_of r ≡ record { text = words.now; verdict = verdicts.Refused }) }
+{
+    let mut text = Vec::new(alloc);
+    text.extend_from_slice(words)?;
+    Ok(Reply::refused(text))
+}
+
 /// What every command answers where some text is not UTF-8.
 pub fn not_text(alloc: Global) -> Result<Reply, AllocError>
     ensures { IfOk result (λ r. answer_of r ≡ not_text) }
 {
-    let mut text = Vec::new(alloc);
-    text.extend_from_slice(texts::not_text())?;
-    Ok(Reply::refused(text))
+    refusal(alloc, b"not UTF-8\n")
 }
 
 /// What is answered where the sizes of a store are out of their limits.
 pub fn sizes_refused(alloc: Global) -> Result<Reply, AllocError>
     ensures { IfOk result (λ r. answer_of r ≡ sizes_refused) }
 {
-    let mut text = Vec::new(alloc);
-    text.extend_from_slice(b"refused O1\n")?;
-    let verdict = Verdict::Refused;
-    Ok(Reply { text, verdict })
+    refusal(alloc, b"refused O1\n")
+}
+
+/// What is to be told of a run beside its answer.
+#[derive(Clone, Copy, Debug, PartialEq, Eq)]
+pub enum Telling {
+    /// Nothing.
+    Nothing,
+    /// Why a step may not be taken now, and what a line of a transcript should tell that tells something else.
+    Reasons,
+    /// A picture of the steps: a lane for each node, the log beside them, and a line for each step.
+    Lanes,
+}
+
+/// What is told of a run beside its answer, for who looks at the run.
+#[derive(Drop)]
+pub struct Notes {
+    /// What is to be told.
+    pub telling: Telling,
+    /// What is told so far, in lines.
+    pub text: Vec<u8>,
+}
+
+impl Notes {
+    /// Nothing is told, and nothing is to be told.
+    pub fn none(alloc: Global) -> Notes
+        ensures nothing { result.telling ≡ Nothing }
+    {
+        Notes::new(alloc, Telling::Nothing)
+    }
+
+    /// Nothing is told yet.
+    pub fn new(alloc: Global, telling: Telling) -> Notes
+        ensures telling { result.telling ≡ telling }
+    {
+        let text = Vec::new(alloc);
+        Notes { telling, text }
+    }
 }

@@ -1,9 +1,9 @@
 -- What stands on the page, by how the command ended.
 use Rattle.std.proofs.Common.{◌≡◌, ◌∙◌, ◌⊎◌, inl, inr, [], Option, Some, None, true, sym, ap}
-use Rattle.engine.specs.declared.status.Status.{Status}
-use Rattle.engine.specs.declared.status.Status.TheVariants as statuses
-use Rattle.engine.specs.declared.status.Verdict.TheVariants as verdicts
-use Rattle.engine.specs.declared.memory.Page.{Page}
+use Rattle.engine.specs.declared.replies.Status.{Status}
+use Rattle.engine.specs.declared.replies.Status.TheVariants as statuses
+use Rattle.engine.specs.declared.replies.Verdict.TheVariants as verdicts
+use Rattle.engine.specs.declared.in_memory.Page.{Page}
 use Rattle.engine.specs.declared.reading.Inputs.{Inputs}
 use Rattle.engine.specs.Memory.{Never}
 use Rattle.engine.specs.Answer.{Answer}

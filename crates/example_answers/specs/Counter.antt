@@ -1,6 +1,6 @@
 -- Sixteen counters: a program that adds one to a counter and replies it, and one that replies it.
 use Rattle.std.specs.Prelude.{ℕ, List, [], codes, Some, None, bytes_eq, if◌then◌else◌}
-use Rattle.engine.specs.declared.status.Verdict.TheVariants as verdicts
+use Rattle.engine.specs.declared.replies.Verdict.TheVariants as verdicts
 use Rattle.engine.specs.Files.{Contents}
 use Rattle.engine.specs.Answer.{Answer}
 use Rattle.engine.specs.Reading.{Given}

@@ -1,8 +1,8 @@
 -- What stands on a page after a command wrote on it.
 use Rattle.std.specs.Prelude.{◌≡◌, ℕ, List, codes, true}
-use Rattle.engine.specs.declared.status.Status.{Status}
-use Rattle.engine.specs.declared.status.Status.TheVariants as statuses
-use Rattle.engine.specs.declared.memory.Page.{Page}
+use Rattle.engine.specs.declared.replies.Status.{Status}
+use Rattle.engine.specs.declared.replies.Status.TheVariants as statuses
+use Rattle.engine.specs.declared.in_memory.Page.{Page}
 
 -- all is well and the text stands there; or memory ran out, before it was written or on the page
 abbrev pub IsOnPage : List ℕ → Status → Page → Type 0

@@ -14,7 +14,7 @@ use Rattle.combiner.specs.declared.slots.Reply.TheVariants as replies
 use Rattle.replica.specs.StoreMeaning.{AreUpdates, store_meaning}
 use Rattle.schedule.specs.Trace.{Answer, Updated, ReadBack}
 use Rattle.scripts.specs.Transcript.{TranscriptMeaning, Comment, Answered, Installed, Ended, EndedInstall, transcript_line_meaning}
-use Rattle.engine.specs.declared.status.Verdict.TheVariants as verdicts
+use Rattle.engine.specs.declared.replies.Verdict.TheVariants as verdicts
 use Rattle.running.specs.RunAnswer.{with_operation}
 use Rattle.replaying.specs.ReplayAnswer.{Replayed, LineOutcome, Bad, Differs, Agrees, operation_of, install_of, is_reply, update_agrees, read_agrees, with_update, next_count, compared, by_operation, told, line_outcome, by_outcome, transcript_answer}
 use Rattle.replaying.proofs.ReplaysOfLines.{agreeing_lines_are_runs}

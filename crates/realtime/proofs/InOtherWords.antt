@@ -8,7 +8,7 @@ use Rattle.std.proofs.lemmas.List.Sums.{position_or_len_is, fails_before_first}
 use Rattle.std.proofs.lemmas.List.Quantifiers.{position-Some}
 use Rattle.realtime.specs.declared.histories.Timed.{Timed}
 use Rattle.realtime.specs.RealTime.{hinders, is_out_of_turn, first_out_of_turn, stands_behind, is_misplaced, first_misplaced, AreInTurn, InRealTime}
-use Rattle.engine.specs.declared.status.Verdict.TheVariants as verdicts
+use Rattle.engine.specs.declared.replies.Verdict.TheVariants as verdicts
 use Rattle.engine.specs.Answer.{Answer}
 use Rattle.realtime.specs.TimedAnswer.{bad_history, differing_history, unless_faulty}
 use Rattle.realtime.specs.Laws.{TurnsAreTaken, PlacesAreReal, IsShown, MisplacedIsShown, GoodIsReal, DiffersIsShown}

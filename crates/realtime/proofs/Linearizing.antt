@@ -18,8 +18,8 @@ use Rattle.combiner.specs.declared.slots.Reply.TheVariants as replies
 use Rattle.replica.specs.StoreMeaning.{AreUpdates, is_operation}
 use Rattle.schedule.specs.Trace.{Answer, Updated, ReadBack}
 use Rattle.dumps.specs.Loading.{Outcome as StateOutcome, loaded_state}
-use Rattle.engine.specs.declared.status.Verdict.{Verdict}
-use Rattle.engine.specs.declared.status.Verdict.TheVariants as verdicts
+use Rattle.engine.specs.declared.replies.Verdict.{Verdict}
+use Rattle.engine.specs.declared.replies.Verdict.TheVariants as verdicts
 use Rattle.engine.specs.Answer.{Answer as Written}
 use Rattle.engine.specs.Sizes.{sizes_refused}
 use Rattle.engine.specs.StateAnswer.{on_loaded, on_text, opened_by}

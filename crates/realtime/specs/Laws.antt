@@ -1,7 +1,7 @@
 -- What the definitions of a history say, in other words.
 use Rattle.std.specs.Prelude.{◌≡◌, ◌≢◌, ◌↔◌, ℕ, ◌+◌, ◌*◌, ◌<◌, true, List, map, length, Some, None, Ok, slice_get, All, AllPairs, Contains}
 use Rattle.realtime.specs.declared.histories.Timed.{Timed}
-use Rattle.engine.specs.declared.status.Verdict.TheVariants as verdicts
+use Rattle.engine.specs.declared.replies.Verdict.TheVariants as verdicts
 use Rattle.engine.specs.Answer.{Answer}
 use Rattle.realtime.specs.Histories.{is_used, calls_of}
 use Rattle.realtime.specs.RealTime.{first_out_of_turn, first_misplaced, AreInTurn, InRealTime}

@@ -14,7 +14,7 @@ use Rattle.schedule.specs.declared.parts.Opening.{Opening}
 use Rattle.schedule.specs.Trace.{Answer, Updated, ReadBack, Call, Back, Trace, Positions}
 use Rattle.schedule.specs.Explains.{Explains}
 use Rattle.scripts.specs.Transcript.{TranscriptMeaning, Comment, Answered, Installed, Ended, EndedInstall, transcript_line_meaning}
-use Rattle.engine.specs.declared.status.Verdict.TheVariants as verdicts
+use Rattle.engine.specs.declared.replies.Verdict.TheVariants as verdicts
 use Rattle.engine.specs.Reading.{TextsRead}
 use Rattle.engine.specs.StateAnswer.{opened_by}
 use Rattle.replaying.specs.ReplayAnswer.{operation_of, install_of}

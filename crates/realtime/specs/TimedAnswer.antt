@@ -1,8 +1,8 @@
 -- What `replay --history` answers, as a function of the manifest, the files, the transcript, the state and the history that were read.
 use Rattle.std.specs.Prelude.{ℕ, ◌+◌, List, ◌++◌, codes, decimal, Option, Some, None, Result, Ok, Err}
 use Rattle.text.specs.Lines.{lines_of}
-use Rattle.engine.specs.declared.status.Verdict.{Verdict}
-use Rattle.engine.specs.declared.status.Verdict.TheVariants as verdicts
+use Rattle.engine.specs.declared.replies.Verdict.{Verdict}
+use Rattle.engine.specs.declared.replies.Verdict.TheVariants as verdicts
 use Rattle.engine.specs.Answer.{Answer, not_text}
 use Rattle.engine.specs.Reading.{TextsRead}
 use Rattle.replaying.specs.ReplayAnswer.{replay_answer}

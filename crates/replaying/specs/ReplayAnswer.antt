@@ -14,7 +14,7 @@ use Rattle.oplog.specs.History.{History, reply_at, read_reply_at}
 use Rattle.replica.specs.StoreMeaning.{store_meaning}
 use Rattle.replica.specs.Refusals.{early_refusal, install_refusal}
 use Rattle.replica.specs.declared.refusals.StoreRefused.{StoreRefused}
-use Rattle.engine.specs.declared.status.Verdict.TheVariants as verdicts
+use Rattle.engine.specs.declared.replies.Verdict.TheVariants as verdicts
 use Rattle.engine.specs.Answer.{Answer, not_text, refusal_answer}
 use Rattle.scripts.specs.Script.{ProgramKey, Named, Numbered, KeyedCall}
 use Rattle.scripts.specs.Transcript.{AnsweredCall, AnsweredInstall, TranscriptMeaning, Comment, Answered, Installed, Ended, EndedInstall, transcript_line_meaning}

@@ -14,8 +14,8 @@ use Rattle.replaying.specs.declared.lines.LineVerdict.{LineVerdict}
 use Rattle.replaying.specs.declared.lines.LineVerdict.TheVariants as lines
 use Rattle.replaying.specs.declared.lines.ReplayEnd.{ReplayEnd}
 use Rattle.replaying.specs.declared.lines.ReplayEnd.TheVariants as ends
-use Rattle.engine.specs.declared.status.Verdict.{Verdict}
-use Rattle.engine.specs.declared.status.Verdict.TheVariants as verdicts
+use Rattle.engine.specs.declared.replies.Verdict.{Verdict}
+use Rattle.engine.specs.declared.replies.Verdict.TheVariants as verdicts
 use Rattle.running.specs.Running.{Follows}
 use Rattle.engine.specs.Answer.{Answer}
 use Rattle.running.specs.RunAnswer.{bad_line_text}

@@ -7,8 +7,8 @@ use Rattle.text.specs.declared.lines.LineKind.TheVariants as kinds
 use Rattle.text.specs.Lines.{kind_of, by_kind, next_line}
 use Rattle.loader.specs.CatalogueView.{CatalogueView}
 use Rattle.oplog.specs.History.{History}
-use Rattle.engine.specs.declared.status.Verdict.{Verdict}
-use Rattle.engine.specs.declared.status.Verdict.TheVariants as verdicts
+use Rattle.engine.specs.declared.replies.Verdict.{Verdict}
+use Rattle.engine.specs.declared.replies.Verdict.TheVariants as verdicts
 use Rattle.running.specs.declared.single_node.SingleNode.{SingleNode}
 use Rattle.engine.specs.Answer.{Answer}
 use Rattle.scripts.specs.Script.{Comment, call_meaning, line_meaning}

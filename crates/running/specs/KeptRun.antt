@@ -10,8 +10,8 @@ use Rattle.oplog.specs.History.{History, after}
 use Rattle.replica.specs.StoreMeaning.{store_meaning}
 use Rattle.running.specs.declared.single_node.TheConstants.{RUN_PLACES}
 use Rattle.running.specs.declared.runs.Kept.{Kept}
-use Rattle.engine.specs.declared.status.Status.{Status}
-use Rattle.engine.specs.declared.status.Status.TheVariants as statuses
+use Rattle.engine.specs.declared.replies.Status.{Status}
+use Rattle.engine.specs.declared.replies.Status.TheVariants as statuses
 use Rattle.engine.specs.Answer.{Answer, not_text, refusal_answer}
 use Rattle.engine.specs.Reading.{TextsRead}
 use Rattle.engine.specs.StateAnswer.{opened_by}

@@ -14,7 +14,7 @@ use Rattle.replica.specs.StoreMeaning.{program_at, store_meaning}
 use Rattle.replica.specs.Refusals.{store_fault_number, early_refusal, install_refusal}
 use Rattle.replica.specs.declared.refusals.StoreRefused.{StoreRefused}
 use Rattle.replica.specs.declared.refusals.StoreRefused.TheVariants.{UnknownProgram, ArgumentLength, Ended, NotDecoded, NotAccepted}
-use Rattle.engine.specs.declared.status.Verdict.TheVariants as verdicts
+use Rattle.engine.specs.declared.replies.Verdict.TheVariants as verdicts
 use Rattle.engine.specs.Answer.{Answer}
 use Rattle.scripts.specs.Script.{ProgramCall, Meaning, Comment, Call, InvokeAt, ReadAt, Install, line_meaning}
 use Rattle.engine.specs.Texts.{decode_text, verify_text}

@@ -19,7 +19,7 @@ use Rattle.replica.specs.HistoryLaws.{IsEffectOf}
 use Rattle.replica.specs.Refusals.{install_refusal}
 use Rattle.replica.specs.declared.refusals.StoreRefused.{StoreRefused}
 use Rattle.replica.specs.declared.refusals.StoreRefused.TheVariants.{UnknownProgram, ArgumentLength, WrongMode, Ended}
-use Rattle.engine.specs.declared.status.Verdict.TheVariants as verdicts
+use Rattle.engine.specs.declared.replies.Verdict.TheVariants as verdicts
 use Rattle.engine.specs.Answer.{Answer}
 use Rattle.scripts.specs.Script.{ProgramCall, Meaning, Comment, Call, InvokeAt, ReadAt, Install, line_meaning}
 use Rattle.running.specs.RunAnswer.{Turn, update_text, read_text, install_text, refused_text, with_operation, behind, bad_line, line_turn, lines_answer}

@@ -10,8 +10,8 @@ use Rattle.oplog.specs.History.{Effect, History, after}
 use Rattle.replica.specs.StoreMeaning.{outcome_of, store_meaning}
 use Rattle.replica.specs.Refusals.{IsRoomFor}
 use Rattle.running.specs.declared.single_node.SingleNode.{SingleNode}
-use Rattle.engine.specs.declared.status.Verdict.{Verdict}
-use Rattle.engine.specs.declared.status.Verdict.TheVariants as verdicts
+use Rattle.engine.specs.declared.replies.Verdict.{Verdict}
+use Rattle.engine.specs.declared.replies.Verdict.TheVariants as verdicts
 use Rattle.engine.specs.Answer.{Answer}
 use Rattle.scripts.specs.Script.{Meaning}
 use Rattle.running.specs.RunAnswer.{Turn, called, taken, performed, line_turn, behind}

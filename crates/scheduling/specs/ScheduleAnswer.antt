@@ -17,7 +17,7 @@ use Rattle.schedule.specs.Worlds.{NodeView, WorldView, opened, opening_of}
 use Rattle.schedule.specs.Steps as steps
 use Rattle.schedule.specs.Steps.{Part, Took, put_part, world_after}
 use Rattle.schedule.specs.Taking.{step_answer}
-use Rattle.engine.specs.declared.status.Verdict.TheVariants as verdicts
+use Rattle.engine.specs.declared.replies.Verdict.TheVariants as verdicts
 use Rattle.engine.specs.Answer.{Answer, not_text, refusal_answer}
 use Rattle.engine.specs.Sizes.{are_sizes, sizes_refused}
 use Rattle.engine.specs.Reading.{TextsRead}

@@ -7,7 +7,7 @@ use Rattle.schedule.specs.declared.steps.Step.{Step}
 use Rattle.schedule.specs.Worlds.{NodeView, WorldView}
 use Rattle.schedule.specs.Steps.{took, world_after}
 use Rattle.schedule.specs.Taking.{WorldState, step_answer}
-use Rattle.engine.specs.declared.status.Verdict.{Verdict}
+use Rattle.engine.specs.declared.replies.Verdict.{Verdict}
 use Rattle.scripts.specs.StepLine.{StepMeaning}
 use Rattle.running.specs.Running.{AnswersBehind}
 use Rattle.scheduling.specs.ScheduleAnswer.{StepTurn, node_text, step_text, step_turn, step_line_turn, steps_answer}

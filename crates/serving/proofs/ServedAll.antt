@@ -6,13 +6,13 @@ use Rattle.loader.specs.CatalogueView.{CatalogueView}
 use Rattle.loader.specs.Loading.{Outcome}
 use Rattle.loader.specs.StoreState.{StoreState}
 use Rattle.serving.specs.declared.turns.ServeEnd.{ServeEnd}
-use Rattle.engine.specs.declared.catalogues.Loaded.{Loaded}
-use Rattle.engine.specs.declared.catalogues.Loaded.TheVariants as loads
-use Rattle.engine.specs.declared.reporting.Reply.{Reply}
-use Rattle.engine.specs.declared.states.Opened.{Opened}
-use Rattle.engine.specs.declared.states.Opened.TheVariants as opens
-use Rattle.engine.specs.declared.status.Status.{Status}
-use Rattle.engine.specs.declared.status.Status.TheVariants as statuses
+use Rattle.engine.specs.declared.opening.Loaded.{Loaded}
+use Rattle.engine.specs.declared.opening.Loaded.TheVariants as loads
+use Rattle.engine.specs.declared.replies.Reply.{Reply}
+use Rattle.engine.specs.declared.opening.Opened.{Opened}
+use Rattle.engine.specs.declared.opening.Opened.TheVariants as opens
+use Rattle.engine.specs.declared.replies.Status.{Status}
+use Rattle.engine.specs.declared.replies.Status.TheVariants as statuses
 use Rattle.engine.specs.declared.transfer.ReadFault.{ReadFault}
 use Rattle.engine.specs.declared.transfer.ReadFault.TheVariants as faults
 use Rattle.engine.specs.Answer.{Answer}

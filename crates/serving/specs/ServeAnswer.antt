@@ -10,8 +10,8 @@ use Rattle.loader.specs.Loading.{Outcome, loaded}
 use Rattle.oplog.specs.declared.configuration.TheConstants.{ENDLESS}
 use Rattle.oplog.specs.History.{History}
 use Rattle.serving.specs.declared.turns.ServeEnd.{ServeEnd}
-use Rattle.engine.specs.declared.status.Status.{Status}
-use Rattle.engine.specs.declared.status.Status.TheVariants as statuses
+use Rattle.engine.specs.declared.replies.Status.{Status}
+use Rattle.engine.specs.declared.replies.Status.TheVariants as statuses
 use Rattle.engine.specs.Files.{is_text}
 use Rattle.engine.specs.Texts.{no_memory_line}
 use Rattle.engine.specs.Answer.{Answer, not_text, refusal_answer}

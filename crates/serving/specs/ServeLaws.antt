@@ -4,7 +4,7 @@ use Rattle.std.specs.List.{list_all}
 use Rattle.text.specs.Lines.{lines_of}
 use Rattle.loader.specs.CatalogueView.{CatalogueView}
 use Rattle.oplog.specs.declared.configuration.TheConstants.{MAX_LIMIT, ENDLESS}
-use Rattle.engine.specs.declared.status.Verdict.TheVariants as verdicts
+use Rattle.engine.specs.declared.replies.Verdict.TheVariants as verdicts
 use Rattle.engine.specs.Files.{is_text}
 use Rattle.engine.specs.Answer.{Answer}
 use Rattle.running.specs.RunAnswer.{lines_answer}

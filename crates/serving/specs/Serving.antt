@@ -3,9 +3,9 @@ use Rattle.std.specs.Prelude.{◌≡◌, ℕ, Bool, List, [], ◌++◌, take, Op
 use Rattle.std.specs.Io.KnownBytes.{Appends, Consumes, IsAtEnd}
 use Rattle.loader.specs.CatalogueView.{CatalogueView}
 use Rattle.oplog.specs.declared.configuration.TheConstants.{ENDLESS}
-use Rattle.engine.specs.declared.status.Status.{Status}
-use Rattle.engine.specs.declared.status.Status.TheVariants as statuses
-use Rattle.engine.specs.declared.states.Opened.{Opened}
+use Rattle.engine.specs.declared.replies.Status.{Status}
+use Rattle.engine.specs.declared.replies.Status.TheVariants as statuses
+use Rattle.engine.specs.declared.opening.Opened.{Opened}
 use Rattle.engine.specs.Answer.{Answer}
 use Rattle.engine.specs.OpenedState.{OpenedIs}
 use Rattle.serving.specs.declared.service.TheConstants.{KEPT_BYTES}

@@ -2,7 +2,7 @@
 
 ghost use Rattle.std.specs.Prelude.{◌≡◌, ◌⊎◌, ◌<◌, length, Ok, Err, None, Some, Option, IfSome, IfOk};
 ghost use Rattle.loader.specs.StoreState.{with_room};
-ghost use Rattle.engine.specs.declared.status.Status.TheVariants as statuses;
+ghost use Rattle.engine.specs.declared.replies.Status.TheVariants as statuses;
 ghost use Rattle.engine.specs.declared.transfer.ReadFault.TheVariants as faults;
 ghost use Rattle.engine.specs.Engine.{Writes};
 ghost use Rattle.engine.specs.OpenedState.{IsOpened};

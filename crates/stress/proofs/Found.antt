@@ -11,7 +11,7 @@ use Rattle.engine.specs.Reading.{Given, files_in, first_stranger, found, unless_
 use Rattle.engine.specs.Report.{answer_of}
 use Rattle.engine.specs.Sizes.{are_sizes}
 use Rattle.engine.specs.StateAnswer.{on_loaded, on_text, opened_by}
-use Rattle.engine.specs.declared.status.Verdict.TheVariants as verdicts
+use Rattle.engine.specs.declared.replies.Verdict.TheVariants as verdicts
 use Rattle.running.proofs.RunsOfLines.{loaded_is_catalogue, opened_is_catalogue}
 use Rattle.stress.specs.declared.stressed.Stressed.{Stressed}
 use Rattle.stress.specs.Calls.{Called, script_calls}

@@ -20,7 +20,7 @@ use Rattle.engine.specs.Files.{is_text}
 use Rattle.engine.specs.Reading.{Given, files_in, first_strange, first_stranger, found, is_strange, read, unless_strange}
 use Rattle.engine.specs.Sizes.{are_sizes, sizes_refused}
 use Rattle.engine.specs.StateAnswer.{opened_by}
-use Rattle.engine.specs.declared.status.Verdict.TheVariants as verdicts
+use Rattle.engine.specs.declared.replies.Verdict.TheVariants as verdicts
 use Rattle.replaying.specs.ReplayAnswer.{good_text, nothing_replayed, replay_answer, replayed, replayed_on, transcript_answer}
 use Rattle.stress.specs.Calls.{Called, script_calls, told_as}
 use Rattle.stress.specs.Good.{IsFoundGood, counted, good_of}

@@ -23,7 +23,7 @@ use Rattle.replica.specs.StoreMeaning.{AreUpdates, is_operation, store_meaning}
 use Rattle.running.proofs.RunsOfLines.{grown}
 use Rattle.replaying.specs.ReplayAnswer.{Replayed, Agrees, Differs, by_operation, by_outcome, compared, ended_outcome, good_answer, good_text, is_reply, line_outcome, next_count, read_agrees, told, transcript_answer, unless_barred, update_agrees, with_update}
 use Rattle.engine.specs.Answer.{Answer}
-use Rattle.engine.specs.declared.status.Verdict.TheVariants as verdicts
+use Rattle.engine.specs.declared.replies.Verdict.TheVariants as verdicts
 use Rattle.stress.specs.declared.calls.Asked.{Asked}
 use Rattle.stress.specs.declared.calls.Asked.TheVariants as asks
 use Rattle.stress.specs.Calls.{Called, asked_refusal, operation_on, told_as}

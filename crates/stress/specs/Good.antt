@@ -4,7 +4,7 @@ use Rattle.text.specs.Lines.{lines_of}
 use Rattle.loader.specs.CatalogueView.{CatalogueView, with_places}
 use Rattle.loader.specs.Loading.{loaded}
 use Rattle.oplog.specs.declared.configuration.Config.{Config}
-use Rattle.engine.specs.declared.status.Verdict.TheVariants as verdicts
+use Rattle.engine.specs.declared.replies.Verdict.TheVariants as verdicts
 use Rattle.engine.specs.Answer.{Answer}
 use Rattle.engine.specs.Reading.{Given, files_in, read}
 use Rattle.engine.specs.Report.{answer_of}

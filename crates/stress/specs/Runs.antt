@@ -7,7 +7,7 @@ use Rattle.loader.specs.Loading.{Outcome, loaded}
 use Rattle.oplog.specs.declared.configuration.Config.{Config}
 use Rattle.oplog.specs.History.{History, state_after}
 use Rattle.replica.specs.StoreMeaning.{store_meaning}
-use Rattle.engine.specs.declared.status.Status.{Status}
+use Rattle.engine.specs.declared.replies.Status.{Status}
 use Rattle.engine.specs.Engine.{Reports}
 use Rattle.engine.specs.Answer.{Answer, not_text, refusal_answer}
 use Rattle.engine.specs.Reading.{TextsRead}

@@ -4,7 +4,7 @@ use Rattle.std.specs.List.{All}
 use Rattle.std.specs.List.Sorted.{IsPermutation}
 use Rattle.loader.specs.CatalogueView.{CatalogueView}
 use Rattle.oplog.specs.declared.configuration.Config.{Config}
-use Rattle.engine.specs.declared.status.Verdict.TheVariants as verdicts
+use Rattle.engine.specs.declared.replies.Verdict.TheVariants as verdicts
 use Rattle.engine.specs.Answer.{Answer}
 use Rattle.stress.specs.Calls.{Called, told_as}
 use Rattle.stress.specs.Dealt.{dealt_to, share_of}

@@ -1,5 +1,5 @@
 use Rattle.std.proofs.Common.{Ok, ap, ◌∙◌}
-use Rattle.engine.specs.declared.states.Opened.{Opened}
+use Rattle.engine.specs.declared.opening.Opened.{Opened}
 use Rattle.serving.proofs.ServedAll.{of_fault, of_refused}
 use Rattle.serving.proofs.turns.serve_opened.Goals as goal
 

@@ -1,6 +1,6 @@
 use Rattle.std.proofs.Common.{take, arith}
 use Rattle.std.proofs.lemmas.Option.{same_Some}
-use Rattle.engine.specs.declared.status.Status.TheVariants as statuses
+use Rattle.engine.specs.declared.replies.Status.TheVariants as statuses
 use Rattle.serving.proofs.Turned.{at_end, never_good, unread, unsent, without_memory}
 use Rattle.serving.proofs.turns.take_turn.Goals as goal
 
