@@ -1,7 +1,6 @@
 //! The sessions of `stress` run side by side: two of them wait for each other before they make their first calls.
 
-use engine::reading::Inputs;
-use engine::{Folder, Notes, perform};
+use engine::{Folder, Inputs, Notes, perform};
 use oplog::Config;
 use replaying::Replay;
 use std::sync::atomic::{AtomicU64, Ordering};

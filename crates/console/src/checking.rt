@@ -5,10 +5,8 @@ ghost use Rattle.console.specs.CheckAnswer.{check_answer, checked_answer};
 ghost use Rattle.engine.specs.Reading.{texts_read};
 ghost use Rattle.engine.specs.Report.{answer_of};
 
-use engine::reading::{Gathered, Texts};
-use engine::replies::not_text;
 use engine::texts::programs_text;
-use engine::{Command, Loaded, Notes, Reply, load_texts};
+use engine::{Command, Gathered, Loaded, Notes, Reply, Texts, load_texts, not_text};
 use std::alloc::{AllocError, Global};
 
 /// Checks a manifest and the programs that it names.

@@ -8,8 +8,7 @@ ghost use Rattle.engine.specs.Report.{answer_of};
 
 use crate::checking::checked;
 use crate::strangers::explain_strangers;
-use engine::reading::{Gathered, Texts, lent};
-use engine::{Command, Folder, Notes, Reply};
+use engine::{Command, Folder, Gathered, Notes, Reply, Texts, lent};
 use explain::explain_manifest;
 use std::alloc::{AllocError, Global};
 

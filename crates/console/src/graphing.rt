@@ -7,9 +7,7 @@ ghost use Rattle.engine.specs.Reading.{texts_read};
 ghost use Rattle.engine.specs.Report.{answer_of};
 
 use crate::checking::checked;
-use engine::reading::{Gathered, Texts, lent};
-use engine::replies::not_text;
-use engine::{Command, Notes, Reply, Verdict};
+use engine::{Command, Gathered, Notes, Reply, Texts, Verdict, lent, not_text};
 use explain::graph_manifest;
 use std::alloc::{AllocError, Global};
 

@@ -5,9 +5,7 @@ ghost use Rattle.console.specs.Explanation.{IsExplanation};
 ghost use Rattle.engine.specs.Answer.{not_text};
 ghost use Rattle.engine.specs.Report.{answer_of};
 
-use engine::reading::Stranger;
-use engine::replies::not_text;
-use engine::{Folder, ReadFault, Reply, Source};
+use engine::{Folder, ReadFault, Reply, Source, Stranger, not_text};
 use explain::explain_stranger;
 use loader::named_files;
 use std::alloc::{AllocError, Global};

@@ -6,3 +6,4 @@ pub mod FoundTexts
 pub mod GatheredFiles
 pub mod Gatherings
 pub mod Reports
+pub mod Openings

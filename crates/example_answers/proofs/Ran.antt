@@ -12,7 +12,7 @@ use Rattle.oplog.specs.declared.configuration.TheConstants.{MAX_LIMIT}
 use Rattle.oplog.specs.History.{History}
 use Rattle.engine.specs.Reading.{first_stranger, found, read, unless_strange}
 use Rattle.running.specs.RunAnswer.{Turn, behind, bad_line, by_turn, line_turn, lines_answer}
-use Rattle.running.specs.KeptRun.{KeptRun, kept, kept_of, run_kept}
+use Rattle.running.specs.KeptRun.{KeptRun, kept_of, run_kept, script_kept}
 use Rattle.running.specs.declared.runs.Kept.{Kept}
 use Rattle.engine.specs.Answer.{Answer}
 use Rattle.example_answers.specs.Counter.{counter_calls, counter_script, counter_ran}
@@ -53,7 +53,7 @@ texts = refl
 pub counter_runs : (run_kept false (read counter_calls)).answer ≡ counter_ran
 counter_runs =
     ap (λ o. (run_kept false (unless_strange o (found counter_calls))).answer) texts
-    ∙ ap (λ o. (kept o counter_script []).answer) counter_loads ∙ lines
+    ∙ ap (λ o. (script_kept counter_script (opening_of (Some RUN_PLACES) o [])).answer) counter_loads ∙ lines
 
 -- what is made of these calls has this answer
 pub kept_so : {E : Type 0} (r : Result Kept E) (k : KeptRun) (a : Answer) → k.answer ≡ a → IfOk r (λ m. kept_of m ≡ k) → IfOk r (λ m. (kept_of m).answer ≡ a)

@@ -9,8 +9,7 @@ ghost use Rattle.example_answers.specs.Counter.{counter_checked, counter_ran};
 ghost use Rattle.example_answers.specs.Pages.{IsOnPage};
 
 use console::Check;
-use engine::reading::Inputs;
-use engine::{Held, HeldFiles, Notes, Page, Reply, Status, in_memory, perform};
+use engine::{Held, HeldFiles, Inputs, Notes, Page, Reply, Status, in_memory, perform};
 use running::{Kept, Run};
 use std::alloc::{AllocError, Global};
 

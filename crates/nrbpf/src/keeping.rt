@@ -3,9 +3,7 @@
 use crate::disk::{DASH, LateFile};
 use crate::output::{no_memory, part_of, save};
 use dumps::dump;
-use engine::performing::report;
-use engine::reading::Inputs;
-use engine::{Folder, Notes, Sink, Source, Status, prepare};
+use engine::{Folder, Inputs, Notes, Sink, Source, Status, prepare, report};
 use loader::StoreState;
 use running::Run;
 use serving::{ServeEnd, serve};

@@ -13,8 +13,7 @@ mod tasks;
 
 use console::{Check, Draw, Explain};
 use disk::{Disk, LateFile};
-use engine::reading::Inputs;
-use engine::{Answering, Command, Folder, Notes, Status, Telling};
+use engine::{Answering, Command, Folder, Inputs, Notes, Status, Telling};
 use keeping::{run_into, serve_into};
 use output::{Output, assemble, encode_or_say, say_text};
 use realtime::ReplayTimed;

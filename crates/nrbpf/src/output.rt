@@ -2,11 +2,7 @@
 
 use crate::disk::say;
 use console::{Assemble, Encode};
-use engine::performing::report;
-use engine::reading::{Inputs, gather};
-use engine::{
-    Command, Folder, Notes, ReadFault, Reply, Sink, Source, Status, Telling, Verdict, prepare,
-};
+use engine::{Command, Folder, Inputs, Notes, ReadFault, Reply, Sink, Source, Status, Telling, Verdict, gather, prepare, report};
 use std::alloc::{AllocError, Global};
 use std::io::{Eprint, ErrorKind, Write};
 use std::rt::Files;

@@ -12,10 +12,8 @@ use crate::histories::{History, Timed, read_history};
 use crate::placing::first_misplaced;
 use crate::ranks::ranks;
 use crate::turns::first_out_of_turn;
-use engine::reading::{Gathered, Texts};
-use engine::replies::not_text;
 use engine::texts::put_numbered;
-use engine::{Command, Notes, Reply, Verdict};
+use engine::{Command, Gathered, Notes, Reply, Texts, Verdict, not_text};
 use replaying::Replay;
 use std::alloc::{AllocError, Global};
 

@@ -1,11 +1,9 @@
 -- What `replay` answers, as a function of the manifest, the files, the transcript and the state that were read.
-use Rattle.std.specs.Prelude.{ℕ, ◌+◌, ◌-◌, ◌^◌, min, Bool, false, ◌&&◌, List, [], ◌∷◌, ◌++◌, length, codes, decimal, Option, Some, None, option_and_then, Result, Ok, Err, nat_lt, nat_le, ◌==◌, if◌then◌else◌}
+use Rattle.std.specs.Prelude.{ℕ, ◌+◌, ◌-◌, ◌^◌, min, Bool, false, ◌&&◌, List, [], ◌∷◌, ◌++◌, length, codes, decimal, Option, Some, None, option_and_then, Result, Ok, Err, nat_lt, ◌==◌, if◌then◌else◌}
 use Rattle.verifier.specs.declared.refusal.Mode.{Mode}
 use Rattle.verifier.specs.declared.refusal.Mode.TheVariants.{Update, Read}
 use Rattle.text.specs.Lines.{lines_of, next_line}
-use Rattle.loader.specs.CatalogueView.{CatalogueView, number_named, with_places}
-use Rattle.loader.specs.declared.installed.TheConstants.{MAX_PLACES}
-use Rattle.loader.specs.Loading.{Outcome, loaded}
+use Rattle.loader.specs.CatalogueView.{CatalogueView, number_named}
 use Rattle.oplog.specs.Calls.{NewProgram}
 use Rattle.oplog.specs.Operations.{Operation}
 use Rattle.oplog.specs.declared.records.Op.TheVariants.{Run, Install}
@@ -15,13 +13,12 @@ use Rattle.replica.specs.StoreMeaning.{store_meaning}
 use Rattle.replica.specs.Refusals.{early_refusal, install_refusal}
 use Rattle.replica.specs.declared.refusals.StoreRefused.{StoreRefused}
 use Rattle.engine.specs.declared.replies.Verdict.TheVariants as verdicts
-use Rattle.engine.specs.Answer.{Answer, not_text, refusal_answer}
+use Rattle.engine.specs.Answer.{Answer, not_text}
 use Rattle.scripts.specs.Script.{ProgramKey, Named, Numbered, KeyedCall}
 use Rattle.scripts.specs.Transcript.{AnsweredCall, AnsweredInstall, TranscriptMeaning, Comment, Answered, Installed, Ended, EndedInstall, transcript_line_meaning}
 use Rattle.running.specs.RunAnswer.{bad_line, with_operation}
-use Rattle.engine.specs.Sizes.{sizes_refused}
 use Rattle.engine.specs.Reading.{TextsRead}
-use Rattle.engine.specs.StateAnswer.{opened_by}
+use Rattle.engine.specs.Opening.{opening, places_within}
 
 -- ---- the texts
 
@@ -143,18 +140,8 @@ abbrev pub replayed_on : List ℕ → Result CatalogueView Answer → Answer
 replayed_on transcript (Ok c) = transcript_answer c 1 nothing_replayed (lines_of transcript)
 replayed_on transcript (Err a) = a
 
--- with so many places behind the catalogue's programs, on the state that a text says, or on a new one
-abbrev pub placed_answer : ℕ → CatalogueView → List ℕ → List ℕ → Answer
-placed_answer spare c transcript state =
-    if nat_le spare MAX_PLACES then replayed_on transcript (opened_by (with_places c spare) state) else sizes_refused
-
--- a refused manifest writes only its refusal, too many places and a refused state only theirs
-abbrev pub replayed : ℕ → Outcome → List ℕ → List ℕ → Answer
-replayed spare (Ok c) transcript state = placed_answer spare c transcript state
-replayed spare (Err refusal) transcript state = refusal_answer refusal
-
 -- what `replay` answers to what was read: the manifest is loaded, then the places are judged, then the state is loaded, then the lines are
 -- replayed
 abbrev pub replay_answer : ℕ → Option TextsRead → Answer
 replay_answer spare None = not_text
-replay_answer spare (Some t) = replayed spare (loaded t.manifest t.files) t.file t.state
+replay_answer spare (Some t) = replayed_on t.file (opening (places_within spare) t)

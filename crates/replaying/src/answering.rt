@@ -1,22 +1,18 @@
 // The command `replay`.
 
-ghost use Rattle.std.specs.Prelude.{◌≡◌, Result, IfOk, Some, string_bytes};
-ghost use Rattle.loader.specs.CatalogueView.{CatalogueView, OpensOn};
+ghost use Rattle.std.specs.Prelude.{◌≡◌, IfOk, Some};
+ghost use Rattle.loader.specs.CatalogueView.{OpensOn};
 ghost use Rattle.text.specs.Lines.{lines_of};
-ghost use Rattle.engine.specs.Answer.{Answer};
 ghost use Rattle.engine.specs.Notes.{IsQuiet};
-ghost use Rattle.engine.specs.OpenedState.{IsOpened, OpenedIs};
 ghost use Rattle.engine.specs.Reading.{texts_read};
 ghost use Rattle.engine.specs.Report.{answer_of};
-ghost use Rattle.replaying.specs.ReplayAnswer.{transcript_answer, nothing_replayed, replayed_on, placed_answer, replay_answer};
+ghost use Rattle.replaying.specs.ReplayAnswer.{transcript_answer, nothing_replayed, replay_answer};
 ghost use Rattle.replaying.specs.Replaying.{ended_answer};
 
 use crate::lines::{ReplayEnd, Replaying};
 use crate::replay_texts::{put_end, tell_end};
-use engine::reading::{Gathered, Texts};
-use engine::replies::{not_text, sizes_refused};
-use engine::{Command, Loaded, Notes, Opened, Reply, load_texts, open_on};
-use loader::{Catalogue, MAX_PLACES, StoreState};
+use engine::{Command, Gathered, Notes, Opened, Reply, Texts, not_text, open_texts, places_within};
+use loader::{Catalogue, StoreState};
 use std::alloc::{AllocError, Global};
 
 // What is answered where a replay ended so.
@@ -47,25 +43,6 @@ fn transcript_reply(
     end_reply(alloc, end, &replaying)
 }
 
-// What is answered to a transcript on what was opened.
-fn opened_reply(
-    alloc: Global,
-    opened: Opened,
-    transcript: &str,
-    notes: &mut Notes,
-) -> Result<Reply, AllocError>
-    requires opened { IsOpened opened }
-    ensures quiet { IsQuiet notes.old notes.new }
-    ensures answered { IfOk result (λ r. (on : Result CatalogueView Answer) → OpenedIs on opened → answer_of r ≡ replayed_on transcript.now on) }
-{
-    match opened {
-        Opened::On(catalogue, state) => {
-            transcript_reply(alloc, &catalogue, Some(&state), transcript, notes)
-        }
-        Opened::Refused(reply) => Ok(reply),
-    }
-}
-
 /// Replays a transcript on one replica with the maps and the programs of a manifest: the updates and installs in the order of
 /// their indexes, and each read after the updates before its point.
 ///
@@ -84,35 +61,12 @@ pub struct Replay {
 }
 
 impl Replay {
-    // What a catalogue answers to a transcript, on the state that a text says, or on a new one.
-    fn placed_reply(
-        &self,
-        alloc: Global,
-        catalogue: Catalogue,
-        texts: &Texts,
-        notes: &mut Notes,
-    ) -> Result<Reply, AllocError>
-        ensures quiet { IsQuiet notes.old notes.new }
-        ensures answered { IfOk result (λ r. answer_of r ≡ placed_answer self.now.spare catalogue (string_bytes texts.now.file) (string_bytes texts.now.state)) }
-    {
-        let places = self.spare as usize;
-        if places > MAX_PLACES {
-            return sizes_refused(alloc);
-        }
-        let catalogue = catalogue.with_places(places);
-        let (transcript, state) = (texts.file.as_str(), texts.state.as_str());
-        if state.is_empty() {
-            transcript_reply(alloc, &catalogue, None, transcript, notes)
-        } else {
-            opened_reply(alloc, open_on(alloc, catalogue, state)?, transcript, notes)
-        }
-    }
-
     /// What is answered to these texts.
     ///
     /// # Errors
     ///
     /// The system has no memory left.
+    #[tactic(auto, using(engine::proofs::Openings::opens_on))]
     pub fn reply(
         &self,
         alloc: Global,
@@ -122,9 +76,12 @@ impl Replay {
         ensures quiet { IsQuiet notes.old notes.new }
         ensures answered { IfOk result (λ r. answer_of r ≡ replay_answer self.now.spare (Some (texts_read texts.now))) }
     {
-        match load_texts(alloc, texts)? {
-            Loaded::Catalogue(catalogue) => self.placed_reply(alloc, catalogue, texts, notes),
-            Loaded::Refused(reply) => Ok(reply),
+        let transcript = texts.file.as_str();
+        match open_texts(alloc, texts, places_within(self.spare))? {
+            Opened::On(catalogue, state) => {
+                transcript_reply(alloc, &catalogue, state.as_ref(), transcript, notes)
+            }
+            Opened::Refused(reply) => Ok(reply),
         }
     }
 }

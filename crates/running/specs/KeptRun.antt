@@ -3,8 +3,7 @@ use Rattle.std.specs.Prelude.{ℕ, Bool, true, false, List, [], ◌∷◌, Optio
 use Rattle.std.specs.Io.KnownBytes.{Appends, Keeps}
 use Rattle.text.specs.Lines.{lines_of}
 use Rattle.loader.specs.StoreState.{StoreState}
-use Rattle.loader.specs.CatalogueView.{CatalogueView, opening_state, with_places}
-use Rattle.loader.specs.Loading.{Outcome, loaded}
+use Rattle.loader.specs.CatalogueView.{CatalogueView, opening_state}
 use Rattle.oplog.specs.declared.configuration.TheConstants.{MAX_LIMIT}
 use Rattle.oplog.specs.History.{History, after}
 use Rattle.replica.specs.StoreMeaning.{store_meaning}
@@ -12,9 +11,9 @@ use Rattle.running.specs.declared.single_node.TheConstants.{RUN_PLACES}
 use Rattle.running.specs.declared.runs.Kept.{Kept}
 use Rattle.engine.specs.declared.replies.Status.{Status}
 use Rattle.engine.specs.declared.replies.Status.TheVariants as statuses
-use Rattle.engine.specs.Answer.{Answer, not_text, refusal_answer}
+use Rattle.engine.specs.Answer.{Answer, not_text}
 use Rattle.engine.specs.Reading.{TextsRead}
-use Rattle.engine.specs.StateAnswer.{opened_by}
+use Rattle.engine.specs.Opening.{opening}
 use Rattle.running.specs.Signed.{signed_answer}
 use Rattle.running.specs.RunAnswer.{Turn, line_turn, lines_answer}
 use Rattle.engine.specs.Report.{answer_of}
@@ -51,15 +50,10 @@ unrun a = record { answer = a; state = None }
 abbrev pub lines_kept : CatalogueView → List (List ℕ) → KeptRun
 lines_kept c ls = record { answer = lines_answer MAX_LIMIT c 1 [] ls; state = option_map (state_left c) (lines_left MAX_LIMIT c [] ls) }
 
--- on a catalogue that opens on a state, unless that is refused
+-- on a catalogue, unless this is answered in its place
 abbrev pub script_kept : List ℕ → Result CatalogueView Answer → KeptRun
 script_kept script (Ok c) = lines_kept c (lines_of script)
 script_kept script (Err a) = unrun a
-
--- a refused manifest gets only its refusal, a refused state only its
-abbrev pub kept : Outcome → List ℕ → List ℕ → KeptRun
-kept (Ok c) script state = script_kept script (opened_by (with_places c RUN_PLACES) state)
-kept (Err refusal) script state = unrun (refusal_answer refusal)
 
 -- with signed numbers beside its replies, or without
 abbrev pub with_signs : Bool → KeptRun → KeptRun
@@ -69,7 +63,7 @@ with_signs true k = record { answer = signed_answer k.answer; state = k.state }
 -- what `run` answers to what was read, with signed numbers or without, and what it leaves: the manifest is loaded, then the state, then the lines are run
 abbrev pub run_kept : Bool → Option TextsRead → KeptRun
 run_kept is_signed None = unrun not_text
-run_kept is_signed (Some t) = with_signs is_signed (kept (loaded t.manifest t.files) t.file t.state)
+run_kept is_signed (Some t) = with_signs is_signed (script_kept t.file (opening (Some RUN_PLACES) t))
 
 -- ---- what was made
 

@@ -1,27 +1,23 @@
 // The command `run`, and the state that it leaves.
 
-ghost use Rattle.std.specs.Prelude.{◌≡◌, true, false, Option, option_map, Result, IfOk};
+ghost use Rattle.std.specs.Prelude.{◌≡◌, true, false, Option, option_map, Some, IfOk};
 ghost use Rattle.text.specs.Lines.{lines_of};
-ghost use Rattle.loader.specs.CatalogueView.{CatalogueView, OpensOn, with_places};
+ghost use Rattle.loader.specs.CatalogueView.{OpensOn};
 ghost use Rattle.oplog.specs.declared.configuration.TheConstants.{MAX_LIMIT};
 ghost use Rattle.oplog.specs.History.{History};
 ghost use Rattle.dumps.specs.Dumping.{dump};
-ghost use Rattle.engine.specs.Answer.{Answer};
 ghost use Rattle.engine.specs.Memory.{Never};
-ghost use Rattle.engine.specs.OpenedState.{IsOpened, OpenedIs};
 ghost use Rattle.engine.specs.Reading.{texts_read};
 ghost use Rattle.engine.specs.Report.{answer_of, Failed};
-ghost use Rattle.engine.specs.StateAnswer.{opened_by};
-ghost use Rattle.running.specs.KeptRun.{state_left, unrun, lines_kept, script_kept, with_signs, run_kept, kept_of, Dumps};
+ghost use Rattle.running.specs.KeptRun.{state_left, unrun, lines_kept, with_signs, run_kept, kept_of, Dumps};
 ghost use Rattle.running.specs.Running.{IsSteady, HasLeft};
 
 use crate::lines::take_lines;
 use crate::signed_texts::signed_text;
 use crate::single_node::{RUN_PLACES, SingleNode};
-use engine::reading::{Gathered, Texts};
-use engine::replies::not_text;
 use engine::{
-    Answering, Command, Loaded, Notes, Opened, Reply, Sink, Status, Verdict, load_texts, open_on,
+    Answering, Command, Gathered, Notes, Opened, Reply, Sink, Status, Texts, Verdict, not_text,
+    open_texts,
 };
 use loader::{Catalogue, StoreState};
 use oplog::MAX_LIMIT;
@@ -84,43 +80,15 @@ fn lines_kept(
     Ok(Kept { reply, state })
 }
 
-// Runs the lines of a script on what was opened.
-fn script_kept(alloc: Global, opened: Opened, script: &str) -> Result<Kept, AllocError>
-    requires opened { IsOpened opened }
-    ensures { IfOk result (λ k. (on : Result CatalogueView Answer) → OpenedIs on opened → kept_of k ≡ script_kept script.now on) }
-{
-    match opened {
-        Opened::On(catalogue, state) => lines_kept(alloc, &catalogue, Some(&state), script),
-        Opened::Refused(reply) => Ok(unrun(reply)),
-    }
-}
-
-// Runs the lines of a script on a catalogue and the state that a text says, or on a new one.
-fn catalogue_kept(
-    alloc: Global,
-    catalogue: Catalogue,
-    script: &str,
-    state: &str,
-) -> Result<Kept, AllocError>
-    ensures { IfOk result (λ k. kept_of k ≡ script_kept script.now (opened_by (with_places catalogue RUN_PLACES) state.now)) }
-{
-    let catalogue = catalogue.with_places(RUN_PLACES);
-    if state.is_empty() {
-        lines_kept(alloc, &catalogue, None, script)
-    } else {
-        script_kept(alloc, open_on(alloc, catalogue, state)?, script)
-    }
-}
-
 // What a manifest, its files, a script and a state's text get.
+#[tactic(auto, using(engine::proofs::Openings::opens_on))]
 fn texts_kept(alloc: Global, texts: &Texts) -> Result<Kept, AllocError>
     ensures { IfOk result (λ k. kept_of k ≡ run_kept false (Some (texts_read texts.now))) }
 {
-    match load_texts(alloc, texts)? {
-        Loaded::Catalogue(catalogue) => {
-            catalogue_kept(alloc, catalogue, texts.file.as_str(), texts.state.as_str())
-        }
-        Loaded::Refused(reply) => Ok(unrun(reply)),
+    let script = texts.file.as_str();
+    match open_texts(alloc, texts, Some(RUN_PLACES))? {
+        Opened::On(catalogue, state) => lines_kept(alloc, &catalogue, state.as_ref(), script),
+        Opened::Refused(reply) => Ok(unrun(reply)),
     }
 }
 

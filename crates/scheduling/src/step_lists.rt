@@ -6,9 +6,7 @@ ghost use Rattle.engine.specs.Report.{answer_of};
 ghost use Rattle.scheduling.specs.ScheduleAnswer.{catalogue_answer, schedule_answer};
 
 use crate::stepping::Stepping;
-use engine::reading::{Gathered, Texts};
-use engine::replies::{not_text, sizes_refused};
-use engine::{Command, Loaded, Notes, Reply, load_texts};
+use engine::{Command, Gathered, Loaded, Notes, Reply, Texts, load_texts, not_text, sizes_refused};
 use loader::Catalogue;
 use oplog::{Config, OpenError};
 use schedule::World;

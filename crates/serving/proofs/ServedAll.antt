@@ -3,11 +3,8 @@ use Rattle.std.proofs.Common.{◌≡◌, ◌⊎◌, inl, inr, ℕ, List, [], Opt
 use Rattle.std.specs.Prelude.{IfOk}
 use Rattle.std.specs.Io.KnownBytes.{Appends, Keeps}
 use Rattle.loader.specs.CatalogueView.{CatalogueView}
-use Rattle.loader.specs.Loading.{Outcome}
 use Rattle.loader.specs.StoreState.{StoreState}
 use Rattle.serving.specs.declared.turns.ServeEnd.{ServeEnd}
-use Rattle.engine.specs.declared.opening.Loaded.{Loaded}
-use Rattle.engine.specs.declared.opening.Loaded.TheVariants as loads
 use Rattle.engine.specs.declared.replies.Reply.{Reply}
 use Rattle.engine.specs.declared.opening.Opened.{Opened}
 use Rattle.engine.specs.declared.opening.Opened.TheVariants as opens
@@ -17,14 +14,13 @@ use Rattle.engine.specs.declared.transfer.ReadFault.{ReadFault}
 use Rattle.engine.specs.declared.transfer.ReadFault.TheVariants as faults
 use Rattle.engine.specs.Answer.{Answer}
 use Rattle.engine.specs.Engine.{Writes}
-use Rattle.engine.specs.Loaded.{LoadedIs}
-use Rattle.engine.specs.OpenedState.{IsOpened, OpenedIs}
+use Rattle.engine.specs.Opening.{IsOpened, on_which}
 use Rattle.engine.specs.ReadFaults.{IfCannotRead}
 use Rattle.engine.specs.Reading.{TextsRead}
 use Rattle.engine.specs.Report.{Failed, Sends, answer_of}
 use Rattle.engine.specs.Texts.{no_memory_line}
 use Rattle.engine.proofs.Reports.{reports}
-use Rattle.serving.specs.ServeAnswer.{Serves, ServesBytes, served_text, nothing_served, state_served, service, to_serve}
+use Rattle.serving.specs.ServeAnswer.{Serves, ServesBytes, served_text, nothing_served, state_served, service}
 use Rattle.serving.proofs.Served.{none_served}
 use Rattle.serving.proofs.Turned.{appends_none, appends_kept, consumes_none, never_good, no_memory_at, none_given}
 
@@ -71,37 +67,28 @@ module _ (given old new : Option (List ℕ)) (ended : ServeEnd) (none : ended.st
   left = ap (λ (s : Option StoreState). record { status = ended.status; state = s }) none
 
   pub of_refused : {E : Type 0} (opened : Result Opened E) (r : Reply) → opened ≡ Ok (opens.Refused r) → Writes answer_of old new ended.status (Ok r)
-      → (on : Result CatalogueView Answer) → IfOk opened (OpenedIs on) → ServesBytes on given given old new ended
-  of_refused opened r is wrote (Ok c) such = absurd (subst (λ o. IfOk o (OpenedIs (Ok c))) is such)
-  of_refused opened r is wrote (Err a) such = instead given old new ended.status ended left a (Ok r) wrote (subst (λ o. IfOk o (OpenedIs (Err a))) is such)
+      → (on : Result CatalogueView Answer) → IfOk opened (λ o. on_which o ≡ on) → ServesBytes on given given old new ended
+  of_refused opened r is wrote (Ok c) such = absurd (let no : Err (answer_of r) ≡ Ok c = subst (λ o. IfOk o (λ x. on_which x ≡ Ok c)) is such in let never : ⊥ = cc in never)
+  of_refused opened r is wrote (Err a) such = instead given old new ended.status ended left a (Ok r) wrote (let one : Err (answer_of r) ≡ Err a = subst (λ o. IfOk o (λ x. on_which x ≡ Err a)) is such in let same : answer_of r ≡ a = cc in same)
 
   pub of_fault : (e : ReadFault) → Writes answer_of old new ended.status (Err e) → (on : Result CatalogueView Answer) → ServesBytes on given given old new ended
   of_fault e wrote on = unopened given old new ended.status ended left on e wrote
 
 -- ---- what was opened
 
--- of a catalogue that was loaded
-pub of_catalogue : {E : Type 0} (spare : ℕ) (outcome : Outcome) (l : Loaded) (c : CatalogueView) (text state : List ℕ) (r : Result Opened E) → l ≡ loads.Catalogue c
-    → LoadedIs outcome l → text ≡ state → IfOk r IsOpened → IfOk r (OpenedIs (to_serve spare (Ok c) text)) → IfOk r (λ o. IsOpened o × OpenedIs (to_serve spare outcome state) o)
-of_catalogue spare outcome l c text state (Err e) is was same opened such = tt
-of_catalogue spare (Ok d) l c text state (Ok o) is was same opened such =
-    let one : c ≡ d = subst (λ (x : Loaded). LoadedIs (Ok d) x) is was in
-    (opened, subst (λ (x : CatalogueView). OpenedIs (to_serve spare (Ok x) state) o) one (subst (λ (x : List ℕ). OpenedIs (to_serve spare (Ok c) x) o) same such))
-of_catalogue spare (Err e) l c text state (Ok o) is was same opened such = absurd (subst (λ (x : Loaded). LoadedIs (Err e) x) is was)
-
 module _ {E : Type 0} (spare : ℕ) where
-  pub opened_as : (r : Result Opened E) (t : Option TextsRead) → IfOk r (λ o. IsOpened o × OpenedIs (service spare t) o) → IfOk r (OpenedIs (service spare t))
+  pub opened_as : (r : Result Opened E) (t : Option TextsRead) → IfOk r (λ o. IsOpened o × (on_which o ≡ service spare t)) → IfOk r (λ o. on_which o ≡ service spare t)
   opened_as (Ok o) t is = is.1
   opened_as (Err e) t is = tt
 
   abbrev Some_opened : Result Opened E → Type 0
-  Some_opened r = IfOk r (λ o. (t : Option TextsRead) × (IsOpened o × OpenedIs (service spare t) o))
+  Some_opened r = IfOk r (λ o. (t : Option TextsRead) × (IsOpened o × (on_which o ≡ service spare t)))
 
   pub is_opened : (r : Result Opened E) → Some_opened r → IfOk r IsOpened
   is_opened (Ok o) some = some.1.0
   is_opened (Err e) some = tt
 
-  pub of_some : (r : Result Opened E) → Some_opened r → (t : Option TextsRead) × IfOk r (OpenedIs (service spare t))
+  pub of_some : (r : Result Opened E) → Some_opened r → (t : Option TextsRead) × IfOk r (λ o. on_which o ≡ service spare t)
   of_some (Ok o) some = (some.0, some.1.1)
   of_some (Err e) some = (None, tt)
 

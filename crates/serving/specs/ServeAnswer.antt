@@ -1,12 +1,10 @@
 -- What `serve` writes: the answer of each line as soon as it ends, as `run` writes it; a bad line is answered too, and does not end it. And the
 -- state that it leaves.
-use Rattle.std.specs.Prelude.{◌≡◌, ◌⊎◌, ℕ, List, [], ◌∷◌, ◌++◌, take, Option, Some, None, Result, Ok, Err, nat_le, ◌==◌, if◌then◌else◌}
+use Rattle.std.specs.Prelude.{◌≡◌, ◌⊎◌, ℕ, List, [], ◌∷◌, ◌++◌, take, Option, Some, None, Result, Ok, Err, ◌==◌, if◌then◌else◌}
 use Rattle.std.specs.Io.KnownBytes.{Appends, Consumes, IsAtEnd}
 use Rattle.text.specs.Lines.{next_line}
 use Rattle.loader.specs.StoreState.{StoreState}
-use Rattle.loader.specs.CatalogueView.{CatalogueView, with_places}
-use Rattle.loader.specs.declared.installed.TheConstants.{MAX_PLACES}
-use Rattle.loader.specs.Loading.{Outcome, loaded}
+use Rattle.loader.specs.CatalogueView.{CatalogueView}
 use Rattle.oplog.specs.declared.configuration.TheConstants.{ENDLESS}
 use Rattle.oplog.specs.History.{History}
 use Rattle.serving.specs.declared.turns.ServeEnd.{ServeEnd}
@@ -14,12 +12,11 @@ use Rattle.engine.specs.declared.replies.Status.{Status}
 use Rattle.engine.specs.declared.replies.Status.TheVariants as statuses
 use Rattle.engine.specs.Files.{is_text}
 use Rattle.engine.specs.Texts.{no_memory_line}
-use Rattle.engine.specs.Answer.{Answer, not_text, refusal_answer}
+use Rattle.engine.specs.Answer.{Answer, not_text}
 use Rattle.running.specs.RunAnswer.{Turn, bad_line_text, line_turn}
 use Rattle.engine.specs.Reading.{Given, TextsRead, read}
-use Rattle.engine.specs.StateAnswer.{on_text}
+use Rattle.engine.specs.Opening.{opening, places_within}
 use Rattle.running.specs.KeptRun.{state_left}
-use Rattle.engine.specs.Sizes.{sizes_refused}
 use Rattle.engine.specs.Transfer.{AppendsBeginning}
 use Rattle.engine.specs.Report.{answer_of}
 use Rattle.engine.specs.Engine.{Reports}
@@ -109,15 +106,10 @@ pub record Serves (c : CatalogueView) (given left : Option (List ℕ)) (old new 
 
 -- ---- the command
 
--- a refused manifest gets only its refusal, too many places only theirs, a refused state only its
-abbrev pub to_serve : ℕ → Outcome → List ℕ → Result CatalogueView Answer
-to_serve spare (Ok c) state = if nat_le spare MAX_PLACES then on_text (with_places c spare) state else Err sizes_refused
-to_serve spare (Err refusal) state = Err (refusal_answer refusal)
-
 -- what is served of what was read, with so many places behind the manifest's programs and on the state, or what is answered in its place
 abbrev pub service : ℕ → Option TextsRead → Result CatalogueView Answer
 service spare None = Err not_text
-service spare (Some t) = to_serve spare (loaded t.manifest t.files) t.state
+service spare (Some t) = opening (places_within spare) t
 
 -- what `serve` did with its input and its output; what is answered in its place leaves no state, and nothing of
 -- the input is read then

@@ -7,7 +7,7 @@ use Rattle.engine.specs.declared.replies.Status.{Status}
 use Rattle.engine.specs.declared.replies.Status.TheVariants as statuses
 use Rattle.engine.specs.declared.opening.Opened.{Opened}
 use Rattle.engine.specs.Answer.{Answer}
-use Rattle.engine.specs.OpenedState.{OpenedIs}
+use Rattle.engine.specs.Opening.{on_which}
 use Rattle.serving.specs.declared.service.TheConstants.{KEPT_BYTES}
 use Rattle.serving.specs.declared.service.Service.{Service}
 use Rattle.running.specs.RunAnswer.{Turn}
@@ -16,7 +16,7 @@ use Rattle.serving.specs.ServeAnswer.{Serving, nothing_served, text_turn, served
 
 -- this is so of what is served, or answered in its place, where that was opened
 abbrev pub IfOpened : {E : Type 0} → Result Opened E → (Result CatalogueView Answer → Type 0) → Type 0
-IfOpened opened P = (on : Result CatalogueView Answer) → IfOk opened (OpenedIs on) → P on
+IfOpened opened P = (on : Result CatalogueView Answer) → IfOk opened (λ o. on_which o ≡ on) → P on
 
 -- of a line that is longer than any good one, its first bytes are enough
 pub record Stands (s : Serving) (service : Service) : Type 0 where

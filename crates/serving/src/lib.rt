@@ -2,7 +2,6 @@
 #![tactic(auto)]
 
 mod laws;
-mod opening;
 mod service;
 mod turns;
 

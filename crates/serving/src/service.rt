@@ -1,7 +1,8 @@
 // Lines that are answered as they end.
 
 ghost use Rattle.std.specs.Prelude.{◌≡◌, ◌∷◌, ◌++◌, [], false, Ok, IfOk, OnOk, OnErr};
-ghost use Rattle.loader.specs.CatalogueView.{OpensOn};
+ghost use Rattle.engine.specs.declared.opening.Opened.TheVariants.{On};
+ghost use Rattle.engine.specs.Opening.{IsOpened};
 ghost use Rattle.running.specs.Running.{IsSteady};
 ghost use Rattle.serving.specs.ServeAnswer.{Serving, nothing_served, turn_at, behind_line, with_byte, served};
 ghost use Rattle.serving.specs.Serving.{AddsServed, Stands, IsSameLine, TakesLeft, IsAnswered, GoesOn, TakesBytes};
@@ -31,18 +32,19 @@ pub(crate) struct Service {
 }
 
 impl Service {
-    // A store for the maps and the programs of a catalogue, on a copy of the state that is handed in, or on a new one.
+    // A store for the maps and the programs of a catalogue, on a copy of the state that it opens on, which is let go, or on a new one.
+    #[tactic(auto, using(engine::proofs::Openings::opens_on))]
     pub(crate) fn open(
         alloc: Global,
         catalogue: Catalogue,
-        opening: Option<&StoreState>,
+        opening: Option<StoreState>,
     ) -> Result<Service, AllocError>
-        requires opens { OpensOn catalogue opening }
+        requires opened { IsOpened (On catalogue opening) }
         ensures catalogue { IfOk result (λ s. s.catalogue ≡ catalogue) }
         ensures steady { IfOk result (λ s. IsSteady s.catalogue s.node) }
         ensures stands { IfOk result (λ s. Stands nothing_served s) }
     {
-        let node = SingleNode::open(alloc, &catalogue, opening, ENDLESS as usize)?;
+        let node = SingleNode::open(alloc, &catalogue, opening.as_ref(), ENDLESS as usize)?;
         Ok(Service {
             catalogue,
             node,

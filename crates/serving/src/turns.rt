@@ -1,11 +1,10 @@
 // The command `serve`.
 
 ghost use Rattle.std.specs.Prelude.{◌≡◌, ◌⊎◌, ◌<◌, length, Ok, Err, None, Some, Option, IfSome, IfOk};
-ghost use Rattle.loader.specs.StoreState.{with_room};
 ghost use Rattle.engine.specs.declared.replies.Status.TheVariants as statuses;
 ghost use Rattle.engine.specs.declared.transfer.ReadFault.TheVariants as faults;
-ghost use Rattle.engine.specs.Engine.{Writes};
-ghost use Rattle.engine.specs.OpenedState.{IsOpened};
+ghost use Rattle.engine.specs.declared.opening.Opened.TheVariants.{On};
+ghost use Rattle.engine.specs.Opening.{IsOpened, on_which};
 ghost use Rattle.engine.specs.Reading.{AnyFailed, IfGiven, TextsRead};
 ghost use Rattle.engine.specs.Report.{Failed, Sends, answer_of};
 ghost use Rattle.engine.specs.Texts.{no_memory_line};
@@ -13,12 +12,12 @@ ghost use Rattle.running.specs.Running.{IsSteady};
 ghost use Rattle.serving.specs.ServeAnswer.{Serves, ServesAll, ServesGiven, given_back, nothing_served, service};
 ghost use Rattle.serving.specs.Serving.{IfOpened, Stands, TakesTurns};
 
-use crate::opening::Opening;
 use crate::service::Service;
-use engine::performing::report;
-use engine::reading::Inputs;
 use engine::texts::no_memory;
-use engine::{Feed, Folder, Notes, Opened, ReadFault, Reply, Sink, Source, Status, prepare};
+use engine::{
+    Command, Feed, Folder, Gathered, Inputs, Notes, Opened, ReadFault, Reply, Sink, Source, Status,
+    not_text, open_texts, places_within, prepare, report, write_text,
+};
 use loader::{Catalogue, StoreState};
 use std::alloc::{AllocError, Global};
 
@@ -64,10 +63,7 @@ fn end_without_memory<W: Sink>(writer: &mut W) -> Status
     ensures sent { Sends (W.contents writer.old) (W.contents writer.new) result no_memory_line statuses.NoMemory }
     ensures failed { (result ≡ statuses.NoMemory) ⊎ ((result ≡ statuses.CannotWrite) × W.has_failed writer.new) }
 {
-    match writer.send(no_memory()) {
-        Ok(()) => Status::NoMemory,
-        Err(_) => Status::CannotWrite,
-    }
+    write_text(writer, no_memory(), Status::NoMemory)
 }
 
 // One read, and the answers of all lines that it ends, sent before the next; how the service ended, if it has.
@@ -125,42 +121,19 @@ fn serve_input<R: Feed, W: Sink>(
     without_state(end_without_memory(writer))
 }
 
-// Writes what is answered in place of a service.
-fn answer_instead<W: Sink>(writer: &mut W, made: Result<Reply, ReadFault>) -> ServeEnd
-    ensures written { Writes answer_of (W.contents writer.old) (W.contents writer.new) result.status made }
-    ensures state { result.state ≡ None }
-    ensures failed { Failed result.status (made ≡ Err faults.CannotRead) (W.has_failed writer.new) }
-{
-    without_state(report(writer, &made))
-}
-
-// A service of a catalogue on a copy of this state, which is let go.
-fn open_service(
-    alloc: Global,
-    catalogue: Catalogue,
-    state: StoreState,
-) -> Result<Service, AllocError>
-    requires opens { catalogue.opening ≡ Some (with_room state catalogue.places) }
-    ensures catalogue { IfOk result (λ s. s.catalogue ≡ catalogue) }
-    ensures steady { IfOk result (λ s. IsSteady s.catalogue s.node) }
-    ensures stands { IfOk result (λ s. Stands nothing_served s) }
-{
-    Service::open(alloc, catalogue, Some(&state))
-}
-
-// Serves the programs of a catalogue, on a state that it opens on.
+// Serves the programs of a catalogue, on a copy of the state that it opens on, or on a new one.
 fn serve_on<R: Feed, W: Sink>(
     alloc: Global,
     catalogue: Catalogue,
-    state: StoreState,
+    state: Option<StoreState>,
     reader: &mut R,
     writer: &mut W,
 ) -> ServeEnd
-    requires opens { catalogue.opening ≡ Some (with_room state catalogue.places) }
+    requires opened { IsOpened (On catalogue state) }
     ensures served { Serves catalogue (R.remaining reader.old) (R.remaining reader.new) (W.contents writer.old) (W.contents writer.new) result }
     ensures failed { Failed result.status (R.has_failed reader.new) (W.has_failed writer.new) }
 {
-    match open_service(alloc, catalogue, state) {
+    match Service::open(alloc, catalogue, state) {
         Ok(service) => serve_input(alloc, service, reader, writer),
         Err(_) => without_state(end_without_memory(writer)),
     }
@@ -177,10 +150,37 @@ fn serve_opened<R: Feed, W: Sink>(
     ensures served { IfOpened opened (ServesAll R.remaining reader.old reader.new W.contents writer.old writer.new result) }
     ensures failed { Failed result.status ((opened ≡ Err faults.CannotRead) ⊎ R.has_failed reader.new) (W.has_failed writer.new) }
 {
-    match opened {
-        Ok(Opened::On(catalogue, state)) => serve_on(alloc, catalogue, state, reader, writer),
-        Ok(Opened::Refused(reply)) => answer_instead(writer, Ok(reply)),
-        Err(fault) => answer_instead(writer, Err(fault)),
+    let instead: Result<Reply, ReadFault> = match opened {
+        Ok(Opened::On(catalogue, state)) => {
+            return serve_on(alloc, catalogue, state, reader, writer);
+        }
+        Ok(Opened::Refused(reply)) => Ok(reply),
+        Err(fault) => Err(fault),
+    };
+    without_state(report(writer, &instead))
+}
+
+// Opens a service on the catalogue of a manifest, with so many places behind its programs, and on a state.
+#[derive(Clone, Copy)]
+pub(crate) struct Opening {
+    pub spare: u32,
+}
+
+impl Command for Opening {
+    type Made = Opened;
+
+    ghost may_make = { λ c t o. IsOpened o × (on_which o ≡ service c.spare t) };
+
+    fn make(
+        &self,
+        alloc: Global,
+        read: Gathered,
+        _notes: &mut Notes,
+    ) -> Result<Opened, AllocError> {
+        match read {
+            Ok(texts) => open_texts(alloc, &texts, places_within(self.spare)),
+            Err(_) => Ok(Opened::Refused(not_text(alloc)?)),
+        }
     }
 }
 

@@ -9,14 +9,15 @@ use Rattle.oplog.specs.declared.configuration.Config.{Config}
 use Rattle.engine.specs.Answer.{Answer}
 use Rattle.engine.specs.Reading.{Given, files_in, first_stranger, found, unless_strange}
 use Rattle.engine.specs.Report.{answer_of}
-use Rattle.engine.specs.Sizes.{are_sizes}
+use Rattle.engine.specs.Opening.{opening_of}
+use Rattle.engine.specs.Sizes.{are_sizes, places_in}
 use Rattle.engine.specs.StateAnswer.{on_loaded, on_text, opened_by}
 use Rattle.engine.specs.declared.replies.Verdict.TheVariants as verdicts
 use Rattle.running.proofs.RunsOfLines.{loaded_is_catalogue, opened_is_catalogue}
 use Rattle.stress.specs.declared.stressed.Stressed.{Stressed}
 use Rattle.stress.specs.Calls.{Called, script_calls}
 use Rattle.stress.specs.Good.{IsFoundGood, TranscriptsAreGood}
-use Rattle.stress.specs.Runs.{IsManifestRun, IsOnly, IsOpenedRun, IsScriptRun, IsSizedRun, IsStressRun}
+use Rattle.stress.specs.Runs.{IsOnly, IsOpenedRun, IsScriptRun, IsStressRun}
 use Rattle.stress.proofs.Good.{found_good}
 use Rattle.stress.proofs.Sizes.{sizes_from}
 
@@ -67,11 +68,12 @@ module _ (config : Config) (timed : Bool) (g : Given) (s : Stressed) (good : s.r
         let whole = loaded_is_catalogue g.manifest (files_in g) base config.spare is (sizes_from config sizes).spare in
         of_opened (opened_by offered g.state) (is_opening offered g.state whole) refl run
 
-  of_catalogue : first_stranger g ≡ None → (base : CatalogueView) → loaded g.manifest (files_in g) ≡ Ok base → (b : Bool) → are_sizes config ≡ b → IsSizedRun config timed (found g) base b s → Found
+  of_catalogue : first_stranger g ≡ None → (base : CatalogueView) → loaded g.manifest (files_in g) ≡ Ok base → (b : Bool) → are_sizes config ≡ b
+      → IsOpenedRun config timed (found g) (opening_of (if b then Some config.spare else None) (Ok base) g.state) s → Found
   of_catalogue texts base is true sizes run = of_sizes texts base is sizes run
   of_catalogue texts base is false sizes run = refused _ refl run
 
-  of_manifest : first_stranger g ≡ None → (o : Outcome) → loaded g.manifest (files_in g) ≡ o → IsManifestRun config timed (found g) o s → Found
+  of_manifest : first_stranger g ≡ None → (o : Outcome) → loaded g.manifest (files_in g) ≡ o → IsOpenedRun config timed (found g) (opening_of (places_in config) o g.state) s → Found
   of_manifest texts (Ok base) is run = of_catalogue texts base is (are_sizes config) refl run
   of_manifest texts (Err refusal) is run = refused _ refl run
 

@@ -18,10 +18,11 @@ use Rattle.oplog.specs.Limits.{IsConfig}
 use Rattle.engine.specs.Answer.{Answer}
 use Rattle.engine.specs.Files.{is_text}
 use Rattle.engine.specs.Reading.{Given, files_in, first_strange, first_stranger, found, is_strange, read, unless_strange}
-use Rattle.engine.specs.Sizes.{are_sizes, sizes_refused}
+use Rattle.engine.specs.Opening.{opening_of, places_within}
+use Rattle.engine.specs.Sizes.{are_sizes}
 use Rattle.engine.specs.StateAnswer.{opened_by}
 use Rattle.engine.specs.declared.replies.Verdict.TheVariants as verdicts
-use Rattle.replaying.specs.ReplayAnswer.{good_text, nothing_replayed, replay_answer, replayed, replayed_on, transcript_answer}
+use Rattle.replaying.specs.ReplayAnswer.{good_text, nothing_replayed, replay_answer, replayed_on, transcript_answer}
 use Rattle.stress.specs.Calls.{Called, script_calls, told_as}
 use Rattle.stress.specs.Good.{IsFoundGood, counted, good_of}
 use Rattle.stress.specs.Lines.{ToldCall, suits, transcript_text}
@@ -106,8 +107,8 @@ module _ (config : Config) (g : Given) (a : Answer) (texts : first_stranger g �
         transcript = transcript;
         good =
             ap (replay_answer config.spare) (read_with g a.text good.0 texts)
-            ∙ ap (λ (o : Outcome). replayed config.spare o a.text g.state) is
-            ∙ ap (λ b. if b then replayed_on a.text (opened_by (with_places base config.spare) g.state) else sizes_refused) placed
+            ∙ ap (λ (o : Outcome). replayed_on a.text (opening_of (places_within config.spare) o g.state)) is
+            ∙ ap (λ b. replayed_on a.text (opening_of (if b then Some config.spare else None) (Ok base) g.state)) placed
             ∙ ap (replayed_on a.text) opens
             ∙ good.1;
       }

@@ -1,10 +1,16 @@
 -- The sizes of a store: each is within its limits, so it has some session.
-use Rattle.std.proofs.Common.{◌≡◌, ℕ, ◌<◌, ◌≤◌, true, mul-pos}
-use Rattle.std.specs.Prelude.{◌&&◌, nat_le}
+use Rattle.std.proofs.Common.{◌≡◌, ℕ, ◌<◌, ◌≤◌, Bool, true, false, List, length, Some, None, Ok, Err, refl, ap, mul-pos}
+use Rattle.std.specs.Prelude.{◌&&◌, ◌==◌, nat_le, if◌then◌else◌}
 use Rattle.std.proofs.lemmas.Bool.{and_parts, leb-true}
 use Rattle.oplog.specs.declared.configuration.Config.{Config}
 use Rattle.oplog.specs.Limits.{IsConfig}
-use Rattle.engine.specs.Sizes.{are_sizes}
+use Rattle.loader.specs.CatalogueView.{CatalogueView, opened_on, with_places}
+use Rattle.loader.specs.Loading.{Outcome, loaded}
+use Rattle.dumps.specs.Loading.{Outcome as StateOutcome, loaded_state}
+use Rattle.engine.specs.Opening.{opening, opening_of}
+use Rattle.engine.specs.Reading.{TextsRead}
+use Rattle.engine.specs.Sizes.{are_sizes, places_in}
+use Rattle.engine.specs.StateAnswer.{on_loaded, on_text}
 use Rattle.stress.specs.Transcripts.{session_count}
 
 pub some_session : (config : Config) → IsConfig config → 0 < session_count config
@@ -27,3 +33,28 @@ sizes_from config e =
       limit = is_within _ _ _ limit.0;
       spare = leb-true _ _ limit.1;
     }
+
+-- ---- what was opened with the places of these sizes
+
+-- a catalogue has them, and so the sizes are within their limits
+opened_so : (config : Config) (o : Outcome) (state : List ℕ) (c : CatalogueView) → Ok c ≡ opening_of (places_in config) o state → IsConfig config × (c.places ≡ config.spare)
+opened_so config (Err refusal) state c is = absurd cc
+opened_so config (Ok base) state c is = by (are_sizes config) refl is
+  where
+    of_text : (r : StateOutcome) → Ok c ≡ on_loaded (with_places base config.spare) r → c.places ≡ config.spare
+    of_text (Ok s) e = let same : c ≡ opened_on (with_places base config.spare) s = cc in ap (λ (x : CatalogueView). x.places) same
+    of_text (Err refusal) e = absurd cc
+
+    of_state : (b : Bool) → Ok c ≡ (if b then Ok (with_places base config.spare) else on_text (with_places base config.spare) state) → c.places ≡ config.spare
+    of_state true e = let same : c ≡ with_places base config.spare = cc in ap (λ (x : CatalogueView). x.places) same
+    of_state false e = of_text (loaded_state base.shapes config.spare state) e
+
+    by : (b : Bool) → are_sizes config ≡ b → Ok c ≡ opening_of (if b then Some config.spare else None) (Ok base) state → IsConfig config × (c.places ≡ config.spare)
+    by true sizes e = (sizes_from config sizes, of_state (length state == 0) e)
+    by false sizes e = absurd cc
+
+pub config_opened : (config : Config) (t : TextsRead) (c : CatalogueView) → Ok c ≡ opening (places_in config) t → IsConfig config
+config_opened config t c is = (opened_so config (loaded t.manifest t.files) t.state c is).0
+
+pub places_opened : (config : Config) (t : TextsRead) (c : CatalogueView) → Ok c ≡ opening (places_in config) t → c.places ≡ config.spare
+places_opened config t c is = (opened_so config (loaded t.manifest t.files) t.state c is).1

@@ -1,20 +1,19 @@
 -- What `stress` may make of what was read. Which of the transcripts it is depends on how the threads run.
-use Rattle.std.specs.Prelude.{◌≡◌, ℕ, Bool, true, false, List, [], length, Option, Some, None, Result, Ok, Err}
+use Rattle.std.specs.Prelude.{◌≡◌, ℕ, Bool, List, [], length, Option, Some, None, Result, Ok, Err}
 use Rattle.text.specs.Lines.{lines_of}
-use Rattle.loader.specs.CatalogueView.{CatalogueView, with_places}
+use Rattle.loader.specs.CatalogueView.{CatalogueView}
 use Rattle.loader.specs.StoreState.{StoreState}
-use Rattle.loader.specs.Loading.{Outcome, loaded}
 use Rattle.oplog.specs.declared.configuration.Config.{Config}
 use Rattle.oplog.specs.History.{History, state_after}
 use Rattle.replica.specs.StoreMeaning.{store_meaning}
 use Rattle.engine.specs.declared.replies.Status.{Status}
 use Rattle.engine.specs.Engine.{Reports}
-use Rattle.engine.specs.Answer.{Answer, not_text, refusal_answer}
+use Rattle.engine.specs.Answer.{Answer, not_text}
 use Rattle.engine.specs.Reading.{TextsRead}
 use Rattle.engine.specs.Report.{answer_of}
 use Rattle.running.specs.RunAnswer.{bad_line}
-use Rattle.engine.specs.Sizes.{are_sizes, sizes_refused}
-use Rattle.engine.specs.StateAnswer.{opened_by}
+use Rattle.engine.specs.Opening.{opening}
+use Rattle.engine.specs.Sizes.{places_in}
 use Rattle.stress.specs.declared.command.Stress.{Stress}
 use Rattle.stress.specs.declared.stressed.Stressed.{Stressed}
 use Rattle.stress.specs.Calls.{Called, script_calls}
@@ -46,26 +45,16 @@ abbrev pub IsScriptRun : Config → Bool → CatalogueView → Result (List Call
 IsScriptRun config timed c (Ok calls) s = IsRun config timed c calls s
 IsScriptRun config timed c (Err number) s = IsOnly (bad_line number) s
 
--- those of a store that opens as its state says, or the refusal of the state
+-- those of a catalogue, or what is answered in its place
 abbrev pub IsOpenedRun : Config → Bool → TextsRead → Result CatalogueView Answer → Stressed → Type 0
 IsOpenedRun config timed t (Ok c) s = IsScriptRun config timed c (script_calls c 1 (lines_of t.file)) s
 IsOpenedRun config timed t (Err a) s = IsOnly a s
-
--- those of a catalogue, in a store of these sizes, unless one is out of its limits
-abbrev pub IsSizedRun : Config → Bool → TextsRead → CatalogueView → Bool → Stressed → Type 0
-IsSizedRun config timed t c true s = IsOpenedRun config timed t (opened_by (with_places c config.spare) t.state) s
-IsSizedRun config timed t c false s = IsOnly sizes_refused s
-
--- a refused manifest gives back only its refusal
-abbrev pub IsManifestRun : Config → Bool → TextsRead → Outcome → Stressed → Type 0
-IsManifestRun config timed t (Ok c) s = IsSizedRun config timed t c (are_sizes config) s
-IsManifestRun config timed t (Err refusal) s = IsOnly (refusal_answer refusal) s
 
 -- what `stress` may make of what was read, on a store of these sizes, with a history or without: the manifest is loaded, then the sizes are
 -- judged, then the state is loaded, on which the catalogue opens, a new one where its text is empty; then the lines are judged, and the calls made
 abbrev pub IsStressRun : Config → Bool → Option TextsRead → Stressed → Type 0
 IsStressRun config timed None s = IsOnly not_text s
-IsStressRun config timed (Some t) s = IsManifestRun config timed t (loaded t.manifest t.files) s
+IsStressRun config timed (Some t) s = IsOpenedRun config timed t (opening (places_in config) t) s
 
 -- what this command may make of them
 abbrev pub MayMake : {R G C : Type 0} → Stress R G C → Option TextsRead → Stressed → Type 0

@@ -1,29 +1,27 @@
 // The command `stress`.
 
-ghost use Rattle.std.specs.Prelude.{◌≡◌, All, map, Option, Some, IfOk, IfSome};
+ghost use Rattle.std.specs.Prelude.{◌≡◌, ◌≤◌, All, map, Option, Some, IfOk, IfSome};
 ghost use Rattle.text.specs.Lines.{lines_of};
 ghost use Rattle.loader.specs.CatalogueView.{MayOpenOn, OpensOn};
+ghost use Rattle.loader.specs.declared.installed.TheConstants.{MAX_PLACES};
 ghost use Rattle.oplog.specs.Limits.{IsConfig};
 ghost use Rattle.engine.specs.ReadFaults.{IfCannotRead};
 ghost use Rattle.engine.specs.Reading.{AnyFailed, IfGiven, TextsRead, read, texts_in, texts_read};
 ghost use Rattle.engine.specs.Report.{Failed};
-ghost use Rattle.engine.specs.Sizes.{are_sizes};
+ghost use Rattle.engine.specs.Sizes.{places_in};
 ghost use Rattle.stress.specs.Calls.{script_calls};
 ghost use Rattle.stress.specs.Shown.{called};
 ghost use Rattle.stress.specs.Playing.{IsReady};
-ghost use Rattle.stress.specs.Runs.{IsRun, IsScriptRun, IsSizedRun, MayMake, ReportsRun};
+ghost use Rattle.stress.specs.Runs.{IsRun, IsScriptRun, MayMake, ReportsRun};
 
 use crate::calls::{ScriptCall, ScriptCalls, read_calls};
 use crate::gate::Gate;
 use crate::lines::Written;
 use crate::sharing::Left;
 use crate::stressed::Stressed;
-use dumps::{DumpError, load_for};
-use engine::performing::report;
-use engine::reading::{Gathered, Inputs, Texts, gather};
-use engine::replies::{not_text, sizes_refused};
 use engine::{
-    Folder, Loaded, ReadFault, Reply, Sink, Source, Status, Verdict, load_texts, state_refused,
+    Folder, Gathered, Inputs, Opened, ReadFault, Reply, Sink, Source, Status, Texts, Verdict,
+    gather, not_text, open_texts, report,
 };
 use loader::{Catalogue, StoreState};
 use oplog::Config;
@@ -56,6 +54,18 @@ pub struct Stress<'a, R, G, C> {
     pub has_history: bool,
     /// The clock that calls are timed by, where they are.
     pub clock: Option<&'a C>,
+}
+
+// How many places a store of these sizes has behind its programs; none where a size is out of its limits.
+fn places_in(config: Config) -> Option<usize>
+    ensures places { result ≡ places_in config }
+    ensures few { IfSome result (λ n. n ≤ MAX_PLACES) }
+{
+    if config.is_within_limits() {
+        Some(config.spare as usize)
+    } else {
+        None
+    }
 }
 
 impl<'a, R: Threads + Wait + Sync, G: Gate + Sync, C: Clock + Sync> Stress<'a, R, G, C> {
@@ -111,39 +121,16 @@ impl<'a, R: Threads + Wait + Sync, G: Gate + Sync, C: Clock + Sync> Stress<'a, R
         }
     }
 
-    // What a catalogue gives back of a script and of the text of a state.
-    fn catalogue_run(
-        &self,
-        alloc: Global,
-        catalogue: Catalogue,
-        texts: &Texts,
-    ) -> Result<Stressed, AllocError>
-        ensures { IfOk result (IsSizedRun self.now.config self.now.has_history (texts_read texts.now) catalogue (are_sizes self.now.config)) }
-    {
-        if !self.config.is_within_limits() {
-            return Ok(Stressed::only(alloc, sizes_refused(alloc)?));
-        }
-        let catalogue = catalogue.with_places(self.config.spare as usize);
-        let (script, state) = (texts.file.as_str(), texts.state.as_str());
-        if state.is_empty() {
-            return self.script_run(alloc, catalogue, None, script);
-        }
-        match load_for(alloc, &catalogue, state) {
-            Ok(state) => self.script_run(alloc, catalogue.on(&state), Some(&state), script),
-            Err(DumpError::NoMemory) => Err(AllocError),
-            Err(DumpError::Refused(refusal)) => {
-                Ok(Stressed::only(alloc, state_refused(alloc, refusal)?))
-            }
-        }
-    }
-
     // What texts give back.
+    #[tactic(auto, using(engine::proofs::Openings::opens_on, engine::proofs::Openings::fits_on, crate::proofs::Sizes::config_opened, crate::proofs::Sizes::places_opened))]
     fn texts_run(&self, alloc: Global, texts: &Texts) -> Result<Stressed, AllocError>
         ensures { IfOk result (MayMake self.now (Some (texts_read texts.now))) }
     {
-        match load_texts(alloc, texts)? {
-            Loaded::Catalogue(catalogue) => self.catalogue_run(alloc, catalogue, texts),
-            Loaded::Refused(reply) => Ok(Stressed::only(alloc, reply)),
+        match open_texts(alloc, texts, places_in(self.config))? {
+            Opened::On(catalogue, state) => {
+                self.script_run(alloc, catalogue, state.as_ref(), texts.file.as_str())
+            }
+            Opened::Refused(reply) => Ok(Stressed::only(alloc, reply)),
         }
     }
 

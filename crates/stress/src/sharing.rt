@@ -1,8 +1,8 @@
 // One store for all threads: it is opened, each session makes its calls on a thread of its own, and it is closed.
 
-ghost use Rattle.std.specs.Prelude.{◌≡◌, ℕ, ◌-◌, ◌*◌, ◌≤◌, ◌<◌, ◌++◌, List, [], length, map, None, Some, Option, All, IfOk, IfSome, MatchResult, vec_capacity};
+ghost use Rattle.std.specs.Prelude.{◌≡◌, ℕ, ◌-◌, ◌*◌, ◌≤◌, ◌<◌, ◌++◌, List, [], length, map, Option, All, IfErr, IfOk, IfSome, MatchResult, result_ok, vec_capacity};
 ghost use Rattle.loader.specs.CatalogueView.{MayOpenOn, OpensOn};
-ghost use Rattle.loader.specs.StoreState.{with_room};
+ghost use Rattle.oplog.specs.declared.configuration.OpenError.TheVariants.{NoMemory};
 ghost use Rattle.oplog.specs.Limits.{sizes_in, IsConfig};
 ghost use Rattle.store.specs.Opening.{ClosedView, IsClosed, last_state};
 ghost use Rattle.store.specs.Sessions.{IsOf, StoreView};
@@ -36,52 +36,23 @@ pub(crate) struct Left {
     pub state: StoreState,
 }
 
-// A new store of these sizes, with a session for each slot of each node.
+// What was opened, where it can fail for want of memory alone.
+fn unless_full(
+    opened: Result<(Store, Vec<Session>), OpenError>,
+) -> Result<(Store, Vec<Session>), AllocError>
+    requires memory { IfErr opened (λ e. e ≡ NoMemory) }
+    ensures { result_ok result ≡ result_ok opened }
+{
+    match opened {
+        Ok(opened) => Ok(opened),
+        Err(OpenError::NoMemory) => Err(AllocError),
+        Err(OpenError::OutOfLimits) => unreachable!(),
+        Err(OpenError::OtherState) => unreachable!(),
+    }
+}
+
+// A store of these sizes on a state, or on a new one, with a session for each slot of each node.
 fn open(
-    alloc: Global,
-    config: Config,
-    catalogue: Catalogue,
-) -> Result<(Store, Vec<Session>), AllocError>
-    requires config { IsConfig config }
-    requires places { catalogue.places ≡ config.spare }
-    requires nothing { catalogue.opening ≡ None }
-    ensures catalogue { IfOk result (λ t. t.0.catalogue ≡ catalogue) }
-    ensures sizes { IfOk result (λ t. t.0.config ≡ sizes_in config) }
-    ensures sessions { IfOk result (λ t. AreNew t.0 (config.nodes * config.slots) t.1.items) }
-{
-    match Store::open(alloc, config, catalogue) {
-        Ok(opened) => Ok(opened),
-        Err(OpenError::NoMemory) => Err(AllocError),
-        Err(OpenError::OutOfLimits) => unreachable!(),
-        Err(OpenError::OtherState) => unreachable!(),
-    }
-}
-
-// The same on a state that the catalogue may open on, and opens on.
-fn open_on(
-    alloc: Global,
-    config: Config,
-    catalogue: Catalogue,
-    state: &StoreState,
-) -> Result<(Store, Vec<Session>), AllocError>
-    requires config { IsConfig config }
-    requires places { catalogue.places ≡ config.spare }
-    requires fits { MayOpenOn catalogue state.now }
-    requires opens { catalogue.opening ≡ Some (with_room state.now catalogue.places) }
-    ensures catalogue { IfOk result (λ t. t.0.catalogue ≡ catalogue) }
-    ensures sizes { IfOk result (λ t. t.0.config ≡ sizes_in config) }
-    ensures sessions { IfOk result (λ t. AreNew t.0 (config.nodes * config.slots) t.1.items) }
-{
-    match Store::open_on(alloc, config, catalogue, state) {
-        Ok(opened) => Ok(opened),
-        Err(OpenError::NoMemory) => Err(AllocError),
-        Err(OpenError::OutOfLimits) => unreachable!(),
-        Err(OpenError::OtherState) => unreachable!(),
-    }
-}
-
-// The store on a state, or on a new one.
-fn open_either(
     alloc: Global,
     config: Config,
     catalogue: Catalogue,
@@ -96,8 +67,8 @@ fn open_either(
     ensures sessions { IfOk result (λ t. AreNew t.0 (config.nodes * config.slots) t.1.items) }
 {
     match state {
-        None => open(alloc, config, catalogue),
-        Some(state) => open_on(alloc, config, catalogue, state),
+        None => unless_full(Store::open(alloc, config, catalogue)),
+        Some(state) => unless_full(Store::open_on(alloc, config, catalogue, state)),
     }
 }
 
@@ -264,7 +235,7 @@ impl<'t, R: Threads + Wait + Sync, G: Gate + Sync, C: Clock + Sync> Stress<'t, R
         let (config, clock) = (self.config, self.clock);
         let count = (config.nodes * config.slots) as usize;
         let players = Vec::with_capacity(alloc, count)?;
-        let Ok((store, mut sessions)) = open_either(alloc, config, catalogue, state) else {
+        let Ok((store, mut sessions)) = open(alloc, config, catalogue, state) else {
             players.destroy_empty();
             return Err(AllocError);
         };

@@ -2,8 +2,7 @@
 
 use crate::answers::{Answer, on_texts};
 use crate::files::{Offered, text_of};
-use engine::reading::Inputs;
-use engine::{Notes, Status, Verdict, prepare};
+use engine::{Inputs, Notes, Status, Verdict, prepare};
 use replaying::Replay;
 use running::{Kept, Run, dump_to};
 use serving::{ServeEnd, serve};

@@ -8,8 +8,7 @@ use crate::served::{
 };
 use crate::streams::{Narrow, Programs, Slow, Turns};
 use console::{Assemble, Check, Disassemble};
-use engine::reading::Inputs;
-use engine::{Answering, Notes, Status};
+use engine::{Answering, Inputs, Notes, Status};
 use oplog::Config;
 use replaying::Replay;
 use running::Run;

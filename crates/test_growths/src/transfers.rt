@@ -3,8 +3,7 @@
 use crate::commands::ended;
 use crate::served::{COUNTER, Command, FIVE_CALLS, may_have_written, written};
 use crate::streams::{Narrow, Programs, Slow, Turns};
-use engine::reading::Inputs;
-use engine::{Notes, Status, perform};
+use engine::{Inputs, Notes, Status, perform};
 use running::Run;
 use std::alloc::Global;
 use std::sync::Wait;

@@ -7,9 +7,7 @@ ghost use Rattle.engine.specs.Report.{answer_of};
 
 use super::texts::{asm_refusal_text, hex_line};
 use asm::AsmError;
-use engine::reading::Gathered;
-use engine::replies::not_text;
-use engine::{Command, Notes, Reply, Telling};
+use engine::{Command, Gathered, Notes, Reply, Telling, not_text};
 use explain::explain_assembly;
 use std::alloc::{AllocError, Global};
 

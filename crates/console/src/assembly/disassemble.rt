@@ -8,9 +8,7 @@ ghost use Rattle.console.specs.DisAnswer.{decoded_answer, dis_answer, lines_text
 ghost use Rattle.engine.specs.Report.{answer_of};
 
 use super::texts::{bad_hex, decode_refusal_text, slots_text};
-use engine::reading::Gathered;
-use engine::replies::not_text;
-use engine::{Command, Notes, Reply};
+use engine::{Command, Gathered, Notes, Reply, not_text};
 use insn::{DecodeError, Insn, decode};
 use std::alloc::{AllocError, Global};
 use text::spaced_hex;

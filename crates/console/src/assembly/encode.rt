@@ -6,9 +6,7 @@ ghost use Rattle.engine.specs.Report.{answer_of};
 
 use super::texts::encode_refusal_text;
 use encoding::EncodeError;
-use engine::reading::Gathered;
-use engine::replies::not_text;
-use engine::{Command, Notes, Reply};
+use engine::{Command, Gathered, Notes, Reply, not_text};
 use std::alloc::{AllocError, Global};
 
 /// Encodes calls whose arguments are names of kinds and values.

@@ -1,5 +1,5 @@
-use Rattle.std.specs.Prelude.{IfOk}
-use Rattle.engine.specs.OpenedState.{IsOpened, OpenedIs}
+use Rattle.std.specs.Prelude.{◌≡◌, IfOk}
+use Rattle.engine.specs.Opening.{IsOpened, on_which}
 use Rattle.engine.specs.Reading.{AnyFailed, read}
 use Rattle.engine.proofs.Known.{given_so}
 use Rattle.serving.specs.ServeAnswer.{service}
@@ -11,7 +11,7 @@ serve_opened-requires g c = record { opened = is_opened c.args.spare c.prepare-o
 
 pub returns-clause-written : goal.returns-clause-written
 returns-clause-written g c =
-    given_so g.F.Folder.holds g.S.Source.remaining c.args.inputs.now (λ it. IfOk c.prepare-opened.result (λ o. IsOpened o × OpenedIs (service c.args.spare (read it)) o)) _
+    given_so g.F.Folder.holds g.S.Source.remaining c.args.inputs.now (λ it. IfOk c.prepare-opened.result (λ o. IsOpened o × (on_which o ≡ service c.args.spare (read it)))) _
     (λ it is. c.serve_opened.ensures.served (service c.args.spare (read it)) (opened_as c.args.spare c.prepare-opened.result (read it) is)) c.prepare-opened.ensures.known
 
 pub returns-clause-failed : goal.returns-clause-failed

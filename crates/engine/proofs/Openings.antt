@@ -1,0 +1,17 @@
+-- What was opened, lent.
+use Rattle.std.proofs.Common.{◌≡◌, Option, Some, None, sym, ap, subst, ◌∙◌}
+use Rattle.std.specs.Prelude.{IfSome, option_map}
+use Rattle.std.specs.Option.{option_copied}
+use Rattle.std.specs.Borrow.{Bor}
+use Rattle.loader.specs.CatalogueView.{CatalogueView, MayOpenOn, OpensOn}
+use Rattle.loader.specs.StoreState.{StoreState, with_room}
+use Rattle.engine.specs.declared.opening.Opened.TheVariants.{On}
+use Rattle.engine.specs.Opening.{IsOpened}
+
+pub opens_on : (c : CatalogueView) (lent : Option (Bor StoreState)) (state : Option StoreState) → option_copied lent ≡ state → IsOpened (On c state) → OpensOn c lent
+opens_on c None state is opened = opened.1 ∙ ap (option_map (λ s. with_room s c.places)) (sym is)
+opens_on c (Some s) state is opened = opened.1 ∙ ap (option_map (λ x. with_room x c.places)) (sym is)
+
+pub fits_on : (c : CatalogueView) (lent : Option (Bor StoreState)) (state : Option StoreState) → option_copied lent ≡ state → IsOpened (On c state) → IfSome lent (λ s. MayOpenOn c s.now)
+fits_on c None state is opened = tt
+fits_on c (Some s) state is opened = subst (λ o. IfSome o (MayOpenOn c)) (sym is) opened.0
