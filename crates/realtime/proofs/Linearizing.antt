@@ -21,11 +21,11 @@ use Rattle.dumps.specs.Loading.{Outcome as StateOutcome, loaded_state}
 use Rattle.engine.specs.declared.replies.Verdict.{Verdict}
 use Rattle.engine.specs.declared.replies.Verdict.TheVariants as verdicts
 use Rattle.engine.specs.Answer.{Answer as Written}
-use Rattle.engine.specs.Sizes.{sizes_refused}
+use Rattle.engine.specs.Opening.{opening_of, places_within}
 use Rattle.engine.specs.StateAnswer.{on_loaded, on_text, opened_by}
 use Rattle.engine.specs.Reading.{TextsRead}
 use Rattle.running.proofs.RunsOfLines.{loaded_is_catalogue, opened_is_catalogue}
-use Rattle.replaying.specs.ReplayAnswer.{transcript_answer, nothing_replayed, replayed_on, replayed, replay_answer}
+use Rattle.replaying.specs.ReplayAnswer.{transcript_answer, nothing_replayed, replayed_on, replay_answer}
 use Rattle.realtime.specs.declared.histories.Timed.{Timed}
 use Rattle.realtime.specs.Histories.{calls_of}
 use Rattle.realtime.specs.RealTime.{AreInTurn, InRealTime}
@@ -204,11 +204,11 @@ module _ (spare : ℕ) (t : TextsRead) (judged_so : Judged (replay_answer spare 
   }
 
   by_places : (c : CatalogueView) → loaded t.manifest t.files ≡ Ok c → (b : Bool) → leb spare MAX_PLACES ≡ b
-      → (if b then replayed_on t.file (opened_by (with_places c spare) t.state) else sizes_refused).verdict ≡ verdicts.Good → AreLinearizable spare t
+      → (replayed_on t.file (opening_of (if b then Some spare else None) (Ok c) t.state)).verdict ≡ verdicts.Good → AreLinearizable spare t
   by_places c is true few e = let whole = loaded_is_catalogue t.manifest t.files c spare is (leb-true _ _ few) in opens c is whole (is_opened (with_places c spare) t.state t.file whole e)
   by_places c is false many e = absurd cc
 
-  by_manifest : (o : Outcome) → loaded t.manifest t.files ≡ o → (replayed spare o t.file t.state).verdict ≡ verdicts.Good → AreLinearizable spare t
+  by_manifest : (o : Outcome) → loaded t.manifest t.files ≡ o → (replayed_on t.file (opening_of (places_within spare) o t.state)).verdict ≡ verdicts.Good → AreLinearizable spare t
   by_manifest (Ok c) is e = by_places c is (leb spare MAX_PLACES) refl e
   by_manifest (Err refusal) is e = absurd cc
 

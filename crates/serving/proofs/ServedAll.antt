@@ -52,7 +52,7 @@ module _ (given old new : Option (List ℕ)) (got : Status) (ended : ServeEnd) (
       }
 
   -- what is answered in its place
-  pub instead : (a : Answer) (made : Result Reply ReadFault) → Writes answer_of old new got made → IfOk made (λ r. answer_of r ≡ a) → ServesBytes (Err a) given given old new ended
+  instead : (a : Answer) (made : Result Reply ReadFault) → Writes answer_of old new got made → IfOk made (λ r. answer_of r ≡ a) → ServesBytes (Err a) given given old new ended
   instead a made wrote is =
       subst (λ (x : ServeEnd). ServesBytes (Err a) given given old new x) (sym told) (reports answer_of (λ r. answer_of r ≡ a) old new got made wrote is, refl, refl)
 
@@ -61,18 +61,10 @@ module _ (given old new : Option (List ℕ)) (got : Status) (ended : ServeEnd) (
   unopened (Ok c) faults.CannotRead wrote = none_loaded c wrote
   unopened (Err a) e wrote = instead a (Err e) wrote tt
 
--- the same of what was made in the place of a service
-module _ (given old new : Option (List ℕ)) (ended : ServeEnd) (none : ended.state ≡ None) where
-  left : ended ≡ record { status = ended.status; state = None }
-  left = ap (λ (s : Option StoreState). record { status = ended.status; state = s }) none
-
-  pub of_refused : {E : Type 0} (opened : Result Opened E) (r : Reply) → opened ≡ Ok (opens.Refused r) → Writes answer_of old new ended.status (Ok r)
-      → (on : Result CatalogueView Answer) → IfOk opened (λ o. on_which o ≡ on) → ServesBytes on given given old new ended
-  of_refused opened r is wrote (Ok c) such = absurd (let no : Err (answer_of r) ≡ Ok c = subst (λ o. IfOk o (λ x. on_which x ≡ Ok c)) is such in let never : ⊥ = cc in never)
-  of_refused opened r is wrote (Err a) such = instead given old new ended.status ended left a (Ok r) wrote (let one : Err (answer_of r) ≡ Err a = subst (λ o. IfOk o (λ x. on_which x ≡ Err a)) is such in let same : answer_of r ≡ a = cc in same)
-
-  pub of_fault : (e : ReadFault) → Writes answer_of old new ended.status (Err e) → (on : Result CatalogueView Answer) → ServesBytes on given given old new ended
-  of_fault e wrote on = unopened given old new ended.status ended left on e wrote
+  -- what was opened in the place of a service
+  pub in_place : (r : Reply) (on : Result CatalogueView Answer) → Writes answer_of old new got (Ok r) → Err (answer_of r) ≡ on → ServesBytes on given given old new ended
+  in_place r (Ok c) wrote is = absurd (let never : ⊥ = cc in never)
+  in_place r (Err a) wrote is = instead a (Ok r) wrote (let same : answer_of r ≡ a = cc in same)
 
 -- ---- what was opened
 
