@@ -1,6 +1,7 @@
 // One store for all threads: it is opened, each session makes its calls on a thread of its own, and it is closed.
 
-ghost use Rattle.std.specs.Prelude.{◌≡◌, ℕ, ◌-◌, ◌*◌, ◌≤◌, ◌<◌, ◌++◌, List, [], length, map, Option, All, IfErr, IfOk, IfSome, MatchResult, result_ok, vec_capacity};
+ghost use Rattle.std.specs.Prelude.{◌≡◌, ℕ, ◌-◌, ◌*◌, ◌≤◌, ◌<◌, ◌++◌, List, [], length, map, Option, All, IfErr, IfOk, IfSome, MatchResult, vec_capacity};
+ghost use Rattle.std.specs.Result.{result_ok};
 ghost use Rattle.loader.specs.CatalogueView.{MayOpenOn, OpensOn};
 ghost use Rattle.oplog.specs.declared.configuration.OpenError.TheVariants.{NoMemory};
 ghost use Rattle.oplog.specs.Limits.{sizes_in, IsConfig};
