@@ -335,7 +335,7 @@ class Repository:
             for name in files_below(f"{folder}/specs", ".antt"):
                 if name != "Lib":
                     self.modules[crate, name] = Module(crate, name, f"{folder}/specs/{name}.antt")
-            if os.path.isfile(f"{folder}/src/lib.rt") and not crate.startswith("bench_"):
+            if os.path.isfile(f"{folder}/src/lib.rt"):
                 self.libraries.append(crate)
                 for name in files_below(f"{folder}/src", ".rt"):
                     self.sources[crate, name] = Source(crate, name, f"{folder}/src/{name}.rt")

@@ -11,7 +11,7 @@ use std::hash::Hash;
 use std::hint::black_box;
 use std::time::{Duration, Instant};
 
-/// What to do, and how often: see crates/bench_maps.
+/// What to do, and how often: see bench/programs/bench_maps.
 #[repr(C)]
 struct Job {
     size: u32,

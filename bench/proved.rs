@@ -1,4 +1,4 @@
-//! The proved store, as a program (crates/bench_store) that is told over a pipe how many calls to make, and the programs that it runs.
+//! The proved store, as a program (bench/programs/bench_store) that is told over a pipe how many calls to make, and the programs that it runs.
 
 use crate::twins::{Programs, Sizes};
 use std::fs::read_to_string;

@@ -1,4 +1,4 @@
-//! Times the proved store (the program crates/bench_store, whose path is the first word) beside stores in plain Rust. On one thread it
+//! Times the proved store (the program bench/programs/bench_store, whose path is the first word) beside stores in plain Rust. On one thread it
 //! checks that all give the same replies, and prints what an update and a ready read cost, an update by the bytes of the maps and the
 //! window, the longest pause of one, and what a scan of a hash and a snapshot cost; then it prints how many calls a second several threads make, what an
 //! update costs beside a node that is idle, and what memory the store has as its history grows: the last two, and the snapshots, with the word
@@ -24,7 +24,7 @@ use std::time::{Duration, Instant};
 use twins::{Caller, Locked, Mix, PLAIN, Replicated, Sizes, Twin, call_often};
 
 unsafe extern "C" {
-    // Runs a program so often on an array of so many counters: see crates/bench_machine.
+    // Runs a program so often on an array of so many counters: see bench/programs/bench_machine.
     fn bench_run(code: *const u8, code_len: usize, argument: *const u8, argument_len: usize, entries: u32, times: u64) -> u64;
 }
 

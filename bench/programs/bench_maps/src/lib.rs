@@ -5,6 +5,9 @@ ghost use Rattle.std.specs.Prelude.{◌≡◌, ◌+◌, ◌*◌, ◌≤◌, [], 
 ghost use Rattle.maps.specs.declared.shapes.Shape.TheVariants.{Hash};
 ghost use Rattle.maps.specs.MapSets.{stored_shapes};
 
+#[cfg(test)]
+mod tests;
+
 use helpers::{delete, lookup, update};
 use maps::{MapSet, Shape, shapes_ok};
 use std::alloc::Global;
@@ -13,6 +16,7 @@ use std::alloc::Global;
 const ABSENT: u64 = 1;
 
 /// What to do, and how often. Keys have `size` bytes and stand one after another.
+#[derive(Drop)]
 #[repr(C)]
 pub struct Job {
     /// The bytes of a key.

@@ -3,6 +3,9 @@
 
 ghost use Rattle.std.specs.Prelude.{◌≡◌, IfSome};
 
+#[cfg(test)]
+mod tests;
+
 use insn::decode;
 use machine::{Machine, run_in};
 use maps::{MapSet, Shape, shapes_ok};

@@ -13,6 +13,9 @@ ghost use Rattle.std.specs.Prelude.{◌≡◌, length, All};
 ghost use Rattle.store.specs.Sessions.{IsOf};
 ghost use Rattle.store_steps.specs.Shelving.{sessions_of};
 
+#[cfg(test)]
+mod tests;
+
 use loader::{Catalogue, StoreState, load_manifest};
 use oplog::{ENDLESS, Sizes};
 use std::alloc::Global;
