@@ -1,4 +1,4 @@
-//! How a command ends. What the commands answer to texts is in crates/test_commands, and where reads and writes fail in
+//! How a command ends. What the commands answer to texts is in tests/rows, and where reads and writes fail in
 //! crates/test_growths.
 
 use engine::Status;

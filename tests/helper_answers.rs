@@ -1,5 +1,5 @@
 //! What the helper functions answer to many keys, at random and chosen. Errors are told by their negatives modulo 2^64: ENOENT 2, EEXIST 17.
-//! Each answer by itself is in crates/test_commands.
+//! Each answer by itself is in tests/rows.
 
 use helpers::{delete, update};
 use maps::{MapSet, Shape};

@@ -1,4 +1,4 @@
-//! Which forms are instructions, and programs with their bytes. What bytes of every opcode say is in crates/test_commands.
+//! Which forms are instructions, and programs with their bytes. What bytes of every opcode say is in tests/rows.
 
 use insn::{Form, Insn, Operation, Source, decode, encode};
 use std::test::Fail;

@@ -1,5 +1,5 @@
 //! The crates by calls from outside, of what no text can say: frames, maps, logs, desks, the lock, schedules and the store on threads. There is no code here but
-//! tests: their expected values were worked out by hand. Texts and their answers are in crates/test_commands, readers and
+//! tests: their expected values were worked out by hand. Texts and their answers are in tests/rows, readers and
 //! writers that fail in crates/test_growths.
 //!
 //! They are run, and not proved: `.ci/tests` makes a crate of them beside those that they call.

@@ -1,4 +1,4 @@
-// What a catalogue keeps of a manifest. Which manifests are refused is in crates/test_commands.
+// What a catalogue keeps of a manifest. Which manifests are refused is in tests/rows.
 
 use loader::{LoadError, StoreState, load_manifest, named_files};
 use maps::Shape;

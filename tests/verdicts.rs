@@ -1,4 +1,4 @@
-// What an accepted program keeps. Which programs are accepted, and which are refused with what, is in crates/test_commands.
+// What an accepted program keeps. Which programs are accepted, and which are refused with what, is in tests/rows.
 
 use insn::decode;
 use maps::{Shape, shapes_ok};

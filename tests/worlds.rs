@@ -1,4 +1,4 @@
-//! A store of every schedule, by its calls, of what no row of crates/test_commands can say.
+//! A store of every schedule, by its calls, of what no row of tests/rows can say.
 
 use crate::single_store;
 use combiner::Reply;

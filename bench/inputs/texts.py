@@ -17,14 +17,14 @@ Store = namedtuple("Store", "shapes programs files")
 
 def read_examples():
     """The stores of examples/: the lines of each manifest, and its program files under names without a folder."""
-    data, stores = f"{TOP}/crates/test_commands/data", []
-    for folder, _, names in sorted(os.walk(data)):
+    stores = []
+    for folder, _, names in sorted(os.walk(f"{TOP}/examples")):
         if "manifest" not in names:
             continue
         with open(f"{folder}/manifest", encoding="utf-8") as text:
             lines, files = text.read().splitlines(), {}
         for path in [it.split()[4] for it in lines if it.startswith("program ")]:
-            with open(f"{data}/{path}", "rb") as program:
+            with open(f"{TOP}/{path}", "rb") as program:
                 files[path.replace("/", "_")] = program.read()
         stores.append(([it.replace("/", "_") for it in lines], files))
     return stores
