@@ -193,14 +193,11 @@ pub fn word_line<'a>(word: &str, rest: &str) -> Option<ScriptLine<'a>>
     requires { length rest.now ≤ LINE_BYTES }
     ensures { option_map meaning_of result ≡ word_meaning word.now rest.now }
 {
-    if word == "invoke" {
-        Some(ScriptLine::InvokeAt(numbered_call(rest)?))
-    } else if word == "read" {
-        Some(ScriptLine::ReadAt(numbered_call(rest)?))
-    } else if word == "install" {
-        Some(ScriptLine::Install(new_program(rest)?))
-    } else {
-        None
+    match word {
+        "invoke" => Some(ScriptLine::InvokeAt(numbered_call(rest)?)),
+        "read" => Some(ScriptLine::ReadAt(numbered_call(rest)?)),
+        "install" => Some(ScriptLine::Install(new_program(rest)?)),
+        _ => None,
     }
 }
 

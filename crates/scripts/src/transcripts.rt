@@ -115,16 +115,12 @@ fn transcript_words(line: &str) -> Option<TranscriptLine<'_>>
     ensures { option_map told_of result ≡ transcript_meaning line.now }
 {
     let (letter, rest) = split_at_space(line)?;
-    if letter == "u" {
-        answered_line(Mode::Update, rest)
-    } else if letter == "r" {
-        answered_line(Mode::Read, rest)
-    } else if letter == "i" {
-        installed_line(rest)
-    } else if letter == "e" {
-        ended_line(rest)
-    } else {
-        None
+    match letter {
+        "u" => answered_line(Mode::Update, rest),
+        "r" => answered_line(Mode::Read, rest),
+        "i" => installed_line(rest),
+        "e" => ended_line(rest),
+        _ => None,
     }
 }
 
