@@ -81,11 +81,7 @@ fn call_at(programs: u64, text: &str) -> Option<CallAt<'_>>
     let node = number(node)?;
     let slot = number(slot)?;
     let call = keyed_call(name, digits)?;
-    if is_named_so(programs, call.key) {
-        Some(CallAt { node, slot, call })
-    } else {
-        None
-    }
+    is_named_so(programs, call.key).then_some(CallAt { node, slot, call })
 }
 
 // N S MODE ARGLEN HEX
@@ -96,13 +92,10 @@ fn install_at(text: &str) -> Option<InstallAt>
 {
     let (node, rest) = split_at_space(text)?;
     let (slot, rest) = split_at_space(rest)?;
-    let node = number(node)?;
-    let slot = number(slot)?;
-    let program = new_program(rest)?;
     Some(InstallAt {
-        node,
-        slot,
-        program,
+        node: number(node)?,
+        slot: number(slot)?,
+        program: new_program(rest)?,
     })
 }
 
