@@ -1,16 +1,16 @@
 -- What is kept while steps are taken. Clauses of private functions alone cite this.
-use Rattle.std.specs.Prelude.{◌≡◌, ℕ, Bool, true, false, List, [], ◌++◌, Option, Some, None, Result}
+use Rattle.std.specs.Prelude.{◌≡◌, ℕ, Bool, true, false, List, ◌++◌, Option, Some, None, Result}
 use Rattle.text.specs.Lines.{lines_of}
 use Rattle.loader.specs.CatalogueView.{CatalogueView}
 use Rattle.schedule.specs.declared.parts.Opening.{Opening}
 use Rattle.schedule.specs.declared.steps.Step.{Step}
-use Rattle.schedule.specs.Worlds.{NodeView, WorldView}
+use Rattle.schedule.specs.Worlds.{WorldView}
 use Rattle.schedule.specs.Steps.{took, world_after}
 use Rattle.schedule.specs.Taking.{WorldState, step_answer}
 use Rattle.engine.specs.declared.replies.Verdict.{Verdict}
 use Rattle.scripts.specs.StepLine.{StepMeaning}
 use Rattle.running.specs.Running.{AnswersBehind}
-use Rattle.scheduling.specs.ScheduleAnswer.{StepTurn, node_text, step_text, step_turn, step_line_turn, steps_answer}
+use Rattle.scheduling.specs.ScheduleAnswer.{StepTurn, step_text, step_turn, step_line_turn, steps_answer}
 
 -- the line's step is this one
 abbrev pub IsStepOf : CatalogueView → StepMeaning → Step → Type 0
@@ -28,8 +28,3 @@ TakesStepLine old line = StepLineTaken old (step_line_turn old.opening old.world
 -- what a list of steps answers on a store stands behind what was written, and its verdict is told, unless memory runs out
 abbrev pub AnswersSteps : {E : Type 0} → WorldState → List ℕ → List ℕ → List ℕ → Result Verdict E → Type 0
 AnswersSteps on steps old new r = AnswersBehind old new r (steps_answer on.opening 1 on.world (lines_of steps))
-
--- the line of a node that is there
-abbrev pub node_line : ℕ → Option NodeView → List ℕ
-node_line n None = []
-node_line n (Some node) = node_text n node

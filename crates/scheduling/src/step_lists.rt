@@ -1,16 +1,180 @@
-// The command `schedule`.
+// The command `schedule`: the steps that the lines of a list say are taken on a store, and answered.
 
-ghost use Rattle.std.specs.Prelude.{◌≡◌, IfOk};
+ghost use Rattle.std.specs.Prelude.{◌≡◌, ◌++◌, IfOk, OnOk, MatchOption};
 ghost use Rattle.engine.specs.Notes.{IsQuiet};
 ghost use Rattle.engine.specs.Report.{answer_of};
-ghost use Rattle.scheduling.specs.ScheduleAnswer.{catalogue_answer, schedule_answer};
+ghost use Rattle.scripts.specs.ScriptShown.{key_of, step_of};
+ghost use Rattle.scripts.specs.StepLine.{Comment};
+ghost use Rattle.scheduling.specs.ScheduleAnswer.{catalogue_answer, end_text, number_keyed, schedule_answer, step_text};
+ghost use Rattle.scheduling.specs.Scheduling.{AnswersSteps, IsStepOf, TakesStepLine};
 
-use crate::stepping::Stepping;
-use engine::{Command, Gathered, Loaded, Notes, Reply, Texts, load_texts, not_text, sizes_refused};
+use crate::lanes::{Taken, reason_of, tell_step};
+use combiner::Reply as Back;
+use engine::texts::{put_numbered, put_pair};
+use engine::{Command, Gathered, Loaded, Notes, Reply, Texts, Verdict, load_texts, not_text, sizes_refused};
 use loader::Catalogue;
 use oplog::{Config, OpenError};
-use schedule::World;
+use running::put_bad_line;
+use schedule::{Step, StepAnswer, World};
+use scripts::{CallAt, ProgramKey, SlotAt, StepLine, read_step_line};
 use std::alloc::{AllocError, Global};
+use text::NumberedLines;
+
+// A number that no store has a program or a place of.
+const NO_NUMBER: u16 = u16::MAX;
+
+// The number of the program that a line names: of the catalogue by its name, else one that no store has; or the number that it says.
+fn number_of(catalogue: &Catalogue, key: ProgramKey<'_>) -> u64
+    ensures { result ≡ number_keyed catalogue.now (key_of key.entry) }
+{
+    match key {
+        ProgramKey::Named(name) => catalogue.number(name).unwrap_or(NO_NUMBER) as u64,
+        ProgramKey::Numbered(number) => number,
+    }
+}
+
+// The step that a line says; nothing for a comment.
+fn step_of(
+    alloc: Global,
+    catalogue: &Catalogue,
+    line: StepLine<'_>,
+) -> Result<Option<Step>, AllocError>
+    ensures { IfOk result (λ o. MatchOption o (step_of line.entry ≡ Comment) (IsStepOf catalogue.now (step_of line.entry))) }
+{
+    Ok(Some(match line {
+        StepLine::Comment => return Ok(None),
+        StepLine::Post(CallAt { node, slot, call }) => Step::Post {
+            node,
+            slot,
+            program: number_of(catalogue, call.key),
+            argument: call.argument.as_slice().to_vec(alloc)?,
+        },
+        StepLine::Install(at) => Step::Install {
+            node: at.node,
+            slot: at.slot,
+            mode: at.program.mode,
+            arg_len: at.program.arg_len,
+            bytes: at.program.bytes.as_slice().to_vec(alloc)?,
+        },
+        StepLine::ReadBegin(CallAt { node, slot, call }) => Step::ReadBegin {
+            node,
+            slot,
+            program: number_of(catalogue, call.key),
+            argument: call.argument.as_slice().to_vec(alloc)?,
+        },
+        StepLine::Collect(SlotAt { node, slot }) => Step::Collect { node, slot },
+        StepLine::ReadAnswer(SlotAt { node, slot }) => Step::ReadAnswer { node, slot },
+        StepLine::Claim(node) => Step::Claim { node },
+        StepLine::Append(node) => Step::Append { node },
+        StepLine::Replay(node) => Step::Replay { node },
+        StepLine::Finish(node) => Step::Finish { node },
+        StepLine::Reply(node) => Step::Reply { node },
+        StepLine::Reclaim(node) => Step::Reclaim { node },
+        StepLine::Rebase(node) => Step::Rebase { node },
+    }))
+}
+
+// The line of a step.
+fn put_step(out: &mut Vec<u8>, answer: StepAnswer) -> Result<(), AllocError>
+    ensures { OnOk result (out.new.items ≡ out.old.items ++ step_text answer) }
+{
+    match answer {
+        StepAnswer::Done => out.extend_from_slice(b"ok\n"),
+        StepAnswer::NotNow => out.extend_from_slice(b"notnow\n"),
+        StepAnswer::Back(Back::Placed { index, reply }) => {
+            put_pair(out, b"ok place ", index, b" reply ", reply)
+        }
+        StepAnswer::Back(Back::Ended) => out.extend_from_slice(b"ok ended\n"),
+        StepAnswer::ReadBack(read) => {
+            put_pair(out, b"ok point ", read.point, b" reply ", read.reply)
+        }
+    }
+}
+
+// The lines behind the last step: where the log and the replicas are.
+fn put_end(out: &mut Vec<u8>, world: &World) -> Result<(), AllocError>
+    ensures { OnOk result (out.new.items ≡ out.old.items ++ end_text world.now.world) }
+{
+    let log = world.log();
+    put_numbered(out, b"log base ", log.base())?;
+    put_pair(out, b" tail ", log.tail(), b" done ", log.done())?;
+    for number in 0..world.config().nodes {
+        let Some(replica) = world.replica(number) else {
+            return Ok(());
+        };
+        put_pair(out, b"node ", number as u64, b" tail ", replica.tail())?;
+    }
+    Ok(())
+}
+
+// A store on which the steps of a list are taken, and what is answered to them.
+#[derive(Drop)]
+struct Stepping {
+    world: World,
+    text: Vec<u8>,
+}
+
+impl Stepping {
+    // Takes the step that a line says, if it may be taken now, and tells whether the line is good.
+    #[tactic(auto, unfolding(crate::specs::ScheduleAnswer::step_line_turn))]
+    fn take_step(
+        &mut self,
+        alloc: Global,
+        number: u32,
+        line: &str,
+        notes: &mut Notes,
+    ) -> Result<bool, AllocError>
+        ensures taken { IfOk result (λ good. TakesStepLine self.old.world line.now good self.new.world self.old.text.items self.new.text.items) }
+        ensures quiet { IsQuiet notes.old notes.new }
+    {
+        let Stepping { world, text } = self;
+        let programs = world.catalogue().len() as u64;
+        let Some(line) = read_step_line(programs, line) else {
+            return Ok(false);
+        };
+        let Some(step) = step_of(alloc, world.catalogue(), line)? else {
+            return Ok(true);
+        };
+        let step = &step;
+        let reason = reason_of(notes, world, step);
+        let answer = world.step(step);
+        put_step(text, answer)?;
+        tell_step(
+            notes,
+            world,
+            &Taken {
+                number,
+                step,
+                answer,
+                reason,
+            },
+        )?;
+        Ok(true)
+    }
+    // Takes the steps of a list up to the first bad line, or writes where the store is at the end, and tells whether
+    // the list is good.
+    #[tactic(auto, using(engine::proofs::Quiet::quiet_on))]
+    fn take_lines(
+        &mut self,
+        alloc: Global,
+        steps: &str,
+        notes: &mut Notes,
+    ) -> Result<Verdict, AllocError>
+        ensures quiet { IsQuiet notes.old notes.new }
+        ensures answered { AnswersSteps self.old.world steps.now self.old.text.items self.new.text.items result }
+    {
+        let mut lines = NumberedLines::new(steps);
+        while let Some((number, line)) = lines.take_line() {
+            let is_good = self.take_step(alloc, number, line, notes)?;
+            if !is_good {
+                put_bad_line(&mut self.text, number)?;
+                return Ok(Verdict::Refused);
+            }
+        }
+        put_end(&mut self.text, &self.world)?;
+        Ok(Verdict::Good)
+    }
+}
 
 // What a catalogue answers to a list of steps, in a store of these sizes.
 fn catalogue_reply(
@@ -27,7 +191,7 @@ fn catalogue_reply(
         Ok(world) => {
             let text = Vec::new(alloc);
             let mut stepping = Stepping { world, text };
-            let verdict = stepping.take_lines(alloc, config.nodes, steps, notes)?;
+            let verdict = stepping.take_lines(alloc, steps, notes)?;
             let Stepping { text, .. } = stepping;
             Ok(Reply { text, verdict })
         }

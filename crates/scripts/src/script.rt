@@ -81,11 +81,7 @@ pub(crate) fn named_call<'a>(name: &'a str, digits: &str) -> Option<ProgramCall<
     ensures { option_map call_of result ≡ named_call name.now digits.now }
 {
     let argument = hex_field(digits)?;
-    if is_name(name) {
-        Some(ProgramCall { name, argument })
-    } else {
-        None
-    }
+    is_name(name).then_some(ProgramCall { name, argument })
 }
 
 // The bytes of a field of hexadecimal digits, put at the front of a room: how many.
@@ -102,10 +98,8 @@ fn fill_room(digits: &str, room: &mut [u8; FIELD_BYTES]) -> Option<usize>
         return None;
     }
     let count = digits.len() / 2;
-    match hex::decode_to_slice(digits.as_bytes(), &mut room[..count]) {
-        Ok(()) => Some(count),
-        Err(_) => None,
-    }
+    hex::decode_to_slice(digits.as_bytes(), &mut room[..count]).ok()?;
+    Some(count)
 }
 
 /// The argument of the call that the fields NAME and HEX say, in a room that is lent.
@@ -119,11 +113,7 @@ pub fn lent_argument<'a>(
     ensures { option_map (λ a. record { name = name.now; argument = a.now }) result ≡ named_call name.now digits.now }
 {
     let count = fill_room(digits, room)?;
-    if is_name(name) {
-        Some(&room[..count])
-    } else {
-        None
-    }
+    is_name(name).then_some(&room[..count])
 }
 
 // The program that a field says: NAME or K.
@@ -167,13 +157,10 @@ pub(crate) fn program_fields(word: &str, arg_len: &str, digits: &str) -> Option<
     requires { length digits.now ≤ LINE_BYTES }
     ensures { option_map program_of result ≡ program_fields word.now arg_len.now digits.now }
 {
-    let mode = mode(word)?;
-    let arg_len = number(arg_len)?;
-    let bytes = hex_field(digits)?;
     Some(ProgramText {
-        mode,
-        arg_len,
-        bytes,
+        mode: mode(word)?,
+        arg_len: number(arg_len)?,
+        bytes: hex_field(digits)?,
     })
 }
 
@@ -193,14 +180,11 @@ pub fn word_line<'a>(word: &str, rest: &str) -> Option<ScriptLine<'a>>
     requires { length rest.now ≤ LINE_BYTES }
     ensures { option_map meaning_of result ≡ word_meaning word.now rest.now }
 {
-    if word == "invoke" {
-        Some(ScriptLine::InvokeAt(numbered_call(rest)?))
-    } else if word == "read" {
-        Some(ScriptLine::ReadAt(numbered_call(rest)?))
-    } else if word == "install" {
-        Some(ScriptLine::Install(new_program(rest)?))
-    } else {
-        None
+    match word {
+        "invoke" => Some(ScriptLine::InvokeAt(numbered_call(rest)?)),
+        "read" => Some(ScriptLine::ReadAt(numbered_call(rest)?)),
+        "install" => Some(ScriptLine::Install(new_program(rest)?)),
+        _ => None,
     }
 }
 

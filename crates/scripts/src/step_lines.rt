@@ -81,11 +81,7 @@ fn call_at(programs: u64, text: &str) -> Option<CallAt<'_>>
     let node = number(node)?;
     let slot = number(slot)?;
     let call = keyed_call(name, digits)?;
-    if is_named_so(programs, call.key) {
-        Some(CallAt { node, slot, call })
-    } else {
-        None
-    }
+    is_named_so(programs, call.key).then_some(CallAt { node, slot, call })
 }
 
 // N S MODE ARGLEN HEX
@@ -96,13 +92,10 @@ fn install_at(text: &str) -> Option<InstallAt>
 {
     let (node, rest) = split_at_space(text)?;
     let (slot, rest) = split_at_space(rest)?;
-    let node = number(node)?;
-    let slot = number(slot)?;
-    let program = new_program(rest)?;
     Some(InstallAt {
-        node,
-        slot,
-        program,
+        node: number(node)?,
+        slot: number(slot)?,
+        program: new_program(rest)?,
     })
 }
 
@@ -110,23 +103,16 @@ fn install_at(text: &str) -> Option<InstallAt>
 fn node_step(word: &str, node: u64) -> Option<StepLine<'_>>
     ensures { option_map step_of result ≡ node_step word.now node }
 {
-    if word == "claim" {
-        Some(StepLine::Claim(node))
-    } else if word == "append" {
-        Some(StepLine::Append(node))
-    } else if word == "replay" {
-        Some(StepLine::Replay(node))
-    } else if word == "finish" {
-        Some(StepLine::Finish(node))
-    } else if word == "reply" {
-        Some(StepLine::Reply(node))
-    } else if word == "reclaim" {
-        Some(StepLine::Reclaim(node))
-    } else if word == "rebase" {
-        Some(StepLine::Rebase(node))
-    } else {
-        None
-    }
+    Some(match word {
+        "claim" => StepLine::Claim(node),
+        "append" => StepLine::Append(node),
+        "replay" => StepLine::Replay(node),
+        "finish" => StepLine::Finish(node),
+        "reply" => StepLine::Reply(node),
+        "reclaim" => StepLine::Reclaim(node),
+        "rebase" => StepLine::Rebase(node),
+        _ => return None,
+    })
 }
 
 // The step that the words of a line say.
@@ -136,19 +122,14 @@ fn step_words(programs: u64, line: &str) -> Option<StepLine<'_>>
     ensures { option_map step_of result ≡ step_meaning programs line.now }
 {
     let (word, rest) = split_at_space(line)?;
-    if word == "post" {
-        Some(StepLine::Post(call_at(programs, rest)?))
-    } else if word == "install" {
-        Some(StepLine::Install(install_at(rest)?))
-    } else if word == "readbegin" {
-        Some(StepLine::ReadBegin(call_at(programs, rest)?))
-    } else if word == "collect" {
-        Some(StepLine::Collect(slot_at(rest)?))
-    } else if word == "readanswer" {
-        Some(StepLine::ReadAnswer(slot_at(rest)?))
-    } else {
-        node_step(word, number(rest)?)
-    }
+    Some(match word {
+        "post" => StepLine::Post(call_at(programs, rest)?),
+        "install" => StepLine::Install(install_at(rest)?),
+        "readbegin" => StepLine::ReadBegin(call_at(programs, rest)?),
+        "collect" => StepLine::Collect(slot_at(rest)?),
+        "readanswer" => StepLine::ReadAnswer(slot_at(rest)?),
+        _ => return node_step(word, number(rest)?),
+    })
 }
 
 /// What a line says where so many programs have names; `None` where it is bad.

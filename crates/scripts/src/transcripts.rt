@@ -56,14 +56,11 @@ fn answered_line(mode: Mode, text: &str) -> Option<TranscriptLine<'_>>
     let (index, rest) = split_at_space(text)?;
     let (name, rest) = split_at_space(rest)?;
     let (digits, reply) = split_at_space(rest)?;
-    let index = number(index)?;
-    let call = keyed_call(name, digits)?;
-    let reply = number(reply)?;
     Some(TranscriptLine::Answered(AnsweredCall {
         mode,
-        index,
-        call,
-        reply,
+        index: number(index)?,
+        call: keyed_call(name, digits)?,
+        reply: number(reply)?,
     }))
 }
 
@@ -77,13 +74,10 @@ fn installed_line<'a>(text: &str) -> Option<TranscriptLine<'a>>
     let (word, rest) = split_at_space(rest)?;
     let (arg_len, rest) = split_at_space(rest)?;
     let (digits, reply) = split_at_space(rest)?;
-    let index = number(index)?;
-    let program = program_fields(word, arg_len, digits)?;
-    let reply = number(reply)?;
     Some(TranscriptLine::Installed(AnsweredInstall {
-        index,
-        program,
-        reply,
+        index: number(index)?,
+        program: program_fields(word, arg_len, digits)?,
+        reply: number(reply)?,
     }))
 }
 
@@ -115,16 +109,12 @@ fn transcript_words(line: &str) -> Option<TranscriptLine<'_>>
     ensures { option_map told_of result ≡ transcript_meaning line.now }
 {
     let (letter, rest) = split_at_space(line)?;
-    if letter == "u" {
-        answered_line(Mode::Update, rest)
-    } else if letter == "r" {
-        answered_line(Mode::Read, rest)
-    } else if letter == "i" {
-        installed_line(rest)
-    } else if letter == "e" {
-        ended_line(rest)
-    } else {
-        None
+    match letter {
+        "u" => answered_line(Mode::Update, rest),
+        "r" => answered_line(Mode::Read, rest),
+        "i" => installed_line(rest),
+        "e" => ended_line(rest),
+        _ => None,
     }
 }
 
