@@ -1,6 +1,6 @@
 use Rattle.std.proofs.Common.{◌≡◌, length, arith}
 use Rattle.console.proofs.SlotLines.{line_more, slots_more, whole}
-use Rattle.console.proofs.assembly.texts.slots_text.Goals as goal
+use Rattle.console.proofs.assembly.slots_text.Goals as goal
 
 pub loop-insn-preserved : goal.loop-insn-preserved
 loop-insn-preserved c =

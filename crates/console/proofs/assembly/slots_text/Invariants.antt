@@ -1,7 +1,7 @@
 use Rattle.std.proofs.Common.{◌≡◌, ◌++◌, ◌+◌, drop}
 use Rattle.insn.specs.Layout.{size}
-use Rattle.console.specs.DisAnswer.{slots_text}
-use Rattle.console.proofs.assembly.texts.slots_text.Given as goal
+use Rattle.console.specs.AssemblyAnswer.{slots_text}
+use Rattle.console.proofs.assembly.slots_text.Given as goal
 
 abbrev pub invariant-loop-insn : goal.invariant-loop-insn
 invariant-loop-insn l = record {
