@@ -5,7 +5,7 @@ use Rattle.std.proofs.lemmas.List.Sums.{position_or_len_is}
 use Rattle.realtime.specs.declared.histories.Timed.{Timed}
 use Rattle.realtime.specs.RealTime.{is_misplaced}
 use Rattle.realtime.proofs.Misplaced.{no_rank, misplaced, placed}
-use Rattle.realtime.proofs.placing.first_misplaced.Goals as goal
+use Rattle.realtime.proofs.orders.first_misplaced.Goals as goal
 
 pub returns-then-index-rank : goal.returns-then-index-rank
 returns-then-index-rank c =

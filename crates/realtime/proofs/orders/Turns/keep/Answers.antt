@@ -1,6 +1,6 @@
 use Rattle.std.proofs.Common.{set, ap}
 use Rattle.realtime.proofs.Turning.{turns_kept}
-use Rattle.realtime.proofs.turns.Turns.keep.Goals as goal
+use Rattle.realtime.proofs.orders.Turns.keep.Goals as goal
 
 pub returns : goal.returns
 returns c = λ calls h only.

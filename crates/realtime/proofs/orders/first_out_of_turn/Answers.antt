@@ -1,29 +1,28 @@
-use Rattle.std.proofs.Common.{◌≡◌, ◌+◌, ◌<◌, ◌≤◌, length, get_or, ◌∙◌, sym, subst, arith, inl, inr}
-use Rattle.std.proofs.lemmas.List.{get_or_default}
+use Rattle.std.proofs.Common.{◌≡◌, ◌+◌, ◌<◌, ◌≤◌, length, get_or, ◌∙◌, refl, sym, subst, arith, inl, inr}
 use Rattle.realtime.specs.declared.histories.Timed.{Timed}
 use Rattle.realtime.specs.Judging.{AreTurns, IsFirstOut}
-use Rattle.realtime.proofs.Turning.{first_none, first_skip, first_kept, first_found, first_is, turns_skip, none_begins, one_begins, one_index}
-use Rattle.realtime.proofs.turns.first_out_of_turn.Goals as goal
-use Rattle.realtime.proofs.turns.first_out_of_turn.Goals.{then-k-calls, then-k-first+then-is_out_of_turn, else-k-first, else-k-first-via-then-k-first+else-is_out_of_turn, else-k-first-via-else-k-first, else-k-calls}
+use Rattle.realtime.proofs.Turning.{turns_none, first_none, first_skip, first_kept, first_found, first_is, turns_skip, none_begins, one_begins, one_index}
+use Rattle.realtime.proofs.orders.first_out_of_turn.Goals as goal
+use Rattle.realtime.proofs.orders.first_out_of_turn.Goals.{then-k-calls, then-k-first+then-is_out_of_turn, else-k-first, else-k-first-via-then-k-first+else-is_out_of_turn, else-k-first-via-else-k-first, else-k-calls}
 
 pub loop-x-init : goal.loop-x-init
-loop-x-init c = (c.new-turns.ensures c.args.calls.now, first_none c.args.calls.now)
+loop-x-init c = (turns_none c.args.calls.now, first_none c.args.calls.now)
 
 pub loop-x-preserved : goal.loop-x-preserved
 loop-x-preserved c =
     let zero : Timed = record { session = 0; line = 0; begun = 0; ended = 0; rank = 0 } in
-    let numbers = c.args.numbers in
     let calls = c.args.calls.now in
+    let begins = c.args.begins.now in
+    let numbers = length begins in
     let good = c.requires.good in
-    let begins = c.in_ok-begins.begins.items in
-    let begin = c.in_ok-begins.ensures.begins in
+    let begin = c.requires.all in
     let x = c.loop-x.x in
     let first = c.loop-x.first in
     let turns = c.loop-x.turns in
     let h = c.loop-x.invariant in
-    let k = c.index-k.result.now in
-    let inside : x < length begins = omega (arith, c.in_ok-begins.begins.ok.0, c.len-x-end.ensures) in
-    let at : get_or begins x 0 ≡ k = sym (c.index-k.ensures ∙ get_or_default begins x k 0 inside) in
+    let k = get_or begins x 0 in
+    let inside : x < length begins = omega arith in
+    let at : get_or begins x 0 ≡ k = refl in
     let one = one_index numbers calls good begins begin x k in
     elim c.if-k-calls.branch [
       | then-k-calls w ↦
@@ -53,6 +52,6 @@ loop-x-preserved c =
 
 pub returns : goal.returns
 returns c =
-    let x = c.loop-x.x in
-    let all : x ≡ c.args.numbers = omega (arith, c.in_ok-begins.begins.ok.0, c.len-x-end.ensures, c.in_ok-begins.ensures.long) in
-    first_is c.args.numbers c.args.calls.now c.loop-x.first c.requires.good (subst (λ y. IsFirstOut c.args.calls.now y c.loop-x.first) all c.loop-x.invariant.1)
+    let calls = c.args.calls.now in
+    let all : c.loop-x.x ≡ length c.args.begins.now = omega arith in
+    first_is (length c.args.begins.now) calls c.loop-x.first c.requires.good (subst (λ y. IsFirstOut calls y c.loop-x.first) all c.loop-x.invariant.1)

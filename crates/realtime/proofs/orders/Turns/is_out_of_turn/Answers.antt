@@ -1,7 +1,7 @@
 use Rattle.std.proofs.Common.{◌<◌, ◌≤◌, get_or, sym, ◌∙◌, ⊎_elim, arith}
 use Rattle.std.proofs.lemmas.Bool.{cases_lt, lt-ltb, le-leb, lt-leb}
 use Rattle.realtime.proofs.Turning.{not_back, not_later, in_turn}
-use Rattle.realtime.proofs.turns.Turns.is_out_of_turn.Goals as goal
+use Rattle.realtime.proofs.orders.Turns.is_out_of_turn.Goals as goal
 
 pub returns-then-call-self : goal.returns-then-call-self
 returns-then-call-self c = λ calls h only.
