@@ -3,13 +3,7 @@ use Rattle.std.proofs.Common.{◌≡◌, ℕ, ◌+◌, ◌<◌, ◌≤◌, List,
 use Rattle.std.proofs.lemmas.List.{append-nil, drop_more, length-append}
 use Rattle.insn.specs.declared.instruction.Form.{Form}
 use Rattle.insn.specs.Layout.{slot_contents, slot_count, layout, size}
-use Rattle.asm.specs.Text.{line_text, text_of}
-use Rattle.console.specs.DisAnswer.{columns, slots_text}
-
--- the text of one instruction is its line
-pub one_line : (i : Form) → text_of (i ∷ []) ≡ line_text i
-unfolding text_of
-one_line i = append-nil (line_text i)
+use Rattle.console.specs.AssemblyAnswer.{slot_line, slots_text}
 
 none_left : (p : List Form) → drop (length p) p ≡ []
 none_left [] = refl
@@ -29,13 +23,12 @@ module _ (p : List Form) (k : ℕ) (d f : Form) (lt : k < length p) (is : f ≡ 
   counted = ap size here ∙ length-append (slot_contents f) (layout (drop (k + 1) p))
 
   -- one line more
-  pub line_more : (slot : ℕ) (before after all : List ℕ) → before ++ slots_text slot (drop k p) ≡ all → after ≡ before ++ (columns slot f ++ line_text f)
+  pub line_more : (slot : ℕ) (before after all : List ℕ) → before ++ slots_text slot (drop k p) ≡ all → after ≡ before ++ slot_line slot f
       → after ++ slots_text (slot + slot_count f) (drop (k + 1) p) ≡ all
   unfolding slots_text
   line_more slot before after all so_far one =
       let rest = slots_text (slot + slot_count f) (drop (k + 1) p) in
-      ap (λ t. t ++ rest) one ∙ append_assoc before (columns slot f ++ line_text f) rest ∙ ap (λ t. before ++ t) (append_assoc (columns slot f) (line_text f) rest)
-      ∙ ap (λ q. before ++ slots_text slot q) (sym here) ∙ so_far
+      ap (λ t. t ++ rest) one ∙ append_assoc before (slot_line slot f) rest ∙ ap (λ q. before ++ slots_text slot q) (sym here) ∙ so_far
 
   -- its slots more
   pub slots_more : (slot n : ℕ) → slot + size (drop k p) ≡ n → (slot + slot_count f) + size (drop (k + 1) p) ≡ n

@@ -1,21 +1,26 @@
--- What `check` answers, as a function of the manifest and of the files that were read.
-use Rattle.std.specs.Prelude.{Option, Some, None, Ok, Err}
-use Rattle.loader.specs.Loading.{Outcome, loaded}
+-- What `check` and `explain` answer, as a function of the manifest and of the files that were read.
+use Rattle.std.specs.Prelude.{◌≡◌, ℕ, List, ◌++◌, Option, Some, None, Result, Ok, Err}
+use Rattle.loader.specs.Loading.{loaded}
 use Rattle.engine.specs.declared.replies.Verdict.TheVariants as verdicts
-use Rattle.engine.specs.Texts.{programs_text}
-use Rattle.engine.specs.Answer.{Answer, not_text, refusal_answer}
+use Rattle.engine.specs.Texts.{programs_text, refusal_text}
+use Rattle.engine.specs.Answer.{Answer, not_text}
 use Rattle.engine.specs.Reading.{TextsRead}
 
--- a line for each program, or the line of the refusal alone
-abbrev pub loaded_answer : Outcome → Answer
-loaded_answer (Ok catalogue) = record { text = programs_text catalogue.programs; verdict = verdicts.Good }
-loaded_answer (Err refusal) = refusal_answer refusal
+-- what is written where all is good, or the line of the refusal alone
+abbrev pub good_or_refused : {X E : Type 0} → (X → List ℕ) → (E → List ℕ) → Result X E → Answer
+good_or_refused good refused (Ok x) = record { text = good x; verdict = verdicts.Good }
+good_or_refused good refused (Err e) = record { text = refused e; verdict = verdicts.Refused }
 
--- the manifest is loaded with its files
-abbrev pub checked_answer : TextsRead → Answer
-checked_answer t = loaded_answer (loaded t.manifest t.files)
-
--- what `check` answers to what was read
+-- `check`: a line for each program
 abbrev pub check_answer : Option TextsRead → Answer
 check_answer None = not_text
-check_answer (Some t) = checked_answer t
+check_answer (Some t) = good_or_refused (λ c. programs_text c.programs) refusal_text (loaded t.manifest t.files)
+
+-- `explain`: it begins with what `check` answers, and its verdict is that of `check`
+abbrev pub IsExplanation : Answer → Answer → Type 0
+IsExplanation checked a = (a.verdict ≡ checked.verdict) × ((more : List ℕ) × (a.text ≡ checked.text ++ more))
+
+-- `explain --graph`: what is no text is not drawn, and `check` answers that; else its verdict is that of `check`, and the words of the drawing aren't defined
+abbrev pub IsGraph : Option TextsRead → Answer → Type 0
+IsGraph None a = a ≡ not_text
+IsGraph (Some t) a = a.verdict ≡ (check_answer (Some t)).verdict

@@ -2,12 +2,7 @@
 #![tactic(auto)]
 
 mod assembly;
-mod checking;
-mod explaining;
-mod graphing;
-mod strangers;
+mod manifests;
 
 pub use assembly::{Assemble, Disassemble, Encode};
-pub use checking::Check;
-pub use explaining::Explain;
-pub use graphing::Draw;
+pub use manifests::{Check, Draw, Explain};

@@ -20,14 +20,19 @@ use Rattle.replaying.specs.ReplayAnswer.{Replayed, LineOutcome, Bad, Differs, Ag
 use Rattle.replaying.proofs.ReplaysOfLines.{agreeing_lines_are_runs}
 use Rattle.realtime.specs.declared.ranks.Standing.{Standing}
 use Rattle.realtime.specs.declared.ranks.Standing.TheVariants as stands
-use Rattle.realtime.specs.Ranks.{answered_standing, standing_of, line_standing, standings_of}
-use Rattle.realtime.specs.Linearizable.{Told, answer_told, call_told, told_by, line_told, calls_told}
+use Rattle.realtime.specs.Ranks.{standing_of, standings_of}
+use Rattle.realtime.specs.Linearizable.{Told, answer_told, call_told, told_by, calls_told}
+use Rattle.realtime.proofs.Standings.{line_standing}
+
+-- what a line tells, if it is a call
+abbrev line_told : CatalogueView → List ℕ → Option Told
+line_told c line = option_and_then (told_by c) (transcript_line_meaning line)
 
 -- where a call stands that is answered so
 abbrev pub standing_told : Answer → Standing
-standing_told (Updated (replies.Placed index reply)) = stands.Update index
+standing_told (Updated (replies.Placed index reply)) = stands.At Update index
 standing_told (Updated replies.Ended) = stands.Ended
-standing_told (ReadBack answer) = stands.Read answer.point
+standing_told (ReadBack answer) = stands.At Read answer.point
 
 -- behind a history a call is answered so, and leaves this one
 abbrev pub Replies : CatalogueView → History → Mode → Operation → Answer → History → Type 0
@@ -59,7 +64,7 @@ where_agrees false to next e = absurd cc
 inner : (to next : Replayed) → Agrees to ≡ Agrees next → to ≡ next
 inner to next e = cc
 
-stands_told : (mode : Mode) (place reply : ℕ) → answered_standing mode place ≡ standing_told (answer_told mode place reply)
+stands_told : (mode : Mode) (place reply : ℕ) → stands.At mode place ≡ standing_told (answer_told mode place reply)
 stands_told Update place reply = refl
 stands_told Read place reply = refl
 

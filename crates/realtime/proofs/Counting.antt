@@ -1,5 +1,5 @@
 -- So many numbers of their own below twice the count of the calls are all of these numbers.
-use Rattle.std.proofs.Common.{◌≡◌, ◌≢◌, ℕ, suc, ◌*◌, ◌<◌, true, false, eqb, List, [], ◌∷◌, map, length, get_or, sym, subst, ◌∙◌, arith, All, AllPairs, ⊎_elim}
+use Rattle.std.proofs.Common.{◌≡◌, ◌≢◌, ℕ, suc, ◌*◌, ◌<◌, true, false, eqb, List, [], ◌∷◌, map, length, get_or, Ok, sym, subst, ◌∙◌, arith, All, AllPairs, ⊎_elim}
 use Rattle.std.specs.List.{list_any, IsDistinct, AllByRecursion}
 use Rattle.std.proofs.lemmas.Bool.{eqb-true, eq-eqb, ne_eqb, or_left, or_right, or_cases, true_from_ne_false}
 use Rattle.std.proofs.lemmas.Option.{get_or_from_slice_get}
@@ -7,9 +7,9 @@ use Rattle.std.proofs.lemmas.List.{ext_get_or, get_or-map, length-map}
 use Rattle.std.proofs.lemmas.List.Folds.{list_any_at}
 use Rattle.std.proofs.lemmas.Map.Steps.{length-le_from_distinct_below}
 use Rattle.realtime.specs.declared.histories.Timed.{Timed}
-use Rattle.realtime.specs.Histories.{uses, is_used}
-use Rattle.realtime.specs.Laws.{ShareNone, LinesAreCalls}
-use Rattle.realtime.proofs.Reading.{far_none, far_all}
+use Rattle.realtime.specs.Histories.{is_used, calls_of}
+use Rattle.realtime.specs.Laws.{ShareNone, AreCalls}
+use Rattle.realtime.proofs.Reading.{uses, far_none, far_all}
 
 -- at which numbers the calls began and were back
 abbrev pub numbers_of : List Timed → List ℕ
@@ -69,7 +69,7 @@ each_used calls backs ends once x lt = true_from_ne_false (is_used calls x) (λ 
     apart : ((k : ℕ) (d : Timed) → k < length calls → (x ≢ (get_or calls k d).begun) × (x ≢ (get_or calls k d).ended)) → IsDistinct eqb (x ∷ numbers_of calls)
     apart other = (differs x calls other, distinct calls backs once)
 
-pub lines_are_calls : LinesAreCalls
+pub lines_are_calls : (ranks : List ℕ) (lines : List (List ℕ)) (calls : List Timed) → calls_of ranks lines ≡ Ok calls → AreCalls ranks calls
 lines_are_calls ranks lines calls e =
     let far = far_all ranks lines [] calls (far_none ranks) e in
     let zero : Timed = record { session = 0; line = 0; begun = 0; ended = 0; rank = 0 } in

@@ -8,10 +8,10 @@ use Rattle.combiner.specs.declared.slots.Reply.TheVariants as replies
 use Rattle.schedule.specs.Trace.{Updated, Event, Call, Back, Trace}
 use Rattle.schedule.proofs.Lists.{get_in, get_some}
 use Rattle.realtime.specs.declared.histories.Timed.{Timed}
-use Rattle.realtime.specs.Histories.{uses}
 use Rattle.realtime.specs.Laws.{ShareNone, AreCalls}
 use Rattle.realtime.specs.Linearizable.{Told, IsTraceOf}
 use Rattle.realtime.proofs.OneList.{Made, made, Has, made_at, at_made}
+use Rattle.realtime.proofs.Reading.{uses}
 
 -- ---- a list of what stands at each number
 

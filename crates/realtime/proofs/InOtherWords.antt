@@ -1,5 +1,5 @@
 -- What the definitions of a history say, in other words.
-use Rattle.std.proofs.Common.{◌≡◌, ◌⊎◌, ℕ, ◌+◌, ◌<◌, ◌≤◌, Bool, true, false, List, length, get_or, cond, ltb, Option, Some, None, refl, sym, ap, ◌∙◌, arith, Contains, position, ⊎_elim, inl, inr}
+use Rattle.std.proofs.Common.{◌≡◌, ◌↔◌, ◌⊎◌, ℕ, ◌+◌, ◌<◌, ◌≤◌, Bool, true, false, List, length, get_or, cond, ltb, Option, Some, None, refl, sym, ap, ◌∙◌, arith, Contains, position, ⊎_elim, inl, inr}
 use Rattle.std.specs.List.{list_any, position_or_len}
 use Rattle.std.proofs.lemmas.Bool.{ltb-true, ltb-false, leb-true, eqb-true, eq-eqb, lt-ltb, le-leb, and_from, and_parts, or_left, or_right, or_cases, cases_lt, false_from_ne_true}
 use Rattle.std.proofs.lemmas.Option.{slice_get-get_or}
@@ -7,12 +7,13 @@ use Rattle.std.proofs.lemmas.List.Folds.{Any-from_list_any}
 use Rattle.std.proofs.lemmas.List.Sums.{position_or_len_is, fails_before_first}
 use Rattle.std.proofs.lemmas.List.Quantifiers.{position-Some}
 use Rattle.realtime.specs.declared.histories.Timed.{Timed}
-use Rattle.realtime.specs.RealTime.{hinders, is_out_of_turn, first_out_of_turn, stands_behind, is_misplaced, first_misplaced, AreInTurn, InRealTime}
+use Rattle.realtime.specs.RealTime.{is_out_of_turn, first_out_of_turn, is_misplaced, first_misplaced, AreInTurn, InRealTime}
 use Rattle.engine.specs.declared.replies.Verdict.TheVariants as verdicts
 use Rattle.engine.specs.Answer.{Answer}
 use Rattle.realtime.specs.TimedAnswer.{bad_history, differing_history, unless_faulty}
-use Rattle.realtime.specs.Laws.{TurnsAreTaken, PlacesAreReal, IsShown, MisplacedIsShown, GoodIsReal, DiffersIsShown}
-use Rattle.realtime.proofs.Turning.{some_passes, contains_at}
+use Rattle.realtime.specs.Laws.{IsShown, GoodIsReal, DiffersIsShown}
+use Rattle.realtime.proofs.Turning.{hinders, some_passes, contains_at}
+use Rattle.realtime.proofs.Misplaced.{stands_behind}
 
 -- ---- where no element passes a test
 
@@ -69,7 +70,7 @@ in_turn_to calls turns = nowhere (is_out_of_turn calls) calls (λ b has_b. false
     (λ e. let le : b.line ≤ a.line = leb-true _ _ e in omega (arith, le, later))
     (or_cases _ _ second.1)))
 
-pub turns_are_taken : TurnsAreTaken
+pub turns_are_taken : (calls : List Timed) → (first_out_of_turn calls ≡ None) ↔ AreInTurn calls
 turns_are_taken calls = (in_turn_from calls, in_turn_to calls)
 
 -- ---- places
@@ -88,10 +89,10 @@ real_to calls real = nowhere (is_misplaced calls) calls (λ a has_a. false_from_
     let le = real a b has_a (some.0, some.2, some.3) (ltb-true _ _ parts.0) in
     omega (arith, less, le)))
 
-pub places_are_real : PlacesAreReal
+pub places_are_real : (calls : List Timed) → (first_misplaced calls ≡ None) ↔ InRealTime calls
 places_are_real calls = (real_from calls, real_to calls)
 
-pub misplaced_is_shown : MisplacedIsShown
+pub misplaced_is_shown : (calls : List Timed) (k : ℕ) → first_misplaced calls ≡ Some k → IsShown calls k
 misplaced_is_shown calls k e =
     let zero : Timed = record { session = 0; line = 0; begun = 0; ended = 0; rank = 0 } in
     let first = position-Some (is_misplaced calls) calls k zero e in

@@ -30,9 +30,9 @@ use Rattle.realtime.specs.declared.histories.Timed.{Timed}
 use Rattle.realtime.specs.Histories.{calls_of}
 use Rattle.realtime.specs.RealTime.{AreInTurn, InRealTime}
 use Rattle.realtime.specs.Ranks.{is_update, rank_of, ranks_of}
-use Rattle.realtime.specs.TimedAnswer.{history_answer, where_good}
+use Rattle.realtime.specs.TimedAnswer.{history_answer, timed_answer, where_good}
 use Rattle.realtime.specs.Laws.{AreCalls}
-use Rattle.realtime.specs.Linearizable.{Told, calls_told, if_placed, operations_of, IsLimitOf, IsLinearizable, AreLinearizable, GoodIsLinearizable}
+use Rattle.realtime.specs.Linearizable.{Told, calls_told, if_placed, operations_of, IsLimitOf, IsLinearizable, AreLinearizable}
 use Rattle.realtime.proofs.Counting.{lines_are_calls}
 use Rattle.realtime.proofs.InOtherWords.{good_is_real}
 use Rattle.realtime.proofs.Agreeing.{standing_told, Good, good_lines}
@@ -212,7 +212,7 @@ module _ (spare : ℕ) (t : TextsRead) (judged_so : Judged (replay_answer spare 
   by_manifest (Ok c) is e = by_places c is (leb spare MAX_PLACES) refl e
   by_manifest (Err refusal) is e = absurd cc
 
-pub good_is_linearizable : GoodIsLinearizable
+pub good_is_linearizable : (spare : ℕ) (t : TextsRead) → (timed_answer spare (Some t)).verdict ≡ verdicts.Good → AreLinearizable spare t
 good_is_linearizable spare t e =
     let j = judged (replay_answer spare (Some t)) (calls_of (ranks_of (lines_of t.file)) (lines_of t.history)) e in
     by_manifest spare t j (loaded t.manifest t.files) refl j.good

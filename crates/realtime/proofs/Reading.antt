@@ -1,9 +1,10 @@
 -- What is read of a history.
-use Rattle.std.proofs.Common.{◌≡◌, ◌≢◌, ℕ, ◌+◌, ◌-◌, ◌*◌, ◌^◌, if◌then◌else◌, ◌<◌, ◌≤◌, Bool, true, false, ◌||◌, not, eqb, List, [], ◌∷◌, ◌++◌, length, get_or, set, Option, Some, None, Ok, Err, refl, sym, ap, subst, ◌∙◌, arith, ⊎_elim}
+use Rattle.std.proofs.Common.{◌≡◌, ◌≢◌, ℕ, ◌+◌, ◌-◌, ◌*◌, ◌^◌, if◌then◌else◌, ◌<◌, ◌≤◌, Bool, true, false, ◌||◌, not, eqb, List, [], ◌∷◌, ◌++◌, length, get_or, set, replicate, Option, Some, None, Ok, Err, refl, sym, ap, subst, ◌∙◌, arith, ⊎_elim}
 use Rattle.std.specs.List.{slice_get, AllPairs}
+use Rattle.std.specs.Option.{option_map_or}
 use Rattle.std.proofs.lemmas.Bool.{ltb-true, leb-true, eqb-true, eqb-false, eq-eqb, ne_eqb, and_parts, or_parts, or_left, or_right, cases_eq, cases_lt, false_from_ne_true}
 use Rattle.std.proofs.lemmas.Option.{slice_get_within}
-use Rattle.std.proofs.lemmas.List.{length-set, get_or-set_other, length-append}
+use Rattle.std.proofs.lemmas.List.{length-set, get_or-set_other, get_or-replicate, length-replicate, length-append}
 use Rattle.std.proofs.lemmas.Grind.{common_steps, get_or-set_at}
 use Rattle.std.proofs.lemmas.List.Elements.{All-push, All-nil}
 use Rattle.std.proofs.lemmas.List.Folds.{list_any-append, list_any_at}
@@ -14,9 +15,13 @@ use Rattle.text.proofs.Cuts.{steps}
 use Rattle.realtime.specs.declared.histories.Timed.{Timed}
 use Rattle.realtime.specs.declared.histories.TheConstants.{SESSIONS}
 use Rattle.realtime.specs.declared.histories.Taken.{Taken}
-use Rattle.realtime.specs.Histories.{uses, is_used, fits, timed_line, call_behind, by_call, calls_behind, calls_of}
+use Rattle.realtime.specs.Histories.{is_used, fits, timed_line, call_behind, calls_behind, calls_of}
 use Rattle.realtime.specs.Laws.{ShareNone}
 use Rattle.realtime.specs.Judging.{HasTaken, TakesCall, AreGood}
+
+-- a call began or was back at this number
+abbrev pub uses : ℕ → Timed → Bool
+uses x call = eqb call.begun x || eqb call.ended x
 
 or-false : (b : Bool) → (b || false) ≡ b
 or-false true = refl
@@ -78,6 +83,14 @@ has_next ranks t n call has rank at calls used =
       few = omega (arith, ap length calls, length-append t.calls.items (call ∷ []), more);
       used = λ x lt. rw (used, calls) (marked t.used.items t.calls.items call has.used x (subst (λ u. x < length u) used lt));
     }
+
+-- nothing is taken yet
+pub taken_none : (ranks : List ℕ) (t : Taken) → t.calls.items ≡ [] → t.used.items ≡ replicate (2 * length ranks) false → HasTaken ranks t
+taken_none ranks t calls used = record {
+  numbers = ap length used ∙ length-replicate (2 * length ranks) false;
+  few = omega (arith, ap length calls);
+  used = λ x lt. rw (calls, used) (get_or-replicate (2 * length ranks) x false false (subst (λ n. x < n) (ap length used ∙ length-replicate (2 * length ranks) false) lt));
+}
 
 pub behind_some : (ranks : List ℕ) (before : List Timed) (line : List ℕ) (rank : ℕ) (call : Timed) → slice_get ranks (length before) ≡ Some rank → timed_line rank line ≡ Some call
     → fits (2 * length ranks) before call ≡ true → call_behind ranks before line ≡ Some call
@@ -247,10 +260,10 @@ module _ (ranks : List ℕ) where
       (subst (AreSoFar ranks) so.1 far, sym (ap length so.1) ∙ eqb-true _ _ so.0)
   far_all (l ∷ ls) before calls far e = by (far_all ls) (call_behind ranks before l) refl e
     where
-      by : ((more all : List Timed) → AreSoFar ranks more → calls_behind ranks more ls ≡ Ok all → AreSoFar ranks all × (length all ≡ length ranks)) → (o : Option Timed) → call_behind ranks before l ≡ o → by_call (length before + 1) (λ call. calls_behind ranks (before ++ call ∷ []) ls) o ≡ Ok calls
+      by : ((more all : List Timed) → AreSoFar ranks more → calls_behind ranks more ls ≡ Ok all → AreSoFar ranks all × (length all ≡ length ranks)) → (o : Option Timed) → call_behind ranks before l ≡ o → option_map_or (λ call. calls_behind ranks (before ++ call ∷ []) ls) o (Err (length before + 1)) ≡ Ok calls
           → AreSoFar ranks calls × (length calls ≡ length ranks)
       by rest None is ends = absurd cc
       by rest (Some call) is ends = rest (before ++ call ∷ []) calls (far_next before call far (next_is ranks before l call is)) ends
 
-  pub good_calls : (lines : List (List ℕ)) (calls : List Timed) → calls_of ranks lines ≡ Ok calls → AreGood (2 * length ranks) calls
-  good_calls lines calls e = (far_all lines [] calls (far_none ranks) e).0.good
+  pub good_calls : (lines : List (List ℕ)) (calls : List Timed) → calls_of ranks lines ≡ Ok calls → AreGood (2 * length calls) calls
+  good_calls lines calls e = let far = far_all lines [] calls (far_none ranks) e in subst (λ n. AreGood (2 * n) calls) (sym far.1) far.0.good

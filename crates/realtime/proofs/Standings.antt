@@ -1,8 +1,14 @@
 -- Where the calls of a transcript stand.
-use Rattle.std.proofs.Common.{◌≡◌, ℕ, List, [], ◌∷◌, ◌++◌, Some, None, refl, sym}
+use Rattle.std.proofs.Common.{◌≡◌, ℕ, List, [], ◌∷◌, ◌++◌, Option, Some, None, refl, sym}
+use Rattle.std.specs.Prelude.{option_and_then}
 use Rattle.std.proofs.lemmas.List.{append_assoc, append-nil}
 use Rattle.realtime.specs.declared.ranks.Standing.{Standing}
-use Rattle.realtime.specs.Ranks.{line_standing, standings_of}
+use Rattle.realtime.specs.Ranks.{standing_of, standings_of}
+use Rattle.scripts.specs.Transcript.{transcript_line_meaning}
+
+-- where the call of a line stands
+abbrev pub line_standing : List ℕ → Option Standing
+line_standing line = option_and_then standing_of (transcript_line_meaning line)
 
 -- the lines that are left, behind what the lines before said
 module _ (lines : List (List ℕ)) (l : List ℕ) (rest : List (List ℕ)) (e : lines ≡ l ∷ rest) (before : List Standing) where

@@ -1,5 +1,5 @@
 -- Whether each session makes its calls one after the other.
-use Rattle.std.proofs.Common.{◌≡◌, ◌≢◌, ◌⊎◌, ℕ, ◌+◌, ◌<◌, ◌≤◌, max, Bool, true, false, List, length, get_or, set, replicate, refl, sym, ap, subst, ◌∙◌, arith, Contains, inl, inr, ⊎_elim}
+use Rattle.std.proofs.Common.{◌≡◌, ◌≢◌, ◌⊎◌, ℕ, ◌+◌, ◌<◌, ◌≤◌, max, Bool, true, false, ◌&&◌, ◌||◌, eqb, ltb, leb, List, length, get_or, set, replicate, refl, sym, ap, subst, ◌∙◌, arith, Contains, inl, inr, ⊎_elim}
 use Rattle.std.specs.List.{list_any, position_or_len}
 use Rattle.std.proofs.lemmas.Bool.{ltb-true, leb-true, eqb-true, eq-eqb, lt-ltb, le-leb, and_from, and_parts, or_left, or_right, or_cases, cases_eq, cases_lt, false_from_ne_true}
 use Rattle.std.proofs.lemmas.List.{length-set, get_or-set_other, get_or-replicate, length-replicate, get_or_default}
@@ -7,9 +7,13 @@ use Rattle.std.proofs.lemmas.Grind.{get_or-set_at}
 use Rattle.std.proofs.lemmas.List.Folds.{Any-from_list_any, list_any_at}
 use Rattle.std.proofs.lemmas.List.Sums.{position_or_len_is}
 use Rattle.realtime.specs.declared.histories.Timed.{Timed}
-use Rattle.realtime.specs.declared.turns.Turns.{Turns}
-use Rattle.realtime.specs.RealTime.{hinders, is_out_of_turn}
+use Rattle.realtime.specs.declared.orders.Turns.{Turns}
+use Rattle.realtime.specs.RealTime.{is_out_of_turn}
 use Rattle.realtime.specs.Judging.{AreGood, AreBeginnings, AreGreatest, AreTurns, IsOnly, IsFirstOut}
+
+-- a call of the same session began earlier, and was not back yet or doesn't stand on an earlier line of the script
+abbrev pub hinders : Timed → Timed → Bool
+hinders call earlier = eqb earlier.session call.session && (ltb earlier.begun call.begun && (ltb call.begun earlier.ended || leb call.line earlier.line))
 
 pub contains_at : (calls : List Timed) (k : ℕ) (d : Timed) → k < length calls → Contains calls (get_or calls k d)
 contains_at calls k d lt = (k, lt, get_or_default calls k (get_or calls k d) d lt)

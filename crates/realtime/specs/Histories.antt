@@ -1,6 +1,7 @@
 -- The lines of a history: when each call of a transcript began, and when it was back.
 use Rattle.std.specs.Prelude.{ℕ, ◌+◌, ◌-◌, ◌*◌, ◌^◌, Bool, ◌&&◌, ◌||◌, not, List, [], ◌∷◌, ◌++◌, length, Option, Some, None, Result, Ok, Err, nat_lt, ◌==◌, if◌then◌else◌, slice_get}
 use Rattle.std.specs.List.{list_any}
+use Rattle.std.specs.Option.{option_map_or}
 use Rattle.text.specs.Fields.{split_at_space}
 use Rattle.text.specs.Words.{◌>>=◌, number_of, number_within}
 use Rattle.realtime.specs.declared.histories.TheConstants.{SESSIONS}
@@ -18,12 +19,9 @@ timed_line rank text = do
   ended ← number_of third.1
   Some (record { session = session; line = line; begun = begun; ended = ended; rank = rank })
 
--- a call began or was back at this number
-abbrev pub uses : ℕ → Timed → Bool
-uses x call = (call.begun == x) || (call.ended == x)
-
+-- one of the calls began or was back at this number
 abbrev pub is_used : List Timed → ℕ → Bool
-is_used calls x = list_any (uses x) calls
+is_used calls x = list_any (λ call. (call.begun == x) || (call.ended == x)) calls
 
 -- the call began before it was back, its numbers are below this one, and none of these calls has one of them
 abbrev pub fits : ℕ → List Timed → Timed → Bool
@@ -37,15 +35,10 @@ call_behind ranks before line = do
   call ← timed_line rank line
   if fits (2 * length ranks) before call then Some call else None
 
--- by whether the line of this number is good
-abbrev pub by_call : ℕ → (Timed → Result (List Timed) ℕ) → Option Timed → Result (List Timed) ℕ
-by_call number next None = Err number
-by_call number next (Some call) = next call
-
 -- the calls of a transcript, which has these ranks, behind those before; or the number of the first line that is bad or lacking
 unfoldable pub calls_behind : List ℕ → List Timed → List (List ℕ) → Result (List Timed) ℕ
 calls_behind ranks before [] = if length before == length ranks then Ok before else Err (length before + 1)
-calls_behind ranks before (l ∷ ls) = by_call (length before + 1) (λ call. calls_behind ranks (before ++ call ∷ []) ls) (call_behind ranks before l)
+calls_behind ranks before (l ∷ ls) = option_map_or (λ call. calls_behind ranks (before ++ call ∷ []) ls) (call_behind ranks before l) (Err (length before + 1))
 
 -- the same of all lines
 abbrev pub calls_of : List ℕ → List (List ℕ) → Result (List Timed) ℕ

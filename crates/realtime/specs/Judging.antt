@@ -1,10 +1,8 @@
 -- What is kept while a history is judged. Clauses of private functions alone cite this.
-use Rattle.std.specs.Prelude.{◌≡◌, ◌≢◌, ◌⊎◌, ℕ, ◌-◌, ◌*◌, ◌^◌, ◌<◌, ◌≤◌, Bool, true, false, List, [], ◌∷◌, ◌++◌, length, Option, Some, None, Result, Ok, Err, slice_index, slice_index_or, All, AllPairs, Contains}
+use Rattle.std.specs.Prelude.{◌≡◌, ◌≢◌, ◌⊎◌, ℕ, ◌-◌, ◌*◌, ◌^◌, ◌<◌, ◌≤◌, Bool, true, false, List, [], ◌∷◌, ◌++◌, length, Option, Some, None, slice_index, slice_index_or, All, AllPairs, Contains}
 use Rattle.realtime.specs.declared.histories.Timed.{Timed}
 use Rattle.realtime.specs.declared.histories.Taken.{Taken}
-use Rattle.realtime.specs.declared.histories.History.{History}
-use Rattle.realtime.specs.declared.histories.History.TheVariants as read
-use Rattle.realtime.specs.declared.turns.Turns.{Turns}
+use Rattle.realtime.specs.declared.orders.Turns.{Turns}
 use Rattle.realtime.specs.Histories.{is_used}
 use Rattle.realtime.specs.RealTime.{is_out_of_turn}
 
@@ -25,13 +23,6 @@ abbrev pub TakesCall : List ℕ → Taken → Taken → Option Timed → Bool �
 TakesCall ranks old new None told = (told ≡ false) × (new ≡ old)
 TakesCall ranks old new (Some call) told = (told ≡ true) × (new.calls.items ≡ old.calls.items ++ call ∷ []) × HasTaken ranks new
 
--- these are the calls, or the number of the bad line
-abbrev pub ReadAs : Result (List Timed) ℕ → History → Type 0
-ReadAs (Ok calls) (read.Good v) = v.items ≡ calls
-ReadAs (Err n) (read.Bad number) = number ≡ n
-ReadAs (Ok calls) (read.Bad number) = ⊥
-ReadAs (Err n) (read.Good v) = ⊥
-
 -- ---- the calls of a history that was read
 
 -- each call began before it was back, below this number, on a line of a script; no two began at one number
@@ -46,6 +37,11 @@ pub record AreGood (numbers : ℕ) (calls : List Timed) : Type 0 where
 pub record AreBeginnings (calls : List Timed) (upto : ℕ) (begins : List ℕ) : Type 0 where
   pub found : (k : ℕ) (d : Timed) → k < upto → slice_index begins (slice_index_or calls k d).begun ≡ k
   pub only : (x : ℕ) (d : Timed) → x < length begins → slice_index begins x < length calls → (slice_index_or calls (slice_index begins x) d).begun ≡ x
+
+-- the calls are good, and at each number below the length stands the index of the call that begins there
+pub record AreBegun (calls : List Timed) (begins : List ℕ) : Type 0 where
+  pub good : AreGood (length begins) calls
+  pub all : AreBeginnings calls (length calls) begins
 
 -- for each session the greatest of these measures of its calls that began before a number; 0 where there is none
 pub record AreGreatest (calls : List Timed) (measure : Timed → ℕ) (upto : ℕ) (greatest : List ℕ) : Type 0 where
@@ -71,13 +67,7 @@ pub record IsFirstOut (calls : List Timed) (upto first : ℕ) : Type 0 where
   pub least : (k : ℕ) (d : Timed) → k < length calls → (slice_index_or calls k d).begun < upto → is_out_of_turn calls (slice_index_or calls k d) ≡ true → first ≤ k
   pub is : (d : Timed) → first < length calls → is_out_of_turn calls (slice_index_or calls first d) ≡ true
 
--- at each number the rank of the call that begins there, of the first so many calls; a rank that no call has where none does
-pub record AreRanksBegun (calls : List Timed) (upto : ℕ) (ranks : List ℕ) : Type 0 where
-  pub own : (k : ℕ) (d : Timed) → k < upto → slice_index ranks (slice_index_or calls k d).begun ≡ (slice_index_or calls k d).rank
-  pub some : (x : ℕ) → x < length ranks → (slice_index ranks x ≡ 2 ^ 128 - 1) ⊎ ((b : Timed) × Contains calls b × (b.begun ≡ x) × (b.rank ≡ slice_index ranks x))
-
 -- at each number the rank of a call that began there or later, and from this number on the least of them; a rank that no call has where there is none
 pub record AreLeast (calls : List Timed) (from : ℕ) (least : List ℕ) : Type 0 where
   pub low : (x : ℕ) (b : Timed) → Contains calls b → from ≤ x → x ≤ b.begun → slice_index least x ≤ b.rank
-  pub own : (b : Timed) → Contains calls b → slice_index least b.begun ≤ b.rank
   pub some : (x : ℕ) → x < length least → (slice_index least x ≡ 2 ^ 128 - 1) ⊎ ((b : Timed) × Contains calls b × (x ≤ b.begun) × (b.rank ≡ slice_index least x))

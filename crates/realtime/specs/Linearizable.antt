@@ -14,14 +14,12 @@ use Rattle.schedule.specs.declared.parts.Opening.{Opening}
 use Rattle.schedule.specs.Trace.{Answer, Updated, ReadBack, Call, Back, Trace, Positions}
 use Rattle.schedule.specs.Explains.{Explains}
 use Rattle.scripts.specs.Transcript.{TranscriptMeaning, Comment, Answered, Installed, Ended, EndedInstall, transcript_line_meaning}
-use Rattle.engine.specs.declared.replies.Verdict.TheVariants as verdicts
 use Rattle.engine.specs.Reading.{TextsRead}
 use Rattle.engine.specs.StateAnswer.{opened_by}
 use Rattle.replaying.specs.ReplayAnswer.{operation_of, install_of}
 use Rattle.realtime.specs.declared.histories.Timed.{Timed}
 use Rattle.realtime.specs.Histories.{calls_of}
 use Rattle.realtime.specs.Ranks.{ranks_of}
-use Rattle.realtime.specs.TimedAnswer.{timed_answer}
 
 -- ---- what a transcript tells
 
@@ -47,12 +45,9 @@ told_by c (Installed a) = option_map (call_told Update (answer_told Update a.ind
 told_by c (Ended call) = option_map (call_told Update (Updated replies.Ended)) (operation_of c Update call)
 told_by c (EndedInstall new) = option_map (call_told Update (Updated replies.Ended)) (install_of c new)
 
-abbrev pub line_told : CatalogueView → List ℕ → Option Told
-line_told c line = option_and_then (told_by c) (transcript_line_meaning line)
-
 -- of all lines that are calls, in their order
 abbrev pub calls_told : CatalogueView → List (List ℕ) → List Told
-calls_told c lines = filter_map (line_told c) lines
+calls_told c lines = filter_map (λ line. option_and_then (told_by c) (transcript_line_meaning line)) lines
 
 -- the operation, where the answer has an index
 abbrev pub if_placed : Operation → Answer → Option Operation
@@ -99,9 +94,3 @@ pub record AreLinearizable (spare : ℕ) (t : TextsRead) : Type 0 where
   pub is_opened : opened_by (with_places manifest spare) t.state ≡ Ok catalogue
   pub linearizable : (config : Sizes) → IsLimitOf (calls_told catalogue (lines_of t.file)) config.limit
       → IsLinearizable (record { config = config; catalogue = catalogue }) (lines_of t.file) (lines_of t.history)
-
--- ---- the law
-
--- what is answered `good` is linearizable
-abbrev pub GoodIsLinearizable : Type 0
-GoodIsLinearizable = (spare : ℕ) (t : TextsRead) → (timed_answer spare (Some t)).verdict ≡ verdicts.Good → AreLinearizable spare t

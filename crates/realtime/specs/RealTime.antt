@@ -5,22 +5,17 @@ use Rattle.std.specs.List.{list_any}
 use Rattle.realtime.specs.declared.histories.Timed.{Timed}
 
 -- a call of the same session began earlier, and was not back yet or doesn't stand on an earlier line of the script
-abbrev pub hinders : Timed → Timed → Bool
-hinders call earlier = (earlier.session == call.session) && (nat_lt earlier.begun call.begun && (nat_lt call.begun earlier.ended || nat_le call.line earlier.line))
-
 abbrev pub is_out_of_turn : List Timed → Timed → Bool
-is_out_of_turn calls call = list_any (hinders call) calls
+is_out_of_turn calls call =
+    list_any (λ earlier. (earlier.session == call.session) && (nat_lt earlier.begun call.begun && (nat_lt call.begun earlier.ended || nat_le call.line earlier.line))) calls
 
 -- the index of the first line whose session had not finished with the lines of the script before
 abbrev pub first_out_of_turn : List Timed → Option ℕ
 first_out_of_turn calls = position (is_out_of_turn calls) calls
 
--- a call was back before another began, but stands behind it
-abbrev pub stands_behind : Timed → Timed → Bool
-stands_behind call later = nat_lt call.ended later.begun && nat_lt later.rank call.rank
-
+-- the call was back before another began, but stands behind it
 abbrev pub is_misplaced : List Timed → Timed → Bool
-is_misplaced calls call = list_any (stands_behind call) calls
+is_misplaced calls call = list_any (λ later. nat_lt call.ended later.begun && nat_lt later.rank call.rank) calls
 
 -- the index of the first line whose call was back before another began that it stands behind
 abbrev pub first_misplaced : List Timed → Option ℕ

@@ -1,100 +1,62 @@
 // A transcript replayed, and its history judged.
 
-ghost use Rattle.std.specs.Prelude.{◌≡◌, ◌+◌, ◌*◌, ◌<◌, ◌++◌, length, codes, decimal, string_bytes, OnOk, IfOk};
+ghost use Rattle.std.specs.Prelude.{◌≡◌, ◌*◌, ◌++◌, length, codes, decimal, IfOk};
 ghost use Rattle.text.specs.Lines.{lines_of};
+ghost use Rattle.engine.specs.Reading.{texts_read};
 ghost use Rattle.engine.specs.Report.{answer_of};
 ghost use Rattle.realtime.specs.Ranks.{ranks_of};
 ghost use Rattle.realtime.specs.Histories.{calls_of};
 ghost use Rattle.realtime.specs.Judging.{AreGood};
-ghost use Rattle.realtime.specs.TimedAnswer.{bad_history, differing_history, calls_answer, history_answer, timed, timed_answer};
+ghost use Rattle.realtime.specs.TimedAnswer.{calls_answer, history_answer, timed_answer};
 
-use crate::histories::{History, Timed, read_history};
-use crate::placing::first_misplaced;
+use crate::histories::{Timed, read_history};
+use crate::orders::{beginnings, first_misplaced, first_out_of_turn};
 use crate::ranks::ranks;
-use crate::turns::first_out_of_turn;
 use engine::texts::put_numbered;
 use engine::{Command, Gathered, Notes, Reply, Texts, Verdict, not_text};
 use replaying::Replay;
 use std::alloc::{AllocError, Global};
 
-// A text, the number of a line of the history and what it is.
-fn line_text(alloc: Global, number: u64, what: &[u8]) -> Result<Vec<u8>, AllocError>
-    ensures { IfOk result (λ v. v.items ≡ codes "history line " ++ (decimal number ++ what.now)) }
+// What is answered of the line of this number: what it is, and the verdict.
+fn line_reply(
+    alloc: Global,
+    number: u64,
+    what: &[u8],
+    verdict: Verdict,
+) -> Result<Reply, AllocError>
+    ensures { IfOk result (λ r. answer_of r ≡ record { text = codes "history line " ++ (decimal number ++ what.now); verdict = verdict }) }
 {
     let mut text = Vec::new(alloc);
     put_numbered(&mut text, b"history line ", number)?;
     text.extend_from_slice(what)?;
-    Ok(text)
-}
-
-// What is answered where the line of this number is bad, or there is none.
-fn bad_history(alloc: Global, number: u64) -> Result<Reply, AllocError>
-    ensures { IfOk result (λ r. answer_of r ≡ bad_history number) }
-{
-    Ok(Reply {
-        text: line_text(alloc, number, b" bad\n")?,
-        verdict: Verdict::Refused,
-    })
-}
-
-// What is answered where the call of the line of this number was back before another began that it stands behind.
-fn differing_history(alloc: Global, number: u64) -> Result<Reply, AllocError>
-    ensures { IfOk result (λ r. answer_of r ≡ differing_history number) }
-{
-    Ok(Reply {
-        text: line_text(alloc, number, b" differs\n")?,
-        verdict: Verdict::Differs,
-    })
+    Ok(Reply { text, verdict })
 }
 
 // What is answered to the calls of a history, where the transcript is answered so.
-fn calls_reply(
-    alloc: Global,
-    reply: Reply,
-    numbers: usize,
-    calls: &[Timed],
-) -> Result<Reply, AllocError>
-    requires good { AreGood numbers calls.now }
-    requires room { numbers < usize.MAX }
+fn calls_reply(alloc: Global, reply: Reply, calls: &[Timed]) -> Result<Reply, AllocError>
+    requires { AreGood (2 * length calls.now) calls.now }
     ensures { IfOk result (λ r. answer_of r ≡ calls_answer (answer_of reply) calls.now) }
 {
-    let at = first_out_of_turn(alloc, numbers, calls)?;
+    let begins = beginnings(alloc, calls)?;
+    let at = first_out_of_turn(&begins, calls);
     if at < calls.len() {
-        return bad_history(alloc, at as u64 + 1);
+        return line_reply(alloc, at as u64 + 1, b" bad\n", Verdict::Refused);
     }
-    let at = first_misplaced(alloc, numbers, calls)?;
+    let at = first_misplaced(alloc, &begins, calls)?;
     if at < calls.len() {
-        return differing_history(alloc, at as u64 + 1);
+        return line_reply(alloc, at as u64 + 1, b" differs\n", Verdict::Differs);
     }
     Ok(reply)
 }
 
-// What is answered to a history, where its transcript is answered so.
-fn history_reply(
-    alloc: Global,
-    reply: Reply,
-    transcript: &str,
-    history: &str,
-) -> Result<Reply, AllocError>
-    ensures { IfOk result (λ r. answer_of r ≡ history_answer (answer_of reply) (calls_of (ranks_of (lines_of transcript.now)) (lines_of history.now))) }
+// What is answered to the history of a transcript that is answered so.
+fn history_reply(alloc: Global, reply: Reply, texts: &Texts) -> Result<Reply, AllocError>
+    ensures { let t = texts_read texts.now in IfOk result (λ r. answer_of r ≡ history_answer (answer_of reply) (calls_of (ranks_of (lines_of t.file)) (lines_of t.history))) }
 {
-    let ranks = ranks(alloc, transcript)?;
-    let Some(numbers) = ranks.len().checked_mul(2) else {
-        return Err(AllocError);
-    };
-    match read_history(alloc, numbers, &ranks, history)? {
-        History::Good(calls) => calls_reply(alloc, reply, numbers, &calls),
-        History::Bad(number) => bad_history(alloc, number),
-    }
-}
-
-// What is answered to all that was read, where the transcript is answered so.
-fn timed_reply(alloc: Global, reply: Reply, texts: &Texts) -> Result<Reply, AllocError>
-    ensures { IfOk result (λ r. answer_of r ≡ timed (answer_of reply) (string_bytes texts.now.file) (string_bytes texts.now.history)) }
-{
-    match reply.verdict {
-        Verdict::Good => history_reply(alloc, reply, texts.file.as_str(), texts.history.as_str()),
-        Verdict::Refused | Verdict::Differs => Ok(reply),
+    let ranks = ranks(alloc, texts.file.as_str())?;
+    match read_history(alloc, &ranks, texts.history.as_str())? {
+        Ok(calls) => calls_reply(alloc, reply, &calls),
+        Err(number) => line_reply(alloc, number, b" bad\n", Verdict::Refused),
     }
 }
 
@@ -126,6 +88,9 @@ impl Command for ReplayTimed {
         };
         let spare = self.spare;
         let reply = Replay { spare }.reply(alloc, &texts, notes)?;
-        timed_reply(alloc, reply, &texts)
+        match reply.verdict {
+            Verdict::Good => history_reply(alloc, reply, &texts),
+            Verdict::Refused | Verdict::Differs => Ok(reply),
+        }
     }
 }

@@ -1,9 +1,9 @@
 // The lines of a history.
 
-ghost use Rattle.std.specs.Prelude.{◌≡◌, ◌+◌, ◌*◌, ◌<◌, [], length, IfOk};
+ghost use Rattle.std.specs.Prelude.{◌≡◌, length, MatchResult, IfOk};
 ghost use Rattle.text.specs.Lines.{lines_of};
 ghost use Rattle.realtime.specs.Histories.{timed_line, fits, call_behind, calls_of};
-ghost use Rattle.realtime.specs.Judging.{HasUsed, HasTaken, TakesCall, ReadAs};
+ghost use Rattle.realtime.specs.Judging.{HasUsed, HasTaken, TakesCall};
 
 use std::alloc::{AllocError, Global};
 use text::{NumberedLines, number, number_within, split_at_space};
@@ -22,11 +22,7 @@ pub(crate) struct Timed {
 }
 
 // The calls of a history, or the number of its first line that is bad or lacking.
-#[derive(Drop)]
-pub(crate) enum History {
-    Good(Vec<Timed>),
-    Bad(u64),
-}
+pub(crate) type History = Result<Vec<Timed>, u64>;
 
 // The calls of the lines so far, and at which numbers one of them began or was back.
 #[derive(Drop)]
@@ -43,39 +39,16 @@ fn timed_line(rank: u128, text: &str) -> Option<Timed>
     let (session, rest) = split_at_space(text)?;
     let (line, rest) = split_at_space(rest)?;
     let (begun, ended) = split_at_space(rest)?;
-    let session = number_within(0, SESSIONS - 1, session)? as u8;
-    let line = number_within(1, u64::MAX, line)?;
-    let begun = number(begun)?;
-    let ended = number(ended)?;
     Some(Timed {
-        session,
-        line,
-        begun,
-        ended,
+        session: number_within(0, SESSIONS - 1, session)? as u8,
+        line: number_within(1, u64::MAX, line)?,
+        begun: number(begun)?,
+        ended: number(ended)?,
         rank,
     })
 }
 
 impl Taken {
-    // Nothing is taken yet.
-    fn open(alloc: Global, numbers: usize, ranks: &[u128]) -> Result<Taken, AllocError>
-        requires numbers { numbers ≡ 2 * length ranks.now }
-        ensures taken { IfOk result (HasTaken ranks.now) }
-        ensures nothing { IfOk result (λ t. t.calls.items ≡ []) }
-    {
-        let calls = Vec::new(alloc);
-        let used = vec![in alloc; false; numbers]?;
-        Ok(Taken { calls, used })
-    }
-
-    // The number of the next line.
-    fn next_number(&self) -> u64
-        requires { length self.now.calls.items < length self.now.used.items + 1 }
-        ensures { result ≡ length self.now.calls.items + 1 }
-    {
-        self.calls.len() as u64 + 1
-    }
-
     // Whether the call may be the next one.
     fn fits(&self, call: &Timed) -> bool
         requires { HasUsed self.now }
@@ -110,26 +83,26 @@ impl Taken {
     }
 }
 
-// The calls of a history, of a transcript that has these ranks; so many numbers stand there.
+// The calls of a history, of a transcript that has these ranks.
 pub(crate) fn read_history(
     alloc: Global,
-    numbers: usize,
     ranks: &[u128],
     history: &str,
 ) -> Result<History, AllocError>
-    requires numbers { numbers ≡ 2 * length ranks.now }
-    ensures read { IfOk result (ReadAs (calls_of ranks.now (lines_of history.now))) }
+    ensures read { IfOk result (λ h. MatchResult h (λ v. calls_of ranks.now (lines_of history.now) ≡ Ok v.items) (λ n. calls_of ranks.now (lines_of history.now) ≡ Err n)) }
 {
-    let mut taken = Taken::open(alloc, numbers, ranks)?;
+    let calls = Vec::new(alloc);
+    let used = vec![in alloc; false; 2 * ranks.len()]?;
+    let mut taken = Taken { calls, used };
     let mut lines = NumberedLines::new(history);
     while let Some((_, line)) = lines.take_line() {
         if !taken.take(ranks, line)? {
-            return Ok(History::Bad(taken.next_number()));
+            return Ok(Err(taken.calls.len() as u64 + 1));
         }
     }
     if taken.calls.len() == ranks.len() {
-        Ok(History::Good(taken.calls))
+        Ok(Ok(taken.calls))
     } else {
-        Ok(History::Bad(taken.next_number()))
+        Ok(Err(taken.calls.len() as u64 + 1))
     }
 }

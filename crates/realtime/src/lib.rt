@@ -4,9 +4,8 @@
 mod command;
 mod histories;
 mod laws;
-mod placing;
+mod orders;
 mod ranks;
-mod turns;
 
 pub use command::ReplayTimed;
 pub use histories::SESSIONS;

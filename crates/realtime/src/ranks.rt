@@ -1,8 +1,9 @@
 // Where the calls of a transcript stand.
 
-ghost use Rattle.std.specs.Prelude.{◌≡◌, ◌≤◌, ◌^◌, ◌<◌, length, IfOk};
+ghost use Rattle.std.specs.Prelude.{◌≡◌, ◌≤◌, ◌^◌, ◌<◌, length, option_and_then, IfOk};
+ghost use Rattle.scripts.specs.Transcript.{transcript_line_meaning};
 ghost use Rattle.text.specs.Lines.{lines_of};
-ghost use Rattle.realtime.specs.Ranks.{answered_standing, line_standing, standings_of, is_update, rank_of, ranks_in, ranks_of};
+ghost use Rattle.realtime.specs.Ranks.{standing_of, standings_of, is_update, rank_of, ranks_of};
 
 use scripts::{TranscriptLine, read_transcript_line};
 use std::alloc::{AllocError, Global};
@@ -12,32 +13,19 @@ use verifier::Mode;
 // Where a call stands: an update or an install at its index, a read behind the updates before its point, or behind the history's end.
 #[derive(Clone, Copy)]
 pub(crate) enum Standing {
-    Update(u64),
-    Read(u64),
+    At(Mode, u64),
     Ended,
-}
-
-// Where an answered call stands.
-fn answered_standing(mode: Mode, index: u64) -> Standing
-    ensures { result ≡ answered_standing mode index }
-{
-    match mode {
-        Mode::Update => Standing::Update(index),
-        Mode::Read => Standing::Read(index),
-    }
 }
 
 // Where the call of a line stands, if it is one.
 fn line_standing(line: &str) -> Option<Standing>
-    ensures { result ≡ line_standing line.now }
+    ensures { result ≡ option_and_then standing_of (transcript_line_meaning line.now) }
 {
-    match read_transcript_line(line) {
-        None => None,
-        Some(TranscriptLine::Comment) => None,
-        Some(TranscriptLine::Answered(told)) => Some(answered_standing(told.mode, told.index)),
-        Some(TranscriptLine::Installed(told)) => Some(Standing::Update(told.index)),
-        Some(TranscriptLine::Ended(_)) => Some(Standing::Ended),
-        Some(TranscriptLine::EndedInstall(_)) => Some(Standing::Ended),
+    match read_transcript_line(line)? {
+        TranscriptLine::Comment => None,
+        TranscriptLine::Answered(told) => Some(Standing::At(told.mode, told.index)),
+        TranscriptLine::Installed(told) => Some(Standing::At(Mode::Update, told.index)),
+        TranscriptLine::Ended(_) | TranscriptLine::EndedInstall(_) => Some(Standing::Ended),
     }
 }
 
@@ -56,13 +44,10 @@ fn standings(alloc: Global, transcript: &str) -> Result<Vec<Standing>, AllocErro
 }
 
 // Whether it is an update.
-fn is_update(standing: Standing) -> bool
-    ensures { result ≡ is_update standing }
+fn is_update(standing: &Standing) -> bool
+    ensures { result ≡ is_update standing.now }
 {
-    match standing {
-        Standing::Update(_) => true,
-        Standing::Read(_) | Standing::Ended => false,
-    }
+    matches!(standing, Standing::At(Mode::Update, _))
 }
 
 // A call's rank, in a history of so many updates.
@@ -70,8 +55,8 @@ fn rank_of(updates: u64, standing: Standing) -> u128
     ensures { result ≡ rank_of updates standing }
 {
     match standing {
-        Standing::Update(index) => 2 * index as u128 + 1,
-        Standing::Read(point) => 2 * point as u128,
+        Standing::At(Mode::Update, index) => 2 * index as u128 + 1,
+        Standing::At(Mode::Read, point) => 2 * point as u128,
         Standing::Ended => 2 * updates as u128,
     }
 }
@@ -80,10 +65,7 @@ fn rank_of(updates: u64, standing: Standing) -> u128
 pub(crate) fn ranks(alloc: Global, transcript: &str) -> Result<Vec<u128>, AllocError>
     ensures { IfOk result (λ v. v.items ≡ ranks_of (lines_of transcript.now)) }
 {
-    let standings = standings(alloc, transcript)?;
-    let updates = standings.iter().filter(|s| is_update(**s)).count() as u64;
-    standings
-        .iter()
-        .map(|s| rank_of(updates, *s))
-        .collect(alloc)
+    let all = standings(alloc, transcript)?;
+    let updates = all.iter().filter(|s| is_update(s)).count() as u64;
+    all.iter().map(|s| rank_of(updates, *s)).collect(alloc)
 }

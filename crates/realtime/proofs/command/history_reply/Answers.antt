@@ -1,14 +1,26 @@
-use Rattle.std.proofs.Common.{◌≡◌, ◌*◌, length, sym, subst, rules}
+use Rattle.std.proofs.Common.{◌≡◌, ◌*◌, ◌∙◌, List, length, Ok, string_bytes, sym, ap, ap₂, subst}
 use Rattle.text.specs.Lines.{lines_of}
+use Rattle.realtime.specs.declared.histories.Timed.{Timed}
+use Rattle.realtime.specs.Ranks.{ranks_of}
+use Rattle.realtime.specs.Histories.{calls_of}
 use Rattle.realtime.specs.Judging.{AreGood}
-use Rattle.realtime.proofs.Answered.{GoodIn, good_read}
+use Rattle.realtime.proofs.Reading.{good_calls}
 use Rattle.realtime.proofs.command.history_reply.Goals as goal
 
-pub calls_reply-requires-clause-good : goal.calls_reply-requires-clause-good
-calls_reply-requires-clause-good c =
+pub calls_reply-requires : goal.calls_reply-requires
+calls_reply-requires c =
     let ranks = c.deref.result.now in
-    let numbers = c.in-Some.numbers in
-    let long : numbers ≡ 2 * length ranks = search rules in
-    let good = good_read ranks (lines_of c.args.history.now) numbers c.in_ok-calls.field-0 long c.in_ok-calls.ensures.read in
-    let here : AreGood numbers c.in-Good.calls.items = subst (GoodIn numbers) c.in-Good.is good in
-    subst (AreGood numbers) (sym c.deref-in-Good.ensures.value) here
+    let lines = lines_of c.as_str-2.result.now in
+    let all : calls_of ranks lines ≡ Ok c.in-Ok.calls.items = rw c.in-Ok.is at c.in_ok-calls.ensures.read in
+    subst (λ (calls : List Timed). AreGood (2 * length calls) calls) (sym c.deref-in-Ok.ensures.value) (good_calls ranks lines c.in-Ok.calls.items all)
+
+pub returns-in-Ok : goal.returns-in-Ok
+returns-in-Ok c =
+    let texts = c.args.texts.now in
+    let ranks = c.deref.result.now in
+    let ranked : ranks ≡ ranks_of (lines_of (string_bytes texts.file)) =
+    c.deref.ensures.value ∙ c.in_ok-ranks.ensures ∙ ap (λ text. ranks_of (lines_of text)) c.as_str.ensures.value in
+    let all : calls_of ranks (lines_of c.as_str-2.result.now) ≡ Ok c.in-Ok.calls.items = rw c.in-Ok.is at c.in_ok-calls.ensures.read in
+    let whole : calls_of (ranks_of (lines_of (string_bytes texts.file))) (lines_of (string_bytes texts.history)) ≡ Ok c.deref-in-Ok.result.now =
+    sym (ap₂ (λ ranks text. calls_of ranks (lines_of text)) ranked c.as_str-2.ensures.value) ∙ all ∙ ap Ok (sym c.deref-in-Ok.ensures.value) in
+    rw whole c.calls_reply.ensures

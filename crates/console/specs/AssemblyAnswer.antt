@@ -1,0 +1,82 @@
+-- What `asm`, `dis` and `encode` answer, as a function of what was read; and `dis --slots`, where two columns stand before each line: the slot
+-- and the bytes of its instruction.
+use Rattle.std.specs.Prelude.{ℕ, Bool, ◌+◌, min, List, [], ◌∷◌, ◌++◌, length, drop, codes, decimal, Option, Some, None, if◌then◌else◌}
+use Rattle.hex.specs.Hex.{encode_lower}
+use Rattle.insn.specs.declared.instruction.Form.{Form}
+use Rattle.insn.specs.declared.decoding.DecodeRefusal.{DecodeRefusal}
+use Rattle.insn.specs.Encoding.{program_bytes}
+use Rattle.insn.specs.Layout.{slot_count}
+use Rattle.insn.specs.Decoded.{decoded}
+use Rattle.insn.specs.Refusal as decoding
+use Rattle.asm.specs.declared.refusals.AsmRefusal.{AsmRefusal}
+use Rattle.asm.specs.Assembled.{assembled}
+use Rattle.asm.specs.Refusal as assembling
+use Rattle.asm.specs.Text.{text_of}
+use Rattle.text.specs.Digits.{spaced_bytes}
+use Rattle.encoding.specs.declared.faults.EncodeRefusal.{EncodeRefusal}
+use Rattle.encoding.specs.Faults.{wanted_text}
+use Rattle.encoding.specs.Encoded.{encoded_text}
+use Rattle.engine.specs.declared.replies.Verdict.TheVariants as verdicts
+use Rattle.engine.specs.Reading.{TextsRead}
+use Rattle.engine.specs.Answer.{Answer, not_text}
+use Rattle.console.specs.CheckAnswer.{good_or_refused}
+
+-- ---- `asm`
+
+-- a program's bytes in hexadecimal digits with lower-case letters
+abbrev pub hex_text : List Form → List ℕ
+hex_text program = encode_lower (program_bytes program)
+
+-- the first bad line of an assembler text, and what is wrong with it
+abbrev pub asm_refusal_text : AsmRefusal → List ℕ
+asm_refusal_text e = codes "line " ++ (decimal e.line ++ (codes ": A" ++ (decimal (assembling.fault_number e.why) ++ codes "\n")))
+
+-- the program's bytes in one line
+abbrev pub asm_answer : Option TextsRead → Answer
+asm_answer None = not_text
+asm_answer (Some t) = good_or_refused (λ program. hex_text program ++ codes "\n") asm_refusal_text (assembled t.file)
+
+-- ---- `dis`
+
+-- a number at the right of four columns, and two spaces
+abbrev pub slot_column : ℕ → List ℕ
+slot_column n = drop (min (length (decimal n)) 4) (codes "    ") ++ (decimal n ++ codes "  ")
+
+-- the line of an instruction at a slot, as `dis` writes it, behind its columns
+abbrev pub slot_line : ℕ → Form → List ℕ
+slot_line slot i = slot_column slot ++ (hex_text (i ∷ []) ++ (codes "  " ++ text_of (i ∷ [])))
+
+-- the lines of the instructions from this slot on
+unfoldable pub slots_text : ℕ → List Form → List ℕ
+slots_text slot [] = []
+slots_text slot (i ∷ is) = slot_line slot i ++ slots_text (slot + slot_count i) is
+
+-- the lines of `dis`, or of `dis --slots`
+abbrev pub lines_text : Bool → List Form → List ℕ
+lines_text slots program = if slots then slots_text 0 program else text_of program
+
+-- why bytes are no program, and at which slot
+abbrev pub decode_refusal_text : DecodeRefusal → List ℕ
+decode_refusal_text e = codes "D" ++ (decimal (decoding.fault_number e.why) ++ (codes " slot " ++ (decimal e.slot ++ codes "\n")))
+
+-- the program's lines, where the file is pairs of hexadecimal digits
+abbrev pub bytes_answer : Bool → Option (List ℕ) → Answer
+bytes_answer slots None = record { text = codes "bad hex\n"; verdict = verdicts.Refused }
+bytes_answer slots (Some bytes) = good_or_refused (lines_text slots) decode_refusal_text (decoded bytes)
+
+-- what `dis` answers, with slots and bytes or without
+abbrev pub dis_answer : Bool → Option TextsRead → Answer
+dis_answer slots None = not_text
+dis_answer slots (Some t) = bytes_answer slots (spaced_bytes t.file)
+
+-- ---- `encode`
+
+-- the first place that is wrong, and what was to stand there
+abbrev pub encode_refusal_text : EncodeRefusal → List ℕ
+encode_refusal_text e =
+    codes "line " ++ (decimal e.line ++ (codes " column " ++ (decimal e.fault.column ++ (codes ": wanted " ++ (wanted_text e.fault.wanted ++ codes "\n")))))
+
+-- the script
+abbrev pub encode_answer : Option TextsRead → Answer
+encode_answer None = not_text
+encode_answer (Some t) = good_or_refused (λ script. script) encode_refusal_text (encoded_text t.file)

@@ -1,0 +1,143 @@
+// The commands of a manifest: `check`, and `explain` in words or as a graph.
+
+ghost use Rattle.std.specs.Prelude.{◌≡◌, IfOk};
+ghost use Rattle.console.specs.CheckAnswer.{IsExplanation, IsGraph, check_answer};
+ghost use Rattle.engine.specs.Reading.{texts_in};
+ghost use Rattle.engine.specs.Report.{answer_of};
+
+use engine::texts::programs_text;
+use engine::{Command, Folder, Gathered, Loaded, Notes, ReadFault, Reply, Source, Stranger, Verdict, lent, load_texts, not_text};
+use explain::{explain_manifest, explain_stranger, graph_manifest};
+use loader::named_files;
+use std::alloc::{AllocError, Global};
+use std::str;
+
+/// Checks a manifest and the programs that it names.
+///
+/// Answers with a line `NAME ok SLOTS INSTRUCTIONS` for each program, or with the one line of the refusal.
+#[derive(Clone, Copy)]
+pub struct Check;
+
+/// Explains a manifest and the programs that it names to their author.
+///
+/// Answers with what `check` answers, and behind it of each program what the verifier knows before each of its
+/// instructions, and of each line that is bad what is wrong with it and what to do about it. Of a manifest or a file that
+/// is not UTF-8 it answers what that is, and of no program then.
+#[derive(Drop)]
+pub struct Explain<'a, F> {
+    /// The folder of the files that the manifest names: it is told what those are that are not UTF-8.
+    pub folder: &'a F,
+    /// The name of the one program that is explained, where it is not all.
+    pub name: Option<&'a str>,
+}
+
+/// Draws the programs that a manifest names as a graph in the language of Graphviz.
+///
+/// Programs are drawn whether or not they are accepted, and a refusal stands before the graph as a remark.
+#[derive(Clone, Copy)]
+pub struct Draw<'a> {
+    /// The name of the one program that is drawn, where it is not all.
+    pub name: Option<&'a str>,
+}
+
+// What `check` answers to what was read.
+fn checked(alloc: Global, read: &Gathered) -> Result<Reply, AllocError>
+    ensures { IfOk result (λ r. answer_of r ≡ check_answer (texts_in read.now)) }
+{
+    let Ok(texts) = read else {
+        return not_text(alloc);
+    };
+    match load_texts(alloc, texts)? {
+        Loaded::Catalogue(catalogue) => Ok(Reply::good(programs_text(alloc, &catalogue)?)),
+        Loaded::Refused(reply) => Ok(reply),
+    }
+}
+
+impl Command for Check {
+    type Made = Reply;
+
+    ghost may_make = { λ _ t r. answer_of r ≡ check_answer t };
+
+    fn make(&self, alloc: Global, read: Gathered, _notes: &mut Notes) -> Result<Reply, AllocError> {
+        checked(alloc, &read)
+    }
+}
+
+impl<F: Folder> Explain<'_, F> {
+    // Adds what a file is, where it is no text. One that cannot be read is passed over: what `check` answers stands already.
+    fn tell_file(&self, told: &mut Vec<u8>, name: &str) -> Result<(), AllocError> {
+        let alloc = *told.allocator();
+        let Some(mut file) = self.folder.open(name) else {
+            return Ok(());
+        };
+        match file.read_whole(alloc) {
+            Ok(bytes) if str::from_utf8(&bytes).is_err() => {
+                let text = explain_stranger(alloc, name, &bytes)?;
+                told.extend_from_slice(text.as_str().as_bytes())
+            }
+            Ok(_) | Err(ReadFault::CannotRead) => Ok(()),
+            Err(ReadFault::NoMemory) => Err(AllocError),
+        }
+    }
+
+    // What it is that is no text, and what the files are that the manifest names behind it, where they are none either.
+    fn strangers_told(&self, alloc: Global, stranger: &Stranger) -> Result<Vec<u8>, AllocError> {
+        let first = stranger.name.as_str();
+        let mut told = explain_stranger(alloc, first, &stranger.bytes)?.into_bytes();
+        let Some(manifest) = &stranger.manifest else {
+            return Ok(told);
+        };
+        let names = named_files(alloc, manifest.as_str())?;
+        let mut is_behind = false;
+        for name in &names {
+            if *name == first {
+                is_behind = true;
+            } else if is_behind {
+                self.tell_file(&mut told, name)?;
+            }
+        }
+        Ok(told)
+    }
+}
+
+impl<F: Folder> Command for Explain<'_, F> {
+    type Made = Reply;
+
+    ghost may_make = { λ _ t r. IsExplanation (check_answer t) (answer_of r) };
+
+    fn make(&self, alloc: Global, read: Gathered, _notes: &mut Notes) -> Result<Reply, AllocError> {
+        let Reply { mut text, verdict } = checked(alloc, &read)?;
+        let told = match &read {
+            Ok(texts) => {
+                let files = lent(alloc, &texts.files)?;
+                explain_manifest(alloc, texts.manifest.as_str(), &files, self.name)?.into_bytes()
+            }
+            Err(stranger) => self.strangers_told(alloc, stranger)?,
+        };
+        text.extend_from_slice(&told)?;
+        Ok(Reply { text, verdict })
+    }
+}
+
+impl Command for Draw<'_> {
+    type Made = Reply;
+
+    ghost may_make = { λ _ t r. IsGraph t (answer_of r) };
+
+    fn make(&self, alloc: Global, read: Gathered, _notes: &mut Notes) -> Result<Reply, AllocError> {
+        let checked = checked(alloc, &read)?;
+        let Ok(texts) = &read else {
+            return Ok(checked);
+        };
+        let files = lent(alloc, &texts.files)?;
+        let graph = graph_manifest(alloc, texts.manifest.as_str(), &files, self.name)?;
+        let mut text = Vec::new(alloc);
+        if let Verdict::Refused = checked.verdict {
+            text.extend_from_slice(b"// ")?;
+            text.extend_from_slice(&checked.text)?;
+        }
+        text.extend_from_slice(graph.as_str().as_bytes())?;
+        let verdict = checked.verdict;
+        Ok(Reply { text, verdict })
+    }
+}

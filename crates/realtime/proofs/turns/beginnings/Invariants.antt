@@ -1,6 +1,0 @@
-use Rattle.std.proofs.Common.{◌≡◌, length}
-use Rattle.realtime.specs.Judging.{AreBeginnings}
-use Rattle.realtime.proofs.turns.beginnings.Given as goal
-
-abbrev pub invariant-loop-k : goal.invariant-loop-k
-invariant-loop-k l = (length l.begins.items ≡ l.numbers) × AreBeginnings l.calls l.k l.begins.items
