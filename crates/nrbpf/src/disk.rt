@@ -4,7 +4,6 @@ ghost use Rattle.std.specs.Prelude.{IfOk};
 ghost use Rattle.std.specs.Counts.{IsPrefixLen};
 
 use engine::Folder;
-use std::alloc::{AllocError, Global};
 use std::io::{Eprint, Input, Read};
 use std::rt::Files;
 use std::{fs, io};
@@ -15,13 +14,6 @@ pub const DASH: &str = "-";
 /// Says on standard error why something cannot be used.
 pub fn say<R: Eprint>(rt: &R, name: &str, error: &io::Error) {
     let _ = eprintln!(rt; "{name}: {error}");
-}
-
-// A text of its own.
-fn copied(alloc: Global, text: &str) -> Result<String, AllocError> {
-    let mut copy = String::new(alloc);
-    copy.push_str(text)?;
-    Ok(copy)
 }
 
 /// The file system, from the working folder.
@@ -46,7 +38,7 @@ impl<'a, R: Files + AllocGlobal + Eprint> Folder for Disk<'a, R> {
         let rt = self.rt;
         match fs::open(rt, name) {
             Ok(file) => {
-                let name = copied(rt.alloc(), name).ok();
+                let name = String::from_str(rt.alloc(), name).ok();
                 Some(NamedFile { rt, name, file })
             }
             Err(error) => {
@@ -94,10 +86,7 @@ impl<'a, R: Files + Input + Eprint> LateFile<'a, R> {
 
     /// The file of this path, if there is one.
     pub fn of(rt: &'a R, path: Option<&'a str>) -> Option<LateFile<'a, R>> {
-        match path {
-            Some(path) => Some(LateFile::new(rt, path)),
-            None => None,
-        }
+        path.map(|path| LateFile::new(rt, path))
     }
 
     // The file, opened.

@@ -1,8 +1,7 @@
-// Where a command writes.
+// Where a command writes: standard output, standard error and files.
 
-use crate::disk::say;
-use console::{Assemble, Encode};
-use engine::{Command, Folder, Inputs, Notes, ReadFault, Reply, Sink, Source, Status, Telling, Verdict, gather, prepare, report};
+use crate::disk::{DASH, say};
+use engine::{ReadFault, Reply, Sink, Status, report};
 use std::alloc::{AllocError, Global};
 use std::io::{Eprint, ErrorKind, Write};
 use std::rt::Files;
@@ -20,10 +19,11 @@ pub struct Output<'a, R: Eprint, W: Write + Drop> {
 impl<'a, R: Eprint, W: Write + Drop> Output<'a, R, W> {
     /// What is written goes to this writer.
     pub fn new(rt: &'a R, writer: W) -> Output<'a, R, W> {
+        let is_closed = false;
         Output {
             rt,
             writer,
-            is_closed: false,
+            is_closed,
         }
     }
 }
@@ -46,126 +46,84 @@ impl<R: Eprint, W: Write + Drop> Write for Output<'_, R, W> {
     }
 }
 
-// The path of the file that becomes the one of this path.
-pub(crate) fn part_of(alloc: Global, path: &str) -> Result<String, AllocError> {
-    let mut part = String::new(alloc);
-    part.push_str(path)?;
-    part.push_str(".part")?;
-    Ok(part)
+/// A text that is put into the file of a path, where all was well before.
+#[derive(Drop)]
+pub struct Later<'a> {
+    path: &'a str,
+    // The path of the file that becomes the one of the path.
+    part: String,
+    text: Vec<u8>,
 }
 
-// Writes a file beside that of the path, and puts it in its place.
-fn replace<R: Files>(rt: &R, path: &str, part: &str, text: &[u8]) -> io::Result<()> {
-    let mut file = fs::create(rt, part)?;
-    let written = match file.write_all(text) {
-        Ok(()) => fs::rename(rt, part, path),
-        Err(error) => Err(error),
-    };
-    if written.is_err() {
-        let _ = fs::remove_file(rt, part);
+impl<'a> Later<'a> {
+    /// This text for the file of this path.
+    pub fn new(alloc: Global, path: &'a str, text: Vec<u8>) -> Result<Later<'a>, AllocError> {
+        let part = format!(in alloc; "{path}.part")?;
+        Ok(Later { path, part, text })
     }
-    written
-}
 
-// Whether what has this path is no plain file: a link, a device, a pipe.
-fn is_special<R: Files>(rt: &R, path: &str) -> bool {
-    match fs::symlink_metadata(rt, path) {
-        Ok(found) => !found.is_file(),
-        Err(_) => false,
+    // Writes a file beside that of the path, and puts it in its place.
+    fn replace<R: Files>(&self, rt: &R) -> io::Result<()> {
+        let part = self.part.as_str();
+        let mut file = fs::create(rt, part)?;
+        let written = match file.write_all(&self.text) {
+            Ok(()) => fs::rename(rt, part, self.path),
+            Err(error) => Err(error),
+        };
+        if written.is_err() {
+            let _ = fs::remove_file(rt, part);
+        }
+        written
     }
-}
 
-// Puts a text where the path is: a plain file is replaced whole, or stays as it was.
-pub(crate) fn save<R: Files + Eprint>(rt: &R, path: &str, part: &str, text: &[u8]) -> Status {
-    let saved = if is_special(rt, path) {
-        fs::write(rt, path, text)
-    } else {
-        replace(rt, path, part, text)
-    };
-    match saved {
-        Ok(()) => Status::Good,
-        Err(error) => {
-            say(rt, path, &error);
+    // Puts it where the path is: a plain file is replaced whole, or stays as it was. What is no plain file is a link, a device or a pipe.
+    fn save<R: Files>(&self, rt: &R) -> io::Result<()> {
+        match fs::symlink_metadata(rt, self.path) {
+            Ok(found) if !found.is_file() => fs::write(rt, self.path, &self.text),
+            _ => self.replace(rt),
+        }
+    }
+
+    /// Puts it where it belongs: the path `-` is standard output.
+    pub fn put<R: Files + Eprint, W: Sink>(&self, rt: &R, writer: &mut W) -> Status {
+        let is_put = if self.path == DASH {
+            writer.send(&self.text).is_ok()
+        } else {
+            let saved = self.save(rt);
+            if let Err(error) = &saved {
+                say(rt, self.path, error);
+            }
+            saved.is_ok()
+        };
+        if is_put {
+            Status::Good
+        } else {
             Status::CannotWrite
         }
     }
 }
 
-// Says that no memory is left.
-pub(crate) fn no_memory<W: Sink>(writer: &mut W) -> Status {
-    let made: Result<Reply, ReadFault> = Err(ReadFault::NoMemory);
-    report(writer, &made)
-}
-
-// Puts what was assembled into the file of a path. A refusal goes to the writer, and the file stays as it was.
-fn put_assembled<R: Files + AllocGlobal + Eprint, W: Sink>(
+/// Puts a text where it belongs, if there is one and all is well so far.
+pub fn put_behind<R: Files + Eprint, W: Sink>(
     rt: &R,
-    path: &str,
-    made: &Result<Reply, ReadFault>,
+    status: Status,
+    later: &Option<Later<'_>>,
     writer: &mut W,
 ) -> Status {
-    match made {
-        Ok(
-            Reply {
-                text,
-                verdict: Verdict::Good,
-            },
-        ) => match part_of(rt.alloc(), path) {
-            Ok(part) => save(rt, path, part.as_str(), text),
-            Err(_) => no_memory(writer),
-        },
-        _ => report(writer, made),
+    match later {
+        Some(later) if status == Status::Good => later.put(rt, writer),
+        _ => status,
     }
 }
 
-/// Assembles a text, into the file of a path if there is one, and says on standard error what is to be told of it. A
-/// refusal goes to the writer, and the file stays as it was.
-pub fn assemble<R: Files + AllocGlobal + Eprint, F: Folder, I: Source + Drop, W: Sink>(
-    rt: &R,
-    path: Option<&str>,
-    telling: Telling,
-    inputs: &mut Inputs<'_, F, I>,
-    writer: &mut W,
-) -> Status {
-    let mut notes = Notes::new(rt.alloc(), telling);
-    let made = prepare(rt.alloc(), &Assemble, inputs, &mut notes);
-    let status = match path {
-        Some(path) => put_assembled(rt, path, &made, writer),
-        None => report(writer, &made),
-    };
-    say_text(rt, notes.text);
-    status
+/// Says that no memory is left.
+pub fn no_memory<W: Sink>(writer: &mut W) -> Status {
+    report(writer, &Err::<Reply, ReadFault>(ReadFault::NoMemory))
 }
 
 /// Says a text on standard error.
 pub fn say_text<R: Eprint>(rt: &R, text: Vec<u8>) {
     if let Ok(text) = String::from_utf8(text) {
         let _ = eprint!(rt; "{text}");
-    }
-}
-
-/// Writes the script of a text of calls. A refusal is said on standard error, so that no script holds it; that a text is
-/// not UTF-8 is written.
-pub fn encode_or_say<R: AllocGlobal + Eprint, F: Folder, I: Source + Drop, W: Sink>(
-    rt: &R,
-    inputs: &mut Inputs<'_, F, I>,
-    writer: &mut W,
-) -> Status {
-    let alloc = rt.alloc();
-    let read = match gather(alloc, inputs) {
-        Ok(read) => read,
-        Err(ReadFault::NoMemory) => return no_memory(writer),
-        Err(ReadFault::CannotRead) => return Status::CannotRead,
-    };
-    let is_text = read.is_ok();
-    let Ok(reply) = Encode.make(alloc, read, &mut Notes::none(alloc)) else {
-        return no_memory(writer);
-    };
-    match reply.verdict {
-        Verdict::Refused if is_text => {
-            say_text(rt, reply.text);
-            Status::Refused
-        }
-        _ => report(writer, &Ok(reply)),
     }
 }

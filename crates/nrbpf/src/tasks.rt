@@ -4,69 +4,66 @@ use crate::disk::DASH;
 use clap::ArgMatches;
 use console::Disassemble;
 use engine::Telling;
-use oplog::Config;
+use loader::MAX_PLACES;
+use oplog::{Config, MAX_LIMIT, MAX_NODE_SLOTS, MAX_NODES, MAX_WINDOW, MIN_WINDOW};
 use running::Run;
-
-/// What `stress` writes beside a transcript.
-#[derive(Clone, Copy)]
-pub struct Beside<'a> {
-    /// The path of the file for the state that it leaves.
-    pub dump: Option<&'a str>,
-    /// The path of the file for the times of its calls.
-    pub history: Option<&'a str>,
-    /// Whether it says on standard error how many calls there were, and how long they took.
-    pub has_stats: bool,
-}
+use std::io::Eprint;
 
 /// What is to be done.
 #[derive(Clone, Copy)]
 pub enum Task<'a> {
     /// Check a manifest.
     Check,
-    /// Explain the programs of a manifest, or the one of this name, or draw them.
-    Explain {
-        name: Option<&'a str>,
-        is_drawn: bool,
-    },
-    /// Assemble a text, into the file of this path if there is one, and tell this of it.
-    Assemble(Option<&'a str>, Telling),
+    /// Explain the programs of a manifest, or the one of this name.
+    Explain(Option<&'a str>),
+    /// Draw them.
+    Draw(Option<&'a str>),
+    /// Assemble a text.
+    Assemble,
     /// Disassemble a program file, with slots and bytes or without.
     Disassemble(Disassemble),
     /// Write the script of a text of calls.
     Encode,
-    /// Run a script, and keep the state that it leaves in the file of this path if there is one.
-    Run(Run, Option<&'a str>),
-    /// Replay a transcript, with so many places behind the programs, and tell this of it.
-    Replay(u32, Telling),
-    /// Take a list of steps on a store of these sizes, and tell this of it.
-    Schedule(Config, Telling),
-    /// Answer lines as they come in, with so many places behind the programs, and keep the state that they leave in the file of this path if
-    /// there is one.
-    Serve(u32, Option<&'a str>),
-    /// Make the calls of a script on threads, on a store of these sizes, and write this beside the transcript.
-    Stress(Config, Beside<'a>),
+    /// Run a script.
+    Run(Run),
+    /// Replay a transcript, with so many places behind the programs.
+    Replay(u32),
+    /// Take a list of steps on a store of these sizes.
+    Schedule(Config),
+    /// Answer lines as they come in, with so many places behind the programs.
+    Serve(u32),
+    /// Make the calls of a script on threads, on a store of these sizes.
+    Stress(Config),
 }
 
-/// What is asked for, and the paths of what it reads.
+/// What is asked for, and the paths of what it reads and writes.
 #[derive(Clone, Copy)]
 pub struct Call<'a> {
     /// What is to be done.
     pub task: Task<'a>,
+    /// What is told of it on standard error beside its answer.
+    pub telling: Telling,
+    /// Whether it is said there how many calls there were, and how long they took.
+    pub has_stats: bool,
     /// The manifest.
     pub manifest: Option<&'a str>,
     /// The script, the transcript, or what else the task is about.
     pub file: Option<&'a str>,
     /// The state to begin with.
     pub state: Option<&'a str>,
-    /// The times of calls.
+    /// The times of calls to be judged.
     pub history: Option<&'a str>,
+    /// The file for the program that is assembled, or for the state that is left.
+    pub output: Option<&'a str>,
+    /// The file for the times of the calls that are made.
+    pub times: Option<&'a str>,
 }
 
 impl<'a> Call<'a> {
     /// Whether two files are standard input, which can be read once, and which `serve` reads besides.
     pub fn reads_twice(&self) -> bool {
         let lines = match self.task {
-            Task::Serve(..) => Some(DASH),
+            Task::Serve(_) => Some(DASH),
             _ => None,
         };
         let paths = [self.manifest, self.file, self.state, self.history, lines];
@@ -86,29 +83,14 @@ fn config_of(matches: &ArgMatches) -> Option<Config> {
     })
 }
 
-// The path of the file to assemble into: none for standard output.
-fn output<'a>(matches: &ArgMatches<'a>) -> Option<&'a str> {
-    match matches.get_str("output") {
-        Some(path) if path != DASH => Some(path),
-        _ => None,
-    }
-}
-
-// What is told of a run beside its answer.
-fn telling(matches: &ArgMatches) -> Telling {
-    if matches.get_flag("explain") {
+// What is told beside the answer.
+fn telling_of(matches: &ArgMatches) -> Telling {
+    if matches.get_flag("lanes") {
+        Telling::Lanes
+    } else if matches.get_flag("explain") {
         Telling::Reasons
     } else {
         Telling::Nothing
-    }
-}
-
-// What is told of a list of steps beside its answer.
-fn telling_of_steps(matches: &ArgMatches) -> Telling {
-    if matches.get_flag("lanes") {
-        Telling::Lanes
-    } else {
-        telling(matches)
     }
 }
 
@@ -116,11 +98,9 @@ fn telling_of_steps(matches: &ArgMatches) -> Telling {
 fn task_of<'a>(name: &str, matches: &ArgMatches<'a>) -> Option<Task<'a>> {
     Some(match name {
         "check" => Task::Check,
-        "explain" => Task::Explain {
-            name: matches.get_str("NAME"),
-            is_drawn: matches.get_flag("graph"),
-        },
-        "asm" => Task::Assemble(output(matches), telling(matches)),
+        "explain" if matches.get_flag("graph") => Task::Draw(matches.get_str("NAME")),
+        "explain" => Task::Explain(matches.get_str("NAME")),
+        "asm" => Task::Assemble,
         "dis" => {
             let has_slots = matches.get_flag("slots-and-bytes");
             Task::Disassemble(Disassemble { has_slots })
@@ -128,41 +108,52 @@ fn task_of<'a>(name: &str, matches: &ArgMatches<'a>) -> Option<Task<'a>> {
         "encode" => Task::Encode,
         "run" => {
             let is_signed = matches.get_flag("signed");
-            Task::Run(Run { is_signed }, matches.get_str("dump"))
+            Task::Run(Run { is_signed })
         }
-        "replay" => Task::Replay(matches.get_one("spare")?, telling(matches)),
-        "schedule" => Task::Schedule(config_of(matches)?, telling_of_steps(matches)),
-        "serve" => Task::Serve(matches.get_one("spare")?, matches.get_str("dump")),
-        "stress" => {
-            let beside = Beside {
-                dump: matches.get_str("dump"),
-                history: matches.get_str("history"),
-                has_stats: matches.get_flag("stats"),
-            };
-            Task::Stress(config_of(matches)?, beside)
-        }
+        "replay" => Task::Replay(matches.get_one("spare")?),
+        "schedule" => Task::Schedule(config_of(matches)?),
+        "serve" => Task::Serve(matches.get_one("spare")?),
+        "stress" => Task::Stress(config_of(matches)?),
         _ => return None,
-    })
-}
-
-// The call of a command with these arguments. `stress` writes the times of calls, and does not read them.
-fn call_of<'a>(name: &str, matches: &ArgMatches<'a>) -> Option<Call<'a>> {
-    let task = task_of(name, matches)?;
-    let history = match task {
-        Task::Replay(..) => matches.get_str("history"),
-        _ => None,
-    };
-    Some(Call {
-        task,
-        manifest: matches.get_str("MANIFEST"),
-        file: matches.get_str("FILE"),
-        state: matches.get_str("load"),
-        history,
     })
 }
 
 /// The call that a command line asks for, if it names a command.
 pub fn named_call<'a>(matches: &ArgMatches<'a>) -> Option<Call<'a>> {
     let (name, inner) = matches.subcommand()?;
-    call_of(name, inner)
+    Some(Call {
+        task: task_of(name, inner)?,
+        telling: telling_of(inner),
+        has_stats: inner.get_flag("stats"),
+        manifest: inner.get_str("MANIFEST"),
+        file: inner.get_str("FILE"),
+        state: inner.get_str("load"),
+        history: inner.get_str("history"),
+        output: inner.get_str("output"),
+        times: inner.get_str("times"),
+    })
+}
+
+// Says on standard error of one size that it is out of its limits, where it is.
+fn say_size<R: Eprint>(rt: &R, name: &str, size: u32, least: u32, most: u32) {
+    if size < least || most < size {
+        let _ = eprintln!(rt; "--{name} {size}: {least} to {most}");
+    }
+}
+
+/// Says on standard error which sizes of the store of a task are out of their limits.
+pub fn say_sizes<R: Eprint>(rt: &R, task: Task<'_>) {
+    let spare = match task {
+        Task::Schedule(config) | Task::Stress(config) => {
+            let (least, most) = (MIN_WINDOW as u32, MAX_WINDOW as u32);
+            say_size(rt, "nodes", config.nodes, 1, MAX_NODES);
+            say_size(rt, "slots", config.slots, 1, MAX_NODE_SLOTS);
+            say_size(rt, "window", config.window, least, most);
+            say_size(rt, "limit", config.limit, 1, MAX_LIMIT as u32);
+            config.spare
+        }
+        Task::Replay(spare) | Task::Serve(spare) => spare,
+        _ => return,
+    };
+    say_size(rt, "spare", spare, 0, MAX_PLACES as u32);
 }
