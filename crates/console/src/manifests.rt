@@ -6,7 +6,10 @@ ghost use Rattle.engine.specs.Reading.{texts_in};
 ghost use Rattle.engine.specs.Report.{answer_of};
 
 use engine::texts::programs_text;
-use engine::{Command, Folder, Gathered, Loaded, Notes, ReadFault, Reply, Source, Stranger, Verdict, lent, load_texts, not_text};
+use engine::{
+    Command, Folder, Gathered, Loaded, Notes, ReadFault, Reply, Source, Stranger, Verdict, lent,
+    load_texts, not_text,
+};
 use explain::{explain_manifest, explain_stranger, graph_manifest};
 use loader::named_files;
 use std::alloc::{AllocError, Global};

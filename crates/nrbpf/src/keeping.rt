@@ -6,7 +6,9 @@ use crate::tasks::Call;
 use console::{Assemble, Encode};
 use dumps::dump;
 use engine::texts::not_text;
-use engine::{Folder, Inputs, Notes, ReadFault, Reply, Sink, Source, Status, Verdict, prepare, report};
+use engine::{
+    Folder, Inputs, Notes, ReadFault, Reply, Sink, Source, Status, Verdict, prepare, report,
+};
 use loader::StoreState;
 use oplog::Config;
 use running::Run;

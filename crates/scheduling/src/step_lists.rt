@@ -11,7 +11,9 @@ ghost use Rattle.scheduling.specs.Scheduling.{AnswersSteps, IsStepOf, TakesStepL
 use crate::lanes::{Taken, reason_of, tell_step};
 use combiner::Reply as Back;
 use engine::texts::{put_numbered, put_pair};
-use engine::{Command, Gathered, Loaded, Notes, Reply, Texts, Verdict, load_texts, not_text, sizes_refused};
+use engine::{
+    Command, Gathered, Loaded, Notes, Reply, Texts, Verdict, load_texts, not_text, sizes_refused,
+};
 use loader::Catalogue;
 use oplog::{Config, OpenError};
 use running::put_bad_line;

@@ -17,7 +17,7 @@ returns-clause-served g c = λ on such.
     let new = g.W.Sink.contents c.report.new.writer in
     let wrote = λ (made : Result Reply ReadFault) (is : c.match-opened.instead ≡ made). subst (λ (m : Result Reply ReadFault). Writes answer_of old new c.report.result m) is c.report.ensures.written in
     elim c.match-opened.branch [
-      in-Ok-Refused w ↦ in_place given old new c.report.result c.without_state.result c.without_state.ensures w.in-Ok-Refused.reply on (wrote (Ok w.in-Ok-Refused.reply) w.instead-is)
+      | in-Ok-Refused w ↦ in_place given old new c.report.result c.without_state.result c.without_state.ensures w.in-Ok-Refused.reply on (wrote (Ok w.in-Ok-Refused.reply) w.instead-is)
           (subst (λ o. IfOk o (λ x. on_which x ≡ on)) (w.in-Ok-Refused.is ∙ ap (λ (o : Opened). Ok o) w.in-Ok-Refused.field-0-is) such)
-    | in-Err w ↦ unopened given old new c.report.result c.without_state.result c.without_state.ensures on w.in-Err.fault (wrote _ w.instead-is)
+      | in-Err w ↦ unopened given old new c.report.result c.without_state.result c.without_state.ensures on w.in-Err.fault (wrote _ w.instead-is)
     ]
