@@ -4,7 +4,8 @@ use mathlib.Core.Option.{some-injective}
 use native.Mathlib.Decide.{ℕ_discrete}
 use native.Mathlib.Nat.{not-suc-le-zero, le_of_suc-le-suc}
 use Rattle.std.proofs.lemmas.List.{map_push}
-use Rattle.std.specs.Prelude.{Result, Ok, Err, IfOk, MatchResult}
+use Rattle.std.specs.Prelude.{Result, Ok, Err, IfOk, MatchResult, Vec}
+use Rattle.std.specs.Result.{result_ok}
 use Rattle.std.specs.List.Sorted.{IsPermutation}
 use Rattle.std.proofs.lemmas.List.Elements.{All-nil, All-append, All-push, All-weaker}
 use Rattle.std.proofs.lemmas.List.Sums.{sum_by-append, sum_by_push}
@@ -28,7 +29,8 @@ use Rattle.accounts.proofs.Tellings.{reply_on, read_on}
 use Rattle.combiner.specs.declared.slots.Reply.TheVariants.{Placed, Ended}
 use Rattle.readpath.specs.declared.reading.ReadAnswer.{ReadAnswer}
 use Rattle.store.specs.declared.answers.Answer.{Answer}
-use Rattle.store.specs.Opening.{ClosedView, IsClosed, last_state}
+use Rattle.store.specs.Opening.{AreOf, ClosedView, IsClosed, last_state}
+use Rattle.store.proofs.EachSession.{all_of_at}
 use Rattle.replica.specs.declared.refusals.StoreRefused.{StoreRefused}
 use Rattle.store_steps.specs.Views.{SessionView, request_of}
 use Rattle.store.specs.Sessions.{StoreView, TellsUpdate, fresh_session, fresh_sessions}
@@ -39,7 +41,7 @@ use Rattle.stress.specs.declared.lines.Said.TheVariants as told
 use Rattle.stress.specs.Lines as lines
 use Rattle.stress.specs.Lines.{ToldCall, AreSteady}
 use Rattle.stress.specs.OneHistory.{Asks, Holds, IsSo, IsOfOneHistory, is_at, lines_at}
-use Rattle.stress.specs.Playing.{IsSoIn, AreShown, HasAnswered, IsBefore, IsTold, IsNoted, IsAsked, AreToldIn, AreTold, AreNumbered, EndsIn, update_said}
+use Rattle.stress.specs.Playing.{IsSoIn, AreNew, AreShown, HasAnswered, IsBefore, IsNew, IsTold, IsNoted, IsAsked, AreToldIn, AreTold, AreNumbered, EndsIn, update_said}
 use Rattle.stress.specs.Runs.{state_behind}
 use Rattle.stress.specs.Shown.{called, said_of, told_of}
 use Rattle.stress.proofs.Numbered.{is_numbered, one_index}
@@ -404,3 +406,15 @@ in_order c limit state xs ys same h ends = (
   },
   ends,
 )
+
+-- where a store was opened, and memory is left, its sessions are new
+pub new_sessions : {X E F : Type 0} (n : ℕ) (opened : Result (StoreView × Vec SessionView X) E) (result : Result (StoreView × Vec SessionView X) F) → result_ok result ≡ result_ok opened
+    → IfOk opened (λ t. t.1.items ≡ fresh_sessions t.0.id t.0.config t.0.catalogue 0 n) → IfOk opened (λ t. length t.1.items ≡ n) → IfOk opened (λ t. AreOf t.0 t.1.items)
+    → IfOk result (λ t. AreNew t.0 n t.1.items)
+new_sessions n opened (Err f) same fresh count each = tt
+new_sessions n (Err e) (Ok t) same fresh count each = absurd (let never : ⊥ = cc in never)
+new_sessions n (Ok u) (Ok t) same fresh count each =
+    let sessions = u.1.items in
+    let one : u ≡ t = cc in
+    subst (λ z. AreNew z.0 n z.1.items) one
+    (count, all_of_at (IsNew u.0) sessions (λ k s at. (each k s at, noted_none _ _ _ 0 _ sessions fresh k s at)), numbered_fresh _ _ _ _ sessions fresh)

@@ -122,7 +122,7 @@ impl<'a, R: Threads + Wait + Sync, G: Gate + Sync, C: Clock + Sync> Stress<'a, R
     }
 
     // What texts give back.
-    #[tactic(auto, using(engine::proofs::Openings::opens_on, engine::proofs::Openings::fits_on, crate::proofs::Sizes::config_opened, crate::proofs::Sizes::places_opened))]
+    #[tactic(auto, using(engine::proofs::Openings::opens_on, engine::proofs::Openings::fits_on))]
     fn texts_run(&self, alloc: Global, texts: &Texts) -> Result<Stressed, AllocError>
         ensures { IfOk result (MayMake self.now (Some (texts_read texts.now))) }
     {
