@@ -8,6 +8,7 @@ ghost use Rattle.engine.specs.Report.{answer_of};
 ghost use Rattle.engine.specs.Sizes.{sizes_refused};
 ghost use Rattle.engine.specs.Status.{code_of, complaint_of, status_of};
 
+use crate::texts;
 use std::alloc::{AllocError, Global};
 
 /// How a command ended.
@@ -141,7 +142,7 @@ fn refusal(alloc: Global, words: &[u8]) -> Result<Reply, AllocError>
 pub fn not_text(alloc: Global) -> Result<Reply, AllocError>
     ensures { IfOk result (λ r. answer_of r ≡ not_text) }
 {
-    refusal(alloc, b"not UTF-8\n")
+    refusal(alloc, texts::not_text())
 }
 
 /// What is answered where the sizes of a store are out of their limits.

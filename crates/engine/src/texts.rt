@@ -1,13 +1,20 @@
 // What the commands write.
 
 ghost use Rattle.std.specs.Prelude.{◌≡◌, ◌++◌, OnOk, IfOk, codes, decimal, slice_get};
-ghost use Rattle.engine.specs.Texts.{program_line, line_if_any, programs_text, decode_text, verify_text, fault_text, refusal_text, no_memory_line};
+ghost use Rattle.engine.specs.Texts.{program_line, line_if_any, programs_text, decode_text, verify_text, fault_text, refusal_text, not_text_line, no_memory_line};
 
 use insn::DecodeRefusal;
 use itoa::Buffer;
 use loader::{Catalogue, LoadFault, LoadRefusal};
 use std::alloc::{AllocError, Global};
 use verifier::{Accepted, Refused};
+
+/// Some file is not UTF-8.
+pub fn not_text() -> &'static [u8]
+    ensures { result.now ≡ not_text_line }
+{
+    b"not UTF-8\n"
+}
 
 /// Memory ran out.
 pub fn no_memory() -> &'static [u8]
