@@ -102,7 +102,7 @@ fn put_end(out: &mut Vec<u8>, world: &World) -> Result<(), AllocError>
     put_pair(out, b" tail ", log.tail(), b" done ", log.done())?;
     for number in 0..world.config().nodes {
         let Some(replica) = world.replica(number) else {
-            return Ok(());
+            unreachable!();
         };
         put_pair(out, b"node ", number as u64, b" tail ", replica.tail())?;
     }
@@ -137,22 +137,19 @@ impl Stepping {
         let Some(step) = step_of(alloc, world.catalogue(), line)? else {
             return Ok(true);
         };
-        let step = &step;
-        let reason = reason_of(notes, world, step);
-        let answer = world.step(step);
+        let reason = reason_of(notes, world, &step);
+        let answer = world.step(&step);
         put_step(text, answer)?;
-        tell_step(
-            notes,
-            world,
-            &Taken {
-                number,
-                step,
-                answer,
-                reason,
-            },
-        )?;
+        let taken = Taken {
+            number,
+            step: &step,
+            answer,
+            reason,
+        };
+        tell_step(notes, world, &taken)?;
         Ok(true)
     }
+
     // Takes the steps of a list up to the first bad line, or writes where the store is at the end, and tells whether
     // the list is good.
     #[tactic(auto, using(engine::proofs::Quiet::quiet_on))]
