@@ -4,14 +4,15 @@ use Rattle.std.specs.Prelude.{IfOk}
 use Rattle.text.specs.Lines.{lines_of}
 use Rattle.engine.specs.declared.replies.Verdict.TheVariants as verdicts
 use Rattle.engine.specs.Answer.{Answer}
+use Rattle.realtime.specs.declared.histories.Timed.{Timed}
 use Rattle.realtime.specs.Histories.{calls_of}
 use Rattle.realtime.specs.Ranks.{ranks_of}
 use Rattle.realtime.specs.TimedAnswer.{history_answer, timed}
 
--- where the transcript is good
-pub timed_good : (answer : Answer) (transcript history : List ℕ) → answer.verdict ≡ verdicts.Good
-    → history_answer answer (calls_of (ranks_of (lines_of transcript)) (lines_of history)) ≡ timed answer transcript history
-timed_good answer transcript history good = rw good refl
+-- where the transcript is good, and this is read of the history
+pub timed_by : (answer : Answer) (transcript history : List ℕ) (read : Result (List Timed) ℕ) → answer.verdict ≡ verdicts.Good
+    → calls_of (ranks_of (lines_of transcript)) (lines_of history) ≡ read → history_answer answer read ≡ timed answer transcript history
+timed_by answer transcript history read good is = rw (good, is) refl
 
 pub if_ok : {X E : Type 0} (r : Result X E) (P Q : X → Type 0) → ((x : X) → P x → Q x) → IfOk r P → IfOk r Q
 if_ok (Ok x) P Q f p = f x p

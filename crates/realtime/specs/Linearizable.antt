@@ -45,7 +45,7 @@ told_by c (Installed a) = option_map (call_told Update (answer_told Update a.ind
 told_by c (Ended call) = option_map (call_told Update (Updated replies.Ended)) (operation_of c Update call)
 told_by c (EndedInstall new) = option_map (call_told Update (Updated replies.Ended)) (install_of c new)
 
--- of all lines that are calls, in their order
+-- what the lines tell that are calls, in their order
 abbrev pub calls_told : CatalogueView → List (List ℕ) → List Told
 calls_told c lines = filter_map (λ line. option_and_then (told_by c) (transcript_line_meaning line)) lines
 

@@ -14,7 +14,7 @@ standing_of (Installed a) = Some (stands.At modes.Update a.index)
 standing_of (Ended call) = Some stands.Ended
 standing_of (EndedInstall program) = Some stands.Ended
 
--- of all lines that are calls, in their order
+-- where the lines stand that are calls, in their order
 abbrev pub standings_of : List (List ℕ) → List Standing
 standings_of lines = filter_map (λ line. option_and_then standing_of (transcript_line_meaning line)) lines
 

@@ -1,13 +1,11 @@
 // A transcript replayed, and its history judged.
 
 ghost use Rattle.std.specs.Prelude.{◌≡◌, ◌*◌, ◌++◌, length, codes, decimal, IfOk};
-ghost use Rattle.text.specs.Lines.{lines_of};
+ghost use Rattle.engine.specs.declared.replies.Verdict.TheVariants as verdicts;
 ghost use Rattle.engine.specs.Reading.{texts_read};
 ghost use Rattle.engine.specs.Report.{answer_of};
-ghost use Rattle.realtime.specs.Ranks.{ranks_of};
-ghost use Rattle.realtime.specs.Histories.{calls_of};
 ghost use Rattle.realtime.specs.Judging.{AreGood};
-ghost use Rattle.realtime.specs.TimedAnswer.{calls_answer, history_answer, timed_answer};
+ghost use Rattle.realtime.specs.TimedAnswer.{calls_answer, timed, timed_answer};
 
 use crate::histories::{Timed, read_history};
 use crate::orders::{beginnings, first_misplaced, first_out_of_turn};
@@ -49,9 +47,10 @@ fn calls_reply(alloc: Global, reply: Reply, calls: &[Timed]) -> Result<Reply, Al
     Ok(reply)
 }
 
-// What is answered to the history of a transcript that is answered so.
+// What is answered to all that was read, where the transcript is good and answered so.
 fn history_reply(alloc: Global, reply: Reply, texts: &Texts) -> Result<Reply, AllocError>
-    ensures { let t = texts_read texts.now in IfOk result (λ r. answer_of r ≡ history_answer (answer_of reply) (calls_of (ranks_of (lines_of t.file)) (lines_of t.history))) }
+    requires { reply.verdict ≡ verdicts.Good }
+    ensures { let t = texts_read texts.now in IfOk result (λ r. answer_of r ≡ timed (answer_of reply) t.file t.history) }
 {
     let ranks = ranks(alloc, texts.file.as_str())?;
     match read_history(alloc, &ranks, texts.history.as_str())? {

@@ -89,7 +89,7 @@ pub(crate) fn read_history(
     ranks: &[u128],
     history: &str,
 ) -> Result<History, AllocError>
-    ensures read { IfOk result (λ h. MatchResult h (λ v. calls_of ranks.now (lines_of history.now) ≡ Ok v.items) (λ n. calls_of ranks.now (lines_of history.now) ≡ Err n)) }
+    ensures read { let all = calls_of ranks.now (lines_of history.now) in IfOk result (λ h. MatchResult h (λ v. all ≡ Ok v.items) (λ n. all ≡ Err n)) }
 {
     let calls = Vec::new(alloc);
     let used = vec![in alloc; false; 2 * ranks.len()]?;

@@ -1,9 +1,12 @@
 use Rattle.std.proofs.Common.{◌≡◌, ◌*◌, ◌∙◌, List, length, Ok, string_bytes, sym, ap, ap₂, subst}
 use Rattle.text.specs.Lines.{lines_of}
+use Rattle.engine.specs.Report.{answer_of}
 use Rattle.realtime.specs.declared.histories.Timed.{Timed}
 use Rattle.realtime.specs.Ranks.{ranks_of}
 use Rattle.realtime.specs.Histories.{calls_of}
 use Rattle.realtime.specs.Judging.{AreGood}
+use Rattle.realtime.specs.TimedAnswer.{calls_answer, timed}
+use Rattle.realtime.proofs.Answered.{timed_by, if_ok}
 use Rattle.realtime.proofs.Reading.{good_calls}
 use Rattle.realtime.proofs.command.history_reply.Goals as goal
 
@@ -16,11 +19,14 @@ calls_reply-requires c =
 
 pub returns-in-Ok : goal.returns-in-Ok
 returns-in-Ok c =
+    let answer = answer_of c.args.reply in
     let texts = c.args.texts.now in
+    let transcript = string_bytes texts.file in
+    let history = string_bytes texts.history in
     let ranks = c.deref.result.now in
-    let ranked : ranks ≡ ranks_of (lines_of (string_bytes texts.file)) =
-    c.deref.ensures.value ∙ c.in_ok-ranks.ensures ∙ ap (λ text. ranks_of (lines_of text)) c.as_str.ensures.value in
+    let ranked : ranks ≡ ranks_of (lines_of transcript) = c.deref.ensures.value ∙ c.in_ok-ranks.ensures ∙ ap (λ text. ranks_of (lines_of text)) c.as_str.ensures.value in
     let all : calls_of ranks (lines_of c.as_str-2.result.now) ≡ Ok c.in-Ok.calls.items = rw c.in-Ok.is at c.in_ok-calls.ensures.read in
-    let whole : calls_of (ranks_of (lines_of (string_bytes texts.file))) (lines_of (string_bytes texts.history)) ≡ Ok c.deref-in-Ok.result.now =
+    let whole : calls_of (ranks_of (lines_of transcript)) (lines_of history) ≡ Ok c.deref-in-Ok.result.now =
     sym (ap₂ (λ ranks text. calls_of ranks (lines_of text)) ranked c.as_str-2.ensures.value) ∙ all ∙ ap Ok (sym c.deref-in-Ok.ensures.value) in
-    rw whole c.calls_reply.ensures
+    if_ok c.calls_reply.result (λ r. answer_of r ≡ calls_answer answer c.deref-in-Ok.result.now) (λ r. answer_of r ≡ timed answer transcript history)
+    (λ r same. same ∙ timed_by answer transcript history _ c.requires whole) c.calls_reply.ensures
