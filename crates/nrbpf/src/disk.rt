@@ -86,7 +86,10 @@ impl<'a, R: Files + Input + Eprint> LateFile<'a, R> {
 
     /// The file of this path, if there is one.
     pub fn of(rt: &'a R, path: Option<&'a str>) -> Option<LateFile<'a, R>> {
-        path.map(|path| LateFile::new(rt, path))
+        match path {
+            Some(path) => Some(LateFile::new(rt, path)),
+            None => None,
+        }
     }
 
     // The file, opened.

@@ -121,12 +121,12 @@ fn texts<'a>(
     call: &Call<'a>,
     history: Vec<u8>,
     state: Option<StoreState>,
-) -> Result<[Option<Later<'a>>; 2], AllocError> {
+) -> Result<(Option<Later<'a>>, Option<Later<'a>>), AllocError> {
     let times = match call.times {
         Some(path) => Some(Later::new(alloc, path, history)?),
         None => None,
     };
-    Ok([times, state_text(alloc, call.output, state)?])
+    Ok((times, state_text(alloc, call.output, state)?))
 }
 
 // How many that are for each; none where there are none.
@@ -190,7 +190,7 @@ pub fn stress<
         Ok(stressed) => stressed,
         Err(fault) => return report(writer, &Err::<Reply, ReadFault>(fault)),
     };
-    let Ok([times, state]) = texts(rt.alloc(), call, history, state) else {
+    let Ok((times, state)) = texts(rt.alloc(), call, history, state) else {
         return no_memory(writer);
     };
     let status = report(writer, &Ok(reply));

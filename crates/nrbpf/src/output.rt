@@ -19,11 +19,10 @@ pub struct Output<'a, R: Eprint, W: Write + Drop> {
 impl<'a, R: Eprint, W: Write + Drop> Output<'a, R, W> {
     /// What is written goes to this writer.
     pub fn new(rt: &'a R, writer: W) -> Output<'a, R, W> {
-        let is_closed = false;
         Output {
             rt,
             writer,
-            is_closed,
+            is_closed: false,
         }
     }
 }
