@@ -2,7 +2,7 @@
 pub mod Text
 pub mod Refusal
 -- How a text is read, rule by rule: what `assemble` promises. That these are the intended rules is shown by the rows of
--- crates/test_commands, and that they read the canonical text back by the law.
+-- tests/rows, and that they read the canonical text back by the law.
 pub mod Words
 pub mod Tokens
 pub mod Operands
