@@ -10,7 +10,7 @@ use Rattle.asm.specs.Words.{word_of}
 use Rattle.asm.specs.Text.{mnemonic, operands, operand_text, line_text, text_of}
 use Rattle.insn.specs.declared.instruction.TheConstants.{MAX_SLOTS}
 use Rattle.verifier.specs.declared.refusal.Refused.{Refused}
-use Rattle.explain.specs.declared.programs.subject.Subject.{Subject}
+use Rattle.explain.specs.declared.programs.Subject.{Subject}
 use Rattle.explain.specs.Listing.{line_of, verdict_on, head_text, Explains, IsReason, margin, left_text, AreEnough, IsAside, IsLine, IsListing, Lists}
 
 -- the text of one instruction is its line

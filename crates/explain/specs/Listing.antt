@@ -14,7 +14,7 @@ use Rattle.verifier.specs.Signature.{signature}
 use Rattle.verifier.specs.Verdict.{verdict}
 use Rattle.loader.specs.Grammar.{ProgramLine}
 use Rattle.loader.specs.Spelling.{mode_word}
-use Rattle.explain.specs.declared.programs.subject.Subject.{Subject}
+use Rattle.explain.specs.declared.programs.Subject.{Subject}
 use Rattle.explain.specs.Told.{BeginsWith}
 
 -- ---- the line of an instruction

@@ -6,22 +6,14 @@ ghost use Rattle.loader.specs.ProgramFiles.{file_named, files_of};
 mod assembly;
 mod faults;
 mod graph;
-mod lines;
 mod manifest;
-mod operand_kinds;
-mod probes;
-mod program_files;
-mod strangers;
 
 pub use assembly::explain_assembly;
+pub use faults::explain_stranger;
 pub use graph::graph_manifest;
 use insn::{DecodeError, Insn, decode};
 pub use manifest::explain_manifest;
 use std::alloc::{AllocError, Global};
-pub use strangers::explain_stranger;
-
-// What stands before what to do.
-const TO_DO: &str = " To do: ";
 
 // The text of the first file of this name.
 fn text_of<'a>(files: &[(&'a str, &'a str)], name: &str) -> Option<&'a str>

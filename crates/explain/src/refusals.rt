@@ -4,44 +4,36 @@ ghost use Rattle.std.specs.Prelude.{◌≡◌, ◌++◌, ℕ, List, OnOk};
 ghost use Rattle.std.specs.String.{string_bytes};
 ghost use Rattle.explain.specs.Listing.{refusal_text, IsReason};
 
-mod calls;
 mod memory;
-mod operations;
-mod structural;
-mod unreadable;
+mod registers;
 
-use crate::programs::{Lack, Study, Way, way_to};
-use crate::refusals::calls::{unknown, wrong_argument};
-use crate::refusals::memory::{base_at, gap_at, maybe_null, outside, stored_pointer, unwritten};
-use crate::refusals::operations::{moved_out, pointer_reply, undefined};
-use crate::refusals::structural::broken_structure;
-use crate::refusals::unreadable::{unreadable, unreadable_at};
-use crate::sentences::{Told, Word, Written, put_all, say};
-use itoa::Buffer;
+use crate::programs::{Lack, Study, Way, jump_target, reads, successor};
+use crate::sentences::Word::{Count, Fault, Field, Nothing, Number, Register, Small};
+use crate::sentences::{Told, Word, Written, put_all, put_numbers, say};
+use insn::{Edge, Form};
 use regkind::Kind;
 use std::alloc::AllocError;
+use verifier::VerifyFault::{TargetInsideWide, TargetNotForward, TargetOutside, UncheckedNull};
 use verifier::{Refused, VerifyFault};
 
 // What stands before what to do.
 const TO_DO: &str = "\n      To do: ";
 
-// What is told where R10 is written.
+// What is told where R10 is written, where the argument is, and where a program changes a map of which a line says that it only reads.
 const STACK_END_WRITTEN: &str =
     "r10 is the stack's end, and can't be changed.|Move a copy: `mov64 r2, r10`, then `add64 r2, -8`.";
 
-// Where the argument is written.
 const ARGUMENT_WRITTEN: &str =
     "{0} points into the argument, which is read-only.|Copy it to the stack (`ldxdw`, `stxdw`) and change it there.";
 
-// Where a program that only reads changes a map; its line says so.
 const WRITE_IN_READ_MODE: &str =
     "Line {0} of the manifest says `read`, and this instruction changes a map.|Write `update` there, or take the change out.";
 
 // The map of which a register has something, in words.
 fn map_in(kind: Kind) -> Word<'static> {
     match kind {
-        Kind::Map(map) | Kind::Value(map, _) | Kind::ValueOrNull(map) => Word::Small(map),
-        _ => Word::Nothing,
+        Kind::Map(map) | Kind::Value(map, _) | Kind::ValueOrNull(map) => Small(map),
+        _ => Nothing,
     }
 }
 
@@ -49,64 +41,163 @@ fn map_in(kind: Kind) -> Word<'static> {
 fn lack_at(study: &Study<'_>, refused: Refused) -> Option<Lack> {
     let slot = refused.slot as usize;
     match refused.why {
-        VerifyFault::UnreadableRegister => Some(Lack::Register(unreadable_at(study, slot)?)),
-        VerifyFault::UninitialisedStack => Some(Lack::Byte(gap_at(study, slot)?.first)),
+        VerifyFault::UnreadableRegister => study.unreadable_at(slot).map(Lack::Register),
+        VerifyFault::UninitialisedStack => Some(Lack::Byte(study.gap_at(slot)?.first)),
         _ => None,
     }
 }
 
 // Why kinds are refused at the end of a way, where more is to be said than by which rule.
-fn broken_kinds(study: &Study<'_>, way: &Way, why: VerifyFault) -> Option<Told<'static>> {
+fn broken_kinds(way: &Way<'_>, why: VerifyFault) -> Option<Told<'static>> {
+    let line = Field(u64::from(way.study.subject.line));
     match why {
-        VerifyFault::UnreadableRegister => unreadable(study, way),
+        VerifyFault::UnreadableRegister => way.unreadable(),
         VerifyFault::FramePointerWritten => Some(say(STACK_END_WRITTEN, &[])),
-        VerifyFault::UndefinedOperation => undefined(study, way),
-        VerifyFault::OffsetOutOfRange => moved_out(study, way.end),
-        VerifyFault::OutOfRegion => outside(study, way.end),
-        VerifyFault::UninitialisedStack => unwritten(study, way),
-        VerifyFault::ArgumentWritten => Some(say(
-            ARGUMENT_WRITTEN,
-            &[Word::Register(base_at(study, way.end))],
-        )),
-        VerifyFault::PointerStored => stored_pointer(study, way.end),
-        VerifyFault::UncheckedNull => Some(maybe_null(study, way)),
-        VerifyFault::HelperArgument => Some(wrong_argument(study, way)),
-        VerifyFault::UnknownHelperOrMap => unknown(study, way.end),
-        VerifyFault::PointerReply => Some(pointer_reply(study, way.end)),
-        VerifyFault::WriteInReadMode => Some(say(
-            WRITE_IN_READ_MODE,
-            &[Word::Field(u64::from(study.subject.line))],
-        )),
+        VerifyFault::UndefinedOperation => way.undefined(),
+        VerifyFault::OffsetOutOfRange => way.moved_out(),
+        VerifyFault::OutOfRegion => way.outside(),
+        VerifyFault::UninitialisedStack => way.unwritten(),
+        VerifyFault::ArgumentWritten => Some(say(ARGUMENT_WRITTEN, &[Register(way.base())])),
+        VerifyFault::PointerStored => way.stored_pointer(),
+        UncheckedNull => Some(way.maybe_null()),
+        VerifyFault::HelperArgument => Some(way.wrong_argument()),
+        VerifyFault::UnknownHelperOrMap => way.unknown(),
+        VerifyFault::PointerReply => Some(way.pointer_reply()),
+        VerifyFault::WriteInReadMode => Some(say(WRITE_IN_READ_MODE, &[line])),
         _ => None,
     }
+}
+
+// Whether a jump from below goes over a slot.
+fn is_crossed(study: &Study<'_>, slot: usize) -> bool {
+    (slot..study.slots()).any(|to| {
+        let lowest = study.jumps_into(to).first();
+        lowest.is_some_and(|lowest| lowest.from < slot)
+    })
+}
+
+// Whether a way leads from a slot to another, or to itself, whatever the directions of its jumps.
+fn is_way(study: &Study<'_>, from: usize, to: usize) -> Result<bool, AllocError> {
+    let mut met = Vec::new(study.alloc);
+    met.push(from)?;
+    for k in 0..study.slots() {
+        let Some(slot) = met.get(k).copied() else {
+            break;
+        };
+        let form = study.form_at(slot);
+        for edge in [Edge::Fall, Edge::Jump] {
+            match form.and_then(|form| successor(form, slot, edge)) {
+                Some(next) if next < study.slots() && !met.contains(&next) => met.push(next)?,
+                _ => {}
+            }
+        }
+    }
+    Ok(met.contains(&to))
+}
+
+// Why a jump is refused, which leads back in a loop or not, or just behind the end or not.
+fn jump_text(why: VerifyFault, is_loop: bool, is_at_end: bool) -> &'static str {
+    match why {
+        TargetOutside if is_at_end =>
+            "The jump leads to slot {0}, just behind the last instruction: a label at the end of the text names none.|Put an instruction behind the label: `exit`, with a number in r0 before it.",
+        TargetOutside =>
+            "The jump leads to slot {0}; the program has slots 0 to {3}. A jump is counted in slots from the next instruction, and `lddw` and `ldmap` take two.|Jump to an instruction of the program.",
+        TargetNotForward if is_loop =>
+            "This is a loop: the jump leads back to slot {0}, and programs have none.|Write the body as often as it may run (in C `#pragma unroll` and a constant bound), or let the caller call again.",
+        // The compiler put above what is run last.
+        TargetNotForward =>
+            "This is no loop, but the jump leads back to slot {0}, from where no way leads here again; each jump has to lead forward.|Move what stands at slot {0} behind this jump. In C it is an early exit of a loop that was unrolled, as `break` or `return`, which clang put above: write the loop without an exit, as docs/C.md shows.",
+        _ =>
+            "Slot {0} is the second half of the wide instruction at slot {1}.|Jump to slot {1} or {2}.",
+    }
+}
+
+// The same in words.
+fn wrong_jump(study: &Study<'_>, refused: Refused) -> Result<Told<'static>, AllocError> {
+    let (slot, slots) = (refused.slot as usize, study.slots());
+    let target = study.form_at(slot).and_then(|form| jump_target(form, slot));
+    let target = target.unwrap_or(i64::from(refused.slot));
+    let (is_loop, is_at_end) = match usize::try_from(target) {
+        Ok(to) => (is_way(study, to, slot)?, to == slots),
+        Err(_) => (true, false),
+    };
+    let (above, below) = (target.saturating_sub(1), target.saturating_add(1));
+    let last = Count(slots.saturating_sub(1));
+    let text = jump_text(refused.why, is_loop, is_at_end);
+    Ok(say(text, &[Number(target), Number(above), Number(below), last]))
+}
+
+// Why nothing leads to the instruction at a slot.
+fn unreached(study: &Study<'_>, slot: usize) -> Told<'static> {
+    // The slot above this one at which the answer of a lookup is used without a test.
+    let kinds = study.known.kinds.filter(|kinds| kinds.why == UncheckedNull);
+    let used = kinds.map(|kinds| kinds.slot as usize);
+    let used = used.filter(|used| *used < slot);
+    // The last slot of the instructions in a row, from this one on, to which nothing leads.
+    let begins = (slot..study.slots()).filter(|next| study.form_at(*next).is_some());
+    let row = begins.take_while(|next| study.frame_at(*next).is_none());
+    let last = row.last().unwrap_or(slot);
+    let form = study.form_at(slot);
+    let reads_argument = form.is_some_and(|form| reads(form)[0] == Some(1));
+    let text = match used {
+        Some(_) =>
+            "Nothing leads to slot {0}, since the answer of a lookup is used at slot {1} without a test for null: this is the case of null.|Don't remove slot {0}: put a test before slot {1} that leads to it.",
+        None if reads_argument && !is_crossed(study, slot) =>
+            "A second function begins at slot {0}: a program is one function.|Put each program into a file of its own; in C write `static inline` before a function that the program calls.",
+        None if last == slot =>
+            "Nothing leads to slot {0}.|Jump to slot {0}, or remove what stands there.",
+        None => "Nothing leads to slots {0} to {2}.|Jump to slot {0}, or remove what stands there.",
+    };
+    say(text, &[Count(slot), Count(used.unwrap_or(0)), Count(last)])
+}
+
+// Why the program runs off its end.
+fn endless(study: &Study<'_>, slot: usize) -> Told<'static> {
+    let text = match study.form_at(slot) {
+        None => "The program has no instruction.|The shortest program is `mov64 r0, 0` and `exit`.",
+        Some(_) if study.known.frames.is_empty() =>
+            "The program has {1} slots, of at most 4096.|Split the operation into several programs.",
+        Some(Form::Call { .. }) =>
+            "Nothing follows the call at slot {0}. clang ends so behind a function that it believes never returns.|End with `exit`; the reply is r0, in which a number has to stand.",
+        Some(_) =>
+            "Nothing follows slot {0}.|End with `exit`; the reply is r0, in which a number has to stand.",
+    };
+    say(text, &[Count(slot), Count(study.slots())])
+}
+
+// What is wrong where the structure is refused; nothing where it isn't.
+pub(crate) fn broken_structure(
+    study: &Study<'_>,
+    refused: Refused,
+) -> Result<Option<Told<'static>>, AllocError> {
+    let slot = refused.slot as usize;
+    Ok(match refused.why {
+        TargetOutside | TargetNotForward | TargetInsideWide => Some(wrong_jump(study, refused)?),
+        VerifyFault::RunsOffTheEnd => Some(endless(study, slot)),
+        VerifyFault::Unreachable => Some(unreached(study, slot)),
+        _ => None,
+    })
 }
 
 // Adds under which number it is refused, and where.
 fn put_number(out: &mut String, refused: Refused) -> Written
     ensures { OnOk result (string_bytes out.new ≡ string_bytes out.old ++ refusal_text refused) }
 {
-    let (mut number, mut slot) = (Buffer::new(), Buffer::new());
-    let pieces = [
-        "      V",
-        number.format(refused.why.number()),
-        " at slot ",
-        slot.format(refused.slot),
-        ".",
-    ];
-    put_all(out, &pieces)
+    let number = u32::from(refused.why.number());
+    put_numbers(out, "      V", number, " at slot ", refused.slot)?;
+    put_all(out, &["."])
 }
 
 // Adds the way to a refusal by kinds, and what is told of it.
 fn put_way(out: &mut String, study: &Study<'_>, refused: Refused) -> Written {
     let lack = lack_at(study, refused).unwrap_or(Lack::Nothing);
-    let way = way_to(study, refused.slot as usize, lack)?;
+    let way = Way::to(study, refused.slot as usize, lack)?;
     out.push_str(" The way: ")?;
     way.put(out)?;
     out.push_str(".\n      ")?;
-    let rule = say("{0}.|REFUSALS has more of it.", &[Word::Fault(refused.why)]);
-    broken_kinds(study, &way, refused.why)
-        .unwrap_or(rule)
-        .put(out, TO_DO)
+    let rule = say("{0}.|REFUSALS has more of it.", &[Fault(refused.why)]);
+    let told = broken_kinds(&way, refused.why).unwrap_or(rule);
+    told.put(out, TO_DO)
 }
 
 // What is told of a refusal behind its number: where it is by structure, also that by kinds, as far as these are known.

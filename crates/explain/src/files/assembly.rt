@@ -6,19 +6,95 @@ ghost use Rattle.asm.specs.Assembled.{assembled};
 ghost use Rattle.explain.specs.Told.{BeginsWith};
 ghost use Rattle.explain.specs.Assembly.{fault_text, IsToldOfText};
 
-use crate::files::operand_kinds::{OperandKind, kinds_of};
-use crate::files::probes::{fault_of, is_word};
-use crate::sentences::{Word, Written, put, put_all};
+use crate::sentences::Word::{Count, Text};
+use crate::sentences::{Written, put, put_all, put_numbers};
 use asm::{AsmError, AsmFault, AsmRefusal, assemble};
-use itoa::Buffer;
 use std::alloc::{AllocError, Global};
 use text::NumberedLines;
 
-// What is wanted where a jump leads to no label of the text.
+// What is wanted where a jump leads to no label of the text, or too far, and where the text is too long.
 const NO_LABEL: &str = "a label that stands in the text, with a colon, on a line of its own";
 
-// The same where it leads too far.
 const TOO_FAR: &str = "a slot that is nearer: 32768 slots back to 32767 on (`ja32` goes farther)";
+
+const TOO_LONG: &str = "the end of the text: a program has at most 4096 slots";
+
+// What an operand of an instruction is.
+#[derive(Clone, Copy)]
+enum OperandKind {
+    Register,
+    // A register or a number.
+    Source,
+    Number,
+    // A number of 64 bits.
+    Long,
+    // How many bits are extended.
+    Bits,
+    Address,
+    Target,
+}
+
+use OperandKind::{Address, Bits, Long, Number, Register, Source, Target};
+
+// The kinds of the operands behind a word; none where it is no word.
+fn kinds_of(word: &str) -> &'static [OperandKind] {
+    match word {
+        "exit" => &[],
+        "call" => &[Number],
+        "lddw" => &[Register, Long],
+        "ldmap" => &[Register, Number],
+        "ja" | "ja32" => &[Target],
+        _ if word.starts_with("movsx") => &[Register, Register, Bits],
+        _ if word.starts_with("j") => &[Register, Source, Target],
+        _ if word.starts_with("ldx") => &[Register, Address],
+        _ if word.starts_with("stx") => &[Address, Register],
+        _ if word.starts_with("st") => &[Address, Number],
+        _ if word.starts_with("neg") || word.starts_with("swap") => &[Register],
+        _ if word.starts_with("le") || word.starts_with("be") => &[Register],
+        _ => &[Register, Source],
+    }
+}
+
+impl OperandKind {
+    // One that is right behind each word.
+    fn example(self) -> &'static str {
+        match self {
+            Register | Source => "r0",
+            Number | Long => "0",
+            Bits => "8",
+            Address => "[r0+0]",
+            Target => "+0",
+        }
+    }
+
+    // What is wanted in its place, where an operand is wrong in this way.
+    fn wanted(self, word: &str, why: AsmFault) -> &'static str {
+        match (self, why) {
+            (Address, AsmFault::OutOfRange) => "an offset from -32768 to 32767",
+            (Bits, _) if word == "movsx32" => "a number of bits: 8 or 16",
+            (Bits, _) => "a number of bits: 8, 16 or 32",
+            (Long, AsmFault::OutOfRange) => "a number from -2^63 to 2^64 - 1",
+            (_, AsmFault::OutOfRange) =>
+                "a number from -2147483648 to 2147483647 (`lddw` takes 64 bits)",
+            (Register, _) => "a register: `r0` to `r10`",
+            (Source, _) =>
+                "a register, `r0` to `r10`, or a number: decimal digits, or `0x` and hexadecimal ones, with `-` before them where it is negative",
+            (Number | Long, _) =>
+                "a number: decimal digits, or `0x` and hexadecimal ones, with `-` before them where it is negative",
+            (Address, _) => "an address: `[rN+off]` or `[rN-off]`, also where off is 0",
+            (Target, _) => "a label, or `+n` or `-n`: so many slots from the next instruction",
+        }
+    }
+}
+
+// What is wrong with a text, if something is.
+fn fault_in(alloc: Global, text: &str) -> Result<Option<AsmFault>, AllocError> {
+    match assemble(alloc, text) {
+        Ok(_) => Ok(None),
+        Err(AsmError::NoMemory) => Err(AllocError),
+        Err(AsmError::Refused(refusal)) => Ok(Some(refusal.why)),
+    }
+}
 
 // A part of a line: from a byte up to another one.
 #[derive(Clone, Copy)]
@@ -27,9 +103,13 @@ struct Span {
     end: usize,
 }
 
+// The place of a line that is wrong, and what is wanted there; {0} is the line's word.
+type Wanted = (usize, &'static str);
+
 // The parts of a line.
 #[derive(Drop)]
 struct Parts<'a> {
+    alloc: Global,
     // The line without its comment.
     code: &'a str,
     word: Span,
@@ -44,36 +124,23 @@ fn is_blank(byte: u8) -> bool {
 
 // The first place from this one on at which no white space is.
 fn visible(code: &str, from: usize) -> usize {
-    let mut at = from;
-    for byte in code.as_bytes().iter().skip(from) {
-        if !is_blank(*byte) {
-            break;
-        }
-        at = at.saturating_add(1);
-    }
-    at
+    let behind = code.as_bytes().iter().skip(from);
+    from.saturating_add(behind.take_while(|byte| is_blank(**byte)).count())
 }
 
 // What stands behind white space, up to white space or a comma.
 fn token(code: &str, from: usize) -> Span {
     let begin = visible(code, from);
-    let mut end = begin;
-    for byte in code.as_bytes().iter().skip(begin) {
-        if is_blank(*byte) || *byte == b',' {
-            break;
-        }
-        end = end.saturating_add(1);
-    }
+    let behind = code.as_bytes().iter().skip(begin);
+    let own = behind.take_while(|byte| !is_blank(**byte) && **byte != b',');
+    let end = begin.saturating_add(own.count());
     Span { begin, end }
 }
 
 impl<'a> Parts<'a> {
     // Those of a line, with at most as many operands as its word has.
     fn of(alloc: Global, line: &'a str) -> Result<Parts<'a>, AllocError> {
-        let code = match line.split_once(';') {
-            Some((code, _)) => code,
-            None => line,
-        };
+        let code = line.split_once(';').map_or(line, |(code, _)| code);
         let word = token(code, 0);
         let kinds = kinds_of(code.get(word.begin..word.end).unwrap_or(""));
         let mut operands = Vec::new(alloc);
@@ -91,6 +158,7 @@ impl<'a> Parts<'a> {
             at = operand.end;
         }
         Ok(Parts {
+            alloc,
             code,
             word,
             kinds,
@@ -107,85 +175,76 @@ impl<'a> Parts<'a> {
     fn last(&self) -> Span {
         self.operands.last().copied().unwrap_or(self.word)
     }
-}
 
-// What is wanted in place of a word.
-fn wanted_word(alloc: Global, word: &str) -> Result<&'static str, AllocError> {
-    let wide = format!(in alloc; "{word}64")?;
-    if is_word(alloc, wide.as_str())? {
-        return Ok("a word with a width: `{0}64`, or `{0}32` for the lower half");
-    }
-    let mut lower = String::new(alloc);
-    for byte in word.as_bytes() {
-        lower.push(char::from(byte.to_ascii_lowercase()))?;
-    }
-    Ok(if is_word(alloc, lower.as_str())? {
-        "the word in lower case"
-    } else {
-        "the word of an instruction (docs/LANGUAGE.md has them), or a label and a colon; `;` begins a comment"
-    })
-}
-
-// The place of the operand that is wrong in this way, and what is wanted there.
-fn wanted_operand(
-    alloc: Global,
-    parts: &Parts<'_>,
-    why: AsmFault,
-) -> Result<(usize, &'static str), AllocError> {
-    let word = parts.text(parts.word);
-    for (k, (kind, span)) in parts.kinds.iter().zip(&parts.operands).enumerate() {
-        if fault_of(alloc, word, parts.kinds, k, parts.text(*span))? == Some(why) {
-            return Ok((span.begin, kind.wanted(word, why)));
+    // What is wrong with the operand of this index, if something is: the others are taken to be right.
+    fn fault_of(&self, index: usize, operand: &str) -> Result<Option<AsmFault>, AllocError> {
+        let mut text = String::new(self.alloc);
+        text.push_str(self.text(self.word))?;
+        for (k, kind) in self.kinds.iter().enumerate() {
+            text.push_str(if k == 0 { " " } else { ", " })?;
+            text.push_str(if k == index { operand } else { kind.example() })?;
         }
+        fault_in(self.alloc, text.as_str())
     }
-    let what = match parts.kinds.get(parts.operands.len()) {
-        Some(kind) if parts.operands.is_empty() => kind.wanted(word, why),
-        _ => "a comma, and one more operand",
-    };
-    Ok((parts.last().end, what))
-}
 
-// Where the end of an instruction or a label is wanted.
-fn wanted_end(parts: &Parts<'_>) -> (usize, &'static str) {
-    match parts.text(parts.word).split_once(':') {
-        Some((label, _)) => {
-            let at = parts
-                .word
-                .begin
-                .saturating_add(label.len())
-                .saturating_add(1);
-            let what = "the end of the line: an instruction stands on a line behind its label";
-            (visible(parts.code, at), what)
+    // What is wanted in place of the word.
+    fn wanted_word(&self) -> Result<&'static str, AllocError> {
+        let word = self.text(self.word);
+        let wide = format!(in self.alloc; "{word}64")?;
+        if fault_in(self.alloc, wide.as_str())? != Some(AsmFault::UnknownWord) {
+            return Ok("a word with a width: `{0}64`, or `{0}32` for the lower half");
         }
-        None => {
+        let mut lower = String::new(self.alloc);
+        for byte in word.as_bytes() {
+            lower.push(char::from(byte.to_ascii_lowercase()))?;
+        }
+        Ok(if fault_in(self.alloc, lower.as_str())? != Some(AsmFault::UnknownWord) {
+            "the word in lower case"
+        } else {
+            "the word of an instruction (docs/LANGUAGE.md has them), or a label and a colon; `;` begins a comment"
+        })
+    }
+
+    // The place of the operand that is wrong in this way, and what is wanted there.
+    fn wanted_operand(&self, why: AsmFault) -> Result<Wanted, AllocError> {
+        let word = self.text(self.word);
+        for (k, (kind, operand)) in self.kinds.iter().zip(&self.operands).enumerate() {
+            if self.fault_of(k, self.text(*operand))? == Some(why) {
+                return Ok((operand.begin, kind.wanted(word, why)));
+            }
+        }
+        let what = match self.kinds.get(self.operands.len()) {
+            Some(kind) if self.operands.is_empty() => kind.wanted(word, why),
+            _ => "a comma, and one more operand",
+        };
+        Ok((self.last().end, what))
+    }
+
+    // Where the end of an instruction or a label is wanted.
+    fn wanted_end(&self) -> Wanted {
+        let Some((label, _)) = self.text(self.word).split_once(':') else {
             let what = "the end of the line: one instruction stands there; `;` begins a comment";
-            (visible(parts.code, parts.last().end), what)
-        }
+            return (visible(self.code, self.last().end), what);
+        };
+        let at = self.word.begin.saturating_add(label.len());
+        let what = "the end of the line: an instruction stands on a line behind its label";
+        (visible(self.code, at.saturating_add(1)), what)
     }
-}
 
-// What is wanted in a line that is wrong in this way, and where; {0} is its word.
-fn wanted_in(
-    alloc: Global,
-    parts: &Parts<'_>,
-    why: AsmFault,
-) -> Result<(usize, &'static str), AllocError> {
-    let begin = parts.word.begin;
-    let target = match parts.operands.last() {
-        Some(operand) => operand.begin,
-        None => parts.word.end,
-    };
-    match why {
-        AsmFault::UnknownWord => Ok((begin, wanted_word(alloc, parts.text(parts.word))?)),
-        AsmFault::BadOperand | AsmFault::OutOfRange => wanted_operand(alloc, parts, why),
-        AsmFault::UnknownLabel => Ok((target, NO_LABEL)),
-        AsmFault::LabelTwice => Ok((begin, "another name: a line above has this label too")),
-        AsmFault::JumpTooFar => Ok((target, TOO_FAR)),
-        AsmFault::TooLong => Ok((
-            begin,
-            "the end of the text: a program has at most 4096 slots",
-        )),
-        AsmFault::TextBehind => Ok(wanted_end(parts)),
+    // What is wanted in the line where it is wrong in this way, and where.
+    fn wanted(&self, why: AsmFault) -> Result<Wanted, AllocError> {
+        let begin = self.word.begin;
+        let last = self.operands.last();
+        let target = last.map_or(self.word.end, |operand| operand.begin);
+        Ok(match why {
+            AsmFault::UnknownWord => (begin, self.wanted_word()?),
+            AsmFault::BadOperand | AsmFault::OutOfRange => self.wanted_operand(why)?,
+            AsmFault::UnknownLabel => (target, NO_LABEL),
+            AsmFault::LabelTwice => (begin, "another name: a line above has this label too"),
+            AsmFault::JumpTooFar => (target, TOO_FAR),
+            AsmFault::TooLong => (begin, TOO_LONG),
+            AsmFault::TextBehind => self.wanted_end(),
+        })
     }
 }
 
@@ -216,12 +275,12 @@ fn line_at(text: &str, wanted: u32) -> &str {
 fn wanted_text(alloc: Global, text: &str, refusal: AsmRefusal) -> Result<String, AllocError> {
     let line = line_at(text, refusal.line);
     let parts = Parts::of(alloc, line)?;
-    let (at, wanted) = wanted_in(alloc, &parts, refusal.why)?;
+    let (at, wanted) = parts.wanted(refusal.why)?;
     let mut out = String::new(alloc);
-    let column = Word::Count(at.saturating_add(1));
+    let column = Count(at.saturating_add(1));
     put(&mut out, " column {0}: wanted ", &[column])?;
-    put(&mut out, wanted, &[Word::Text(parts.text(parts.word))])?;
-    let shown = Word::Text(line.strip_suffix('\r').unwrap_or(line));
+    put(&mut out, wanted, &[Text(parts.text(parts.word))])?;
+    let shown = Text(line.strip_suffix('\r').unwrap_or(line));
     put(&mut out, "\n    {0}\n    ", &[shown])?;
     put_below(&mut out, line, at)?;
     out.push_str("^\n")?;
@@ -233,17 +292,10 @@ fn told(alloc: Global, text: &str, refusal: AsmRefusal) -> Result<String, AllocE
     ensures { IfOk result (λ s. BeginsWith (fault_text refusal) (string_bytes s)) }
 {
     let wanted = wanted_text(alloc, text, refusal)?;
-    let (mut line, mut rule) = (Buffer::new(), Buffer::new());
-    let pieces = [
-        "line ",
-        line.format(refusal.line),
-        ": A",
-        rule.format(refusal.why.number()),
-        ",",
-    ];
     let mut out = String::new(alloc);
-    put_all(&mut out, &pieces)?;
-    out.push_str(wanted.as_str())?;
+    let number = u32::from(refusal.why.number());
+    put_numbers(&mut out, "line ", refusal.line, ": A", number)?;
+    put_all(&mut out, &[",", wanted.as_str()])?;
     Ok(out)
 }
 

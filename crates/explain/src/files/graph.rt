@@ -12,13 +12,11 @@ use std::alloc::{AllocError, Global};
 use std::fmt::Write;
 use text::{NumberedLines, spaced_hex};
 
-// A node where the program has no instruction.
+// A node where the program has no instruction, an edge to the next instruction, and an edge of a jump.
 const MISSING: &str = "    \"{0}.{2}\" [shape=plaintext, label=\"no instruction at slot {2}\"];\n";
 
-// An edge to the next instruction.
 const FALL: &str = "    \"{0}.{1}\" -> \"{0}.{2}\";\n";
 
-// An edge of a jump.
 const JUMP: &str = "    \"{0}.{1}\" -> \"{0}.{2}\" [label=\"jump\"];\n";
 
 // What is drawn at a slot.
@@ -97,17 +95,17 @@ impl Drawing<'_> {
     fn put_edges(&self, out: &mut String) -> Written {
         let mut node = 0usize;
         for (slot, spot) in self.spots.iter().enumerate() {
-            if let Some(form) = spot.form {
-                if spot.leads {
-                    node = slot;
-                }
-                if let Some(to) = successor(form, slot, Edge::Fall) {
-                    let to = i64::try_from(to).unwrap_or(i64::MAX);
-                    self.put_edge(out, node, to, FALL)?;
-                }
-                if let Some(to) = jump_target(form, slot) {
-                    self.put_edge(out, node, to, JUMP)?;
-                }
+            let Some(form) = spot.form else {
+                continue;
+            };
+            if spot.leads {
+                node = slot;
+            }
+            if let Some(to) = successor(form, slot, Edge::Fall) {
+                self.put_edge(out, node, i64::try_from(to).unwrap_or(i64::MAX), FALL)?;
+            }
+            if let Some(to) = jump_target(form, slot) {
+                self.put_edge(out, node, to, JUMP)?;
             }
         }
         Ok(())
@@ -135,19 +133,14 @@ fn put_line(
     files: &[(&str, &str)],
 ) -> Written {
     let alloc = *out.allocator();
-    if let Some(text) = text_of(files, line.file) {
-        if let Some(bytes) = spaced_hex(alloc, text)? {
-            if let Some(program) = decoded(alloc, &bytes)? {
-                return put_program(out, line.name, &program);
-            }
-        }
+    if let Some(text) = text_of(files, line.file)
+        && let Some(bytes) = spaced_hex(alloc, text)?
+        && let Some(program) = decoded(alloc, &bytes)?
+    {
+        return put_program(out, line.name, &program);
     }
-    let words = [Field(u64::from(number)), Text(line.name)];
-    put(
-        out,
-        "  // line {0}: {1} has no instructions to draw\n",
-        &words,
-    )
+    let remark = "  // line {0}: {1} has no instructions to draw\n";
+    put(out, remark, &[Field(u64::from(number)), Text(line.name)])
 }
 
 /// The programs of a manifest with these files as a graph in the language of Graphviz, each in a cluster of its own; where a name is given,

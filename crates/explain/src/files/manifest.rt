@@ -1,11 +1,10 @@
 // A manifest, line by line: what is known of each program, and what is wrong with each other line that is bad.
 
-ghost use Rattle.std.specs.Prelude.{◌≡◌, ◌≤◌, ◌&&◌, ℕ, List, if◌then◌else◌, not, nat_eq, length, codes, option_map, is_some, is_none, Some, None, false, true, IfOk, OnOk, IfSome};
+ghost use Rattle.std.specs.Prelude.{◌≡◌, ◌≤◌, ◌&&◌, ◌++◌, ℕ, List, if◌then◌else◌, not, nat_eq, length, codes, option_map, is_some, is_none, Some, None, false, true, IfOk, OnOk, IfSome};
 ghost use Rattle.std.specs.List.{starts_with};
 ghost use Rattle.std.specs.Option.{option_or};
 ghost use Rattle.std.specs.String.{string_bytes};
 ghost use Rattle.insn.specs.declared.instruction.TheConstants.{MAX_SLOTS};
-ghost use Rattle.insn.specs.Decoded.{decoded, DecodeFails};
 ghost use Rattle.insn.specs.Layout.{size};
 ghost use Rattle.maps.specs.Shapes.{IsShapeOk};
 ghost use Rattle.maps.specs.declared.shapes.TheConstants.{MAX_ARG_LEN};
@@ -14,18 +13,14 @@ ghost use Rattle.loader.specs.Grammar.{Map, Program, line_meaning};
 ghost use Rattle.loader.specs.LineShown.{meaning_of, program_of, LineFits};
 ghost use Rattle.loader.specs.ProgramFiles.{files_of, instructions_of};
 ghost use Rattle.loader.specs.Loading.{is_taken};
-ghost use Rattle.explain.specs.Explanation.{above_of, name_of, IsFault, IsWithin, Judges, TakesLine, TakesMap, TakesNext, TellsAsked};
-ghost use Rattle.explain.specs.Explanation.{TellsKnown, TellsRead, Writes};
-ghost use Rattle.explain.specs.Manifest.{has_map, has_program, is_asked, is_beyond, is_misplaced, line_fault, no_program, program_of_text, so_far};
-ghost use Rattle.explain.specs.Manifest.{TellsOfAll, TellsOfManifest};
+ghost use Rattle.explain.specs.Explanation.{above_of, name_of, IsFault, IsWithin, Judges, TakesLine, TakesMap, TakesNext, TellsAsked, TellsKnown, TellsRead, Writes};
+ghost use Rattle.explain.specs.Manifest.{has_map, has_program, is_asked, is_beyond, is_misplaced, line_fault, named_words, no_program, program_of_text, refused_by, so_far, TellsOfAll, TellsOfManifest};
 ghost use Rattle.explain.specs.Told.{BeginsIf};
 
-use crate::files::faults::{put_fault, put_file_fault, refused_bytes};
-use crate::files::lines::{too_many, wrong_line};
-use crate::files::program_files::bad_hex;
-use crate::files::{TO_DO, text_of};
+use crate::files::faults::{bad_hex, put_fault, refused_bytes, too_many, wrong_line};
+use crate::files::text_of;
 use crate::programs::{Subject, explain_program};
-use crate::sentences::{Told, Word, Written, put_all, say};
+use crate::sentences::{Told, Word, Written, put_all, put_numbers, say};
 use insn::{DecodeError, Insn, decode};
 use itoa::Buffer;
 use loader::{Line, ProgramLine, read_line};
@@ -36,11 +31,10 @@ use text::{NumberedLines, spaced_hex};
 // How many programs a manifest has at most.
 const MAX_PROGRAMS: usize = 256;
 
-// What is told where a program's file isn't there.
+// What is told where a program's file isn't there, and where no line is that of a map.
 const NO_FILE: &str =
     "There is no file {0}.|check the path, which is taken from the working folder.";
 
-// Where no line is that of a map.
 const NO_MAP: &str =
     "The manifest has no map.|begin it with a line `map array VALUE ENTRIES` or `map hash KEY VALUE ENTRIES`.";
 
@@ -94,9 +88,7 @@ impl<'a> Explanation<'a> {
     fn note_bad_map(&mut self, is_map: bool)
         ensures { self.new ≡ record self.old { bad_map = option_or self.old.bad_map (if is_map then Some self.old.line else None) } }
     {
-        if is_map && self.bad_map.is_none() {
-            self.bad_map = Some(self.line);
-        }
+        self.bad_map = self.bad_map.or(is_map.then_some(self.line));
     }
 
     // Adds what is wrong with a line that is none by itself.
@@ -146,29 +138,20 @@ impl<'a> Explanation<'a> {
         self.put_wrong(out, number, told)
     }
 
-    // What is wrong with the place or the name of a program, if something is.
-    fn misplaced(&self, name: &'a str) -> Option<Told<'a>>
-        ensures { is_some result ≡ is_misplaced (above_of self.now) name.now }
-    {
-        if !self.has_map() {
-            return Some(say(
-                "The program stands before any map.|put a map before it.",
-                &[],
-            ));
-        }
-        let line = Word::Field(u64::from(self.line_of(name)?));
-        let what = "Line {0} has the name {1} too.|give one of them another.";
-        Some(say(what, &[line, Word::Text(name)]))
-    }
-
     // Adds that a program may not stand there, or has the name of another, if so it is.
     fn put_misplaced(&self, out: &mut String, name: &'a str) -> Written
         ensures { OnOk result (Writes (BeginsIf (is_misplaced (above_of self.now) name.now) (line_fault self.now.line BadLine)) out.old out.new) }
     {
-        let Some(told) = self.misplaced(name) else {
+        if !self.has_map() {
+            let what = "The program stands before any map.|put a map before it.";
+            return put_fault(out, self.line, 1, say(what, &[]));
+        }
+        let Some(line) = self.line_of(name) else {
             return Ok(());
         };
-        put_fault(out, self.line, 1, told)
+        let what = "Line {0} has the name {1} too.|give one of them another.";
+        let words = [Word::Field(u64::from(line)), Word::Text(name)];
+        put_fault(out, self.line, 1, say(what, &words))
     }
 
     // Adds that a program is one too many, if it is.
@@ -192,16 +175,9 @@ impl<'a> Explanation<'a> {
     {
         if let Some(map) = self.bad_map {
             let (mut number, mut bad) = (Buffer::new(), Buffer::new());
-            let pieces = [
-                "\nline ",
-                number.format(self.line),
-                ": ",
-                line.name,
-                " isn't judged, since the map of line ",
-                bad.format(map),
-                " is bad\n",
-            ];
-            return put_all(out, &pieces);
+            put_all(out, &["\nline ", number.format(self.line), ": "])?;
+            put_all(out, &[line.name, " isn't judged, since the map of line "])?;
+            return put_all(out, &[bad.format(map), " is bad\n"]);
         }
         let subject = Subject {
             name: line.name,
@@ -216,6 +192,15 @@ impl<'a> Explanation<'a> {
         put_all(out, &["\n", told.as_str()])
     }
 
+    // Adds what is wrong with the file of a program.
+    fn put_file(&self, out: &mut String, number: u8, line: ProgramLine<'_>, told: &str) -> Written
+        ensures { OnOk result (string_bytes out.new ≡ string_bytes out.old ++ (refused_by self.now.line number ++ (named_words (program_of line.entry) ++ told.now))) }
+    {
+        let ProgramLine { name, file, .. } = line;
+        put_numbers(out, "\nline ", self.line, ": C", u32::from(number))?;
+        put_all(out, &[", program ", name, ", ", file, "\n      ", told])
+    }
+
     // Adds what is known of the program that bytes spell, or why they spell none.
     fn put_bytes(&self, out: &mut String, line: ProgramLine<'_>, bytes: &[u8]) -> Written
         requires within { IsWithin (above_of self.now) }
@@ -225,26 +210,10 @@ impl<'a> Explanation<'a> {
     {
         match decode(self.alloc, bytes) {
             Ok(program) => self.put_judged(out, line, &program),
-            Err(why) => self.put_undecoded(out, line, bytes, why),
-        }
-    }
-
-    // Adds why the bytes of a program's file are no program.
-    fn put_undecoded(
-        &self,
-        out: &mut String,
-        line: ProgramLine<'_>,
-        bytes: &[u8],
-        why: DecodeError,
-    ) -> Written
-        requires { DecodeFails why (decoded bytes.now) }
-        ensures { OnOk result (Writes (TellsRead self.now line.entry (instructions_of bytes.now)) out.old out.new) }
-    {
-        match why {
-            DecodeError::NoMemory => Err(AllocError),
-            DecodeError::Refused(refusal) => {
+            Err(DecodeError::NoMemory) => Err(AllocError),
+            Err(DecodeError::Refused(refusal)) => {
                 let told = refused_bytes(self.alloc, bytes, refusal)?;
-                put_file_fault(out, self.line, 3, line, told.as_str())
+                self.put_file(out, 3, line, told.as_str())
             }
         }
     }
@@ -260,8 +229,8 @@ impl<'a> Explanation<'a> {
         match bytes {
             Some(bytes) => self.put_bytes(out, line, &bytes),
             None => {
-                let told = bad_hex(self.alloc, text).text(self.alloc, TO_DO)?;
-                put_file_fault(out, self.line, 2, line, told.as_str())
+                let told = bad_hex(self.alloc, text)?;
+                self.put_file(out, 2, line, told.as_str())
             }
         }
     }
@@ -316,19 +285,6 @@ impl<'a> Explanation<'a> {
         Ok(())
     }
 
-    // Adds what is to be said of a line with this meaning.
-    fn put_meaning(&mut self, out: &mut String, meaning: Line<'a>) -> Written
-        requires within { IsWithin (above_of self.old) }
-        requires fits { LineFits meaning }
-        ensures { (line : List ℕ) → OnOk result (TakesNext line (Some (meaning_of meaning.entry)) self.old self.new out.old out.new) }
-    {
-        match meaning {
-            Line::Comment => Ok(()),
-            Line::Map(shape) => self.put_map(out, shape),
-            Line::Program(program) => self.put_named(out, program),
-        }
-    }
-
     // Adds what is to be said of the next line, of this number: nothing of most.
     fn put_line(&mut self, out: &mut String, number: u32, line: &'a str) -> Written
         requires { IsWithin (above_of self.old) }
@@ -337,7 +293,9 @@ impl<'a> Explanation<'a> {
         self.line = number;
         match read_line(line) {
             None => self.put_bad_line(out, line),
-            Some(meaning) => self.put_meaning(out, meaning),
+            Some(Line::Comment) => Ok(()),
+            Some(Line::Map(shape)) => self.put_map(out, shape),
+            Some(Line::Program(program)) => self.put_named(out, program),
         }
     }
 
@@ -400,12 +358,12 @@ pub fn explain_manifest(
     // Where no line is that of a program of this name, it says so.
     ensures missing { IfSome name.entry (λ n. has_program n.now manifest.now ≡ false → IfOk result (λ s. string_bytes s ≡ no_program n.now)) }
 {
-    if let Some(name) = name {
-        if !has_program(manifest, name) {
-            let mut out = String::new(alloc);
-            put_all(&mut out, &["\nno program ", name, "\n"])?;
-            return Ok(out);
-        }
+    if let Some(name) = name
+        && !has_program(manifest, name)
+    {
+        let mut out = String::new(alloc);
+        put_all(&mut out, &["\nno program ", name, "\n"])?;
+        return Ok(out);
     }
     told(alloc, manifest, files, name)
 }

@@ -1,31 +1,28 @@
 // The listing of a program.
 
-ghost use Rattle.std.specs.Prelude.{◌≡◌, ◌⊎◌, ◌<◌, ◌≤◌, ◌^◌, ◌-◌, ◌++◌, ℕ, List, length, take, codes, IfOk, OnOk, MatchOption};
+ghost use Rattle.std.specs.Prelude.{◌≡◌, ◌⊎◌, ◌<◌, ◌≤◌, ◌^◌, ◌-◌, ◌++◌, ◌==◌, if◌then◌else◌, ℕ, List, length, take, codes, IfOk, OnOk, MatchOption};
 ghost use Rattle.std.specs.String.{string_bytes};
 ghost use Rattle.insn.specs.declared.instruction.TheConstants.{MAX_SLOTS};
 ghost use Rattle.insn.specs.Layout.{size};
 ghost use Rattle.asm.specs.Text.{line_text};
 ghost use Rattle.loader.specs.Spelling.{mode_word};
-ghost use Rattle.explain.specs.Listing.{line_of, byte_word, head_text, instruction_word, left_text, margin, AddsListing, CanBeJudged, Explains, IsAside, IsLine, Lists};
+ghost use Rattle.explain.specs.Listing.{line_of, head_text, left_text, margin, AddsListing, CanBeJudged, Explains, IsAside, IsLine, Lists};
 
-use crate::programs::knowledge::put_changes;
-use crate::programs::study::Study;
-use crate::programs::subject::Subject;
+use crate::programs::{Byte, STACK_BYTES, Study, Subject, byte_in, from_end, kind_in};
 use crate::refusals::put_refusal;
-use crate::sentences::{Word, Written, put, put_all};
+use crate::sentences::Word::{Count, Known, Number, Range, Register, Text};
+use crate::sentences::{Written, put, put_all};
 use asm::disassemble;
 use insn::Insn;
 use itoa::Buffer;
+use regkind::{Cell, Frame};
 use std::alloc::{AllocError, Global};
 use verifier::Mode;
 
 // How many of the slots are named from which jumps come.
 const NAMED: usize = 4;
 
-// The column in which stands what is known at a slot, counted from the words of its instruction.
-const COLUMN: usize = 24;
-
-// As many blanks.
+// The blanks from the first word of an instruction to what is known at its slot.
 const BLANKS: &str = "                        ";
 
 // The word of a mode in a manifest.
@@ -38,60 +35,103 @@ fn mode_word(mode: Mode) -> &'static str
     }
 }
 
-// The word behind a number of bytes.
-fn byte_word(count: usize) -> &'static str
-    ensures { result.now ≡ byte_word count }
+// The word behind a number.
+fn plural<'a>(count: usize, one: &'a str, many: &'a str) -> &'a str
+    ensures { result.now ≡ if count == 1 then one.now else many.now }
 {
-    if count == 1 { " byte" } else { " bytes" }
+    if count == 1 { one } else { many }
 }
 
 // Adds which program it is.
 fn put_head(out: &mut String, subject: &Subject<'_>) -> Written
     ensures { OnOk result (string_bytes out.new ≡ string_bytes out.old ++ head_text subject.now.line (line_of subject.now)) }
 {
+    let (mut line, mut size) = (Buffer::new(), Buffer::new());
     let Subject { name, file, .. } = *subject;
-    let (mut line, mut bytes) = (Buffer::new(), Buffer::new());
+    let (mode, count) = (subject.mode, subject.arg_len);
     put_all(out, &["program ", name, ": line "])?;
-    put_all(
-        out,
-        &[
-            line.format(subject.line),
-            ", ",
-            mode_word(subject.mode),
-            ", argument ",
-        ],
-    )?;
-    put_all(
-        out,
-        &[
-            bytes.format(subject.arg_len),
-            byte_word(subject.arg_len),
-            ", ",
-        ],
-    )?;
+    let pieces = [
+        line.format(subject.line),
+        ", ",
+        mode_word(mode),
+        ", argument ",
+    ];
+    put_all(out, &pieces)?;
+    let pieces = [size.format(count), plural(count, " byte", " bytes"), ", "];
+    put_all(out, &pieces)?;
     put_all(out, &[file, "\n"])
+}
+
+// Adds the bytes of the stack that became so, those in a row together.
+fn put_bytes(out: &mut String, before: Option<&Frame>, frame: &Frame, known: Byte) -> Written {
+    let word = match known {
+        Byte::Number => "written",
+        _ => "unwritten",
+    };
+    let mut first = None;
+    for byte in 0..=STACK_BYTES {
+        let is_known = byte_in(Some(frame), byte) == known;
+        let is_new = is_known && byte_in(before, byte) != known;
+        match first {
+            None if is_new => first = Some(byte),
+            Some(begin) if !is_new => {
+                let bytes = Range(from_end(begin), from_end(byte).saturating_sub(1));
+                put(out, "; stack {0} {1}", &[bytes, Text(word)])?;
+                first = None;
+            }
+            _ => {}
+        }
+    }
+    Ok(())
+}
+
+// Adds the pointers that came to stand in the stack.
+fn put_pointers(out: &mut String, before: Option<&Frame>, frame: &Frame) -> Written {
+    for cell in 0..64 {
+        let known = frame.cell(cell);
+        let old = before.map_or(Cell::Marks(0), |before| before.cell(cell));
+        match known {
+            Cell::Spilled(kind) if known != old => {
+                let at = Number(from_end(cell.min(64) * 8));
+                put(out, "; stack {0} holds {1}", &[at, Known(kind)])?;
+            }
+            _ => {}
+        }
+    }
+    Ok(())
+}
+
+// Adds all that is known in a frame otherwise than in that of the instruction above, if this is all that leads there, each thing behind a
+// semicolon.
+fn put_changes(out: &mut String, before: Option<&Frame>, frame: &Frame) -> Written {
+    for register in 0..11 {
+        let known = kind_in(Some(frame), register);
+        if known != kind_in(before, register) {
+            put(out, "; {0} = {1}", &[Register(register), Known(known)])?;
+        }
+    }
+    put_bytes(out, before, frame, Byte::Number)?;
+    put_bytes(out, before, frame, Byte::Unwritten)?;
+    put_pointers(out, before, frame)
 }
 
 // Adds from where the instruction at a slot is reached, where not from the line above alone.
 fn put_sources(out: &mut String, study: &Study<'_>, slot: usize) -> Written {
     let jumps = study.jumps_into(slot);
-    let mut separator = Word::Text(" ");
+    let mut separator = Text(" ");
     out.push_str("from")?;
     for step in jumps.iter().take(NAMED) {
-        put(out, "{0}{1}", &[separator, Word::Count(step.from)])?;
-        separator = Word::Text(", ");
+        put(out, "{0}{1}", &[separator, Count(step.from)])?;
+        separator = Text(", ");
     }
     if jumps.len() > NAMED {
-        put(out, " and {0} more", &[Word::Count(jumps.len() - NAMED)])?;
+        put(out, " and {0} more", &[Count(jumps.len() - NAMED)])?;
     }
-    match study.above(slot) {
-        Some(above) if study.frame_at(above).is_some() => put(
-            out,
-            "{0}{1}: ",
-            &[separator, Word::Count(above)],
-        ),
-        _ => out.push_str(": "),
+    let above = study.above(slot);
+    if let Some(above) = above.filter(|above| study.frame_at(*above).is_some()) {
+        put(out, "{0}{1}", &[separator, Count(above)])?;
     }
+    out.push_str(": ")
 }
 
 // What is known at a slot, in words.
@@ -101,10 +141,9 @@ fn knowledge(study: &Study<'_>, slot: usize) -> Result<String, AllocError> {
         out.push_str("nothing leads here")?;
         return Ok(out);
     };
-    let before = match study.above(slot) {
-        Some(above) if study.jumps_into(slot).is_empty() => study.frame_at(above),
-        _ => None,
-    };
+    let above = study.above(slot);
+    let only = above.filter(|_| study.jumps_into(slot).is_empty());
+    let before = only.and_then(|above| study.frame_at(above));
     if before.is_none() && slot > 0 {
         put_sources(&mut out, study, slot)?;
     }
@@ -123,10 +162,8 @@ fn aside(alloc: Global, width: usize, known: &str) -> Result<String, AllocError>
 {
     let mut out = String::new(alloc);
     let mut padded = String::new(alloc);
-    put_all(
-        &mut padded,
-        &[BLANKS.get(width..COLUMN).unwrap_or(""), known],
-    )?;
+    let blanks = BLANKS.get(width..).unwrap_or("");
+    put_all(&mut padded, &[blanks, known])?;
     if known.is_empty() || padded.as_bytes().contains(&b'\n') {
         return Ok(out);
     }
@@ -155,14 +192,11 @@ fn dis_line(alloc: Global, insn: &Insn) -> Result<String, AllocError>
 fn margin(slot: usize) -> &'static str
     ensures { result.now ≡ margin slot }
 {
-    if slot < 10 {
-        "   "
-    } else if slot < 100 {
-        "  "
-    } else if slot < 1000 {
-        " "
-    } else {
-        ""
+    match slot {
+        0..=9 => "   ",
+        10..=99 => "  ",
+        100..=999 => " ",
+        _ => "",
     }
 }
 
@@ -174,38 +208,20 @@ fn put_line(out: &mut String, slot: usize, insn: &Insn, known: &str) -> Written
     let line = dis_line(alloc, insn)?;
     let words = without_end(line.as_str());
     let aside = aside(alloc, words.len(), known)?;
+    let known = aside.as_str();
     let mut digits = Buffer::new();
-    let pieces = [
-        margin(slot),
-        digits.format(slot),
-        "  ",
-        words,
-        aside.as_str(),
-        "\n",
-    ];
+    let pieces = [margin(slot), digits.format(slot), "  ", words, known, "\n"];
     put_all(out, &pieces)
 }
 
-// The last slot of which something is known, and the last one that is listed.
-#[derive(Clone, Copy)]
-struct Limits {
-    known: usize,
-    listed: usize,
-}
-
-// Those of a program: without an end where it is accepted.
-fn limits_of(study: &Study<'_>) -> Limits
-    ensures { MatchOption study.now.known.refused (result.listed ≡ 2 ^ 64 - 1) (λ e. e.slot ≤ result.listed) }
+// The last slot that is listed, of those up to which something is known: without an end where the program is accepted.
+fn last_listed(study: &Study<'_>, known: usize) -> usize
+    ensures { MatchOption study.now.known.refused (result ≡ 2 ^ 64 - 1) (λ e. e.slot ≤ result) }
 {
-    let known = match study.known.kinds {
-        Some(kinds) => kinds.slot as usize,
-        None => usize::MAX,
-    };
-    let listed = match study.known.refused {
+    match study.known.refused {
         Some(refused) => known.max(refused.slot as usize),
         None => usize::MAX,
-    };
-    Limits { known, listed }
+    }
 }
 
 // How many instructions begin at a slot or above it.
@@ -243,17 +259,6 @@ fn put_instructions(out: &mut String, study: &Study<'_>, listed: &[Insn], last: 
     Ok(())
 }
 
-// What stands behind a number of instructions.
-fn instruction_word(count: usize) -> &'static str
-    ensures { result.now ≡ instruction_word count }
-{
-    if count == 1 {
-        " more instruction)\n"
-    } else {
-        " more instructions)\n"
-    }
-}
-
 // Adds how many instructions are not listed.
 fn put_left(out: &mut String, left: usize) -> Written
     ensures { OnOk result (string_bytes out.new ≡ string_bytes out.old ++ left_text left) }
@@ -262,18 +267,19 @@ fn put_left(out: &mut String, left: usize) -> Written
         return Ok(());
     }
     let mut digits = Buffer::new();
-    let pieces = ["      (", digits.format(left), instruction_word(left)];
-    put_all(out, &pieces)
+    let words = plural(left, " more instruction)\n", " more instructions)\n");
+    put_all(out, &["      (", digits.format(left), words])
 }
 
 // Adds the lines of the instructions.
 fn put_lines(out: &mut String, study: &Study<'_>) -> Written
     ensures { OnOk result (AddsListing study.now.subject.program.now study.now.known.refused (string_bytes out.old) (string_bytes out.new)) }
 {
-    let limits = limits_of(study);
-    let program = study.subject.program;
-    let (listed, left) = program.split_at(count_upto(program, limits.listed));
-    put_instructions(out, study, listed, limits.known)?;
+    let (program, kinds) = (study.subject.program, study.known.kinds);
+    let known = kinds.map_or(usize::MAX, |kinds| kinds.slot as usize);
+    let last = last_listed(study, known);
+    let (listed, left) = program.split_at(count_upto(program, last));
+    put_instructions(out, study, listed, known)?;
     put_left(out, left.len())
 }
 

@@ -14,5 +14,5 @@ returns c =
     let b = decimal s.line ∷ codes ", " ∷ mode_word s.mode ∷ codes ", argument " ∷ [] in
     let d = decimal s.arg_len ∷ byte_word s.arg_len ∷ codes ", " ∷ [] in
     let second = both a b old _ _ c.in_ok-put_all.ensures (rw (c.format.ensures.text, c.mode_word.ensures) at c.in_ok-put_all-2.ensures) in
-    let third = both (a ++ b) d old _ _ second (rw (c.format-2.ensures.text, c.byte_word.ensures) at c.in_ok-put_all-3.ensures) in
+    let third = both (a ++ b) d old _ _ second (rw (c.format-2.ensures.text, c.plural.ensures) at c.in_ok-put_all-3.ensures) in
     on_ok c.put_all-4.result (λ last. both ((a ++ b) ++ d) (s.file.now ∷ codes "\n" ∷ []) old _ _ third last) c.put_all-4.ensures

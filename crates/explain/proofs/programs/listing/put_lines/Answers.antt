@@ -11,4 +11,4 @@ returns c =
     on_ok c.put_left.result
     (λ put small.
     is_listing p study.known.refused count _ _ _ _ ((rw c.split_at.ensures.front at c.in_ok-put_instructions.ensures) (omega (arith, size_take count p, small))) c.split_at.ensures.back_len put
-    (are_enough p study.known.refused count c.limits_of-limits.result.listed small c.limits_of-limits.ensures c.count_upto.ensures.enough)) c.put_left.ensures
+    (are_enough p study.known.refused count c.last_listed-last.result small c.last_listed-last.ensures c.count_upto.ensures.enough)) c.put_left.ensures

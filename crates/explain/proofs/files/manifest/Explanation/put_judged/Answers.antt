@@ -1,9 +1,10 @@
-use Rattle.std.proofs.Common.{◌≡◌, None}
-use Rattle.explain.specs.declared.programs.subject.Subject.{Subject}
+use Rattle.std.proofs.Common.{◌≡◌, None, [], ◌∷◌, ◌++◌}
+use Rattle.std.specs.Prelude.{codes, decimal}
+use Rattle.explain.specs.declared.programs.Subject.{Subject}
 use Rattle.explain.specs.Listing.{CanBeJudged}
 use Rattle.explain.specs.Explanation.{above_of}
 use Rattle.loader.specs.LineShown.{program_of}
-use Rattle.explain.proofs.Pieces.{on_ok}
+use Rattle.explain.proofs.Pieces.{both, on_ok}
 use Rattle.explain.proofs.Judged.{judged_is, not_judged_is, maps_are_ok}
 use Rattle.explain.proofs.files.manifest.Explanation.put_judged.Goals as goal
 
@@ -11,8 +12,12 @@ pub returns-in-Some : goal.returns-in-Some
 returns-in-Some c =
     let s = c.args.self.now in
     let p = program_of c.args.line in
-    on_ok c.put_all.result
-    (λ put. not_judged_is s.line (above_of s) p _ _ c.in-Some.map c.args.program.now c.in-Some.is (rw (c.format.ensures.text, c.format-in-Some.ensures.text) at put)) c.put_all.ensures
+    let a = codes "\nline " ∷ decimal s.line ∷ codes ": " ∷ [] in
+    let b = p.name ∷ codes " isn't judged, since the map of line " ∷ [] in
+    let end = decimal c.in-Some.map ∷ codes " is bad\n" ∷ [] in
+    let second = both a b _ _ _ (rw c.format.ensures.text at c.in_ok-put_all.ensures) c.in_ok-put_all-2.ensures in
+    on_ok c.put_all-in-Some-2.result
+    (λ put. not_judged_is s.line (above_of s) p _ _ c.in-Some.map c.args.program.now c.in-Some.is (both (a ++ b) end _ _ _ second (rw c.format-in-Some.ensures.text at put))) c.put_all-in-Some-2.ensures
 
 pub returns : goal.returns
 returns c =

@@ -18,5 +18,5 @@ pub returns-in_ok-told-in-None : goal.returns-in_ok-told-in-None
 returns-in_ok-told-in-None c =
     let s = c.args.self.now in
     let is : spaced_bytes c.args.text.now ≡ None = sym c.in_ok-bytes.ensures.bytes ∙ ap (λ o. option_map (λ v. v.items) o) c.in-None.is in
-    on_ok c.put_file_fault.result
-    (λ put. read_is s.line (above_of s) (program_of c.args.line) _ _ _ _ (no_digits c.args.text.now is) (bad_file s.line (above_of s) (program_of c.args.line) _ _ _ put)) c.put_file_fault.ensures
+    on_ok c.put_file.result
+    (λ put. read_is s.line (above_of s) (program_of c.args.line) _ _ _ _ (no_digits c.args.text.now is) (bad_file s.line (above_of s) (program_of c.args.line) _ _ _ put)) c.put_file.ensures

@@ -1,6 +1,6 @@
 use Rattle.std.proofs.Common.{◌≡◌, length, arith, refl}
 use Rattle.explain.proofs.Pieces.{piece_more, whole}
-use Rattle.explain.proofs.sentences.pieces.put_all.Goals as goal
+use Rattle.explain.proofs.sentences.put_all.Goals as goal
 
 pub loop-piece-preserved : goal.loop-piece-preserved
 loop-piece-preserved c =
