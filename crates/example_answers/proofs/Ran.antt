@@ -14,6 +14,8 @@ use Rattle.engine.specs.Reading.{first_stranger, found, read, unless_strange}
 use Rattle.running.specs.RunAnswer.{Turn, behind, bad_line, by_turn, line_turn, lines_answer}
 use Rattle.running.specs.KeptRun.{KeptRun, kept_of, run_kept, script_kept}
 use Rattle.running.specs.declared.runs.Kept.{Kept}
+use Rattle.running.specs.declared.single_node.TheConstants.{RUN_PLACES}
+use Rattle.engine.specs.Opening.{opening_of}
 use Rattle.engine.specs.Answer.{Answer}
 use Rattle.example_answers.specs.Counter.{counter_calls, counter_script, counter_ran}
 use Rattle.example_answers.proofs.Counting.{counter, running}
