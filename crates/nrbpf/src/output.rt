@@ -1,6 +1,7 @@
 // Where a command writes: standard output, standard error and files.
 
-use crate::disk::{DASH, say};
+use crate::disk::say;
+use command_line::DASH;
 use engine::{ReadFault, Reply, Sink, Status, report};
 use std::alloc::{AllocError, Global};
 use std::io::{Eprint, ErrorKind, Write};

@@ -1,8 +1,7 @@
-// The command line.
+// The commands with their arguments, and the call that words ask for.
 
-use crate::disk::DASH;
+use crate::calls::{Call, DASH, named_call};
 use crate::help;
-use crate::tasks::{Call, named_call};
 use clap::builder::ValueParser;
 use clap::{Arg, Command, Error, arg};
 use std::alloc::{AllocError, Global};
@@ -169,24 +168,62 @@ fn stress<'a>(alloc: Global) -> Result<Command<'a>, AllocError> {
         .arg(script(alloc))
 }
 
+// The commands, in the help's order.
+#[derive(Clone, Copy)]
+enum Name {
+    Check,
+    Explain,
+    Asm,
+    Dis,
+    Encode,
+    Run,
+    Serve,
+    Replay,
+    Schedule,
+    Stress,
+}
+
+const NAMES: [Name; 10] = [
+    Name::Check,
+    Name::Explain,
+    Name::Asm,
+    Name::Dis,
+    Name::Encode,
+    Name::Run,
+    Name::Serve,
+    Name::Replay,
+    Name::Schedule,
+    Name::Stress,
+];
+
+// The command of a name.
+fn named<'a>(alloc: Global, name: Name) -> Result<Command<'a>, AllocError> {
+    match name {
+        Name::Check => check(alloc),
+        Name::Explain => explain(alloc),
+        Name::Asm => asm(alloc),
+        Name::Dis => dis(alloc),
+        Name::Encode => encode(alloc),
+        Name::Run => run(alloc),
+        Name::Serve => serve(alloc),
+        Name::Replay => replay(alloc),
+        Name::Schedule => schedule(alloc),
+        Name::Stress => stress(alloc),
+    }
+}
+
 // The command line of the program.
 fn program<'a>(alloc: Global) -> Result<Command<'a>, AllocError> {
-    Command::new(alloc, "nrbpf")
+    let mut program = Command::new(alloc, "nrbpf")
         .about("A store of maps whose operations are eBPF programs")
         .after_help(help::PROGRAM)
         .version(help::VERSION)
         .subcommand_required(true)
-        .arg_required_else_help(true)
-        .subcommand(check(alloc)?)?
-        .subcommand(explain(alloc)?)?
-        .subcommand(asm(alloc)?)?
-        .subcommand(dis(alloc)?)?
-        .subcommand(encode(alloc)?)?
-        .subcommand(run(alloc)?)?
-        .subcommand(serve(alloc)?)?
-        .subcommand(replay(alloc)?)?
-        .subcommand(schedule(alloc)?)?
-        .subcommand(stress(alloc)?)
+        .arg_required_else_help(true);
+    for name in NAMES {
+        program = program.subcommand(named(alloc, name)?)?;
+    }
+    Ok(program)
 }
 
 /// The call that the words of a command line ask for, the first of them the program's name. The parser refuses words that name no
