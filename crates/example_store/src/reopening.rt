@@ -7,7 +7,10 @@ use crate::common::{FILES, KEY, MANIFEST, close, print_read, print_update};
 use std::alloc::Global;
 use std::io;
 use std::sync::Wait;
-use store::{Answer, Config, Mode, ReadAnswer, Session, Store, StoreRefused, load_manifest};
+use store::{
+    Answer, Catalogue, Closed, Config, Mode, ReadAnswer, Session, Store, StoreRefused,
+    load_manifest,
+};
 
 // The bytes of a program without an argument that replies 5.
 const FIVE: [u8; 16] = [0xb7, 0, 0, 0, 5, 0, 0, 0, 0x95, 0, 0, 0, 0, 0, 0, 0];
@@ -15,12 +18,26 @@ const FIVE: [u8; 16] = [0xb7, 0, 0, 0, 5, 0, 0, 0, 0x95, 0, 0, 0, 0, 0, 0, 0];
 // The number of the first program that is installed: it stands behind the manifest's two.
 const INSTALLED: u16 = 2;
 
-// What a session is told, call by call.
+// The numbers of the manifest's programs.
+#[derive(Clone, Copy)]
+struct Programs {
+    bump: u16,
+    peek: u16,
+}
+
+// What a session is told that reads, and counts twice.
 #[derive(Drop)]
-struct Told {
+struct Counted {
     seen: Result<ReadAnswer, StoreRefused>,
     first: Result<Answer, StoreRefused>,
     second: Result<Answer, StoreRefused>,
+}
+
+// What the session of a store is told.
+#[derive(Drop)]
+struct Told {
+    counted: Counted,
+    last: Result<Answer, StoreRefused>,
 }
 
 // A store of one session, whose history has three operations at most.
@@ -37,53 +54,72 @@ fn config() -> Config
 }
 
 // Reads, and counts twice.
-fn count<R: Wait>(rt: &R, store: &Store, session: &mut Session, bump: u16, peek: u16) -> Told
+fn count<R: Wait>(rt: &R, store: &Store, session: &mut Session, programs: Programs) -> Counted
     requires own { IsOf store.now session.old }
     ensures own { IsOf store.now session.new }
 {
+    let Programs { bump, peek } = programs;
     let seen = session.read(rt, store, peek, &KEY);
     let first = session.invoke(rt, store, bump, &KEY);
     let second = session.invoke(rt, store, bump, &KEY);
-    Told {
+    Counted {
         seen,
         first,
         second,
     }
 }
 
-// Two stores, the second on the state that the first ends in: what the session of each was told, and of its last update.
-fn counted<R: Wait>(rt: &R, alloc: Global) -> Option<[(Told, Result<Answer, StoreRefused>); 2]> {
-    let catalogue = load_manifest(alloc, MANIFEST, &FILES).ok()?;
-    let bump = catalogue.number("bump")?;
-    let peek = catalogue.number("peek")?;
+// A store with its only session: reads, counts twice, installs a program, and closes the store.
+fn before<R: Wait>(
+    rt: &R,
+    alloc: Global,
+    catalogue: Catalogue,
+    programs: Programs,
+) -> Option<(Told, Closed)> {
     let (store, mut sessions) = Store::open(alloc, config(), catalogue).ok()?;
     let Some(mut session) = sessions.pop() else {
         unreachable!()
     };
-    let before = count(rt, &store, &mut session, bump, peek);
-    let installed = session.install(rt, &store, Mode::Update, 0, &FIVE);
-    // The state after all operations, and the catalogue, which isn't loaded and verified again.
-    let (state, catalogue) = close(store, session, sessions).into_state();
+    let counted = count(rt, &store, &mut session, programs);
+    let last = session.install(rt, &store, Mode::Update, 0, &FIVE);
+    Some((Told { counted, last }, close(store, session, sessions)))
+}
+
+// A store on the state that another ended in, with its catalogue, which isn't loaded and verified again: reads, counts twice, and
+// calls the program that was installed.
+fn behind<R: Wait>(rt: &R, alloc: Global, ended: Closed, programs: Programs) -> Option<Told> {
+    let (state, catalogue) = ended.into_state();
     let (store, mut sessions) = Store::open_on(alloc, config(), catalogue, &state).ok()?;
     let Some(mut session) = sessions.pop() else {
         unreachable!()
     };
-    let behind = count(rt, &store, &mut session, bump, peek);
-    let called = session.invoke(rt, &store, INSTALLED, &[]);
+    let counted = count(rt, &store, &mut session, programs);
+    let last = session.invoke(rt, &store, INSTALLED, &[]);
     let _closed = close(store, session, sessions);
-    Some([(before, installed), (behind, called)])
+    Some(Told { counted, last })
+}
+
+// Two stores, the second on the state that the first ends in: what the session of each was told.
+fn lives<R: Wait>(rt: &R, alloc: Global) -> Option<[Told; 2]> {
+    let catalogue = load_manifest(alloc, MANIFEST, &FILES).ok()?;
+    let programs = Programs {
+        bump: catalogue.number("bump")?,
+        peek: catalogue.number("peek")?,
+    };
+    let (first, ended) = before(rt, alloc, catalogue, programs)?;
+    Some([first, behind(rt, alloc, ended, programs)?])
 }
 
 /// Writes what the session of each store was told.
 pub fn tell<R: Print + Wait>(rt: &R, alloc: Global) -> io::Result<()> {
-    let Some(lives) = counted(rt, alloc) else {
+    let Some(lives) = lives(rt, alloc) else {
         return println!(rt; "the store can't be opened");
     };
-    for (told, last) in lives {
-        print_read(rt, told.seen)?;
-        print_update(rt, told.first)?;
-        print_update(rt, told.second)?;
-        print_update(rt, last)?;
+    for told in lives {
+        print_read(rt, told.counted.seen)?;
+        print_update(rt, told.counted.first)?;
+        print_update(rt, told.counted.second)?;
+        print_update(rt, told.last)?;
     }
     Ok(())
 }

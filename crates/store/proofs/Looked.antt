@@ -21,8 +21,11 @@ use Rattle.store_steps.specs.Standing.{IsFree, SessionKnown, StoreSeat}
 use Rattle.store_steps.specs.Views.{IsIdle, SessionView, session_view}
 use Rattle.store_steps.proofs.Gone.{on_known}
 use Rattle.store_steps.proofs.Views.{both}
-use Rattle.store.specs.Sessions.{IsFresh, IsOf, StoreView}
-use Rattle.store.proofs.Between.{StaysIdle, idle_at, on_at, stays_idle}
+use Rattle.accounts.specs.Accounts.{Extends, IsWellFormed}
+use Rattle.loader.specs.Installed.{InstalledView}
+use Rattle.replica.specs.StoreMeaning.{store_meaning}
+use Rattle.store.specs.Sessions.{HasRoom, IsFresh, IsOf, StoreView}
+use Rattle.store.proofs.Between.{StaysIdle, idle_at, idle_stage, on_at, room_on, stays_idle}
 
 module _ (old new : StoreSeat) (k m : SessionKnown) (was : IsSession old k) (now : IsSession new m) where
   pub seen_fresh : (point : ℕ) → HasSeen k m point → IsFresh (session_view old) (session_view new) point
@@ -45,6 +48,12 @@ idle_seen old new caller i m is point r = stays_idle old new caller i m is r.ses
 
 -- ---- a session whose calls wait for nobody, and of which no update is out
 
+-- it has looked, and is idle still
+pub record HasLooked (was : SessionView) (new : StoreSeat) (caller : Caller) (b : BatchView) (kept : RepliesView) (stage : Stage) (room : InstalledView) : Type 0 where
+  pub grown : Extends was.progress (session_view new).progress
+  pub well_formed : IsWellFormed store_meaning (session_view new).progress
+  pub polled : IsPolled new caller b kept stage × HasRoom room new
+
 module _ (s : StoreSeat) (caller : Caller) (b : BatchView) (kept : RepliesView) (stage : Stage) (v : IsPolled s caller b kept stage) (was : SessionView) (seen : session_view s ≡ was) (none : was.note.pending ≡ None) where
   pub idle_now : IsIdle s caller
   idle_now = idle_at s caller b kept stage v (ap (λ (z : SessionView). z.note.pending) seen ∙ none)
@@ -55,3 +64,12 @@ module _ (s : StoreSeat) (caller : Caller) (b : BatchView) (kept : RepliesView) 
       let i = idle_now in
       let on = on_at s caller b kept shared store stage v (subst (λ z. IsOf store z) (sym seen) own) places nodes same in
       (i.known, i.is, (i.free, on_known shared s i.known i.is on))
+
+  pub has_looked : (new : StoreSeat) (room : InstalledView) → HasRoom room s → StaysIdle s new caller → HasLooked was new caller b kept stage room
+  has_looked new room has idle = record {
+    grown = subst (λ (z : SessionView). Extends z.progress (session_view new).progress) seen idle.extends;
+    well_formed = idle.well_formed;
+    polled =
+        let at = idle_stage s caller b kept stage v (ap (λ (z : SessionView). z.note.pending) seen ∙ none) in
+        (subst (IsPolled new caller b kept) (sym at) idle.idle, room_on s new room idle.extends has);
+  }
