@@ -19,11 +19,11 @@ use Rattle.insn.specs.declared.instruction.Condition.TheVariants.{Jeq, Jgt, Jge,
 use Rattle.insn.specs.declared.instruction.Fields.{Fields}
 use Rattle.insn.specs.declared.instruction.Form.{Form}
 use Rattle.insn.specs.declared.instruction.Form.TheVariants.{Alu, Neg, MovSx, Swap, Load, Store, Imm64, MapRef, Ja, Branch, Call, Exit}
-use Rattle.insn.specs.declared.uses.Use.TheVariants.{Unused, AnyValue, Signedness, Extension, Extension64, SwapBits, WideSource, OnlyZero}
-use Rattle.insn.specs.declared.uses.Use.{Use}
-use Rattle.insn.specs.declared.uses.Uses.{Uses}
+use Rattle.opcodes.specs.declared.Use.TheVariants.{Unused, AnyValue, Signedness, Extension, Extension64, SwapBits, WideSource, OnlyZero}
+use Rattle.opcodes.specs.declared.Use.{Use}
+use Rattle.opcodes.specs.declared.Uses.{Uses}
 use Rattle.insn.specs.Encoding.{slot, slots, HasEncoding, alu_class, jump_class, operation_code, operation_offset, condition_code, swap_opcode, size_code, load_mode, MayLoad, low_imm}
-use Rattle.insn.specs.Table.{Row, table, uses_of, is_among}
+use Rattle.opcodes.specs.Table.{Row, table, uses_of, is_among}
 use Rattle.insn.specs.Refusal.{is_wide, is_bad_half}
 use Rattle.insn.specs.Decoded.{wide_form}
 use Rattle.insn.proofs.Slots.{FieldsFit}

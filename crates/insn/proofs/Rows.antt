@@ -10,10 +10,10 @@ use Rattle.std.proofs.lemmas.List.Folds.{find-append}
 use Rattle.insn.specs.declared.instruction.Fields.{Fields}
 use Rattle.insn.specs.declared.decoding.DecodeFault.{DecodeFault}
 use Rattle.insn.specs.declared.decoding.DecodeFault.TheVariants.{UnknownOpcode, RegisterAbove10, UndefinedValue, UnusedFieldSet, CutOff, BadSecondHalf}
-use Rattle.insn.specs.declared.uses.Use.{Use}
-use Rattle.insn.specs.declared.uses.Use.TheVariants.{Unused}
-use Rattle.insn.specs.declared.uses.Uses.{Uses}
-use Rattle.insn.specs.Table.{uses_of, values_of}
+use Rattle.opcodes.specs.declared.Use.{Use}
+use Rattle.opcodes.specs.declared.Use.TheVariants.{Unused}
+use Rattle.opcodes.specs.declared.Uses.{Uses}
+use Rattle.opcodes.specs.Table.{uses_of, values_of}
 use Rattle.std.proofs.lemmas.Bool.{true≢false}
 use Rattle.insn.specs.Refusal.{is_none_of, is_undefined, is_set_though_unused, some_field, is_wide, is_bad_half, first_fault, first_slot_faults, second_slot_faults, breaks}
 

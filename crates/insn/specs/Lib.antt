@@ -3,7 +3,7 @@ pub mod Encoding
 pub mod Layout
 pub mod Sizes
 pub mod Moves
-pub mod Table
+pub mod Opcodes
 pub mod Refusal
 -- The same as a function, which two laws tie to those: the crates above cite it.
 pub mod Decoded

@@ -12,10 +12,10 @@ use Rattle.insn.specs.declared.decoding.DecodeFault.TheVariants.{NotWholeSlots, 
 use Rattle.insn.specs.declared.decoding.DecodeRefusal.{DecodeRefusal}
 use Rattle.insn.specs.declared.decoding.DecodeError.{DecodeError}
 use Rattle.insn.specs.declared.decoding.DecodeError.TheVariants.{NoMemory, Refused}
-use Rattle.insn.specs.declared.uses.Use.{Use}
-use Rattle.insn.specs.declared.uses.Use.TheVariants.{Unused}
-use Rattle.insn.specs.declared.uses.Uses.{Uses}
-use Rattle.insn.specs.Table.{uses_of, values_of}
+use Rattle.opcodes.specs.declared.Use.{Use}
+use Rattle.opcodes.specs.declared.Use.TheVariants.{Unused}
+use Rattle.opcodes.specs.declared.Uses.{Uses}
+use Rattle.opcodes.specs.Table.{uses_of, values_of}
 use Rattle.insn.specs.Encoding.{program_slots, program_bytes, HasEncoding}
 use Rattle.insn.specs.Layout.{size}
 

@@ -4,9 +4,10 @@ use Rattle.std.proofs.lemmas.Bool.Decides.{nat_tests}
 use Rattle.insn.specs.declared.instruction.Fields.{Fields}
 use Rattle.insn.specs.declared.instruction.Form.{Form}
 use Rattle.insn.specs.declared.instruction.Form.TheVariants.{Imm64}
-use Rattle.insn.specs.declared.uses.Uses.{Uses}
+use Rattle.opcodes.specs.declared.Uses.{Uses}
 use Rattle.insn.specs.Encoding.{slot, low_imm}
-use Rattle.insn.specs.Table.{uses_of, IsOpcodeOf}
+use Rattle.opcodes.specs.Table.{uses_of}
+use Rattle.insn.specs.Opcodes.{IsOpcodeOf}
 use Rattle.insn.proofs.Rows.{own_fault, is_clean}
 use Rattle.insn.proofs.Opcodes.{narrow_opcode}
 use Rattle.insn.proofs.Spelled.{Narrow, Wide, spelled}

@@ -1,12 +1,9 @@
 -- Every opcode of the profile, and which fields its instructions have in use (RFC 9669, sections 4 and 5).
-use Rattle.std.specs.Prelude.{◌≡◌, ◌↔◌, IsSome, codes, ℕ, Bool, ◌==◌, ℤ, pos, List, [], ◌∷◌, Option, Some, None, find, option_map}
+use Rattle.std.specs.Prelude.{codes, ℕ, Bool, ◌==◌, ℤ, pos, List, [], ◌∷◌, Option, Some, None, find, option_map}
 use Rattle.std.specs.List.{list_any}
-use Rattle.insn.specs.declared.uses.Use.{Use}
-use Rattle.insn.specs.declared.uses.Use.TheVariants.{Unused, AnyValue, Signedness, Extension, Extension64, SwapBits, WideSource, OnlyZero}
-use Rattle.insn.specs.declared.uses.Uses.{Uses}
-use Rattle.insn.specs.declared.instruction.Fields.{Fields}
-use Rattle.insn.specs.declared.instruction.Form.{Form}
-use Rattle.insn.specs.Encoding.{slots, HasEncoding}
+use Rattle.opcodes.specs.declared.Use.{Use}
+use Rattle.opcodes.specs.declared.Use.TheVariants.{Unused, AnyValue, Signedness, Extension, Extension64, SwapBits, WideSource, OnlyZero}
+use Rattle.opcodes.specs.declared.Uses.{Uses}
 
 -- opcodes whose instructions have the same fields in use; a register field in use has any register
 pub record Row : Type 0 where
@@ -74,20 +71,6 @@ values_of SwapBits = Some (pos 16 ∷ pos 32 ∷ pos 64 ∷ [])
 values_of WideSource = Some (pos 0 ∷ pos 5 ∷ [])
 values_of OnlyZero = Some (pos 0 ∷ [])
 values_of _ = None
-
--- ---- law
-
--- an instruction has this opcode in its first slot
-pub record IsOpcodeOf (opcode : ℕ) (i : Form) : Type 0 where
-  pub encoded : HasEncoding i
-  pub first : Fields
-  pub rest : List Fields
-  pub spelled : slots i ≡ first ∷ rest
-  pub opcode_is : first.opcode ≡ opcode
-
--- an opcode stands in the table exactly where some instruction has it in its first slot
-abbrev pub OpcodesAreThoseOfInstructions : Type 0
-OpcodesAreThoseOfInstructions = (opcode : ℕ) → IsSome (uses_of opcode) ↔ ((i : Form) × IsOpcodeOf opcode i)
 
 -- ---- the same by letters
 

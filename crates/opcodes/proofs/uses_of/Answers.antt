@@ -3,9 +3,9 @@ use Rattle.std.specs.Prelude.{map}
 use Rattle.std.specs.List.{range_with_len}
 use Rattle.std.proofs.lemmas.List.{get_or-map}
 use Rattle.std.proofs.lemmas.List.FromFn.{get_or-map-range_with_len}
-use Rattle.insn.specs.declared.uses.TheConstants.{LETTERS}
-use Rattle.insn.specs.Table.{uses_of, uses_by}
-use Rattle.insn.proofs.uses.uses_of.Goals as goal
+use Rattle.opcodes.specs.declared.TheConstants.{LETTERS}
+use Rattle.opcodes.specs.Table.{uses_of, uses_by}
+use Rattle.opcodes.proofs.uses_of.Goals as goal
 
 -- opcode by opcode, both are the same
 same : map uses_by LETTERS.now ≡ map uses_of (range_with_len 0 256)

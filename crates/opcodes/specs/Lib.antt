@@ -1,0 +1,2 @@
+-- Which fields an opcode has in use.
+pub mod Table
