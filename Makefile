@@ -18,7 +18,7 @@ program = crates/nrbpf/out/nrbpf
 number = $(shell sed -n 's/^.define NRBPF_VERSION_$(1) \([0-9]*\)u$$/\1/p' embed/nrbpf.h)
 major := $(call number,MAJOR)
 minor := $(call number,MINOR)
-day := $(shell sed -n 's/^pub const VERSION: .str = "\(.*\)";$$/\1/p' crates/command_line/src/help.rt)
+day := $(shell sed -n 's/^pub const VERSION: .str = "\(.*\)";$$/\1/p' crates/nrbpf/src/help.rt)
 shared = libnrbpf.so.$(major)
 name = nrbpf-$(day)
 below = $(patsubst $(PREFIX)/%,$${prefix}/%,$(1))

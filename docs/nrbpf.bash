@@ -1,4 +1,4 @@
-# Made by .ci/manual from the help of nrbpf: change crates/command_line/src/help.rt, not this file.
+# Made by .ci/manual from the help of nrbpf: change crates/nrbpf/src/help.rt, not this file.
 # Completes commands, options and paths of nrbpf in bash:  . docs/nrbpf.bash
 _nrbpf() {
     local word=${COMP_WORDS[COMP_CWORD]} before=${COMP_WORDS[COMP_CWORD - 1]} words

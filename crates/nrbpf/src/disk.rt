@@ -3,11 +3,13 @@
 ghost use Rattle.std.specs.Prelude.{IfOk};
 ghost use Rattle.std.specs.Counts.{IsPrefixLen};
 
-use command_line::DASH;
 use engine::Folder;
 use std::io::{Eprint, Input, Read};
 use std::rt::Files;
 use std::{fs, io};
+
+/// The path that stands for standard input, and in an option for standard output.
+pub const DASH: &str = "-";
 
 /// Says on standard error why something cannot be used.
 pub fn say<R: Eprint>(rt: &R, name: &str, error: &io::Error) {

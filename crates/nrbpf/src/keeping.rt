@@ -1,8 +1,8 @@
 // The commands that write elsewhere than to standard output, or say there what others write.
 
-use crate::disk::LateFile;
+use crate::disk::{DASH, LateFile};
 use crate::output::{Later, no_memory, put_behind, say_text};
-use command_line::{Call, DASH};
+use crate::tasks::Call;
 use console::{Assemble, Encode};
 use dumps::dump;
 use engine::texts::not_text;

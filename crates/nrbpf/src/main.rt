@@ -1,12 +1,13 @@
 //! A store of maps whose operations are eBPF programs, from the command line.
 #![tactic(auto)]
 
+mod command_line;
 mod disk;
+mod help;
 mod keeping;
 mod output;
-mod sizes;
+mod tasks;
 
-use command_line::{Call, Task};
 use console::{Check, Draw, Explain};
 use disk::{Disk, LateFile};
 use engine::{Answering, Command, Folder, Inputs, Notes, Status, Telling};
@@ -15,12 +16,12 @@ use output::{Output, say_text};
 use realtime::ReplayTimed;
 use replaying::Replay;
 use scheduling::Schedule;
-use sizes::say_sizes;
 use std::io::{self, Eprint, Input, Print, Read, Write};
 use std::process::ExitCode;
 use std::rt::{Clock, Files};
 use std::sync::Wait;
 use std::thread::Threads;
+use tasks::{Call, Task, say_sizes};
 
 // Does a command, and says on standard error what is to be told beside its answer.
 fn act<R: AllocGlobal + Eprint, C: Command, F: Folder, I: Read + Drop, W: Write>(

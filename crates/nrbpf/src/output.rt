@@ -1,7 +1,6 @@
 // Where a command writes: standard output, standard error and files.
 
-use crate::disk::say;
-use command_line::DASH;
+use crate::disk::{DASH, say};
 use engine::{ReadFault, Reply, Sink, Status, report};
 use std::alloc::{AllocError, Global};
 use std::io::{Eprint, ErrorKind, Write};

@@ -12,11 +12,11 @@
 //! assembler text that is refused, and `NAME.fixed.asm` that which is not.
 #![tactic(auto)]
 
-mod opcodes;
+mod every_opcode;
 mod refusals;
 mod slips;
 
-use opcodes::run_line;
+use every_opcode::run_line;
 use refusals::tell_refusals;
 use slips::tell_slip;
 use std::io;

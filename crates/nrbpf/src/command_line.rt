@@ -1,7 +1,8 @@
-// The commands with their arguments, and the call that words ask for.
+// The command line.
 
-use crate::calls::{Call, DASH, named_call};
+use crate::disk::DASH;
 use crate::help;
+use crate::tasks::{Call, named_call};
 use clap::builder::ValueParser;
 use clap::{Arg, Command, Error, arg};
 use std::alloc::{AllocError, Global};
