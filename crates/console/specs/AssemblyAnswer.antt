@@ -1,14 +1,13 @@
 -- What `asm`, `dis` and `encode` answer, as a function of what was read; and `dis --slots`, where two columns stand before each line: the slot
 -- and the bytes of its instruction.
+use Rattle.std.specs.Option.{option_map_or}
 use Rattle.std.specs.Prelude.{ℕ, Bool, ◌+◌, min, List, [], ◌∷◌, ◌++◌, length, drop, codes, decimal, Option, Some, None, if◌then◌else◌}
 use Rattle.hex.specs.Hex.{encode_lower}
 use Rattle.insn.specs.declared.instruction.Form.{Form}
-use Rattle.insn.specs.declared.decoding.DecodeRefusal.{DecodeRefusal}
 use Rattle.insn.specs.Encoding.{program_bytes}
 use Rattle.insn.specs.Layout.{slot_count}
 use Rattle.insn.specs.Decoded.{decoded}
 use Rattle.insn.specs.Refusal as decoding
-use Rattle.asm.specs.declared.refusals.AsmRefusal.{AsmRefusal}
 use Rattle.asm.specs.Assembled.{assembled}
 use Rattle.asm.specs.Refusal as assembling
 use Rattle.asm.specs.Text.{text_of}
@@ -27,14 +26,12 @@ use Rattle.console.specs.CheckAnswer.{good_or_refused}
 abbrev pub hex_text : List Form → List ℕ
 hex_text program = encode_lower (program_bytes program)
 
--- the first bad line of an assembler text, and what is wrong with it
-abbrev pub asm_refusal_text : AsmRefusal → List ℕ
-asm_refusal_text e = codes "line " ++ (decimal e.line ++ (codes ": A" ++ (decimal (assembling.fault_number e.why) ++ codes "\n")))
-
--- the program's bytes in one line
+-- the program's bytes in one line; or the first bad line of the assembler text, and what is wrong with it
 abbrev pub asm_answer : Option TextsRead → Answer
 asm_answer None = not_text
-asm_answer (Some t) = good_or_refused (λ program. hex_text program ++ codes "\n") asm_refusal_text (assembled t.file)
+asm_answer (Some t) =
+    good_or_refused (λ program. hex_text program ++ codes "\n")
+    (λ e. codes "line " ++ (decimal e.line ++ (codes ": A" ++ (decimal (assembling.fault_number e.why) ++ codes "\n")))) (assembled t.file)
 
 -- ---- `dis`
 
@@ -51,23 +48,16 @@ unfoldable pub slots_text : ℕ → List Form → List ℕ
 slots_text slot [] = []
 slots_text slot (i ∷ is) = slot_line slot i ++ slots_text (slot + slot_count i) is
 
--- the lines of `dis`, or of `dis --slots`
-abbrev pub lines_text : Bool → List Form → List ℕ
-lines_text slots program = if slots then slots_text 0 program else text_of program
+-- the lines of a program, with its slots and bytes or without; or why the bytes are none, and at which slot
+abbrev pub bytes_answer : Bool → List ℕ → Answer
+bytes_answer slots bytes =
+    good_or_refused (λ program. if slots then slots_text 0 program else text_of program)
+    (λ e. codes "D" ++ (decimal (decoding.fault_number e.why) ++ (codes " slot " ++ (decimal e.slot ++ codes "\n")))) (decoded bytes)
 
--- why bytes are no program, and at which slot
-abbrev pub decode_refusal_text : DecodeRefusal → List ℕ
-decode_refusal_text e = codes "D" ++ (decimal (decoding.fault_number e.why) ++ (codes " slot " ++ (decimal e.slot ++ codes "\n")))
-
--- the program's lines, where the file is pairs of hexadecimal digits
-abbrev pub bytes_answer : Bool → Option (List ℕ) → Answer
-bytes_answer slots None = record { text = codes "bad hex\n"; verdict = verdicts.Refused }
-bytes_answer slots (Some bytes) = good_or_refused (lines_text slots) decode_refusal_text (decoded bytes)
-
--- what `dis` answers, with slots and bytes or without
+-- what `dis` answers, where the file is pairs of hexadecimal digits
 abbrev pub dis_answer : Bool → Option TextsRead → Answer
 dis_answer slots None = not_text
-dis_answer slots (Some t) = bytes_answer slots (spaced_bytes t.file)
+dis_answer slots (Some t) = option_map_or (bytes_answer slots) (spaced_bytes t.file) (record { text = codes "bad hex\n"; verdict = verdicts.Refused })
 
 -- ---- `encode`
 

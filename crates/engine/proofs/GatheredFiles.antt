@@ -6,9 +6,13 @@ use Rattle.loader.specs.ProgramFiles.{Files}
 use Rattle.engine.specs.declared.reading.Unread.{Unread}
 use Rattle.engine.specs.declared.reading.Unread.TheVariants as faults
 use Rattle.engine.specs.declared.reading.NamedText.{NamedText}
-use Rattle.engine.specs.Files.{Contents, present, is_text}
-use Rattle.engine.specs.Reading.{first_strange, named_text, named_texts, strange_text}
-use Rattle.engine.specs.Unread.{FailsAs, FoundAs, IsStrangeFile}
+use Rattle.std.specs.Str.{is_utf8}
+use Rattle.engine.specs.Files.{Contents, present}
+use Rattle.engine.specs.Reading.{named_texts, strange_text}
+use Rattle.engine.specs.Unread.{FailsAs, FoundAs, IsStrangeFile, first_strange}
+
+abbrev named_text : NamedText → List ℕ × List ℕ
+named_text f = (string_bytes f.name, string_bytes f.text)
 
 -- the files so far, and what is left of all names
 pub record Kept (h : Contents) (files : Files) (rest all : List (List ℕ)) : Type 0 where
@@ -22,7 +26,7 @@ name_of n = n.now
 pub names_at : (names : List (Bor (List ℕ))) (i : ℕ) (name : Bor (List ℕ)) → i < length names → name ≡ get_or names i name → map name_of (drop i names) ≡ name.now ∷ map name_of (drop (i + 1) names)
 names_at names i name lt is = at_drop_more (map name_of) names i name lt ∙ ap (λ n. name_of n ∷ map name_of (drop (i + 1) names)) (sym is)
 
-with_text : (h : Contents) (files : Files) (name bytes : List ℕ) (rest all : List (List ℕ)) → h name ≡ Some bytes → is_text bytes ≡ true → Kept h files (name ∷ rest) all → Kept h (files ++ (name, bytes) ∷ []) rest all
+with_text : (h : Contents) (files : Files) (name bytes : List ℕ) (rest all : List (List ℕ)) → h name ≡ Some bytes → is_utf8 bytes ≡ true → Kept h files (name ∷ rest) all → Kept h (files ++ (name, bytes) ∷ []) rest all
 with_text h files name bytes rest all found text kept =
     let here : present h (name ∷ rest) ≡ (name, bytes) ∷ present h rest = rw found refl in
     let joined : files ++ ((name, bytes) ∷ present h rest) ≡ present h all = subst (λ x. files ++ x ≡ present h all) here kept.joined in

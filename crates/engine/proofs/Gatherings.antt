@@ -1,6 +1,6 @@
 -- All that was read, one after another.
 use Rattle.std.proofs.Common.{◌≡◌, ℕ, true, List, [], ◌∷◌, Option, Some, None, Ok, string_bytes, refl, sym, ap, subst, ◌∙◌}
-use Rattle.std.specs.Prelude.{IfSome, String, codes}
+use Rattle.std.specs.Prelude.{IfSome, String, codes, Bool, not, is_some, if◌then◌else◌}
 use Rattle.std.specs.Option.{option_or}
 use Rattle.std.proofs.lemmas.List.Folds.{find-append}
 use Rattle.loader.specs.NamedFiles.{named_in}
@@ -10,10 +10,21 @@ use Rattle.engine.specs.declared.reading.Stranger.{Stranger}
 use Rattle.engine.specs.declared.reading.Texts.{Texts}
 use Rattle.engine.specs.declared.reading.Unread.{Unread}
 use Rattle.engine.specs.declared.reading.Unread.TheVariants as faults
-use Rattle.engine.specs.Files.{Contents, is_text, present}
-use Rattle.engine.specs.Reading.{Given, IfGiven, first_strange, first_stranger, found, given_text, is_strange, named_texts, read, strange_text, texts_read, unless_strange}
-use Rattle.engine.specs.Unread.{FailsAs, IsStrange, TextIs}
+use Rattle.std.specs.Str.{is_utf8}
+use Rattle.engine.specs.Files.{Contents, present}
+use Rattle.engine.specs.Reading.{Given, IfGiven, TextsRead, files_in, first_stranger, given_text, named_texts, read, strange_text, texts_read}
+use Rattle.engine.specs.Unread.{FailsAs, IsStrange, TextIs, first_strange}
 use Rattle.engine.proofs.Known.{known_so, known_of}
+
+abbrev pub is_strange : List ℕ × List ℕ → Bool
+is_strange text = not (is_utf8 text.1)
+
+-- what `read` makes of all texts
+abbrev pub found : Given → TextsRead
+found g = record { manifest = g.manifest; files = files_in g; file = g.file; state = g.state; history = g.history }
+
+abbrev pub unless_strange : Option (List ℕ × List ℕ) → TextsRead → Option TextsRead
+unless_strange o t = if is_some o then None else Some t
 
 fails_as : (e : Unread) (P Q : Stranger → Type 0) → ((s : Stranger) → P s → Q s) → FailsAs e P → FailsAs e Q
 fails_as faults.NoMemory P Q f p = tt
@@ -28,12 +39,12 @@ abbrev behind : List ℕ → List ℕ → List ℕ → Files
 behind f s t = (codes "the file", f) ∷ (codes "the state", s) ∷ (codes "the history", t) ∷ []
 
 -- behind a manifest that is text the files come, and then the others
-past_manifest : (m : List ℕ) (h : Contents) (f s t : List ℕ) → is_text m ≡ true
+past_manifest : (m : List ℕ) (h : Contents) (f s t : List ℕ) → is_utf8 m ≡ true
     → first_stranger (given m h f s t) ≡ option_or (first_strange (present h (named_in m))) (first_strange (behind f s t))
 past_manifest m h f s t text = rw text (find-append is_strange (present h (named_in m)) (behind f s t))
 
 -- behind files that are texts the others come
-past_files : (m : List ℕ) (h : Contents) (f s t : List ℕ) → is_text m ≡ true → first_strange (present h (named_in m)) ≡ None → first_stranger (given m h f s t) ≡ first_strange (behind f s t)
+past_files : (m : List ℕ) (h : Contents) (f s t : List ℕ) → is_utf8 m ≡ true → first_strange (present h (named_in m)) ≡ None → first_stranger (given m h f s t) ≡ first_strange (behind f s t)
 past_files m h f s t text texts = past_manifest m h f s t text ∙ ap (λ o. option_or o (first_strange (behind f s t))) texts
 
 module _ {F R : Type 0} (holds : F → Option Contents) (remaining : R → Option (List ℕ)) (i : Inputs F R) where

@@ -7,10 +7,6 @@ use Rattle.engine.specs.declared.reading.Inputs.{Inputs}
 use Rattle.engine.specs.Files.{Contents}
 use Rattle.engine.specs.Reading.{Given}
 
--- what is never so
-abbrev pub Never : Type 0
-Never = ⊥
-
 -- the first file of this name
 abbrev pub found_file : List (Bor (List ℕ) × Bor (List ℕ)) → Contents
 found_file [] name = None

@@ -18,6 +18,7 @@ use Rattle.engine.specs.StateAnswer.{opened_by}
 abbrev pub places_within : ℕ → Option ℕ
 places_within spare = if nat_le spare MAX_PLACES then Some spare else None
 
+-- by what the manifest was loaded as, and by the number of places
 abbrev pub opening_of : Option ℕ → Outcome → List ℕ → Result CatalogueView Answer
 opening_of places (Err refusal) state = Err (refusal_answer refusal)
 opening_of None (Ok c) state = Err sizes_refused

@@ -1,45 +1,31 @@
 -- What a command that opens on a state answers to the state's text.
-use Rattle.std.specs.Prelude.{ℕ, ◌==◌, List, [], ◌++◌, length, codes, decimal, Result, Ok, Err, if◌then◌else◌}
-use Rattle.loader.specs.declared.installed.InstallRefusal.{InstallRefusal}
+use Rattle.std.specs.Prelude.{ℕ, ◌==◌, List, [], ◌++◌, length, codes, decimal, Result, Ok, if◌then◌else◌}
+use Rattle.std.specs.Result.{result_map_both}
 use Rattle.loader.specs.declared.installed.InstallRefusal.TheVariants as installs
 use Rattle.loader.specs.CatalogueView.{CatalogueView, opened_on}
 use Rattle.dumps.specs.declared.refusals.DumpFault.{DumpFault}
 use Rattle.dumps.specs.declared.refusals.DumpFault.TheVariants as faults
 use Rattle.dumps.specs.declared.refusals.DumpRefusal.{DumpRefusal}
 use Rattle.dumps.specs.Refusal.{fault_number}
-use Rattle.dumps.specs.Loading.{Outcome, loaded_state}
+use Rattle.dumps.specs.Loading.{loaded_state}
 use Rattle.engine.specs.declared.replies.Verdict.TheVariants as verdicts
 use Rattle.engine.specs.Texts.{decode_text, verify_text}
 use Rattle.engine.specs.Answer.{Answer}
 
 -- what a program breaks that is installed in a state, and where
-abbrev pub program_text : InstallRefusal → List ℕ
-program_text (installs.Decode e) = decode_text e
-program_text (installs.Verify e) = verify_text e
-
 abbrev pub reason_text : DumpFault → List ℕ
-reason_text (faults.Program e) = program_text e
+reason_text (faults.Program (installs.Decode e)) = decode_text e
+reason_text (faults.Program (installs.Verify e)) = verify_text e
 reason_text why = []
-
-abbrev pub fault_text : DumpFault → List ℕ
-fault_text why = codes "E" ++ (decimal (fault_number why) ++ reason_text why)
 
 -- the line of a refused state
 abbrev pub refusal_text : DumpRefusal → List ℕ
-refusal_text e = codes "line " ++ (decimal e.line ++ (codes ": " ++ (fault_text e.why ++ codes "\n")))
+refusal_text e = codes "line " ++ (decimal e.line ++ (codes ": E" ++ (decimal (fault_number e.why) ++ (reason_text e.why ++ codes "\n"))))
 
--- a refused state
-abbrev pub state_refused : DumpRefusal → Answer
-state_refused refusal = record { text = refusal_text refusal; verdict = verdicts.Refused }
-
--- the same catalogue on what was loaded, or the answer to its refusal
-abbrev pub on_loaded : CatalogueView → Outcome → Result CatalogueView Answer
-on_loaded c (Ok s) = Ok (opened_on c s)
-on_loaded c (Err refusal) = Err (state_refused refusal)
-
--- the same catalogue, of which a store opens on the state that a text says; an empty text says a new state
+-- the same catalogue, of which a store opens on the state that a text says, or the answer to its refusal; an empty text says a new state
 abbrev pub on_text : CatalogueView → List ℕ → Result CatalogueView Answer
-on_text c text = on_loaded c (loaded_state c.shapes c.places text)
+on_text c text =
+    result_map_both (opened_on c) (λ refusal. record { text = refusal_text refusal; verdict = verdicts.Refused }) (loaded_state c.shapes c.places text)
 
 -- the same catalogue on a new state where the text is empty, or on the state that it says
 abbrev pub opened_by : CatalogueView → List ℕ → Result CatalogueView Answer

@@ -35,15 +35,9 @@ index_text (faults.Decode e) = decode_text e
 index_text (faults.Verify e) = verify_text e
 index_text why = []
 
-abbrev pub fault_text : LoadFault → List ℕ
-fault_text why = codes "C" ++ (decimal (fault_number why) ++ index_text why)
-
 -- the line of a refused manifest
 abbrev pub refusal_text : LoadRefusal → List ℕ
-refusal_text e = codes "line " ++ (decimal e.line ++ (codes ": " ++ (fault_text e.why ++ codes "\n")))
-
-abbrev pub not_text_line : List ℕ
-not_text_line = codes "not UTF-8\n"
+refusal_text e = codes "line " ++ (decimal e.line ++ (codes ": C" ++ (decimal (fault_number e.why) ++ (index_text e.why ++ codes "\n"))))
 
 abbrev pub no_memory_line : List ℕ
 no_memory_line = codes "no memory\n"

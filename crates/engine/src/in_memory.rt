@@ -1,7 +1,7 @@
 //! Texts and files in memory, whose reads cannot fail, and the commands on them: each answers, or memory runs out.
 
 ghost use Rattle.std.specs.Prelude.{◌≡◌, IfOk, Some, true};
-ghost use Rattle.engine.specs.Memory.{Never, found_file, held};
+ghost use Rattle.engine.specs.Memory.{found_file, held};
 ghost use Rattle.engine.specs.Reading.{read};
 
 use crate::performing::{Command, prepare};
@@ -17,7 +17,7 @@ pub struct Held<'a>(pub &'a [u8]);
 impl<'a> Source for Held<'a> {
     ghost remaining = { λ s. Some s.0.now };
 
-    ghost has_failed = { λ _. Never };
+    ghost has_failed = { λ _. ⊥ };
 
     fn read_whole(&mut self, alloc: Global) -> Result<Vec<u8>, ReadFault> {
         let mut bytes = Vec::new(alloc);

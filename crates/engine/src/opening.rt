@@ -5,7 +5,7 @@ ghost use Rattle.loader.specs.Loading.{loaded};
 ghost use Rattle.loader.specs.declared.installed.TheConstants.{MAX_PLACES};
 ghost use Rattle.engine.specs.Opening.{IsOpened, LoadedIs, on_which, opening, places_within};
 ghost use Rattle.engine.specs.Reading.{named_texts, texts_read};
-ghost use Rattle.engine.specs.StateAnswer.{fault_text, opened_by, reason_text, refusal_text};
+ghost use Rattle.engine.specs.StateAnswer.{opened_by, reason_text, refusal_text};
 
 use crate::reading::{Texts, lent};
 use crate::replies::{Reply, sizes_refused};
@@ -52,20 +52,13 @@ fn put_reason(out: &mut Vec<u8>, why: DumpFault) -> Result<(), AllocError>
     }
 }
 
-// What is wrong with a line of a state.
-fn put_state_fault(out: &mut Vec<u8>, why: DumpFault) -> Result<(), AllocError>
-    ensures { OnOk result (out.new.items ≡ out.old.items ++ fault_text why) }
-{
-    put_numbered(out, b"E", why.number() as u64)?;
-    put_reason(out, why)
-}
-
 // The line of a refused state: `line N: En`, for a program behind it the decoder's or the verifier's own number and the slot.
 fn state_text(alloc: Global, refusal: DumpRefusal) -> Result<Vec<u8>, AllocError>
     ensures { IfOk result (λ v. v.items ≡ refusal_text refusal) }
 {
     let mut out = begin_refusal(alloc, refusal.line)?;
-    put_state_fault(&mut out, refusal.why)?;
+    put_numbered(&mut out, b"E", refusal.why.number() as u64)?;
+    put_reason(&mut out, refusal.why)?;
     out.extend_from_slice(b"\n")?;
     Ok(out)
 }

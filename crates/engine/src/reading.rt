@@ -1,13 +1,13 @@
 // What a command reads: a manifest and the files that it names, the file that it is about, a state and a history.
 
-ghost use Rattle.std.specs.Prelude.{◌≡◌, Option, None, Some, IfOk, IfErr, IfSome, MatchOption, MatchResult, string_bytes};
+ghost use Rattle.std.specs.Prelude.{◌≡◌, Option, None, Some, IfOk, IfErr, IfSome, IsSomeAnd, MatchOption, MatchResult, string_bytes};
 ghost use Rattle.loader.specs.NamedFiles.{named_in};
 ghost use Rattle.loader.specs.ProgramFiles.{files_of};
 ghost use Rattle.engine.specs.declared.reading.Unread.TheVariants as faults;
-ghost use Rattle.engine.specs.Files.{Contents, IsFile, SomeFile};
+ghost use Rattle.engine.specs.Files.{Contents};
 ghost use Rattle.engine.specs.ReadFaults.{IfCannotRead};
-ghost use Rattle.engine.specs.Reading.{AnyFailed, IfGiven, OneFailed, first_stranger, given_text, named_texts, read, strange_text, texts_in};
-ghost use Rattle.engine.specs.Unread.{AreRead, FailsAs, FoundAs, Gathered, IfUnread, IsStrangeFile, TextIs};
+ghost use Rattle.engine.specs.Reading.{AnyFailed, IfGiven, first_stranger, given_text, named_texts, read, strange_text, texts_in};
+ghost use Rattle.engine.specs.Unread.{AreRead, FailsAs, FoundAs, Gathered, IfUnread, IsStrangeFile, SomeFile, TextIs};
 
 use crate::transfer::{ReadFault, Source};
 use loader::named_files;
@@ -23,8 +23,8 @@ pub trait Folder {
 
     /// The file of this name; `None` where it cannot be opened.
     fn open(&self, name: &str) -> Option<Self::File>
-        ensures { IfSome (holds self.now) (λ folder. MatchOption result (folder name.now ≡ None)
-            (λ file. IsFile (Self.File.remaining file) (folder name.now))) };
+        ensures { IfSome (holds self.now) (λ h. MatchOption result (h name.now ≡ None)
+            (λ f. IsSomeAnd (Self.File.remaining f) (λ bytes. h name.now ≡ Some bytes))) };
 }
 
 /// Where the texts of a command are, in the order in which they are read. One that is absent is empty.
@@ -169,7 +169,7 @@ fn read_given<R: Source>(
     reader: &mut Option<R>,
 ) -> Result<String, Unread>
     ensures text { IfSome (given_text R.remaining reader.old) (TextIs name.now result) }
-    ensures failed { IfUnread result (OneFailed R.has_failed reader.new) }
+    ensures failed { IfUnread result (IsSomeAnd reader.new R.has_failed) }
 {
     match reader {
         Some(reader) => read_text(alloc, name, None, reader),

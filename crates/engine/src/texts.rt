@@ -1,7 +1,8 @@
 // What the commands write.
 
 ghost use Rattle.std.specs.Prelude.{◌≡◌, ◌++◌, OnOk, IfOk, codes, decimal, slice_get};
-ghost use Rattle.engine.specs.Texts.{program_line, line_if_any, programs_text, decode_text, verify_text, fault_text, refusal_text, not_text_line, no_memory_line};
+ghost use Rattle.engine.specs.Texts.{program_line, line_if_any, programs_text, decode_text, verify_text, index_text, refusal_text, no_memory_line};
+ghost use Rattle.engine.specs.Answer as answers;
 
 use insn::DecodeRefusal;
 use itoa::Buffer;
@@ -11,7 +12,7 @@ use verifier::{Accepted, Refused};
 
 /// Some file is not UTF-8.
 pub fn not_text() -> &'static [u8]
-    ensures { result.now ≡ not_text_line }
+    ensures { result.now ≡ answers.not_text.text }
 {
     b"not UTF-8\n"
 }
@@ -105,11 +106,10 @@ pub fn put_verify(out: &mut Vec<u8>, refusal: Refused) -> Result<(), AllocError>
     put_numbered(out, b" slot ", refusal.slot as u64)
 }
 
-// What is wrong with a line.
-fn put_fault(out: &mut Vec<u8>, why: LoadFault) -> Result<(), AllocError>
-    ensures { OnOk result (out.new.items ≡ out.old.items ++ fault_text why) }
+// What a program breaks that a manifest names, and where.
+fn put_index(out: &mut Vec<u8>, why: LoadFault) -> Result<(), AllocError>
+    ensures { OnOk result (out.new.items ≡ out.old.items ++ index_text why) }
 {
-    put_numbered(out, b"C", why.number() as u64)?;
     match why {
         LoadFault::Decode(refusal) => put_decode(out, refusal),
         LoadFault::Verify(refusal) => put_verify(out, refusal),
@@ -132,7 +132,8 @@ pub(crate) fn refusal_text(alloc: Global, refusal: LoadRefusal) -> Result<Vec<u8
     ensures { IfOk result (λ v. v.items ≡ refusal_text refusal) }
 {
     let mut out = begin_refusal(alloc, refusal.line)?;
-    put_fault(&mut out, refusal.why)?;
+    put_numbered(&mut out, b"C", refusal.why.number() as u64)?;
+    put_index(&mut out, refusal.why)?;
     out.extend_from_slice(b"\n")?;
     Ok(out)
 }

@@ -1,24 +1,24 @@
 -- What stands on the page, by how the command ended.
-use Rattle.std.proofs.Common.{◌≡◌, ◌∙◌, ◌⊎◌, inl, inr, [], Option, Some, None, true, sym, ap}
+use Rattle.std.proofs.Common.{◌≡◌, ◌∙◌, ◌⊎◌, inl, inr, [], Option, Some, None, true, ap}
+use Rattle.std.specs.Prelude.{IsSomeAnd}
 use Rattle.engine.specs.declared.replies.Status.{Status}
 use Rattle.engine.specs.declared.replies.Status.TheVariants as statuses
 use Rattle.engine.specs.declared.replies.Verdict.TheVariants as verdicts
 use Rattle.engine.specs.declared.in_memory.Page.{Page}
 use Rattle.engine.specs.declared.reading.Inputs.{Inputs}
-use Rattle.engine.specs.Memory.{Never}
 use Rattle.engine.specs.Answer.{Answer}
 use Rattle.engine.specs.Engine.{Reports}
-use Rattle.engine.specs.Reading.{AnyFailed, OneFailed}
+use Rattle.engine.specs.Reading.{AnyFailed}
 use Rattle.engine.specs.Report.{Failed}
 use Rattle.engine.specs.Status.{status_of}
 use Rattle.example_answers.specs.Pages.{IsOnPage}
 
-none_of : {R : Type 0} (o : Option R) → OneFailed (λ _. Never) o → Never
+none_of : {R : Type 0} (o : Option R) → IsSomeAnd o (λ _. ⊥) → ⊥
 none_of None never = never
 none_of (Some r) never = never
 
 -- of texts and files in memory none has failed
-pub none_failed : {F R X : Type 0} (i : Inputs F R) → AnyFailed {X = X} (λ _. Never) (λ _. Never) i → Never
+pub none_failed : {F R X : Type 0} (i : Inputs F R) → AnyFailed {X = X} (λ _. ⊥) (λ _. ⊥) i → ⊥
 none_failed i (inl never) = none_of i.manifest never
 none_failed i (inr (inl file)) = file.1
 none_failed i (inr (inr (inl never))) = none_of i.file never
@@ -26,7 +26,7 @@ none_failed i (inr (inr (inr (inl never)))) = none_of i.state never
 none_failed i (inr (inr (inr (inr never)))) = none_of i.history never
 
 -- of an answer that says that all is well, where no read fails
-pub on_page : {M : Type 0} (answer : M → Answer) (Is : M → Type 0) (Read : Type 0) → (Read → Never) → (status : Status) (page : Page) (good : Answer) → ((m : M) → Is m → answer m ≡ good) → good.verdict ≡ verdicts.Good
+pub on_page : {M : Type 0} (answer : M → Answer) (Is : M → Type 0) (Read : Type 0) → (Read → ⊥) → (status : Status) (page : Page) (good : Answer) → ((m : M) → Is m → answer m ≡ good) → good.verdict ≡ verdicts.Good
     → Reports answer Is (Some []) (Some page.text.items) status → Failed status Read (page.is_full ≡ true) → IsOnPage good.text status page
 on_page answer Is Read never statuses.Good page good is well wrote failed = wrote.3 ∙ ap (λ (x : Answer). x.text) (is wrote.0 wrote.1)
 on_page answer Is Read never statuses.NoMemory page good is well wrote failed = wrote

@@ -10,21 +10,23 @@ use Rattle.loader.specs.Grammar.{words_of}
 use Rattle.loader.specs.CatalogueView.{CatalogueView}
 use Rattle.oplog.specs.declared.configuration.TheConstants.{MAX_LIMIT}
 use Rattle.oplog.specs.History.{History}
-use Rattle.engine.specs.Reading.{first_stranger, found, read, unless_strange}
-use Rattle.running.specs.RunAnswer.{Turn, behind, bad_line, by_turn, line_turn, lines_answer}
+use Rattle.engine.specs.Reading.{first_stranger, read}
+use Rattle.engine.proofs.Gatherings.{found, unless_strange}
+use Rattle.std.specs.Option.{option_map_or}
+use Rattle.running.specs.RunAnswer.{Turn, behind, bad_line, line_turn, lines_answer}
 use Rattle.running.specs.KeptRun.{KeptRun, kept_of, run_kept, script_kept}
 use Rattle.running.specs.declared.runs.Kept.{Kept}
 use Rattle.running.specs.declared.single_node.TheConstants.{RUN_PLACES}
 use Rattle.engine.specs.Opening.{opening_of}
 use Rattle.engine.specs.Answer.{Answer}
 use Rattle.example_answers.specs.Counter.{counter_calls, counter_script, counter_ran}
-use Rattle.example_answers.proofs.Counting.{counter, running}
+use Rattle.example_answers.proofs.Counting.{running}
 use Rattle.example_answers.proofs.Checked.{counter_loads}
 use Rattle.example_answers.proofs.Script.{once, twice, thrice, bump_once, bump_twice, peek_then, bump_none, nope}
 
 line : (c : CatalogueView) (n : ℕ) (h : History) (l : List ℕ) (ls : List (List ℕ)) (t : Turn) → line_turn MAX_LIMIT c h l ≡ Some t → lines_answer MAX_LIMIT c n h (l ∷ ls) ≡ behind t.text (lines_answer MAX_LIMIT c (next_line n) t.history ls)
 unfolding lines_answer
-line c n h l ls t e = ap (by_turn (bad_line n) (λ turn. behind turn.text (lines_answer MAX_LIMIT c (next_line n) turn.history ls))) e
+line c n h l ls t e = ap (λ o. option_map_or (λ turn. behind turn.text (lines_answer MAX_LIMIT c (next_line n) turn.history ls)) o (bad_line n)) e
 
 -- the lines behind the first, and so on
 abbrev behind_4 : List (List ℕ)

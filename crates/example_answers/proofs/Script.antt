@@ -15,10 +15,11 @@ use Rattle.oplog.specs.declared.configuration.TheConstants.{MAX_LIMIT}
 use Rattle.oplog.specs.Operations.{Operation}
 use Rattle.oplog.specs.declared.records.Op.TheVariants.{Run}
 use Rattle.loader.specs.StoreState.{StoreState}
-use Rattle.oplog.specs.History.{History, state_after, left_by}
+use Rattle.oplog.specs.History.{Effect, ReadEffect, History, state_after, left_by}
 use Rattle.replica.specs.StoreMeaning.{store_meaning, as_update, as_read}
 use Rattle.scripts.specs.Script.{named_call, call_meaning, line_meaning}
-use Rattle.running.specs.RunAnswer.{Turn, update_line, read_line, with_operation, called, line_turn}
+use Rattle.std.specs.Option.{option_map_or}
+use Rattle.running.specs.RunAnswer.{Turn, update_text, read_text, with_operation, called, line_turn}
 use Rattle.example_answers.proofs.Counting.{running, first, absent, counted, one, two, read_two, none_there}
 use Rattle.example_answers.proofs.Opening.{opening, opens, none_opens, counts, none_counts}
 
@@ -66,6 +67,13 @@ after_one = ap (λ e. left_by (option_map (as_update (with_maps maps_0)) e) (wit
 
 after_two : state_after store_meaning running twice 2 ≡ with_maps maps_2
 after_two = ap (λ s. left_by (option_map (as_update s) (effect bump s.maps first)) s) after_one ∙ ap (λ e. left_by (option_map (as_update (with_maps maps_1)) e) (with_maps maps_1)) second_goes_up
+
+-- the line of an update, and of a read, that has this effect
+abbrev update_line : ℕ → Option (Effect StoreState) → List ℕ
+update_line index o = option_map_or (λ e. update_text index e.reply e.steps) o []
+
+abbrev read_line : ℕ → Option ReadEffect → List ℕ
+read_line point o = option_map_or (λ e. read_text point e.reply e.steps) o []
 
 -- what a line writes, and the history behind it
 abbrev turn : List ℕ → History → Option Turn

@@ -2,6 +2,7 @@
 use Rattle.std.proofs.Common.{◌≡◌, ◌⊎◌, inl, inr, ℕ, Bool, true, false, eqb, ltb, List, [], ◌∷◌, map, length, Option, Some, None, refl, sym, ap, subst, ◌∙◌}
 use Rattle.std.specs.Prelude.{option_map, option_and_then, if◌then◌else◌}
 use Rattle.std.specs.List.{cons_option}
+use Rattle.std.specs.Option.{option_map_or}
 use Rattle.std.proofs.lemmas.Bool.{and_parts, eqb-true}
 use Rattle.verifier.specs.declared.refusal.Mode.{Mode}
 use Rattle.verifier.specs.declared.refusal.Mode.TheVariants.{Update, Read}
@@ -13,20 +14,30 @@ use Rattle.oplog.specs.History.{History, reply_at, read_reply_at}
 use Rattle.combiner.specs.declared.slots.Reply.TheVariants as replies
 use Rattle.replica.specs.StoreMeaning.{AreUpdates, store_meaning}
 use Rattle.schedule.specs.Trace.{Answer, Updated, ReadBack}
+use Rattle.scripts.specs.Script.{KeyedCall}
 use Rattle.scripts.specs.Transcript.{TranscriptMeaning, Comment, Answered, Installed, Ended, EndedInstall, transcript_line_meaning}
 use Rattle.engine.specs.declared.replies.Verdict.TheVariants as verdicts
 use Rattle.running.specs.RunAnswer.{with_operation}
-use Rattle.replaying.specs.ReplayAnswer.{Replayed, LineOutcome, Bad, Differs, Agrees, operation_of, install_of, is_reply, update_agrees, read_agrees, with_update, next_count, compared, by_operation, told, line_outcome, by_outcome, transcript_answer}
+use Rattle.replaying.specs.ReplayAnswer.{Replayed, LineOutcome, Bad, Differs, Agrees, operation_of, install_of, update_agrees, read_agrees, with_update, next_count, compared, told, line_outcome, by_outcome, transcript_answer}
 use Rattle.replaying.proofs.ReplaysOfLines.{agreeing_lines_are_runs}
 use Rattle.realtime.specs.declared.ranks.Standing.{Standing}
 use Rattle.realtime.specs.declared.ranks.Standing.TheVariants as stands
-use Rattle.realtime.specs.Ranks.{standing_of, standings_of}
-use Rattle.realtime.specs.Linearizable.{Told, answer_told, call_told, told_by, calls_told}
+use Rattle.realtime.specs.Judging.{standings_of}
+use Rattle.realtime.specs.Ranks.{standing_of}
+use Rattle.realtime.specs.Linearizable.{Told, told_by, calls_told}
 use Rattle.realtime.proofs.Standings.{line_standing}
 
 -- what a line tells, if it is a call
 abbrev line_told : CatalogueView → List ℕ → Option Told
 line_told c line = option_and_then (told_by c) (transcript_line_meaning line)
+
+abbrev call_told : Mode → Answer → Operation → Told
+call_told mode answer op = record { mode = mode; op = op; answer = answer }
+
+-- an update is answered its index and its reply, a read its point and its reply
+abbrev answer_told : Mode → (place reply : ℕ) → Answer
+answer_told Update index reply = Updated (replies.Placed index reply)
+answer_told Read point reply = ReadBack (record { point = point; reply = reply })
 
 -- where a call stands that is answered so
 abbrev pub standing_told : Answer → Standing
@@ -49,11 +60,11 @@ AllReply c h (a ∷ rest) last = (next : History) × Replies c h a.mode a.op a.a
 
 -- ---- one line
 
-operation_asked : (f : Operation → LineOutcome) (o : Option Operation) (next : Replayed) → by_operation f o ≡ Agrees next → (op : Operation) × (o ≡ Some op) × (f op ≡ Agrees next)
+operation_asked : (f : Operation → LineOutcome) (o : Option Operation) (next : Replayed) → option_map_or f o Bad ≡ Agrees next → (op : Operation) × (o ≡ Some op) × (f op ≡ Agrees next)
 operation_asked f None next e = absurd cc
 operation_asked f (Some op) next e = (op, refl, e)
 
-reply_told : (reply : ℕ) (o : Option ℕ) → is_reply reply o ≡ true → o ≡ Some reply
+reply_told : (reply : ℕ) (o : Option ℕ) → option_map_or (λ r. eqb r reply) o false ≡ true → o ≡ Some reply
 reply_told reply None e = absurd cc
 reply_told reply (Some r) e = ap Some (eqb-true r reply e)
 
@@ -87,7 +98,7 @@ module _ (c : CatalogueView) (at : Replayed) where
       ((a ≡ None) × (s ≡ None) × (next.history ≡ at.history))
       ⊎ ((t : Told) × (a ≡ Some t) × (s ≡ Some (standing_told t.answer)) × Replies c at.history t.mode t.op t.answer next.history)
 
-  ended_tells : (o : Option Operation) (next : Replayed) → by_operation (λ op. Agrees (record at { ended = next_count at.ended })) o ≡ Agrees next
+  ended_tells : (o : Option Operation) (next : Replayed) → option_map_or (λ op. Agrees (record at { ended = next_count at.ended })) o Bad ≡ Agrees next
       → Tells (option_map (call_told Update (Updated replies.Ended)) o) (Some stands.Ended) next
   ended_tells o next e =
       let op = operation_asked (λ (op : Operation). Agrees (record at { ended = next_count at.ended })) o next e in
@@ -98,18 +109,23 @@ module _ (c : CatalogueView) (at : Replayed) where
         (refl, ap (λ (r : Replayed). r.history) (sym (inner (record at { ended = next_count at.ended }) next op.2))),
       )
 
+  answered_tells : (mode : Mode) (call : KeyedCall) (place reply : ℕ) (next : Replayed) → option_map_or (compared c at mode place reply) (operation_of c mode call) Bad ≡ Agrees next
+      → Tells (option_map (call_told mode (answer_told mode place reply)) (operation_of c mode call)) (Some (stands.At mode place)) next
+  answered_tells mode call place reply next e =
+      let op = operation_asked (compared c at mode place reply) (operation_of c mode call) next e in
+      inr (
+        call_told mode (answer_told mode place reply) op.0,
+        ap (option_map (call_told mode (answer_told mode place reply))) op.1,
+        ap Some (stands_told mode place reply),
+        compared_replies mode place reply op.0 next op.2,
+      )
+
   meaning_tells : (m : TranscriptMeaning) (next : Replayed) → told c at (Some m) ≡ Agrees next → Tells (told_by c m) (standing_of m) next
   meaning_tells Comment next e = inl (refl, refl, ap (λ (r : Replayed). r.history) (sym (inner at next e)))
-  meaning_tells (Answered a) next e =
-      let op = operation_asked (compared c at a.mode a.index a.reply) (operation_of c a.mode a.call) next e in
-      inr (
-        call_told a.mode (answer_told a.mode a.index a.reply) op.0,
-        ap (option_map (call_told a.mode (answer_told a.mode a.index a.reply))) op.1,
-        ap Some (stands_told a.mode a.index a.reply),
-        compared_replies a.mode a.index a.reply op.0 next op.2,
-      )
-  meaning_tells (Installed a) next e =
-      let op = operation_asked (compared c at Update a.index a.reply) (install_of c a.program) next e in
+  meaning_tells (Answered Update call a) next e = answered_tells Update call a.index a.reply next e
+  meaning_tells (Answered Read call a) next e = answered_tells Read call a.index a.reply next e
+  meaning_tells (Installed new a) next e =
+      let op = operation_asked (compared c at Update a.index a.reply) (install_of c new) next e in
       inr (
         call_told Update (answer_told Update a.index a.reply) op.0,
         ap (option_map (call_told Update (answer_told Update a.index a.reply))) op.1,

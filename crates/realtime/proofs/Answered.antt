@@ -4,10 +4,10 @@ use Rattle.std.specs.Prelude.{IfOk}
 use Rattle.text.specs.Lines.{lines_of}
 use Rattle.engine.specs.declared.replies.Verdict.TheVariants as verdicts
 use Rattle.engine.specs.Answer.{Answer}
+use Rattle.realtime.specs.Judging.{calls_of, timed}
 use Rattle.realtime.specs.declared.histories.Timed.{Timed}
-use Rattle.realtime.specs.Histories.{calls_of}
 use Rattle.realtime.specs.Ranks.{ranks_of}
-use Rattle.realtime.specs.TimedAnswer.{history_answer, timed}
+use Rattle.realtime.specs.TimedAnswer.{history_answer}
 
 -- where the transcript is good, and this is read of the history
 pub timed_by : (answer : Answer) (transcript history : List ℕ) (read : Result (List Timed) ℕ) → answer.verdict ≡ verdicts.Good

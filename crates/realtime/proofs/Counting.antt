@@ -6,8 +6,9 @@ use Rattle.std.proofs.lemmas.Option.{get_or_from_slice_get}
 use Rattle.std.proofs.lemmas.List.{ext_get_or, get_or-map, length-map}
 use Rattle.std.proofs.lemmas.List.Folds.{list_any_at}
 use Rattle.std.proofs.lemmas.Map.Steps.{length-le_from_distinct_below}
+use Rattle.realtime.specs.Judging.{calls_of}
 use Rattle.realtime.specs.declared.histories.Timed.{Timed}
-use Rattle.realtime.specs.Histories.{is_used, calls_of}
+use Rattle.realtime.specs.Histories.{is_used}
 use Rattle.realtime.specs.Laws.{ShareNone, AreCalls}
 use Rattle.realtime.proofs.Reading.{uses, far_none, far_all}
 

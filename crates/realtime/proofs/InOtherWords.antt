@@ -1,5 +1,6 @@
 -- What the definitions of a history say, in other words.
 use Rattle.std.proofs.Common.{◌≡◌, ◌↔◌, ◌⊎◌, ℕ, ◌+◌, ◌<◌, ◌≤◌, Bool, true, false, List, length, get_or, cond, ltb, Option, Some, None, refl, sym, ap, ◌∙◌, arith, Contains, position, ⊎_elim, inl, inr}
+use Rattle.std.specs.Option.{option_map_or}
 use Rattle.std.specs.List.{list_any, position_or_len}
 use Rattle.std.proofs.lemmas.Bool.{ltb-true, ltb-false, leb-true, eqb-true, eq-eqb, lt-ltb, le-leb, and_from, and_parts, or_left, or_right, or_cases, cases_lt, false_from_ne_true}
 use Rattle.std.proofs.lemmas.Option.{slice_get-get_or}
@@ -10,7 +11,7 @@ use Rattle.realtime.specs.declared.histories.Timed.{Timed}
 use Rattle.realtime.specs.RealTime.{is_out_of_turn, first_out_of_turn, is_misplaced, first_misplaced, AreInTurn, InRealTime}
 use Rattle.engine.specs.declared.replies.Verdict.TheVariants as verdicts
 use Rattle.engine.specs.Answer.{Answer}
-use Rattle.realtime.specs.TimedAnswer.{bad_history, differing_history, unless_faulty}
+use Rattle.realtime.specs.TimedAnswer.{bad_history, differing_history}
 use Rattle.realtime.specs.Laws.{IsShown, GoodIsReal, DiffersIsShown}
 use Rattle.realtime.proofs.Turning.{hinders, some_passes, contains_at}
 use Rattle.realtime.proofs.Misplaced.{stands_behind}
@@ -104,7 +105,11 @@ misplaced_is_shown calls k e =
 -- ---- the answers
 
 -- no line has a fault where the answer is good
-faultless : (out wrong : Option ℕ) (answer : Answer) → (unless_faulty out bad_history (unless_faulty wrong differing_history answer)).verdict ≡ verdicts.Good → (out ≡ None) × (wrong ≡ None)
+-- the answer by the indices of a line that is out of turn and of one that is misplaced
+abbrev by_faults : Option ℕ → Option ℕ → Answer → Answer
+by_faults out wrong answer = option_map_or (λ k. bad_history (k + 1)) out (option_map_or (λ k. differing_history (k + 1)) wrong answer)
+
+faultless : (out wrong : Option ℕ) (answer : Answer) → (by_faults out wrong answer).verdict ≡ verdicts.Good → (out ≡ None) × (wrong ≡ None)
 faultless None None answer e = (refl, refl)
 faultless None (Some k) answer e = absurd cc
 faultless (Some k) wrong answer e = absurd cc
@@ -116,8 +121,8 @@ good_is_real answer calls good = (
 )
 
 differing : (calls : List Timed) (out wrong : Option ℕ) (answer : Answer) → answer.verdict ≡ verdicts.Good → first_misplaced calls ≡ wrong
-    → (unless_faulty out bad_history (unless_faulty wrong differing_history answer)).verdict ≡ verdicts.Differs
-    → (k : ℕ) × (unless_faulty out bad_history (unless_faulty wrong differing_history answer) ≡ differing_history (k + 1)) × IsShown calls k
+    → (by_faults out wrong answer).verdict ≡ verdicts.Differs
+    → (k : ℕ) × (by_faults out wrong answer ≡ differing_history (k + 1)) × IsShown calls k
 differing calls None None answer good is e = absurd cc
 differing calls None (Some k) answer good is e = (k, refl, misplaced_is_shown calls k is)
 differing calls (Some k) wrong answer good is e = absurd cc

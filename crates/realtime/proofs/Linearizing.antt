@@ -22,12 +22,13 @@ use Rattle.engine.specs.declared.replies.Verdict.{Verdict}
 use Rattle.engine.specs.declared.replies.Verdict.TheVariants as verdicts
 use Rattle.engine.specs.Answer.{Answer as Written}
 use Rattle.engine.specs.Opening.{opening_of, places_within}
-use Rattle.engine.specs.StateAnswer.{on_loaded, on_text, opened_by}
+use Rattle.engine.specs.StateAnswer.{on_text, opened_by}
+use Rattle.engine.proofs.Openings.{on_loaded}
 use Rattle.engine.specs.Reading.{TextsRead}
 use Rattle.running.proofs.RunsOfLines.{loaded_is_catalogue, opened_is_catalogue}
 use Rattle.replaying.specs.ReplayAnswer.{transcript_answer, nothing_replayed, replayed_on, replay_answer}
+use Rattle.realtime.specs.Judging.{calls_of}
 use Rattle.realtime.specs.declared.histories.Timed.{Timed}
-use Rattle.realtime.specs.Histories.{calls_of}
 use Rattle.realtime.specs.RealTime.{AreInTurn, InRealTime}
 use Rattle.realtime.specs.Ranks.{is_update, rank_of, ranks_of}
 use Rattle.realtime.specs.TimedAnswer.{history_answer, timed_answer, where_good}

@@ -15,9 +15,9 @@ use Rattle.text.proofs.Cuts.{steps}
 use Rattle.realtime.specs.declared.histories.Timed.{Timed}
 use Rattle.realtime.specs.declared.histories.TheConstants.{SESSIONS}
 use Rattle.realtime.specs.declared.histories.Taken.{Taken}
-use Rattle.realtime.specs.Histories.{is_used, fits, timed_line, call_behind, calls_behind, calls_of}
+use Rattle.realtime.specs.Histories.{is_used, fits, timed_line, call_behind, calls_behind}
 use Rattle.realtime.specs.Laws.{ShareNone}
-use Rattle.realtime.specs.Judging.{HasTaken, TakesCall, AreGood}
+use Rattle.realtime.specs.Judging.{HasTaken, TakesCall, AreGood, calls_of}
 
 -- a call began or was back at this number
 abbrev pub uses : ℕ → Timed → Bool

@@ -3,7 +3,8 @@ use Rattle.std.proofs.Common.{◌≡◌, ℕ, List, [], ◌∷◌, ◌++◌, Opt
 use Rattle.std.specs.Prelude.{option_and_then}
 use Rattle.std.proofs.lemmas.List.{append_assoc, append-nil}
 use Rattle.realtime.specs.declared.ranks.Standing.{Standing}
-use Rattle.realtime.specs.Ranks.{standing_of, standings_of}
+use Rattle.realtime.specs.Judging.{standings_of}
+use Rattle.realtime.specs.Ranks.{standing_of}
 use Rattle.scripts.specs.Transcript.{transcript_line_meaning}
 
 -- where the call of a line stands

@@ -39,7 +39,3 @@ call_behind ranks before line = do
 unfoldable pub calls_behind : List ℕ → List Timed → List (List ℕ) → Result (List Timed) ℕ
 calls_behind ranks before [] = if length before == length ranks then Ok before else Err (length before + 1)
 calls_behind ranks before (l ∷ ls) = option_map_or (λ call. calls_behind ranks (before ++ call ∷ []) ls) (call_behind ranks before l) (Err (length before + 1))
-
--- the same of all lines
-abbrev pub calls_of : List ℕ → List (List ℕ) → Result (List Timed) ℕ
-calls_of ranks lines = calls_behind ranks [] lines

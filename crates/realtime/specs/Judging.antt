@@ -1,12 +1,30 @@
 -- What is kept while a history is judged. Clauses of private functions alone cite this.
-use Rattle.std.specs.Prelude.{◌≡◌, ◌≢◌, ◌⊎◌, ℕ, ◌-◌, ◌*◌, ◌^◌, ◌<◌, ◌≤◌, Bool, true, false, List, [], ◌∷◌, ◌++◌, length, Option, Some, None, slice_index, slice_index_or, All, AllPairs, Contains}
+use Rattle.std.specs.Prelude.{◌≡◌, ◌≢◌, ◌⊎◌, ℕ, ◌-◌, ◌*◌, ◌^◌, ◌<◌, ◌≤◌, Bool, true, false, List, [], ◌∷◌, ◌++◌, length, Option, Some, None, Result, filter_map, option_and_then, slice_index, slice_index_or, All, AllPairs, Contains}
 use Rattle.realtime.specs.declared.histories.Timed.{Timed}
 use Rattle.realtime.specs.declared.histories.Taken.{Taken}
 use Rattle.realtime.specs.declared.orders.Turns.{Turns}
-use Rattle.realtime.specs.Histories.{is_used}
+use Rattle.scripts.specs.Transcript.{transcript_line_meaning}
+use Rattle.realtime.specs.declared.ranks.Standing.{Standing}
+use Rattle.text.specs.Lines.{lines_of}
+use Rattle.engine.specs.Answer.{Answer}
+use Rattle.realtime.specs.TimedAnswer.{history_answer, where_good}
+use Rattle.realtime.specs.Ranks.{ranks_of, standing_of}
+use Rattle.realtime.specs.Histories.{calls_behind, is_used}
 use Rattle.realtime.specs.RealTime.{is_out_of_turn}
 
+-- what becomes of the answer to a transcript, by its history
+abbrev pub timed : Answer → List ℕ → List ℕ → Answer
+timed answer transcript history = where_good answer.verdict answer (history_answer answer (calls_behind (ranks_of (lines_of transcript)) [] (lines_of history)))
+
 -- ---- reading
+
+-- where the lines of a transcript stand that are calls, in their order
+abbrev pub standings_of : List (List ℕ) → List Standing
+standings_of lines = filter_map (λ line. option_and_then standing_of (transcript_line_meaning line)) lines
+
+-- the calls of all lines of a history
+abbrev pub calls_of : List ℕ → List (List ℕ) → Result (List Timed) ℕ
+calls_of ranks lines = calls_behind ranks [] lines
 
 -- it is marked of each number whether one of the calls uses it
 abbrev pub HasUsed : Taken → Type 0

@@ -1,6 +1,6 @@
 -- What a good history of a good transcript shows: one list of operations explains the trace that has each call where it began and each answer
 -- where the call was back (Herlihy and Wing, "Linearizability", TOPLAS 1990).
-use Rattle.std.specs.Prelude.{◌≡◌, ℕ, ◌*◌, List, map, length, filter_map, Option, Some, None, option_map, option_and_then, Ok, slice_get}
+use Rattle.std.specs.Prelude.{◌≡◌, ℕ, ◌*◌, List, [], map, length, filter_map, Option, Some, None, option_map, option_and_then, Ok, slice_get}
 use Rattle.verifier.specs.declared.refusal.Mode.{Mode}
 use Rattle.verifier.specs.declared.refusal.Mode.TheVariants.{Update, Read}
 use Rattle.text.specs.Lines.{lines_of}
@@ -18,7 +18,7 @@ use Rattle.engine.specs.Reading.{TextsRead}
 use Rattle.engine.specs.StateAnswer.{opened_by}
 use Rattle.replaying.specs.ReplayAnswer.{operation_of, install_of}
 use Rattle.realtime.specs.declared.histories.Timed.{Timed}
-use Rattle.realtime.specs.Histories.{calls_of}
+use Rattle.realtime.specs.Histories.{calls_behind}
 use Rattle.realtime.specs.Ranks.{ranks_of}
 
 -- ---- what a transcript tells
@@ -29,21 +29,14 @@ pub record Told : Type 0 where
   pub op : Operation
   pub answer : Answer
 
--- an update is answered its index and its reply, a read its point and its reply
-abbrev pub answer_told : Mode → (place reply : ℕ) → Answer
-answer_told Update index reply = Updated (replies.Placed index reply)
-answer_told Read point reply = ReadBack (record { point = point; reply = reply })
-
-abbrev pub call_told : Mode → Answer → Operation → Told
-call_told mode answer op = record { mode = mode; op = op; answer = answer }
-
--- a comment is no call
+-- a comment is no call; an update is answered its index and its reply, a read its point and its reply
 abbrev pub told_by : CatalogueView → TranscriptMeaning → Option Told
 told_by c Comment = None
-told_by c (Answered a) = option_map (call_told a.mode (answer_told a.mode a.index a.reply)) (operation_of c a.mode a.call)
-told_by c (Installed a) = option_map (call_told Update (answer_told Update a.index a.reply)) (install_of c a.program)
-told_by c (Ended call) = option_map (call_told Update (Updated replies.Ended)) (operation_of c Update call)
-told_by c (EndedInstall new) = option_map (call_told Update (Updated replies.Ended)) (install_of c new)
+told_by c (Answered Update call a) = option_map (λ op. record { mode = Update; op = op; answer = Updated (replies.Placed a.index a.reply) }) (operation_of c Update call)
+told_by c (Answered Read call a) = option_map (λ op. record { mode = Read; op = op; answer = ReadBack (record { point = a.index; reply = a.reply }) }) (operation_of c Read call)
+told_by c (Installed new a) = option_map (λ op. record { mode = Update; op = op; answer = Updated (replies.Placed a.index a.reply) }) (install_of c new)
+told_by c (Ended call) = option_map (λ op. record { mode = Update; op = op; answer = Updated replies.Ended }) (operation_of c Update call)
+told_by c (EndedInstall new) = option_map (λ op. record { mode = Update; op = op; answer = Updated replies.Ended }) (install_of c new)
 
 -- what the lines tell that are calls, in their order
 abbrev pub calls_told : CatalogueView → List (List ℕ) → List Told
@@ -77,7 +70,7 @@ pub record IsTraceOf (told : List Told) (calls : List Timed) (t : Trace) : Type 
 -- the lines of the history are the calls of such a trace, and one list of operations, the transcript's own in its order, explains it
 pub record IsLinearizable (m : Opening) (transcript history : List (List ℕ)) : Type 0 where
   pub calls : List Timed
-  pub read : calls_of (ranks_of transcript) history ≡ Ok calls
+  pub read : calls_behind (ranks_of transcript) [] history ≡ Ok calls
   pub trace : Trace
   pub is_trace : IsTraceOf (calls_told m.catalogue transcript) calls trace
   pub list : History

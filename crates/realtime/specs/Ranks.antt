@@ -9,14 +9,10 @@ use Rattle.realtime.specs.declared.ranks.Standing.TheVariants as stands
 -- is no call, and an install is an update
 abbrev pub standing_of : TranscriptMeaning → Option Standing
 standing_of Comment = None
-standing_of (Answered a) = Some (stands.At a.mode a.index)
-standing_of (Installed a) = Some (stands.At modes.Update a.index)
+standing_of (Answered mode call a) = Some (stands.At mode a.index)
+standing_of (Installed program a) = Some (stands.At modes.Update a.index)
 standing_of (Ended call) = Some stands.Ended
 standing_of (EndedInstall program) = Some stands.Ended
-
--- where the lines stand that are calls, in their order
-abbrev pub standings_of : List (List ℕ) → List Standing
-standings_of lines = filter_map (λ line. option_and_then standing_of (transcript_line_meaning line)) lines
 
 abbrev pub is_update : Standing → Bool
 is_update (stands.At modes.Update index) = true
@@ -31,4 +27,6 @@ rank_of updates stands.Ended = 2 * updates
 
 -- the ranks of a transcript's calls, in the order of its lines
 abbrev pub ranks_of : List (List ℕ) → List ℕ
-ranks_of lines = let standings = standings_of lines in map (rank_of (count_by is_update standings)) standings
+ranks_of lines =
+    let standings = filter_map (λ line. option_and_then standing_of (transcript_line_meaning line)) lines in
+    map (rank_of (count_by is_update standings)) standings

@@ -1,5 +1,6 @@
 -- What `replay --history` answers, as a function of the manifest, the files, the transcript, the state and the history that were read.
-use Rattle.std.specs.Prelude.{ℕ, ◌+◌, List, ◌++◌, codes, decimal, Option, Some, None, Result, Ok, Err}
+use Rattle.std.specs.Option.{option_map_or}
+use Rattle.std.specs.Prelude.{ℕ, ◌+◌, List, [], ◌++◌, codes, decimal, Option, Some, None, Result, Ok, Err}
 use Rattle.text.specs.Lines.{lines_of}
 use Rattle.engine.specs.declared.replies.Verdict.{Verdict}
 use Rattle.engine.specs.declared.replies.Verdict.TheVariants as verdicts
@@ -7,7 +8,7 @@ use Rattle.engine.specs.Answer.{Answer, not_text}
 use Rattle.engine.specs.Reading.{TextsRead}
 use Rattle.replaying.specs.ReplayAnswer.{replay_answer}
 use Rattle.realtime.specs.declared.histories.Timed.{Timed}
-use Rattle.realtime.specs.Histories.{calls_of}
+use Rattle.realtime.specs.Histories.{calls_behind}
 use Rattle.realtime.specs.RealTime.{first_out_of_turn, first_misplaced}
 use Rattle.realtime.specs.Ranks.{ranks_of}
 
@@ -19,14 +20,10 @@ bad_history n = record { text = codes "history line " ++ (decimal n ++ codes " b
 abbrev pub differing_history : ℕ → Answer
 differing_history n = record { text = codes "history line " ++ (decimal n ++ codes " differs\n"); verdict = verdicts.Differs }
 
--- the line of this index has a fault, or none has
-abbrev pub unless_faulty : Option ℕ → (ℕ → Answer) → Answer → Answer
-unless_faulty None fault answer = answer
-unless_faulty (Some k) fault answer = fault (k + 1)
-
 -- first each session must make its calls in turn, then the calls must stand in the order of real time
 abbrev pub calls_answer : Answer → List Timed → Answer
-calls_answer answer calls = unless_faulty (first_out_of_turn calls) bad_history (unless_faulty (first_misplaced calls) differing_history answer)
+calls_answer answer calls =
+    option_map_or (λ k. bad_history (k + 1)) (first_out_of_turn calls) (option_map_or (λ k. differing_history (k + 1)) (first_misplaced calls) answer)
 
 -- the lines are read before
 abbrev pub history_answer : Answer → Result (List Timed) ℕ → Answer
@@ -39,11 +36,9 @@ where_good verdicts.Good answer judged = judged
 where_good verdicts.Refused answer judged = answer
 where_good verdicts.Differs answer judged = answer
 
--- what becomes of the answer to a transcript, by its history
-abbrev pub timed : Answer → List ℕ → List ℕ → Answer
-timed answer transcript history = where_good answer.verdict answer (history_answer answer (calls_of (ranks_of (lines_of transcript)) (lines_of history)))
-
 -- what `replay --history` answers to what was read: the transcript is replayed, then the history is judged
 abbrev pub timed_answer : ℕ → Option TextsRead → Answer
 timed_answer spare None = not_text
-timed_answer spare (Some t) = timed (replay_answer spare (Some t)) t.file t.history
+timed_answer spare (Some t) =
+    let answer = replay_answer spare (Some t) in
+    where_good answer.verdict answer (history_answer answer (calls_behind (ranks_of (lines_of t.file)) [] (lines_of t.history)))

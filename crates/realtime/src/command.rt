@@ -4,8 +4,8 @@ ghost use Rattle.std.specs.Prelude.{◌≡◌, ◌*◌, ◌++◌, length, codes,
 ghost use Rattle.engine.specs.declared.replies.Verdict.TheVariants as verdicts;
 ghost use Rattle.engine.specs.Reading.{texts_read};
 ghost use Rattle.engine.specs.Report.{answer_of};
-ghost use Rattle.realtime.specs.Judging.{AreGood};
-ghost use Rattle.realtime.specs.TimedAnswer.{calls_answer, timed, timed_answer};
+ghost use Rattle.realtime.specs.Judging.{AreGood, timed};
+ghost use Rattle.realtime.specs.TimedAnswer.{calls_answer, timed_answer};
 
 use crate::histories::{Timed, read_history};
 use crate::orders::{beginnings, first_misplaced, first_out_of_turn};

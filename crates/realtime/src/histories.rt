@@ -2,8 +2,8 @@
 
 ghost use Rattle.std.specs.Prelude.{◌≡◌, length, MatchResult, IfOk};
 ghost use Rattle.text.specs.Lines.{lines_of};
-ghost use Rattle.realtime.specs.Histories.{timed_line, fits, call_behind, calls_of};
-ghost use Rattle.realtime.specs.Judging.{HasUsed, HasTaken, TakesCall};
+ghost use Rattle.realtime.specs.Histories.{timed_line, fits, call_behind};
+ghost use Rattle.realtime.specs.Judging.{HasUsed, HasTaken, TakesCall, calls_of};
 
 use std::alloc::{AllocError, Global};
 use text::{NumberedLines, number, number_within, split_at_space};

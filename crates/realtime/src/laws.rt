@@ -1,11 +1,11 @@
 // What the definitions of a history say, in other words.
 
-ghost use Rattle.std.specs.Prelude.{◌≡◌, ◌↔◌, ℕ, List, Some, None, Ok};
+ghost use Rattle.std.specs.Prelude.{◌≡◌, ◌↔◌, ℕ, List, [], Some, None, Ok};
 ghost use Rattle.engine.specs.declared.replies.Verdict.TheVariants as verdicts;
 ghost use Rattle.engine.specs.Reading.{TextsRead};
 ghost use Rattle.realtime.specs.declared.histories.TheConstants.{SESSIONS};
 ghost use Rattle.realtime.specs.declared.histories.Timed.{Timed};
-ghost use Rattle.realtime.specs.Histories.{calls_of};
+ghost use Rattle.realtime.specs.Histories.{calls_behind};
 ghost use Rattle.realtime.specs.RealTime.{first_out_of_turn, first_misplaced, AreInTurn, InRealTime};
 ghost use Rattle.realtime.specs.TimedAnswer.{timed_answer};
 ghost use Rattle.realtime.specs.Laws.{AreCalls, IsShown, GoodIsReal, DiffersIsShown};
@@ -19,7 +19,7 @@ pub fn limits()
 /// A history whose lines are good has one for each call of its transcript, in its order. Each call began at one number and was back at a
 /// higher one, and no two have a number in common.
 pub fn lines_are_calls()
-    ensures calls { (ranks : List ℕ) (lines : List (List ℕ)) (calls : List Timed) → calls_of ranks lines ≡ Ok calls → AreCalls ranks calls }
+    ensures calls { (ranks : List ℕ) (lines : List (List ℕ)) (calls : List Timed) → calls_behind ranks [] lines ≡ Ok calls → AreCalls ranks calls }
 {}
 
 /// No line is out of turn just where each session makes its calls one after the other, in the order of their lines in the script.

@@ -1,9 +1,10 @@
 // Where the calls of a transcript stand.
 
-ghost use Rattle.std.specs.Prelude.{◌≡◌, ◌≤◌, ◌^◌, ◌<◌, length, option_and_then, IfOk};
+ghost use Rattle.std.specs.Prelude.{◌≡◌, ◌≤◌, ◌^◌, ◌<◌, option_and_then, IfOk};
 ghost use Rattle.scripts.specs.Transcript.{transcript_line_meaning};
 ghost use Rattle.text.specs.Lines.{lines_of};
-ghost use Rattle.realtime.specs.Ranks.{standing_of, standings_of, is_update, rank_of, ranks_of};
+ghost use Rattle.realtime.specs.Judging.{standings_of};
+ghost use Rattle.realtime.specs.Ranks.{standing_of, is_update, rank_of, ranks_of};
 
 use scripts::{TranscriptLine, read_transcript_line};
 use std::alloc::{AllocError, Global};
@@ -23,8 +24,8 @@ fn line_standing(line: &str) -> Option<Standing>
 {
     match read_transcript_line(line)? {
         TranscriptLine::Comment => None,
-        TranscriptLine::Answered(told) => Some(Standing::At(told.mode, told.index)),
-        TranscriptLine::Installed(told) => Some(Standing::At(Mode::Update, told.index)),
+        TranscriptLine::Answered(mode, _, told) => Some(Standing::At(mode, told.index)),
+        TranscriptLine::Installed(_, told) => Some(Standing::At(Mode::Update, told.index)),
         TranscriptLine::Ended(_) | TranscriptLine::EndedInstall(_) => Some(Standing::Ended),
     }
 }

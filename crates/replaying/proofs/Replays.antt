@@ -1,6 +1,7 @@
 -- One line of a transcript, from what the node answers.
 use Rattle.std.proofs.Common.{◌≡◌, ℕ, Bool, true, false, eqb, ltb, length, Option, Some, refl, sym, ap, subst, ◌∙◌, arith, None}
 use Rattle.std.specs.Prelude.{option_map}
+use Rattle.std.specs.Option.{option_map_or}
 use Rattle.std.proofs.lemmas.Bool.{ltb-true, eqb-true, false≢true}
 use Rattle.loader.specs.StoreState.{StoreState}
 use Rattle.verifier.specs.declared.refusal.Mode.TheVariants.{Update, Read}
@@ -18,9 +19,13 @@ use Rattle.replaying.specs.declared.lines.Due.{Due}
 use Rattle.replaying.specs.declared.lines.Replaying.{Replaying}
 use Rattle.running.specs.declared.single_node.SingleNode.{SingleNode}
 use Rattle.running.specs.Running.{Follows, IsUpdated, HasEnded}
-use Rattle.replaying.specs.ReplayAnswer.{Replayed, update_agrees, read_agrees, with_update, is_reply, next_count}
+use Rattle.replaying.specs.ReplayAnswer.{Replayed, update_agrees, read_agrees, with_update, next_count}
 use Rattle.replaying.specs.Replaying.{HasReplayed, IsCompared, due_at}
 use Rattle.running.proofs.Turns.{here, effect_here, has_room, updated_follows}
+
+-- whether this reply was told
+abbrev is_reply : ℕ → Option ℕ → Bool
+is_reply reply o = option_map_or (λ r. eqb r reply) o false
 
 is_off : (b : Bool) → (b ≡ true → ⊥) → b ≡ false
 is_off true h = absurd (h refl)

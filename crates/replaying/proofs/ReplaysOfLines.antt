@@ -1,6 +1,7 @@
 -- Each line that a replay finds to agree is what its operation does there.
 use Rattle.std.proofs.Common.{◌≡◌, ◌⊎◌, inl, inr, ℕ, ◌<◌, Bool, true, false, eqb, ltb, List, [], ◌∷◌, length, Option, Some, None, refl, sym, ap, subst, ◌∙◌}
 use Rattle.std.specs.Prelude.{option_map, if◌then◌else◌}
+use Rattle.std.specs.Option.{option_map_or}
 use Rattle.std.proofs.lemmas.Bool.{and_parts, eqb-true, ltb-true}
 use Rattle.std.proofs.lemmas.Option.{same_Some}
 use Rattle.maps.specs.Maps.{AreBytes}
@@ -14,19 +15,18 @@ use Rattle.oplog.specs.declared.configuration.TheConstants.{MAX_LIMIT}
 use Rattle.oplog.specs.Calls.{Call, NewProgram}
 use Rattle.oplog.specs.Operations.{Operation}
 use Rattle.oplog.specs.declared.records.Op.TheVariants.{Run, Install}
-use Rattle.oplog.specs.History.{Effect, ReadEffect, History, effect_at, read_at, reply_at, read_reply_at}
+use Rattle.oplog.specs.History.{Effect, ReadEffect, History, reply_at, read_reply_at}
 use Rattle.replica.specs.StoreMeaning.{AreUpdates, is_operation, store_meaning}
 use Rattle.replica.specs.Refusals.{early_refusal, install_refusal}
 use Rattle.replica.specs.declared.refusals.StoreRefused.{StoreRefused}
 use Rattle.replica.proofs.Asked.{is_asked, may_install}
 use Rattle.replica.proofs.Tested.{are_tested}
-use Rattle.engine.specs.Answer.{Answer}
 use Rattle.scripts.specs.Script.{KeyedCall}
 use Rattle.scripts.specs.Transcript.{TranscriptMeaning, Comment, Answered, Installed, Ended, EndedInstall, transcript_line_meaning}
-use Rattle.running.specs.RunAnswer.{bad_line, with_operation}
-use Rattle.replaying.specs.ReplayAnswer.{Replayed, LineOutcome, Bad, Differs, Agrees, number_told, unless_barred, operation_of, install_of, is_reply, update_agrees, read_agrees, with_update, next_count, compared, by_operation, told, line_outcome, good_answer, differing_line, by_outcome, transcript_answer}
+use Rattle.running.specs.RunAnswer.{state_of, with_operation}
+use Rattle.replaying.specs.ReplayAnswer.{Replayed, LineOutcome, Bad, Differs, Agrees, number_told, unless_barred, operation_of, install_of, update_agrees, read_agrees, with_update, next_count, compared, told, line_outcome, by_outcome, transcript_answer}
 use Rattle.scripts.specs.LineSpelling.{SpellsTold}
-use Rattle.replaying.specs.ReplayLines.{Does, AgreesUpdate, AgreesRead, AgreesCall, IsCallOf, AgreesTold, LineAgrees, Replays, AgreeingLinesAreRuns, ReplaysAreRuns, state_of}
+use Rattle.replaying.specs.ReplayLines.{Does, AgreesUpdate, AgreesRead, IsCallOf, AgreesTold, LineAgrees, Replays, AgreeingLinesAreRuns, ReplaysAreRuns}
 use Rattle.running.proofs.RunsOfLines.{field_are_bytes, grown, has_effects, left_behind}
 use Rattle.scripts.proofs.SpelledTold.{spelled}
 
@@ -35,15 +35,15 @@ use Rattle.scripts.proofs.SpelledTold.{spelled}
 -- the argument of a call and the instructions of a program are bytes
 abbrev HasBytes : TranscriptMeaning → Type 0
 HasBytes Comment = Unit {0}
-HasBytes (Answered a) = AreBytes a.call.argument
-HasBytes (Installed a) = AreBytes a.program.bytes
+HasBytes (Answered mode call a) = AreBytes call.argument
+HasBytes (Installed new a) = AreBytes new.bytes
 HasBytes (Ended call) = AreBytes call.argument
 HasBytes (EndedInstall new) = AreBytes new.bytes
 
 spelled_bytes : (line : List ℕ) (m : TranscriptMeaning) → SpellsTold m line → HasBytes m
 spelled_bytes line Comment h = tt
-spelled_bytes line (Answered a) h = field_are_bytes h.0.0 a.call.argument h.0.3
-spelled_bytes line (Installed a) h = field_are_bytes h.0.0 a.program.bytes h.0.3
+spelled_bytes line (Answered mode call a) h = field_are_bytes h.0.0 call.argument h.0.3
+spelled_bytes line (Installed new a) h = field_are_bytes h.0.0 new.bytes h.0.3
 spelled_bytes line (Ended call) h = field_are_bytes h.0 call.argument h.3
 spelled_bytes line (EndedInstall new) h = field_are_bytes h.0 new.bytes h.3
 
@@ -69,11 +69,11 @@ installable c new op bytes e =
     let free = unbarred (Install new) op (install_refusal c.shapes new) e in
     (free.1, may_install c new free.0 bytes)
 
-has_operation : (f : Operation → LineOutcome) (o : Option Operation) (next : Replayed) → by_operation f o ≡ Agrees next → (op : Operation) × (o ≡ Some op) × (f op ≡ Agrees next)
+has_operation : (f : Operation → LineOutcome) (o : Option Operation) (next : Replayed) → option_map_or f o Bad ≡ Agrees next → (op : Operation) × (o ≡ Some op) × (f op ≡ Agrees next)
 has_operation f None next e = absurd cc
 has_operation f (Some op) next e = (op, refl, e)
 
-is_told : (reply : ℕ) (o : Option ℕ) → is_reply reply o ≡ true → o ≡ Some reply
+is_told : (reply : ℕ) (o : Option ℕ) → option_map_or (λ r. eqb r reply) o false ≡ true → o ≡ Some reply
 is_told reply None e = absurd cc
 is_told reply (Some r) e = ap Some (eqb-true r reply e)
 
@@ -133,25 +133,25 @@ module _ (c : CatalogueView) (is_whole : IsCatalogue c) (at : Replayed) (updates
       } in
       subst (λ (n : Replayed). AgreesRead c at call point reply n × AreUpdates c n.history) agrees.1 (here, updates)
 
-  call_is : (mode : Mode) (call : Call) (index reply : ℕ) (next : Replayed) → is_operation mode c (Run call) ≡ true → compared c at mode index reply (Run call) ≡ Agrees next
-      → AgreesCall c at mode call index reply next × AreUpdates c next.history
-  call_is Update call index reply next is e = update_is (Run call) index reply next is e
-  call_is Read call index reply next is e = read_is call index reply next is e
-
   inner : (to next : Replayed) → Agrees to ≡ Agrees next → to ≡ next
   inner to next e = cc
 
   told_is : (m : TranscriptMeaning) (next : Replayed) → HasBytes m → told c at (Some m) ≡ Agrees next → AgreesTold c at m next × AreUpdates c next.history
   told_is Comment next bytes e = let same = inner at next e in (sym same, subst (λ (n : Replayed). AreUpdates c n.history) same updates)
-  told_is (Answered a) next bytes e =
-      let op = has_operation (compared c at a.mode a.index a.reply) (operation_of c a.mode a.call) next e in
-      let n = named c a.mode a.call op.0 bytes op.1 in
-      let d = call_is a.mode n.0 a.index a.reply next n.3 (ap (compared c at a.mode a.index a.reply) n.2 ∙ op.2) in
+  told_is (Answered Update keyed a) next bytes e =
+      let op = has_operation (compared c at Update a.index a.reply) (operation_of c Update keyed) next e in
+      let n = named c Update keyed op.0 bytes op.1 in
+      let d = update_is (Run n.0) a.index a.reply next n.3 (ap (compared c at Update a.index a.reply) n.2 ∙ op.2) in
       ((n.0, n.1, d.0), d.1)
-  told_is (Installed a) next bytes e =
-      let op = has_operation (compared c at Update a.index a.reply) (install_of c a.program) next e in
-      let n = installable c a.program op.0 bytes op.1 in
-      update_is (Install a.program) a.index a.reply next n.1 (ap (compared c at Update a.index a.reply) n.0 ∙ op.2)
+  told_is (Answered Read keyed a) next bytes e =
+      let op = has_operation (compared c at Read a.index a.reply) (operation_of c Read keyed) next e in
+      let n = named c Read keyed op.0 bytes op.1 in
+      let d = read_is n.0 a.index a.reply next n.3 (ap (compared c at Read a.index a.reply) n.2 ∙ op.2) in
+      ((n.0, n.1, d.0), d.1)
+  told_is (Installed new a) next bytes e =
+      let op = has_operation (compared c at Update a.index a.reply) (install_of c new) next e in
+      let n = installable c new op.0 bytes op.1 in
+      update_is (Install new) a.index a.reply next n.1 (ap (compared c at Update a.index a.reply) n.0 ∙ op.2)
   told_is (Ended keyed) next bytes e =
       let op = has_operation (λ (op : Operation). Agrees (record at { ended = next_count at.ended })) (operation_of c Update keyed) next e in
       let n = named c Update keyed op.0 bytes op.1 in

@@ -1,6 +1,7 @@
 -- The loop over the lines of a transcript: one line on, a line that ends it, and the end.
 use Rattle.std.proofs.Common.{◌≡◌, ℕ, Bool, true, false, List, [], ◌∷◌, Some, refl, sym, subst, ◌∙◌}
 use Rattle.std.specs.Prelude.{if◌then◌else◌}
+use Rattle.verifier.specs.declared.refusal.Mode.{Mode}
 use Rattle.verifier.specs.declared.refusal.Mode.TheVariants.{Read}
 use Rattle.oplog.specs.Operations.{Operation}
 use Rattle.text.specs.Lines.{next_line}
@@ -10,14 +11,15 @@ use Rattle.replaying.specs.declared.lines.LineVerdict.{LineVerdict}
 use Rattle.replaying.specs.declared.lines.LineVerdict.TheVariants as lines
 use Rattle.engine.specs.Answer.{Answer}
 use Rattle.running.specs.RunAnswer.{bad_line}
-use Rattle.scripts.specs.Transcript.{AnsweredCall}
-use Rattle.replaying.specs.ReplayAnswer.{Replayed, LineOutcome, Bad, Differs, Agrees, operation_of, compared, answered_outcome, line_outcome, read_agrees, next_count, good_answer, differing_line, by_outcome, transcript_answer}
-use Rattle.replaying.specs.Replaying.{HasReplayed, IsCompared, LineReplayed, compared_verdict}
+use Rattle.scripts.specs.Script.{KeyedCall}
+use Rattle.scripts.specs.declared.transcripts.ToldReply.{ToldReply}
+use Rattle.replaying.specs.ReplayAnswer.{Replayed, LineOutcome, Bad, Differs, Agrees, operation_of, compared, line_outcome, read_agrees, next_count, good_answer, differing_line, by_outcome, transcript_answer}
+use Rattle.replaying.specs.Replaying.{HasReplayed, IsCompared, LineReplayed, answered_outcome, compared_verdict}
 
 -- a call whose operation is known
-pub of_operation : (c : CatalogueView) (at : Replayed) (a : AnsweredCall) (op : Operation) (v : LineVerdict) (r : Replaying) → Some op ≡ operation_of c a.mode a.call
-    → LineReplayed c (compared c at a.mode a.index a.reply op) v r → LineReplayed c (answered_outcome c at a) v r
-of_operation c at a op v r found told = rw (← found) told
+pub of_operation : (c : CatalogueView) (at : Replayed) (mode : Mode) (call : KeyedCall) (a : ToldReply) (op : Operation) (v : LineVerdict) (r : Replaying) → Some op ≡ operation_of c mode call
+    → LineReplayed c (compared c at mode a.index a.reply op) v r → LineReplayed c (answered_outcome c at mode call a) v r
+of_operation c at mode call a op v r found told = rw (← found) told
 
 by_agrees : (c : CatalogueView) (agrees : Bool) (next : Replayed) (told : Bool) (r : Replaying) → IsCompared c agrees next told r → LineReplayed c (if agrees then Agrees next else Differs) (compared_verdict told) r
 by_agrees c true next told r is = subst (λ t. LineReplayed c (Agrees next) (compared_verdict t) r) (sym is.told) (is.goes_on refl)

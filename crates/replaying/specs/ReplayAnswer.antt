@@ -1,4 +1,5 @@
 -- What `replay` answers, as a function of the manifest, the files, the transcript and the state that were read.
+use Rattle.std.specs.Option.{option_map_or}
 use Rattle.std.specs.Prelude.{ℕ, ◌+◌, ◌-◌, ◌^◌, min, Bool, false, ◌&&◌, List, [], ◌∷◌, ◌++◌, length, codes, decimal, Option, Some, None, option_and_then, Result, Ok, Err, nat_lt, ◌==◌, if◌then◌else◌}
 use Rattle.verifier.specs.declared.refusal.Mode.{Mode}
 use Rattle.verifier.specs.declared.refusal.Mode.TheVariants.{Update, Read}
@@ -15,7 +16,7 @@ use Rattle.replica.specs.declared.refusals.StoreRefused.{StoreRefused}
 use Rattle.engine.specs.declared.replies.Verdict.TheVariants as verdicts
 use Rattle.engine.specs.Answer.{Answer, not_text}
 use Rattle.scripts.specs.Script.{ProgramKey, Named, Numbered, KeyedCall}
-use Rattle.scripts.specs.Transcript.{AnsweredCall, AnsweredInstall, TranscriptMeaning, Comment, Answered, Installed, Ended, EndedInstall, transcript_line_meaning}
+use Rattle.scripts.specs.Transcript.{TranscriptMeaning, Comment, Answered, Installed, Ended, EndedInstall, transcript_line_meaning}
 use Rattle.running.specs.RunAnswer.{bad_line, with_operation}
 use Rattle.engine.specs.Reading.{TextsRead}
 use Rattle.engine.specs.Opening.{opening, places_within}
@@ -25,10 +26,6 @@ use Rattle.engine.specs.Opening.{opening, places_within}
 -- the numbers of updates, of reads, and of updates that were told that the history has ended
 abbrev pub good_text : ℕ → ℕ → ℕ → List ℕ
 good_text updates reads ended = codes "good " ++ (decimal updates ++ (codes " " ++ (decimal reads ++ (codes " " ++ (decimal ended ++ codes "\n")))))
-
--- the line whose index or reply is another
-abbrev pub differs_text : ℕ → List ℕ
-differs_text n = codes "line " ++ (decimal n ++ codes " differs\n")
 
 -- ---- one line
 
@@ -53,10 +50,10 @@ abbrev pub number_told : CatalogueView → ProgramKey → Option ℕ
 number_told c (Named name) = number_named c.programs name
 number_told c (Numbered k) = if nat_lt k (length c.programs) then None else Some k
 
--- the operation, unless it is refused
-abbrev pub unless_barred : Operation → Option StoreRefused → Option Operation
-unless_barred op None = Some op
-unless_barred op (Some why) = None
+-- this, unless it is refused
+abbrev pub unless_barred : {X : Type 0} → X → Option StoreRefused → Option X
+unless_barred x None = Some x
+unless_barred x (Some why) = None
 
 -- the operation that is called, and that of an install: one that a session could ask for
 abbrev pub operation_of : CatalogueView → Mode → KeyedCall → Option Operation
@@ -66,17 +63,13 @@ operation_of c mode call =
 abbrev pub install_of : CatalogueView → NewProgram → Option Operation
 install_of c new = unless_barred (Install new) (install_refusal c.shapes new)
 
-abbrev pub is_reply : ℕ → Option ℕ → Bool
-is_reply told None = false
-is_reply told (Some reply) = reply == told
-
 -- the update has the next index of a history, and this reply there
 abbrev pub update_agrees : CatalogueView → History → Operation → ℕ → ℕ → Bool
-update_agrees c h op index reply = (index == length h) && (nat_lt (length h) MAX_LIMIT && is_reply reply (reply_at store_meaning c h (length h) op))
+update_agrees c h op index reply = (index == length h) && (nat_lt (length h) MAX_LIMIT && option_map_or (λ r. r == reply) (reply_at store_meaning c h (length h) op) false)
 
 -- the read has the end of the history as its point, and this reply there
 abbrev pub read_agrees : CatalogueView → History → Operation → ℕ → ℕ → Bool
-read_agrees c h op point reply = (point == length h) && is_reply reply (read_reply_at store_meaning c h (length h) op)
+read_agrees c h op point reply = (point == length h) && option_map_or (λ r. r == reply) (read_reply_at store_meaning c h (length h) op) false
 
 abbrev pub with_update : Replayed → Operation → Replayed
 with_update at op = record at { history = with_operation at.history op }
@@ -86,28 +79,16 @@ abbrev pub compared : CatalogueView → Replayed → Mode → ℕ → ℕ → Op
 compared c at Update index reply op = if update_agrees c at.history op index reply then Agrees (with_update at op) else Differs
 compared c at Read index reply op = if read_agrees c at.history op index reply then Agrees (record at { reads = next_count at.reads }) else Differs
 
--- a call that names no operation makes its line bad, whatever it tells
-abbrev pub by_operation : (Operation → LineOutcome) → Option Operation → LineOutcome
-by_operation agrees None = Bad
-by_operation agrees (Some op) = agrees op
-
-abbrev pub answered_outcome : CatalogueView → Replayed → AnsweredCall → LineOutcome
-answered_outcome c at a = by_operation (compared c at a.mode a.index a.reply) (operation_of c a.mode a.call)
-
--- an install is an update
-abbrev pub installed_outcome : CatalogueView → Replayed → AnsweredInstall → LineOutcome
-installed_outcome c at a = by_operation (compared c at Update a.index a.reply) (install_of c a.program)
-
 -- an update that was told that the history has ended changes nothing
 abbrev pub ended_outcome : Replayed → Option Operation → LineOutcome
-ended_outcome at asked = by_operation (λ op. Agrees (record at { ended = next_count at.ended })) asked
+ended_outcome at asked = option_map_or (λ op. Agrees (record at { ended = next_count at.ended })) asked Bad
 
--- by what the line says
+-- by what the line says: a call that names no operation makes it bad, whatever it tells; an install is an update
 abbrev pub told : CatalogueView → Replayed → Option TranscriptMeaning → LineOutcome
 told c at None = Bad
 told c at (Some Comment) = Agrees at
-told c at (Some (Answered a)) = answered_outcome c at a
-told c at (Some (Installed a)) = installed_outcome c at a
+told c at (Some (Answered mode call a)) = option_map_or (compared c at mode a.index a.reply) (operation_of c mode call) Bad
+told c at (Some (Installed new a)) = option_map_or (compared c at Update a.index a.reply) (install_of c new) Bad
 told c at (Some (Ended call)) = ended_outcome at (operation_of c Update call)
 told c at (Some (EndedInstall new)) = ended_outcome at (install_of c new)
 
@@ -119,8 +100,9 @@ line_outcome c at line = told c at (transcript_line_meaning line)
 abbrev pub good_answer : Replayed → Answer
 good_answer at = record { text = good_text (length at.history) at.reads at.ended; verdict = verdicts.Good }
 
+-- the line whose index or reply is another
 abbrev pub differing_line : ℕ → Answer
-differing_line n = record { text = differs_text n; verdict = verdicts.Differs }
+differing_line n = record { text = codes "line " ++ (decimal n ++ codes " differs\n"); verdict = verdicts.Differs }
 
 abbrev pub by_outcome : ℕ → (Replayed → Answer) → LineOutcome → Answer
 by_outcome n next Bad = bad_line n

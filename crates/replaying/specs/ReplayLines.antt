@@ -1,6 +1,5 @@
 -- What stands behind each line of a transcript that a replay finds to agree: what its operation does there.
 use Rattle.std.specs.Prelude.{◌≡◌, ◌⊎◌, ℕ, ◌<◌, List, [], ◌∷◌, length, Some, Ok}
-use Rattle.verifier.specs.declared.refusal.Mode.{Mode}
 use Rattle.verifier.specs.declared.refusal.Mode.TheVariants.{Update, Read}
 use Rattle.verifier.specs.Accepted.{Checked}
 use Rattle.machine.specs.Effects.{Effect as RunEffect}
@@ -9,21 +8,17 @@ use Rattle.loader.specs.CatalogueView.{CatalogueView, IsCatalogue}
 use Rattle.loader.specs.Installed.{installed_program}
 use Rattle.loader.specs.StoreState.{StoreState}
 use Rattle.oplog.specs.declared.configuration.TheConstants.{MAX_LIMIT}
-use Rattle.oplog.specs.Calls.{Call, NewProgram}
+use Rattle.oplog.specs.Calls.{Call}
 use Rattle.oplog.specs.Operations.{Operation}
 use Rattle.oplog.specs.declared.records.Op.TheVariants.{Run, Install}
-use Rattle.oplog.specs.History.{History, state_after}
-use Rattle.replica.specs.StoreMeaning.{AreUpdates, IsOperation, placed, store_meaning}
+use Rattle.oplog.specs.History.{History}
+use Rattle.replica.specs.StoreMeaning.{AreUpdates, IsOperation, placed}
 use Rattle.engine.specs.Answer.{Answer}
 use Rattle.scripts.specs.Script.{KeyedCall}
 use Rattle.scripts.specs.Transcript.{TranscriptMeaning, Comment, Answered, Installed, Ended, EndedInstall, transcript_line_meaning}
-use Rattle.running.specs.RunAnswer.{bad_line}
+use Rattle.running.specs.RunAnswer.{bad_line, state_of}
 use Rattle.running.specs.RunLines.{CallDoes}
 use Rattle.replaying.specs.ReplayAnswer.{Replayed, Bad, Differs, Agrees, number_told, with_update, next_count, good_answer, differing_line, line_outcome, transcript_answer}
-
--- the state after the whole of a history
-abbrev pub state_of : CatalogueView → History → StoreState
-state_of c h = state_after store_meaning c h (length h)
 
 -- what an update replies behind a history, and leaves: a call is the run of its program there, or nothing, with the reply that there is none;
 -- an install puts the program that its bytes spell behind the others, and replies its number, or that no place is free
@@ -55,11 +50,6 @@ pub record AgreesRead (c : CatalogueView) (at : Replayed) (call : Call) (point r
 abbrev pub AgreesEnded : CatalogueView → Replayed → Operation → Replayed → Type 0
 AgreesEnded c at op next = IsOperation Update c op × (next ≡ record at { ended = next_count at.ended })
 
--- a call agrees as one of this mode
-abbrev pub AgreesCall : CatalogueView → Replayed → Mode → Call → (index reply : ℕ) → Replayed → Type 0
-AgreesCall c at Update call index reply next = AgreesUpdate c at (Run call) index reply next
-AgreesCall c at Read call index reply next = AgreesRead c at call index reply next
-
 -- the call of the program that a line names
 abbrev pub IsCallOf : CatalogueView → KeyedCall → Call → Type 0
 IsCallOf c keyed call = (number_told c keyed.key ≡ Some call.program) × (call.argument ≡ keyed.argument)
@@ -67,8 +57,9 @@ IsCallOf c keyed call = (number_told c keyed.key ≡ Some call.program) × (call
 -- what a line tells that agrees, by what it says
 abbrev pub AgreesTold : CatalogueView → Replayed → TranscriptMeaning → Replayed → Type 0
 AgreesTold c at Comment next = next ≡ at
-AgreesTold c at (Answered a) next = (call : Call) × IsCallOf c a.call call × AgreesCall c at a.mode call a.index a.reply next
-AgreesTold c at (Installed a) next = AgreesUpdate c at (Install a.program) a.index a.reply next
+AgreesTold c at (Answered Update keyed a) next = (call : Call) × IsCallOf c keyed call × AgreesUpdate c at (Run call) a.index a.reply next
+AgreesTold c at (Answered Read keyed a) next = (call : Call) × IsCallOf c keyed call × AgreesRead c at call a.index a.reply next
+AgreesTold c at (Installed new a) next = AgreesUpdate c at (Install new) a.index a.reply next
 AgreesTold c at (Ended keyed) next = (call : Call) × IsCallOf c keyed call × AgreesEnded c at (Run call) next
 AgreesTold c at (EndedInstall new) next = AgreesEnded c at (Install new) next
 

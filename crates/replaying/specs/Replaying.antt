@@ -1,8 +1,10 @@
 -- What is kept while a transcript is replayed. Clauses of private functions alone cite this.
 use Rattle.std.specs.Prelude.{◌≡◌, ℕ, Bool, true, false, List, length, None, nat_lt, if◌then◌else◌}
+use Rattle.std.specs.Option.{option_map_or}
 use Rattle.verifier.specs.declared.refusal.Mode.{Mode}
 use Rattle.verifier.specs.declared.refusal.Mode.TheVariants.{Update, Read}
 use Rattle.loader.specs.CatalogueView.{CatalogueView}
+use Rattle.oplog.specs.Calls.{NewProgram}
 use Rattle.oplog.specs.Operations.{Operation}
 use Rattle.oplog.specs.Logs.{tail_of}
 use Rattle.oplog.specs.History.{History, reply_at, read_reply_at}
@@ -18,14 +20,23 @@ use Rattle.engine.specs.declared.replies.Verdict.{Verdict}
 use Rattle.engine.specs.declared.replies.Verdict.TheVariants as verdicts
 use Rattle.running.specs.Running.{Follows}
 use Rattle.engine.specs.Answer.{Answer}
-use Rattle.running.specs.RunAnswer.{bad_line_text}
-use Rattle.replaying.specs.ReplayAnswer.{Replayed, LineOutcome, Bad, Differs, Agrees, good_text, differs_text, update_agrees, read_agrees, with_update, next_count}
+use Rattle.scripts.specs.Script.{KeyedCall}
+use Rattle.scripts.specs.declared.transcripts.ToldReply.{ToldReply}
+use Rattle.running.specs.RunAnswer.{bad_line}
+use Rattle.replaying.specs.ReplayAnswer.{Replayed, LineOutcome, Bad, Differs, Agrees, compared, differing_line, good_text, install_of, operation_of, update_agrees, read_agrees, with_update, next_count}
 
 -- so much was replayed
 pub record HasReplayed (c : CatalogueView) (at : Replayed) (r : Replaying) : Type 0 where
   pub placed : Follows MAX_LIMIT c at.history r.node
   pub reads : r.reads ≡ at.reads
   pub ended : r.ended ≡ at.ended
+
+-- what a call that was answered, and an install, is found to be
+abbrev pub answered_outcome : CatalogueView → Replayed → Mode → KeyedCall → ToldReply → LineOutcome
+answered_outcome c at mode call a = option_map_or (compared c at mode a.index a.reply) (operation_of c mode call) Bad
+
+abbrev pub installed_outcome : CatalogueView → Replayed → NewProgram → ToldReply → LineOutcome
+installed_outcome c at new a = option_map_or (compared c at Update a.index a.reply) (install_of c new) Bad
 
 -- whether a call agrees was told, and where it does so much is replayed
 pub record IsCompared (c : CatalogueView) (agrees : Bool) (next : Replayed) (answer : Bool) (r : Replaying) : Type 0 where
@@ -72,8 +83,8 @@ compared_verdict false = lines.Differs
 -- what is written where a replay ended so, and what the transcript is then
 abbrev pub ended_text : ReplayEnd → Replaying → List ℕ
 ended_text ends.Agrees r = good_text (tail_of r.node.log) r.reads r.ended
-ended_text (ends.Bad n) r = bad_line_text n
-ended_text (ends.Differs n due) r = differs_text n
+ended_text (ends.Bad n) r = (bad_line n).text
+ended_text (ends.Differs n due) r = (differing_line n).text
 
 abbrev pub ended_verdict : ReplayEnd → Verdict
 ended_verdict ends.Agrees = verdicts.Good

@@ -6,10 +6,10 @@ ghost use Rattle.verifier.specs.declared.refusal.Mode.TheVariants.{Update, Read}
 ghost use Rattle.oplog.specs.declared.records.Op.TheVariants.{Run};
 ghost use Rattle.replica.specs.StoreMeaning.{is_operation};
 ghost use Rattle.text.specs.Lines.{lines_of};
-ghost use Rattle.replaying.specs.ReplayAnswer.{number_told, operation_of, install_of, answered_outcome, installed_outcome, ended_outcome, line_outcome, nothing_replayed, transcript_answer};
-ghost use Rattle.replaying.specs.Replaying.{HasReplayed, Compares, ReplaysLine, TellsDue, compared_verdict, ended_answer, ended_verdict};
+ghost use Rattle.replaying.specs.ReplayAnswer.{number_told, operation_of, install_of, ended_outcome, line_outcome, nothing_replayed, transcript_answer};
+ghost use Rattle.replaying.specs.Replaying.{HasReplayed, Compares, ReplaysLine, TellsDue, answered_outcome, compared_verdict, installed_outcome, ended_answer, ended_verdict};
 ghost use Rattle.running.specs.Running.{IsSteady, IsUpdated, HasEnded};
-ghost use Rattle.scripts.specs.ScriptShown.{key_of, keyed_of, program_of, answered_of, installed_of};
+ghost use Rattle.scripts.specs.ScriptShown.{key_of, keyed_of, program_of};
 
 use engine::Verdict;
 use loader::{Catalogue, StoreState};
@@ -17,8 +17,7 @@ use machine::Outcome;
 use oplog::{Call, MAX_LIMIT, Op};
 use running::{SingleNode, checked_call};
 use scripts::{
-    AnsweredCall, AnsweredInstall, KeyedCall, ProgramKey, ProgramText, TranscriptLine,
-    read_transcript_line,
+    KeyedCall, ProgramKey, ProgramText, ToldReply, TranscriptLine, read_transcript_line,
 };
 use std::alloc::{AllocError, Global};
 use text::NumberedLines;
@@ -205,15 +204,21 @@ impl Replaying {
     }
 
     // What a call that was answered is found to be.
-    fn answered(&mut self, catalogue: &Catalogue, told: &AnsweredCall) -> LineVerdict
+    fn answered(
+        &mut self,
+        catalogue: &Catalogue,
+        mode: Mode,
+        call: &KeyedCall,
+        told: ToldReply,
+    ) -> LineVerdict
         requires steady { IsSteady catalogue.now self.old.node }
         ensures steady { IsSteady catalogue.now self.new.node }
-        ensures replayed { ReplaysLine catalogue.now (λ at. answered_outcome catalogue.now at (answered_of told.now)) self.old result self.new }
+        ensures replayed { ReplaysLine catalogue.now (λ at. answered_outcome catalogue.now at mode (keyed_of call.now) told) self.old result self.new }
     {
-        let Some(call) = find(catalogue, told.mode, &told.call) else {
+        let Some(call) = find(catalogue, mode, call) else {
             return LineVerdict::Bad;
         };
-        match told.mode {
+        match mode {
             Mode::Update => verdict_of(self.update(
                 catalogue,
                 Op::Run(call),
@@ -225,12 +230,17 @@ impl Replaying {
     }
 
     // What an install that was answered is found to be.
-    fn installed(&mut self, catalogue: &Catalogue, told: &AnsweredInstall) -> LineVerdict
+    fn installed(
+        &mut self,
+        catalogue: &Catalogue,
+        text: &ProgramText,
+        told: ToldReply,
+    ) -> LineVerdict
         requires steady { IsSteady catalogue.now self.old.node }
         ensures steady { IsSteady catalogue.now self.new.node }
-        ensures replayed { ReplaysLine catalogue.now (λ at. installed_outcome catalogue.now at (installed_of told.now)) self.old result self.new }
+        ensures replayed { ReplaysLine catalogue.now (λ at. installed_outcome catalogue.now at (program_of text.now) told) self.old result self.new }
     {
-        let Ok(program) = self.node.check(catalogue, &told.program) else {
+        let Ok(program) = self.node.check(catalogue, text) else {
             return LineVerdict::Bad;
         };
         verdict_of(self.update(catalogue, Op::Install(program), told.index, told.reply))
@@ -276,8 +286,12 @@ impl Replaying {
         match read_transcript_line(line) {
             None => LineVerdict::Bad,
             Some(TranscriptLine::Comment) => LineVerdict::Agrees,
-            Some(TranscriptLine::Answered(told)) => self.answered(catalogue, &told),
-            Some(TranscriptLine::Installed(told)) => self.installed(catalogue, &told),
+            Some(TranscriptLine::Answered(mode, call, told)) => {
+                self.answered(catalogue, mode, &call, told)
+            }
+            Some(TranscriptLine::Installed(text, told)) => {
+                self.installed(catalogue, &text, told)
+            }
             Some(TranscriptLine::Ended(call)) => self.after_end(catalogue, &call),
             Some(TranscriptLine::EndedInstall(text)) => self.install_after_end(catalogue, &text),
         }

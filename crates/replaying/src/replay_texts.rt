@@ -2,7 +2,7 @@
 
 ghost use Rattle.std.specs.Prelude.{◌≡◌, ◌++◌, OnOk};
 ghost use Rattle.engine.specs.Notes.{IsQuiet};
-ghost use Rattle.replaying.specs.ReplayAnswer.{good_text, differs_text};
+ghost use Rattle.replaying.specs.ReplayAnswer.{differing_line, good_text};
 ghost use Rattle.replaying.specs.Replaying.{ended_text};
 
 use crate::lines::{Due, ReplayEnd, Replaying};
@@ -25,7 +25,7 @@ fn put_good(out: &mut Vec<u8>, updates: u64, reads: u64, ended: u64) -> Result<(
 
 // The line of this number tells something else.
 fn put_differs(out: &mut Vec<u8>, number: u32) -> Result<(), AllocError>
-    ensures { OnOk result (out.new.items ≡ out.old.items ++ differs_text number) }
+    ensures { OnOk result (out.new.items ≡ out.old.items ++ (differing_line number).text) }
 {
     put_numbered(out, b"line ", number as u64)?;
     out.extend_from_slice(b" differs\n")

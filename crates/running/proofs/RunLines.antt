@@ -1,6 +1,7 @@
 -- The loop over the lines of a script: one line on, a bad line, and the end.
 use Rattle.std.proofs.Common.{◌≡◌, ℕ, Bool, true, false, List, [], ◌∷◌, ◌++◌, Option, Some, None, Result, refl, sym, ap, subst, ◌∙◌, append_assoc}
-use Rattle.std.specs.Prelude.{IfOk, option_map}
+use Rattle.std.specs.Prelude.{IfOk, option_map, option_and_then}
+use Rattle.std.specs.Option.{option_map_or}
 use Rattle.std.proofs.lemmas.List.{append-nil}
 use Rattle.std.proofs.lemmas.Bool.{false≢true}
 use Rattle.text.specs.declared.lines.LineKind.TheVariants as kinds
@@ -12,8 +13,8 @@ use Rattle.engine.specs.declared.replies.Verdict.TheVariants as verdicts
 use Rattle.running.specs.declared.single_node.SingleNode.{SingleNode}
 use Rattle.engine.specs.Answer.{Answer}
 use Rattle.scripts.specs.Script.{Comment, call_meaning, line_meaning}
-use Rattle.running.specs.RunAnswer.{Turn, taken, behind, bad_line, bad_line_text, by_turn, line_turn, lines_answer}
-use Rattle.running.specs.KeptRun.{then_left, lines_left}
+use Rattle.running.specs.RunAnswer.{Turn, taken, behind, bad_line, line_turn, lines_answer}
+use Rattle.running.specs.KeptRun.{lines_left}
 use Rattle.running.specs.Running.{Follows, HasLeft, LineTaken}
 
 -- a line of words says what its words say
@@ -41,7 +42,7 @@ module _ (limit : ℕ) (c : CatalogueView) (n : ℕ) (h : History) (before : Lis
   GoesOn after total left = (g : History) × Follows limit c g node × (behind after (lines_answer limit c (next_line n) g rest) ≡ total) × (left_on g ≡ left)
 
   goes_on : (t : Option Turn) (after : List ℕ) → LineTaken limit c t true node before after
-      → GoesOn after (behind before (by_turn (bad_line n) (λ turn. behind turn.text (next turn)) t)) (then_left left_on t)
+      → GoesOn after (behind before (option_map_or (λ turn. behind turn.text (next turn)) t (bad_line n))) (option_and_then (λ turn. left_on turn.history) t)
   goes_on None after taken = absurd (false≢true (sym taken.0))
   goes_on (Some turn) after taken =
       (turn.history, taken.1.placed, rw taken.1.written (ap (answer (next turn).verdict) (append_assoc before turn.text (next turn).text)), refl)
@@ -53,7 +54,7 @@ module _ (limit : ℕ) (c : CatalogueView) (n : ℕ) (h : History) (before : Lis
       let g = goes_on (line_turn limit c h line) after taken in
       (g.0, g.1, g.2 ∙ sym (rw first refl) ∙ so_far, g.3 ∙ sym (rw first refl) ∙ left_so_far)
 
-  none_left : (t : Option Turn) (after : List ℕ) → LineTaken limit c t false node before after → then_left left_on t ≡ None
+  none_left : (t : Option Turn) (after : List ℕ) → LineTaken limit c t false node before after → option_and_then (λ turn. left_on turn.history) t ≡ None
   none_left None after taken = refl
   none_left (Some turn) after taken = absurd (false≢true taken.0)
 
@@ -63,12 +64,12 @@ module _ (limit : ℕ) (c : CatalogueView) (n : ℕ) (h : History) (before : Lis
       let none : lines_left limit c h lines ≡ None = rw first (none_left (line_turn limit c h line) after taken) in
       subst (λ (x : Option History). HasLeft limit c m x verdicts.Refused) (sym none ∙ so_far) refl
 
-  stops : (t : Option Turn) (after all : List ℕ) → LineTaken limit c t false node before after → all ≡ after ++ bad_line_text n
-      → answer verdicts.Refused all ≡ behind before (by_turn (bad_line n) (λ turn. behind turn.text (next turn)) t)
-  stops None after all taken written = ap (answer verdicts.Refused) (written ∙ ap (λ (x : List ℕ). x ++ bad_line_text n) taken.1)
+  stops : (t : Option Turn) (after all : List ℕ) → LineTaken limit c t false node before after → all ≡ after ++ (bad_line n).text
+      → answer verdicts.Refused all ≡ behind before (option_map_or (λ turn. behind turn.text (next turn)) t (bad_line n))
+  stops None after all taken written = ap (answer verdicts.Refused) (written ∙ ap (λ (x : List ℕ). x ++ (bad_line n).text) taken.1)
   stops (Some turn) after all taken written = absurd (false≢true taken.0)
 
-  pub bad_here : (after all : List ℕ) → LineTaken limit c (line_turn limit c h line) false node before after → all ≡ after ++ bad_line_text n
+  pub bad_here : (after all : List ℕ) → LineTaken limit c (line_turn limit c h line) false node before after → all ≡ after ++ (bad_line n).text
       → answer verdicts.Refused all ≡ behind before (lines_answer limit c n h lines)
   unfolding lines_answer
   bad_here after all taken written = stops (line_turn limit c h line) after all taken written ∙ sym (rw first refl)

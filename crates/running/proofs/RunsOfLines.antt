@@ -2,7 +2,7 @@
 use Rattle.std.proofs.Common.{◌≡◌, ◌≢◌, ◌⊎◌, inl, inr, ℕ, zero, suc, ◌+◌, ◌<◌, ◌≤◌, Bool, true, false, ◌&&◌, cond, eqb, leb, ltb, List, [], ◌∷◌, ◌++◌, length, Option, Some, None, Result, Ok, Err, refl, sym, ap, subst, ◌∙◌, arith}
 use Rattle.std.specs.Prelude.{◌-◌, option_map, slice_get, if◌then◌else◌, bytes_eq, codes, nat_lt}
 use Rattle.std.specs.List.{position_from}
-use Rattle.std.specs.Option.{option_or}
+use Rattle.std.specs.Option.{option_map_or, option_or}
 use Rattle.std.proofs.lemmas.Bool.{ltb-true, ltb-false, lt-ltb, leb-false, eqb-true, eq-eqb, false≢true}
 use Rattle.std.proofs.lemmas.Option.{same_Some}
 use Rattle.hex.specs.Hex.{decode_of}
@@ -38,7 +38,7 @@ use Rattle.oplog.specs.declared.records.Record.{Record}
 use Rattle.oplog.specs.Calls.{Call as TheCall, NewProgram}
 use Rattle.oplog.specs.Operations.{Operation}
 use Rattle.oplog.specs.declared.records.Op.TheVariants.{Run, Install as AnInstall}
-use Rattle.oplog.specs.History.{Effect, History, left_by, after, state_after, effect_at, read_at}
+use Rattle.oplog.specs.History.{Effect, ReadEffect, History, left_by, after, state_after, effect_at, read_at}
 use Rattle.replica.specs.StoreMeaning.{program_at, program_in, is_operation, AreUpdates, store_meaning}
 use Rattle.replica.specs.HistoryLaws.{IsEffectOf, HasEffects}
 use Rattle.oplog.specs.declared.records.TheConstants.{MAX_INSTALLED_BYTES}
@@ -50,10 +50,10 @@ use Rattle.replica.proofs.Tested.{are_tested, tests_offered, suits_so, offered_b
 use Rattle.replica.proofs.Histories.{have_effects}
 use Rattle.engine.specs.Answer.{Answer}
 use Rattle.scripts.specs.Script.{ProgramCall, Meaning, Comment, Call, InvokeAt, ReadAt, Install, named_call, numbered_call, program_fields, new_program, word_meaning, call_meaning, line_meaning}
-use Rattle.running.specs.RunAnswer.{Turn, refused, with_operation, update_line, read_line, install_line, submitted, performed, performed_by, numbered, called, unless_refused, taken, line_turn, behind, bad_line, by_turn, lines_answer}
+use Rattle.running.specs.RunAnswer.{Turn, refused, with_operation, read_text, submitted, performed, numbered, called, taken, line_turn, behind, bad_line, lines_answer}
 use Rattle.running.specs.RunLines.{CallRuns, IsUpdateTurn, IsReadTurn, IsInstallTurn, IsRefusedTurn, IsWhy, IsWhyNamed, IsWhyInstall, MeaningTurn, LineTurn, ScriptRuns, LineTurnsAreRuns, RunLinesAreRuns, LoadedIsCatalogue, OpenedIsCatalogue}
-use Rattle.engine.specs.StateAnswer.{on_loaded}
-use Rattle.running.proofs.Turns.{after_append, whole}
+use Rattle.engine.proofs.Openings.{on_loaded}
+use Rattle.running.proofs.Turns.{after_append, install_told, performed_by, update_told, whole}
 
 -- ---- the bytes of a call
 
@@ -214,19 +214,22 @@ module _ (c : CatalogueView) (is_whole : IsCatalogue c) (h : History) (updates :
       whole c (with_operation h op) ∙ after_append store_meaning c (opening_state c) h (r ∷ []) ∙ ap (λ (s : StoreState). after store_meaning c s (r ∷ [])) (sym (whole c h))
       ∙ ap (λ (o : Option (Effect StoreState)). left_by o here) is
 
+  abbrev read_told : ℕ → ReadEffect → List ℕ
+  read_told point e = read_text point e.reply e.steps
+
   abbrev update_of : (call : TheCall) → Turn
-  update_of call = record { text = update_line (length h) (effect_at store_meaning c h (length h) (Run call)); history = with_operation h (Run call) }
+  update_of call = record { text = option_map_or (update_told (length h)) (effect_at store_meaning c h (length h) (Run call)) []; history = with_operation h (Run call) }
 
   abbrev read_of_call : (call : TheCall) → Turn
-  read_of_call call = record { text = read_line (length h) (read_at store_meaning c h (length h) (Run call)); history = h }
+  read_of_call call = record { text = option_map_or (read_told (length h)) (read_at store_meaning c h (length h) (Run call)) []; history = h }
 
   abbrev install_of : (new : NewProgram) → Turn
-  install_of new = record { text = install_line (length h) (effect_at store_meaning c h (length h) (AnInstall new)); history = with_operation h (AnInstall new) }
+  install_of new = record { text = option_map_or (install_told (length h)) (effect_at store_meaning c h (length h) (AnInstall new)) []; history = with_operation h (AnInstall new) }
 
   read_turn : (call : TheCall) → is_operation Read c (Run call) ≡ true → IsReadTurn c h call (read_of_call call)
   read_turn call is =
       let u = has_effects.reads (length h) call is in
-      record { asked = (are_tested Read c (Run call)).0 is; done = u.0; does = u.1; text = ap (read_line (length h)) u.2; same = refl; left = u.3 }
+      record { asked = (are_tested Read c (Run call)).0 is; done = u.0; does = u.1; text = ap (λ e. option_map_or (read_told (length h)) e []) u.2; same = refl; left = u.3 }
 
   stops : (Why : StoreRefused → Type 0) (why : StoreRefused) → Why why → IsRefusedTurn Why h (refused h why)
   stops Why why is = record { why = why; is = is; text = refl; same = refl }
@@ -236,12 +239,12 @@ module _ (c : CatalogueView) (is_whole : IsCatalogue c) (h : History) (updates :
     update_turn : (call : TheCall) → is_operation Update c (Run call) ≡ true → length h < limit → IsUpdateTurn limit c h call (update_of call)
     update_turn call is room =
         let u = has_effects.updates (length h) call is in
-        record { asked = (are_tested Update c (Run call)).0 is; done = u.0; does = u.1; room = room; text = ap (update_line (length h)) u.2; next = refl; left = ap (λ (s : StoreState). s.maps) (left_behind (Run call) _ u.2) }
+        record { asked = (are_tested Update c (Run call)).0 is; done = u.0; does = u.1; room = room; text = ap (λ e. option_map_or (update_told (length h)) e []) u.2; next = refl; left = ap (λ (s : StoreState). s.maps) (left_behind (Run call) _ u.2) }
 
     install_turn : (new : NewProgram) → is_operation Update c (AnInstall new) ≡ true → length h < limit → IsInstallTurn limit c h new (install_of new)
     install_turn new is room =
         let u = has_effects.installs (length h) new is in
-        record { asked = (are_tested Update c (AnInstall new)).0 is; program = u.0; read = u.1; room = room; text = ap (install_line (length h)) u.2; next = refl; left = left_behind (AnInstall new) _ u.2 }
+        record { asked = (are_tested Update c (AnInstall new)).0 is; program = u.0; read = u.1; room = room; text = ap (λ e. option_map_or (install_told (length h)) e []) u.2; next = refl; left = left_behind (AnInstall new) _ u.2 }
 
     -- ---- why a call is refused
 
@@ -295,7 +298,7 @@ module _ (c : CatalogueView) (is_whole : IsCatalogue c) (h : History) (updates :
     Goes m turn = MeaningTurn limit c h turn m × AreUpdates c turn.history
 
     invoke_goes : (call : TheCall) → AreBytes call.argument → (o : Option StoreRefused) → early_refusal c Update call.program call.argument ≡ o
-        → Goes (InvokeAt call) (unless_refused h (performed limit c h (Run call) Update) o)
+        → Goes (InvokeAt call) (option_map_or (refused h) o (performed limit c h (Run call) Update))
     invoke_goes call bytes (Some why) e = (inl (stops (IsWhy limit c h Update call) why (why_early Update call why e)), updates)
     invoke_goes call bytes None e = by_room (ltb (length h) limit) refl
       where
@@ -307,12 +310,12 @@ module _ (c : CatalogueView) (is_whole : IsCatalogue c) (h : History) (updates :
         by_room false room = (inl (stops (IsWhy limit c h Update call) Ended (refl, (are_tested Update c (Run call)).0 is, ltb-false _ _ room)), updates)
 
     read_goes : (call : TheCall) → AreBytes call.argument → (o : Option StoreRefused) → early_refusal c Read call.program call.argument ≡ o
-        → Goes (ReadAt call) (unless_refused h (performed limit c h (Run call) Read) o)
+        → Goes (ReadAt call) (option_map_or (refused h) o (performed limit c h (Run call) Read))
     read_goes call bytes (Some why) e = (inl (stops (IsWhy limit c h Read call) why (why_early Read call why e)), updates)
     read_goes call bytes None e = (inr (read_turn call (is_asked Read c call.program call.argument e bytes)), updates)
 
     install_goes : (new : NewProgram) → AreBytes new.bytes → (o : Option StoreRefused) → install_refusal c.shapes new ≡ o
-        → Goes (Install new) (unless_refused h (submitted limit install_line c h (AnInstall new)) o)
+        → Goes (Install new) (option_map_or (refused h) o (submitted limit install_told c h (AnInstall new)))
     install_goes new bytes (Some why) e = (inl (stops (IsWhyInstall limit c h new) why (why_install new why e)), updates)
     install_goes new bytes None e = by_room (ltb (length h) limit) refl
       where
@@ -363,7 +366,7 @@ module _ (c : CatalogueView) (is_whole : IsCatalogue c) (h : History) (updates :
           by_length true fits = by_mode program e (eqb-true _ _ fits) program.mode refl
           by_length false fits = (inl (stops (IsWhyNamed limit c h call) ArgumentLength (inr (k, program, numbered_so, e, inl (program, e, λ same. false≢true (sym fits ∙ eq-eqb _ _ same))))), updates)
 
-    by_number : (call : ProgramCall) → AreBytes call.argument → (o : Option ℕ) → number_named c.programs call.name ≡ o → Goes (Call call) (numbered limit c h call.argument o)
+    by_number : (call : ProgramCall) → AreBytes call.argument → (o : Option ℕ) → number_named c.programs call.name ≡ o → Goes (Call call) (option_map_or (numbered limit c h call.argument) o (refused h UnknownProgram))
     by_number call bytes None e = (inl (stops (IsWhyNamed limit c h call) UnknownProgram (inl (e, refl))), updates)
     by_number call bytes (Some k) e = by_program call bytes k e (program_at c k) refl
 
@@ -383,8 +386,8 @@ module _ (limit : ℕ) (c : CatalogueView) (is_whole : IsCatalogue c) (l : List 
   next turn = behind turn.text (lines_answer limit c (next_line n) turn.history ls)
 
   line_runs : (o : Option Meaning) → line_meaning l ≡ o
-      → ((line_meaning l ≡ None) × (by_turn (bad_line n) next (option_map (taken limit c h) o) ≡ bad_line n))
-      ⊎ ((turn : Turn) × (rest : Answer) × LineTurn limit c h l turn × ScriptRuns limit c (next_line n) turn.history ls rest × (by_turn (bad_line n) next (option_map (taken limit c h) o) ≡ behind turn.text rest))
+      → ((line_meaning l ≡ None) × (option_map_or next (option_map (taken limit c h) o) (bad_line n) ≡ bad_line n))
+      ⊎ ((turn : Turn) × (rest : Answer) × LineTurn limit c h l turn × ScriptRuns limit c (next_line n) turn.history ls rest × (option_map_or next (option_map (taken limit c h) o) (bad_line n) ≡ behind turn.text rest))
   line_runs None e = inl (e, refl)
   line_runs (Some m) e =
       let g = goes c is_whole h updates limit m (line_bytes l m e) in

@@ -1,6 +1,7 @@
 -- What a call writes and leaves, from what the node answers.
 use Rattle.std.proofs.Common.{◌≡◌, ℕ, ◌+◌, true, List, [], ◌∷◌, ◌++◌, length, Option, Some, Result, Ok, Err, refl, sym, ap, ◌∙◌, arith, ltb}
-use Rattle.std.specs.Prelude.{OnOk}
+use Rattle.std.specs.Prelude.{OnOk, ◌==◌, if◌then◌else◌}
+use Rattle.std.specs.Option.{option_map_or}
 use Rattle.std.proofs.lemmas.Bool.{lt-ltb}
 use Rattle.std.proofs.lemmas.List.{length-append, take_all}
 use Rattle.loader.specs.StoreState.{StoreState}
@@ -11,8 +12,24 @@ use Rattle.oplog.specs.Logs.{tail_of}
 use Rattle.oplog.specs.History.{Meaning, Effect, History, left_by, after, state_after, effect_at}
 use Rattle.replica.specs.StoreMeaning.{store_meaning}
 use Rattle.running.specs.declared.single_node.SingleNode.{SingleNode}
-use Rattle.running.specs.RunAnswer.{with_operation, update_line, update_text, install_line, install_text, submitted}
+use Rattle.verifier.specs.Accepted.{Checked}
+use Rattle.oplog.specs.Calls.{Call}
+use Rattle.oplog.specs.declared.records.Op.TheVariants.{Run}
+use Rattle.replica.specs.declared.refusals.StoreRefused.TheVariants.{UnknownProgram, ArgumentLength}
+use Rattle.running.specs.RunAnswer.{Turn, with_operation, update_text, install_text, performed, refused, submitted}
 use Rattle.running.specs.Running.{Follows, IsUpdated, IsTaken}
+
+-- the line of an effect: of an update, and of an install
+abbrev pub update_told : ℕ → Effect StoreState → List ℕ
+update_told index e = update_text index e.reply e.steps
+
+abbrev pub install_told : ℕ → Effect StoreState → List ℕ
+install_told index e = install_text index e.reply
+
+-- what a call does, by its program
+abbrev pub performed_by : ℕ → CatalogueView → History → Call → Option Checked → Turn
+performed_by limit c h call o =
+    option_map_or (λ program. if length call.argument == program.arg_len then performed limit c h (Run call) program.mode else refused h ArgumentLength) o (refused h UnknownProgram)
 
 -- the state after one history and then another
 pub after_append : {C M : Type 0} (E : Meaning C M) (c : C) (state : M) (h : History) (rs : History) → after E c state (h ++ rs) ≡ after E c (after E c state h) rs
@@ -55,25 +72,25 @@ module _ (limit : ℕ) (c : CatalogueView) (h : History) (n : SingleNode) (follo
 
   module _ (op : Operation) where
     -- an update whose line was written
-    submitted_turn : {A E : Type 0} (line : ℕ → Option (Effect StoreState) → List ℕ) (r : Result A E) (index : ℕ) (m : SingleNode) (o : Outcome) (old new : List ℕ) → index ≡ tail_of n.log → (u : IsUpdated c op n m o)
-        → OnOk r (new ≡ old ++ line index (Some u.done)) → OnOk r (IsTaken limit c (submitted limit line c h op) m old new)
+    submitted_turn : {A E : Type 0} (line : ℕ → Effect StoreState → List ℕ) (r : Result A E) (index : ℕ) (m : SingleNode) (o : Outcome) (old new : List ℕ) → index ≡ tail_of n.log → (u : IsUpdated c op n m o)
+        → OnOk r (new ≡ old ++ line index u.done) → OnOk r (IsTaken limit c (submitted limit line c h op) m old new)
     submitted_turn line r index m o old new is u wrote =
         let at : index ≡ length h = is ∙ follows.count in
         let room = has_room op m o u in
-        let text : line (length h) (effect_at store_meaning c h (length h) op) ≡ line index (Some u.done) =
-        ap (line (length h)) (effect_here op m o u) ∙ ap (λ (p : ℕ). line p (Some u.done)) (sym at) in
-        on_ok r (new ≡ old ++ line index (Some u.done)) (IsTaken limit c (submitted limit line c h op) m old new)
+        let text : option_map_or (line (length h)) (effect_at store_meaning c h (length h) op) [] ≡ line index u.done =
+        ap (λ (e : Option (Effect StoreState)). option_map_or (line (length h)) e []) (effect_here op m o u) ∙ ap (λ (p : ℕ). line p u.done) (sym at) in
+        on_ok r (new ≡ old ++ line index u.done) (IsTaken limit c (submitted limit line c h op) m old new)
         (λ w. rw room (record { written = w ∙ ap (λ t. old ++ t) (sym text); placed = updated_follows op m o u })) wrote
 
     -- of a call, and of an install
     pub update_turn : {A E : Type 0} (r : Result A E) (index : ℕ) (m : SingleNode) (o : Outcome) (old new : List ℕ) → index ≡ tail_of n.log → IsUpdated c op n m o
-        → OnOk r (new ≡ old ++ update_text index o.reply o.steps) → OnOk r (IsTaken limit c (submitted limit update_line c h op) m old new)
+        → OnOk r (new ≡ old ++ update_text index o.reply o.steps) → OnOk r (IsTaken limit c (submitted limit update_told c h op) m old new)
     update_turn r index m o old new is u wrote =
-        submitted_turn update_line r index m o old new is u
-        (on_ok r (new ≡ old ++ update_text index o.reply o.steps) (new ≡ old ++ update_line index (Some u.done)) (λ w. w ∙ ap (λ (x : Outcome). old ++ update_text index x.reply x.steps) u.outcome) wrote)
+        submitted_turn update_told r index m o old new is u
+        (on_ok r (new ≡ old ++ update_text index o.reply o.steps) (new ≡ old ++ update_told index u.done) (λ w. w ∙ ap (λ (x : Outcome). old ++ update_text index x.reply x.steps) u.outcome) wrote)
 
     pub install_turn : {A E : Type 0} (r : Result A E) (index : ℕ) (m : SingleNode) (o : Outcome) (old new : List ℕ) → index ≡ tail_of n.log → IsUpdated c op n m o
-        → OnOk r (new ≡ old ++ install_text index o.reply) → OnOk r (IsTaken limit c (submitted limit install_line c h op) m old new)
+        → OnOk r (new ≡ old ++ install_text index o.reply) → OnOk r (IsTaken limit c (submitted limit install_told c h op) m old new)
     install_turn r index m o old new is u wrote =
-        submitted_turn install_line r index m o old new is u
-        (on_ok r (new ≡ old ++ install_text index o.reply) (new ≡ old ++ install_line index (Some u.done)) (λ w. w ∙ ap (λ (x : Outcome). old ++ install_text index x.reply) u.outcome) wrote)
+        submitted_turn install_told r index m o old new is u
+        (on_ok r (new ≡ old ++ install_text index o.reply) (new ≡ old ++ install_told index u.done) (λ w. w ∙ ap (λ (x : Outcome). old ++ install_text index x.reply) u.outcome) wrote)

@@ -1,6 +1,7 @@
 -- Lines under a limit that they don't come to, and under a greater one.
 use Rattle.std.proofs.Common.{◌≡◌, ℕ, ◌+◌, ◌≤◌, Bool, true, false, cond, ltb, List, [], ◌∷◌, length, Option, Some, None, refl, ap, ◌∙◌, arith}
 use Rattle.std.specs.Prelude.{option_map, ◌==◌}
+use Rattle.std.specs.Option.{option_map_or}
 use Rattle.std.proofs.lemmas.Bool.{ltb-true, ltb-false}
 use Rattle.std.proofs.lemmas.List.{length-append}
 use Rattle.verifier.specs.declared.refusal.Mode.{Mode}
@@ -16,16 +17,17 @@ use Rattle.oplog.specs.History.{Effect, History, effect_at}
 use Rattle.replica.specs.StoreMeaning.{program_at, store_meaning}
 use Rattle.replica.specs.Refusals.{early_refusal, install_refusal}
 use Rattle.replica.specs.declared.refusals.StoreRefused.{StoreRefused}
-use Rattle.replica.specs.declared.refusals.StoreRefused.TheVariants.{ArgumentLength, Ended}
+use Rattle.replica.specs.declared.refusals.StoreRefused.TheVariants.{UnknownProgram, ArgumentLength, Ended}
 use Rattle.engine.specs.Answer.{Answer}
 use Rattle.scripts.specs.Script.{Meaning, Comment, Call, InvokeAt, ReadAt, Install, line_meaning}
-use Rattle.running.specs.RunAnswer.{Turn, refused, unless_refused, with_operation, update_line, install_line, submitted, performed, performed_by, numbered, called, taken, line_turn, behind, bad_line, by_turn, lines_answer}
-use Rattle.running.specs.LimitLaws.{reached_by, lines_reached, LimitIsUnfelt, FewLinesAreAlike}
+use Rattle.running.specs.RunAnswer.{Turn, refused, with_operation, submitted, performed, numbered, called, taken, line_turn, behind, bad_line, lines_answer}
+use Rattle.running.proofs.Turns.{update_told, install_told, performed_by}
+use Rattle.running.specs.LimitLaws.{lines_reached, LimitIsUnfelt, FewLinesAreAlike}
 
 module _ (c : CatalogueView) (h : History) where
   -- what an update leaves that has its line
-  abbrev done : (ℕ → Option (Effect StoreState) → List ℕ) → Operation → Turn
-  done line op = record { text = line (length h) (effect_at store_meaning c h (length h) op); history = with_operation h op }
+  abbrev done : (ℕ → Effect StoreState → List ℕ) → Operation → Turn
+  done line op = record { text = option_map_or (line (length h)) (effect_at store_meaning c h (length h) op) []; history = with_operation h op }
 
   one_more : (op : Operation) → length (with_operation h op) ≡ length h + 1
   one_more op = length-append h (record { author = 0; seq = length h; op = op } ∷ [])
@@ -39,7 +41,7 @@ module _ (c : CatalogueView) (h : History) where
   stays = (omega arith, omega arith)
 
   module _ (limit : ℕ) where
-    submitted_grows : (line : ℕ → Option (Effect StoreState) → List ℕ) (op : Operation) → Grows (submitted limit line c h op)
+    submitted_grows : (line : ℕ → Effect StoreState → List ℕ) (op : Operation) → Grows (submitted limit line c h op)
     submitted_grows line op = by_room (ltb (length h) limit)
       where
         by_room : (b : Bool) → Grows (cond b (done line op) (refused h Ended))
@@ -47,7 +49,7 @@ module _ (c : CatalogueView) (h : History) where
         by_room false = stays
 
     performed_grows : (op : Operation) (mode : Mode) → Grows (performed limit c h op mode)
-    performed_grows op Update = submitted_grows update_line op
+    performed_grows op Update = submitted_grows update_told op
     performed_grows op Read = stays
 
     by_grows : (call : TheCall) (o : Option Checked) → Grows (performed_by limit c h call o)
@@ -58,11 +60,11 @@ module _ (c : CatalogueView) (h : History) where
         by_length true = performed_grows (Run call) program.mode
         by_length false = stays
 
-    numbered_grows : (argument : List ℕ) (k : Option ℕ) → Grows (numbered limit c h argument k)
+    numbered_grows : (argument : List ℕ) (k : Option ℕ) → Grows (option_map_or (numbered limit c h argument) k (refused h UnknownProgram))
     numbered_grows argument None = stays
     numbered_grows argument (Some k) = by_grows (record { program = k; argument = argument }) (program_at c k)
 
-    unless_grows : (turn : Turn) (o : Option StoreRefused) → Grows turn → Grows (unless_refused h turn o)
+    unless_grows : (turn : Turn) (o : Option StoreRefused) → Grows turn → Grows (option_map_or (refused h) o turn)
     unless_grows turn None grows = grows
     unless_grows turn (Some why) grows = stays
 
@@ -72,7 +74,7 @@ module _ (c : CatalogueView) (h : History) where
     grows (Call call) = numbered_grows call.argument (number_named c.programs call.name)
     grows (InvokeAt call) = unless_grows (performed limit c h (Run call) Update) (early_refusal c Update call.program call.argument) (performed_grows (Run call) Update)
     grows (ReadAt call) = unless_grows (performed limit c h (Run call) Read) (early_refusal c Read call.program call.argument) (performed_grows (Run call) Read)
-    grows (Install new) = unless_grows (submitted limit install_line c h (AnInstall new)) (install_refusal c.shapes new) (submitted_grows install_line (AnInstall new))
+    grows (Install new) = unless_grows (submitted limit install_told c h (AnInstall new)) (install_refusal c.shapes new) (submitted_grows install_told (AnInstall new))
 
   -- ---- and does the same under both limits
 
@@ -80,7 +82,7 @@ module _ (c : CatalogueView) (h : History) where
     abbrev IsWithin : Turn → Type 0
     IsWithin turn = length turn.history ≤ limit
 
-    submitted_alike : (line : ℕ → Option (Effect StoreState) → List ℕ) (op : Operation) → IsWithin (submitted greater line c h op) → submitted limit line c h op ≡ submitted greater line c h op
+    submitted_alike : (line : ℕ → Effect StoreState → List ℕ) (op : Operation) → IsWithin (submitted greater line c h op) → submitted limit line c h op ≡ submitted greater line c h op
     submitted_alike line op = by_room (ltb (length h) limit) (ltb (length h) greater) refl refl
       where
         by_room : (a b : Bool) → ltb (length h) limit ≡ a → ltb (length h) greater ≡ b → IsWithin (cond b (done line op) (refused h Ended))
@@ -91,7 +93,7 @@ module _ (c : CatalogueView) (h : History) where
         by_room false true low high within = let full = ltb-false _ _ low in let size = one_more op in absurd (omega (arith, within, full, size))
 
     performed_alike : (op : Operation) (mode : Mode) → IsWithin (performed greater c h op mode) → performed limit c h op mode ≡ performed greater c h op mode
-    performed_alike op Update within = submitted_alike update_line op within
+    performed_alike op Update within = submitted_alike update_told op within
     performed_alike op Read within = refl
 
     by_alike : (call : TheCall) (o : Option Checked) → IsWithin (performed_by greater c h call o) → performed_by limit c h call o ≡ performed_by greater c h call o
@@ -103,11 +105,12 @@ module _ (c : CatalogueView) (h : History) where
         by_length true within = performed_alike (Run call) program.mode within
         by_length false within = refl
 
-    numbered_alike : (argument : List ℕ) (k : Option ℕ) → IsWithin (numbered greater c h argument k) → numbered limit c h argument k ≡ numbered greater c h argument k
+    numbered_alike : (argument : List ℕ) (k : Option ℕ) → IsWithin (option_map_or (numbered greater c h argument) k (refused h UnknownProgram))
+        → option_map_or (numbered limit c h argument) k (refused h UnknownProgram) ≡ option_map_or (numbered greater c h argument) k (refused h UnknownProgram)
     numbered_alike argument None within = refl
     numbered_alike argument (Some k) within = by_alike (record { program = k; argument = argument }) (program_at c k) within
 
-    unless_alike : (few more : Turn) (o : Option StoreRefused) → (IsWithin more → few ≡ more) → IsWithin (unless_refused h more o) → unless_refused h few o ≡ unless_refused h more o
+    unless_alike : (few more : Turn) (o : Option StoreRefused) → (IsWithin more → few ≡ more) → IsWithin (option_map_or (refused h) o more) → option_map_or (refused h) o few ≡ option_map_or (refused h) o more
     unless_alike few more None same within = same within
     unless_alike few more (Some why) same within = refl
 
@@ -117,7 +120,7 @@ module _ (c : CatalogueView) (h : History) where
     alike (Call call) within = numbered_alike call.argument (number_named c.programs call.name) within
     alike (InvokeAt call) within = unless_alike _ _ (early_refusal c Update call.program call.argument) (performed_alike (Run call) Update) within
     alike (ReadAt call) within = refl
-    alike (Install new) within = unless_alike _ _ (install_refusal c.shapes new) (submitted_alike install_line (AnInstall new)) within
+    alike (Install new) within = unless_alike _ _ (install_refusal c.shapes new) (submitted_alike install_told (AnInstall new)) within
 
 -- ---- the lines
 
@@ -127,7 +130,7 @@ Between limit c ls h = (length h ≤ length (lines_reached limit c h ls)) × (le
 
 module _ (limit : ℕ) (c : CatalogueView) (h : History) (ls : List (List ℕ)) (more : (g : History) → Between limit c ls g) where
   abbrev come_to : Option Meaning → History
-  come_to o = reached_by h (λ g. lines_reached limit c g ls) (option_map (taken limit c h) o)
+  come_to o = option_map_or (λ turn. lines_reached limit c turn.history ls) (option_map (taken limit c h) o) h
 
   line_reaches : (o : Option Meaning) → (length h ≤ length (come_to o)) × (length (come_to o) ≤ length h + (length ls + 1))
   line_reaches None = (omega arith, omega arith)
@@ -149,8 +152,8 @@ module _ (limit greater : ℕ) (le : limit ≤ greater) (c : CatalogueView) (n :
   abbrev next : ℕ → Turn → Answer
   next most turn = behind turn.text (lines_answer most c (next_line n) turn.history ls)
 
-  line_alike : (o : Option Meaning) → length (reached_by h (λ g. lines_reached greater c g ls) (option_map (taken greater c h) o)) ≤ limit
-      → by_turn (bad_line n) (next limit) (option_map (taken limit c h) o) ≡ by_turn (bad_line n) (next greater) (option_map (taken greater c h) o)
+  line_alike : (o : Option Meaning) → length (option_map_or (λ turn. lines_reached greater c turn.history ls) (option_map (taken greater c h) o) h) ≤ limit
+      → option_map_or (next limit) (option_map (taken limit c h) o) (bad_line n) ≡ option_map_or (next greater) (option_map (taken greater c h) o) (bad_line n)
   line_alike None within = refl
   line_alike (Some m) within =
       let turn : Turn = taken greater c h m in

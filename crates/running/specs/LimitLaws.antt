@@ -1,18 +1,14 @@
 -- Where it doesn't matter how many updates a history may have.
-use Rattle.std.specs.Prelude.{◌≡◌, ℕ, ◌+◌, ◌≤◌, List, [], ◌∷◌, length, Option, Some, None}
+use Rattle.std.specs.Prelude.{◌≡◌, ℕ, ◌+◌, ◌≤◌, List, [], ◌∷◌, length}
+use Rattle.std.specs.Option.{option_map_or}
 use Rattle.loader.specs.CatalogueView.{CatalogueView}
 use Rattle.oplog.specs.History.{History}
-use Rattle.running.specs.RunAnswer.{Turn, line_turn, lines_answer}
-
--- by whether a line is good
-abbrev pub reached_by : History → (History → History) → Option Turn → History
-reached_by history rest None = history
-reached_by history rest (Some turn) = rest turn.history
+use Rattle.running.specs.RunAnswer.{line_turn, lines_answer}
 
 -- the history that lines come to, of so many records at most: behind all of them, or before the first that is bad
 unfoldable pub lines_reached : ℕ → CatalogueView → History → List (List ℕ) → History
 lines_reached limit c history [] = history
-lines_reached limit c history (l ∷ ls) = reached_by history (λ h. lines_reached limit c h ls) (line_turn limit c history l)
+lines_reached limit c history (l ∷ ls) = option_map_or (λ turn. lines_reached limit c turn.history ls) (line_turn limit c history l) history
 
 -- lines that under a greater limit come to no more updates than this one allows write the same under both
 abbrev pub LimitIsUnfelt : Type 0

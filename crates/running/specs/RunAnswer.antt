@@ -1,15 +1,15 @@
 -- What the lines of a script write, one after another.
-use Rattle.std.specs.Prelude.{ℕ, List, [], ◌∷◌, ◌++◌, length, codes, decimal, Option, Some, None, option_map, nat_lt, ◌==◌, if◌then◌else◌}
+use Rattle.std.specs.Prelude.{ℕ, List, [], ◌∷◌, ◌++◌, length, codes, decimal, Option, None, option_map, nat_lt, ◌==◌, if◌then◌else◌}
+use Rattle.std.specs.Option.{option_map_or}
 use Rattle.loader.specs.StoreState.{StoreState}
 use Rattle.verifier.specs.declared.refusal.Mode.{Mode}
 use Rattle.verifier.specs.declared.refusal.Mode.TheVariants.{Update, Read}
-use Rattle.verifier.specs.Accepted.{Checked}
 use Rattle.text.specs.Lines.{next_line}
 use Rattle.loader.specs.CatalogueView.{CatalogueView, number_named}
 use Rattle.oplog.specs.Calls.{Call as TheCall, NewProgram}
 use Rattle.oplog.specs.Operations.{Operation}
 use Rattle.oplog.specs.declared.records.Op.TheVariants.{Run, Install as AnInstall}
-use Rattle.oplog.specs.History.{Effect, ReadEffect, History, effect_at, read_at}
+use Rattle.oplog.specs.History.{Effect, History, effect_at, read_at, state_after}
 use Rattle.replica.specs.StoreMeaning.{program_at, store_meaning}
 use Rattle.replica.specs.Refusals.{store_fault_number, early_refusal, install_refusal}
 use Rattle.replica.specs.declared.refusals.StoreRefused.{StoreRefused}
@@ -46,10 +46,6 @@ reason_text why = []
 abbrev pub refused_text : StoreRefused → List ℕ
 refused_text why = codes "refused S" ++ (decimal (store_fault_number why) ++ (reason_text why ++ codes "\n"))
 
--- the line behind which nothing is run
-abbrev pub bad_line_text : ℕ → List ℕ
-bad_line_text n = codes "line " ++ (decimal n ++ codes " bad\n")
-
 -- ---- one call
 
 -- what a call writes, and the history after it
@@ -61,27 +57,13 @@ pub record Turn : Type 0 where
 abbrev pub refused : History → StoreRefused → Turn
 refused history why = record { text = refused_text why; history = history }
 
--- this turn, unless there is a refusal
-abbrev pub unless_refused : History → Turn → Option StoreRefused → Turn
-unless_refused history turn None = turn
-unless_refused history turn (Some why) = refused history why
-
 -- the history with one more operation; all are by one author
 abbrev pub with_operation : History → Operation → History
 with_operation history op = history ++ record { author = 0; seq = length history; op = op } ∷ []
 
--- the line of an update, and of a read, that has this effect; without one nothing is written (`run_lines_are_runs`: each has one)
-abbrev pub update_line : ℕ → Option (Effect StoreState) → List ℕ
-update_line index (Some e) = update_text index e.reply e.steps
-update_line index None = []
-
-abbrev pub read_line : ℕ → Option ReadEffect → List ℕ
-read_line point (Some e) = read_text point e.reply e.steps
-read_line point None = []
-
-abbrev pub install_line : ℕ → Option (Effect StoreState) → List ℕ
-install_line index (Some e) = install_text index e.reply
-install_line index None = []
+-- the state after the whole of a history
+abbrev pub state_of : CatalogueView → History → StoreState
+state_of c h = state_after store_meaning c h (length h)
 
 -- ---- a script
 
@@ -89,49 +71,49 @@ install_line index None = []
 abbrev pub behind : List ℕ → Answer → Answer
 behind text a = record { text = text ++ a.text; verdict = a.verdict }
 
--- a bad line
+-- the bad line behind which nothing is run
 abbrev pub bad_line : ℕ → Answer
-bad_line n = record { text = bad_line_text n; verdict = verdicts.Refused }
-
--- by whether the line is good
-abbrev pub by_turn : Answer → (Turn → Answer) → Option Turn → Answer
-by_turn bad next None = bad
-by_turn bad next (Some turn) = next turn
+bad_line n = record { text = codes "line " ++ (decimal n ++ codes " bad\n"); verdict = verdicts.Refused }
 
 -- on a history that has so many records at most
 module _ (limit : ℕ) where
-  -- an update has its line, and stands in the history from then on, unless that has all its records
-  abbrev pub submitted : (ℕ → Option (Effect StoreState) → List ℕ) → CatalogueView → History → Operation → Turn
+  -- an update has the line of its effect, and stands in the history from then on, unless that has all its records; without an effect nothing
+  -- would be written (`run_lines_are_runs`: each has one)
+  abbrev pub submitted : (ℕ → Effect StoreState → List ℕ) → CatalogueView → History → Operation → Turn
   submitted line c history op =
       if nat_lt (length history) limit
-      then record { text = line (length history) (effect_at store_meaning c history (length history) op); history = with_operation history op }
+      then record {
+        text = option_map_or (line (length history)) (effect_at store_meaning c history (length history) op) [];
+        history = with_operation history op;
+      }
       else refused history Ended
 
   -- a read leaves the history
   abbrev pub performed : CatalogueView → History → Operation → Mode → Turn
-  performed c history op Update = submitted update_line c history op
-  performed c history op Read = record { text = read_line (length history) (read_at store_meaning c history (length history) op); history = history }
+  performed c history op Update = submitted (λ index e. update_text index e.reply e.steps) c history op
+  performed c history op Read = record {
+    text = option_map_or (λ e. read_text (length history) e.reply e.steps) (read_at store_meaning c history (length history) op) [];
+    history = history;
+  }
 
-  -- by the program of the call
-  abbrev pub performed_by : CatalogueView → History → TheCall → Option Checked → Turn
-  performed_by c history call None = refused history UnknownProgram
-  performed_by c history call (Some program) = if length call.argument == program.arg_len then performed c history (Run call) program.mode else refused history ArgumentLength
+  -- what a call of program k does, in the program's own mode
+  abbrev pub numbered : CatalogueView → History → List ℕ → ℕ → Turn
+  numbered c history argument k =
+      option_map_or (λ program.
+      if length argument == program.arg_len
+      then performed c history (Run (record { program = k; argument = argument })) program.mode
+      else refused history ArgumentLength) (program_at c k) (refused history UnknownProgram)
 
-  -- by the number of its name
-  abbrev pub numbered : CatalogueView → History → List ℕ → Option ℕ → Turn
-  numbered c history argument None = refused history UnknownProgram
-  numbered c history argument (Some k) = performed_by c history (record { program = k; argument = argument }) (program_at c k)
-
-  -- what a call does on a history
+  -- what a call does on a history, by the number of its name
   unfoldable pub called : CatalogueView → History → ProgramCall → Turn
-  called c history call = numbered c history call.argument (number_named c.programs call.name)
+  called c history call = option_map_or (numbered c history call.argument) (number_named c.programs call.name) (refused history UnknownProgram)
 
   -- what a call by a program's number does, as an update or as a read; and an install
   abbrev pub asked : CatalogueView → History → Mode → TheCall → Turn
-  asked c history mode call = unless_refused history (performed c history (Run call) mode) (early_refusal c mode call.program call.argument)
+  asked c history mode call = option_map_or (refused history) (early_refusal c mode call.program call.argument) (performed c history (Run call) mode)
 
   abbrev pub installed : CatalogueView → History → NewProgram → Turn
-  installed c history new = unless_refused history (submitted install_line c history (AnInstall new)) (install_refusal c.shapes new)
+  installed c history new = option_map_or (refused history) (install_refusal c.shapes new) (submitted (λ index e. install_text index e.reply) c history (AnInstall new))
 
   -- by what the line says
   abbrev pub taken : CatalogueView → History → Meaning → Turn
@@ -149,4 +131,4 @@ module _ (limit : ℕ) where
   unfoldable pub lines_answer : CatalogueView → ℕ → History → List (List ℕ) → Answer
   lines_answer c n history [] = record { text = []; verdict = verdicts.Good }
   lines_answer c n history (l ∷ ls) =
-      by_turn (bad_line n) (λ turn. behind turn.text (lines_answer c (next_line n) turn.history ls)) (line_turn c history l)
+      option_map_or (λ turn. behind turn.text (lines_answer c (next_line n) turn.history ls)) (line_turn c history l) (bad_line n)

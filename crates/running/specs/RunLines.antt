@@ -13,8 +13,8 @@ use Rattle.loader.specs.ProgramFiles.{Files}
 use Rattle.loader.specs.Loading.{loaded}
 use Rattle.oplog.specs.Calls.{Call as TheCall, NewProgram}
 use Rattle.oplog.specs.declared.records.Op.TheVariants.{Run, Install as AnInstall}
-use Rattle.oplog.specs.History.{History, state_after}
-use Rattle.replica.specs.StoreMeaning.{AreUpdates, IsOperation, program_at, placed, store_meaning}
+use Rattle.oplog.specs.History.{History}
+use Rattle.replica.specs.StoreMeaning.{AreUpdates, IsOperation, program_at, placed}
 use Rattle.replica.specs.HistoryLaws.{IsEffectOf}
 use Rattle.replica.specs.Refusals.{install_refusal}
 use Rattle.replica.specs.declared.refusals.StoreRefused.{StoreRefused}
@@ -22,35 +22,27 @@ use Rattle.replica.specs.declared.refusals.StoreRefused.TheVariants.{UnknownProg
 use Rattle.engine.specs.declared.replies.Verdict.TheVariants as verdicts
 use Rattle.engine.specs.Answer.{Answer}
 use Rattle.scripts.specs.Script.{ProgramCall, Meaning, Comment, Call, InvokeAt, ReadAt, Install, line_meaning}
-use Rattle.running.specs.RunAnswer.{Turn, update_text, read_text, install_text, refused_text, with_operation, behind, bad_line, line_turn, lines_answer}
+use Rattle.running.specs.RunAnswer.{Turn, update_text, read_text, install_text, refused_text, with_operation, behind, bad_line, line_turn, lines_answer, state_of}
 use Rattle.engine.specs.StateAnswer.{on_text}
 
 -- what a call does on the state after the whole history: the run of its program there, or nothing, with the reply that there is none
 abbrev pub CallDoes : CatalogueView → History → TheCall → Mode → RunEffect → Type 0
-CallDoes c h call mode done = IsEffectOf mode c call (state_after store_meaning c h (length h)) done
+CallDoes c h call mode done = IsEffectOf mode c call (state_of c h) done
 
 -- it is the run of a program of the catalogue, of this mode
 pub record CallRuns (c : CatalogueView) (h : History) (call : TheCall) (mode : Mode) (done : RunEffect) : Type 0 where
   pub program : Checked
   pub named : program_at c call.program ≡ Some program
   pub mode_is : program.mode ≡ mode
-  pub run : IsRun program.program (state_after store_meaning c h (length h)).maps call.argument done
+  pub run : IsRun program.program (state_of c h).maps call.argument done
 
 -- ---- why a call is refused
-
--- no program and no place has this number
-abbrev pub IsUnknown : CatalogueView → ℕ → Type 0
-IsUnknown c k = length c.programs + c.places ≤ k
 
 -- the argument hasn't the length that the program asks for, or it is too long for any program that may come to stand at the place
 abbrev pub HasOtherLength : CatalogueView → TheCall → Type 0
 HasOtherLength c call =
     ((p : Checked) × (program_at c call.program ≡ Some p) × (length call.argument ≢ p.arg_len))
     ⊎ ((length c.programs ≤ call.program) × (call.program < length c.programs + c.places) × (MAX_ARG_LEN < length call.argument))
-
--- the argument has its length, and the program has the other mode
-abbrev pub HasOtherMode : CatalogueView → Mode → TheCall → Type 0
-HasOtherMode c mode call = (p : Checked) × (program_at c call.program ≡ Some p) × (length call.argument ≡ p.arg_len) × (p.mode ≢ mode)
 
 -- ---- turns
 
@@ -61,7 +53,7 @@ pub record IsReadTurn (c : CatalogueView) (h : History) (call : TheCall) (turn :
   pub does : CallDoes c h call Read done
   pub text : turn.text ≡ read_text (length h) done.reply done.steps
   pub same : turn.history ≡ h
-  pub left : done.maps ≡ (state_after store_meaning c h (length h)).maps
+  pub left : done.maps ≡ (state_of c h).maps
 
 -- what is refused for such a reason wrote its number, and the history stays
 pub record IsRefusedTurn (Why : StoreRefused → Type 0) (h : History) (turn : Turn) : Type 0 where
@@ -73,16 +65,13 @@ pub record IsRefusedTurn (Why : StoreRefused → Type 0) (h : History) (turn : T
 -- ---- on a history that has so many records at most
 
 module _ (limit : ℕ) where
-  -- the history has all its updates
-  abbrev pub HasEnded : History → Type 0
-  HasEnded h = limit ≤ length h
-
-  -- a call by a number is refused for this reason, as one of this mode: S1, S2, S3, or as an update that nothing else refuses S4
+  -- a call by a number is refused for this reason, as one of this mode: no program and no place has the number (S1), the argument has another
+  -- length (S2), it has its length and the program has the other mode (S3), or nothing else refuses an update and the history has all its own (S4)
   abbrev pub IsWhy : CatalogueView → History → Mode → TheCall → StoreRefused → Type 0
-  IsWhy c h mode call UnknownProgram = IsUnknown c call.program
+  IsWhy c h mode call UnknownProgram = length c.programs + c.places ≤ call.program
   IsWhy c h mode call ArgumentLength = HasOtherLength c call
-  IsWhy c h mode call WrongMode = HasOtherMode c mode call
-  IsWhy c h mode call Ended = (mode ≡ Update) × IsOperation Update c (Run call) × HasEnded h
+  IsWhy c h mode call WrongMode = (p : Checked) × (program_at c call.program ≡ Some p) × (length call.argument ≡ p.arg_len) × (p.mode ≢ mode)
+  IsWhy c h mode call Ended = (mode ≡ Update) × IsOperation Update c (Run call) × (limit ≤ length h)
   IsWhy c h mode call why = ⊥
 
   -- a call by a name: no program has the name, or the program that has it is refused so as one of its own mode
@@ -94,7 +83,7 @@ module _ (limit : ℕ) where
 
   -- an install: by its bytes and the length of its argument, S6, S7 or S8, or where nothing else refuses it S4
   abbrev pub IsWhyInstall : CatalogueView → History → NewProgram → StoreRefused → Type 0
-  IsWhyInstall c h new Ended = IsOperation Update c (AnInstall new) × HasEnded h
+  IsWhyInstall c h new Ended = IsOperation Update c (AnInstall new) × (limit ≤ length h)
   IsWhyInstall c h new why = install_refusal c.shapes new ≡ Some why
 
   -- an update wrote its index in the history and what it does; the history goes on with it, and with the maps that it leaves
@@ -105,7 +94,7 @@ module _ (limit : ℕ) where
     pub room : length h < limit
     pub text : turn.text ≡ update_text (length h) done.reply done.steps
     pub next : turn.history ≡ with_operation h (Run call)
-    pub left : (state_after store_meaning c turn.history (length turn.history)).maps ≡ done.maps
+    pub left : (state_of c turn.history).maps ≡ done.maps
 
   -- an install wrote its index in the history and the number of its program, which stands behind the others then; or that no place is free
   pub record IsInstallTurn (c : CatalogueView) (h : History) (new : NewProgram) (turn : Turn) : Type 0 where
@@ -113,9 +102,9 @@ module _ (limit : ℕ) where
     pub program : Checked
     pub read : installed_program c.shapes new.mode new.arg_len new.bytes ≡ Ok program
     pub room : length h < limit
-    pub text : turn.text ≡ install_text (length h) (placed c (state_after store_meaning c h (length h)) program).reply
+    pub text : turn.text ≡ install_text (length h) (placed c (state_of c h) program).reply
     pub next : turn.history ≡ with_operation h (AnInstall new)
-    pub left : state_after store_meaning c turn.history (length turn.history) ≡ (placed c (state_after store_meaning c h (length h)) program).left
+    pub left : state_of c turn.history ≡ (placed c (state_of c h) program).left
 
   -- a call by its name is refused, or it is an update or a read that runs the program of that name
   abbrev pub CallTurn : CatalogueView → History → ProgramCall → Turn → Type 0

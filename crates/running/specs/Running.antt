@@ -1,5 +1,6 @@
 -- What is kept while a script is run.
 use Rattle.std.specs.Prelude.{◌≡◌, ℕ, ◌+◌, ◌<◌, Bool, true, false, List, ◌++◌, length, Option, Some, None, option_map, Result, IfOk, OnOk}
+use Rattle.std.specs.Option.{option_map_or}
 use Rattle.verifier.specs.declared.refusal.Mode.{Mode}
 use Rattle.loader.specs.StoreState.{StoreState, sizes_of}
 use Rattle.machine.specs.declared.running.Outcome.{Outcome}
@@ -9,12 +10,15 @@ use Rattle.oplog.specs.Logs.{tail_of}
 use Rattle.oplog.specs.History.{Effect, History, after}
 use Rattle.replica.specs.StoreMeaning.{outcome_of, store_meaning}
 use Rattle.replica.specs.Refusals.{IsRoomFor}
+use Rattle.replica.specs.declared.refusals.StoreRefused.TheVariants.{UnknownProgram}
 use Rattle.running.specs.declared.single_node.SingleNode.{SingleNode}
 use Rattle.engine.specs.declared.replies.Verdict.{Verdict}
 use Rattle.engine.specs.declared.replies.Verdict.TheVariants as verdicts
 use Rattle.engine.specs.Answer.{Answer}
 use Rattle.scripts.specs.Script.{Meaning}
-use Rattle.running.specs.RunAnswer.{Turn, called, taken, performed, line_turn, behind}
+use Rattle.running.specs.RunAnswer.{Turn, called, taken, numbered, performed, refused, line_turn, behind}
+use Rattle.running.specs.Signed.{signed_text}
+use Rattle.running.specs.KeptRun.{KeptRun}
 
 -- the whole history is completed, and the replica has applied it; the log's base is the replica's state where it is as far
 pub record IsSteady (c : CatalogueView) (n : SingleNode) : Type 0 where
@@ -66,6 +70,10 @@ TakesOperation c op mode = TakesTurn c (λ limit h. performed limit c h op mode)
 abbrev pub TakesCall : {A E : Type 0} → CatalogueView → (name argument : List ℕ) → SingleNode → SingleNode → List ℕ → List ℕ → Result A E → Type 0
 TakesCall c name argument = TakesTurn c (λ limit h. called limit c h (record { name = name; argument = argument }))
 
+-- the turn of a call of the program of this number, if there is one
+abbrev pub TakesNumbered : {A E : Type 0} → CatalogueView → List ℕ → Option ℕ → SingleNode → SingleNode → List ℕ → List ℕ → Result A E → Type 0
+TakesNumbered c argument number = TakesTurn c (λ limit h. option_map_or (numbered limit c h argument) number (refused h UnknownProgram))
+
 -- what a line does was done, and the line is good; or it is bad
 abbrev pub LineTaken : ℕ → CatalogueView → Option Turn → Bool → SingleNode → List ℕ → List ℕ → Type 0
 LineTaken limit c None good n old new = (good ≡ false) × (new ≡ old)
@@ -83,6 +91,10 @@ TakesLine c line node after old new r =
 -- this answer stands behind what was written, and its verdict is told, unless memory runs out
 abbrev pub AnswersBehind : {E : Type 0} → List ℕ → List ℕ → Result Verdict E → Answer → Type 0
 AnswersBehind old new r a = IfOk r (λ verdict. record { text = new; verdict = verdict } ≡ behind old a)
+
+-- with signed numbers beside its replies
+abbrev pub with_signs : KeptRun → KeptRun
+with_signs k = record k { answer = record k.answer { text = signed_text k.answer.text } }
 
 -- all lines are good, and the node has the history behind it that they left; or one is bad
 abbrev pub HasLeft : ℕ → CatalogueView → SingleNode → Option History → Verdict → Type 0

@@ -1,19 +1,15 @@
 -- What `run --signed` answers and writes: what `run` does, and beside each reply that is negative as a signed number, that number.
-use Rattle.std.specs.Prelude.{ℕ, ◌-◌, ◌^◌, List, [], ◌++◌, codes, decimal, Option, Some, None, nat_lt, bytes_eq, if◌then◌else◌}
+use Rattle.std.specs.Prelude.{ℕ, ◌-◌, ◌^◌, List, [], ◌++◌, codes, decimal, Option, None, nat_lt, bytes_eq, if◌then◌else◌}
 use Rattle.std.specs.List.{flat_map}
+use Rattle.std.specs.Option.{option_map_or}
+use Rattle.std.specs.Str.{is_utf8}
 use Rattle.text.specs.Fields.{split_at_space}
 use Rattle.text.specs.Lines.{lines_of}
 use Rattle.text.specs.Words.{◌>>=◌, number_of}
-use Rattle.engine.specs.Files.{is_text}
-use Rattle.engine.specs.Answer.{Answer}
 
 -- what stands before the first space, or all
-abbrev pub word_of : List ℕ → Option (List ℕ × List ℕ) → List ℕ
-word_of text None = text
-word_of text (Some cut) = cut.0
-
 abbrev pub first_word : List ℕ → List ℕ
-first_word text = word_of text (split_at_space text)
+first_word text = option_map_or (λ cut. cut.0) (split_at_space text) text
 
 -- the reply that a line of `run` tells: its third word is `reply`, and the fourth is a number
 unfoldable pub reply_in : List ℕ → Option ℕ
@@ -27,18 +23,10 @@ reply_in line = do
 abbrev pub if_negative : ℕ → List ℕ
 if_negative n = if nat_lt n (2 ^ 63) then [] else codes " = -" ++ decimal (2 ^ 64 - n)
 
-abbrev pub beside : Option ℕ → List ℕ
-beside None = []
-beside (Some reply) = if_negative reply
-
 -- a line, and the negative reply beside it
 abbrev pub signed_line : List ℕ → List ℕ
-signed_line line = line ++ (beside (reply_in line) ++ codes "\n")
+signed_line line = line ++ (option_map_or if_negative (reply_in line) [] ++ codes "\n")
 
 -- a text line by line; one that isn't UTF-8 stays as it is
 unfoldable pub signed_text : List ℕ → List ℕ
-signed_text text = if is_text text then flat_map signed_line (lines_of text) else text
-
--- what `run --signed` answers where `run` answers this
-abbrev pub signed_answer : Answer → Answer
-signed_answer plain = record { text = signed_text plain.text; verdict = plain.verdict }
+signed_text text = if is_utf8 text then flat_map signed_line (lines_of text) else text

@@ -5,8 +5,8 @@ ghost use Rattle.maps.specs.declared.shapes.TheConstants.{MAX_ARG_LEN};
 ghost use Rattle.oplog.specs.declared.records.Op.TheVariants.{Run};
 ghost use Rattle.replica.specs.StoreMeaning.{call_of as program_call, is_operation};
 ghost use Rattle.replica.specs.Refusals.{early_refusal, IsRefusedAs};
-ghost use Rattle.running.specs.RunAnswer.{numbered, called, asked, installed};
-ghost use Rattle.running.specs.Running.{IsSteady, TakesCall, TakesOperation, TakesTurn, TakesMeaning, TakesLine};
+ghost use Rattle.running.specs.RunAnswer.{called, asked, installed};
+ghost use Rattle.running.specs.Running.{IsSteady, TakesCall, TakesNumbered, TakesOperation, TakesTurn, TakesMeaning, TakesLine};
 ghost use Rattle.scripts.specs.Script.{word_meaning};
 ghost use Rattle.scripts.specs.ScriptShown.{at_number_of, program_of, meaning_of};
 
@@ -61,7 +61,7 @@ fn run_numbered(
 ) -> Result<(), AllocError>
     requires steady { IsSteady catalogue.now node.old }
     ensures steady { IsSteady catalogue.now node.new }
-    ensures taken { TakesTurn catalogue.now (λ n h. numbered n catalogue.now h argument.now number) node.old node.new out.old.items out.new.items result }
+    ensures taken { TakesNumbered catalogue.now argument.now number node.old node.new out.old.items out.new.items result }
 {
     let Some(number) = number else {
         return put_refused(out, StoreRefused::UnknownProgram);

@@ -2,7 +2,7 @@
 
 ghost use Rattle.std.specs.Prelude.{◌≡◌, ◌≤◌, ◌+◌, ◌++◌, length, drop, decimal, IfOk, OnOk};
 ghost use Rattle.engine.specs.Report.{answer_of};
-ghost use Rattle.running.specs.RunAnswer.{bad_line, outcome_text, update_text, read_text, install_text, reason_text, refused_text, bad_line_text};
+ghost use Rattle.running.specs.RunAnswer.{bad_line, outcome_text, update_text, read_text, install_text, reason_text, refused_text};
 
 use engine::texts::{put_decode, put_numbered, put_pair, put_verify};
 use engine::{Reply, Verdict};
@@ -99,7 +99,7 @@ pub(crate) fn put_refused(out: &mut Vec<u8>, refused: StoreRefused) -> Result<()
 
 /// The line behind which nothing is run.
 pub fn put_bad_line(out: &mut Vec<u8>, number: u32) -> Result<(), AllocError>
-    ensures { OnOk result (out.new.items ≡ out.old.items ++ bad_line_text number) }
+    ensures { OnOk result (out.new.items ≡ out.old.items ++ (bad_line number).text) }
 {
     put_numbered(out, b"line ", number as u64)?;
     out.extend_from_slice(b" bad\n")

@@ -1,16 +1,15 @@
 // The command `run`, and the state that it leaves.
 
-ghost use Rattle.std.specs.Prelude.{◌≡◌, true, false, Option, option_map, Some, IfOk};
-ghost use Rattle.text.specs.Lines.{lines_of};
+ghost use Rattle.std.specs.Prelude.{◌≡◌, false, None, Ok, Option, option_map, Some, IfOk};
 ghost use Rattle.loader.specs.CatalogueView.{OpensOn};
 ghost use Rattle.oplog.specs.declared.configuration.TheConstants.{MAX_LIMIT};
 ghost use Rattle.oplog.specs.History.{History};
 ghost use Rattle.dumps.specs.Dumping.{dump};
-ghost use Rattle.engine.specs.Memory.{Never};
 ghost use Rattle.engine.specs.Reading.{texts_read};
 ghost use Rattle.engine.specs.Report.{answer_of, Failed};
-ghost use Rattle.running.specs.KeptRun.{state_left, unrun, lines_kept, with_signs, run_kept, kept_of, Dumps};
-ghost use Rattle.running.specs.Running.{IsSteady, HasLeft};
+ghost use Rattle.running.specs.KeptRun.{run_kept, kept_of, script_kept, Dumps};
+ghost use Rattle.running.specs.RunAnswer.{state_of};
+ghost use Rattle.running.specs.Running.{IsSteady, HasLeft, with_signs};
 
 use crate::lines::take_lines;
 use crate::signed_texts::signed_text;
@@ -46,7 +45,7 @@ impl Answering for Kept {
 
 // What is answered in place of a run.
 fn unrun(reply: Reply) -> Kept
-    ensures { kept_of result ≡ unrun (answer_of reply) }
+    ensures { kept_of result ≡ record { answer = answer_of reply; state = None } }
 {
     Kept { reply, state: None }
 }
@@ -54,7 +53,7 @@ fn unrun(reply: Reply) -> Kept
 // The state that lines left in a node, where all of them are good.
 fn state_left(node: SingleNode, catalogue: &Catalogue, verdict: Verdict) -> Option<StoreState>
     requires steady { IsSteady catalogue.now node }
-    ensures left { (left : Option History) → HasLeft MAX_LIMIT catalogue.now node left verdict → result ≡ option_map (state_left catalogue.now) left }
+    ensures left { (left : Option History) → HasLeft MAX_LIMIT catalogue.now node left verdict → result ≡ option_map (state_of catalogue.now) left }
 {
     match verdict {
         Verdict::Good => Some(node.into_state(catalogue)),
@@ -70,7 +69,7 @@ fn lines_kept(
     script: &str,
 ) -> Result<Kept, AllocError>
     requires opens { OpensOn catalogue.now state }
-    ensures { IfOk result (λ k. kept_of k ≡ lines_kept catalogue.now (lines_of script.now)) }
+    ensures { IfOk result (λ k. kept_of k ≡ script_kept script.now (Ok catalogue.now)) }
 {
     let mut node = SingleNode::open(alloc, catalogue, state, MAX_LIMIT)?;
     let mut text = Vec::new(alloc);
@@ -94,7 +93,7 @@ fn texts_kept(alloc: Global, texts: &Texts) -> Result<Kept, AllocError>
 
 // The same, and beside each reply that is negative as a signed number, that number.
 fn signed(alloc: Global, plain: Kept) -> Result<Kept, AllocError>
-    ensures { IfOk result (λ k. kept_of k ≡ with_signs true (kept_of plain)) }
+    ensures { IfOk result (λ k. kept_of k ≡ with_signs (kept_of plain)) }
 {
     let Kept { reply, state } = plain;
     let Reply { text, verdict } = reply;
@@ -140,7 +139,7 @@ impl Command for Run {
 /// Writes a state as text. Says how it ended: where memory runs out, nothing is written.
 pub fn dump_to<D: Sink>(alloc: Global, state: &StoreState, writer: &mut D) -> Status
     ensures written { Dumps (D.contents writer.old) (D.contents writer.new) result (dump state.now) }
-    ensures failed { Failed result Never (D.has_failed writer.new) }
+    ensures failed { Failed result ⊥ (D.has_failed writer.new) }
 {
     match dumps::dump(alloc, state) {
         Ok(text) => match writer.send(&text) {

@@ -1,9 +1,10 @@
 // What `run --signed` writes beside the lines of `run`.
 
-ghost use Rattle.std.specs.Prelude.{◌≡◌, ◌++◌, IfOk, OnOk};
+ghost use Rattle.std.specs.Prelude.{◌≡◌, ◌++◌, [], IfOk, OnOk};
 ghost use Rattle.std.specs.List.{flat_map};
+ghost use Rattle.std.specs.Option.{option_map_or};
 ghost use Rattle.text.specs.Lines.{lines_of};
-ghost use Rattle.running.specs.Signed.{first_word, reply_in, if_negative, beside, signed_line, signed_text};
+ghost use Rattle.running.specs.Signed.{first_word, reply_in, if_negative, signed_line, signed_text};
 
 use engine::texts::put_numbered;
 use std::alloc::{AllocError, Global};
@@ -46,7 +47,7 @@ fn put_if_negative(out: &mut Vec<u8>, n: u64) -> Result<(), AllocError>
 
 // Adds a reply as a signed number, where there is one and it is negative.
 fn put_beside(out: &mut Vec<u8>, reply: Option<u64>) -> Result<(), AllocError>
-    ensures { OnOk result (out.new.items ≡ out.old.items ++ beside reply) }
+    ensures { OnOk result (out.new.items ≡ out.old.items ++ option_map_or if_negative reply []) }
 {
     match reply {
         Some(reply) => put_if_negative(out, reply),

@@ -1,6 +1,7 @@
 -- The loop over the lines of a list of steps: one line on, a bad line, and the end.
 use Rattle.std.proofs.Common.{◌≡◌, ℕ, zero, suc, ◌+◌, true, false, List, [], ◌∷◌, ◌++◌, codes, decimal, drop, Option, Some, None, slice_get, refl, sym, ap, subst, ◌∙◌, append_assoc, arith}
 use Rattle.std.specs.Prelude.{option_map}
+use Rattle.std.specs.Option.{option_map_or}
 use Rattle.std.proofs.lemmas.Bool.{false≢true}
 use Rattle.text.specs.Lines.{next_line}
 use Rattle.replica.specs.Views.{ReplicaView}
@@ -10,8 +11,8 @@ use Rattle.schedule.specs.Taking.{WorldState}
 use Rattle.engine.specs.declared.replies.Verdict.{Verdict}
 use Rattle.engine.specs.declared.replies.Verdict.TheVariants as verdicts
 use Rattle.engine.specs.Answer.{Answer}
-use Rattle.running.specs.RunAnswer.{behind, bad_line, bad_line_text}
-use Rattle.scheduling.specs.ScheduleAnswer.{StepTurn, step_line_turn, by_step_turn, steps_answer, nodes_text, end_text}
+use Rattle.running.specs.RunAnswer.{behind, bad_line}
+use Rattle.scheduling.specs.ScheduleAnswer.{StepTurn, step_line_turn, steps_answer, nodes_text, end_text}
 use Rattle.scheduling.specs.Scheduling.{StepLineTaken}
 
 abbrev answer : Verdict → List ℕ → Answer
@@ -24,7 +25,7 @@ module _ (m : Opening) (n : ℕ) (old : WorldState) (before : List ℕ) (all : L
   abbrev next : StepTurn → Answer
   next turn = steps_answer m (next_line n) turn.world rest
 
-  here_is : behind before (by_step_turn (bad_line n) (λ turn. behind turn.text (next turn)) (step_line_turn m old.world line)) ≡ total
+  here_is : behind before (option_map_or (λ turn. behind turn.text (next turn)) (step_line_turn m old.world line) (bad_line n)) ≡ total
   unfolding steps_answer
   here_is = sym (rw first refl) ∙ so_far
 
@@ -32,7 +33,7 @@ module _ (m : Opening) (n : ℕ) (old : WorldState) (before : List ℕ) (all : L
   GoesOn new after = (new.opening ≡ m) × (behind after (steps_answer m (next_line n) new.world rest) ≡ total)
 
   on : (t : Option StepTurn) (new : WorldState) (after : List ℕ) → StepLineTaken old t true new before after
-      → behind before (by_step_turn (bad_line n) (λ turn. behind turn.text (next turn)) t) ≡ total → GoesOn new after
+      → behind before (option_map_or (λ turn. behind turn.text (next turn)) t (bad_line n)) ≡ total → GoesOn new after
   on None new after taken at = absurd (false≢true (sym taken.0))
   on (Some turn) new after taken at =
       let world : new.world ≡ turn.world = ap (λ (s : WorldState). s.world) taken.2 in (
@@ -43,12 +44,12 @@ module _ (m : Opening) (n : ℕ) (old : WorldState) (before : List ℕ) (all : L
   pub goes_on : (new : WorldState) (after : List ℕ) → StepLineTaken old (step_line_turn old.opening old.world line) true new before after → GoesOn new after
   goes_on new after taken = on (step_line_turn m old.world line) new after (subst (λ o. StepLineTaken old (step_line_turn o old.world line) true new before after) of taken) here_is
 
-  off : (t : Option StepTurn) (new : WorldState) (after text : List ℕ) → StepLineTaken old t false new before after → text ≡ after ++ bad_line_text n
-      → behind before (by_step_turn (bad_line n) (λ turn. behind turn.text (next turn)) t) ≡ total → answer verdicts.Refused text ≡ total
-  off None new after text taken is at = ap (answer verdicts.Refused) (is ∙ ap (λ (x : List ℕ). x ++ bad_line_text n) taken.1) ∙ at
+  off : (t : Option StepTurn) (new : WorldState) (after text : List ℕ) → StepLineTaken old t false new before after → text ≡ after ++ (bad_line n).text
+      → behind before (option_map_or (λ turn. behind turn.text (next turn)) t (bad_line n)) ≡ total → answer verdicts.Refused text ≡ total
+  off None new after text taken is at = ap (answer verdicts.Refused) (is ∙ ap (λ (x : List ℕ). x ++ (bad_line n).text) taken.1) ∙ at
   off (Some turn) new after text taken is at = absurd (false≢true taken.0)
 
-  pub bad_here : (new : WorldState) (after text : List ℕ) → StepLineTaken old (step_line_turn old.opening old.world line) false new before after → text ≡ after ++ bad_line_text n → answer verdicts.Refused text ≡ total
+  pub bad_here : (new : WorldState) (after text : List ℕ) → StepLineTaken old (step_line_turn old.opening old.world line) false new before after → text ≡ after ++ (bad_line n).text → answer verdicts.Refused text ≡ total
   bad_here new after text taken is = off (step_line_turn m old.world line) new after text (subst (λ o. StepLineTaken old (step_line_turn o old.world line) false new before after) of taken) is here_is
 
 pub all_taken : (m : Opening) (n : ℕ) (w : WorldView) (before text : List ℕ) (all : List (List ℕ)) → all ≡ [] → text ≡ before ++ end_text w → answer verdicts.Good text ≡ behind before (steps_answer m n w all)

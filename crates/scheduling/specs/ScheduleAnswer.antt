@@ -1,9 +1,9 @@
 -- What `schedule` answers, as a function of the sizes of the store and of the manifest, the files and the steps that were read.
+use Rattle.std.specs.Option.{option_map_or}
 use Rattle.std.specs.Prelude.{ℕ, suc, List, [], ◌∷◌, ◌++◌, codes, decimal, Option, Some, None, option_map, option_and_then, unwrap_or, slice_get, length, Ok, Err, if◌then◌else◌}
 use Rattle.text.specs.Lines.{lines_of, next_line}
 use Rattle.loader.specs.CatalogueView.{CatalogueView, number_named}
 use Rattle.loader.specs.Loading.{Outcome, loaded}
-use Rattle.oplog.specs.Calls.{Call}
 use Rattle.oplog.specs.declared.records.Op.TheVariants.{Run, Install as AnInstall}
 use Rattle.oplog.specs.Logs.{Log, tail_of}
 use Rattle.oplog.specs.declared.configuration.Config.{Config}
@@ -22,7 +22,7 @@ use Rattle.engine.specs.Answer.{Answer, not_text, refusal_answer}
 use Rattle.engine.specs.Sizes.{are_sizes, sizes_refused}
 use Rattle.engine.specs.Reading.{TextsRead}
 use Rattle.scripts.specs.Script.{ProgramKey, Named, Numbered}
-use Rattle.scripts.specs.StepLine.{StepMeaning, CallAt, Comment, Post, Install, ReadBegin, Collect, ReadAnswer, Claim, Append, Replay, Finish, Reply, Reclaim, Rebase, step_line_meaning}
+use Rattle.scripts.specs.StepLine.{StepMeaning, Comment, Post, Install, ReadBegin, Collect, ReadAnswer, Claim, Append, Replay, Finish, Reply, Reclaim, Rebase, step_line_meaning}
 use Rattle.running.specs.RunAnswer.{behind, bad_line}
 
 -- ---- the texts
@@ -35,21 +35,16 @@ step_text (Back (Placed index reply)) = codes "ok place " ++ (decimal index ++ (
 step_text (Back Ended) = codes "ok ended\n"
 step_text (ReadBack a) = codes "ok point " ++ (decimal a.point ++ (codes " reply " ++ (decimal a.reply ++ codes "\n")))
 
--- where the log stands at the end
-abbrev pub log_text : Log → List ℕ
-log_text g = codes "log base " ++ (decimal g.base ++ (codes " tail " ++ (decimal (tail_of g) ++ (codes " done " ++ (decimal g.done ++ codes "\n")))))
-
--- how far the replica of a node is
-abbrev pub node_text : ℕ → NodeView → List ℕ
-node_text n node = codes "node " ++ (decimal n ++ (codes " tail " ++ (decimal node.replica.tail ++ codes "\n")))
-
--- the same for each node, from node n on
+-- how far the replica of each node is, from node n on
 abbrev pub nodes_text : ℕ → List NodeView → List ℕ
 nodes_text n [] = []
-nodes_text n (node ∷ nodes) = node_text n node ++ nodes_text (suc n) nodes
+nodes_text n (node ∷ nodes) = (codes "node " ++ (decimal n ++ (codes " tail " ++ (decimal node.replica.tail ++ codes "\n")))) ++ nodes_text (suc n) nodes
 
+-- where the log stands at the end, and then the nodes
 abbrev pub end_text : WorldView → List ℕ
-end_text w = log_text w.log ++ nodes_text 0 w.nodes
+end_text w =
+    (codes "log base " ++ (decimal w.log.base ++ (codes " tail " ++ (decimal (tail_of w.log) ++ (codes " done " ++ (decimal w.log.done ++ codes "\n"))))))
+    ++ nodes_text 0 w.nodes
 
 -- ---- one line
 
@@ -58,15 +53,11 @@ abbrev pub number_keyed : CatalogueView → ProgramKey → ℕ
 number_keyed c (Named name) = unwrap_or (number_named c.programs name) 65535
 number_keyed c (Numbered k) = k
 
--- the call that a line makes
-abbrev pub call_at : CatalogueView → CallAt → Call
-call_at c at = record { program = number_keyed c at.call.key; argument = at.call.argument }
-
 abbrev pub node_of : StepMeaning → ℕ
 node_of Comment = 0
-node_of (Post at) = at.node
-node_of (Install at) = at.node
-node_of (ReadBegin at) = at.node
+node_of (Post at call) = at.node
+node_of (Install at new) = at.node
+node_of (ReadBegin at call) = at.node
 node_of (Collect at) = at.node
 node_of (ReadAnswer at) = at.node
 node_of (Claim n) = n
@@ -80,9 +71,9 @@ node_of (Rebase n) = n
 -- what the line's step makes of the log and of its node; none where it may not be taken
 abbrev pub part_of : Opening → StepMeaning → Log → NodeView → Option Part
 part_of m Comment g node = None
-part_of m (Post at) g node = steps.post m at.slot (Run (call_at m.catalogue at)) g node
-part_of m (Install at) g node = steps.post m at.slot (AnInstall at.program) g node
-part_of m (ReadBegin at) g node = steps.read_begin m at.slot (call_at m.catalogue at) g node
+part_of m (Post at call) g node = steps.post m at.slot (Run (record { program = number_keyed m.catalogue call.key; argument = call.argument })) g node
+part_of m (Install at new) g node = steps.post m at.slot (AnInstall new) g node
+part_of m (ReadBegin at call) g node = steps.read_begin m at.slot (record { program = number_keyed m.catalogue call.key; argument = call.argument }) g node
 part_of m (Collect at) g node = steps.collect at.slot g node
 part_of m (ReadAnswer at) g node = steps.read_answer m at.slot g node
 part_of m (Claim n) g node = steps.claim g node
@@ -111,25 +102,17 @@ step_line_turn m w line = option_map (step_turn m w) (step_line_meaning (length 
 
 -- ---- a list of steps
 
--- by whether the line is good
-abbrev pub by_step_turn : Answer → (StepTurn → Answer) → Option StepTurn → Answer
-by_step_turn bad next None = bad
-by_step_turn bad next (Some turn) = next turn
-
 -- what the lines from number n on write, on a store; a bad line ends it, and behind the last line stands where log and replicas are
 unfoldable pub steps_answer : Opening → ℕ → WorldView → List (List ℕ) → Answer
 steps_answer m n w [] = record { text = end_text w; verdict = verdicts.Good }
-steps_answer m n w (l ∷ ls) = by_step_turn (bad_line n) (λ turn. behind turn.text (steps_answer m (next_line n) turn.world ls)) (step_line_turn m w l)
+steps_answer m n w (l ∷ ls) = option_map_or (λ turn. behind turn.text (steps_answer m (next_line n) turn.world ls)) (step_line_turn m w l) (bad_line n)
 
--- what a catalogue answers to a list of steps, in a store of these sizes, which has so many places behind its programs
-abbrev pub catalogue_answer : Config → CatalogueView → List ℕ → Answer
-catalogue_answer config c text =
+-- what a manifest's catalogue answers to a list of steps, in a store of these sizes, which has so many places behind its programs; a refused
+-- manifest writes only its refusal, sizes out of their limits only theirs
+abbrev pub scheduled : Config → Outcome → List ℕ → Answer
+scheduled config (Ok c) text =
     let opening = opening_of (sizes_in config) c in
     if are_sizes config then steps_answer opening 1 (opened opening) (lines_of text) else sizes_refused
-
--- a refused manifest writes only its refusal, sizes out of their limits only theirs
-abbrev pub scheduled : Config → Outcome → List ℕ → Answer
-scheduled config (Ok c) text = catalogue_answer config c text
 scheduled config (Err refusal) text = refusal_answer refusal
 
 -- what `schedule` answers to what was read: the manifest is loaded, then the sizes are judged, then the steps are taken

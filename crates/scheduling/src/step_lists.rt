@@ -1,11 +1,11 @@
 // The command `schedule`: the steps that the lines of a list say are taken on a store, and answered.
 
-ghost use Rattle.std.specs.Prelude.{◌≡◌, ◌++◌, IfOk, OnOk, MatchOption};
+ghost use Rattle.std.specs.Prelude.{◌≡◌, ◌++◌, Ok, IfOk, OnOk, MatchOption};
 ghost use Rattle.engine.specs.Notes.{IsQuiet};
 ghost use Rattle.engine.specs.Report.{answer_of};
 ghost use Rattle.scripts.specs.ScriptShown.{key_of, step_of};
 ghost use Rattle.scripts.specs.StepLine.{Comment};
-ghost use Rattle.scheduling.specs.ScheduleAnswer.{catalogue_answer, end_text, number_keyed, schedule_answer, step_text};
+ghost use Rattle.scheduling.specs.ScheduleAnswer.{end_text, number_keyed, schedule_answer, scheduled, step_text};
 ghost use Rattle.scheduling.specs.Scheduling.{AnswersSteps, IsStepOf, TakesStepLine};
 
 use crate::lanes::{Taken, reason_of, tell_step};
@@ -18,7 +18,7 @@ use loader::Catalogue;
 use oplog::{Config, OpenError};
 use running::put_bad_line;
 use schedule::{Step, StepAnswer, World};
-use scripts::{CallAt, ProgramKey, SlotAt, StepLine, read_step_line};
+use scripts::{ProgramKey, SlotAt, StepLine, read_step_line};
 use std::alloc::{AllocError, Global};
 use text::NumberedLines;
 
@@ -45,22 +45,22 @@ fn step_of(
 {
     Ok(Some(match line {
         StepLine::Comment => return Ok(None),
-        StepLine::Post(CallAt { node, slot, call }) => Step::Post {
-            node,
-            slot,
+        StepLine::Post(at, call) => Step::Post {
+            node: at.node,
+            slot: at.slot,
             program: number_of(catalogue, call.key),
             argument: call.argument.as_slice().to_vec(alloc)?,
         },
-        StepLine::Install(at) => Step::Install {
+        StepLine::Install(at, program) => Step::Install {
             node: at.node,
             slot: at.slot,
-            mode: at.program.mode,
-            arg_len: at.program.arg_len,
-            bytes: at.program.bytes.as_slice().to_vec(alloc)?,
+            mode: program.mode,
+            arg_len: program.arg_len,
+            bytes: program.bytes.as_slice().to_vec(alloc)?,
         },
-        StepLine::ReadBegin(CallAt { node, slot, call }) => Step::ReadBegin {
-            node,
-            slot,
+        StepLine::ReadBegin(at, call) => Step::ReadBegin {
+            node: at.node,
+            slot: at.slot,
             program: number_of(catalogue, call.key),
             argument: call.argument.as_slice().to_vec(alloc)?,
         },
@@ -184,7 +184,7 @@ fn catalogue_reply(
     notes: &mut Notes,
 ) -> Result<Reply, AllocError>
     ensures quiet { IsQuiet notes.old notes.new }
-    ensures answered { IfOk result (λ r. answer_of r ≡ catalogue_answer config catalogue steps.now) }
+    ensures answered { IfOk result (λ r. answer_of r ≡ scheduled config (Ok catalogue) steps.now) }
 {
     match World::open(alloc, config, catalogue) {
         Ok(world) => {

@@ -1,11 +1,14 @@
 -- The lines that `encode` writes mean the calls of their lines.
-use Rattle.std.proofs.Common.{◌≡◌, inl, inr, ℕ, List, [], ◌∷◌, Some, refl}
+use Rattle.std.proofs.Common.{◌≡◌, ◌⊎◌, inl, inr, ℕ, List, [], ◌∷◌, Some, refl}
 use Rattle.std.specs.List.{AllZip}
 use Rattle.text.specs.Lines.{lines_of}
 use Rattle.encoding.specs.Calls.{IsCallOf, IsWrittenAs}
 use Rattle.encoding.proofs.WrittenLines.{lines_are_written}
-use Rattle.scripts.specs.EncodedCalls.{MeansItsLine, EncodedLinesMean}
-use Rattle.scripts.specs.Script.{Call, line_meaning, call_meaning, named_call}
+use Rattle.scripts.specs.EncodedCalls.{MeansItsCall, EncodedLinesMean}
+use Rattle.scripts.specs.Script.{Comment, Call, line_meaning, call_meaning, named_call}
+
+abbrev MeansItsLine : List ℕ → List ℕ → Type 0
+MeansItsLine line written = ((line_meaning line ≡ Some Comment) × (written ≡ line)) ⊎ MeansItsCall line written
 
 means_call : (line written : List ℕ) (call : IsCallOf line written) → line_meaning written ≡ Some (Call (record { name = call.name; argument = call.argument }))
 unfolding line_meaning call_meaning named_call

@@ -1,6 +1,6 @@
 -- A line of a list of steps says what it spells.
 use Rattle.std.proofs.Common.{◌≡◌, ◌⊎◌, inl, inr, ℕ, ◌≤◌, true, false, eqb, List, [], ◌∷◌, ◌++◌, length, codes, decimal, Some, refl, sym, ap, subst, ◌∙◌}
-use Rattle.std.specs.Prelude.{option_map}
+use Rattle.std.specs.Prelude.{option_map, option_and_then}
 use Rattle.std.proofs.lemmas.Option.{same_Some}
 use Rattle.text.specs.declared.lines.TheConstants.{LINE_BYTES}
 use Rattle.text.specs.Fields.{has_no_space, split_at_space}
@@ -8,8 +8,10 @@ use Rattle.text.specs.Words.{number_of}
 use Rattle.text.proofs.LineReadings.{IsSilent, by_kind_from, by_words, by_hash, by_empty}
 use Rattle.text.proofs.Cuts.{steps, where_true, split_from, split_to}
 use Rattle.loader.specs.Spelling.{mode_word}
-use Rattle.scripts.specs.Script.{keyed_call, new_program}
-use Rattle.scripts.specs.StepLine.{SlotAt, CallAt, InstallAt, StepMeaning, Comment, Post, Install, ReadBegin, Collect, ReadAnswer, Claim, Append, Replay, Finish, Reply, Reclaim, Rebase, is_named_so, slot_at, call_at, install_at, node_step, node_words, step_words, step_meaning, step_line_meaning}
+use Rattle.oplog.specs.Calls.{NewProgram}
+use Rattle.scripts.specs.Script.{KeyedCall, keyed_call, new_program}
+use Rattle.scripts.specs.StepLine.{StepMeaning, Comment, Post, Install, ReadBegin, Collect, ReadAnswer, Claim, Append, Replay, Finish, Reply, Reclaim, Rebase, is_named_so, slot_at, call_at, install_at, node_step, step_words, step_meaning, step_line_meaning}
+use Rattle.scripts.specs.declared.step_lines.SlotAt.{SlotAt}
 use Rattle.scripts.specs.LineSpelling.{IsNumber, IsKey, SpellsBytes, SpellsStep, EachStepIsItsSpelling, key_text}
 use Rattle.loader.proofs.Respelled.{no_space_in_number}
 use Rattle.scripts.proofs.Fields.{key_plain, keyed_from, keyed_to, mapped, new_from, new_to, number_from, number_to}
@@ -29,12 +31,12 @@ slot_from t at e =
     (split_from t field.0 field.1 ∙ (λ i. n.0 i ++ 32 ∷ s.0 i), n.1, s.1)
 
 -- N S NAME HEX
-abbrev IsCallAt : ℕ → List ℕ → CallAt → Type 0
+abbrev IsCallAt : ℕ → List ℕ → SlotAt × KeyedCall → Type 0
 IsCallAt n t at =
-    (digits : List ℕ) × (t ≡ decimal at.node ++ 32 ∷ (decimal at.slot ++ 32 ∷ (key_text at.call.key ++ 32 ∷ digits))) × IsKey at.call.key × SpellsBytes at.call.argument digits
-    × IsNumber at.node × IsNumber at.slot × (is_named_so n at.call.key ≡ true)
+    (digits : List ℕ) × (t ≡ decimal at.0.node ++ 32 ∷ (decimal at.0.slot ++ 32 ∷ (key_text at.1.key ++ 32 ∷ digits))) × IsKey at.1.key × SpellsBytes at.1.argument digits
+    × IsNumber at.0.node × IsNumber at.0.slot × (is_named_so n at.1.key ≡ true)
 
-at_from : (n : ℕ) (t : List ℕ) (at : CallAt) → call_at n t ≡ Some at → IsCallAt n t at
+at_from : (n : ℕ) (t : List ℕ) (at : SlotAt × KeyedCall) → call_at n t ≡ Some at → IsCallAt n t at
 unfolding call_at
 at_from n t at e =
     let first = steps (split_at_space t) _ at e in
@@ -43,21 +45,21 @@ at_from n t at e =
     let node = steps (number_of first.0.0) _ at third.2 in
     let slot = steps (number_of second.0.0) _ at node.2 in
     let call = steps (keyed_call third.0.0 third.0.1) _ at slot.2 in
-    let last = where_true (is_named_so n call.0.key) (record { node = node.0; slot = slot.0; call = call.0 }) at call.2 in
+    let last = where_true (is_named_so n call.0.key) (record { node = node.0; slot = slot.0 }, call.0) at call.2 in
     let a = number_from first.0.0 node.0 node.1 in
     let s = number_from second.0.0 slot.0 slot.1 in
     let k = keyed_from third.0.0 third.0.1 call.0 call.1 in
     let behind : second.0.1 ≡ key_text call.0.key ++ 32 ∷ third.0.1 = split_from second.0.1 third.0 third.1 ∙ ap (λ w. w ++ 32 ∷ third.0.1) k.0 in
     let rest : first.0.1 ≡ decimal slot.0 ++ 32 ∷ (key_text call.0.key ++ 32 ∷ third.0.1) = split_from first.0.1 second.0 second.1 ∙ (λ i. s.0 i ++ 32 ∷ behind i) in
-    subst (λ (x : CallAt). IsCallAt n t x) last.1
+    subst (λ (x : SlotAt × KeyedCall). IsCallAt n t x) last.1
     (third.0.1, split_from t first.0 first.1 ∙ (λ i. a.0 i ++ 32 ∷ rest i), k.1, k.2, a.1, s.1, last.0)
 
 -- N S MODE ARGLEN HEX
-abbrev IsInstallAt : List ℕ → InstallAt → Type 0
+abbrev IsInstallAt : List ℕ → SlotAt × NewProgram → Type 0
 IsInstallAt t at =
-    (rest : List ℕ) × (t ≡ decimal at.node ++ 32 ∷ (decimal at.slot ++ 32 ∷ rest)) × (new_program rest ≡ Some at.program) × IsNumber at.node × IsNumber at.slot
+    (rest : List ℕ) × (t ≡ decimal at.0.node ++ 32 ∷ (decimal at.0.slot ++ 32 ∷ rest)) × (new_program rest ≡ Some at.1) × IsNumber at.0.node × IsNumber at.0.slot
 
-install_from : (t : List ℕ) (at : InstallAt) → install_at t ≡ Some at → IsInstallAt t at
+install_from : (t : List ℕ) (at : SlotAt × NewProgram) → install_at t ≡ Some at → IsInstallAt t at
 unfolding install_at
 install_from t at e =
     let first = steps (split_at_space t) _ at e in
@@ -68,15 +70,24 @@ install_from t at e =
     let a = number_from first.0.0 node.0 node.1 in
     let s = number_from second.0.0 slot.0 slot.1 in
     let rest : first.0.1 ≡ decimal slot.0 ++ 32 ∷ second.0.1 = split_from first.0.1 second.0 second.1 ∙ ap (λ w. w ++ 32 ∷ second.0.1) s.0 in
-    subst (λ (x : InstallAt). IsInstallAt t x) (same_Some _ at program.2)
+    subst (λ (x : SlotAt × NewProgram). IsInstallAt t x) (same_Some _ at program.2)
     (second.0.1, split_from t first.0 first.1 ∙ (λ i. a.0 i ++ 32 ∷ rest i), program.1, a.1, s.1)
+
+abbrev post_said : SlotAt × KeyedCall → StepMeaning
+post_said at = Post at.0 at.1
+
+abbrev read_said : SlotAt × KeyedCall → StepMeaning
+read_said at = ReadBegin at.0 at.1
+
+abbrev install_said : SlotAt × NewProgram → StepMeaning
+install_said at = Install at.0 at.1
 
 -- by the word
 module _ (n : ℕ) (word rest : List ℕ) (m : StepMeaning) where
   abbrev Spelled : Type 0
   Spelled = SpellsStep n m (word ++ 32 ∷ rest)
 
-  of_call : (w : List ℕ) (make : CallAt → StepMeaning) → ((at : CallAt) → IsCallAt n rest at → SpellsStep n (make at) (w ++ 32 ∷ rest)) → (word ≡ w) × (option_map make (call_at n rest) ≡ Some m) → Spelled
+  of_call : (w : List ℕ) (make : SlotAt × KeyedCall → StepMeaning) → ((at : SlotAt × KeyedCall) → IsCallAt n rest at → SpellsStep n (make at) (w ++ 32 ∷ rest)) → (word ≡ w) × (option_map make (call_at n rest) ≡ Some m) → Spelled
   of_call w make spells h =
       let x = mapped make (call_at n rest) m h.1 in
       subst (λ l. SpellsStep n m (l ++ 32 ∷ rest)) (sym h.0) (subst (λ said. SpellsStep n said (w ++ 32 ∷ rest)) x.2 (spells x.0 (at_from n rest x.0 x.1)))
@@ -86,13 +97,13 @@ module _ (n : ℕ) (word rest : List ℕ) (m : StepMeaning) where
       let x = mapped make (slot_at rest) m h.1 in
       subst (λ l. SpellsStep n m (l ++ 32 ∷ rest)) (sym h.0) (subst (λ said. SpellsStep n said (w ++ 32 ∷ rest)) x.2 (spells x.0 (slot_from rest x.0 x.1)))
 
-  of_install : (word ≡ codes "install") × (option_map Install (install_at rest) ≡ Some m) → Spelled
+  of_install : (word ≡ codes "install") × (option_map install_said (install_at rest) ≡ Some m) → Spelled
   of_install h =
-      let x = mapped Install (install_at rest) m h.1 in
+      let x = mapped install_said (install_at rest) m h.1 in
       let at = install_from rest x.0 x.1 in
-      let new = new_from at.0 x.0.program at.2 in
+      let new = new_from at.0 x.0.1 at.2 in
       subst (λ l. SpellsStep n m (l ++ 32 ∷ rest)) (sym h.0) (subst (λ said. SpellsStep n said (codes "install" ++ 32 ∷ rest)) x.2
-      ((new.0, ap (λ l. codes "install" ++ 32 ∷ l) (at.1 ∙ ap (λ l. decimal x.0.node ++ 32 ∷ (decimal x.0.slot ++ 32 ∷ l)) new.1), new.2, new.3), at.3, at.4))
+      ((new.0, ap (λ l. codes "install" ++ 32 ∷ l) (at.1 ∙ ap (λ l. decimal x.0.0.node ++ 32 ∷ (decimal x.0.0.slot ++ 32 ∷ l)) new.1), new.2, new.3), at.3, at.4))
 
   -- of a node
   module _ (node : ℕ) (is : rest ≡ decimal node) (lt : IsNumber node) where
@@ -127,8 +138,7 @@ module _ (n : ℕ) (word rest : List ℕ) (m : StepMeaning) where
           ]
         ]
 
-  node_words_from : node_words word rest ≡ Some m → Spelled
-  unfolding node_words
+  node_words_from : option_and_then (node_step word) (number_of rest) ≡ Some m → Spelled
   node_words_from e =
       let node = steps (number_of rest) _ m e in
       let number = number_from rest node.0 node.1 in
@@ -137,11 +147,11 @@ module _ (n : ℕ) (word rest : List ℕ) (m : StepMeaning) where
   step_from : step_words n word rest ≡ Some m → Spelled
   step_from e =
       elim (by_word word (codes "post") _ _ m e) [
-        | inl h ↦ of_call (codes "post") Post (λ at k. ((k.0, ap (λ l. codes "post" ++ 32 ∷ l) k.1, k.2, k.3), k.4, k.5, k.6)) h
+        | inl h ↦ of_call (codes "post") post_said (λ at k. ((k.0, ap (λ l. codes "post" ++ 32 ∷ l) k.1, k.2, k.3), k.4, k.5, k.6)) h
         | inr e ↦ elim (by_word word (codes "install") _ _ m e) [
           | inl h ↦ of_install h
           | inr e ↦ elim (by_word word (codes "readbegin") _ _ m e) [
-            | inl h ↦ of_call (codes "readbegin") ReadBegin (λ at k. ((k.0, ap (λ l. codes "readbegin" ++ 32 ∷ l) k.1, k.2, k.3), k.4, k.5, k.6)) h
+            | inl h ↦ of_call (codes "readbegin") read_said (λ at k. ((k.0, ap (λ l. codes "readbegin" ++ 32 ∷ l) k.1, k.2, k.3), k.4, k.5, k.6)) h
             | inr e ↦ elim (by_word word (codes "collect") _ _ m e) [
               | inl h ↦ of_slot (codes "collect") Collect (λ at k. (ap (λ l. codes "collect" ++ 32 ∷ l) k.0, k.1, k.2)) h
               | inr e ↦ elim (by_word word (codes "readanswer") _ _ m e) [
@@ -190,23 +200,23 @@ module _ (n : ℕ) where
   unfolding slot_at
   slot_to at a s = rw (split_to (decimal at.node) (decimal at.slot) (no_space_in_number at.node a), number_to at.node a, number_to at.slot s) refl
 
-  at_to : (at : CallAt) (digits : List ℕ) → IsKey at.call.key → SpellsBytes at.call.argument digits → IsNumber at.node → IsNumber at.slot → is_named_so n at.call.key ≡ true
-      → call_at n (decimal at.node ++ 32 ∷ (decimal at.slot ++ 32 ∷ (key_text at.call.key ++ 32 ∷ digits))) ≡ Some at
+  at_to : (at : SlotAt) (call : KeyedCall) (digits : List ℕ) → IsKey call.key → SpellsBytes call.argument digits → IsNumber at.node → IsNumber at.slot → is_named_so n call.key ≡ true
+      → call_at n (decimal at.node ++ 32 ∷ (decimal at.slot ++ 32 ∷ (key_text call.key ++ 32 ∷ digits))) ≡ Some (at, call)
   unfolding call_at
-  at_to at digits key bytes a s so =
+  at_to at call digits key bytes a s so =
       rw (
-        split_to (decimal at.node) (decimal at.slot ++ 32 ∷ (key_text at.call.key ++ 32 ∷ digits)) (no_space_in_number at.node a),
-        split_to (decimal at.slot) (key_text at.call.key ++ 32 ∷ digits) (no_space_in_number at.slot s),
-        split_to (key_text at.call.key) digits (key_plain at.call.key key),
+        split_to (decimal at.node) (decimal at.slot ++ 32 ∷ (key_text call.key ++ 32 ∷ digits)) (no_space_in_number at.node a),
+        split_to (decimal at.slot) (key_text call.key ++ 32 ∷ digits) (no_space_in_number at.slot s),
+        split_to (key_text call.key) digits (key_plain call.key key),
         number_to at.node a,
         number_to at.slot s,
-        keyed_to at.call digits key bytes,
+        keyed_to call digits key bytes,
         so,
       ) refl
 
-  install_to : (at : InstallAt) (rest : List ℕ) → new_program rest ≡ Some at.program → IsNumber at.node → IsNumber at.slot → install_at (decimal at.node ++ 32 ∷ (decimal at.slot ++ 32 ∷ rest)) ≡ Some at
+  install_to : (at : SlotAt) (new : NewProgram) (rest : List ℕ) → new_program rest ≡ Some new → IsNumber at.node → IsNumber at.slot → install_at (decimal at.node ++ 32 ∷ (decimal at.slot ++ 32 ∷ rest)) ≡ Some (at, new)
   unfolding install_at
-  install_to at rest program a s =
+  install_to at new rest program a s =
       rw (
         split_to (decimal at.node) (decimal at.slot ++ 32 ∷ rest) (no_space_in_number at.node a),
         split_to (decimal at.slot) rest (no_space_in_number at.slot s),
@@ -215,22 +225,21 @@ module _ (n : ℕ) where
         program,
       ) refl
 
-  node_to : (word : List ℕ) (node : ℕ) (m : StepMeaning) → IsNumber node → node_step word node ≡ Some m → node_words word (decimal node) ≡ Some m
-  unfolding node_words
+  node_to : (word : List ℕ) (node : ℕ) (m : StepMeaning) → IsNumber node → node_step word node ≡ Some m → option_and_then (node_step word) (number_of (decimal node)) ≡ Some m
   node_to word node m lt e = rw (number_to node lt) e
 
   pub respelled : (line : List ℕ) (m : StepMeaning) → length line ≤ LINE_BYTES → SpellsStep n m line → step_line_meaning n line ≡ Some m
   respelled line Comment le (inl empty) = subst (λ l. step_line_meaning n l ≡ Some Comment) (sym empty) empty_to
   respelled line Comment le (inr (rest, whole)) = subst (λ l. length l ≤ LINE_BYTES → step_line_meaning n l ≡ Some Comment) (sym whole) (comment_to rest) le
-  respelled line (Post at) le h =
-      let said = word_to (codes "post") (decimal at.node ++ 32 ∷ (decimal at.slot ++ 32 ∷ (key_text at.call.key ++ 32 ∷ h.0.0))) (Post at) refl (ap (option_map Post) (at_to at h.0.0 h.0.2 h.0.3 h.1 h.2 h.3)) in
-      subst (λ l. length l ≤ LINE_BYTES → step_line_meaning n l ≡ Some (Post at)) (sym h.0.1) (λ s. of_words _ _ _ s refl said) le
-  respelled line (Install at) le h =
-      let said = word_to (codes "install") (decimal at.node ++ 32 ∷ (decimal at.slot ++ 32 ∷ (mode_word at.program.mode ++ 32 ∷ (decimal at.program.arg_len ++ 32 ∷ h.0.0)))) (Install at) refl (ap (option_map Install) (install_to at _ (new_to at.program h.0.0 h.0.2 h.0.3) h.1 h.2)) in
-      subst (λ l. length l ≤ LINE_BYTES → step_line_meaning n l ≡ Some (Install at)) (sym h.0.1) (λ s. of_words _ _ _ s refl said) le
-  respelled line (ReadBegin at) le h =
-      let said = word_to (codes "readbegin") (decimal at.node ++ 32 ∷ (decimal at.slot ++ 32 ∷ (key_text at.call.key ++ 32 ∷ h.0.0))) (ReadBegin at) refl (ap (option_map ReadBegin) (at_to at h.0.0 h.0.2 h.0.3 h.1 h.2 h.3)) in
-      subst (λ l. length l ≤ LINE_BYTES → step_line_meaning n l ≡ Some (ReadBegin at)) (sym h.0.1) (λ s. of_words _ _ _ s refl said) le
+  respelled line (Post at call) le h =
+      let said = word_to (codes "post") (decimal at.node ++ 32 ∷ (decimal at.slot ++ 32 ∷ (key_text call.key ++ 32 ∷ h.0.0))) (Post at call) refl (ap (option_map post_said) (at_to at call h.0.0 h.0.2 h.0.3 h.1 h.2 h.3)) in
+      subst (λ l. length l ≤ LINE_BYTES → step_line_meaning n l ≡ Some (Post at call)) (sym h.0.1) (λ s. of_words _ _ _ s refl said) le
+  respelled line (Install at new) le h =
+      let said = word_to (codes "install") (decimal at.node ++ 32 ∷ (decimal at.slot ++ 32 ∷ (mode_word new.mode ++ 32 ∷ (decimal new.arg_len ++ 32 ∷ h.0.0)))) (Install at new) refl (ap (option_map install_said) (install_to at new _ (new_to new h.0.0 h.0.2 h.0.3) h.1 h.2)) in
+      subst (λ l. length l ≤ LINE_BYTES → step_line_meaning n l ≡ Some (Install at new)) (sym h.0.1) (λ s. of_words _ _ _ s refl said) le
+  respelled line (ReadBegin at call) le h =
+      let said = word_to (codes "readbegin") (decimal at.node ++ 32 ∷ (decimal at.slot ++ 32 ∷ (key_text call.key ++ 32 ∷ h.0.0))) (ReadBegin at call) refl (ap (option_map read_said) (at_to at call h.0.0 h.0.2 h.0.3 h.1 h.2 h.3)) in
+      subst (λ l. length l ≤ LINE_BYTES → step_line_meaning n l ≡ Some (ReadBegin at call)) (sym h.0.1) (λ s. of_words _ _ _ s refl said) le
   respelled line (Collect at) le h =
       let said = word_to (codes "collect") (decimal at.node ++ 32 ∷ decimal at.slot) (Collect at) refl (ap (option_map Collect) (slot_to at h.1 h.2)) in
       subst (λ l. length l ≤ LINE_BYTES → step_line_meaning n l ≡ Some (Collect at)) (sym h.0) (λ s. of_words _ _ _ s refl said) le

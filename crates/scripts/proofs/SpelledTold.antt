@@ -13,7 +13,8 @@ use Rattle.text.proofs.Cuts.{steps, split_from, split_to}
 use Rattle.loader.specs.Spelling.{mode_word}
 use Rattle.oplog.specs.Calls.{NewProgram}
 use Rattle.scripts.specs.Script.{KeyedCall, keyed_call, program_fields, new_program}
-use Rattle.scripts.specs.Transcript.{AnsweredCall, AnsweredInstall, TranscriptMeaning, Comment, Answered, Installed, Ended, EndedInstall, answered_call, answered_install, ended_call, ended_words, transcript_words, transcript_meaning, transcript_line_meaning}
+use Rattle.scripts.specs.Transcript.{TranscriptMeaning, Comment, Answered, Installed, Ended, EndedInstall, answered_call, answered_install, ended_call, transcript_words, transcript_meaning, transcript_line_meaning}
+use Rattle.scripts.specs.declared.transcripts.ToldReply.{ToldReply}
 use Rattle.scripts.specs.LineSpelling.{IsNumber, IsKey, SpellsBytes, SpellsTold, EachToldIsItsSpelling, key_text, mode_letter}
 use Rattle.loader.proofs.Respelled.{no_space_in_mode, no_space_in_number}
 use Rattle.scripts.proofs.Fields.{bytes_plain, key_plain, keyed_from, keyed_to, mapped, new_from, new_to, number_from, number_to, program_from, program_to, two_no_bytes}
@@ -22,14 +23,14 @@ use Rattle.scripts.proofs.SpelledScripts.{by_word}
 -- ---- read
 
 -- PLACE NAME HEX REPLY
-abbrev IsAnswered : List ℕ → AnsweredCall → Type 0
+abbrev IsAnswered : List ℕ → KeyedCall × ToldReply → Type 0
 IsAnswered t a =
-    (digits : List ℕ) × (t ≡ decimal a.index ++ 32 ∷ (key_text a.call.key ++ 32 ∷ (digits ++ 32 ∷ decimal a.reply))) × IsKey a.call.key × SpellsBytes a.call.argument digits
-    × IsNumber a.index × IsNumber a.reply
+    (digits : List ℕ) × (t ≡ decimal a.1.index ++ 32 ∷ (key_text a.0.key ++ 32 ∷ (digits ++ 32 ∷ decimal a.1.reply))) × IsKey a.0.key × SpellsBytes a.0.argument digits
+    × IsNumber a.1.index × IsNumber a.1.reply
 
-answered_from : (mode : Mode) (t : List ℕ) (a : AnsweredCall) → answered_call mode t ≡ Some a → (mode ≡ a.mode) × IsAnswered t a
+answered_from : (t : List ℕ) (a : KeyedCall × ToldReply) → answered_call t ≡ Some a → IsAnswered t a
 unfolding answered_call
-answered_from mode t a e =
+answered_from t a e =
     let first = steps (split_at_space t) _ a e in
     let second = steps (split_at_space first.0.1) _ a first.2 in
     let third = steps (split_at_space second.0.1) _ a second.2 in
@@ -41,16 +42,16 @@ answered_from mode t a e =
     let r = number_from third.0.1 reply.0 reply.1 in
     let last : second.0.1 ≡ third.0.0 ++ 32 ∷ decimal reply.0 = split_from second.0.1 third.0 third.1 ∙ ap (λ w. third.0.0 ++ 32 ∷ w) r.0 in
     let rest : first.0.1 ≡ key_text call.0.key ++ 32 ∷ (third.0.0 ++ 32 ∷ decimal reply.0) = split_from first.0.1 second.0 second.1 ∙ (λ i. k.0 i ++ 32 ∷ last i) in
-    subst (λ (x : AnsweredCall). (mode ≡ x.mode) × IsAnswered t x) (same_Some (record { mode = mode; index = index.0; call = call.0; reply = reply.0 }) a reply.2)
-    (refl, (third.0.0, split_from t first.0 first.1 ∙ (λ i. p.0 i ++ 32 ∷ rest i), k.1, k.2, p.1, r.1))
+    subst (λ (x : KeyedCall × ToldReply). IsAnswered t x) (same_Some (call.0, record { index = index.0; reply = reply.0 }) a reply.2)
+    (third.0.0, split_from t first.0 first.1 ∙ (λ i. p.0 i ++ 32 ∷ rest i), k.1, k.2, p.1, r.1)
 
 -- PLACE MODE ARGLEN HEX REPLY
-abbrev IsInstalled : List ℕ → AnsweredInstall → Type 0
+abbrev IsInstalled : List ℕ → NewProgram × ToldReply → Type 0
 IsInstalled t a =
-    (digits : List ℕ) × (t ≡ decimal a.index ++ 32 ∷ (mode_word a.program.mode ++ 32 ∷ (decimal a.program.arg_len ++ 32 ∷ (digits ++ 32 ∷ decimal a.reply))))
-    × IsNumber a.program.arg_len × SpellsBytes a.program.bytes digits × IsNumber a.index × IsNumber a.reply
+    (digits : List ℕ) × (t ≡ decimal a.1.index ++ 32 ∷ (mode_word a.0.mode ++ 32 ∷ (decimal a.0.arg_len ++ 32 ∷ (digits ++ 32 ∷ decimal a.1.reply))))
+    × IsNumber a.0.arg_len × SpellsBytes a.0.bytes digits × IsNumber a.1.index × IsNumber a.1.reply
 
-installed_from : (t : List ℕ) (a : AnsweredInstall) → answered_install t ≡ Some a → IsInstalled t a
+installed_from : (t : List ℕ) (a : NewProgram × ToldReply) → answered_install t ≡ Some a → IsInstalled t a
 unfolding answered_install
 installed_from t a e =
     let first = steps (split_at_space t) _ a e in
@@ -66,7 +67,7 @@ installed_from t a e =
     let last : third.0.1 ≡ fourth.0.0 ++ 32 ∷ decimal reply.0 = split_from third.0.1 fourth.0 fourth.1 ∙ ap (λ w. fourth.0.0 ++ 32 ∷ w) r.0 in
     let behind : second.0.1 ≡ decimal program.0.arg_len ++ 32 ∷ (fourth.0.0 ++ 32 ∷ decimal reply.0) = split_from second.0.1 third.0 third.1 ∙ (λ i. n.1 i ++ 32 ∷ last i) in
     let rest : first.0.1 ≡ mode_word program.0.mode ++ 32 ∷ (decimal program.0.arg_len ++ 32 ∷ (fourth.0.0 ++ 32 ∷ decimal reply.0)) = split_from first.0.1 second.0 second.1 ∙ (λ i. n.0 i ++ 32 ∷ behind i) in
-    subst (λ (x : AnsweredInstall). IsInstalled t x) (same_Some (record { index = index.0; program = program.0; reply = reply.0 }) a reply.2)
+    subst (λ (x : NewProgram × ToldReply). IsInstalled t x) (same_Some (program.0, record { index = index.0; reply = reply.0 }) a reply.2)
     (fourth.0.0, split_from t first.0 first.1 ∙ (λ i. p.0 i ++ 32 ∷ rest i), n.2, n.3, p.1, r.1)
 
 -- NAME HEX
@@ -82,20 +83,29 @@ ended_from t call e =
 
 -- ---- by the letter
 
-told_answered : (mode : Mode) (letter rest : List ℕ) (m : TranscriptMeaning) → (letter ≡ mode_letter mode) × (option_map Answered (answered_call mode rest) ≡ Some m) → SpellsTold m (letter ++ 32 ∷ rest)
-told_answered mode letter rest m h =
-    let x = mapped Answered (answered_call mode rest) m h.1 in
-    let read = answered_from mode rest x.0 x.1 in
-    let a = read.1 in
-    subst (λ said. SpellsTold said (letter ++ 32 ∷ rest)) x.2 ((a.0, (λ i. (h.0 ∙ ap mode_letter read.0) i ++ 32 ∷ a.1 i), a.2, a.3), a.4, a.5)
+abbrev answered_as : Mode → KeyedCall × ToldReply → TranscriptMeaning
+answered_as mode a = Answered mode a.0 a.1
 
-told_installed : (letter rest : List ℕ) (m : TranscriptMeaning) → (letter ≡ codes "i") × (option_map Installed (answered_install rest) ≡ Some m) → SpellsTold m (letter ++ 32 ∷ rest)
+abbrev installed_as : NewProgram × ToldReply → TranscriptMeaning
+installed_as a = Installed a.0 a.1
+
+told_answered : (mode : Mode) (letter rest : List ℕ) (m : TranscriptMeaning) → (letter ≡ mode_letter mode) × (option_map (answered_as mode) (answered_call rest) ≡ Some m) → SpellsTold m (letter ++ 32 ∷ rest)
+told_answered mode letter rest m h =
+    let x = mapped (answered_as mode) (answered_call rest) m h.1 in
+    let a = answered_from rest x.0 x.1 in
+    subst (λ said. SpellsTold said (letter ++ 32 ∷ rest)) x.2 ((a.0, (λ i. h.0 i ++ 32 ∷ a.1 i), a.2, a.3), a.4, a.5)
+
+told_installed : (letter rest : List ℕ) (m : TranscriptMeaning) → (letter ≡ codes "i") × (option_map installed_as (answered_install rest) ≡ Some m) → SpellsTold m (letter ++ 32 ∷ rest)
 told_installed letter rest m h =
-    let x = mapped Installed (answered_install rest) m h.1 in
+    let x = mapped installed_as (answered_install rest) m h.1 in
     let a = installed_from rest x.0 x.1 in
     subst (λ said. SpellsTold said (letter ++ 32 ∷ rest)) x.2 ((a.0, (λ i. h.0 i ++ 32 ∷ a.1 i), a.2, a.3), a.4, a.5)
 
-told_ended : (letter rest : List ℕ) (m : TranscriptMeaning) → (letter ≡ codes "e") × (ended_words rest ≡ Some m) → SpellsTold m (letter ++ 32 ∷ rest)
+-- behind `e`
+abbrev ended_told : List ℕ → Option TranscriptMeaning
+ended_told rest = option_or (option_map Ended (ended_call rest)) (option_map EndedInstall (new_program rest))
+
+told_ended : (letter rest : List ℕ) (m : TranscriptMeaning) → (letter ≡ codes "e") × (ended_told rest ≡ Some m) → SpellsTold m (letter ++ 32 ∷ rest)
 told_ended letter rest m h = by (ended_call rest) refl h.1
   where
     by : (o : Option KeyedCall) → ended_call rest ≡ o → option_or (option_map Ended o) (option_map EndedInstall (new_program rest)) ≡ Some m → SpellsTold m (letter ++ 32 ∷ rest)
@@ -159,34 +169,34 @@ said : (c : ℕ) (rest line : List ℕ) (m : TranscriptMeaning) → line ≡ c �
 said c rest line m whole le plain other e =
     subst (λ l. length l ≤ LINE_BYTES → transcript_line_meaning l ≡ Some m) (sym whole) (λ s. of_words c (32 ∷ rest) m s other (word_to (c ∷ []) rest m plain e)) le
 
-answered_to : (a : AnsweredCall) (digits : List ℕ) → IsKey a.call.key → SpellsBytes a.call.argument digits → IsNumber a.index → IsNumber a.reply
-    → answered_call a.mode (decimal a.index ++ 32 ∷ (key_text a.call.key ++ 32 ∷ (digits ++ 32 ∷ decimal a.reply))) ≡ Some a
+answered_to : (call : KeyedCall) (told : ToldReply) (digits : List ℕ) → IsKey call.key → SpellsBytes call.argument digits → IsNumber told.index → IsNumber told.reply
+    → answered_call (decimal told.index ++ 32 ∷ (key_text call.key ++ 32 ∷ (digits ++ 32 ∷ decimal told.reply))) ≡ Some (call, told)
 unfolding answered_call
-answered_to a digits key bytes p r =
+answered_to call told digits key bytes p r =
     rw (
-      split_to (decimal a.index) (key_text a.call.key ++ 32 ∷ (digits ++ 32 ∷ decimal a.reply)) (no_space_in_number a.index p),
-      split_to (key_text a.call.key) (digits ++ 32 ∷ decimal a.reply) (key_plain a.call.key key),
-      split_to digits (decimal a.reply) (bytes_plain digits a.call.argument bytes),
-      number_to a.index p,
-      keyed_to a.call digits key bytes,
-      number_to a.reply r,
+      split_to (decimal told.index) (key_text call.key ++ 32 ∷ (digits ++ 32 ∷ decimal told.reply)) (no_space_in_number told.index p),
+      split_to (key_text call.key) (digits ++ 32 ∷ decimal told.reply) (key_plain call.key key),
+      split_to digits (decimal told.reply) (bytes_plain digits call.argument bytes),
+      number_to told.index p,
+      keyed_to call digits key bytes,
+      number_to told.reply r,
     ) refl
 
-installed_to : (a : AnsweredInstall) (digits : List ℕ) → IsNumber a.program.arg_len → SpellsBytes a.program.bytes digits → IsNumber a.index → IsNumber a.reply
-    → answered_install (decimal a.index ++ 32 ∷ (mode_word a.program.mode ++ 32 ∷ (decimal a.program.arg_len ++ 32 ∷ (digits ++ 32 ∷ decimal a.reply)))) ≡ Some a
+installed_to : (new : NewProgram) (told : ToldReply) (digits : List ℕ) → IsNumber new.arg_len → SpellsBytes new.bytes digits → IsNumber told.index → IsNumber told.reply
+    → answered_install (decimal told.index ++ 32 ∷ (mode_word new.mode ++ 32 ∷ (decimal new.arg_len ++ 32 ∷ (digits ++ 32 ∷ decimal told.reply)))) ≡ Some (new, told)
 unfolding answered_install
-installed_to a digits len bytes p r =
+installed_to new told digits len bytes p r =
     rw (
-      split_to (decimal a.index) (mode_word a.program.mode ++ 32 ∷ (decimal a.program.arg_len ++ 32 ∷ (digits ++ 32 ∷ decimal a.reply))) (no_space_in_number a.index p),
-      split_to (mode_word a.program.mode) (decimal a.program.arg_len ++ 32 ∷ (digits ++ 32 ∷ decimal a.reply)) (no_space_in_mode a.program.mode),
-      split_to (decimal a.program.arg_len) (digits ++ 32 ∷ decimal a.reply) (no_space_in_number a.program.arg_len len),
-      split_to digits (decimal a.reply) (bytes_plain digits a.program.bytes bytes),
-      number_to a.index p,
-      program_to a.program digits len bytes,
-      number_to a.reply r,
+      split_to (decimal told.index) (mode_word new.mode ++ 32 ∷ (decimal new.arg_len ++ 32 ∷ (digits ++ 32 ∷ decimal told.reply))) (no_space_in_number told.index p),
+      split_to (mode_word new.mode) (decimal new.arg_len ++ 32 ∷ (digits ++ 32 ∷ decimal told.reply)) (no_space_in_mode new.mode),
+      split_to (decimal new.arg_len) (digits ++ 32 ∷ decimal told.reply) (no_space_in_number new.arg_len len),
+      split_to digits (decimal told.reply) (bytes_plain digits new.bytes bytes),
+      number_to told.index p,
+      program_to new digits len bytes,
+      number_to told.reply r,
     ) refl
 
-ended_to : (call : KeyedCall) (digits : List ℕ) → IsKey call.key → SpellsBytes call.argument digits → ended_words (key_text call.key ++ 32 ∷ digits) ≡ Some (Ended call)
+ended_to : (call : KeyedCall) (digits : List ℕ) → IsKey call.key → SpellsBytes call.argument digits → ended_told (key_text call.key ++ 32 ∷ digits) ≡ Some (Ended call)
 unfolding ended_call
 ended_to call digits key bytes = rw (split_to (key_text call.key) digits (key_plain call.key key), keyed_to call digits key bytes) refl
 
@@ -195,18 +205,20 @@ no_call : (word a b : List ℕ) → has_no_space word ≡ true → ended_call (w
 unfolding ended_call keyed_call
 no_call word a b plain = rw (split_to word (a ++ 32 ∷ b) plain, two_no_bytes a b) refl
 
-ended_install_to : (new : NewProgram) (digits : List ℕ) → IsNumber new.arg_len → SpellsBytes new.bytes digits → ended_words (mode_word new.mode ++ 32 ∷ (decimal new.arg_len ++ 32 ∷ digits)) ≡ Some (EndedInstall new)
+ended_install_to : (new : NewProgram) (digits : List ℕ) → IsNumber new.arg_len → SpellsBytes new.bytes digits → ended_told (mode_word new.mode ++ 32 ∷ (decimal new.arg_len ++ 32 ∷ digits)) ≡ Some (EndedInstall new)
 ended_install_to new digits len bytes = rw (no_call (mode_word new.mode) (decimal new.arg_len) digits (no_space_in_mode new.mode), new_to new digits len bytes) refl
 
-answered_line : (mode : Mode) (rest : List ℕ) (m : TranscriptMeaning) (line : List ℕ) → option_map Answered (answered_call mode rest) ≡ Some m → line ≡ mode_letter mode ++ 32 ∷ rest → length line ≤ LINE_BYTES → transcript_line_meaning line ≡ Some m
+answered_line : (mode : Mode) (rest : List ℕ) (m : TranscriptMeaning) (line : List ℕ) → option_map (answered_as mode) (answered_call rest) ≡ Some m → line ≡ mode_letter mode ++ 32 ∷ rest → length line ≤ LINE_BYTES → transcript_line_meaning line ≡ Some m
 answered_line Update rest m line e whole le = said _ rest line m whole le refl refl e
 answered_line Read rest m line e whole le = said _ rest line m whole le refl refl e
 
 pub respelled : (line : List ℕ) (m : TranscriptMeaning) → length line ≤ LINE_BYTES → SpellsTold m line → transcript_line_meaning line ≡ Some m
 respelled line Comment le (inl empty) = subst (λ l. transcript_line_meaning l ≡ Some Comment) (sym empty) empty_to
 respelled line Comment le (inr (rest, whole)) = subst (λ l. length l ≤ LINE_BYTES → transcript_line_meaning l ≡ Some Comment) (sym whole) (comment_to rest) le
-respelled line (Answered a) le h = answered_line a.mode _ (Answered a) line (ap (option_map Answered) (answered_to a h.0.0 h.0.2 h.0.3 h.1 h.2)) h.0.1 le
-respelled line (Installed a) le h = said _ _ line (Installed a) h.0.1 le refl refl (ap (option_map Installed) (installed_to a h.0.0 h.0.2 h.0.3 h.1 h.2))
+respelled line (Answered mode call told) le h =
+    answered_line mode _ (Answered mode call told) line (ap (option_map (answered_as mode)) (answered_to call told h.0.0 h.0.2 h.0.3 h.1 h.2)) h.0.1 le
+respelled line (Installed new told) le h =
+    said _ _ line (Installed new told) h.0.1 le refl refl (ap (option_map installed_as) (installed_to new told h.0.0 h.0.2 h.0.3 h.1 h.2))
 respelled line (Ended call) le h = said _ _ line (Ended call) h.1 le refl refl (ended_to call h.0 h.2 h.3)
 respelled line (EndedInstall new) le h = said _ _ line (EndedInstall new) h.1 le refl refl (ended_install_to new h.0 h.2 h.3)
 

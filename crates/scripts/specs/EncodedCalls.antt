@@ -14,10 +14,8 @@ pub record MeansItsCall (line written : List ℕ) : Type 0 where
   pub calls : CallsWith line name argument
   pub means : line_meaning written ≡ Some (Call (record { name = name; argument = argument }))
 
--- a comment and an empty line stay as they are, and of any other line its call is meant
-abbrev pub MeansItsLine : List ℕ → List ℕ → Type 0
-MeansItsLine line written = ((line_meaning line ≡ Some Comment) × (written ≡ line)) ⊎ MeansItsCall line written
-
--- line N of the script means the call of line N of the text
+-- line N of the script means the call of line N of the text; a comment and an empty line stay as they are
 abbrev pub EncodedLinesMean : Type 0
-EncodedLinesMean = (text script : List ℕ) → IsBytes text → encoded_text text ≡ Ok script → AllZip MeansItsLine (lines_of text) (lines_of script)
+EncodedLinesMean =
+    (text script : List ℕ) → IsBytes text → encoded_text text ≡ Ok script
+    → AllZip (λ line written. ((line_meaning line ≡ Some Comment) × (written ≡ line)) ⊎ MeansItsCall line written) (lines_of text) (lines_of script)

@@ -7,11 +7,12 @@ use Rattle.text.specs.Digits.{field_bytes}
 use Rattle.text.specs.Words.{is_name}
 use Rattle.loader.specs.Spelling.{mode_word}
 use Rattle.oplog.specs.Calls.{Call as NumberedCall, NewProgram}
-use Rattle.scripts.specs.Script.{ProgramCall, ProgramKey, Named, Numbered, KeyedCall, Meaning, Comment, Call, InvokeAt, ReadAt, Install, line_meaning}
+use Rattle.scripts.specs.Script.{ProgramKey, Named, Numbered, KeyedCall, Meaning, Comment, Call, InvokeAt, ReadAt, Install, line_meaning}
 use Rattle.scripts.specs.StepLine as steps
-use Rattle.scripts.specs.StepLine.{SlotAt, CallAt, InstallAt, StepMeaning, is_named_so, step_line_meaning}
+use Rattle.scripts.specs.StepLine.{StepMeaning, is_named_so, step_line_meaning}
+use Rattle.scripts.specs.declared.step_lines.SlotAt.{SlotAt}
 use Rattle.scripts.specs.Transcript as transcripts
-use Rattle.scripts.specs.Transcript.{AnsweredCall, AnsweredInstall, TranscriptMeaning, transcript_line_meaning}
+use Rattle.scripts.specs.Transcript.{TranscriptMeaning, transcript_line_meaning}
 
 -- ---- fields
 
@@ -59,13 +60,10 @@ abbrev pub SpellsNumbered : List ℕ → NumberedCall → List ℕ → Type 0
 SpellsNumbered word call line =
     (digits : List ℕ) × (line ≡ spaced (word ∷ decimal call.program ∷ digits ∷ [])) × IsNumber call.program × SpellsBytes call.argument digits
 
-abbrev pub SpellsCall : ProgramCall → List ℕ → Type 0
-SpellsCall call line = (digits : List ℕ) × (line ≡ spaced (call.name ∷ digits ∷ [])) × (is_name call.name ≡ true) × SpellsBytes call.argument digits
-
 -- the line of a script spells this
 abbrev pub Spells : Meaning → List ℕ → Type 0
 Spells Comment line = SaysNothing line
-Spells (Call call) line = SpellsCall call line
+Spells (Call call) line = (digits : List ℕ) × (line ≡ spaced (call.name ∷ digits ∷ [])) × (is_name call.name ≡ true) × SpellsBytes call.argument digits
 Spells (InvokeAt call) line = SpellsNumbered (codes "invoke") call line
 Spells (ReadAt call) line = SpellsNumbered (codes "read") call line
 Spells (Install new) line = SpellsProgram (codes "install" ∷ []) new [] line
@@ -77,13 +75,9 @@ EachLineIsItsSpelling = (line : List ℕ) (said : Meaning) → (line_meaning lin
 -- ---- steps
 
 -- WORD N S NAME HEX, or with a K that none of the n programs with names has
-abbrev pub SpellsCallAt : ℕ → List ℕ → CallAt → List ℕ → Type 0
-SpellsCallAt n word at line =
-    SpellsKeyed (word ∷ decimal at.node ∷ decimal at.slot ∷ []) at.call [] line × IsNumber at.node × IsNumber at.slot × (is_named_so n at.call.key ≡ true)
-
--- WORD N S MODE ARGLEN HEX
-abbrev pub SpellsInstallAt : List ℕ → InstallAt → List ℕ → Type 0
-SpellsInstallAt word at line = SpellsProgram (word ∷ decimal at.node ∷ decimal at.slot ∷ []) at.program [] line × IsNumber at.node × IsNumber at.slot
+abbrev pub SpellsCallAt : ℕ → List ℕ → SlotAt → KeyedCall → List ℕ → Type 0
+SpellsCallAt n word at call line =
+    SpellsKeyed (word ∷ decimal at.node ∷ decimal at.slot ∷ []) call [] line × IsNumber at.node × IsNumber at.slot × (is_named_so n call.key ≡ true)
 
 -- WORD N S
 abbrev pub SpellsSlotAt : List ℕ → SlotAt → List ℕ → Type 0
@@ -96,9 +90,9 @@ SpellsNode word node line = (line ≡ spaced (word ∷ decimal node ∷ [])) × 
 -- the line of a list of steps spells this, where n programs have names
 abbrev pub SpellsStep : ℕ → StepMeaning → List ℕ → Type 0
 SpellsStep n steps.Comment line = SaysNothing line
-SpellsStep n (steps.Post at) line = SpellsCallAt n (codes "post") at line
-SpellsStep n (steps.Install at) line = SpellsInstallAt (codes "install") at line
-SpellsStep n (steps.ReadBegin at) line = SpellsCallAt n (codes "readbegin") at line
+SpellsStep n (steps.Post at call) line = SpellsCallAt n (codes "post") at call line
+SpellsStep n (steps.Install at new) line = SpellsProgram (codes "install" ∷ decimal at.node ∷ decimal at.slot ∷ []) new [] line × IsNumber at.node × IsNumber at.slot
+SpellsStep n (steps.ReadBegin at call) line = SpellsCallAt n (codes "readbegin") at call line
 SpellsStep n (steps.Collect at) line = SpellsSlotAt (codes "collect") at line
 SpellsStep n (steps.ReadAnswer at) line = SpellsSlotAt (codes "readanswer") at line
 SpellsStep n (steps.Claim node) line = SpellsNode (codes "claim") node line
@@ -124,10 +118,10 @@ mode_letter Read = codes "r"
 -- the line of a transcript spells this
 abbrev pub SpellsTold : TranscriptMeaning → List ℕ → Type 0
 SpellsTold transcripts.Comment line = SaysNothing line
-SpellsTold (transcripts.Answered a) line =
-    SpellsKeyed (mode_letter a.mode ∷ decimal a.index ∷ []) a.call (decimal a.reply ∷ []) line × IsNumber a.index × IsNumber a.reply
-SpellsTold (transcripts.Installed a) line =
-    SpellsProgram (codes "i" ∷ decimal a.index ∷ []) a.program (decimal a.reply ∷ []) line × IsNumber a.index × IsNumber a.reply
+SpellsTold (transcripts.Answered mode call told) line =
+    SpellsKeyed (mode_letter mode ∷ decimal told.index ∷ []) call (decimal told.reply ∷ []) line × IsNumber told.index × IsNumber told.reply
+SpellsTold (transcripts.Installed new told) line =
+    SpellsProgram (codes "i" ∷ decimal told.index ∷ []) new (decimal told.reply ∷ []) line × IsNumber told.index × IsNumber told.reply
 SpellsTold (transcripts.Ended call) line = SpellsKeyed (codes "e" ∷ []) call [] line
 SpellsTold (transcripts.EndedInstall new) line = SpellsProgram (codes "e" ∷ []) new [] line
 

@@ -8,20 +8,15 @@ use Rattle.scripts.specs.declared.script.ProgramKey.TheVariants as keys
 use Rattle.scripts.specs.declared.script.KeyedCall.{KeyedCall as TheKeyedCall}
 use Rattle.scripts.specs.declared.script.ScriptLine.{ScriptLine}
 use Rattle.scripts.specs.declared.script.ScriptLine.TheVariants as lines
-use Rattle.scripts.specs.declared.step_lines.SlotAt.{SlotAt as TheSlotAt}
-use Rattle.scripts.specs.declared.step_lines.CallAt.{CallAt as TheCallAt}
-use Rattle.scripts.specs.declared.step_lines.InstallAt.{InstallAt as TheInstallAt}
 use Rattle.scripts.specs.declared.step_lines.StepLine.{StepLine}
 use Rattle.scripts.specs.declared.step_lines.StepLine.TheVariants as steps
-use Rattle.scripts.specs.declared.transcripts.AnsweredCall.{AnsweredCall as TheAnsweredCall}
-use Rattle.scripts.specs.declared.transcripts.AnsweredInstall.{AnsweredInstall as TheAnsweredInstall}
 use Rattle.scripts.specs.declared.transcripts.TranscriptLine.{TranscriptLine}
 use Rattle.scripts.specs.declared.transcripts.TranscriptLine.TheVariants as told
 use Rattle.scripts.specs.Script.{ProgramCall, ProgramKey, Named, Numbered, KeyedCall, Meaning, Comment, Call, InvokeAt, ReadAt, Install}
 use Rattle.scripts.specs.StepLine as said
-use Rattle.scripts.specs.StepLine.{StepMeaning, SlotAt, CallAt, InstallAt}
+use Rattle.scripts.specs.StepLine.{StepMeaning}
 use Rattle.scripts.specs.Transcript as telling
-use Rattle.scripts.specs.Transcript.{TranscriptMeaning, AnsweredCall, AnsweredInstall}
+use Rattle.scripts.specs.Transcript.{TranscriptMeaning}
 
 abbrev pub call_of : TheCall → ProgramCall
 call_of c = record { name = c.name.now; argument = c.argument.items }
@@ -49,22 +44,13 @@ meaning_of (lines.Install p) = Install (program_of p)
 
 -- ---- steps
 
-abbrev pub slot_of : TheSlotAt → SlotAt
-slot_of at = record { node = at.node; slot = at.slot }
-
-abbrev pub slot_call_of : TheCallAt → CallAt
-slot_call_of at = record { node = at.node; slot = at.slot; call = keyed_of at.call }
-
-abbrev pub slot_program_of : TheInstallAt → InstallAt
-slot_program_of at = record { node = at.node; slot = at.slot; program = program_of at.program }
-
 abbrev pub step_of : StepLine → StepMeaning
 step_of steps.Comment = said.Comment
-step_of (steps.Post at) = said.Post (slot_call_of at)
-step_of (steps.Install at) = said.Install (slot_program_of at)
-step_of (steps.ReadBegin at) = said.ReadBegin (slot_call_of at)
-step_of (steps.Collect at) = said.Collect (slot_of at)
-step_of (steps.ReadAnswer at) = said.ReadAnswer (slot_of at)
+step_of (steps.Post at call) = said.Post at (keyed_of call)
+step_of (steps.Install at new) = said.Install at (program_of new)
+step_of (steps.ReadBegin at call) = said.ReadBegin at (keyed_of call)
+step_of (steps.Collect at) = said.Collect at
+step_of (steps.ReadAnswer at) = said.ReadAnswer at
 step_of (steps.Claim node) = said.Claim node
 step_of (steps.Append node) = said.Append node
 step_of (steps.Replay node) = said.Replay node
@@ -75,15 +61,9 @@ step_of (steps.Rebase node) = said.Rebase node
 
 -- ---- transcripts
 
-abbrev pub answered_of : TheAnsweredCall → AnsweredCall
-answered_of a = record { mode = a.mode; index = a.index; call = keyed_of a.call; reply = a.reply }
-
-abbrev pub installed_of : TheAnsweredInstall → AnsweredInstall
-installed_of a = record { index = a.index; program = program_of a.program; reply = a.reply }
-
 abbrev pub told_of : TranscriptLine → TranscriptMeaning
 told_of told.Comment = telling.Comment
-told_of (told.Answered a) = telling.Answered (answered_of a)
-told_of (told.Installed a) = telling.Installed (installed_of a)
+told_of (told.Answered mode call reply) = telling.Answered mode (keyed_of call) reply
+told_of (told.Installed new reply) = telling.Installed (program_of new) reply
 told_of (told.Ended c) = telling.Ended (keyed_of c)
 told_of (told.EndedInstall p) = telling.EndedInstall (program_of p)

@@ -4,31 +4,15 @@ use Rattle.text.specs.Lines.{kind_of, by_kind}
 use Rattle.text.specs.Fields.{split_at_space}
 use Rattle.text.specs.Words.{◌>>=◌, number_of}
 use Rattle.oplog.specs.Calls.{NewProgram}
+use Rattle.scripts.specs.declared.step_lines.SlotAt.{SlotAt}
 use Rattle.scripts.specs.Script.{ProgramKey, Named, Numbered, KeyedCall, keyed_call, new_program}
 
--- a slot of a node
-pub record SlotAt : Type 0 where
-  pub node : ℕ
-  pub slot : ℕ
-
--- a call of a program at a slot of a node
-pub record CallAt : Type 0 where
-  pub node : ℕ
-  pub slot : ℕ
-  pub call : KeyedCall
-
--- a program to be installed by a slot of a node
-pub record InstallAt : Type 0 where
-  pub node : ℕ
-  pub slot : ℕ
-  pub program : NewProgram
-
--- a comment or an empty line, or a step: of a call, of an install, of a slot, or of a node
+-- a comment or an empty line, or a step: of a call or an install at a slot of a node, of such a slot, or of a node
 pub data StepMeaning : Type 0 where
   Comment : StepMeaning
-  Post : CallAt → StepMeaning
-  Install : InstallAt → StepMeaning
-  ReadBegin : CallAt → StepMeaning
+  Post : SlotAt → KeyedCall → StepMeaning
+  Install : SlotAt → NewProgram → StepMeaning
+  ReadBegin : SlotAt → KeyedCall → StepMeaning
   Collect : SlotAt → StepMeaning
   ReadAnswer : SlotAt → StepMeaning
   Claim : ℕ → StepMeaning
@@ -53,7 +37,7 @@ is_named_so n (Named name) = true
 is_named_so n (Numbered k) = nat_le n k
 
 -- N S NAME HEX, or with such a K in the place of NAME
-unfoldable pub call_at : ℕ → List ℕ → Option CallAt
+unfoldable pub call_at : ℕ → List ℕ → Option (SlotAt × KeyedCall)
 call_at n text = do
   first ← split_at_space text
   second ← split_at_space first.1
@@ -61,17 +45,17 @@ call_at n text = do
   node ← number_of first.0
   slot ← number_of second.0
   call ← keyed_call third.0 third.1
-  if is_named_so n call.key then Some (record { node = node; slot = slot; call = call }) else None
+  if is_named_so n call.key then Some (record { node = node; slot = slot }, call) else None
 
 -- N S MODE ARGLEN HEX
-unfoldable pub install_at : List ℕ → Option InstallAt
+unfoldable pub install_at : List ℕ → Option (SlotAt × NewProgram)
 install_at text = do
   first ← split_at_space text
   second ← split_at_space first.1
   node ← number_of first.0
   slot ← number_of second.0
   program ← new_program second.1
-  Some (record { node = node; slot = slot; program = program })
+  Some (record { node = node; slot = slot }, program)
 
 -- the step of a node that has this word
 abbrev pub node_step : List ℕ → ℕ → Option StepMeaning
@@ -85,21 +69,15 @@ node_step word node =
     else if bytes_eq word (codes "rebase") then Some (Rebase node)
     else None
 
--- N
-unfoldable pub node_words : List ℕ → List ℕ → Option StepMeaning
-node_words word text = do
-  node ← number_of text
-  node_step word node
-
--- by the first word
+-- by the first word; behind that of a step of a node stands N
 abbrev pub step_words : ℕ → List ℕ → List ℕ → Option StepMeaning
 step_words n word rest =
-    if bytes_eq word (codes "post") then option_map Post (call_at n rest)
-    else if bytes_eq word (codes "install") then option_map Install (install_at rest)
-    else if bytes_eq word (codes "readbegin") then option_map ReadBegin (call_at n rest)
+    if bytes_eq word (codes "post") then option_map (λ at. Post at.0 at.1) (call_at n rest)
+    else if bytes_eq word (codes "install") then option_map (λ at. Install at.0 at.1) (install_at rest)
+    else if bytes_eq word (codes "readbegin") then option_map (λ at. ReadBegin at.0 at.1) (call_at n rest)
     else if bytes_eq word (codes "collect") then option_map Collect (slot_at rest)
     else if bytes_eq word (codes "readanswer") then option_map ReadAnswer (slot_at rest)
-    else node_words word rest
+    else number_of rest >>= node_step word
 
 unfoldable pub step_meaning : ℕ → List ℕ → Option StepMeaning
 step_meaning n line = do

@@ -11,5 +11,5 @@ pub use script::{
     KeyedCall, NumberedCall, ProgramCall, ProgramKey, ProgramText, ScriptLine, lent_argument,
     read_line, word_line,
 };
-pub use step_lines::{CallAt, InstallAt, SlotAt, StepLine, read_step_line};
-pub use transcripts::{AnsweredCall, AnsweredInstall, TranscriptLine, read_transcript_line};
+pub use step_lines::{SlotAt, StepLine, read_step_line};
+pub use transcripts::{ToldReply, TranscriptLine, read_transcript_line};

@@ -1,8 +1,8 @@
 // The lines of a list of steps.
 
 ghost use Rattle.std.specs.Prelude.{◌≡◌, ◌≤◌, length, option_map};
-ghost use Rattle.scripts.specs.StepLine.{is_named_so, slot_at, call_at, install_at, node_step, node_words, step_meaning, step_line_meaning};
-ghost use Rattle.scripts.specs.ScriptShown.{key_of, slot_of, slot_call_of, slot_program_of, step_of};
+ghost use Rattle.scripts.specs.StepLine.{is_named_so, slot_at, call_at, install_at, node_step, step_meaning, step_line_meaning};
+ghost use Rattle.scripts.specs.ScriptShown.{key_of, keyed_of, program_of, step_of};
 
 use crate::script::{KeyedCall, ProgramKey, ProgramText, keyed_call, new_program};
 use text::{LINE_BYTES, LineKind, kind_of, number, split_at_space};
@@ -14,29 +14,13 @@ pub struct SlotAt {
     pub slot: u64,
 }
 
-/// A call of a program at a slot of a node.
-#[derive(Drop)]
-pub struct CallAt<'a> {
-    pub node: u64,
-    pub slot: u64,
-    pub call: KeyedCall<'a>,
-}
-
-/// A program to be installed by a slot of a node.
-#[derive(Drop)]
-pub struct InstallAt {
-    pub node: u64,
-    pub slot: u64,
-    pub program: ProgramText,
-}
-
-/// What a line says: a step of a call, of an install, of a slot, or of a node.
+/// What a line says: a step of a call or of an install at a slot of a node, of such a slot, or of a node.
 #[derive(Drop)]
 pub enum StepLine<'a> {
     Comment,
-    Post(CallAt<'a>),
-    Install(InstallAt),
-    ReadBegin(CallAt<'a>),
+    Post(SlotAt, KeyedCall<'a>),
+    Install(SlotAt, ProgramText),
+    ReadBegin(SlotAt, KeyedCall<'a>),
     Collect(SlotAt),
     ReadAnswer(SlotAt),
     Claim(u64),
@@ -51,7 +35,7 @@ pub enum StepLine<'a> {
 // N S
 #[tactic(auto, unfolding(crate::specs::StepLine::slot_at))]
 fn slot_at(text: &str) -> Option<SlotAt>
-    ensures { option_map slot_of result ≡ slot_at text.now }
+    ensures { result ≡ slot_at text.now }
 {
     let (node, slot) = split_at_space(text)?;
     let node = number(node)?;
@@ -71,9 +55,9 @@ fn is_named_so(programs: u64, key: ProgramKey<'_>) -> bool
 
 // N S NAME HEX, or with K in the place of NAME
 #[tactic(auto, unfolding(crate::specs::StepLine::call_at))]
-fn call_at(programs: u64, text: &str) -> Option<CallAt<'_>>
+fn call_at(programs: u64, text: &str) -> Option<(SlotAt, KeyedCall<'_>)>
     requires { length text.now ≤ LINE_BYTES }
-    ensures { option_map slot_call_of result ≡ call_at programs text.now }
+    ensures { option_map (λ at. (at.0, keyed_of at.1)) result ≡ call_at programs text.now }
 {
     let (node, rest) = split_at_space(text)?;
     let (slot, rest) = split_at_space(rest)?;
@@ -81,22 +65,20 @@ fn call_at(programs: u64, text: &str) -> Option<CallAt<'_>>
     let node = number(node)?;
     let slot = number(slot)?;
     let call = keyed_call(name, digits)?;
-    is_named_so(programs, call.key).then_some(CallAt { node, slot, call })
+    is_named_so(programs, call.key).then_some((SlotAt { node, slot }, call))
 }
 
 // N S MODE ARGLEN HEX
 #[tactic(auto, unfolding(crate::specs::StepLine::install_at))]
-fn install_at(text: &str) -> Option<InstallAt>
+fn install_at(text: &str) -> Option<(SlotAt, ProgramText)>
     requires { length text.now ≤ LINE_BYTES }
-    ensures { option_map slot_program_of result ≡ install_at text.now }
+    ensures { option_map (λ at. (at.0, program_of at.1)) result ≡ install_at text.now }
 {
     let (node, rest) = split_at_space(text)?;
     let (slot, rest) = split_at_space(rest)?;
-    Some(InstallAt {
-        node: number(node)?,
-        slot: number(slot)?,
-        program: new_program(rest)?,
-    })
+    let node = number(node)?;
+    let slot = number(slot)?;
+    Some((SlotAt { node, slot }, new_program(rest)?))
 }
 
 // The step of a node that has this word.
@@ -116,16 +98,25 @@ fn node_step(word: &str, node: u64) -> Option<StepLine<'_>>
 }
 
 // The step that the words of a line say.
-#[tactic(auto, unfolding(crate::specs::StepLine::step_meaning, crate::specs::StepLine::node_words))]
+#[tactic(auto, unfolding(crate::specs::StepLine::step_meaning))]
 fn step_words(programs: u64, line: &str) -> Option<StepLine<'_>>
     requires { length line.now ≤ LINE_BYTES }
     ensures { option_map step_of result ≡ step_meaning programs line.now }
 {
     let (word, rest) = split_at_space(line)?;
     Some(match word {
-        "post" => StepLine::Post(call_at(programs, rest)?),
-        "install" => StepLine::Install(install_at(rest)?),
-        "readbegin" => StepLine::ReadBegin(call_at(programs, rest)?),
+        "post" => {
+            let (at, call) = call_at(programs, rest)?;
+            StepLine::Post(at, call)
+        }
+        "install" => {
+            let (at, program) = install_at(rest)?;
+            StepLine::Install(at, program)
+        }
+        "readbegin" => {
+            let (at, call) = call_at(programs, rest)?;
+            StepLine::ReadBegin(at, call)
+        }
         "collect" => StepLine::Collect(slot_at(rest)?),
         "readanswer" => StepLine::ReadAnswer(slot_at(rest)?),
         _ => return node_step(word, number(rest)?),

@@ -1,33 +1,20 @@
 // The lines of a transcript.
 
 ghost use Rattle.std.specs.Prelude.{◌≡◌, ◌≤◌, length, option_map};
-ghost use Rattle.scripts.specs.Transcript.{Answered, Installed, answered_call, answered_install, ended_call, ended_words, transcript_meaning, transcript_line_meaning};
+ghost use Rattle.std.specs.Option.{option_or};
+ghost use Rattle.scripts.specs.Script.{new_program};
+ghost use Rattle.scripts.specs.Transcript.{Answered, Installed, Ended, EndedInstall, answered_call, answered_install, ended_call, transcript_meaning, transcript_line_meaning};
 ghost use Rattle.scripts.specs.ScriptShown.{keyed_of, told_of};
 
 use crate::script::{KeyedCall, ProgramText, keyed_call, new_program, program_fields};
 use text::{LINE_BYTES, LineKind, kind_of, number, split_at_space};
 use verifier::Mode;
 
-/// A call that was answered: the number of updates before it, and the reply.
-#[derive(Drop)]
-pub struct AnsweredCall<'a> {
-    /// Whether it is an update or a read.
-    pub mode: Mode,
+/// Where a call was answered, and its reply.
+#[derive(Clone, Copy)]
+pub struct ToldReply {
     /// The number of updates before it.
     pub index: u64,
-    /// The call.
-    pub call: KeyedCall<'a>,
-    /// What it replied.
-    pub reply: u64,
-}
-
-/// An install that was answered: the number of updates before it, and the reply.
-#[derive(Drop)]
-pub struct AnsweredInstall {
-    /// The number of updates before it.
-    pub index: u64,
-    /// What was to be installed.
-    pub program: ProgramText,
     /// What it replied.
     pub reply: u64,
 }
@@ -38,9 +25,9 @@ pub enum TranscriptLine<'a> {
     /// A comment or an empty line.
     Comment,
     /// An update or a read that was answered.
-    Answered(AnsweredCall<'a>),
+    Answered(Mode, KeyedCall<'a>, ToldReply),
     /// An install that was answered.
-    Installed(AnsweredInstall),
+    Installed(ProgramText, ToldReply),
     /// An update that was told that the history has ended.
     Ended(KeyedCall<'a>),
     /// An install that was told so.
@@ -51,34 +38,31 @@ pub enum TranscriptLine<'a> {
 #[tactic(auto, unfolding(crate::specs::Transcript::answered_call))]
 fn answered_line(mode: Mode, text: &str) -> Option<TranscriptLine<'_>>
     requires { length text.now ≤ LINE_BYTES }
-    ensures { option_map told_of result ≡ option_map Answered (answered_call mode text.now) }
+    ensures { option_map told_of result ≡ option_map (λ a. Answered mode a.0 a.1) (answered_call text.now) }
 {
     let (index, rest) = split_at_space(text)?;
     let (name, rest) = split_at_space(rest)?;
     let (digits, reply) = split_at_space(rest)?;
-    Some(TranscriptLine::Answered(AnsweredCall {
-        mode,
-        index: number(index)?,
-        call: keyed_call(name, digits)?,
-        reply: number(reply)?,
-    }))
+    let index = number(index)?;
+    let call = keyed_call(name, digits)?;
+    let reply = number(reply)?;
+    Some(TranscriptLine::Answered(mode, call, ToldReply { index, reply }))
 }
 
 // PLACE MODE ARGLEN HEX REPLY
 #[tactic(auto, unfolding(crate::specs::Transcript::answered_install))]
 fn installed_line<'a>(text: &str) -> Option<TranscriptLine<'a>>
     requires { length text.now ≤ LINE_BYTES }
-    ensures { option_map told_of result ≡ option_map Installed (answered_install text.now) }
+    ensures { option_map told_of result ≡ option_map (λ a. Installed a.0 a.1) (answered_install text.now) }
 {
     let (index, rest) = split_at_space(text)?;
     let (word, rest) = split_at_space(rest)?;
     let (arg_len, rest) = split_at_space(rest)?;
     let (digits, reply) = split_at_space(rest)?;
-    Some(TranscriptLine::Installed(AnsweredInstall {
-        index: number(index)?,
-        program: program_fields(word, arg_len, digits)?,
-        reply: number(reply)?,
-    }))
+    let index = number(index)?;
+    let program = program_fields(word, arg_len, digits)?;
+    let reply = number(reply)?;
+    Some(TranscriptLine::Installed(program, ToldReply { index, reply }))
 }
 
 // NAME HEX, or with K in the place of NAME
@@ -94,7 +78,7 @@ fn ended_call(text: &str) -> Option<KeyedCall<'_>>
 // The same, or MODE ARGLEN HEX
 fn ended_line(text: &str) -> Option<TranscriptLine<'_>>
     requires { length text.now ≤ LINE_BYTES }
-    ensures { option_map told_of result ≡ ended_words text.now }
+    ensures { option_map told_of result ≡ option_or (option_map Ended (ended_call text.now)) (option_map EndedInstall (new_program text.now)) }
 {
     match ended_call(text) {
         Some(call) => Some(TranscriptLine::Ended(call)),

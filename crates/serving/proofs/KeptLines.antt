@@ -3,14 +3,13 @@ use Rattle.std.proofs.Common.{◌≡◌, ℕ, ◌<◌, ◌≤◌, Bool, true, fa
 use Rattle.std.specs.Prelude.{nat_lt}
 use Rattle.std.proofs.lemmas.List.{take_all, take-append-le, length-take, length-take-le, length-append}
 use Rattle.std.proofs.lemmas.Bool.{ltb-true, ltb-false, lt-ltb}
-use Rattle.std.specs.Str.{IsUtf8}
+use Rattle.std.specs.Str.{IsUtf8, is_utf8}
 use Rattle.std.proofs.lemmas.Str.{IsUtf8-from_is_utf8}
 use Rattle.text.specs.Lines.{kind_of}
 use Rattle.loader.specs.CatalogueView.{CatalogueView}
 use Rattle.oplog.specs.declared.configuration.TheConstants.{ENDLESS}
 use Rattle.oplog.specs.History.{History}
 use Rattle.serving.specs.declared.service.TheConstants.{KEPT_BYTES}
-use Rattle.engine.specs.Files.{is_text}
 use Rattle.scripts.specs.Script.{line_meaning}
 use Rattle.running.specs.RunAnswer.{Turn, line_turn}
 use Rattle.serving.specs.ServeAnswer.{text_turn}
@@ -24,7 +23,7 @@ either_way true t none = none
 either_way false t none = refl
 
 long_turn : (c : CatalogueView) (h : History) (line : List ℕ) → 512 < length line → text_turn c h line ≡ None
-long_turn c h line lt = either_way (is_text line) (line_turn ENDLESS c h line) (too_long c h line lt)
+long_turn c h line lt = either_way (is_utf8 line) (line_turn ENDLESS c h line) (too_long c h line lt)
 
 pub kept_turn : (c : CatalogueView) (h : History) (line : List ℕ) → text_turn c h (take KEPT_BYTES line) ≡ text_turn c h line
 kept_turn c h line = by_length (nat_lt 512 (length line)) refl
@@ -46,16 +45,16 @@ kept_full line left b is le =
     is ∙ sym (take-append-le KEPT_BYTES line (b ∷ []) long)
 
 -- what is kept of a line is read
-pub read_turn : (c : CatalogueView) (h : History) (line kept : List ℕ) → kept ≡ take KEPT_BYTES line → is_text kept ≡ true → line_turn ENDLESS c h kept ≡ text_turn c h line
+pub read_turn : (c : CatalogueView) (h : History) (line kept : List ℕ) → kept ≡ take KEPT_BYTES line → is_utf8 kept ≡ true → line_turn ENDLESS c h kept ≡ text_turn c h line
 read_turn c h line kept is text = sym (sym (kept_turn c h line) ∙ ap (text_turn c h) (sym is) ∙ rw text refl)
 
 -- or is no text
-pub no_turn : (c : CatalogueView) (h : History) (line kept : List ℕ) → kept ≡ take KEPT_BYTES line → is_text kept ≡ false → text_turn c h line ≡ None
+pub no_turn : (c : CatalogueView) (h : History) (line kept : List ℕ) → kept ≡ take KEPT_BYTES line → is_utf8 kept ≡ false → text_turn c h line ≡ None
 no_turn c h line kept is off = sym (kept_turn c h line) ∙ ap (text_turn c h) (sym is) ∙ rw off refl
 
-pub no_text : (bytes : List ℕ) → (IsUtf8 bytes → ⊥) → is_text bytes ≡ false
-no_text bytes not = by_test (is_text bytes) refl
+pub no_text : (bytes : List ℕ) → (IsUtf8 bytes → ⊥) → is_utf8 bytes ≡ false
+no_text bytes not = by_test (is_utf8 bytes) refl
   where
-    by_test : (b : Bool) → is_text bytes ≡ b → is_text bytes ≡ false
+    by_test : (b : Bool) → is_utf8 bytes ≡ b → is_utf8 bytes ≡ false
     by_test false is = is
     by_test true is = absurd (not (IsUtf8-from_is_utf8 bytes is))

@@ -5,9 +5,12 @@ use Rattle.std.proofs.lemmas.List.{take_more, append-nil}
 use Rattle.std.proofs.lemmas.Bool.{ne_eqb}
 use Rattle.loader.specs.CatalogueView.{CatalogueView}
 use Rattle.serving.specs.declared.service.Service.{Service}
-use Rattle.serving.specs.ServeAnswer.{Serving, Served, served, served_behind, turn_at, behind_line, with_byte}
-use Rattle.serving.specs.ServeLaws.{and_then}
-use Rattle.serving.specs.Serving.{Stands}
+use Rattle.serving.specs.ServeAnswer.{Serving, Served, served, served_behind, turn_at, behind_line}
+use Rattle.serving.specs.Serving.{Stands, with_byte}
+
+-- bytes that were served, and then others
+abbrev and_then : CatalogueView → Served → List ℕ → Served
+and_then c before bytes = served_behind before.text (served c before.serving bytes)
 
 behind_behind : (xs ys : List ℕ) (t : Served) → served_behind xs (served_behind ys t) ≡ served_behind (xs ++ ys) t
 behind_behind xs ys t = ap (λ (z : List ℕ). record { text = z; serving = t.serving }) (sym (append_assoc xs ys t.text))

@@ -1,28 +1,31 @@
 -- What `serve` did, from what was opened.
 use Rattle.std.proofs.Common.{◌≡◌, ◌⊎◌, inl, inr, ℕ, List, [], Option, None, Result, Ok, Err, refl, sym, ap, subst, ◌∙◌}
-use Rattle.std.specs.Prelude.{IfOk}
+use Rattle.std.specs.Prelude.{IfOk, MatchResult}
 use Rattle.std.specs.Io.KnownBytes.{Appends, Keeps}
 use Rattle.loader.specs.CatalogueView.{CatalogueView}
-use Rattle.loader.specs.StoreState.{StoreState}
 use Rattle.serving.specs.declared.turns.ServeEnd.{ServeEnd}
 use Rattle.engine.specs.declared.replies.Reply.{Reply}
 use Rattle.engine.specs.declared.opening.Opened.{Opened}
-use Rattle.engine.specs.declared.opening.Opened.TheVariants as opens
 use Rattle.engine.specs.declared.replies.Status.{Status}
 use Rattle.engine.specs.declared.replies.Status.TheVariants as statuses
 use Rattle.engine.specs.declared.transfer.ReadFault.{ReadFault}
 use Rattle.engine.specs.declared.transfer.ReadFault.TheVariants as faults
 use Rattle.engine.specs.Answer.{Answer}
-use Rattle.engine.specs.Engine.{Writes}
+use Rattle.engine.specs.Engine.{Reports, Writes}
 use Rattle.engine.specs.Opening.{IsOpened, on_which}
 use Rattle.engine.specs.ReadFaults.{IfCannotRead}
 use Rattle.engine.specs.Reading.{TextsRead}
 use Rattle.engine.specs.Report.{Failed, Sends, answer_of}
 use Rattle.engine.specs.Texts.{no_memory_line}
 use Rattle.engine.proofs.Reports.{reports}
-use Rattle.serving.specs.ServeAnswer.{Serves, ServesBytes, served_text, nothing_served, state_served, service}
+use Rattle.serving.specs.ServeAnswer.{Serves, served_text, nothing_served, service}
 use Rattle.serving.proofs.Served.{none_served}
-use Rattle.serving.proofs.Turned.{appends_none, appends_kept, consumes_none, never_good, no_memory_at, none_given}
+use Rattle.serving.proofs.Turned.{appends_none, appends_kept, consumes_none, never_good, no_memory_at, none_given, state_served}
+
+-- what `serve` did with bytes that are known of its reader and its writer
+abbrev ServesBytes : Result CatalogueView Answer → (given left old new : Option (List ℕ)) → ServeEnd → Type 0
+ServesBytes opening given left old new ended =
+    MatchResult opening (λ c. Serves c given left old new ended) (λ a. Reports answer_of (λ r. answer_of r ≡ a) old new ended.status × (ended.state ≡ None) × (left ≡ given))
 
 -- ---- nothing was served
 

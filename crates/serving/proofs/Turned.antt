@@ -14,10 +14,16 @@ use Rattle.serving.specs.declared.service.Service.{Service}
 use Rattle.engine.specs.Transfer.{AppendsBeginning}
 use Rattle.engine.specs.Texts.{no_memory_line}
 use Rattle.engine.specs.Report.{Sends}
-use Rattle.running.specs.KeptRun.{state_left}
-use Rattle.serving.specs.ServeAnswer.{Serving, Served, served, served_text, nothing_served, given_back, state_served, AnswersBytes, Serves}
+use Rattle.oplog.specs.declared.configuration.TheConstants.{ENDLESS}
+use Rattle.running.specs.RunAnswer.{state_of}
+use Rattle.running.proofs.Turns as run_turns
+use Rattle.serving.specs.ServeAnswer.{Serving, Served, served, served_text, nothing_served, given_back, AnswersBytes, Serves}
 use Rattle.serving.specs.Serving.{Stands, TakesBytes, Turns, Going}
 use Rattle.serving.proofs.Served.{served_parts, none_served}
+
+-- the state that the lines of an input leave which are answered
+abbrev pub state_served : CatalogueView → List ℕ → StoreState
+state_served c bytes = state_of c (served c nothing_served bytes).serving.history
 
 -- ---- known bytes
 
@@ -172,7 +178,8 @@ module _ (c at_turn : CatalogueView) (same : at_turn ≡ c) (service after : Ser
   -- the state that it stands behind
   stands_at : service.catalogue ≡ c → service.node.own.replica.state ≡ state_served c going.bytes
   stands_at at =
-      subst (λ (x : CatalogueView). service.node.own.replica.state ≡ state_left x (served c nothing_served going.bytes).serving.history) at going.stands.follows.state
+      let history = (served c nothing_served going.bytes).serving.history in
+      subst (λ (x : CatalogueView). service.node.own.replica.state ≡ state_of x history) at (sym (run_turns.here ENDLESS service.catalogue history service.node going.stands.follows))
 
   -- is given back, since nothing was read where all is well
   back : (status : Status) (bytes : List ℕ) (state : Option StoreState) → service.catalogue ≡ c → (status ≡ statuses.Good → after ≡ service) → (status ≡ statuses.Good → bytes ≡ [])

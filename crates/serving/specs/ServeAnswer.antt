@@ -1,6 +1,7 @@
 -- What `serve` writes: the answer of each line as soon as it ends, as `run` writes it; a bad line is answered too, and does not end it. And the
 -- state that it leaves.
-use Rattle.std.specs.Prelude.{◌≡◌, ◌⊎◌, ℕ, List, [], ◌∷◌, ◌++◌, take, Option, Some, None, Result, Ok, Err, ◌==◌, if◌then◌else◌}
+use Rattle.std.specs.Prelude.{◌≡◌, ◌⊎◌, ℕ, List, [], ◌∷◌, ◌++◌, take, Option, Some, None, unwrap_or, Result, Err, MatchResult, ◌==◌, if◌then◌else◌}
+use Rattle.std.specs.Str.{is_utf8}
 use Rattle.std.specs.Io.KnownBytes.{Appends, Consumes, IsAtEnd}
 use Rattle.text.specs.Lines.{next_line}
 use Rattle.loader.specs.StoreState.{StoreState}
@@ -10,13 +11,11 @@ use Rattle.oplog.specs.History.{History}
 use Rattle.serving.specs.declared.turns.ServeEnd.{ServeEnd}
 use Rattle.engine.specs.declared.replies.Status.{Status}
 use Rattle.engine.specs.declared.replies.Status.TheVariants as statuses
-use Rattle.engine.specs.Files.{is_text}
 use Rattle.engine.specs.Texts.{no_memory_line}
 use Rattle.engine.specs.Answer.{Answer, not_text}
-use Rattle.running.specs.RunAnswer.{Turn, bad_line_text, line_turn}
+use Rattle.running.specs.RunAnswer.{Turn, bad_line, line_turn, state_of}
 use Rattle.engine.specs.Reading.{Given, TextsRead, read}
 use Rattle.engine.specs.Opening.{opening, places_within}
-use Rattle.running.specs.KeptRun.{state_left}
 use Rattle.engine.specs.Transfer.{AppendsBeginning}
 use Rattle.engine.specs.Report.{answer_of}
 use Rattle.engine.specs.Engine.{Reports}
@@ -34,24 +33,15 @@ nothing_served = record { number = 1; history = []; left = [] }
 
 -- a service has no end; a line that is not UTF-8 is bad
 abbrev pub text_turn : CatalogueView → History → List ℕ → Option Turn
-text_turn c history line = if is_text line then line_turn ENDLESS c history line else None
+text_turn c history line = if is_utf8 line then line_turn ENDLESS c history line else None
 
--- a bad line writes that it is, and the history stays
-abbrev pub or_bad : ℕ → History → Option Turn → Turn
-or_bad n history (Some turn) = turn
-or_bad n history None = record { text = bad_line_text n; history = history }
-
--- the turn of the line at hand, when it ends
+-- the turn of the line at hand, when it ends; a bad line writes that it is, and the history stays
 abbrev pub turn_at : CatalogueView → Serving → Turn
-turn_at c s = or_bad s.number s.history (text_turn c s.history s.left)
+turn_at c s = unwrap_or (text_turn c s.history s.left) (record { text = (bad_line s.number).text; history = s.history })
 
 -- the line behind it is at hand then
 abbrev pub behind_line : CatalogueView → Serving → Serving
 behind_line c s = record { number = next_line s.number; history = (turn_at c s).history; left = [] }
-
--- one more byte of the line at hand
-abbrev pub with_byte : Serving → ℕ → Serving
-with_byte s b = record s { left = s.left ++ b ∷ [] }
 
 -- what bytes make a service write, and what stands behind them
 pub record Served : Type 0 where
@@ -65,7 +55,7 @@ served_behind text t = record { text = text ++ t.text; serving = t.serving }
 -- a line feed ends a line, which then is answered; a last line that has none is not
 unfoldable pub served : CatalogueView → Serving → List ℕ → Served
 served c s [] = record { text = []; serving = s }
-served c s (b ∷ bs) = if b == 10 then served_behind (turn_at c s).text (served c (behind_line c s) bs) else served c (with_byte s b) bs
+served c s (b ∷ bs) = if b == 10 then served_behind (turn_at c s).text (served c (behind_line c s) bs) else served c (record s { left = s.left ++ b ∷ [] }) bs
 
 -- what a catalogue's programs answer to an input
 abbrev pub served_text : CatalogueView → List ℕ → List ℕ
@@ -92,17 +82,14 @@ given_back statuses.CannotRead s = None
 given_back statuses.CannotWrite s = None
 given_back statuses.Differs s = None
 
--- the state that the lines of an input leave which are answered
-abbrev pub state_served : CatalogueView → List ℕ → StoreState
-state_served c bytes = state_left c (served c nothing_served bytes).serving.history
-
--- the programs of a catalogue were served an input, from what it had to what it has left, and to its end where all is well; the state is given back then
+-- the programs of a catalogue were served an input, from what it had to what it has left, and to its end where all is well; the state that its
+-- lines leave is given back then
 pub record Serves (c : CatalogueView) (given left : Option (List ℕ)) (old new : Option (List ℕ)) (ended : ServeEnd) : Type 0 where
   pub bytes : List ℕ
   pub read : Consumes given left bytes
   pub whole : ended.status ≡ statuses.Good → IsAtEnd left
   pub answers : AnswersBytes old new ended.status (served_text c) bytes
-  pub state : ended.state ≡ given_back ended.status (state_served c bytes)
+  pub state : ended.state ≡ given_back ended.status (state_of c (served c nothing_served bytes).serving.history)
 
 -- ---- the command
 
@@ -111,15 +98,12 @@ abbrev pub service : ℕ → Option TextsRead → Result CatalogueView Answer
 service spare None = Err not_text
 service spare (Some t) = opening (places_within spare) t
 
--- what `serve` did with its input and its output; what is answered in its place leaves no state, and nothing of
--- the input is read then
-abbrev pub ServesBytes : Result CatalogueView Answer → Option (List ℕ) → Option (List ℕ) → Option (List ℕ) → Option (List ℕ) → ServeEnd → Type 0
-ServesBytes (Ok c) given left old new ended = Serves c given left old new ended
-ServesBytes (Err a) given left old new ended = Reports answer_of (λ r. answer_of r ≡ a) old new ended.status × (ended.state ≡ None) × (left ≡ given)
-
--- the same of a reader and a writer, by what is known of them
+-- what `serve` did with a reader and a writer, by what is known of them; what is answered in its place leaves no state, and nothing of the
+-- input is read then
 abbrev pub ServesAll : {R W : Type 0} → (R → Option (List ℕ)) → R → R → (W → Option (List ℕ)) → W → W → ServeEnd → Result CatalogueView Answer → Type 0
-ServesAll remaining given left contents old new ended opening = ServesBytes opening (remaining given) (remaining left) (contents old) (contents new) ended
+ServesAll remaining given left contents old new ended opening =
+    MatchResult opening (λ c. Serves c (remaining given) (remaining left) (contents old) (contents new) ended)
+    (λ a. Reports answer_of (λ r. answer_of r ≡ a) (contents old) (contents new) ended.status × (ended.state ≡ None) × (remaining left ≡ remaining given))
 
 -- the same of what there was to read before
 abbrev pub ServesGiven : {R W : Type 0} → ℕ → (R → Option (List ℕ)) → R → R → (W → Option (List ℕ)) → W → W → ServeEnd → Given → Type 0

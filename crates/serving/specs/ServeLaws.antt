@@ -1,30 +1,26 @@
 -- What the definition of a service says, in other words.
 use Rattle.std.specs.Prelude.{◌≡◌, ◌⊎◌, ℕ, ◌≤◌, true, List, [], ◌∷◌, ◌++◌, length}
 use Rattle.std.specs.List.{list_all}
+use Rattle.std.specs.Str.{is_utf8}
 use Rattle.text.specs.Lines.{lines_of}
 use Rattle.loader.specs.CatalogueView.{CatalogueView}
 use Rattle.oplog.specs.declared.configuration.TheConstants.{MAX_LIMIT, ENDLESS}
 use Rattle.engine.specs.declared.replies.Verdict.TheVariants as verdicts
-use Rattle.engine.specs.Files.{is_text}
 use Rattle.engine.specs.Answer.{Answer}
 use Rattle.running.specs.RunAnswer.{lines_answer}
 use Rattle.running.specs.LimitLaws.{lines_reached}
-use Rattle.serving.specs.ServeAnswer.{Serving, Served, served, served_behind, served_text}
-
--- bytes that were served, and then others
-abbrev pub and_then : CatalogueView → Served → List ℕ → Served
-and_then c before bytes = served_behind before.text (served c before.serving bytes)
+use Rattle.serving.specs.ServeAnswer.{Serving, served, served_behind, served_text}
 
 -- how an input is cut doesn't matter
 abbrev pub ServedInParts : Type 0
-ServedInParts = (c : CatalogueView) (s : Serving) (a b : List ℕ) → served c s (a ++ b) ≡ and_then c (served c s a) b
+ServedInParts = (c : CatalogueView) (s : Serving) (a b : List ℕ) → served c s (a ++ b) ≡ served_behind (served c s a).text (served c (served c s a).serving b)
 
 -- each line of a text ends with a line feed, and is UTF-8
 abbrev pub EachLineEnds : List ℕ → Type 0
 EachLineEnds bytes = (bytes ≡ []) ⊎ ((front : List ℕ) × (bytes ≡ front ++ 10 ∷ []))
 
 abbrev pub AreTextLines : List ℕ → Type 0
-AreTextLines bytes = list_all is_text (lines_of bytes) ≡ true
+AreTextLines bytes = list_all is_utf8 (lines_of bytes) ≡ true
 
 -- a service begins as the run writes, and behind that stands nothing where the run is good
 pub record BeginsAs (text : List ℕ) (run : Answer) : Type 0 where
@@ -38,12 +34,8 @@ ServedIsEndless =
     (c : CatalogueView) (bytes : List ℕ) → EachLineEnds bytes → AreTextLines bytes
     → BeginsAs (served_text c bytes) (lines_answer ENDLESS c 1 [] (lines_of bytes))
 
--- how many updates lines make on such a history, before one that is bad
-abbrev pub updates_made : CatalogueView → List (List ℕ) → ℕ
-updates_made c ls = length (lines_reached ENDLESS c [] ls)
-
--- and as `run` runs them, where they make no more updates than its history may have
+-- and as `run` runs them, where those before one that is bad make no more updates than its history may have
 abbrev pub ServedIsRun : Type 0
 ServedIsRun =
-    (c : CatalogueView) (bytes : List ℕ) → EachLineEnds bytes → AreTextLines bytes → updates_made c (lines_of bytes) ≤ MAX_LIMIT
+    (c : CatalogueView) (bytes : List ℕ) → EachLineEnds bytes → AreTextLines bytes → length (lines_reached ENDLESS c [] (lines_of bytes)) ≤ MAX_LIMIT
     → BeginsAs (served_text c bytes) (lines_answer MAX_LIMIT c 1 [] (lines_of bytes))

@@ -1,5 +1,5 @@
 -- What is kept while an input is served. Clauses of private functions alone cite this.
-use Rattle.std.specs.Prelude.{◌≡◌, ℕ, Bool, List, [], ◌++◌, take, Option, Some, None, Result, Ok, Err, IfOk}
+use Rattle.std.specs.Prelude.{◌≡◌, ℕ, Bool, List, [], ◌∷◌, ◌++◌, take, Option, Some, None, Result, Ok, Err, IfOk}
 use Rattle.std.specs.Io.KnownBytes.{Appends, Consumes, IsAtEnd}
 use Rattle.loader.specs.CatalogueView.{CatalogueView}
 use Rattle.oplog.specs.declared.configuration.TheConstants.{ENDLESS}
@@ -13,6 +13,10 @@ use Rattle.serving.specs.declared.service.Service.{Service}
 use Rattle.running.specs.RunAnswer.{Turn}
 use Rattle.running.specs.Running.{Follows, LineTaken}
 use Rattle.serving.specs.ServeAnswer.{Serving, nothing_served, text_turn, served, served_text, AnswersBytes}
+
+-- one more byte of the line at hand
+abbrev pub with_byte : Serving → ℕ → Serving
+with_byte s b = record s { left = s.left ++ b ∷ [] }
 
 -- this is so of what is served, or answered in its place, where that was opened
 abbrev pub IfOpened : {E : Type 0} → Result Opened E → (Result CatalogueView Answer → Type 0) → Type 0

@@ -4,8 +4,8 @@ ghost use Rattle.std.specs.Prelude.{◌≡◌, ◌∷◌, ◌++◌, [], false, O
 ghost use Rattle.engine.specs.declared.opening.Opened.TheVariants.{On};
 ghost use Rattle.engine.specs.Opening.{IsOpened};
 ghost use Rattle.running.specs.Running.{IsSteady};
-ghost use Rattle.serving.specs.ServeAnswer.{Serving, nothing_served, turn_at, behind_line, with_byte, served};
-ghost use Rattle.serving.specs.Serving.{AddsServed, Stands, IsSameLine, TakesLeft, IsAnswered, GoesOn, TakesBytes};
+ghost use Rattle.serving.specs.ServeAnswer.{Serving, nothing_served, turn_at, behind_line, served};
+ghost use Rattle.serving.specs.Serving.{with_byte, AddsServed, Stands, IsSameLine, TakesLeft, IsAnswered, GoesOn, TakesBytes};
 
 use arrayvec::ArrayVec;
 use loader::{Catalogue, StoreState};

@@ -1,6 +1,7 @@
 -- The calls of a transcript agree, one after the other.
 use Rattle.std.proofs.Common.{◌≡◌, ◌∙◌, ℕ, zero, suc, ◌<◌, ◌≤◌, Bool, true, false, eqb, ltb, ◌&&◌, List, [], ◌∷◌, ◌++◌, map, length, take, get_or, Option, Some, None, refl, sym, ap, ap₂, subst, arith}
 use Rattle.std.specs.Prelude.{option_map, if◌then◌else◌}
+use Rattle.std.specs.Option.{option_map_or}
 use Rattle.std.specs.List.{All}
 use Rattle.std.proofs.lemmas.Bool.{eq-eqb, lt-ltb}
 use Rattle.std.proofs.lemmas.List.{length-append}
@@ -16,10 +17,11 @@ use Rattle.oplog.specs.declared.records.Record.{Record}
 use Rattle.oplog.specs.History.{Effect, ReadEffect, History, left_by, after, state_after, reply_at, read_reply_at}
 use Rattle.replica.specs.StoreMeaning.{store_meaning}
 use Rattle.running.specs.RunAnswer.{with_operation}
-use Rattle.replaying.specs.ReplayAnswer.{Replayed, Agrees, Differs, is_reply, next_count, nothing_replayed, read_agrees, update_agrees, with_update}
+use Rattle.replaying.specs.ReplayAnswer.{Replayed, Agrees, Differs, next_count, nothing_replayed, read_agrees, update_agrees, with_update}
 use Rattle.running.proofs.Turns.{whole}
 use Rattle.stress.specs.Lines.{Said, Updated, Seen, Ended, ToldCall}
-use Rattle.stress.specs.OneHistory.{Holds, IsSo}
+use Rattle.stress.specs.OneHistory.{Holds}
+use Rattle.stress.specs.Playing.{IsSo}
 use Rattle.stress.specs.Replayed.{Agree, TranscriptsAgree, told_outcome}
 use Rattle.stress.proofs.Places.{StandFrom, Stands, Within, in_places, next_place}
 
@@ -56,7 +58,7 @@ both true true e f = refl
 both true false e f = absurd cc
 both false b e f = absurd cc
 
-replies : (reply : ℕ) (o : Option ℕ) → o ≡ Some reply → is_reply reply o ≡ true
+replies : (reply : ℕ) (o : Option ℕ) → o ≡ Some reply → option_map_or (λ r. eqb r reply) o false ≡ true
 replies reply None e = absurd cc
 replies reply (Some r) e = let same : r ≡ reply = cc in eq-eqb r reply same
 

@@ -1,7 +1,7 @@
 -- The digits of a line: they spell the bytes of its call.
-use Rattle.std.proofs.Common.{◌≡◌, ◌≤◌, ◌||◌, ◌==◌, ℕ, Bool, true, false, List, length, Option, Some, None, refl, sym, ap, subst, slice_index, nat_lt, bytes_eq, codes}
+use Rattle.std.proofs.Common.{◌≡◌, ◌≤◌, ◌||◌, ◌==◌, ℕ, Bool, true, false, List, length, Option, Some, None, refl, sym, ap, subst, slice_index, nat_lt, bytes_eq, codes, []}
 use Rattle.std.specs.Prelude.{option_map, if◌then◌else◌}
-use Rattle.std.specs.Option.{option_and_then, option_or}
+use Rattle.std.specs.Option.{option_and_then, option_map_or, option_or}
 use Rattle.std.proofs.lemmas.Bool.{ltb-false}
 use Rattle.verifier.specs.declared.refusal.Mode.{Mode}
 use Rattle.text.specs.declared.lines.TheConstants.{LINE_BYTES}
@@ -13,7 +13,7 @@ use Rattle.text.specs.Digits.{field_bytes}
 use Rattle.loader.specs.Grammar.{mode_of}
 use Rattle.oplog.specs.Calls.{Call as NumberedCall, NewProgram}
 use Rattle.scripts.specs.Script.{ProgramCall, Meaning, Comment, Call, InvokeAt, ReadAt, Install, named_call, numbered_call, program_fields, new_program, word_meaning, call_meaning, line_meaning}
-use Rattle.stress.specs.Calls.{behind, behind_field}
+use Rattle.stress.specs.Calls.{behind_field}
 
 -- these digits spell these bytes
 abbrev pub Spell : List ℕ → List ℕ → Type 0
@@ -21,6 +21,9 @@ Spell digits bytes = field_bytes digits ≡ Some bytes
 
 abbrev Fields : Type 0
 Fields = List ℕ × List ℕ
+
+abbrev behind : Option Fields → List ℕ
+behind o = option_map_or (λ fields. fields.1) o []
 
 named_hex : (name digits : List ℕ) (call : ProgramCall) → named_call name digits ≡ Some call → Spell digits call.argument
 unfolding named_call

@@ -1,6 +1,7 @@
 -- The calls of a script: the digits of each spell bytes with which it is not refused.
 use Rattle.std.proofs.Common.{◌≡◌, ◌∙◌, ◌==◌, ◌+◌, ◌<◌, ℕ, Bool, true, false, List, [], ◌∷◌, ◌++◌, length, slice_get, nat_lt, Option, Some, None, Result, Ok, Err, refl, ap, subst}
 use Rattle.std.specs.Prelude.{if◌then◌else◌, option_map, option_and_then}
+use Rattle.std.specs.Option.{option_map_or}
 use Rattle.std.specs.List.{All}
 use Rattle.std.proofs.lemmas.Bool.{lt-ltb}
 use Rattle.std.proofs.lemmas.List.Elements.{All-nil, All-cons, All-append}
@@ -15,11 +16,17 @@ use Rattle.replica.specs.StoreMeaning.{program_at}
 use Rattle.replica.specs.Refusals.{early_refusal, mode_refusal, offered_refusal, place_refusal, program_refusal}
 use Rattle.replica.specs.declared.refusals.StoreRefused.TheVariants.{UnknownProgram, ArgumentLength}
 use Rattle.scripts.specs.Script.{ProgramCall, Meaning, Comment, Call, InvokeAt, ReadAt, Install, line_meaning}
+use Rattle.stress.specs.Playing.{line_calls}
 use Rattle.stress.specs.declared.calls.Asked.{Asked}
 use Rattle.stress.specs.declared.calls.Asked.TheVariants as asks
-use Rattle.stress.specs.Calls.{Called, asked_refusal, if_length, program_named, asked_with, behind_field, one_call, calls_said, line_calls, by_line, script_calls}
+use Rattle.stress.specs.Calls.{Called, asked_refusal, program_named, asked_with, behind_field, one_call, calls_said, script_calls}
 use Rattle.stress.proofs.Digits.{Spell, call_hex, invoke_hex, read_hex, install_hex}
 use Rattle.stress.proofs.Ready.{IsFree, free_with}
+use Rattle.stress.proofs.Script.{before}
+
+-- a run of program k, in its own mode, where the argument has its length
+abbrev if_length : List ℕ → ℕ → Checked → Option Asked
+if_length argument k p = if length argument == p.arg_len then Some (asks.Run p.mode k) else None
 
 -- its digits spell bytes with which the call is not refused
 pub record IsFit (c : CatalogueView) (call : Called) : Type 0 where
@@ -95,7 +102,7 @@ unfolding script_calls
 script_fit c n [] calls e = subst (All (IsFit c)) (good_inside [] calls e) (All-nil (IsFit c))
 script_fit c n (l ∷ ls) calls e = by (line_calls c n l) refl (script_calls c (next_line n) ls) (script_fit c (next_line n) ls) e
   where
-    by : (o : Option (List Called)) → line_calls c n l ≡ o → (r : Result (List Called) ℕ) → ((more : List Called) → r ≡ Ok more → All (IsFit c) more) → by_line n r o ≡ Ok calls → All (IsFit c) calls
+    by : (o : Option (List Called)) → line_calls c n l ≡ o → (r : Result (List Called) ℕ) → ((more : List Called) → r ≡ Ok more → All (IsFit c) more) → option_map_or (λ calls. before calls r) o (Err n) ≡ Ok calls → All (IsFit c) calls
     by None is r rest e = absurd cc
     by (Some first) is (Err m) rest e = absurd cc
     by (Some first) is (Ok more) rest e =

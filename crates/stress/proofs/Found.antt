@@ -1,25 +1,32 @@
 -- What `stress` may answer is found good by `replay`, where it is good.
 use Rattle.std.proofs.Common.{◌≡◌, ◌∙◌, ℕ, Bool, true, false, List, length, Some, None, Result, Ok, Err, refl, sym, ap}
-use Rattle.std.specs.Prelude.{◌==◌, if◌then◌else◌, Option}
+use Rattle.std.specs.Prelude.{◌==◌, if◌then◌else◌, MatchResult, Option}
 use Rattle.text.specs.Lines.{lines_of}
 use Rattle.loader.specs.CatalogueView.{CatalogueView, IsCatalogue, with_places}
 use Rattle.loader.specs.Loading.{Outcome, loaded}
 use Rattle.dumps.specs.Loading.{Outcome as StateOutcome, loaded_state}
 use Rattle.oplog.specs.declared.configuration.Config.{Config}
 use Rattle.engine.specs.Answer.{Answer}
-use Rattle.engine.specs.Reading.{Given, files_in, first_stranger, found, unless_strange}
+use Rattle.engine.specs.Reading.{Given, TextsRead, files_in, first_stranger}
+use Rattle.engine.proofs.Gatherings.{found, unless_strange}
+use Rattle.engine.proofs.Openings.{on_loaded}
 use Rattle.engine.specs.Report.{answer_of}
 use Rattle.engine.specs.Opening.{opening_of}
 use Rattle.engine.specs.Sizes.{are_sizes, places_in}
-use Rattle.engine.specs.StateAnswer.{on_loaded, on_text, opened_by}
+use Rattle.engine.specs.StateAnswer.{on_text, opened_by}
 use Rattle.engine.specs.declared.replies.Verdict.TheVariants as verdicts
 use Rattle.running.proofs.RunsOfLines.{loaded_is_catalogue, opened_is_catalogue}
 use Rattle.stress.specs.declared.stressed.Stressed.{Stressed}
 use Rattle.stress.specs.Calls.{Called, script_calls}
 use Rattle.stress.specs.Good.{IsFoundGood, TranscriptsAreGood}
-use Rattle.stress.specs.Runs.{IsOnly, IsOpenedRun, IsScriptRun, IsStressRun}
+use Rattle.stress.specs.Runs.{IsOnly, IsStressRun}
+use Rattle.stress.specs.Playing.{IsScriptRun}
 use Rattle.stress.proofs.Good.{found_good}
 use Rattle.stress.proofs.Sizes.{sizes_from}
+
+-- a run on a catalogue, or what is answered in its place
+abbrev IsOpenedRun : Config → Bool → TextsRead → Result CatalogueView Answer → Stressed → Type 0
+IsOpenedRun config timed t opened s = MatchResult opened (λ c. IsScriptRun config timed c (script_calls c 1 (lines_of t.file)) s) (λ a. IsOnly a s)
 
 -- ---- what a catalogue opens on
 

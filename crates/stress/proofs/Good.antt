@@ -16,21 +16,25 @@ use Rattle.oplog.specs.declared.configuration.Config.{Config}
 use Rattle.replica.specs.StoreMeaning.{AreUpdates}
 use Rattle.oplog.specs.Limits.{IsConfig}
 use Rattle.engine.specs.Answer.{Answer}
-use Rattle.engine.specs.Files.{is_text}
-use Rattle.engine.specs.Reading.{Given, files_in, first_strange, first_stranger, found, is_strange, read, unless_strange}
+use Rattle.std.specs.Str.{is_utf8}
+use Rattle.engine.specs.Reading.{Given, files_in, first_stranger, read}
+use Rattle.engine.specs.Unread.{first_strange}
+use Rattle.engine.proofs.Gatherings.{found, is_strange, unless_strange}
 use Rattle.engine.specs.Opening.{opening_of, places_within}
 use Rattle.engine.specs.Sizes.{are_sizes}
 use Rattle.engine.specs.StateAnswer.{opened_by}
 use Rattle.engine.specs.declared.replies.Verdict.TheVariants as verdicts
 use Rattle.replaying.specs.ReplayAnswer.{good_text, nothing_replayed, replay_answer, replayed_on, transcript_answer}
 use Rattle.stress.specs.Calls.{Called, script_calls, told_as}
-use Rattle.stress.specs.Good.{IsFoundGood, counted, good_of}
+use Rattle.stress.specs.Good.{IsFoundGood, good_of}
 use Rattle.stress.specs.Lines.{ToldCall, suits, transcript_text}
-use Rattle.stress.specs.Transcripts.{IsTranscript, calls_of}
-use Rattle.stress.specs.Timed.{how_many, is_updated, is_seen, is_ended}
+use Rattle.stress.specs.Transcripts.{IsTranscript}
+use Rattle.stress.specs.Playing.{calls_of}
+use Rattle.stress.specs.Lines.{is_ended}
+use Rattle.stress.specs.Timed.{how_many, is_updated, is_seen}
 use Rattle.stress.proofs.Agreeing.{transcripts_agree}
 use Rattle.stress.proofs.Fit.{IsFit, script_fit}
-use Rattle.stress.proofs.GoodLines.{Fits, all_go, is_text_of}
+use Rattle.stress.proofs.GoodLines.{Fits, counted, all_go, is_text_of}
 use Rattle.stress.proofs.Programs.{has_name}
 use Rattle.stress.proofs.ReadBack.{HaveNames}
 use Rattle.stress.proofs.Sizes.{sizes_from}
@@ -52,7 +56,7 @@ replaced (f ∷ before) behind old new fine none = by (is_strange f) (replaced b
     by false rest e = rest e
 
 -- a text in place of the file, where all is text
-read_with : (g : Given) (text : List ℕ) → is_text text ≡ true → first_stranger g ≡ None → read (record g { file = text }) ≡ Some (found (record g { file = text }))
+read_with : (g : Given) (text : List ℕ) → is_utf8 text ≡ true → first_stranger g ≡ None → read (record g { file = text }) ≡ Some (found (record g { file = text }))
 read_with g text is none =
     ap (λ o. unless_strange o (found (record g { file = text })))
     (replaced ((codes "the manifest", g.manifest) ∷ files_in g) ((codes "the state", g.state) ∷ (codes "the history", g.history) ∷ []) (codes "the file", g.file) (codes "the file", text) (ap not is) none)
@@ -71,7 +75,7 @@ module _ (c : CatalogueView) (whole : IsCatalogue c) (names : HaveNames c) (conf
       (fits k d below, suited k d below)
 
   abbrev IsGood : Type 0
-  IsGood = (is_text a.text ≡ true) × (replayed_on a.text (Ok c) ≡ good_of t.told)
+  IsGood = (is_utf8 a.text ≡ true) × (replayed_on a.text (Ok c) ≡ good_of t.told)
 
   pub is_good : IsGood
   is_good =

@@ -1,6 +1,7 @@
 -- The lines of calls that agree are read as they were told, and agree.
 use Rattle.std.proofs.Common.{◌≡◌, ◌∙◌, ℕ, suc, ◌+◌, ◌-◌, ◌^◌, ◌≤◌, Bool, true, false, eqb, ltb, List, [], ◌∷◌, ◌++◌, map, length, decimal, Some, None, refl, sym, ap, subst, append_assoc, arith}
-use Rattle.std.specs.Prelude.{if◌then◌else◌, Option}
+use Rattle.std.specs.Prelude.{if◌then◌else◌, min, Option}
+use Rattle.std.specs.Option.{option_map_or}
 use Rattle.std.specs.List.{All}
 use Rattle.std.specs.Str.{IsUtf8}
 use Rattle.std.proofs.lemmas.Bool.{and_parts, eqb-true, ltb-true}
@@ -21,16 +22,16 @@ use Rattle.oplog.specs.Operations.{Operation}
 use Rattle.oplog.specs.History.{reply_at, read_reply_at}
 use Rattle.replica.specs.StoreMeaning.{AreUpdates, is_operation, store_meaning}
 use Rattle.running.proofs.RunsOfLines.{grown}
-use Rattle.replaying.specs.ReplayAnswer.{Replayed, Agrees, Differs, by_operation, by_outcome, compared, ended_outcome, good_answer, good_text, is_reply, line_outcome, next_count, read_agrees, told, transcript_answer, unless_barred, update_agrees, with_update}
+use Rattle.replaying.specs.ReplayAnswer.{Replayed, Agrees, Bad, Differs, by_outcome, compared, ended_outcome, good_answer, good_text, line_outcome, next_count, read_agrees, told, transcript_answer, unless_barred, update_agrees, with_update}
 use Rattle.engine.specs.Answer.{Answer}
 use Rattle.engine.specs.declared.replies.Verdict.TheVariants as verdicts
 use Rattle.stress.specs.declared.calls.Asked.{Asked}
 use Rattle.stress.specs.declared.calls.Asked.TheVariants as asks
 use Rattle.stress.specs.Calls.{Called, asked_refusal, operation_on, told_as}
-use Rattle.stress.specs.Good.{counted}
 use Rattle.stress.specs.Lines.{Said, Updated, Seen, Ended, ToldCall, call_text, said_text, suits, transcript_text, update_letter}
 use Rattle.stress.specs.Replayed.{Agree, told_outcome}
-use Rattle.stress.specs.Timed.{how_many, is_updated, is_seen, is_ended}
+use Rattle.stress.specs.Lines.{is_ended}
+use Rattle.stress.specs.Timed.{how_many, is_updated, is_seen}
 use Rattle.stress.proofs.Fit.{IsFit}
 use Rattle.stress.proofs.Printed.{ArePrinted, is_utf8_line, no_feed}
 use Rattle.stress.proofs.ReadBack.{AreSmall, HaveNames, asked_bytes, asked_operation, call_is, line_of, program_of, read_back, told_meaning}
@@ -38,11 +39,15 @@ use Rattle.stress.proofs.Replies.{HasBytes, read_small, update_small}
 
 -- ---- what a line does
 
+-- as far as 64 bits go
+abbrev pub counted : ℕ → ℕ
+counted n = min n (2 ^ 64 - 1)
+
 if_agrees : (b : Bool) (to next : Replayed) → (if b then Agrees to else Differs) ≡ Agrees next → (b ≡ true) × (to ≡ next)
 if_agrees true to next e = (refl, cc)
 if_agrees false to next e = absurd cc
 
-is_told : (reply : ℕ) (o : Option ℕ) → is_reply reply o ≡ true → o ≡ Some reply
+is_told : (reply : ℕ) (o : Option ℕ) → option_map_or (λ r. eqb r reply) o false ≡ true → o ≡ Some reply
 is_told reply None e = absurd cc
 is_told reply (Some r) e = ap Some (eqb-true r reply e)
 
@@ -108,14 +113,14 @@ module _ (c : CatalogueView) (whole : IsCatalogue c) (names : HaveNames c) where
     -- ---- what its line says is found to be what was told
 
     found : (asked : Asked) (bytes : List ℕ) (said : Said) → asked_refusal c asked bytes ≡ None → suits (told_as asked) said ≡ true → told c at (Some (told_meaning c asked bytes said)) ≡ told_outcome c at (operation_on asked bytes) said
-    found (asks.Run Update k) bytes (Updated index reply) free fit = ap (by_operation (compared c at Update index reply)) (call_is c whole names Update k bytes free)
+    found (asks.Run Update k) bytes (Updated index reply) free fit = ap (λ o. option_map_or (compared c at Update index reply) o Bad) (call_is c whole names Update k bytes free)
     found (asks.Run Update k) bytes (Seen point reply) free fit = absurd cc
     found (asks.Run Update k) bytes Ended free fit = ap (ended_outcome at) (call_is c whole names Update k bytes free)
     found (asks.Run Read k) bytes (Updated index reply) free fit = absurd cc
-    found (asks.Run Read k) bytes (Seen point reply) free fit = ap (by_operation (compared c at Read point reply)) (call_is c whole names Read k bytes free)
+    found (asks.Run Read k) bytes (Seen point reply) free fit = ap (λ o. option_map_or (compared c at Read point reply) o Bad) (call_is c whole names Read k bytes free)
     found (asks.Run Read k) bytes Ended free fit = absurd cc
     found (asks.Install mode arg_len) bytes (Updated index reply) free fit =
-        ap (λ o. by_operation (compared c at Update index reply) (unless_barred (operations.Install (program_of mode arg_len bytes)) o)) free
+        ap (λ o. option_map_or (compared c at Update index reply) (unless_barred (operations.Install (program_of mode arg_len bytes)) o) Bad) free
     found (asks.Install mode arg_len) bytes (Seen point reply) free fit = absurd cc
     found (asks.Install mode arg_len) bytes Ended free fit = ap (λ o. ended_outcome at (unless_barred (operations.Install (program_of mode arg_len bytes)) o)) free
 

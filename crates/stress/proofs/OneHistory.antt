@@ -40,9 +40,10 @@ use Rattle.stress.specs.declared.lines.Said.{Said}
 use Rattle.stress.specs.declared.lines.Said.TheVariants as told
 use Rattle.stress.specs.Lines as lines
 use Rattle.stress.specs.Lines.{ToldCall, AreSteady}
-use Rattle.stress.specs.OneHistory.{Asks, Holds, IsSo, IsOfOneHistory, is_at, lines_at}
+use Rattle.stress.specs.OneHistory.{Asks, Holds, IsOfOneHistory, is_at}
+use Rattle.stress.specs.Playing.{IsSo, lines_at}
 use Rattle.stress.specs.Playing.{IsSoIn, AreNew, AreShown, HasAnswered, IsBefore, IsNew, IsTold, IsNoted, IsAsked, AreToldIn, AreTold, AreNumbered, EndsIn, update_said}
-use Rattle.stress.specs.Runs.{state_behind}
+use Rattle.running.specs.RunAnswer.{state_of}
 use Rattle.stress.specs.Shown.{called, said_of, told_of}
 use Rattle.stress.proofs.Numbered.{is_numbered, one_index}
 use Rattle.stress.proofs.Steady.{none_steady, up_to_on, steady_more}
@@ -381,7 +382,7 @@ module _ (store : StoreView) (sessions : List SessionView) (closed : ClosedView)
   pub ends_in : EndsIn store.catalogue store.config.limit (last_state closed) said
   ends_in =
       subst (λ (p : Sizes × CatalogueView). EndsIn p.1 p.0.limit (last_state closed) said) (λ i. (is.of.0 i, is.of.1 i))
-      (of_one, subst (λ c. last_state closed ≡ state_behind c l.history) (sym is.of.1) is.last)
+      (of_one, subst (λ c. last_state closed ≡ state_of c l.history) (sym is.of.1) is.last)
 
 module _ {V E : Type 0} (items : V → List Told) where
   pub left_in : (c : CatalogueView) (config : Sizes) (state : StoreState) (store : StoreView) (sessions : List SessionView) → store.config ≡ config → store.catalogue ≡ c
@@ -395,8 +396,8 @@ module _ {V E : Type 0} (items : V → List Told) where
       )
 
 -- in another order
-pub in_order : (c : CatalogueView) (limit : ℕ) (state : StoreState) (xs ys : List ToldCall) → IsPermutation xs ys → (h : IsOfOneHistory c limit xs) → state ≡ state_behind c h.history
-    → (of_one : IsOfOneHistory c limit ys) × (state ≡ state_behind c of_one.history)
+pub in_order : (c : CatalogueView) (limit : ℕ) (state : StoreState) (xs ys : List ToldCall) → IsPermutation xs ys → (h : IsOfOneHistory c limit xs) → state ≡ state_of c h.history
+    → (of_one : IsOfOneHistory c limit ys) × (state ≡ state_of c of_one.history)
 in_order c limit state xs ys same h ends = (
   record {
     history = h.history;

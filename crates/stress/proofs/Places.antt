@@ -5,7 +5,8 @@ use Rattle.std.proofs.lemmas.Bool.{cases_lt, eq-eqb, ne_eqb, false≢true}
 use Rattle.std.proofs.lemmas.List.Sums.{sum_by-cons}
 use Rattle.std.proofs.lemmas.List.Elements.{All-head, All-tail, All-nil, All-cons}
 use Rattle.stress.specs.Lines.{Said, Updated, Seen, Ended, ToldCall, AreOrdered, rank}
-use Rattle.stress.specs.OneHistory.{is_at, lines_at}
+use Rattle.stress.specs.OneHistory.{is_at}
+use Rattle.stress.specs.Playing.{lines_at}
 
 -- a line stands where it says, where u updates stand before it
 abbrev pub Stands : ℕ → Said → Type 0

@@ -1,6 +1,7 @@
 -- The line of a call that was told is read as what was told.
 use Rattle.std.proofs.Common.{◌≡◌, ◌∙◌, inl, inr, ℕ, zero, suc, ◌^◌, ◌<◌, ◌≤◌, true, List, [], ◌∷◌, ◌++◌, length, codes, decimal, slice_get, Option, Some, None, refl, ap, append_assoc, arith}
 use Rattle.std.specs.Prelude.{option_and_then, if◌then◌else◌}
+use Rattle.std.specs.Option.{option_map_or}
 use Rattle.std.proofs.lemmas.Bool.{le-ltb}
 use Rattle.std.proofs.lemmas.List.{length-append}
 use Rattle.verifier.specs.declared.refusal.Mode.{Mode}
@@ -25,7 +26,7 @@ use Rattle.replaying.specs.ReplayAnswer.{number_told, unless_barred, operation_o
 use Rattle.stress.specs.declared.calls.Asked.{Asked}
 use Rattle.stress.specs.declared.calls.Asked.TheVariants as asks
 use Rattle.stress.specs.Calls.{asked_refusal, operation_on, told_as}
-use Rattle.stress.specs.Lines.{Said, Updated, Seen, Ended, asked_text, name_or, suits, update_letter}
+use Rattle.stress.specs.Lines.{Said, Updated, Seen, Ended, asked_text, suits, update_letter}
 use Rattle.stress.proofs.Fit.{within}
 use Rattle.stress.proofs.Printed.{ArePrinted, both_printed, spaced_printed, hex_is, mode_printed, mode_short, name_printed, name_short, number_printed, number_short}
 use Rattle.stress.proofs.Programs.{number_is}
@@ -39,6 +40,9 @@ key_told k (Some program) = Named program.name
 
 abbrev pub key_at : CatalogueView → ℕ → ProgramKey
 key_at c k = key_told k (slice_get c.programs k)
+
+abbrev name_or : ℕ → Option Entry → List ℕ
+name_or k o = option_map_or (λ program. program.name) o (decimal k)
 
 same_key : (k : ℕ) (o : Option Entry) → name_or k o ≡ key_text (key_told k o)
 same_key k None = refl
@@ -79,10 +83,10 @@ program_of mode arg_len bytes = record { mode = mode; arg_len = arg_len; bytes =
 
 -- what was told of a call, as a line of a transcript means it; an install is told nothing of a point
 abbrev pub told_meaning : CatalogueView → Asked → List ℕ → Said → TranscriptMeaning
-told_meaning c (asks.Run mode k) bytes (Updated index reply) = Answered (record { mode = Update; index = index; call = keyed c k bytes; reply = reply })
-told_meaning c (asks.Run mode k) bytes (Seen point reply) = Answered (record { mode = Read; index = point; call = keyed c k bytes; reply = reply })
+told_meaning c (asks.Run mode k) bytes (Updated index reply) = Answered Update (keyed c k bytes) (record { index = index; reply = reply })
+told_meaning c (asks.Run mode k) bytes (Seen point reply) = Answered Read (keyed c k bytes) (record { index = point; reply = reply })
 told_meaning c (asks.Run mode k) bytes Ended = meanings.Ended (keyed c k bytes)
-told_meaning c (asks.Install mode arg_len) bytes (Updated index reply) = Installed (record { index = index; program = program_of mode arg_len bytes; reply = reply })
+told_meaning c (asks.Install mode arg_len) bytes (Updated index reply) = Installed (program_of mode arg_len bytes) (record { index = index; reply = reply })
 told_meaning c (asks.Install mode arg_len) bytes (Seen point reply) = meanings.Comment
 told_meaning c (asks.Install mode arg_len) bytes Ended = EndedInstall (program_of mode arg_len bytes)
 

@@ -4,9 +4,10 @@ use Rattle.text.specs.declared.lines.TheConstants.{LINE_BYTES}
 use Rattle.loader.specs.CatalogueView.{CatalogueView}
 use Rattle.scripts.specs.Script.{Meaning, line_meaning}
 use Rattle.replica.specs.declared.refusals.StoreRefused.{StoreRefused}
+use Rattle.replaying.specs.ReplayAnswer.{unless_barred}
 use Rattle.stress.specs.declared.calls.Asked.{Asked}
-use Rattle.stress.specs.Calls.{Called, asked_refusal, unless_refused, asked_with, one_call, calls_said, line_calls}
-use Rattle.stress.specs.Playing.{IsReady}
+use Rattle.stress.specs.Calls.{Called, asked_refusal, asked_with, one_call, calls_said}
+use Rattle.stress.specs.Playing.{IsReady, line_calls}
 use Rattle.stress.proofs.Digits.{Spell}
 
 -- what is asked for is not refused with these bytes
@@ -17,7 +18,7 @@ IsFree c bytes asked = IfSome asked (λ a. asked_refusal c a bytes ≡ None)
 pub free_with : (c : CatalogueView) (bytes : List ℕ) (want : Asked) (asked : Option Asked) → asked ≡ asked_with c bytes want → IsFree c bytes asked
 free_with c bytes want asked e = by (asked_refusal c want bytes) refl asked e
   where
-    by : (o : Option StoreRefused) → asked_refusal c want bytes ≡ o → (asked : Option Asked) → asked ≡ unless_refused want o → IsFree c bytes asked
+    by : (o : Option StoreRefused) → asked_refusal c want bytes ≡ o → (asked : Option Asked) → asked ≡ unless_barred want o → IsFree c bytes asked
     by o is None e = tt
     by (Some why) is (Some a) e = absurd cc
     by None is (Some a) e = let same : a ≡ want = cc in subst (λ x. asked_refusal c x bytes ≡ None) (sym same) is

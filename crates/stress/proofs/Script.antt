@@ -1,11 +1,17 @@
 -- The loop over the lines of a script: one line on, a bad line, and the end.
 use Rattle.std.proofs.Common.{◌≡◌, ℕ, List, [], ◌∷◌, ◌++◌, Some, None, Result, Ok, Err, map, refl, sym, ap, ◌∙◌}
+use Rattle.std.specs.Result.{result_map_both}
 use Rattle.std.proofs.lemmas.List.{append_assoc, append-nil, map_push}
 use Rattle.text.specs.Lines.{next_line}
 use Rattle.loader.specs.CatalogueView.{CatalogueView}
+use Rattle.stress.specs.Playing.{line_calls}
 use Rattle.stress.specs.declared.calls.ScriptCall.{ScriptCall}
-use Rattle.stress.specs.Calls.{Called, before, line_calls, script_calls}
+use Rattle.stress.specs.Calls.{Called, script_calls}
 use Rattle.stress.specs.Shown.{called}
+
+-- these calls before those of the lines behind
+abbrev pub before : List Called → Result (List Called) ℕ → Result (List Called) ℕ
+before calls r = result_map_both (λ more. calls ++ more) (λ bad. bad) r
 
 before_more : (a b : List Called) (r : Result (List Called) ℕ) → before a (before b r) ≡ before (a ++ b) r
 before_more a b (Ok more) = ap Ok (sym (append_assoc a b more))

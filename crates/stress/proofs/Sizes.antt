@@ -10,7 +10,8 @@ use Rattle.dumps.specs.Loading.{Outcome as StateOutcome, loaded_state}
 use Rattle.engine.specs.Opening.{opening, opening_of}
 use Rattle.engine.specs.Reading.{TextsRead}
 use Rattle.engine.specs.Sizes.{are_sizes, places_in}
-use Rattle.engine.specs.StateAnswer.{on_loaded, on_text}
+use Rattle.engine.specs.StateAnswer.{on_text}
+use Rattle.engine.proofs.Openings.{on_loaded}
 use Rattle.stress.specs.Transcripts.{session_count}
 
 pub some_session : (config : Config) → IsConfig config → 0 < session_count config

@@ -1,6 +1,6 @@
 -- The answers of a session have their lines in the order of its calls.
 use Rattle.std.proofs.Common.{◌≡◌, ◌∙◌, ⊎_elim, ℕ, zero, suc, ◌+◌, ◌-◌, ◌*◌, ◌<◌, ◌≤◌, List, [], ◌∷◌, ◌++◌, All, Option, map, length, take, drop, refl, sym, ap, subst, arith, append-nil, not-suc-le-zero}
-use Rattle.std.specs.Prelude.{filter, Result, Ok, Err, IfOk, MatchResult}
+use Rattle.std.specs.Prelude.{filter, not, Result, Ok, Err, IfOk, MatchResult}
 use Rattle.std.proofs.lemmas.Bool.{cases_lt}
 use Rattle.std.proofs.lemmas.List.{length-append, length-drop, length-map, take-append-le, drop-append-le, take_all}
 use lib.Seq.{drop-length}
@@ -11,7 +11,7 @@ use Rattle.accounts.specs.declared.sessions.Progress.{Progress}
 use Rattle.stress.specs.declared.lines.Told.{Told}
 use Rattle.stress.specs.Calls.{Called}
 use Rattle.stress.specs.Dealt.{dealt, dealt_from, share_of}
-use Rattle.stress.specs.Lines.{Said, Updated, Seen, Ended, ToldCall, AreOrdered, AreSteady, is_answer, rank}
+use Rattle.stress.specs.Lines.{Said, Updated, Seen, Ended, ToldCall, AreOrdered, AreSteady, is_ended, rank}
 use Rattle.stress.specs.Shown.{calls_told, told_call, told_of}
 use Rattle.stress.specs.Playing.{AreSteadyTo, IsBefore, IsBehind, IsUpTo}
 use Rattle.stress.proofs.Dealt.{last_apart, one_map, dealt_map, drop_map}
@@ -27,7 +27,7 @@ up_to_on n m Ended le h = tt
 -- ---- one answer more
 
 abbrev answers : List ToldCall → List ToldCall
-answers told = filter (λ t. is_answer t.said) told
+answers told = filter (λ t. not (is_ended t.said)) told
 
 abbrev Low : ℕ → ToldCall → Type 0
 Low n t = rank t.said ≤ 2 * n
@@ -52,7 +52,7 @@ pub steady_more : (l : Progress CatalogueView) (told : List ToldCall) (t : ToldC
 steady_more l told t before steady behind = by t.call t.said behind
   where
     split : (t : ToldCall) → answers (told ++ t ∷ []) ≡ answers told ++ answers (t ∷ [])
-    split t = filter-append (λ t. is_answer t.said) told (t ∷ [])
+    split t = filter-append (λ t. not (is_ended t.said)) told (t ∷ [])
 
     up : All (λ t. IsUpTo l.completed t.said) told
     up = All-weaker (λ t. IsBefore l t.said) (λ t. IsUpTo l.completed t.said) (λ t h. h.0) told before

@@ -17,8 +17,9 @@ use Rattle.stress.specs.Lines.{ToldCall, AreSteady, suits}
 use Rattle.stress.specs.Timed.{IsHistoryIf, IsInTurn, AreCounted}
 use Rattle.stress.specs.Shown.{called, said_of, told_call, calls_told, to_be_told, told_of, timed_of}
 use Rattle.stress.specs.Playing.{IsLeft, IsWritten, EndsIn, AreSteadyTo, history_if}
-use Rattle.stress.specs.Runs.{state_behind}
-use Rattle.stress.specs.Transcripts.{calls_of, session_count, IsTranscript}
+use Rattle.running.specs.RunAnswer.{state_of}
+use Rattle.stress.specs.Playing.{calls_of}
+use Rattle.stress.specs.Transcripts.{session_count, IsTranscript}
 use Rattle.stress.proofs.Dealt.{each_once, dealt_map}
 use Rattle.stress.proofs.OneHistory.{in_order}
 use Rattle.stress.proofs.Sizes.{some_session}
@@ -61,7 +62,7 @@ history_of false n calls told text turns is = is
 abbrev pub GivesRun : Config → CatalogueView → Bool → List Called → Left → Type 0
 GivesRun config c timed calls left =
     (t : IsTranscript config c calls (record { text = left.written.transcript.items; verdict = verdicts.Good })) × IsHistoryIf timed (session_count config) calls t.told left.written.history.items
-    × (left.state ≡ state_behind c t.of_one.history) × AreCounted t.told left.written.counts
+    × (left.state ≡ state_of c t.of_one.history) × AreCounted t.told left.written.counts
 
 pub run_of : (config : Config) (c : CatalogueView) (timed : Bool) → IsConfig config → (script : List ScriptCall) (left : Left) → IsLeft config c timed script left → GivesRun config c timed (map called script) left
 run_of config c timed sizes script left is =

@@ -9,7 +9,7 @@ use Rattle.stress.specs.Calls.{Called}
 use Rattle.stress.specs.Dealt.{dealt}
 use Rattle.stress.specs.Lines.{ToldCall}
 use Rattle.stress.specs.Shown.{called, calls_told, to_be_told, told_of, timed_of}
-use Rattle.stress.specs.Transcripts.{calls_of}
+use Rattle.stress.specs.Playing.{calls_of}
 use Rattle.stress.specs.Timed.{IsInTurn}
 use Rattle.stress.proofs.Dealt.{one_map}
 use Rattle.stress.proofs.Told.{get_map}

@@ -1,18 +1,19 @@
 -- Which calls a script makes on the programs of a catalogue.
 use Rattle.std.specs.Prelude.{ℕ, List, [], ◌∷◌, ◌++◌, length, Option, Some, None, option_map, option_and_then, Result, Ok, Err, ◌==◌, if◌then◌else◌}
+use Rattle.std.specs.Option.{option_map_or}
+use Rattle.std.specs.Result.{result_map_both}
 use Rattle.verifier.specs.declared.refusal.Mode.{Mode}
 use Rattle.verifier.specs.declared.refusal.Mode.TheVariants.{Update, Read}
-use Rattle.verifier.specs.Accepted.{Checked}
 use Rattle.text.specs.Lines.{next_line}
 use Rattle.text.specs.Fields.{split_at_space}
 use Rattle.loader.specs.CatalogueView.{CatalogueView, number_named}
 use Rattle.oplog.specs.Operations.{Operation}
-use Rattle.oplog.specs.Calls.{NewProgram}
 use Rattle.oplog.specs.declared.records.Op.TheVariants as operations
 use Rattle.replica.specs.StoreMeaning.{program_at}
 use Rattle.replica.specs.Refusals.{early_refusal, install_refusal}
 use Rattle.replica.specs.declared.refusals.StoreRefused.{StoreRefused}
 use Rattle.scripts.specs.Script.{ProgramCall, Meaning, Comment, Call, InvokeAt, ReadAt, Install, line_meaning}
+use Rattle.replaying.specs.ReplayAnswer.{unless_barred}
 use Rattle.stress.specs.declared.calls.Asked.{Asked}
 use Rattle.stress.specs.declared.calls.Asked.TheVariants as asks
 
@@ -39,32 +40,19 @@ told_as (asks.Install mode arg_len) = Update
 
 -- ---- a line
 
--- a run of program k, in its own mode, where the argument has its length
-abbrev pub if_length : List ℕ → ℕ → Checked → Option Asked
-if_length argument k p = if length argument == p.arg_len then Some (asks.Run p.mode k) else None
-
--- that of the program of this name
+-- a run of the program of this name, in its own mode, where the argument has its length
 unfoldable pub program_named : CatalogueView → ProgramCall → Option Asked
-program_named c call = option_and_then (λ k. option_and_then (if_length call.argument k) (program_at c k)) (number_named c.programs call.name)
+program_named c call =
+    option_and_then (λ k. option_and_then (λ p. if length call.argument == p.arg_len then Some (asks.Run p.mode k) else None) (program_at c k))
+    (number_named c.programs call.name)
 
 -- what is asked for, unless it is refused with these bytes
-abbrev pub unless_refused : Asked → Option StoreRefused → Option Asked
-unless_refused asked None = Some asked
-unless_refused asked (Some why) = None
-
 abbrev pub asked_with : CatalogueView → List ℕ → Asked → Option Asked
-asked_with c bytes asked = unless_refused asked (asked_refusal c asked bytes)
-
-abbrev pub asked_install : CatalogueView → NewProgram → Option Asked
-asked_install c new = asked_with c new.bytes (asks.Install new.mode new.arg_len)
+asked_with c bytes asked = unless_barred asked (asked_refusal c asked bytes)
 
 -- what stands behind the first field of a text
-abbrev pub behind : Option (List ℕ × List ℕ) → List ℕ
-behind None = []
-behind (Some fields) = fields.1
-
 abbrev pub behind_field : List ℕ → List ℕ
-behind_field text = behind (split_at_space text)
+behind_field text = option_map_or (λ fields. fields.1) (split_at_space text) []
 
 -- the call of line n that asks for this
 abbrev pub one_call : ℕ → List ℕ → Option Asked → Option (List Called)
@@ -78,24 +66,13 @@ calls_said c n line (Some Comment) = Some []
 calls_said c n line (Some (Call call)) = one_call n (behind_field line) (program_named c call)
 calls_said c n line (Some (InvokeAt call)) = one_call n (behind_field (behind_field line)) (asked_with c call.argument (asks.Run Update call.program))
 calls_said c n line (Some (ReadAt call)) = one_call n (behind_field (behind_field line)) (asked_with c call.argument (asks.Run Read call.program))
-calls_said c n line (Some (Install new)) = one_call n (behind_field (behind_field (behind_field line))) (asked_install c new)
-
-abbrev pub line_calls : CatalogueView → ℕ → List ℕ → Option (List Called)
-line_calls c n line = calls_said c n line (line_meaning line)
+calls_said c n line (Some (Install new)) = one_call n (behind_field (behind_field (behind_field line))) (asked_with c new.bytes (asks.Install new.mode new.arg_len))
 
 -- ---- a script
-
--- these calls before those of the lines behind
-abbrev pub before : List Called → Result (List Called) ℕ → Result (List Called) ℕ
-before calls (Ok more) = Ok (calls ++ more)
-before calls (Err n) = Err n
-
--- a bad line of number n ends it
-abbrev pub by_line : ℕ → Result (List Called) ℕ → Option (List Called) → Result (List Called) ℕ
-by_line n rest None = Err n
-by_line n rest (Some calls) = before calls rest
 
 -- the calls of the lines from number n on, or the number of the first bad one
 unfoldable pub script_calls : CatalogueView → ℕ → List (List ℕ) → Result (List Called) ℕ
 script_calls c n [] = Ok []
-script_calls c n (l ∷ ls) = by_line n (script_calls c (next_line n) ls) (line_calls c n l)
+script_calls c n (l ∷ ls) =
+    option_map_or (λ calls. result_map_both (λ more. calls ++ more) (λ bad. bad) (script_calls c (next_line n) ls))
+    (calls_said c n l (line_meaning l)) (Err n)

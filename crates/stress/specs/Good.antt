@@ -1,5 +1,5 @@
 -- What `replay` answers to the transcripts that `stress` may write.
-use Rattle.std.specs.Prelude.{◌≡◌, ℕ, ◌-◌, ◌^◌, min, Bool, List, Ok}
+use Rattle.std.specs.Prelude.{◌≡◌, ◌-◌, ◌^◌, min, Bool, List, Ok}
 use Rattle.text.specs.Lines.{lines_of}
 use Rattle.loader.specs.CatalogueView.{CatalogueView, with_places}
 use Rattle.loader.specs.Loading.{loaded}
@@ -12,19 +12,15 @@ use Rattle.engine.specs.StateAnswer.{opened_by}
 use Rattle.replaying.specs.ReplayAnswer.{good_text, replay_answer}
 use Rattle.stress.specs.declared.stressed.Stressed.{Stressed}
 use Rattle.stress.specs.Calls.{Called, script_calls}
-use Rattle.stress.specs.Lines.{ToldCall}
-use Rattle.stress.specs.Timed.{how_many, is_updated, is_seen, is_ended}
+use Rattle.stress.specs.Lines.{ToldCall, is_ended}
+use Rattle.stress.specs.Timed.{how_many, is_updated, is_seen}
 use Rattle.stress.specs.Transcripts.{IsTranscript}
 use Rattle.stress.specs.Runs.{IsStressRun}
 
--- as far as 64 bits go
-abbrev pub counted : ℕ → ℕ
-counted n = min n (2 ^ 64 - 1)
-
--- all lines agree: so many updates and installs, reads, and calls behind the end
+-- all lines agree: so many updates and installs, reads, and calls behind the end, as far as 64 bits go
 abbrev pub good_of : List ToldCall → Answer
 good_of told = record {
-  text = good_text (how_many is_updated told) (counted (how_many is_seen told)) (counted (how_many is_ended told));
+  text = good_text (how_many is_updated told) (min (how_many is_seen told) (2 ^ 64 - 1)) (min (how_many is_ended told) (2 ^ 64 - 1));
   verdict = verdicts.Good;
 }
 

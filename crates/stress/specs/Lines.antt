@@ -1,10 +1,11 @@
 -- The lines of a transcript.
-use Rattle.std.specs.Prelude.{ℕ, ◌+◌, ◌*◌, ◌^◌, Bool, true, false, List, ◌++◌, Option, Some, None, codes, decimal, filter, slice_get, ◌==◌}
+use Rattle.std.specs.Prelude.{ℕ, ◌+◌, ◌*◌, ◌^◌, Bool, true, false, not, List, ◌++◌, codes, decimal, filter, slice_get, ◌==◌}
 use Rattle.std.specs.List.{flat_map}
+use Rattle.std.specs.Option.{option_map_or}
 use Rattle.std.specs.List.Sorted.{IsNonDecreasingBy}
 use Rattle.verifier.specs.declared.refusal.Mode.{Mode}
 use Rattle.verifier.specs.declared.refusal.Mode.TheVariants.{Update, Read}
-use Rattle.loader.specs.CatalogueView.{CatalogueView, Entry}
+use Rattle.loader.specs.CatalogueView.{CatalogueView}
 use Rattle.loader.specs.Spelling.{mode_word}
 use Rattle.stress.specs.declared.calls.Asked.{Asked}
 use Rattle.stress.specs.declared.calls.Asked.TheVariants as asks
@@ -43,26 +44,20 @@ AreOrdered told = IsNonDecreasingBy (λ t. rank t.said) told
 abbrev pub at_rank : ℕ → List ToldCall → List ToldCall
 at_rank r told = filter (λ t. rank t.said == r) told
 
--- whether this is an answer, and not that the history has ended
-abbrev pub is_answer : Said → Bool
-is_answer (Updated index reply) = true
-is_answer (Seen point reply) = true
-is_answer Ended = false
+abbrev pub is_ended : Said → Bool
+is_ended (Updated index reply) = false
+is_ended (Seen point reply) = false
+is_ended Ended = true
 
--- the answers to these calls have their lines in this order
+-- the answers to these calls, but not that the history has ended, have their lines in this order
 abbrev pub AreSteady : List ToldCall → Type 0
-AreSteady told = AreOrdered (filter (λ t. is_answer t.said) told)
+AreSteady told = AreOrdered (filter (λ t. not (is_ended t.said)) told)
 
 -- ---- the texts
 
--- NAME of a program of the catalogue, or K of a place behind these
-abbrev pub name_or : ℕ → Option Entry → List ℕ
-name_or k None = decimal k
-name_or k (Some program) = program.name
-
--- NAME or K, or of an install MODE ARGLEN
+-- NAME of a program of the catalogue, or K of a place behind these; of an install MODE ARGLEN
 abbrev pub asked_text : CatalogueView → Asked → List ℕ
-asked_text c (asks.Run mode k) = name_or k (slice_get c.programs k)
+asked_text c (asks.Run mode k) = option_map_or (λ program. program.name) (slice_get c.programs k) (decimal k)
 asked_text c (asks.Install mode arg_len) = mode_word mode ++ (codes " " ++ decimal arg_len)
 
 -- the same, and HEX
@@ -74,22 +69,15 @@ abbrev pub update_letter : Asked → List ℕ
 update_letter (asks.Run mode k) = codes "u "
 update_letter (asks.Install mode arg_len) = codes "i "
 
--- behind a place the call and REPLY
-abbrev pub replied_text : CatalogueView → Called → ℕ → List ℕ
-replied_text c call reply = codes " " ++ (call_text c call ++ (codes " " ++ (decimal reply ++ codes "\n")))
-
 -- behind a letter PLACE, the call, and REPLY
 abbrev pub answered_text : CatalogueView → List ℕ → ℕ → Called → ℕ → List ℕ
-answered_text c letter index call reply = letter ++ (decimal index ++ replied_text c call reply)
+answered_text c letter index call reply = letter ++ (decimal index ++ (codes " " ++ (call_text c call ++ (codes " " ++ (decimal reply ++ codes "\n")))))
 
 abbrev pub said_text : CatalogueView → Called → Said → List ℕ
 said_text c call (Updated index reply) = answered_text c (update_letter call.asked) index call reply
 said_text c call (Seen point reply) = answered_text c (codes "r ") point call reply
 said_text c call Ended = codes "e " ++ (call_text c call ++ codes "\n")
 
--- the line of a call
-abbrev pub told_text : CatalogueView → ToldCall → List ℕ
-told_text c t = said_text c t.call t.said
-
+-- a line for each call
 abbrev pub transcript_text : CatalogueView → List ToldCall → List ℕ
-transcript_text c told = flat_map (told_text c) told
+transcript_text c told = flat_map (λ t. said_text c t.call t.said) told

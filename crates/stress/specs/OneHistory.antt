@@ -23,23 +23,16 @@ Holds c limit history op (Updated i reply) = ((r : Record) × At i r history × 
 Holds c limit history op (Seen point reply) = (point ≤ length history) × (read_reply_at store_meaning c history point op ≡ Some reply)
 Holds c limit history op Ended = limit ≤ length history
 
-abbrev pub IsSo : CatalogueView → ℕ → History → ToldCall → Type 0
-IsSo c limit history t = (op : Operation) × Asks t.call op × Holds c limit history op t.said
-
 -- whether this is what an update at index i was told
 abbrev pub is_at : ℕ → Said → Bool
 is_at i (Updated index reply) = index == i
 is_at i (Seen point reply) = false
 is_at i Ended = false
 
--- how many of these were told the index i
-abbrev pub lines_at : ℕ → List ToldCall → ℕ
-lines_at i told = count_by (λ t. is_at i t.said) told
-
 -- one history of the catalogue, of no more records than the limit, is behind all that was told
 pub record IsOfOneHistory (c : CatalogueView) (limit : ℕ) (told : List ToldCall) : Type 0 where
   pub history : History
   pub within : length history ≤ limit
-  pub so : All (IsSo c limit history) told
+  pub so : All (λ t. (op : Operation) × Asks t.call op × Holds c limit history op t.said) told
   -- each of its records has one line
-  pub shown : (i : ℕ) → i < length history → lines_at i told ≡ 1
+  pub shown : (i : ℕ) → i < length history → count_by (λ t. is_at i t.said) told ≡ 1

@@ -1,6 +1,6 @@
 -- What is kept while sessions make their calls. Clauses of private functions alone cite this.
-use Rattle.std.specs.Prelude.{◌≡◌, ◌⊎◌, ℕ, Bool, true, false, ◌-◌, ◌<◌, ◌≤◌, List, [], ◌∷◌, ◌++◌, map, length, slice_index_or, Option, Some, None, Result, Ok, Err, IfOk, Vec}
-use Rattle.std.specs.List.{All}
+use Rattle.std.specs.Prelude.{◌≡◌, ◌⊎◌, ℕ, Bool, true, false, ◌-◌, ◌<◌, ◌≤◌, List, [], ◌∷◌, ◌++◌, map, length, slice_index_or, Option, Some, None, Result, Ok, Err, IfOk, MatchResult, Vec, count_by}
+use Rattle.std.specs.List.{All, flat_map}
 use Rattle.std.specs.List.Sorted.{IsPermutation}
 use Rattle.loader.specs.CatalogueView.{CatalogueView}
 use Rattle.loader.specs.StoreState.{StoreState}
@@ -17,7 +17,8 @@ use Rattle.stress.specs.declared.calls.ScriptCalls.{ScriptCalls}
 use Rattle.stress.specs.declared.calls.ScriptCalls.TheVariants as reads
 use Rattle.stress.specs.declared.players.Player.{Player}
 use Rattle.stress.specs.declared.players.Playground.{Playground}
-use Rattle.stress.specs.Calls.{Called, asked_refusal}
+use Rattle.scripts.specs.Script.{line_meaning}
+use Rattle.stress.specs.Calls.{Called, asked_refusal, calls_said}
 use Rattle.stress.specs.Dealt.{dealt, dealt_to, share_of}
 use Rattle.accounts.specs.declared.sessions.Progress.{Progress}
 use Rattle.accounts.specs.declared.sessions.AnsweredUpdate.{AnsweredUpdate}
@@ -32,11 +33,34 @@ use Rattle.stress.specs.declared.sharing.Left.{Left}
 use Rattle.oplog.specs.declared.configuration.Config.{Config}
 use Rattle.stress.specs.Lines as said
 use Rattle.stress.specs.Lines.{ToldCall, AreOrdered, AreSteady, at_rank, transcript_text}
-use Rattle.stress.specs.Timed.{Timed, IsInTurn, AreCounted, history_text}
-use Rattle.stress.specs.OneHistory.{IsSo, IsOfOneHistory, lines_at}
+use Rattle.stress.specs.Timed.{Timed, IsInTurn, AreCounted, timed_text}
+use Rattle.stress.specs.OneHistory.{Asks, Holds, IsOfOneHistory, is_at}
 use Rattle.stress.specs.Shown.{TellsCalls, called, calls_told, said_of, to_be_told, told_of, timed_of}
 use Rattle.stress.specs.Transcripts.{session_count}
-use Rattle.stress.specs.Runs.{state_behind}
+use Rattle.running.specs.RunAnswer.{bad_line, state_of}
+use Rattle.oplog.specs.History.{History}
+use Rattle.stress.specs.declared.stressed.Stressed.{Stressed}
+use Rattle.stress.specs.Runs.{IsOnly, IsRun}
+
+-- what was told of a call is so in this history
+abbrev pub IsSo : CatalogueView → ℕ → History → ToldCall → Type 0
+IsSo c limit history t = (op : Operation) × Asks t.call op × Holds c limit history op t.said
+
+-- how many of these were told the index i
+abbrev pub lines_at : ℕ → List ToldCall → ℕ
+lines_at i told = count_by (λ t. is_at i t.said) told
+
+-- the calls of these told ones
+abbrev pub calls_of : List ToldCall → List Called
+calls_of told = map (λ t. t.call) told
+
+-- the calls of a line
+abbrev pub line_calls : CatalogueView → ℕ → List ℕ → Option (List Called)
+line_calls c n line = calls_said c n line (line_meaning line)
+
+-- the calls of a script, or its first bad line
+abbrev pub IsScriptRun : Config → Bool → CatalogueView → Result (List Called) ℕ → Stressed → Type 0
+IsScriptRun config timed c calls s = MatchResult calls (λ calls. IsRun config timed c calls s) (λ n. IsOnly (bad_line n) s)
 
 -- no session of a store of this catalogue is refused this call before it is made
 pub record IsReady (c : CatalogueView) (call : ScriptCall) : Type 0 where
@@ -183,7 +207,11 @@ AreTold sessions told =
 
 -- ---- what is left
 
--- the lines of a history, where one is kept
+-- the lines of a history
+abbrev pub history_text : List Timed → List ℕ
+history_text timed = flat_map timed_text timed
+
+-- where one is kept
 abbrev pub history_if : Bool → List Timed → List ℕ
 history_if true timed = history_text timed
 history_if false timed = []
@@ -200,7 +228,7 @@ pub record IsWritten (c : CatalogueView) (timed : Bool) (told : List Told) (w : 
 
 -- one history is behind these calls, and this is the state after it
 abbrev pub EndsIn : CatalogueView → ℕ → StoreState → List Told → Type 0
-EndsIn c limit state told = (of_one : IsOfOneHistory c limit (map told_of told)) × (state ≡ state_behind c of_one.history)
+EndsIn c limit state told = (of_one : IsOfOneHistory c limit (map told_of told)) × (state ≡ state_of c of_one.history)
 
 -- what the sessions of a store of these sizes and this catalogue were told of these calls, in what is left of it
 pub record IsLeft (config : Config) (c : CatalogueView) (timed : Bool) (calls : List ScriptCall) (left : Left) : Type 0 where

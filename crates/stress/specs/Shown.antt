@@ -1,5 +1,6 @@
 -- What the calls of a script and the answers to them are, without where their texts lie. Clauses of private functions alone cite this.
-use Rattle.std.specs.Prelude.{◌≡◌, ℕ, List, [], ◌∷◌, map, Option, Some, None, Result, Ok, Err, IfOk, Vec, if◌then◌else◌}
+use Rattle.std.specs.Prelude.{◌≡◌, ℕ, List, [], ◌∷◌, ◌++◌, codes, decimal, map, Option, Some, None, Result, Ok, Err, IfOk, Vec, if◌then◌else◌}
+use Rattle.loader.specs.CatalogueView.{CatalogueView}
 use Rattle.stress.specs.declared.calls.ScriptCall.{ScriptCall}
 use Rattle.stress.specs.declared.calls.ScriptCalls.{ScriptCalls}
 use Rattle.stress.specs.declared.calls.LineCall.{LineCall}
@@ -10,8 +11,12 @@ use Rattle.stress.specs.declared.lines.Said.{Said}
 use Rattle.stress.specs.declared.lines.Said.TheVariants as told
 use Rattle.stress.specs.Calls.{Called, told_as}
 use Rattle.stress.specs.Lines as said
-use Rattle.stress.specs.Lines.{ToldCall, suits}
+use Rattle.stress.specs.Lines.{ToldCall, call_text, suits}
 use Rattle.stress.specs.Timed.{Timed}
+
+-- behind a place the call and REPLY
+abbrev pub replied_text : CatalogueView → Called → ℕ → List ℕ
+replied_text c call reply = codes " " ++ (call_text c call ++ (codes " " ++ (decimal reply ++ codes "\n")))
 
 abbrev pub called : ScriptCall → Called
 called c = record { line = c.line; asked = c.asked; digits = c.digits.now }

@@ -4,7 +4,7 @@ use Rattle.std.specs.List.{flat_map}
 use Rattle.stress.specs.declared.watching.Counts.{Counts}
 use Rattle.stress.specs.Calls.{Called}
 use Rattle.stress.specs.Dealt.{dealt}
-use Rattle.stress.specs.Lines.{Said, Updated, Seen, Ended, ToldCall}
+use Rattle.stress.specs.Lines.{Said, Updated, Seen, Ended, ToldCall, is_ended}
 
 -- a call and what was told, the number of the session that made it, and what the counter that all threads raise was just before it and just
 -- behind it
@@ -19,20 +19,14 @@ abbrev pub timed_text : Timed → List ℕ
 timed_text t =
     decimal t.session ++ (codes " " ++ (decimal t.told.call.line ++ (codes " " ++ (decimal t.begun ++ (codes " " ++ (decimal t.ended ++ codes "\n"))))))
 
-abbrev pub history_text : List Timed → List ℕ
-history_text timed = flat_map timed_text timed
-
 -- it names one of n sessions, and its call is one of those that go to this session, where they go to all n in turn
 abbrev pub IsInTurn : ℕ → List Called → Timed → Type 0
 IsInTurn n calls t = (t.session < n) × Contains (dealt n t.session calls) t.told.call
 
--- a line for each of these calls, in their order, which names the session that its call went to; of the counter's numbers nothing is said
-abbrev pub IsHistoryOf : ℕ → List Called → List ToldCall → List ℕ → Type 0
-IsHistoryOf n calls told text = (timed : List Timed) × (map (λ t. t.told) timed ≡ told) × All (IsInTurn n calls) timed × (text ≡ history_text timed)
-
--- the same where it is wanted, and else nothing
+-- where it is wanted, a line for each of these calls, in their order, which names the session that its call went to; of the counter's numbers
+-- nothing is said
 abbrev pub IsHistoryIf : Bool → ℕ → List Called → List ToldCall → List ℕ → Type 0
-IsHistoryIf true n calls told text = IsHistoryOf n calls told text
+IsHistoryIf true n calls told text = (timed : List Timed) × (map (λ t. t.told) timed ≡ told) × All (IsInTurn n calls) timed × (text ≡ flat_map timed_text timed)
 IsHistoryIf false n calls told text = text ≡ []
 
 -- ---- how many
@@ -46,11 +40,6 @@ abbrev pub is_seen : Said → Bool
 is_seen (Updated index reply) = false
 is_seen (Seen point reply) = true
 is_seen Ended = false
-
-abbrev pub is_ended : Said → Bool
-is_ended (Updated index reply) = false
-is_ended (Seen point reply) = false
-is_ended Ended = true
 
 -- how many of these calls were told such a thing
 abbrev pub how_many : (Said → Bool) → List ToldCall → ℕ

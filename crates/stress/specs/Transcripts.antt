@@ -11,10 +11,6 @@ use Rattle.stress.specs.Dealt.{dealt_to, share_of}
 use Rattle.stress.specs.Lines.{ToldCall, suits, AreOrdered, AreSteady, at_rank, transcript_text}
 use Rattle.stress.specs.OneHistory.{IsOfOneHistory}
 
--- the calls of these told ones
-abbrev pub calls_of : List ToldCall → List Called
-calls_of told = map (λ t. t.call) told
-
 -- how many sessions a store of these sizes has
 abbrev pub session_count : Config → ℕ
 session_count config = config.nodes * config.slots
@@ -23,7 +19,7 @@ session_count config = config.nodes * config.slots
 pub record IsTranscript (config : Config) (c : CatalogueView) (calls : List Called) (a : Answer) : Type 0 where
   -- what the sessions were told, one behind the other: each made the calls that are dealt to it, in their order
   pub asked : List ToldCall
-  pub in_turn : calls_of asked ≡ dealt_to (session_count config) calls
+  pub in_turn : map (λ t. t.call) asked ≡ dealt_to (session_count config) calls
   pub suited : All (λ t. suits (told_as t.call.asked) t.said ≡ true) asked
   -- a session's answers have their lines in the order of its calls
   pub steady : (k : ℕ) → k < session_count config → AreSteady (share_of (session_count config) k calls asked)
@@ -35,6 +31,6 @@ pub record IsTranscript (config : Config) (c : CatalogueView) (calls : List Call
   pub by_session : (r : ℕ) → at_rank r told ≡ at_rank r asked
   pub is : a ≡ record { text = transcript_text c told; verdict = verdicts.Good }
   -- so each call of the script has one line
-  pub each_once : IsPermutation calls (calls_of told)
+  pub each_once : IsPermutation calls (map (λ t. t.call) told)
   -- and one history is behind all lines
   pub of_one : IsOfOneHistory c config.limit told

@@ -4,10 +4,11 @@ ghost use Rattle.std.specs.Prelude.{◌≡◌, ◌≤◌, ◌<◌, length, IfOk,
 ghost use Rattle.text.specs.Lines.{lines_of};
 ghost use Rattle.loader.specs.CatalogueView.{CatalogueView};
 ghost use Rattle.replica.specs.Refusals.{IsRoomFor};
-ghost use Rattle.scripts.specs.ScriptShown.{call_of, program_of};
+ghost use Rattle.scripts.specs.ScriptShown.{call_of};
 ghost use Rattle.stress.specs.declared.calls.Asked.TheVariants.{Run, Install};
-ghost use Rattle.stress.specs.Calls.{asked_refusal, program_named, asked_with, asked_install, behind_field, one_call, line_calls, script_calls};
-ghost use Rattle.stress.specs.Playing.{IsReady, IsReadyLine, AreReady};
+ghost use Rattle.stress.specs.declared.calls.Asked.TheVariants as asks;
+ghost use Rattle.stress.specs.Calls.{asked_refusal, program_named, asked_with, behind_field, one_call, script_calls};
+ghost use Rattle.stress.specs.Playing.{IsReady, IsReadyLine, AreReady, line_calls};
 ghost use Rattle.stress.specs.Shown.{calls_in, ReadAs};
 
 use loader::{Catalogue, Installed};
@@ -81,7 +82,7 @@ fn program_numbered(catalogue: &Catalogue, mode: Mode, call: &NumberedCall) -> O
 fn program_installed(room: &mut Installed, text: &ProgramText) -> Option<Asked>
     requires room { 0 < room.old.places }
     ensures room { IsRoomFor room.old.shapes room.new }
-    ensures asked { (c : CatalogueView) → c.shapes ≡ room.old.shapes → result ≡ asked_install c (program_of text.now) }
+    ensures asked { (c : CatalogueView) → c.shapes ≡ room.old.shapes → result ≡ asked_with c text.now.bytes.items (asks.Install text.now.mode text.now.arg_len) }
 {
     check_install(room, text.mode, text.arg_len, text.bytes.as_slice()).ok()?;
     Some(Asked::Install {

@@ -7,12 +7,13 @@ ghost use Rattle.loader.specs.declared.installed.TheConstants.{MAX_PLACES};
 ghost use Rattle.oplog.specs.Limits.{IsConfig};
 ghost use Rattle.engine.specs.ReadFaults.{IfCannotRead};
 ghost use Rattle.engine.specs.Reading.{AnyFailed, IfGiven, TextsRead, read, texts_in, texts_read};
-ghost use Rattle.engine.specs.Report.{Failed};
+ghost use Rattle.engine.specs.Engine.{Reports, ReportsRead};
+ghost use Rattle.engine.specs.Report.{Failed, answer_of};
 ghost use Rattle.engine.specs.Sizes.{places_in};
 ghost use Rattle.stress.specs.Calls.{script_calls};
 ghost use Rattle.stress.specs.Shown.{called};
-ghost use Rattle.stress.specs.Playing.{IsReady};
-ghost use Rattle.stress.specs.Runs.{IsRun, IsScriptRun, MayMake, ReportsRun};
+ghost use Rattle.stress.specs.Runs.{IsRun, MayMake};
+ghost use Rattle.stress.specs.Playing.{IsReady, IsScriptRun};
 
 use crate::calls::{ScriptCall, ScriptCalls, read_calls};
 use crate::gate::Gate;
@@ -178,11 +179,11 @@ impl<'a, R: Threads + Wait + Sync, G: Gate + Sync, C: Clock + Sync> Stress<'a, R
         writer: &mut W,
     ) -> Status
         // Where the readers and the folder tell their bytes, what is written is what it answers to those.
-        ensures written { IfGiven F.holds S.remaining inputs.old (λ g. ReportsRun (MayMake self.now (read g)) (W.contents writer.old) (W.contents writer.new) result) }
+        ensures written { IfGiven F.holds S.remaining inputs.old (ReportsRead (λ s. answer_of s.reply) (MayMake self.now) W.contents writer.old writer.new result) }
         // It says that a read or a write failed only after one did.
         ensures failed { Failed result (AnyFailed S.has_failed F.File.has_failed inputs.new) (W.has_failed writer.new) }
         // Whatever they give, or where they fail.
-        ensures ended { ReportsRun (λ s. (t : Option TextsRead) × MayMake self.now t s) (W.contents writer.old) (W.contents writer.new) result }
+        ensures ended { Reports (λ s. answer_of s.reply) (λ s. (t : Option TextsRead) × MayMake self.now t s) (W.contents writer.old) (W.contents writer.new) result }
     {
         let made = self.prepare(alloc, inputs);
         report(writer, &made)

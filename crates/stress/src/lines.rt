@@ -1,12 +1,12 @@
 // The lines of the transcript.
 
-ghost use Rattle.std.specs.Prelude.{◌≡◌, ◌++◌, map, filter, length, slice_get, OnOk, IfOk};
-ghost use Rattle.std.specs.List.{flat_map};
+ghost use Rattle.std.specs.Prelude.{◌≡◌, ◌++◌, decimal, map, filter, length, slice_get, OnOk, IfOk};
+ghost use Rattle.std.specs.Option.{option_map_or};
 ghost use Rattle.loader.specs.Spelling.{mode_word};
-ghost use Rattle.stress.specs.Lines.{rank, name_or, asked_text, call_text, update_letter, replied_text, told_text, transcript_text};
-ghost use Rattle.stress.specs.Timed.{AreCounted, timed_text, history_text, is_updated, is_seen, is_ended};
-ghost use Rattle.stress.specs.Shown.{called, said_of, told_of, timed_of};
-ghost use Rattle.stress.specs.Playing.{IsWritten, history_if};
+ghost use Rattle.stress.specs.Lines.{rank, asked_text, call_text, is_ended, said_text, update_letter, transcript_text};
+ghost use Rattle.stress.specs.Timed.{AreCounted, timed_text, is_updated, is_seen};
+ghost use Rattle.stress.specs.Shown.{called, replied_text, said_of, told_of, timed_of};
+ghost use Rattle.stress.specs.Playing.{IsWritten, history_if, history_text};
 
 use crate::calls::{Asked, ScriptCall};
 use crate::watching::{Counts, Noted, Spent};
@@ -55,7 +55,7 @@ fn rank(said: Said) -> u128
 
 // NAME of a program of the catalogue, or K of a place behind these.
 fn put_key(out: &mut Vec<u8>, catalogue: &Catalogue, program: u16) -> Result<(), AllocError>
-    ensures { OnOk result (out.new.items ≡ out.old.items ++ name_or program (slice_get catalogue.now.programs program)) }
+    ensures { OnOk result (out.new.items ≡ out.old.items ++ option_map_or (λ p. p.name) (slice_get catalogue.now.programs program) (decimal program)) }
 {
     match catalogue.name(program) {
         Some(name) => out.extend_from_slice(name.as_bytes()),
@@ -122,7 +122,7 @@ fn update_letter(asked: Asked) -> &'static [u8]
 
 // The line of a call.
 fn put_told(out: &mut Vec<u8>, catalogue: &Catalogue, told: &Told) -> Result<(), AllocError>
-    ensures { OnOk result (out.new.items ≡ out.old.items ++ told_text catalogue.now (told_of told.now)) }
+    ensures { OnOk result (out.new.items ≡ out.old.items ++ said_text catalogue.now (called told.now.call.now) (said_of told.now.said)) }
 {
     let call = told.call;
     match told.said {

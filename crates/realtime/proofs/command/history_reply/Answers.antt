@@ -3,9 +3,8 @@ use Rattle.text.specs.Lines.{lines_of}
 use Rattle.engine.specs.Report.{answer_of}
 use Rattle.realtime.specs.declared.histories.Timed.{Timed}
 use Rattle.realtime.specs.Ranks.{ranks_of}
-use Rattle.realtime.specs.Histories.{calls_of}
-use Rattle.realtime.specs.Judging.{AreGood}
-use Rattle.realtime.specs.TimedAnswer.{calls_answer, timed}
+use Rattle.realtime.specs.Judging.{AreGood, calls_of, timed}
+use Rattle.realtime.specs.TimedAnswer.{calls_answer}
 use Rattle.realtime.proofs.Answered.{timed_by, if_ok}
 use Rattle.realtime.proofs.Reading.{good_calls}
 use Rattle.realtime.proofs.command.history_reply.Goals as goal

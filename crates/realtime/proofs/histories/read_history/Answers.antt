@@ -1,7 +1,8 @@
 use Rattle.std.proofs.Common.{◌≡◌, ◌+◌, ◌*◌, length, vec_len, replicate, false, ◌∙◌, ap, ap₂, sym, arith, rules, Err, Ok}
 use Rattle.text.specs.Lines.{lines_of, LinesLeft}
+use Rattle.realtime.specs.Judging.{calls_of}
 use Rattle.realtime.specs.declared.histories.Taken.{Taken}
-use Rattle.realtime.specs.Histories.{calls_behind, calls_of}
+use Rattle.realtime.specs.Histories.{calls_behind}
 use Rattle.realtime.proofs.Reading.{taken_none, was_taken, was_bad, goes_on, bad_here, all_read, lacking}
 use Rattle.realtime.proofs.histories.read_history.Goals as goal
 

@@ -1,7 +1,7 @@
 use Rattle.std.proofs.Common.{◌≡◌, length}
 use Rattle.text.specs.Lines.{lines_of}
-use Rattle.realtime.specs.Histories.{calls_of, calls_behind}
-use Rattle.realtime.specs.Judging.{HasTaken}
+use Rattle.realtime.specs.Histories.{calls_behind}
+use Rattle.realtime.specs.Judging.{HasTaken, calls_of}
 use Rattle.realtime.proofs.histories.read_history.Given as goal
 
 abbrev pub invariant-loop-line : goal.invariant-loop-line

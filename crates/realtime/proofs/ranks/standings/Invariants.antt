@@ -1,6 +1,6 @@
 use Rattle.std.proofs.Common.{◌≡◌, ◌++◌, length}
 use Rattle.text.specs.Lines.{lines_of}
-use Rattle.realtime.specs.Ranks.{standings_of}
+use Rattle.realtime.specs.Judging.{standings_of}
 use Rattle.realtime.proofs.ranks.standings.Given as goal
 
 abbrev pub invariant-loop-line : goal.invariant-loop-line

@@ -1,14 +1,15 @@
 use Rattle.std.proofs.Common.{rules, ◌≡◌, None, sym, ap, ◌∙◌, subst}
 use Rattle.std.specs.Prelude.{OnOk}
+use Rattle.std.specs.Option.{option_map_or}
 use Rattle.oplog.specs.Calls.{NewProgram}
 use Rattle.oplog.specs.declared.records.Op.TheVariants.{Install}
 use Rattle.oplog.specs.Logs.{Log, tail_of}
 use Rattle.replica.specs.Refusals.{install_refusal}
 use Rattle.node.specs.declared.following.NodeReplica.{NodeReplica}
-use Rattle.running.specs.RunAnswer.{install_line, submitted, unless_refused}
+use Rattle.running.specs.RunAnswer.{refused, submitted}
 use Rattle.running.specs.Running.{Follows, IsTaken}
 use Rattle.scripts.specs.ScriptShown.{program_of}
-use Rattle.running.proofs.Turns.{install_turn}
+use Rattle.running.proofs.Turns.{install_told, install_turn}
 use Rattle.running.proofs.calls.run_install.Goals as goal
 
 pub returns-in-Some-clause-taken : goal.returns-in-Some-clause-taken
@@ -22,7 +23,7 @@ returns-in-Some-clause-taken c = λ limit h follows.
     install_turn limit catalogue h node here (Install c.in-Ok.program) c.put_install.result c.tail-index.result c.submit.new.self c.in-Some.outcome
     c.args.out.now.items c.put_install.new.out.items (c.tail-index.ensures ∙ sym log) c.in-Some.ensures.updated c.put_install.ensures in
     let said =
-    subst (λ (p : NewProgram). OnOk c.put_install.result (IsTaken limit catalogue (submitted limit install_line catalogue h (Install p)) c.submit.new.self c.args.out.now.items c.put_install.new.out.items))
+    subst (λ (p : NewProgram). OnOk c.put_install.result (IsTaken limit catalogue (submitted limit install_told catalogue h (Install p)) c.submit.new.self c.args.out.now.items c.put_install.new.out.items))
     c.in-Ok.ensures.program.0 wrote in
-    subst (λ o. OnOk c.put_install.result (IsTaken limit catalogue (unless_refused h (submitted limit install_line catalogue h (Install (program_of c.args.text.now))) o) c.submit.new.self c.args.out.now.items c.put_install.new.out.items))
+    subst (λ o. OnOk c.put_install.result (IsTaken limit catalogue (option_map_or (refused h) o (submitted limit install_told catalogue h (Install (program_of c.args.text.now)))) c.submit.new.self c.args.out.now.items c.put_install.new.out.items))
     (sym none) said

@@ -1,7 +1,6 @@
 use Rattle.std.proofs.Common.{◌≡◌, ◌∙◌, [], ◌∷◌, Some, None, sym, refl, map, subst, All}
 use Rattle.std.proofs.lemmas.List.Elements.{All-push}
-use Rattle.stress.specs.Calls.{line_calls}
-use Rattle.stress.specs.Playing.{IsReady}
+use Rattle.stress.specs.Playing.{IsReady, line_calls}
 use Rattle.stress.specs.Shown.{called}
 use Rattle.stress.proofs.Script.{none_here, one_here, bad_here, all_read}
 use Rattle.stress.proofs.calls.read_calls.Goals as goal

@@ -1,6 +1,7 @@
 use Rattle.std.proofs.Common.{◌≡◌, length, map, All}
 use Rattle.text.specs.Lines.{lines_of}
-use Rattle.stress.specs.Calls.{before, script_calls}
+use Rattle.stress.specs.Calls.{script_calls}
+use Rattle.stress.proofs.Script.{before}
 use Rattle.stress.specs.Playing.{IsReady}
 use Rattle.replica.specs.Refusals.{IsRoomFor}
 use Rattle.stress.specs.Shown.{called}

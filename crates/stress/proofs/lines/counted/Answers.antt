@@ -1,5 +1,6 @@
 use Rattle.std.proofs.Common.{◌∙◌}
-use Rattle.stress.specs.Timed.{is_updated, is_seen, is_ended}
+use Rattle.stress.specs.Lines.{is_ended}
+use Rattle.stress.specs.Timed.{is_updated, is_seen}
 use Rattle.stress.proofs.Told.{as_many}
 use Rattle.stress.proofs.lines.counted.Goals as goal
 

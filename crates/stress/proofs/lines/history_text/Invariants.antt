@@ -1,5 +1,5 @@
 use Rattle.std.proofs.Common.{◌≡◌, map, take}
-use Rattle.stress.specs.Timed.{history_text}
+use Rattle.stress.specs.Playing.{history_text}
 use Rattle.stress.specs.Shown.{timed_of}
 use Rattle.stress.proofs.lines.history_text.Given as goal
 

@@ -1,7 +1,8 @@
 use Rattle.std.proofs.Common.{◌≡◌, ◌∙◌, Some, ap}
 use Rattle.engine.specs.Reading.{texts_read}
 use Rattle.engine.specs.Report.{answer_of}
-use Rattle.realtime.specs.TimedAnswer.{timed, timed_answer}
+use Rattle.realtime.specs.Judging.{timed}
+use Rattle.realtime.specs.TimedAnswer.{timed_answer}
 use Rattle.realtime.proofs.Answered.{if_ok}
 use Rattle.realtime.proofs.command.ReplayTimedCommand.make.Goals as goal
 
