@@ -33,6 +33,7 @@ is_at i Ended = false
 pub record IsOfOneHistory (c : CatalogueView) (limit : ℕ) (told : List ToldCall) : Type 0 where
   pub history : History
   pub within : length history ≤ limit
+  -- what a session was told of the operation of its call is so in it
   pub so : All (λ t. (op : Operation) × Asks t.call op × Holds c limit history op t.said) told
   -- each of its records has one line
   pub shown : (i : ℕ) → i < length history → count_by (λ t. is_at i t.said) told ≡ 1
