@@ -9,7 +9,8 @@ import re
 import sys
 from collections import defaultdict, namedtuple
 
-# A definition of specs/; a type or a trait of the code; a call, or a public type as a beginning of its own; a module of the kit.
+# A definition of specs/, or a ghost member of a type or a trait of src/, whose module begins with src/; a type or a trait of the code; a call,
+# or a public type as a beginning of its own; a module of the kit.
 Definition = namedtuple("Definition", "crate module name")
 Type = namedtuple("Type", "crate module name")
 Call = namedtuple("Call", "crate module name")
@@ -324,11 +325,12 @@ class Source:
 class Repository:
     """`cites` leads from each node to those that it cites; `inner` from a type to what only the way cites in which its values lie in memory:
     the view, the codes and the invariant of its model, or its ghost fields. `calls` are the public calls and types. A law is a function that
-    takes nothing and does nothing, so that its clauses are all that it is; `hidden` are the laws that users of the crate can't name."""
+    takes nothing and does nothing, so that its clauses are all that it is; `hidden` are the laws that users of the crate can't name; `ghosts`
+    has of each ghost member of src/ how many lines it has."""
 
     def __init__(self, top):
         self.crates, self.libraries, self.modules, self.sources = [], [], {}, {}
-        self.cites, self.inner, self.calls, self.hidden = defaultdict(set), defaultdict(set), set(), set()
+        self.cites, self.inner, self.calls, self.hidden, self.ghosts = defaultdict(set), defaultdict(set), set(), set(), {}
         for crate, kind in re.findall(r"^(\w+)([^:#\n]*):", read(f"{top}/crates.txt"), re.M):
             self.crates.append(crate)
             folder = f"{top}/crates/{crate}"
@@ -457,11 +459,24 @@ class Repository:
         for name, text in ghosts:
             if name not in PROOFS:
                 into = self.inner if is_model and name != "Value" else self.cites
-                into[own] |= self.cited_in(text, scope, source) - {own}
+                self.add_ghost(source, own, trait if is_of else "", name, text, self.cited_in(text, scope, source) - {own}, into)
         if is_model:
             self.modelled[own] = " ".join(text for _, text in ghosts)
         for name, function in functions.items():
             self.add_call(source, f"{own.name}::{name}", function, self.is_public(own) and (function.is_public or bool(is_of)), own)
+
+    def add_ghost(self, source, own, trait, name, text, cited, into):
+        """A ghost member says what its type means: a definition, which the type cites. Two impls of a type may name theirs
+        alike. `Value` says of a model what type it has, and no more."""
+        if name == "Value":
+            into[own] |= cited
+            return
+        trait = re.match(r"\w*", trait)[0]
+        of = f"{own.name} as {trait}" if trait not in ("", "Model") else own.name
+        node = Definition(own.crate, f"src/{source.module}", f"{of}.{name}")
+        self.ghosts[node] = max(1, sum(bool(it.strip()) for it in text.splitlines()))
+        self.cites[node] |= cited
+        into[own].add(node)
 
     def add_type(self, source, block):
         """A trait cites what its members say. A type without a model is the record of its fields; one with a model leads to the types of those
@@ -473,8 +488,8 @@ class Repository:
             self.cites[Call(*own)].add(own)
         if block.kind == "trait":
             ghosts, functions, scope = source.members(block.body)
-            for _, text in ghosts:
-                self.cites[own] |= self.cited_in(text, scope, source) - {own}
+            for name, text in ghosts:
+                self.add_ghost(source, own, "", name, text, self.cited_in(text, scope, source) - {own}, self.cites)
             for name, function in functions.items():
                 self.add_call(source, f"{block.name}::{name}", function, self.is_public(own), own)
         elif own in self.modelled:
@@ -483,15 +498,15 @@ class Repository:
                     self.inner[own] |= self.types_in(type_of, source) - {own}
         else:
             self.cites[own] |= self.types_in(block.body, source) - {own}
-            for ghost in re.findall(r"\bghost \w+: \{([^}]*)\}", block.body):
-                self.inner[own] |= self.cited_in(ghost, source.ghosts, source) - {own}
+            for name, ghost in re.findall(r"\bghost (\w+): \{([^}]*)\}", block.body):
+                self.add_ghost(source, own, "", name, ghost, self.cited_in(ghost, source.ghosts, source) - {own}, self.inner)
 
-    def reached(self, begin, ways):
-        """All that these lead to, each with what led there."""
+    def reached(self, begin, ways, without=()):
+        """All that these lead to, each with what led there; what is left out leads nowhere."""
         found, waiting = dict.fromkeys(begin), list(begin)
         for node in waiting:
             for it in sorted({it for way in ways for it in way.get(node, ())}, key=repr):
-                if it not in found:
+                if it not in found and it not in without:
                     found[it] = node
                     waiting.append(it)
         return found
