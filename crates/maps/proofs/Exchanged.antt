@@ -8,11 +8,11 @@ use Rattle.maps.specs.declared.table.Table.{Table}
 use Rattle.maps.specs.declared.entry.Entry.{Entry}
 use Rattle.maps.specs.Shapes.{IsHash, value_size, entry_count}
 use Rattle.maps.specs.Maps.{MapState, value_at}
-use Rattle.maps.specs.MapSets.{Stored, Contents, value_in, entries_of, maps_of, key_at, change_at, write_value, put_value, PutsWritten, HasRoom, IsFull}
+use Rattle.maps.specs.MapSets.{Stored, Contents, value_in, entries_of, maps_of, key_at, stored_shapes, change_at, write_value, put_value, PutsWritten, HasRoom, IsFull}
 use Rattle.maps.specs.Blocks.{keys_at, stored, contents, HasFreePlace, IsTable, AreTables}
 use Rattle.maps.specs.Lent.{with_bytes}
 use Rattle.maps.proofs.Placed.{len_placed}
-use Rattle.maps.proofs.Stored.{IsAt, is_at, many_tables, map_at, key_stands, of_shape, distinct, present, missing}
+use Rattle.maps.proofs.Stored.{IsAt, is_at, table_at, within, many_tables, map_at, key_stands, of_shape, distinct, present, missing}
 use Rattle.maps.proofs.Written.{tables_kept, view_written, view_exchanged, maps_exchanged}
 use Rattle.maps.proofs.TableKeys.{IsClaimed, put_entries}
 
@@ -43,6 +43,9 @@ pub record IsExchanged (ts : List Table) (c : Contents) (m : ℕ) (t u : Table) 
   pub inside : m < length c
   pub at : t ≡ get_or ts m t
   pub there : IsAt c m t
+
+pub exchanged : (ts : List Table) (c : Contents) (m : ℕ) (t u : Table) → contents ts ≡ c → AreTables ts → m < length (stored_shapes c) → t ≡ get_or ts m t → IsExchanged ts c m t u
+exchanged ts c m t u is tables map e = record { tables = tables; view = is; inside = within c m map; at = e; there = table_at ts c m t is tables map e }
 
 pub within_tables : (ts : List Table) (c : Contents) (m : ℕ) (t u : Table) → IsExchanged ts c m t u → m < length ts
 within_tables ts c m t u h = many_tables ts c m h.view h.inside

@@ -116,6 +116,10 @@ is_at ts c m t is tables h e =
 pub within : (c : Contents) (m : ℕ) → m < length (stored_shapes c) → m < length c
 within c m h = subst (λ n. m < n) (length-map c (λ (s : Stored). s.shape)) h
 
+-- the table of a map that there is
+pub table_at : (ts : List Table) (c : Contents) (m : ℕ) (t : Table) → contents ts ≡ c → AreTables ts → m < length (stored_shapes c) → t ≡ get_or ts m t → IsAt c m t
+table_at ts c m t is tables map e = is_at ts c m t is tables (within c m map) e
+
 -- for callers: a map, and its shape
 pub map_there : (c : Contents) (m : ℕ) → m < length (stored_shapes c) → (s : MapState) × (slice_get (maps_of c) m ≡ Some s) × (slice_get (stored_shapes c) m ≡ Some s.shape)
 map_there [] m h = absurd (omega (arith, h))

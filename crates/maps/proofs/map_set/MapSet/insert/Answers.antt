@@ -4,24 +4,23 @@ use Rattle.maps.specs.Shapes.{key_size, entry_count}
 use Rattle.maps.specs.Maps.{AreBytes, HasShapes, value_at}
 use Rattle.maps.specs.MapSets.{maps_of, stored_shapes, IsFull}
 use Rattle.maps.specs.Blocks.{stored, contents}
-use Rattle.maps.proofs.Stored.{within, is_at, for_shape, of_shape, below, missing}
+use Rattle.maps.proofs.Stored.{table_at, for_shape, of_shape, below, missing}
 use Rattle.maps.proofs.Written.{kept_shapes, tables_kept, others_kept, view_exchanged}
 use Rattle.maps.proofs.TableKeys.{IsClaimed}
-use Rattle.maps.proofs.Exchanged.{IsExchanged, within_tables, entry_stands, puts_written, exchanged_same, was_found, has_room, is_full}
+use Rattle.maps.proofs.Exchanged.{exchanged, within_tables, entry_stands, puts_written, exchanged_same, was_found, has_room, is_full}
 use Rattle.maps.proofs.Kept.{are_bytes, fits_room, put_has_shapes, there_now}
 use Rattle.maps.proofs.map_set.MapSet.insert.Goals as goal
 
 pub claim-requires-clause-shape : goal.claim-requires-clause-shape
 claim-requires-clause-shape c =
-    (is_at c.self.inside.tables.items c.args.self.now c.args.m c.index_mut-table.result.now c.self.view_is c.self.invariant (within c.args.self.now c.args.m c.requires.map) c.index_mut-table.ensures.value).ok
+    (table_at c.self.inside.tables.items c.args.self.now c.args.m c.index_mut-table.result.now c.self.view_is c.self.invariant c.requires.map c.index_mut-table.ensures.value).ok
 
 pub claim-requires-clause-key : goal.claim-requires-clause-key
 claim-requires-clause-key c =
     let ts = c.self.inside.tables.items in let t = c.index_mut-table.result.now in
     let before = c.args.self.now in let m = c.args.m in
     let e = c.index_mut-table.ensures.value in
-    let inside = within before m c.requires.map in
-    let at = is_at ts before m t c.self.view_is c.self.invariant inside e in
+    let at = table_at ts before m t c.self.view_is c.self.invariant c.requires.map e in
     for_shape (λ s. length c.args.key.now ≡ key_size s) before m (stored t) at.there c.requires.key
 
 pub invariant_of-self : goal.invariant_of-self
@@ -37,8 +36,7 @@ returns-in_err-claimed-clause-absent c =
     let ts = c.self.inside.tables.items in let t = c.index_mut-table.result.now in
     let before = c.args.self.now in let m = c.args.m in let key = c.args.key.now in
     let e = c.index_mut-table.ensures.value in
-    let inside = within before m c.requires.map in
-    let at = is_at ts before m t c.self.view_is c.self.invariant inside e in
+    let at = table_at ts before m t c.self.view_is c.self.invariant c.requires.map e in
     subst (λ o. IfNone o (IsNone (value_at (maps_of before) m key))) (sym c.from_residual.ensures) (ap is_some (missing before m t key at c.in_err-claimed.ensures.absent))
 
 pub returns-in_err-claimed-clause-full : goal.returns-in_err-claimed-clause-full
@@ -46,8 +44,7 @@ returns-in_err-claimed-clause-full c =
     let ts = c.self.inside.tables.items in let t = c.index_mut-table.result.now in
     let before = c.args.self.now in let m = c.args.m in
     let e = c.index_mut-table.ensures.value in
-    let inside = within before m c.requires.map in
-    let at = is_at ts before m t c.self.view_is c.self.invariant inside e in
+    let at = table_at ts before m t c.self.view_is c.self.invariant c.requires.map e in
     subst (λ o. IfNone o (IfSome (slice_get (maps_of before) m) IsFull)) (sym c.from_residual.ensures) (is_full before m t at c.in_err-claimed.ensures.full)
 
 pub returns-in_err-claimed-clause-unchanged : goal.returns-in_err-claimed-clause-unchanged
@@ -55,9 +52,7 @@ returns-in_err-claimed-clause-unchanged c =
     let ts = c.self.inside.tables.items in let t = c.index_mut-table.result.now in let u = c.claim.new.self in
     let before = c.args.self.now in let m = c.args.m in
     let e = c.index_mut-table.ensures.value in
-    let inside = within before m c.requires.map in
-    let at = is_at ts before m t c.self.view_is c.self.invariant inside e in
-    let x : IsExchanged ts before m t u = record { tables = c.self.invariant; view = c.self.view_is; inside = inside; at = e; there = at } in
+    let x = exchanged ts before m t u c.self.view_is c.self.invariant c.requires.map e in
     let h = c.in_err-claimed.ensures in
     subst (λ o. IfNone o (contents (slice_set ts m u) ≡ before)) (sym c.from_residual.ensures) (exchanged_same ts before m t u x h.shape h.block h.unchanged)
 
@@ -66,9 +61,7 @@ returns-in_err-claimed-clause-others c =
     let ts = c.self.inside.tables.items in let t = c.index_mut-table.result.now in let u = c.claim.new.self in
     let before = c.args.self.now in let m = c.args.m in
     let e = c.index_mut-table.ensures.value in
-    let inside = within before m c.requires.map in
-    let at = is_at ts before m t c.self.view_is c.self.invariant inside e in
-    let x : IsExchanged ts before m t u = record { tables = c.self.invariant; view = c.self.view_is; inside = inside; at = e; there = at } in
+    let x = exchanged ts before m t u c.self.view_is c.self.invariant c.requires.map e in
     λ n ne. ap (λ y. slice_get y n) (view_exchanged ts before m t u c.self.view_is (within_tables ts before m t u x) e) ∙ others_kept _ before m n ne
 
 pub returns-in_err-claimed-clause-shapes : goal.returns-in_err-claimed-clause-shapes
@@ -80,9 +73,7 @@ returns-clause-entry c =
     let ts = c.self.inside.tables.items in let t = c.index_mut-table.result.now in let u = c.claim.new.self in
     let before = c.args.self.now in let m = c.args.m in let key = c.args.key.now in
     let e = c.index_mut-table.ensures.value in
-    let inside = within before m c.requires.map in
-    let at = is_at ts before m t c.self.view_is c.self.invariant inside e in
-    let x : IsExchanged ts before m t u = record { tables = c.self.invariant; view = c.self.view_is; inside = inside; at = e; there = at } in
+    let x = exchanged ts before m t u c.self.view_is c.self.invariant c.requires.map e in
     let h = c.in_ok-claimed.ensures in
     let is : IsClaimed t u key c.in_ok-claimed.claimed.place = record { shape = h.shape; block = h.block; table = h.table; claimed = h.claimed } in
     (refl, entry_stands ts before m t u key c.in_ok-claimed.claimed.place x is)
@@ -92,8 +83,7 @@ returns-clause-place c =
     let ts = c.self.inside.tables.items in let t = c.index_mut-table.result.now in let u = c.claim.new.self in
     let before = c.args.self.now in let m = c.args.m in
     let e = c.index_mut-table.ensures.value in
-    let inside = within before m c.requires.map in
-    let at = is_at ts before m t c.self.view_is c.self.invariant inside e in
+    let at = table_at ts before m t c.self.view_is c.self.invariant c.requires.map e in
     let h = c.in_ok-claimed.ensures in
     let low = below u.shape u.index c.in_ok-claimed.claimed.place c.args.key.now h.table.index h.claimed.stands in
     of_shape (λ s. c.in_ok-claimed.claimed.place < entry_count s) before m (stored t) at.there (subst (λ s. c.in_ok-claimed.claimed.place < entry_count s) h.shape low)
@@ -103,9 +93,7 @@ returns-clause-written c =
     let ts = c.self.inside.tables.items in let t = c.index_mut-table.result.now in let u = c.claim.new.self in
     let before = c.args.self.now in let m = c.args.m in let key = c.args.key.now in
     let e = c.index_mut-table.ensures.value in
-    let inside = within before m c.requires.map in
-    let at = is_at ts before m t c.self.view_is c.self.invariant inside e in
-    let x : IsExchanged ts before m t u = record { tables = c.self.invariant; view = c.self.view_is; inside = inside; at = e; there = at } in
+    let x = exchanged ts before m t u c.self.view_is c.self.invariant c.requires.map e in
     let h = c.in_ok-claimed.ensures in
     let is : IsClaimed t u key c.in_ok-claimed.claimed.place = record { shape = h.shape; block = h.block; table = h.table; claimed = h.claimed } in
     puts_written ts before m t u key (record { map = m; place = c.in_ok-claimed.claimed.place }) x is refl
@@ -115,8 +103,7 @@ returns-clause-found c =
     let ts = c.self.inside.tables.items in let t = c.index_mut-table.result.now in
     let before = c.args.self.now in let m = c.args.m in let key = c.args.key.now in
     let e = c.index_mut-table.ensures.value in
-    let inside = within before m c.requires.map in
-    let at = is_at ts before m t c.self.view_is c.self.invariant inside e in
+    let at = table_at ts before m t c.self.view_is c.self.invariant c.requires.map e in
     was_found before m c.in_ok-claimed.claimed.place t key c.in_ok-claimed.claimed.is_new at c.in_ok-claimed.ensures.found c.in_ok-claimed.ensures.new
 
 pub returns-clause-kept : goal.returns-clause-kept
@@ -124,9 +111,7 @@ returns-clause-kept c =
     let ts = c.self.inside.tables.items in let t = c.index_mut-table.result.now in let u = c.claim.new.self in
     let before = c.args.self.now in let m = c.args.m in
     let e = c.index_mut-table.ensures.value in
-    let inside = within before m c.requires.map in
-    let at = is_at ts before m t c.self.view_is c.self.invariant inside e in
-    let x : IsExchanged ts before m t u = record { tables = c.self.invariant; view = c.self.view_is; inside = inside; at = e; there = at } in
+    let x = exchanged ts before m t u c.self.view_is c.self.invariant c.requires.map e in
     let h = c.in_ok-claimed.ensures in λ old. exchanged_same ts before m t u x h.shape h.block (h.kept old)
 
 pub returns-clause-others : goal.returns-clause-others
@@ -134,9 +119,7 @@ returns-clause-others c =
     let ts = c.self.inside.tables.items in let t = c.index_mut-table.result.now in let u = c.claim.new.self in
     let before = c.args.self.now in let m = c.args.m in
     let e = c.index_mut-table.ensures.value in
-    let inside = within before m c.requires.map in
-    let at = is_at ts before m t c.self.view_is c.self.invariant inside e in
-    let x : IsExchanged ts before m t u = record { tables = c.self.invariant; view = c.self.view_is; inside = inside; at = e; there = at } in
+    let x = exchanged ts before m t u c.self.view_is c.self.invariant c.requires.map e in
     λ n ne. ap (λ y. slice_get y n) (view_exchanged ts before m t u c.self.view_is (within_tables ts before m t u x) e) ∙ others_kept _ before m n ne
 
 pub returns-clause-shapes : goal.returns-clause-shapes
@@ -148,8 +131,7 @@ returns-clause-room c =
     let ts = c.self.inside.tables.items in let t = c.index_mut-table.result.now in
     let before = c.args.self.now in let m = c.args.m in let key = c.args.key.now in
     let e = c.index_mut-table.ensures.value in
-    let inside = within before m c.requires.map in
-    let at = is_at ts before m t c.self.view_is c.self.invariant inside e in
+    let at = table_at ts before m t c.self.view_is c.self.invariant c.requires.map e in
     has_room before m c.in_ok-claimed.claimed.place t key c.in_ok-claimed.claimed.is_new at c.in_ok-claimed.ensures.found c.in_ok-claimed.ensures.room
 
 pub returns-in_err-claimed-clause-maps : goal.returns-in_err-claimed-clause-maps
@@ -157,9 +139,7 @@ returns-in_err-claimed-clause-maps c = λ shapes has.
     let ts = c.self.inside.tables.items in let t = c.index_mut-table.result.now in let u = c.claim.new.self in
     let before = c.args.self.now in let m = c.args.m in
     let e = c.index_mut-table.ensures.value in
-    let inside = within before m c.requires.map in
-    let at = is_at ts before m t c.self.view_is c.self.invariant inside e in
-    let x : IsExchanged ts before m t u = record { tables = c.self.invariant; view = c.self.view_is; inside = inside; at = e; there = at } in
+    let x = exchanged ts before m t u c.self.view_is c.self.invariant c.requires.map e in
     let h = c.in_err-claimed.ensures in
     subst (λ y. HasShapes shapes (maps_of y)) (sym (exchanged_same ts before m t u x h.shape h.block h.unchanged)) has
 
@@ -168,9 +148,8 @@ returns-clause-maps c = λ shapes has.
     let ts = c.self.inside.tables.items in let t = c.index_mut-table.result.now in let u = c.claim.new.self in
     let before = c.args.self.now in let m = c.args.m in let key = c.args.key.now in
     let e = c.index_mut-table.ensures.value in
-    let inside = within before m c.requires.map in
-    let at = is_at ts before m t c.self.view_is c.self.invariant inside e in
-    let x : IsExchanged ts before m t u = record { tables = c.self.invariant; view = c.self.view_is; inside = inside; at = e; there = at } in
+    let at = table_at ts before m t c.self.view_is c.self.invariant c.requires.map e in
+    let x = exchanged ts before m t u c.self.view_is c.self.invariant c.requires.map e in
     let h = c.in_ok-claimed.ensures in
     let place = c.in_ok-claimed.claimed.place in
     let is : IsClaimed t u key place = record { shape = h.shape; block = h.block; table = h.table; claimed = h.claimed } in
