@@ -195,8 +195,11 @@ nrbpf_status nrbpf_close(nrbpf_store *store) {
     if (!store) {
         return NRBPF_H7;
     }
+    // (a detach in another thread writes the status too)
+    pthread_mutex_lock(&store->mutex);
     nrbpf_raw_close(&store->raw);
     nrbpf_status status = (nrbpf_status)store->raw.status;
+    pthread_mutex_unlock(&store->mutex);
     if (status == NRBPF_OK) {
         give_back(store);
     }
@@ -211,8 +214,10 @@ nrbpf_status nrbpf_close_into(nrbpf_store *store, nrbpf_state **out) {
     if (!room) {
         return NRBPF_O2;
     }
+    pthread_mutex_lock(&store->mutex);
     nrbpf_raw_close_into(&store->raw, room);
     nrbpf_status status = (nrbpf_status)store->raw.status;
+    pthread_mutex_unlock(&store->mutex);
     if (status == NRBPF_OK || status == NRBPF_H6) {
         give_back(store);                       // H6 ends it too; no call of nrbpf.h leads there
     }
