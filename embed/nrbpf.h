@@ -175,7 +175,7 @@ NRBPF_MUST_LOOK nrbpf_status nrbpf_open_on(const nrbpf_config *config, const cha
                                            size_t count, const nrbpf_state *state, nrbpf_store **out, nrbpf_error *why);
 
 // Ends a store and gives its memory back. S5, H7, and then the store is as it was. [end]
-nrbpf_status nrbpf_close(nrbpf_store *store);
+NRBPF_MUST_LOOK nrbpf_status nrbpf_close(nrbpf_store *store);
 
 // Ends a store, and gives the state that it ends in. S5, O2, H7, and then the store is as it was. [end]
 NRBPF_MUST_LOOK nrbpf_status nrbpf_close_into(nrbpf_store *store, nrbpf_state **out);
@@ -188,7 +188,7 @@ NRBPF_MUST_LOOK nrbpf_status nrbpf_attach(nrbpf_store *store, uint32_t node, nrb
 
 // Gives a session back. From then on its handle is refused (H2) while the store is open, by this call and
 // all others: at least while the next 511 sessions are attached. H2, H3, H7. [session]
-nrbpf_status nrbpf_detach(nrbpf_session *session);
+NRBPF_MUST_LOOK nrbpf_status nrbpf_detach(nrbpf_session *session);
 
 // ---- Calls: each is one operation, at one point of the store's history
 
