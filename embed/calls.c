@@ -3,7 +3,7 @@
 #include <sched.h>
 #include <string.h>
 
-enum { SPINS = 9 };
+enum { SPINS = 9, LONGEST_KEY = 64 };
 
 // Lets another session go on, behind so many tries: spins for longer from try to try, 16 us or so in all, and then lets another thread run.
 static void pause_behind(unsigned tries) {
@@ -20,20 +20,19 @@ static unsigned one_more(unsigned tries) {
     return tries < SPINS ? tries + 1 : tries;
 }
 
-// Whether a session takes a call: H2, H3.
-static nrbpf_status usable(const nrbpf_session *session) {
-    if (!session->of) {
+// Whether the session of this handle takes a call: H2, H3.
+static nrbpf_status usable(const struct place *place, const nrbpf_session *session) {
+    if (place->handle != session) {
         return NRBPF_H2;
     }
-    if (session->is_posted) {
+    if (place->is_posted) {
         return NRBPF_H3;
     }
     return NRBPF_OK;
 }
 
 // Writes why the session's last call is refused, if it is. What it answered.
-static nrbpf_status told(const nrbpf_session *session, nrbpf_error *why) {
-    const struct nrbpf_raw_session *raw = &session->raw;
+static nrbpf_status told(const struct nrbpf_raw_session *raw, nrbpf_error *why) {
     const nrbpf_status status = (nrbpf_status)raw->status;
     if (why && status >> 8 != 0) {
         why->status = status;
@@ -59,26 +58,26 @@ static void put_bytes(struct nrbpf_raw_session *raw, const void *bytes, size_t l
 }
 
 // Makes the call that the session's words ask for, or goes on with what is posted.
-static nrbpf_status go_on(nrbpf_session *session, nrbpf_answer *out, nrbpf_error *why) {
-    const struct nrbpf_raw_session *raw = &session->raw;
-    nrbpf_raw_call(&session->raw);
-    session->is_posted = raw->status == NRBPF_POSTED;
+static nrbpf_status go_on(struct place *place, nrbpf_answer *out, nrbpf_error *why) {
+    struct nrbpf_raw_session *const raw = &place->raw;
+    nrbpf_raw_call(raw);
+    place->is_posted = raw->status == NRBPF_POSTED;
     if (raw->status == NRBPF_OK) {
         out->point = raw->place;
         out->reply = raw->reply;
         return NRBPF_OK;
     }
-    return told(session, why);
+    return told(raw, why);
 }
 
 // Goes on until a call that was tried is answered.
-static nrbpf_status wait_for(nrbpf_session *session, nrbpf_answer *out, nrbpf_error *why) {
+static nrbpf_status wait_for(struct place *place, nrbpf_answer *out, nrbpf_error *why) {
     nrbpf_status status;
     unsigned tries = 0;
     do {
         pause_behind(tries);
         tries = one_more(tries);
-        status = go_on(session, out, why);
+        status = go_on(place, out, why);
     } while (status == NRBPF_BUSY || status == NRBPF_POSTED);
     return status;
 }
@@ -88,14 +87,15 @@ static inline nrbpf_status run(nrbpf_session *session, uint64_t call, uint16_t p
     if (!session || (!argument && len > 0) || !out) {
         return NRBPF_H7;
     }
-    const nrbpf_status status = usable(session);
+    struct place *const place = place_of(session);
+    const nrbpf_status status = usable(place, session);
     if (status != NRBPF_OK) {
         return status;
     }
-    session->raw.call = call;
-    session->raw.program = program;
-    put_bytes(&session->raw, argument, len);
-    return go_on(session, out, NULL);
+    place->raw.call = call;
+    place->raw.program = program;
+    put_bytes(&place->raw, argument, len);
+    return go_on(place, out, NULL);
 }
 
 nrbpf_status nrbpf_try_update(nrbpf_session *session, uint16_t program, const void *argument, size_t len, nrbpf_answer *out) {
@@ -109,7 +109,7 @@ nrbpf_status nrbpf_try_read(nrbpf_session *session, uint16_t program, const void
 nrbpf_status nrbpf_update(nrbpf_session *session, uint16_t program, const void *argument, size_t len, nrbpf_answer *out) {
     const nrbpf_status status = run(session, NRBPF_RAW_UPDATE, program, argument, len, out);
     if (status == NRBPF_BUSY || status == NRBPF_POSTED) {
-        return wait_for(session, out, NULL);
+        return wait_for(place_of(session), out, NULL);
     }
     return status;
 }
@@ -117,7 +117,7 @@ nrbpf_status nrbpf_update(nrbpf_session *session, uint16_t program, const void *
 nrbpf_status nrbpf_read(nrbpf_session *session, uint16_t program, const void *argument, size_t len, nrbpf_answer *out) {
     const nrbpf_status status = run(session, NRBPF_RAW_READ, program, argument, len, out);
     if (status == NRBPF_BUSY) {
-        return wait_for(session, out, NULL);
+        return wait_for(place_of(session), out, NULL);
     }
     return status;
 }
@@ -127,25 +127,26 @@ nrbpf_status nrbpf_try_install(nrbpf_session *session, uint32_t mode, uint32_t a
     if (!session || (!bytes && len > 0) || !out) {
         return refused(why, NRBPF_H7);
     }
-    const nrbpf_status status = usable(session);
+    struct place *const place = place_of(session);
+    const nrbpf_status status = usable(place, session);
     if (status != NRBPF_OK) {
         return refused(why, status);
     }
-    if (len > sizeof session->raw.bytes) {
-        return refused(why, NRBPF_S6);
+    if (len > sizeof place->raw.bytes) {
+        return refused(why, mode > NRBPF_MODE_READ ? NRBPF_H5 : NRBPF_S6);
     }
-    session->raw.call = NRBPF_RAW_INSTALL;
-    session->raw.mode = mode;
-    session->raw.argument = argument_len;
-    put_bytes(&session->raw, bytes, len);
-    return go_on(session, out, why);
+    place->raw.call = NRBPF_RAW_INSTALL;
+    place->raw.mode = mode;
+    place->raw.argument = argument_len;
+    put_bytes(&place->raw, bytes, len);
+    return go_on(place, out, why);
 }
 
 nrbpf_status nrbpf_install(nrbpf_session *session, uint32_t mode, uint32_t argument_len, const void *bytes, size_t len, nrbpf_answer *out,
                            nrbpf_error *why) {
     const nrbpf_status status = nrbpf_try_install(session, mode, argument_len, bytes, len, out, why);
     if (status == NRBPF_BUSY || status == NRBPF_POSTED) {
-        return wait_for(session, out, why);
+        return wait_for(place_of(session), out, why);
     }
     return status;
 }
@@ -154,34 +155,40 @@ nrbpf_status nrbpf_poll(nrbpf_session *session, nrbpf_answer *out) {
     if (!session || !out) {
         return NRBPF_H7;
     }
-    if (!session->of) {
+    struct place *const place = place_of(session);
+    if (place->handle != session) {
         return NRBPF_H2;
     }
-    if (!session->is_posted) {
+    if (!place->is_posted) {
         return NRBPF_H11;
     }
-    return go_on(session, out, NULL);
+    return go_on(place, out, NULL);
 }
 
 // ---- More reads
 
 nrbpf_status nrbpf_try_get(nrbpf_session *session, uint32_t map, const void *key, size_t key_len, void *value, size_t value_len,
                            nrbpf_found *out) {
-    uint8_t none = 0;                           // what a null pointer with no bytes behind it points to
-    const uint8_t *const from = key ? (const uint8_t *)key : &none;
+    uint8_t none = 0;                           // what a null pointer to no bytes points to
     uint8_t *const to = value ? (uint8_t *)value : &none;
+    uint8_t own_key[LONGEST_KEY + 1] = {0};     // a copy: the value may be written where the key is
+    const size_t own_len = key_len < sizeof own_key ? key_len : sizeof own_key; // the full length is no key's: S11
     if (!session || (!key && key_len > 0) || (!value && value_len > 0) || !out) {
         return NRBPF_H7;
     }
-    nrbpf_status status = usable(session);
+    struct place *const place = place_of(session);
+    nrbpf_status status = usable(place, session);
     if (status != NRBPF_OK) {
         return status;
     }
-    nrbpf_raw_get(&session->raw, map, from, key_len, to, value_len);
-    status = told(session, NULL);
+    if (own_len > 0) {
+        memcpy(own_key, key, own_len);
+    }
+    nrbpf_raw_get(&place->raw, map, own_key, own_len, to, value_len);
+    status = told(&place->raw, NULL);
     if (status == NRBPF_OK) {
-        out->point = session->raw.place;
-        out->is_there = (uint32_t)session->raw.count;
+        out->point = place->raw.place;
+        out->is_there = (uint32_t)place->raw.count;
     }
     return status;
 }
@@ -205,16 +212,18 @@ nrbpf_status nrbpf_try_scan(nrbpf_session *session, uint32_t map, uint32_t from,
     if (!session || (!keys && keys_room > 0) || (!values && values_room > 0) || !out) {
         return NRBPF_H7;
     }
-    nrbpf_status status = usable(session);
+    struct place *const place = place_of(session);
+    const struct nrbpf_raw_session *const raw = &place->raw;
+    nrbpf_status status = usable(place, session);
     if (status != NRBPF_OK) {
         return status;
     }
-    nrbpf_raw_scan(&session->raw, map, from, keys_at, keys_room, values_at, values_room);
-    status = told(session, NULL);
+    nrbpf_raw_scan(&place->raw, map, from, keys_at, keys_room, values_at, values_room);
+    status = told(raw, NULL);
     if (status == NRBPF_OK) {
-        out->point = session->raw.place;
-        out->count = (uint32_t)session->raw.count;
-        out->next = session->raw.next == NRBPF_RAW_END ? NRBPF_END : (uint32_t)session->raw.next;
+        out->point = raw->place;
+        out->count = (uint32_t)raw->count;
+        out->next = raw->next == NRBPF_RAW_END ? NRBPF_END : (uint32_t)raw->next;
     }
     return status;
 }
@@ -247,12 +256,13 @@ static nrbpf_status questions_of(const nrbpf_question *questions, size_t count, 
 nrbpf_status nrbpf_try_read_each(nrbpf_session *session, const nrbpf_question *questions, size_t count, uint64_t *replies, uint64_t *point,
                                  nrbpf_error *why) {
     struct nrbpf_raw_question asked[NRBPF_MOST_QUESTIONS];
+    uint64_t own_replies[NRBPF_MOST_QUESTIONS]; // copied at the end: arguments may be where the replies are written
     const uint8_t none = 0;
-    uint64_t no_reply = 0;
     if (!session || (!questions && count > 0) || (!replies && count > 0) || !point) {
         return refused(why, NRBPF_H7);
     }
-    nrbpf_status status = usable(session);
+    struct place *const place = place_of(session);
+    nrbpf_status status = usable(place, session);
     if (status != NRBPF_OK) {
         return refused(why, status);
     }
@@ -263,10 +273,13 @@ nrbpf_status nrbpf_try_read_each(nrbpf_session *session, const nrbpf_question *q
     if (status != NRBPF_OK) {
         return refused(why, status);
     }
-    nrbpf_raw_read_each(&session->raw, asked, count, replies ? replies : &no_reply, count);
-    status = told(session, why);
+    nrbpf_raw_read_each(&place->raw, asked, count, own_replies, count);
+    status = told(&place->raw, why);
     if (status == NRBPF_OK) {
-        *point = session->raw.place;
+        *point = place->raw.place;
+        for (size_t i = 0; i < count; i++) {
+            replies[i] = own_replies[i];
+        }
     }
     return status;
 }
@@ -287,14 +300,15 @@ nrbpf_status nrbpf_try_snapshot(nrbpf_session *session, nrbpf_state *into, uint6
     if (!session || !into || !point) {
         return NRBPF_H7;
     }
-    nrbpf_status status = usable(session);
+    struct place *const place = place_of(session);
+    nrbpf_status status = usable(place, session);
     if (status != NRBPF_OK) {
         return status;
     }
-    nrbpf_raw_snapshot(&session->raw, raw_state_of(into));
-    status = told(session, NULL);
+    nrbpf_raw_snapshot(&place->raw, raw_state_of(into));
+    status = told(&place->raw, NULL);
     if (status == NRBPF_OK) {
-        *point = session->raw.place;
+        *point = place->raw.place;
     }
     return status;
 }

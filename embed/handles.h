@@ -7,19 +7,34 @@
 #include <pthread.h>
 #include <stdalign.h>
 
-enum { MOST_SESSIONS = 128, CACHE_LINE = 64 };
+enum { MOST_SESSIONS = 128, TURNS = 512 };
 
-struct nrbpf_session {
-    alignas(CACHE_LINE) nrbpf_store *of;        // null where no session is attached
-    int is_posted;                              // whether an update or an install is, which nrbpf_poll goes on with
+// A place for a session. Its sessions come one after another, and each has a handle of its own: the
+// address of the place, in whose low bits is the session's turn. No code reads through a handle.
+// So the handle of a session that is detached is found to be none, also once the place has another
+// session: a handle comes again after TURNS turns.
+struct place {
+    alignas(TURNS) nrbpf_session *handle;       // of the session that is attached, or null
+    int is_posted;                              // whether nrbpf_poll has an update or an install to go on with
+    uint32_t turn;                              // of the session that is attached, or else of the next one
+    nrbpf_store *of;
     struct nrbpf_raw_session raw;
 };
 
 struct nrbpf_store {
-    pthread_mutex_t mutex;                      // of `raw`, and of each session's `of`: one call at a time
+    pthread_mutex_t mutex;                      // of `raw`, and of each place's handle and turn
     struct nrbpf_raw_store raw;
-    nrbpf_session sessions[MOST_SESSIONS + 1];  // one more than can be attached, so that there is always one to try with
+    struct place places[MOST_SESSIONS + 1];     // one more than can be attached, so that there is always one to try with
 };
+
+static inline nrbpf_session *next_handle(const struct place *place) {
+    return (nrbpf_session *)((uintptr_t)place + place->turn);
+}
+
+// The place of a session, of an earlier one too.
+static inline struct place *place_of(const nrbpf_session *session) {
+    return (struct place *)((uintptr_t)session & ~(uintptr_t)(TURNS - 1));
+}
 
 // A state's handle is the raw one, which no call changes that is not said to.
 static inline struct nrbpf_raw_state *raw_state_of(const nrbpf_state *state) {

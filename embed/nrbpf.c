@@ -48,16 +48,16 @@ static int is_missing(const char *text, size_t len) {
     return !text && len > 0;
 }
 
+// Whether one of the pointers that are passed is null.
 static int has_null(const struct texts *given) {
-    if (!given->config) {
+    if (!given->config || is_missing(given->manifest, given->manifest_len)) {
         return 1;
     }
-    if (is_missing(given->manifest, given->manifest_len)) {
-        return 1;
-    }
-    if (!given->files && given->count > 0) {
-        return 1;
-    }
+    return !given->files && given->count > 0;
+}
+
+// Whether one of those in the files is.
+static int has_null_in_files(const struct texts *given) {
     for (size_t i = 0; i < given->count; i++) {
         const nrbpf_file *file = &given->files[i];
         if (is_missing(file->name, file->name_len) || is_missing(file->text, file->text_len)) {
@@ -94,7 +94,10 @@ static nrbpf_status prepared(const struct texts *given, struct nrbpf_raw_opening
         return NRBPF_H7;
     }
     if (!is_known(given->config->version)) {
-        return NRBPF_H8;
+        return NRBPF_H8;                        // before the files, which another header may lay out otherwise
+    }
+    if (has_null_in_files(given)) {
+        return NRBPF_H7;
     }
     struct nrbpf_raw_file *files = (struct nrbpf_raw_file *)calloc(given->count + 1, sizeof *files);
     if (!files) {
@@ -123,7 +126,7 @@ static void let_go(const struct nrbpf_raw_opening *opening) {
 
 // Room for a store, none of whose sessions is attached; null where there is no memory.
 static nrbpf_store *room_for_store(void) {
-    nrbpf_store *store = (nrbpf_store *)aligned_alloc(CACHE_LINE, sizeof *store);
+    nrbpf_store *store = (nrbpf_store *)aligned_alloc(TURNS, sizeof *store);
     if (!store) {
         return NULL;
     }
@@ -131,6 +134,9 @@ static nrbpf_store *room_for_store(void) {
     if (pthread_mutex_init(&store->mutex, NULL) != 0) {
         free(store);
         return NULL;
+    }
+    for (size_t i = 0; i <= MOST_SESSIONS; i++) {
+        store->places[i].of = store;
     }
     return store;
 }
@@ -195,8 +201,11 @@ nrbpf_status nrbpf_close(nrbpf_store *store) {
     if (!store) {
         return NRBPF_H7;
     }
+    // (a detach in another thread writes the status too)
+    pthread_mutex_lock(&store->mutex);
     nrbpf_raw_close(&store->raw);
     nrbpf_status status = (nrbpf_status)store->raw.status;
+    pthread_mutex_unlock(&store->mutex);
     if (status == NRBPF_OK) {
         give_back(store);
     }
@@ -211,8 +220,10 @@ nrbpf_status nrbpf_close_into(nrbpf_store *store, nrbpf_state **out) {
     if (!room) {
         return NRBPF_O2;
     }
+    pthread_mutex_lock(&store->mutex);
     nrbpf_raw_close_into(&store->raw, room);
     nrbpf_status status = (nrbpf_status)store->raw.status;
+    pthread_mutex_unlock(&store->mutex);
     if (status == NRBPF_OK || status == NRBPF_H6) {
         give_back(store);                       // H6 ends it too; no call of nrbpf.h leads there
     }
@@ -284,17 +295,17 @@ nrbpf_status nrbpf_attach(nrbpf_store *store, uint32_t node, nrbpf_session **out
         return NRBPF_H7;
     }
     pthread_mutex_lock(&store->mutex);
-    nrbpf_session *room = store->sessions;
-    while (room->of) {
-        room++;
+    struct place *place = store->places;
+    while (place->handle) {
+        place++;
     }
     store->raw.node = node;
-    nrbpf_raw_attach(&store->raw, &room->raw);
+    nrbpf_raw_attach(&store->raw, &place->raw);
     nrbpf_status status = (nrbpf_status)store->raw.status;
     if (status == NRBPF_OK) {
-        room->of = store;
-        room->is_posted = 0;
-        *out = room;
+        place->handle = next_handle(place);
+        place->is_posted = 0;
+        *out = place->handle;
     }
     pthread_mutex_unlock(&store->mutex);
     return status;
@@ -304,15 +315,17 @@ nrbpf_status nrbpf_detach(nrbpf_session *session) {
     if (!session) {
         return NRBPF_H7;
     }
-    nrbpf_store *store = session->of;
-    if (!store) {
-        return NRBPF_H2;
-    }
+    struct place *const place = place_of(session);
+    nrbpf_store *const store = place->of;
+    nrbpf_status status = NRBPF_H2;
     pthread_mutex_lock(&store->mutex);
-    nrbpf_raw_detach(&store->raw, &session->raw);
-    nrbpf_status status = (nrbpf_status)store->raw.status;
-    if (status == NRBPF_OK) {
-        session->of = NULL;
+    if (place->handle == session) {
+        nrbpf_raw_detach(&store->raw, &place->raw);
+        status = (nrbpf_status)store->raw.status;
+        if (status == NRBPF_OK) {
+            place->handle = NULL;
+            place->turn = (place->turn + 1) % TURNS;
+        }
     }
     pthread_mutex_unlock(&store->mutex);
     return status;

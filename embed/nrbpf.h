@@ -1,26 +1,35 @@
 // nrbpf.h: a node-replicated store in memory, shared by the threads of a service, whose operations are verified eBPF programs.
 //
-//     nrbpf_config config = NRBPF_CONFIG(2, 4);                              // two nodes, four sessions of each
-//     if (nrbpf_open(&config, manifest, strlen(manifest), files, 2, &store, &why)) complain(&why);
-//     nrbpf_program_number(store, "bump", 4, &bump);
-//     nrbpf_attach(store, 0, &session);                                      // a session for this thread
-//     nrbpf_update(session, bump, key, 4, &answer);                          // answer.reply: what the program replied
-//     nrbpf_detach(session);
-//     nrbpf_close(store);
+//     nrbpf_config config = NRBPF_CONFIG(2, 4);                 // two nodes, four sessions of each
+//     check(nrbpf_open(&config, manifest, strlen(manifest), files, 2, &store, &why));
+//     check(nrbpf_program_number(store, "bump", 4, &bump));
+//     check(nrbpf_attach(store, 0, &session));                  // a session for this thread
+//     check(nrbpf_update(session, bump, key, 4, &answer));      // answer.reply: what the program replied
+//     check(nrbpf_detach(session));
+//     check(nrbpf_close(store));
 //
-// A call copies its arguments, and writes its answer on success alone. The library takes memory in nrbpf_open, nrbpf_open_on, nrbpf_close_into,
-// nrbpf_state_new, nrbpf_state_dump and nrbpf_state_load alone, starts no thread, has no global state, opens no file, sets no errno of its own and
-// prints nothing. docs/EMBEDDING.md says how it is used and what of it is proved.
+// A call writes its answer on success alone. It copies its arguments, keys and questions first, so the
+// answer may be written where they are; two things that it writes may not overlap.
 //
-// All updates of a store are its history. A point of it is a number of updates: an update is told how many stand before it, its index, and whatever
-// reads is told how many the maps had seen. An install is an update too.
+// The library takes memory in nrbpf_open, nrbpf_open_on, nrbpf_close_into, nrbpf_state_new,
+// nrbpf_state_dump and nrbpf_state_load alone. It starts no thread, has no global state, opens no file,
+// sets no errno of its own and prints nothing. docs/EMBEDDING.md says how it is used and what of it is
+// proved.
+//
+// All updates of a store are its history. A point of it is a number of updates: an update is told how
+// many come before it, its index, and whatever reads is told how many the maps had seen. An install is
+// an update too.
 //
 // Each function says in brackets when it may be called:
-//     [any]      at any time, by any number of threads at once, but not beside or behind nrbpf_close or nrbpf_close_into of the same store
-//     [session]  as [any], one call at a time on this session: a session is used by one thread, or handed on
-//     [alone]    while no other call is made on this store or its sessions
-// A session is handed to another thread by a mutex, by a thread's start or join, or by a sequentially consistent atomic. Nothing here may
-// be called from a signal handler, or in the forked child of a process with threads.
+//     [any]      at any time, by any number of threads at once, until the store is ended
+//     [session]  as [any], one call at a time on this session: a session is used by one thread, or
+//                handed on
+//     [end]      by one thread at a time. While a session is attached it answers S5, also next to calls
+//                on that session, its detach among them. Once none is attached it ends the store: then
+//                no other call on the store may be under way or follow
+// A session is handed to another thread by a mutex, by a thread's start or join, or by a sequentially
+// consistent atomic. Nothing here may be called from a signal handler, or in the forked child of a
+// process with threads.
 #ifndef NRBPF_HOST_H
 #define NRBPF_HOST_H
 
@@ -51,8 +60,10 @@ uint32_t nrbpf_version(void);
 
 // ---- Statuses
 
-// 0, or why a call did not do what it was asked: a letter and a number of docs/REFUSALS.md, `status >> 8` and `status & 255`. 1 and 2 have no
-// letter, and refuse nothing: a call with `try_` in its name has not been answered yet.
+// 0, or why a call did not do what it was asked: a letter and a number of docs/REFUSALS.md,
+// `status >> 8` and `status & 255`. Of several refusals it is the first in this order: H7, H8, H2, H3 or
+// H11, H5, and then the others. 1 and 2 have no letter, and refuse nothing: a call with `try_` in its
+// name has not been answered yet.
 typedef uint32_t nrbpf_status;
 #define NRBPF_REFUSAL(letter, number) ((nrbpf_status)(letter) << 8 | (nrbpf_status)(number))
 
@@ -163,10 +174,10 @@ NRBPF_MUST_LOOK nrbpf_status nrbpf_open(const nrbpf_config *config, const char *
 NRBPF_MUST_LOOK nrbpf_status nrbpf_open_on(const nrbpf_config *config, const char *manifest, size_t manifest_len, const nrbpf_file *files,
                                            size_t count, const nrbpf_state *state, nrbpf_store **out, nrbpf_error *why);
 
-// Ends a store and gives its memory back. S5, H7. [alone]
-nrbpf_status nrbpf_close(nrbpf_store *store);
+// Ends a store and gives its memory back. S5, H7, and then the store is as it was. [end]
+NRBPF_MUST_LOOK nrbpf_status nrbpf_close(nrbpf_store *store);
 
-// Ends a store, and gives the state that it ends in. S5, O2, H7, and then the store is as it was. [alone]
+// Ends a store, and gives the state that it ends in. S5, O2, H7, and then the store is as it was. [end]
 NRBPF_MUST_LOOK nrbpf_status nrbpf_close_into(nrbpf_store *store, nrbpf_state **out);
 
 // The number of a program of the manifest. S1, H4, H7. [any]
@@ -175,10 +186,11 @@ NRBPF_MUST_LOOK nrbpf_status nrbpf_program_number(nrbpf_store *store, const char
 // A session of this node, counted from 0, that is free. Takes no memory. H1, H7. [any]
 NRBPF_MUST_LOOK nrbpf_status nrbpf_attach(nrbpf_store *store, uint32_t node, nrbpf_session **out);
 
-// Gives a session back. H2, H3, H7. [session]
-nrbpf_status nrbpf_detach(nrbpf_session *session);
+// Gives a session back. From then on its handle is refused (H2) while the store is open, by this call and
+// all others: at least while the next 511 sessions are attached. H2, H3, H7. [session]
+NRBPF_MUST_LOOK nrbpf_status nrbpf_detach(nrbpf_session *session);
 
-// ---- Calls: each is one operation of the store, at once for all sessions
+// ---- Calls: each is one operation, at one point of the store's history
 
 typedef struct nrbpf_answer {
     uint64_t point;                             // of an update: its index, how many stand before it. Of a read: how many it has seen
@@ -202,8 +214,11 @@ NRBPF_MUST_LOOK nrbpf_status nrbpf_read(nrbpf_session *session, uint16_t program
 NRBPF_MUST_LOOK nrbpf_status nrbpf_install(nrbpf_session *session, uint32_t mode, uint32_t argument_len, const void *bytes, size_t len,
                                            nrbpf_answer *out, nrbpf_error *why);
 
-// The same, and wait for nobody: BUSY besides, and of an update or an install POSTED. Then the store has it, once, and the session takes no other
-// call but nrbpf_poll (H3) until that has answered. Other updates of its node may have to wait for it: so go on with it soon. [session]
+// nrbpf_update, nrbpf_read and nrbpf_install, but they wait for nobody: BUSY besides, and of an update or
+// an install POSTED. Then the store has it, once, and the session takes no other call than nrbpf_poll
+// (H3) until that has answered. The session may also have taken other updates of its node along, which
+// wait until it is polled: so poll soon. If it is never polled again, these and all later updates of its
+// node may wait for ever, and the store can't be closed (S5). [session]
 NRBPF_MUST_LOOK nrbpf_status nrbpf_try_update(nrbpf_session *session, uint16_t program, const void *argument, size_t len, nrbpf_answer *out);
 NRBPF_MUST_LOOK nrbpf_status nrbpf_try_read(nrbpf_session *session, uint16_t program, const void *argument, size_t len, nrbpf_answer *out);
 NRBPF_MUST_LOOK nrbpf_status nrbpf_try_install(nrbpf_session *session, uint32_t mode, uint32_t argument_len, const void *bytes, size_t len,

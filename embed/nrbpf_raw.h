@@ -4,7 +4,8 @@
  * nrbpf_raw_close_into, nrbpf_raw_new_state, nrbpf_raw_load or nrbpf_raw_dump has written it, and as good as room again once nrbpf_raw_close,
  * nrbpf_raw_close_into, nrbpf_raw_detach, nrbpf_raw_drop_state or nrbpf_raw_drop_text has ended it. Between two calls the host writes the words under
  * "asked" and reads those under "answered"; it leaves `own` alone, and moves or copies no handle. Each function takes one call at a time on each handle that
- * is passed to it; calls on different handles may run side by side. No pointer is null, also where nothing lies behind it.
+ * is passed to it; calls on different handles may run side by side. No pointer is null, also where nothing lies behind it. What a function writes overlaps
+ * nothing else that it is passed.
  *
  * No function waits or locks. nrbpf_raw_open, nrbpf_raw_open_on, nrbpf_raw_close_into, nrbpf_raw_new_state, nrbpf_raw_load and nrbpf_raw_dump take memory,
  * by the host's malloc and realloc, and nrbpf_raw_close, nrbpf_raw_close_into, nrbpf_raw_drop_state and nrbpf_raw_drop_text give it back, by free; those
@@ -27,7 +28,8 @@ extern "C" {
 
 enum {
     NRBPF_RAW_BUSY = 1,     /* another session held a place, and nothing is asked: call again */
-    NRBPF_RAW_AGAIN = 2,    /* an update is posted, once, and not answered: call again, and go on soon */
+    NRBPF_RAW_AGAIN = 2,    /* an update is posted, once, and not answered: call again, and go on soon. The session may have taken other updates of its
+                             * node along: if its handle is given up, they are never answered */
     NRBPF_RAW_H1 = 'H' << 8 | 1, /* attach: no session of this node is free, or there is no such node */
     NRBPF_RAW_H2,           /* the handle is not open: the opening was refused, or the session was not given; or the state's handle has none */
     NRBPF_RAW_H3,           /* a read of any kind, a snapshot, or a detach, while an update is out */
@@ -171,8 +173,8 @@ void nrbpf_raw_get(struct nrbpf_raw_session *session, uint32_t map, const uint8_
  * map, and 16 more for each entry that there is room for. Statuses: 0, BUSY, S9, S10, H2, H3. */
 void nrbpf_raw_scan(struct nrbpf_raw_session *session, uint32_t map, uint32_t from, uint8_t *keys, size_t keys_room, uint8_t *values, size_t values_room);
 
-/* Answers up to 16 questions at one place, each in `replies` at its number; there are as many replies as questions. Statuses: 0, BUSY, S1 to S3 of the
- * first question that is refused, whose number is in slot, H2, H3, H5. */
+/* Answers up to 16 questions at one place, each in `replies` at its number; there are as many replies as questions. With none it only brings the maps of
+ * the session's node up to that place. Statuses: 0, BUSY, S1 to S3 of the first question that is refused, whose number is in slot, H2, H3, H5. */
 void nrbpf_raw_read_each(struct nrbpf_raw_session *session, const struct nrbpf_raw_question *questions, size_t count, uint64_t *replies, size_t room);
 
 /* Makes a state the store's at one place of the history. The status stands in the session's handle: 0, BUSY, H3, H9, H2 where the session's handle is not

@@ -70,7 +70,10 @@ inline bool is_answered(nrbpf_status status, const nrbpf_error &why = {}) {
 }
 
 struct ends {
-    void operator()(nrbpf_store *at) const noexcept { nrbpf_close(at); } // no session is attached: each has a part in the store
+    void operator()(nrbpf_store *at) const noexcept {
+        const nrbpf_status status = nrbpf_close(at); // no session is attached: each has a part in the store
+        static_cast<void>(status);
+    }
     void operator()(nrbpf_state *at) const noexcept { nrbpf_state_free(at); }
 };
 

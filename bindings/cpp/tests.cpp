@@ -326,6 +326,27 @@ static void stores_go_on() {
     }
 }
 
+// Stores end while another thread gives back their last session.
+static void close_next_to_a_session() {
+    for (int i = 0; i < 300; i++) {
+        nrbpf::store store(example("counter"), config());
+        std::atomic<bool> is_going{false};
+        std::thread other([session = std::optional(store.attach()), &is_going]() mutable {
+            is_going = true;
+            session.reset();
+        });
+        while (!is_going) std::this_thread::yield();
+        for (std::optional<nrbpf::state> state; !state;) {
+            try {
+                state = std::move(store).close_into();
+            } catch (const nrbpf::error &why) {
+                EQUAL(why.status(), NRBPF_ATTACHED);
+            }
+        }
+        other.join();
+    }
+}
+
 // ---- What is refused
 
 static void refused_manifests() {
@@ -431,7 +452,7 @@ int main() {
     const std::pair<const char *, void (*)()> tests[] = {
         {"header", header}, {"scans", scans}, {"rows", rows}, {"installs", installs}, {"tries", tries}, {"gets_and_scans", gets_and_scans}, {"reads_at_one_point", reads_at_one_point},
         {"four_threads", four_threads}, {"tries_beside_others", tries_beside_others}, {"snapshots", snapshots},
-        {"snapshots_beside_threads", snapshots_beside_threads}, {"dumps", dumps}, {"stores_go_on", stores_go_on},
+        {"snapshots_beside_threads", snapshots_beside_threads}, {"dumps", dumps}, {"stores_go_on", stores_go_on}, {"close_next_to_a_session", close_next_to_a_session},
         {"refused_manifests", refused_manifests}, {"refused_dumps", refused_dumps}, {"refused_calls", refused_calls}, {"limits", limits}, {"ends", ends},
     };
     for (const auto &[name, test] : tests) {

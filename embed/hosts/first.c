@@ -50,7 +50,7 @@ int main(void) {
     if ((status = nrbpf_read(session, peek, key, sizeof key, &answer))) return complain(status);
     printf("read %" PRIu64 " reply %" PRIu64 "\n", answer.point, answer.reply);
 
-    nrbpf_detach(session);
-    nrbpf_close(store);
+    if ((status = nrbpf_detach(session))) return complain(status);
+    if ((status = nrbpf_close(store))) return complain(status);
     return 0;
 }

@@ -7,7 +7,7 @@
 #include <sched.h>
 #include <stdatomic.h>
 
-enum { MOST_HANDLES = 130, STATES = 4, THREADS = 2, BESIDE = 15, MOST_TEXT = 4096 };
+enum { MOST_HANDLES = 30, STATES = 4, THREADS = 2, BESIDE = 15, MOST_TEXT = 4096 };
 
 static long calls, wanted;                      // how many were made, and how many are to be
 static long refused, busy, posted;
@@ -93,12 +93,13 @@ static uint32_t count_attached(uint32_t node) {
     return count;
 }
 
+// No handle comes again while there are so few. Where there is no room left, one that is detached is forgotten.
 static void note_handle(nrbpf_session *at, uint32_t node) {
-    handle *it = handles;
-    while (it < handles + handle_count && it->at != at) it++;
-    EXPECT(it < handles + MOST_HANDLES && !(it < handles + handle_count && it->is_attached));
-    if (it == handles + handle_count) handle_count++;
-    *it = (handle){at, 1, node};
+    for (uint32_t i = 0; i < handle_count; i++) EXPECT(handles[i].at != at);
+    uint32_t free = handle_count;
+    if (handle_count < MOST_HANDLES) handle_count++;
+    else for (free = below(MOST_HANDLES); handles[free].is_attached;) free = (free + 1) % MOST_HANDLES;
+    handles[free] = (handle){at, 1, node};
 }
 
 static void attach(void) {

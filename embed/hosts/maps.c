@@ -77,6 +77,36 @@ static void small_rooms(void) {
     EXPECT(scanned.count == 0 && scanned.next != NRBPF_END);
 }
 
+// A key may be where its value is written, in whole or in part.
+static void look_in_one_buffer(uint64_t point) {
+    for (uint32_t k = 0; k < 100; k++) {
+        for (size_t from = 0; from <= 4; from++) {
+            uint8_t bytes[8] = {0};
+            uint32_t value = 0;
+            nrbpf_found found = {0, 77};
+            memcpy(bytes, &k, sizeof k);
+            EXPECT_STATUS(nrbpf_get(session, 0, bytes, 4, bytes + from, 4, &found), NRBPF_OK);
+            EXPECT(found.point == point && found.is_there == is_there[k]);
+            memcpy(&value, bytes + from, sizeof value);
+            EXPECT(found.is_there ? value == 7 * k : memcmp(bytes, &k, sizeof k) == 0);
+        }
+    }
+}
+
+// So may the arguments of questions be where replies are written, also that of another question.
+static void ask_in_one_buffer(void) {
+    enum { LAST = NRBPF_MOST_QUESTIONS - 1 };
+    uint64_t words[NRBPF_MOST_QUESTIONS], point = 0;
+    nrbpf_question questions[NRBPF_MOST_QUESTIONS];
+    for (uint32_t i = 0; i <= LAST; i++) {
+        const uint32_t key = LAST - i;
+        memcpy(&words[i], &key, sizeof key);
+        questions[i] = (nrbpf_question){&words[LAST - i], sizeof key, GET};
+    }
+    EXPECT_STATUS(nrbpf_read_each(session, questions, NRBPF_MOST_QUESTIONS, words, &point, NULL), NRBPF_OK);
+    for (uint32_t i = 0; i <= LAST; i++) EXPECT(words[i] == (is_there[i] ? 7 * i : (uint64_t)-2));
+}
+
 static void ask_at_once(uint64_t at) {
     uint32_t keys[NRBPF_MOST_QUESTIONS];
     nrbpf_question questions[NRBPF_MOST_QUESTIONS];
@@ -112,6 +142,8 @@ int main(void) {
     EXPECT(pages > 0 && without > 0);
     small_rooms();
     ask_at_once(point);
+    look_in_one_buffer(point);
+    ask_in_one_buffer();
     EXPECT_STATUS(nrbpf_detach(session), NRBPF_OK);
     EXPECT_STATUS(nrbpf_close(store), NRBPF_OK);
     printf("%d keys looked for, all entries in %d pages, %d of them without one, and up to 16 reads at one point\n", KEYS, all, without);

@@ -4,8 +4,8 @@
 static counter files;
 static int refused;                             // how many refusals were asked for
 
-// Room for a session in which none was ever attached.
-static _Alignas(64) uint64_t never_opened[64];
+static nrbpf_session *earlier;                  // one that was detached, of another store
+static void *const untouched = &refused;        // what a handle is that no call writes
 
 // ---- Opening
 
@@ -17,7 +17,7 @@ typedef struct fault {
 
 // A refusal writes no handle, and nothing but the error.
 static void refuse(const nrbpf_config *config, const char *manifest, size_t len, const nrbpf_file *given, size_t count, fault wanted) {
-    nrbpf_store *const untouched = (nrbpf_store *)never_opened, *store = untouched;
+    nrbpf_store *store = untouched;
     nrbpf_error why = {77, 77, 77, 77};
     EXPECT_STATUS(nrbpf_open(config, manifest, len, given, count, &store, &why), wanted.status);
     EXPECT(why.status == wanted.status && why.inner == wanted.inner && why.line == wanted.line && why.slot == wanted.slot);
@@ -134,7 +134,7 @@ static void runs(run *call, uint16_t program, uint16_t of_other_mode) {
     REFUSE(call(session, program, NULL, 4, &answer), NRBPF_H7);
     REFUSE(call(session, program, argument, 4, NULL), NRBPF_H7);
     REFUSE(call(NULL, program, argument, 4, &answer), NRBPF_H7);
-    REFUSE(call((nrbpf_session *)never_opened, program, argument, 4, &answer), NRBPF_H2);
+    REFUSE(call(earlier, program, argument, 4, &answer), NRBPF_H2);
     EXPECT(answer.point == 77 && answer.reply == 77);
 }
 
@@ -164,7 +164,7 @@ static void installs(install *call) {
     refuse_install(call, NRBPF_MODE_READ, 0, NULL, 8, (fault){.status = NRBPF_H7});
     REFUSE(call(sessions[0][0], NRBPF_MODE_READ, 0, nothing_in_r0, 8, NULL, NULL), NRBPF_H7);
     REFUSE(call(NULL, NRBPF_MODE_READ, 0, nothing_in_r0, 8, &answer, NULL), NRBPF_H7);
-    REFUSE(call((nrbpf_session *)never_opened, NRBPF_MODE_READ, 0, nothing_in_r0, 8, &answer, NULL), NRBPF_H2);
+    REFUSE(call(earlier, NRBPF_MODE_READ, 0, nothing_in_r0, 8, &answer, NULL), NRBPF_H2);
 }
 
 static void names(void) {
@@ -190,7 +190,7 @@ static void names(void) {
 typedef nrbpf_status get(nrbpf_session *, uint32_t, const void *, size_t, void *, size_t, nrbpf_found *);
 
 static void gets(get *call) {
-    nrbpf_session *session = sessions[0][0], *none = (nrbpf_session *)never_opened;
+    nrbpf_session *session = sessions[0][0];
     uint8_t value[9] = {77, 77, 77, 77, 77, 77, 77, 77, 77};
     nrbpf_found found = {77, 77};
     REFUSE(call(session, 1, argument, 4, value, 8, &found), NRBPF_UNKNOWN_MAP);
@@ -200,7 +200,7 @@ static void gets(get *call) {
     REFUSE(call(session, 0, argument, 4, value, 7, &found), NRBPF_VALUE_LENGTH);
     REFUSE(call(session, 0, argument, 4, value, 9, &found), NRBPF_S12);
     REFUSE(call(session, 0, argument, 4, NULL, 0, &found), NRBPF_S12);
-    REFUSE(call(none, 0, argument, 4, value, 8, &found), NRBPF_DETACHED);
+    REFUSE(call(earlier, 0, argument, 4, value, 8, &found), NRBPF_DETACHED);
     REFUSE(call(NULL, 0, argument, 4, value, 8, &found), NRBPF_NULL_POINTER);
     REFUSE(call(session, 0, NULL, 4, value, 8, &found), NRBPF_H7);
     REFUSE(call(session, 0, argument, 4, NULL, 8, &found), NRBPF_H7);
@@ -212,13 +212,13 @@ static void gets(get *call) {
 typedef nrbpf_status scan(nrbpf_session *, uint32_t, uint32_t, void *, size_t, void *, size_t, nrbpf_scanned *);
 
 static void scans(scan *call) {
-    nrbpf_session *session = sessions[0][0], *none = (nrbpf_session *)never_opened;
+    nrbpf_session *session = sessions[0][0];
     uint8_t keys[4] = {77, 77, 77, 77}, values[8] = {77};
     nrbpf_scanned scanned = {77, 77, 77};
     REFUSE(call(session, 1, 0, keys, 4, values, 8, &scanned), NRBPF_S9);
     REFUSE(call(session, 0, 16, keys, 4, values, 8, &scanned), NRBPF_UNKNOWN_PLACE);
     REFUSE(call(session, 0, NRBPF_END, keys, 4, values, 8, &scanned), NRBPF_S10);
-    REFUSE(call(none, 0, 0, keys, 4, values, 8, &scanned), NRBPF_H2);
+    REFUSE(call(earlier, 0, 0, keys, 4, values, 8, &scanned), NRBPF_H2);
     REFUSE(call(NULL, 0, 0, keys, 4, values, 8, &scanned), NRBPF_H7);
     REFUSE(call(session, 0, 0, NULL, 4, values, 8, &scanned), NRBPF_H7);
     REFUSE(call(session, 0, 0, keys, 4, NULL, 8, &scanned), NRBPF_H7);
@@ -229,7 +229,7 @@ static void scans(scan *call) {
 typedef nrbpf_status read_each(nrbpf_session *, const nrbpf_question *, size_t, uint64_t *, uint64_t *, nrbpf_error *);
 
 static void reads_of_many(read_each *call) {
-    nrbpf_session *session = sessions[0][0], *none = (nrbpf_session *)never_opened;
+    nrbpf_session *session = sessions[0][0];
     nrbpf_question questions[17];
     uint64_t replies[17] = {77}, point = 77;
     nrbpf_error why = {77, 77, 77, 77};
@@ -246,7 +246,7 @@ static void reads_of_many(read_each *call) {
     EXPECT(why.status == NRBPF_H5 && why.slot == 0);
     questions[2].argument = NULL;
     REFUSE(call(session, questions, 3, replies, &point, &why), NRBPF_H7);
-    REFUSE(call(none, questions, 2, replies, &point, &why), NRBPF_H2);
+    REFUSE(call(earlier, questions, 2, replies, &point, &why), NRBPF_H2);
     REFUSE(call(NULL, questions, 2, replies, &point, &why), NRBPF_H7);
     REFUSE(call(session, NULL, 2, replies, &point, &why), NRBPF_H7);
     REFUSE(call(session, questions, 2, NULL, &point, &why), NRBPF_H7);
@@ -262,7 +262,7 @@ static int stops(void *to, const char *bytes, size_t len) {
 
 // A state of this store, and one that has another number of places.
 static void states(void) {
-    nrbpf_session *session = sessions[0][0], *none = (nrbpf_session *)never_opened;
+    nrbpf_session *session = sessions[0][0];
     nrbpf_config other = NRBPF_CONFIG(1, 1);
     nrbpf_store *other_store = opened(&other);
     nrbpf_state *other_state = NULL, *state = NULL;
@@ -276,8 +276,8 @@ static void states(void) {
     EXPECT_STATUS(nrbpf_state_new(store, &state), NRBPF_OK);
     REFUSE(nrbpf_snapshot(session, other_state, &point), NRBPF_OTHER_SIZES);
     REFUSE(nrbpf_try_snapshot(session, other_state, &point), NRBPF_H9);
-    REFUSE(nrbpf_snapshot(none, state, &point), NRBPF_H2);
-    REFUSE(nrbpf_try_snapshot(none, state, &point), NRBPF_H2);
+    REFUSE(nrbpf_snapshot(earlier, state, &point), NRBPF_H2);
+    REFUSE(nrbpf_try_snapshot(earlier, state, &point), NRBPF_H2);
     REFUSE(nrbpf_snapshot(NULL, state, &point), NRBPF_H7);
     REFUSE(nrbpf_snapshot(session, NULL, &point), NRBPF_H7);
     REFUSE(nrbpf_snapshot(session, state, NULL), NRBPF_H7);
@@ -296,7 +296,7 @@ static void states(void) {
 static void nothing_posted(void) {
     nrbpf_answer answer = {77, 77};
     REFUSE(nrbpf_poll(sessions[0][0], &answer), NRBPF_NOTHING_POSTED);
-    REFUSE(nrbpf_poll((nrbpf_session *)never_opened, &answer), NRBPF_H2);
+    REFUSE(nrbpf_poll(earlier, &answer), NRBPF_H2);
     REFUSE(nrbpf_poll(NULL, &answer), NRBPF_H7);
     REFUSE(nrbpf_poll(sessions[0][0], NULL), NRBPF_H7);
     EXPECT(answer.point == 77 && answer.reply == 77);
@@ -304,7 +304,7 @@ static void nothing_posted(void) {
 
 // All four sessions are attached.
 static void attaching(void) {
-    nrbpf_session *const untouched = (nrbpf_session *)never_opened, *one = untouched;
+    nrbpf_session *one = untouched;
     nrbpf_answer answer = {77, 77};
     REFUSE(nrbpf_attach(store, 0, &one), NRBPF_H1);
     REFUSE(nrbpf_attach(store, 1, &one), NRBPF_H1);
@@ -313,7 +313,7 @@ static void attaching(void) {
     REFUSE(nrbpf_attach(NULL, 0, &one), NRBPF_H7);
     REFUSE(nrbpf_attach(store, 0, NULL), NRBPF_H7);
     REFUSE(nrbpf_detach(NULL), NRBPF_H7);
-    REFUSE(nrbpf_detach((nrbpf_session *)never_opened), NRBPF_H2);
+    REFUSE(nrbpf_detach(earlier), NRBPF_H2);
     EXPECT(one == untouched);
 
     EXPECT_STATUS(nrbpf_detach(sessions[1][1]), NRBPF_OK);
@@ -323,6 +323,49 @@ static void attaching(void) {
     REFUSE(nrbpf_poll(sessions[1][1], &answer), NRBPF_H2);
     EXPECT_STATUS(nrbpf_attach(store, 1, &sessions[1][1]), NRBPF_OK);
     EXPECT(answer.point == 77 && answer.reply == 77);
+}
+
+// A session that is detached stays so while others get its place, one after another.
+static void earlier_sessions(void) {
+    nrbpf_session *const first = sessions[1][1];
+    nrbpf_answer answer = {77, 77};
+    nrbpf_found found;
+    uint64_t point, value = 77;
+    for (int i = 0; i < 511; i++) {
+        EXPECT_STATUS(nrbpf_detach(sessions[1][1]), NRBPF_OK);
+        EXPECT_STATUS(nrbpf_attach(store, 1, &sessions[1][1]), NRBPF_OK);
+        REFUSE(nrbpf_detach(first), NRBPF_H2);
+    }
+    REFUSE(nrbpf_update(first, bump, argument, 4, &answer), NRBPF_H2);
+    REFUSE(nrbpf_try_read(first, peek, argument, 4, &answer), NRBPF_H2);
+    REFUSE(nrbpf_get(first, 0, argument, 4, &value, 8, &found), NRBPF_H2);
+    REFUSE(nrbpf_read_each(first, NULL, 0, NULL, &point, NULL), NRBPF_H2);
+    REFUSE(nrbpf_poll(first, &answer), NRBPF_H2);
+    EXPECT_STATUS(nrbpf_read(sessions[1][1], peek, argument, 4, &answer), NRBPF_OK);
+    EXPECT(answer.point == 1 && answer.reply == 1 && value == 77);
+}
+
+// Of several refusals it is the first in this order: H7, H8, H2, H3 or H11, H5, and then the others.
+static void first_of_several(void) {
+    static const uint8_t zeros[200];
+    const nrbpf_file no_text = {"other", 5, NULL, 1};
+    const nrbpf_question questions[17] = {{NULL, 4, UINT16_MAX}};
+    nrbpf_config other = {NRBPF_VERSION + 1000, 0, 0, 0, 0, 0};
+    nrbpf_answer answer = {77, 77};
+    uint64_t replies[17], point;
+    refuse(&other, NULL, 1, &no_text, 1, (fault){.status = NRBPF_H7});
+    refuse(&other, NULL, 0, &no_text, 1, (fault){.status = NRBPF_H8});
+    other.version = NRBPF_VERSION;
+    refuse(&other, NULL, 0, &no_text, 1, (fault){.status = NRBPF_H7});
+    REFUSE(nrbpf_update(earlier, UINT16_MAX, NULL, 4, &answer), NRBPF_H7);
+    REFUSE(nrbpf_update(earlier, UINT16_MAX, argument, 5, &answer), NRBPF_H2);
+    REFUSE(nrbpf_poll(earlier, NULL), NRBPF_H7);
+    REFUSE(nrbpf_install(earlier, 2, 65, zeros, 193, &answer, NULL), NRBPF_H2);
+    REFUSE(nrbpf_install(sessions[0][0], 2, 65, zeros, 193, &answer, NULL), NRBPF_H5);
+    REFUSE(nrbpf_install(sessions[0][0], 2, 65, zeros, 8, &answer, NULL), NRBPF_H5);
+    REFUSE(nrbpf_read_each(earlier, questions, 17, replies, &point, NULL), NRBPF_H2);
+    REFUSE(nrbpf_read_each(sessions[0][0], questions, 17, replies, &point, NULL), NRBPF_H5);
+    REFUSE(nrbpf_read_each(sessions[0][0], questions, 16, replies, &point, NULL), NRBPF_H7);
 }
 
 static void closing(void) {
@@ -363,6 +406,8 @@ static void calls(void) {
     states();
     names();
     attaching();
+    earlier_sessions();
+    first_of_several();
     closing();
 }
 
@@ -431,6 +476,7 @@ static void texts(void) {
 }
 
 int main(void) {
+    const nrbpf_config config = NRBPF_CONFIG(1, 1);
     files = counter_files();
     EXPECT(nrbpf_version() == NRBPF_VERSION);
     EXPECT_STATUS(nrbpf_config_init(NULL, NRBPF_VERSION, 1, 1), NRBPF_H7);
@@ -438,9 +484,13 @@ int main(void) {
     manifests();
     null_pointers_of_open();
     names_and_ends();
+    nrbpf_store *other = opened(&config);
+    earlier = attached(other, 0);
+    EXPECT_STATUS(nrbpf_detach(earlier), NRBPF_OK);
     calls();
     full_history();
     texts();
+    EXPECT_STATUS(nrbpf_close(other), NRBPF_OK);
     give_back(&files);
     printf("%d refusals, each with its status, and nothing changed\n", refused);
     return 0;

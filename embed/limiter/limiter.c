@@ -259,7 +259,7 @@ static void *work(void *at) {
     if (!in || !out) fail("limiter");
     serve(of, in, out);
     pthread_mutex_lock(&lock);
-    nrbpf_detach(of->session);
+    check(nrbpf_detach(of->session));
     while (*place != of) place = &(*place)->next;
     *place = of->next;
     fclose(in);                                 // under the lock, so that `stop` shuts no socket down that is another's by now

@@ -217,7 +217,7 @@ pub unsafe extern "C" fn nrbpf_raw_scan(
     scanned(&mut *(at as *mut SessionHandle), map, from, keys, values);
 }
 
-/// Answers several questions at one point, each in `replies` at its number.
+/// Answers several questions at one point, each in `replies` at its number. With none it brings the session's node up to that point.
 #[unsafe(no_mangle)]
 pub unsafe extern "C" fn nrbpf_raw_read_each(at: *mut u8, questions: &[Asking], replies: &mut [u64])
     ghost before: { SessionHandle }

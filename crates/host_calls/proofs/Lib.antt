@@ -7,3 +7,4 @@ mod Opened
 mod Seats
 mod Gathered
 mod FileTexts
+mod CatchingUp

@@ -1,15 +1,21 @@
 -- What a session tells of a look at the maps of its node: of a get, a scan, several reads, and a snapshot; and what is written of it.
-use Rattle.std.specs.Prelude.{◌≡◌, ℕ, ◌≤◌, List, length, map as each, None, Some, Option, MatchOption, Result, Ok, Err, if◌then◌else◌}
+use Rattle.std.specs.Prelude.{◌≡◌, ℕ, ◌≤◌, List, ◌∷◌, length, map as each, None, Some, Option, MatchOption, Result, Ok, Err, if◌then◌else◌}
+use Rattle.ownlock.specs.declared.known.ShelfStep.{ShelfStep}
+use Rattle.ownlock.specs.declared.known.ShelfStep.TheVariants.{Put}
 use Rattle.loader.specs.CatalogueView.{sizes_for}
 use Rattle.loader.specs.StoreState.{StoreState, sizes_of}
+use Rattle.oplog.specs.Sessions.{IsSessionOf}
 use Rattle.replica.specs.Refusals.{store_fault_number}
+use Rattle.accounts.specs.Agreement.{replica_place}
 use Rattle.store_steps.specs.declared.getting.GetRefused.{GetRefused}
 use Rattle.store_steps.specs.declared.getting.Lookup.{Lookup}
 use Rattle.store_steps.specs.declared.questions.QuestionRefused.{QuestionRefused}
 use Rattle.store_steps.specs.declared.scanning.Scan.{Scan}
 use Rattle.store_steps.specs.declared.scanning.ScanRefused.{ScanRefused}
 use Rattle.store_steps.specs.declared.steps.Question.{Question}
+use Rattle.store_steps.specs.declared.values.Value.{Value}
 use Rattle.store_steps.specs.Getting.{GetTells, get_fault_number, get_refusal}
+use Rattle.store_steps.specs.Lending.{replica_of}
 use Rattle.store_steps.specs.Questions.{first_refused}
 use Rattle.store_steps.specs.Scanning.{ScanGives, scan_fault_number, scan_refusal}
 use Rattle.store_steps.specs.Snapshots.{SnapshotTells}
@@ -107,9 +113,21 @@ look_of words seen (Ok (Some a)) = seen a
 abbrev pub look_each : (count : ℕ) → Result (Option ℕ) QuestionRefused → Looked
 look_each count tried = look_of no_read (λ point. Seen point count AT_END) tried
 
--- they were answered, so many, at such a point
-abbrev pub TellsReplies : List Question → (replies : List ℕ) → (old new : SessionView) → Looked → Type 0
-TellsReplies questions replies old new told = (point : ℕ) × (told ≡ Seen point (length questions) AT_END) × AreAnswers old new questions replies point
+-- the replica of the session's node has caught up with this point: the session put it back so, in its last step on the shelf
+pub record HasCaughtUp (old new : SessionView) (point : ℕ) : Type 0 where
+  pub node : ℕ
+  pub mine : IsSessionOf old.progress.config node old.session
+  pub value : Value
+  pub tail : MatchOption (replica_of value) ⊥ (λ n. n.replica.tail ≡ point)
+  pub before : List (ShelfStep Value)
+  pub last : new.steps ≡ Put (replica_place old.progress.config node) value ∷ before
+
+-- they were answered, so many, at such a point; and the node has caught up with it, also if none is asked
+pub record TellsReplies (questions : List Question) (replies : List ℕ) (old new : SessionView) (told : Looked) : Type 0 where
+  pub point : ℕ
+  pub seen : told ≡ Seen point (length questions) AT_END
+  pub answers : AreAnswers old new questions replies point
+  pub up : HasCaughtUp old new point
 
 abbrev pub TellsAnswers : List Question → (before replies : List ℕ) → (old new : AttachedView) → Looked → Type 0
 TellsAnswers questions before replies old new told =

@@ -46,6 +46,9 @@ const DEEDS: usize = 16;
 
 /// What a caller that may not wait updates and reads a store with: one slot of one node. Each call answers at once, or says that another
 /// session held a place. It holds none between two calls.
+///
+/// Drop it only when it waits for no answer ([`is_waiting`](Polled::is_waiting)). An update that is on its way may have claimed the other requests
+/// of its node. If the session is dropped then, these and all later updates of the node are never answered.
 #[derive(Drop)]
 pub struct Polled {
     seat: Seat<Value>,
