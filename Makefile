@@ -1,4 +1,5 @@
 # make            proves and builds the program and the library for C. The first time that takes about an hour
+# make unproved   builds both without a proof, with checks, in two minutes: in crates/nrbpf/out/unproved and embed/out/unproved
 # make check      the whole test suite, which proves and builds them too
 # make install    puts what is built below PREFIX, and builds nothing; DESTDIR stands before every path, as packages want it
 # make uninstall  takes it away
@@ -30,6 +31,10 @@ program:
 
 library: program
 	embed/build
+
+unproved:
+	.ci/unproved program
+	embed/build --unproved
 
 check:
 	.ci/run
@@ -70,4 +75,4 @@ dist:
 	@rm -f out/$(name).list
 	@echo out/$(name).tar.gz
 
-.PHONY: all program library check is-built install uninstall dist
+.PHONY: all program library unproved check is-built install uninstall dist
