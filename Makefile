@@ -1,4 +1,4 @@
-# make            proves and builds the program and the library for C. The first time that takes about an hour
+# make            proves and builds the program and the library for C. The first time that takes about an hour, two minutes after a gate on this machine
 # make unproved   builds both without a proof, with checks, in two minutes: in crates/nrbpf/out/unproved and embed/out/unproved
 # make check      the whole test suite, which proves and builds them too
 # make install    puts what is built below PREFIX, and builds nothing; DESTDIR stands before every path, as packages want it
