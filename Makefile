@@ -50,7 +50,7 @@ is-built:
 	@test -x $(program) && test -f $(library)/libnrbpf.a || { echo 'make: the program or the library is not built yet: run make' >&2; exit 1; }
 	@test "$$(sed -n 2p $(program).sums 2>/dev/null)" = "$$(./nrbpf --sum)" || { echo 'make: the program is built of other sources: run make' >&2; exit 1; }
 
-installed = $(bindir)/nrbpf $(bindir)/nrbpf-c2hex $(includedir)/nrbpf.h $(includedir)/nrbpf.hpp \
+installed = $(bindir)/nrbpf $(bindir)/nrbpf-c2hex $(bindir)/nrbpf-manifest2h $(includedir)/nrbpf.h $(includedir)/nrbpf.hpp \
 	$(libdir)/libnrbpf.a $(libdir)/$(shared).$(minor) $(libdir)/$(shared) $(libdir)/libnrbpf.so \
 	$(libdir)/pkgconfig/nrbpf.pc $(libdir)/cmake/nrbpf/nrbpfConfig.cmake $(libdir)/cmake/nrbpf/nrbpfConfigVersion.cmake \
 	$(datadir)/nrbpf/c2hex $(datadir)/nrbpf/nrbpf_program.h $(datadir)/nrbpf/stdint.h \
@@ -73,6 +73,7 @@ install: is-built
 		chmod 644 $(DESTDIR)$(libdir)/cmake/nrbpf/$$file.cmake || exit; done
 	$(INSTALL) -m 755 c/c2hex $(DESTDIR)$(datadir)/nrbpf/c2hex
 	$(INSTALL) -m 644 c/nrbpf_program.h c/stdint.h $(DESTDIR)$(datadir)/nrbpf
+	$(INSTALL) -m 755 c/manifest2h $(DESTDIR)$(bindir)/nrbpf-manifest2h
 	ln -sf $(call way,$(bindir),$(datadir))/nrbpf/c2hex $(DESTDIR)$(bindir)/nrbpf-c2hex
 	$(INSTALL) -m 644 docs/nrbpf.1 $(DESTDIR)$(datadir)/man/man1/nrbpf.1
 	$(INSTALL) -m 644 docs/nrbpf.bash $(DESTDIR)$(datadir)/bash-completion/completions/nrbpf
