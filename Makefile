@@ -1,8 +1,12 @@
-# make            proves and builds the program and the library for C. The first time that takes about an hour
+# make            proves and builds the program and the library for C. The first time that takes about an hour, two minutes after a gate on this machine
+# make unproved   builds both without a proof, with checks, in two minutes: in crates/nrbpf/out/unproved and embed/out/unproved
 # make check      the whole test suite, which proves and builds them too
 # make install    puts what is built below PREFIX, and builds nothing; DESTDIR stands before every path, as packages want it
 # make uninstall  takes it away
 # make dist       a tarball of the sources in out/, of the same bytes each time
+# make bindist    a tarball of what is installed, in out/release, for those without the kit; the test suite must have passed these sources here
+# make deb        the same as three packages for Debian
+# make wheel      the package for Python with the library inside
 #
 # docs/PACKAGING.md says what is built from what. This is for GNU make.
 
@@ -15,6 +19,7 @@ datadir = $(PREFIX)/share
 INSTALL = install
 
 program = crates/nrbpf/out/nrbpf
+library = embed/out
 number = $(shell sed -n 's/^.define NRBPF_VERSION_$(1) \([0-9]*\)u$$/\1/p' embed/nrbpf.h)
 major := $(call number,MAJOR)
 minor := $(call number,MINOR)
@@ -22,6 +27,8 @@ day := $(shell sed -n 's/^pub const VERSION: .str = "\(.*\)";$$/\1/p' crates/nrb
 shared = libnrbpf.so.$(major)
 name = nrbpf-$(day)
 below = $(patsubst $(PREFIX)/%,$${prefix}/%,$(1))
+# (the way from one folder that is installed to another)
+way = $(shell realpath -m --relative-to=$(1) $(2))
 
 all: library
 
@@ -31,34 +38,49 @@ program:
 library: program
 	embed/build
 
+unproved:
+	.ci/unproved program
+	embed/build --unproved
+
 check:
 	.ci/run
 
 # (what is built of other sources is not installed)
 is-built:
-	@test -x $(program) && test -f embed/out/libnrbpf.a || { echo 'make: the program or the library is not built yet: run make' >&2; exit 1; }
+	@test -x $(program) && test -f $(library)/libnrbpf.a || { echo 'make: the program or the library is not built yet: run make' >&2; exit 1; }
 	@test "$$(sed -n 2p $(program).sums 2>/dev/null)" = "$$(./nrbpf --sum)" || { echo 'make: the program is built of other sources: run make' >&2; exit 1; }
 
-installed = $(bindir)/nrbpf $(includedir)/nrbpf.h $(includedir)/nrbpf.hpp $(libdir)/libnrbpf.a $(libdir)/$(shared).$(minor) $(libdir)/$(shared) $(libdir)/libnrbpf.so \
-	$(libdir)/pkgconfig/nrbpf.pc $(datadir)/man/man1/nrbpf.1 $(datadir)/bash-completion/completions/nrbpf
+installed = $(bindir)/nrbpf $(bindir)/nrbpf-c2hex $(bindir)/nrbpf-manifest2h $(includedir)/nrbpf.h $(includedir)/nrbpf.hpp \
+	$(libdir)/libnrbpf.a $(libdir)/$(shared).$(minor) $(libdir)/$(shared) $(libdir)/libnrbpf.so \
+	$(libdir)/pkgconfig/nrbpf.pc $(libdir)/cmake/nrbpf/nrbpfConfig.cmake $(libdir)/cmake/nrbpf/nrbpfConfigVersion.cmake \
+	$(datadir)/nrbpf/c2hex $(datadir)/nrbpf/nrbpf_program.h $(datadir)/nrbpf/stdint.h \
+	$(datadir)/man/man1/nrbpf.1 $(datadir)/bash-completion/completions/nrbpf
 
 install: is-built
 	$(INSTALL) -d $(sort $(dir $(addprefix $(DESTDIR),$(installed))))
 	$(INSTALL) -m 755 $(program) $(DESTDIR)$(bindir)/nrbpf
 	$(INSTALL) -m 644 embed/nrbpf.h $(DESTDIR)$(includedir)/nrbpf.h
 	$(INSTALL) -m 644 bindings/cpp/nrbpf.hpp $(DESTDIR)$(includedir)/nrbpf.hpp
-	$(INSTALL) -m 644 embed/out/libnrbpf.a $(DESTDIR)$(libdir)/libnrbpf.a
-	$(INSTALL) -m 644 embed/out/$(shared).$(minor) $(DESTDIR)$(libdir)/$(shared).$(minor)
+	$(INSTALL) -m 644 $(library)/libnrbpf.a $(DESTDIR)$(libdir)/libnrbpf.a
+	$(INSTALL) -m 644 $(library)/$(shared).$(minor) $(DESTDIR)$(libdir)/$(shared).$(minor)
 	ln -sf $(shared).$(minor) $(DESTDIR)$(libdir)/$(shared)
 	ln -sf $(shared) $(DESTDIR)$(libdir)/libnrbpf.so
 	sed -e 's|@prefix@|$(PREFIX)|' -e 's|@includedir@|$(call below,$(includedir))|' -e 's|@libdir@|$(call below,$(libdir))|' \
 		-e 's|@version@|$(major).$(minor)|' embed/nrbpf.pc.in >$(DESTDIR)$(libdir)/pkgconfig/nrbpf.pc
 	chmod 644 $(DESTDIR)$(libdir)/pkgconfig/nrbpf.pc
+	for file in nrbpfConfig nrbpfConfigVersion; do sed -e 's|@major@|$(major)|' -e 's|@version@|$(major).$(minor)|' \
+		-e 's|@include@|$(call way,$(libdir),$(includedir))|' packaging/$$file.cmake >$(DESTDIR)$(libdir)/cmake/nrbpf/$$file.cmake && \
+		chmod 644 $(DESTDIR)$(libdir)/cmake/nrbpf/$$file.cmake || exit; done
+	$(INSTALL) -m 755 c/c2hex $(DESTDIR)$(datadir)/nrbpf/c2hex
+	$(INSTALL) -m 644 c/nrbpf_program.h c/stdint.h $(DESTDIR)$(datadir)/nrbpf
+	$(INSTALL) -m 755 c/manifest2h $(DESTDIR)$(bindir)/nrbpf-manifest2h
+	ln -sf $(call way,$(bindir),$(datadir))/nrbpf/c2hex $(DESTDIR)$(bindir)/nrbpf-c2hex
 	$(INSTALL) -m 644 docs/nrbpf.1 $(DESTDIR)$(datadir)/man/man1/nrbpf.1
 	$(INSTALL) -m 644 docs/nrbpf.bash $(DESTDIR)$(datadir)/bash-completion/completions/nrbpf
 
 uninstall:
 	rm -f $(addprefix $(DESTDIR),$(installed))
+	rmdir $(DESTDIR)$(datadir)/nrbpf $(DESTDIR)$(libdir)/cmake/nrbpf 2>/dev/null || true
 
 # The files that git has, or in an unpacked tarball all that are no output: in one order, of one time, owner and mode.
 dist:
@@ -70,4 +92,7 @@ dist:
 	@rm -f out/$(name).list
 	@echo out/$(name).tar.gz
 
-.PHONY: all program library check is-built install uninstall dist
+bindist deb wheel:
+	.ci/release $@
+
+.PHONY: all program library unproved check is-built install uninstall dist bindist deb wheel

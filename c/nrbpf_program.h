@@ -49,4 +49,33 @@ u64 nrbpf_pseudo(u64, u64) __asm__("llvm.bpf.pseudo");
 /* No load or store is moved across this, and none before it is merged with one behind it. docs/C.md says when (V8). */
 #define NRBPF_APART() __asm__ volatile("" : : : "memory")
 
+/* The number of the lowest bit that is 1, counted from 0, or 64 of 0. (Of __builtin_ctzll clang makes a table, which no program has.) */
+NRBPF_INLINE u64 nrbpf_lowest(u64 bits)
+{
+	u64 at = 0;
+	if (!(bits & 0xffffffff)) {
+		at += 32;
+		bits >>= 32;
+	}
+	if (!(bits & 0xffff)) {
+		at += 16;
+		bits >>= 16;
+	}
+	if (!(bits & 0xff)) {
+		at += 8;
+		bits >>= 8;
+	}
+	if (!(bits & 0xf)) {
+		at += 4;
+		bits >>= 4;
+	}
+	if (!(bits & 3)) {
+		at += 2;
+		bits >>= 2;
+	}
+	if (!(bits & 1))
+		at += bits ? 1 : 2;
+	return at;
+}
+
 #endif

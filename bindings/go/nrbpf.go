@@ -15,6 +15,7 @@ package nrbpf
 import "C"
 
 import (
+	"io/fs"
 	"os"
 	"strings"
 	"unsafe"
@@ -60,8 +61,15 @@ type Manifest struct {
 }
 
 // ReadManifest reads a manifest and the program files that it names, whose names are paths from the working folder.
-func ReadManifest(path string) (Manifest, error) {
-	text, err := os.ReadFile(path)
+func ReadManifest(path string) (Manifest, error) { return readManifest(os.ReadFile, path) }
+
+// ReadManifestFS reads them from a file system, such as one that go:embed makes, whose paths they are.
+func ReadManifestFS(files fs.FS, path string) (Manifest, error) {
+	return readManifest(func(name string) ([]byte, error) { return fs.ReadFile(files, name) }, path)
+}
+
+func readManifest(read func(string) ([]byte, error), path string) (Manifest, error) {
+	text, err := read(path)
 	m := Manifest{string(text), map[string]string{}}
 	for _, line := range strings.Split(m.Text, "\n") {
 		if err != nil {
@@ -69,7 +77,7 @@ func ReadManifest(path string) (Manifest, error) {
 		}
 		if strings.HasPrefix(line, "program ") {
 			name := line[strings.LastIndexByte(line, ' ')+1:]
-			text, err = os.ReadFile(name)
+			text, err = read(name)
 			m.Files[name] = string(text)
 		}
 	}

@@ -5,11 +5,15 @@ import (
 	"encoding/binary"
 	"encoding/hex"
 	"errors"
+	"io"
+	"io/fs"
+	"math"
 	"os"
 	"strings"
 	"sync"
 	"sync/atomic"
 	"testing"
+	"testing/fstest"
 	"time"
 
 	"nrbpf"
@@ -301,6 +305,35 @@ func TestFull(t *testing.T) {
 	same(t, "reads go on", must(session.Read(peek, u32(0))), nrbpf.Answer{Point: 1, Reply: 1})
 	must(0, session.Detach())
 	must(0, store.Close())
+}
+
+func TestSigned(t *testing.T) {
+	session := attached(t, opened(t, "counter", 0), 0)
+	same(t, "no key", must(session.Read(peek, u32(16))).Signed(), -1)
+	for reply, signed := range map[uint64]int64{1<<64 - 2: -2, 1 << 63: math.MinInt64, 1<<63 - 1: math.MaxInt64} {
+		same(t, "a reply", nrbpf.Answer{Reply: reply}.Signed(), signed)
+	}
+}
+
+// A manifest and its files from a file system other than the working folder.
+func TestManifestFS(t *testing.T) {
+	files := fstest.MapFS{}
+	want := manifest("counter")
+	for name, text := range want.Files {
+		files[name] = &fstest.MapFile{Data: []byte(text)}
+	}
+	files["kept/manifest"] = &fstest.MapFile{Data: []byte(want.Text)}
+	got := must(nrbpf.ReadManifestFS(files, "kept/manifest"))
+	same(t, "the text", got.Text, want.Text)
+	same(t, "the files", len(got.Files), 2)
+	store := must(nrbpf.Open(nrbpf.NewConfig(1, 1), got))
+	var session io.Closer = must(store.Attach(0))
+	must(0, session.Close())
+	refused(t, session.Close(), nrbpf.ErrDetached)
+	must(0, store.Close())
+	delete(files, "examples/counter/peek.hex")
+	refused(t, last(nrbpf.ReadManifestFS(files, "kept/manifest")), fs.ErrNotExist)
+	refused(t, last(nrbpf.ReadManifestFS(files, "manifest")), fs.ErrNotExist)
 }
 
 func TestEnded(t *testing.T) {

@@ -5,7 +5,7 @@ import "C"
 
 import "sync"
 
-// Session makes one call at a time. It goes back to its store by Detach.
+// Session makes one call at a time. It goes back to its store by Detach, or by Close, which is the same.
 type Session struct {
 	lock   sync.Mutex // of all below it
 	store  *Store
@@ -19,6 +19,9 @@ type Answer struct {
 	Point uint64 // of an update: its index, how many stand before it. Of a read: how many it has seen
 	Reply uint64 // what the program left in R0
 }
+
+// Signed is the reply with its sign: an error such as -2 is replied as 2^64 - 2.
+func (a Answer) Signed() int64 { return int64(a.Reply) }
 
 // Two replies of an operation that did nothing.
 const (
@@ -67,6 +70,9 @@ func (s *Session) Detach() error {
 	s.store.lock.Unlock()
 	return nil
 }
+
+// Close is Detach, so that a Session is an io.Closer.
+func (s *Session) Close() error { return s.Detach() }
 
 // Update runs a program that may change the maps, and waits for other sessions where they are in the way. S1 to S4, H2, H3.
 func (s *Session) Update(program uint16, argument []byte) (Answer, error) {

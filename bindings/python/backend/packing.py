@@ -1,16 +1,29 @@
-"""What pip calls (PEP 517 and 660): packs the files of src/ as they are, since nothing is compiled."""
+"""What pip calls (PEP 517 and 660): packs the files of src/ as they are, since nothing is compiled. The same files give
+the same bytes.
+
+With `--config-settings library=FILE` the wheel has that libnrbpf.so.2 too. Then it is for Linux on x86-64 alone, and
+nothing else has to be installed. `local=WORD` adds a word to its version, as in 2.0.0+unproved, and `built=TEXT` a file
+BUILT to what is said of the wheel."""
 
 from __future__ import annotations
 
 import base64
+import gzip
 import hashlib
+import io
 import re
 import tarfile
 import zipfile
 from pathlib import Path
 
 TOP = Path(__file__).resolve().parent.parent
-PACKED = ("pyproject.toml", "README.md", "backend/packing.py", "src/nrbpf/*.py", "src/nrbpf/py.typed")
+SOURCES = ("src/nrbpf/*.py", "src/nrbpf/py.typed")
+PACKED = ("pyproject.toml", "README.md", "backend/packing.py", "examples/*.py", "tests/*.py", *SOURCES)
+PLAIN = "py3-none-any"
+# The library asks for glibc 2.16 or older (`objdump -T`), so this tag, for 2.17, is right.
+LINUX = "py3-none-manylinux_2_17_x86_64"
+# How a shared library for Linux on x86-64 begins: ELF, 64 bits, low byte first; then its kind (3) and its machine (62).
+SHARED, AT = (b"\x7fELF\x02\x01", b"\x03\x00\x3e\x00"), 16
 
 
 def _said(key: str) -> str:
@@ -21,17 +34,28 @@ def _said(key: str) -> str:
     return found[1]
 
 
-def _named() -> str:
-    return f"{_said('name')}-{_said('version')}"
+def _listed(key: str) -> list[str]:
+    """The texts of a list of pyproject.toml."""
+    found = re.search(rf"^{key} = \[([^]]*)\]$", (TOP / "pyproject.toml").read_text("utf-8"), re.MULTILINE)
+    return re.findall('"([^"]*)"', found[1]) if found else []
 
 
-def _metadata() -> str:
+def _named(local: str = "") -> str:
+    return f"{_said('name')}-{_version(local)}"
+
+
+def _version(local: str) -> str:
+    return _said("version") + (f"+{local}" if local else "")
+
+
+def _metadata(local: str = "") -> str:
     lines = [
         "Metadata-Version: 2.1",
         f"Name: {_said('name')}",
-        f"Version: {_said('version')}",
+        f"Version: {_version(local)}",
         f"Summary: {_said('description')}",
         f"Requires-Python: {_said('requires-python')}",
+        *(f"Classifier: {it}" for it in _listed("classifiers")),
         "Description-Content-Type: text/markdown",
     ]
     return "\n".join(lines) + "\n\n" + (TOP / "README.md").read_text("utf-8")
@@ -41,29 +65,52 @@ def _packed(patterns: tuple[str, ...]) -> list[Path]:
     return sorted(path for pattern in patterns for path in TOP.glob(pattern))
 
 
-def _wheel(folder: str, files: dict[str, bytes]) -> str:
+def _library(file: str) -> bytes:
+    """The bytes of a shared library, if it is one for Linux on x86-64."""
+    data = Path(file).read_bytes()
+    if not data.startswith(SHARED[0]) or data[AT : AT + 4] != SHARED[1]:
+        raise ValueError(f"{file} is no shared library for Linux on x86-64: a wheel with a library is for that alone")
+    return data
+
+
+def _about(tag: str) -> str:
+    is_pure = "true" if tag == PLAIN else "false"
+    return f"Wheel-Version: 1.0\nGenerator: nrbpf\nRoot-Is-Purelib: {is_pure}\nTag: {tag}\n"
+
+
+def _wheel(folder: str, files: dict[str, bytes], tag: str = PLAIN, local: str = "", built: str = "") -> str:
     """Writes a wheel of these files, and answers its name."""
-    about = f"{_named()}.dist-info"
+    about = f"{_named(local)}.dist-info"
+    if built:
+        files = {**files, f"{about}/BUILT": built.encode()}
     files = {
         **files,
-        f"{about}/METADATA": _metadata().encode(),
-        f"{about}/WHEEL": b"Wheel-Version: 1.0\nGenerator: nrbpf\nRoot-Is-Purelib: true\nTag: py3-none-any\n",
+        f"{about}/METADATA": _metadata(local).encode(),
+        f"{about}/WHEEL": _about(tag).encode(),
     }
     record = []
-    name = f"{_named()}-py3-none-any.whl"
-    with zipfile.ZipFile(Path(folder, name), "w", zipfile.ZIP_DEFLATED) as wheel:
+    name = f"{_named(local)}-{tag}.whl"
+    with zipfile.ZipFile(Path(folder, name), "w") as wheel:
         for path, data in files.items():
             digest = base64.urlsafe_b64encode(hashlib.sha256(data).digest()).rstrip(b"=").decode()
             record.append(f"{path},sha256={digest},{len(data)}\n")
-            wheel.writestr(path, data)
-        wheel.writestr(f"{about}/RECORD", "".join(record) + f"{about}/RECORD,,\n")
+        files = {**files, f"{about}/RECORD": ("".join(record) + f"{about}/RECORD,,\n").encode()}
+        for path, data in files.items():
+            entry = zipfile.ZipInfo(path)  # its time is always the same, in 1980
+            entry.external_attr, entry.compress_type = 0o100644 << 16, zipfile.ZIP_DEFLATED
+            wheel.writestr(entry, data)
     return name
 
 
 def build_wheel(wheel_directory: str, config_settings: object = None, metadata_directory: object = None) -> str:
     source = TOP / "src"
-    files = {path.relative_to(source).as_posix(): path.read_bytes() for path in _packed(PACKED[3:])}
-    return _wheel(wheel_directory, files)
+    files = {path.relative_to(source).as_posix(): path.read_bytes() for path in _packed(SOURCES)}
+    settings = config_settings if isinstance(config_settings, dict) else {}
+    local, built = settings.get("local", ""), settings.get("built", "")
+    if not settings.get("library"):
+        return _wheel(wheel_directory, files, PLAIN, local, built)
+    library = {"nrbpf/libnrbpf.so.2": _library(settings["library"])}
+    return _wheel(wheel_directory, {**files, **library}, LINUX, local, built)
 
 
 def build_editable(wheel_directory: str, config_settings: object = None, metadata_directory: object = None) -> str:
@@ -72,7 +119,12 @@ def build_editable(wheel_directory: str, config_settings: object = None, metadat
 
 def build_sdist(sdist_directory: str, config_settings: object = None) -> str:
     name = f"{_named()}.tar.gz"
-    with tarfile.open(Path(sdist_directory, name), "w:gz") as packed:
-        for path in _packed(PACKED):
-            packed.add(path, f"{_named()}/{path.relative_to(TOP).as_posix()}")
+    files = {path.relative_to(TOP).as_posix(): path.read_bytes() for path in _packed(PACKED)}
+    whole = io.BytesIO()
+    with tarfile.open(fileobj=whole, mode="w", format=tarfile.PAX_FORMAT) as packed:
+        for path, data in {**files, "PKG-INFO": _metadata().encode()}.items():
+            entry = tarfile.TarInfo(f"{_named()}/{path}")
+            entry.size = len(data)
+            packed.addfile(entry, io.BytesIO(data))
+    Path(sdist_directory, name).write_bytes(gzip.compress(whole.getvalue(), mtime=0))
     return name

@@ -65,6 +65,13 @@ class Examples(unittest.TestCase):
 
 
 class Reads(unittest.TestCase):
+    def test_signs(self):
+        with counter() as (_, session, bump, peek):
+            self.assertEqual(session.update(bump, u32(1)).signed, 1)
+            self.assertEqual(session.read(peek, u32(16)).signed, -1)
+        for reply, signed in ((2**64 - 2, -2), (2**63, -(2**63)), (2**63 - 1, 2**63 - 1)):
+            self.assertEqual(nrbpf.Answer(0, reply).signed, signed)
+
     def test_get(self):
         with nrbpf.open(example("key_value")) as store, store.attach() as session:
             session.update(store.program("put"), u32(1) + u32(7))

@@ -27,6 +27,7 @@ pub enum Mode {
 
 /// What a program answered.
 #[derive(Clone, Copy, Debug, Default, PartialEq, Eq, Hash)]
+#[non_exhaustive]
 pub struct Answer {
     /// Of an update its index, how many stand before it; of a read how many updates it has seen.
     pub point: u64,
@@ -35,6 +36,11 @@ pub struct Answer {
 }
 
 impl Answer {
+    /// The reply as a number with a sign: an error such as -2 is replied as 2^64 - 2.
+    pub const fn signed(self) -> i64 {
+        self.reply as i64
+    }
+
     /// Of an install the number of the program, if there was a place for it.
     pub fn program(self) -> Option<u16> {
         u16::try_from(self.reply).ok()
@@ -47,6 +53,7 @@ impl Answer {
 
 /// How far an update is that waits for nobody.
 #[derive(Clone, Copy, Debug, PartialEq, Eq, Hash)]
+#[non_exhaustive]
 pub enum Tried {
     /// It is answered.
     Answered(Answer),
@@ -59,6 +66,7 @@ pub enum Tried {
 
 /// Whether a key is there.
 #[derive(Clone, Copy, Debug, PartialEq, Eq, Hash)]
+#[non_exhaustive]
 pub struct Found {
     /// How many updates the map had seen.
     pub point: u64,
@@ -68,6 +76,7 @@ pub struct Found {
 
 /// What a page of a scan has.
 #[derive(Clone, Copy, Debug, PartialEq, Eq, Hash)]
+#[non_exhaustive]
 pub struct Page {
     /// How many updates the map had seen.
     pub point: u64,

@@ -10,8 +10,13 @@ use std::sync::Arc;
 /// No end of a history.
 pub const ENDLESS: u32 = 0;
 
-/// The sizes of a store.
+/// The sizes of a store, of [`Config::new`]. A later version may have more of them, so no literal makes one:
+///
+/// ```compile_fail,E0639
+/// let config = nrbpf::Config { nodes: 2, slots: 4, window: 64, limit: nrbpf::ENDLESS, spare: 0 };
+/// ```
 #[derive(Clone, Copy, Debug, PartialEq, Eq, Hash)]
+#[non_exhaustive]
 pub struct Config {
     /// 1 to 8: each has a copy of the maps, by which it answers reads.
     pub nodes: u32,

@@ -109,6 +109,18 @@ fn arrays_are_scanned_in_pages() -> Result<(), Error> {
 }
 
 #[test]
+fn replies_have_a_sign() -> Result<(), Error> {
+    let store = counter(Config::new(1, 1));
+    let mut session = store.attach(0)?;
+    assert_eq!(session.update(BUMP, &key(1))?.signed(), 1);
+    assert_eq!(session.read(PEEK, &key(16))?.signed(), -1);
+    for (reply, signed) in [(u64::MAX - 1, -2), (1 << 63, i64::MIN), ((1 << 63) - 1, i64::MAX)] {
+        assert_eq!(answer(0, reply).signed(), signed);
+    }
+    Ok(())
+}
+
+#[test]
 fn several_reads_are_of_one_point() -> Result<(), Error> {
     let store = counter(Config::new(1, 1));
     let mut session = store.attach(0)?;

@@ -5,6 +5,8 @@ from __future__ import annotations
 
 import ctypes as c
 import os
+import platform
+import sys
 
 VERSION = 2000
 
@@ -78,11 +80,18 @@ _TWINS = {
 }
 
 
+def _to_do() -> str:
+    """What to do where no library can be loaded."""
+    if (sys.platform, platform.machine()) != ("linux", "x86_64"):
+        return f"the library is for Linux on x86-64, and this is {sys.platform} on {platform.machine()}"
+    return "install libnrbpf, or let NRBPF_LIBRARY name its shared library"
+
+
 def _loaded(path: str) -> c.CDLL:
     try:
         library = c.CDLL(path)
     except OSError as why:
-        raise ImportError(f"{why}: install libnrbpf, or let NRBPF_LIBRARY name its shared library") from why
+        raise ImportError(f"{why}: {_to_do()}") from why
     twins = {f"{prefix}{name}": takes for name, takes in _TWINS.items() for prefix in ("", "try_")}
     library.nrbpf_version.restype = c.c_uint32
     version = library.nrbpf_version()
@@ -97,5 +106,8 @@ def _loaded(path: str) -> c.CDLL:
     return library
 
 
-# The library that NRBPF_LIBRARY names, or the one that is installed.
-library = _loaded(os.environ.get("NRBPF_LIBRARY") or f"libnrbpf.so.{VERSION // 1000}")
+_NAME = f"libnrbpf.so.{VERSION // 1000}"
+_OWN = os.path.join(os.path.dirname(__file__), _NAME)
+
+# The library that NRBPF_LIBRARY names; else the one in this package, as some wheels have it; else the installed one.
+library = _loaded(os.environ.get("NRBPF_LIBRARY") or (_OWN if os.path.exists(_OWN) else _NAME))

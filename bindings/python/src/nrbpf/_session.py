@@ -36,6 +36,11 @@ class Answer(NamedTuple):
     point: int
     reply: int
 
+    @property
+    def signed(self) -> int:
+        """The reply with its sign: an error such as -2 is replied as 2**64 - 2."""
+        return self.reply - (self.reply >> 63 << 64)
+
 
 class Found(NamedTuple):
     """How many updates the map had seen, and the value of the key, or None where there is no such key."""
