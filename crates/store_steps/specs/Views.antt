@@ -1,18 +1,17 @@
--- A session as it is seen between its calls, and what a read tells it.
-use Rattle.std.specs.Prelude.{◌≡◌, ℕ, ◌≤◌, List, [], ◌∷◌, ◌++◌, length, Some, None, option_map}
+-- A session as it is seen between its calls, and what a read replies.
+use Rattle.std.specs.Prelude.{◌≡◌, ℕ, ◌≤◌, List, [], ◌∷◌, length, Some, None, option_map}
 use Rattle.ownlock.specs.declared.known.ShelfStep.{ShelfStep}
-use Rattle.ownlock.specs.Seats.{IsSession, ShelfId, tails_in}
+use Rattle.ownlock.specs.Seats.{IsSession, ShelfId}
 use Rattle.loader.specs.CatalogueView.{CatalogueView}
+use Rattle.loader.specs.StoreState.{StoreState}
 use Rattle.oplog.specs.Operations.{Operation}
 use Rattle.oplog.specs.declared.records.Op.TheVariants.{Run}
-use Rattle.readpath.specs.declared.reading.ReadAnswer.{ReadAnswer}
 use Rattle.replica.specs.StoreMeaning.{store_meaning}
 use Rattle.accounts.specs.declared.sessions.Progress.{Progress}
 use Rattle.accounts.specs.declared.sessions.Pending.{Pending}
 use Rattle.accounts.specs.declared.sessions.SessionNote.{SessionNote}
-use Rattle.accounts.specs.Accounts.{Extends, IsWellFormed}
+use Rattle.accounts.specs.Accounts.{IsWellFormed}
 use Rattle.accounts.specs.LogSteps.{first_progress, fresh_note}
-use Rattle.accounts.specs.Told.{ReadTells}
 use Rattle.store_steps.specs.declared.steps.Caller.{Caller}
 use Rattle.store_steps.specs.declared.values.Value.{Value}
 use Rattle.node.specs.declared.following.NodeReplica.{NodeReplica}
@@ -61,19 +60,9 @@ op_of program argument = Run (record { program = program; argument = argument })
 abbrev pub request_of : Progress CatalogueView → Operation → Pending
 request_of known op = record { op = op; seen = length known.history }
 
--- the operation replies this on the node's state
-abbrev pub RepliesThere : CatalogueView → Operation → NodeReplica → ℕ → Type 0
-RepliesThere c op n reply = option_map (λ e. e.reply) (store_meaning.read c op n.replica.state) ≡ Some reply
+-- the operation replies this on that state, and on the node's
+abbrev pub RepliesIn : CatalogueView → Operation → StoreState → ℕ → Type 0
+RepliesIn c op state reply = option_map (λ e. e.reply) (store_meaning.read c op state) ≡ Some reply
 
--- a session's read: within it the completed tail was read, and the answer's point is not below what it was
-pub record IsReadBy (k after : SessionKnown) (op : Operation) (answer : ReadAnswer) : Type 0 where
-  pub begun : ℕ
-  pub more : List ℕ
-  pub read : tails_in after.steps ≡ tails_in k.steps ++ begun ∷ more
-  pub reached : begun ≤ answer.point
-  pub session : after.session ≡ k.session
-  pub held : after.held ≡ []
-  pub note : after.note ≡ k.note
-  pub extends : Extends k.progress after.progress
-  pub well_formed : IsWellFormed store_meaning after.progress
-  pub tells : ReadTells store_meaning after.progress k.progress.completed op answer.point answer.reply
+abbrev pub RepliesThere : CatalogueView → Operation → NodeReplica → ℕ → Type 0
+RepliesThere c op n reply = RepliesIn c op n.replica.state reply

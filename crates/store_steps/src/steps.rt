@@ -9,15 +9,13 @@ ghost use Rattle.oplog.specs.declared.configuration.TheConstants.{ENDLESS};
 ghost use Rattle.replica.specs.StoreMeaning.{AreUpdates};
 ghost use Rattle.node.specs.Following.{Fits, IsNext, copied, exchanged, is_above, may_rebase, rebased, reclaimed, replayed, replayed_first, told};
 ghost use Rattle.accounts.specs.Moves.{unplaced};
-ghost use Rattle.store_steps.specs.Views.{IsReadBy, RepliesThere, op_of};
 ghost use Rattle.store_steps.specs.Knowing.{HasLog, HasReplica, IsOn, Knows, Learns, Relates};
 ghost use Rattle.store_steps.specs.Standing.{Stands, IsFree, HasOthers, HasRaised, HasPlace, HasAppended, HasReplayed, HasReached};
-ghost use Rattle.store_steps.specs.Asking.{asked_op};
 ghost use Rattle.store_steps.specs.Trying.{IsStill};
 ghost use Rattle.store_steps.specs.Ready.{HoldsReady};
 ghost use Rattle.ownlock.specs.Held.{held_place};
 ghost use Rattle.store_steps.specs.Rooms.{FreesRoom, Owes, caught_up, with_more};
-ghost use Rattle.store_steps.specs.Whole.{MakesRoom, AppendsAny, ReplaysAnywhere, FollowsBy, ReadsBy};
+ghost use Rattle.store_steps.specs.Whole.{MakesRoom, AppendsAny, ReplaysAnywhere, FollowsBy};
 
 use crate::values::Value;
 use loader::Catalogue;
@@ -28,10 +26,9 @@ use node::{
 };
 use oplog::{LogState, MAX_NODES, MAX_SESSIONS, Record};
 use ownlock::{Held, LEADER, Seat, Shelf};
-use readpath::{ReadAnswer, answer, ready};
+use readpath::ready;
 use replica::Replies;
 use std::marker::Brand;
-use std::sync::Wait;
 
 /// What all sessions of a store share.
 #[derive(Clone, Copy)]
@@ -216,7 +213,6 @@ fn bring_base(log: &mut LogState, node: &mut NodeReplica, worth: usize) -> usize
     if is_exchange_cheaper(log, worth) {
         let dropped = (node.replica.tail() - log.base()) as usize;
         exchange(log, node);
-        let _tail = log.tail();
         return dropped;
     }
     reclaim(log, node);
@@ -380,25 +376,6 @@ fn try_reach(
     Some(())
 }
 
-// What a read answers on the node's state, which it leaves as it was.
-pub(crate) fn answer_there(
-    node: &mut NodeReplica,
-    catalogue: &Catalogue,
-    question: Question<'_>,
-) -> ReadAnswer
-    requires sizes { sizes_of node.old.replica.state ≡ sizes_for catalogue.now }
-    ensures point { result.point ≡ node.old.replica.tail }
-    ensures reply { RepliesThere catalogue.now (op_of question.entry.program question.entry.argument.now) node.old result.reply }
-    ensures same { node.new ≡ node.old }
-{
-    answer(
-        catalogue,
-        &mut node.replica,
-        question.program,
-        question.argument,
-    )
-}
-
 // Takes the replica of the caller's node, and brings it up to the tail that is completed now. Where another session holds the replica, or
 // the log, which a replica that lacks something takes, it answers that place: the session holds nothing then.
 #[inline(always)]
@@ -423,48 +400,4 @@ pub(crate) fn try_hold_ready(here: Here<'_>, seat: &mut Seat<Value>) -> Result<H
         return Err(LEADER);
     };
     Ok(held)
-}
-
-/// Runs a read program on the replica of the caller's node, once that has reached the tail that is completed now. Where another session
-/// holds the replica, or the log, which a replica that lacks something takes, it answers that place: the session holds nothing then.
-pub fn try_query(
-    here: Here<'_>,
-    seat: &mut Seat<Value>,
-    question: Question<'_>,
-) -> Result<ReadAnswer, usize>
-    requires own { seat.old.shelf ≡ here.shared.shelf.now.id }
-    requires idle { Knows seat.old (λ k. IsFree here.caller k × IsOn here.shared k) }
-    ensures same { seat.new.shelf ≡ seat.old.shelf }
-    ensures held { IfErr result (λ place. place < here.entry.shared.shelf.now.places) }
-    ensures stays { IfErr result (λ _. Learns seat.old seat.new IsStill) }
-    ensures read { IfOk result (λ answer. Learns seat.old seat.new (λ k after. IsReadBy k after (asked_op question.entry) answer)) }
-    ensures goes { IfOk result (λ answer. Relates seat.old seat.new (λ k after. ReadsBy k after (asked_op question.entry) answer)) }
-{
-    let mut held = try_hold_ready(here, seat)?;
-    let node = held.value.replica_mut();
-    let answer = answer_there(node, here.shared.catalogue, question);
-    here.shared.shelf.put::<Brand>(seat, held);
-    Ok(answer)
-}
-
-/// The same, but waits for the place that another session holds.
-pub fn query<R: Wait>(
-    rt: &R,
-    here: Here<'_>,
-    seat: &mut Seat<Value>,
-    question: Question<'_>,
-) -> ReadAnswer
-    requires own { seat.old.shelf ≡ here.shared.shelf.now.id }
-    requires idle { Knows seat.old (λ k. IsFree here.caller k × IsOn here.shared k) }
-    ensures same { seat.new.shelf ≡ seat.old.shelf }
-    ensures read { Learns seat.old seat.new (λ k after. IsReadBy k after (op_of question.entry.program question.entry.argument.now) result) }
-    ensures goes { Relates seat.old seat.new (λ k after. ReadsBy k after (op_of question.entry.program question.entry.argument.now) result) }
-{
-    for _ in rt.forever() {
-        match try_query(here, seat, question) {
-            Ok(answer) => return answer,
-            Err(place) => here.shared.shelf.wait(rt, seat, place),
-        }
-    }
-    unreachable!()
 }
