@@ -1,5 +1,5 @@
 -- A look at a replica that has come up, and at a key that may be looked for.
-use Rattle.std.proofs.Common.{◌≡◌, ℕ, ◌≤◌, List, ◌∷◌, Option, Some, None, Bool, true, false, slice_get, option_map, refl, sym, ap, ◌∙◌, subst, arith}
+use Rattle.std.proofs.Common.{◌≡◌, ℕ, ◌≤◌, List, Option, Some, None, Bool, true, false, slice_get, option_map, refl, sym, ap, ◌∙◌, subst, arith}
 use Rattle.std.specs.Prelude.{nat_eq, if◌then◌else◌}
 use Rattle.std.proofs.lemmas.Bool.{eqb-true}
 use Rattle.std.proofs.lemmas.Option.{slice_get-map}
@@ -11,6 +11,7 @@ use Rattle.loader.specs.StoreState.{StateSizes, StoreState, sizes_of}
 use Rattle.oplog.specs.History.{state_after}
 use Rattle.replica.specs.StoreMeaning.{store_meaning}
 use Rattle.ownlock.specs.declared.known.ShelfStep.TheVariants.{Put}
+use Rattle.ownlock.specs.Seats.{HasStepped}
 use Rattle.node.specs.declared.following.NodeReplica.{NodeReplica}
 use Rattle.store_steps.specs.declared.getting.GetRefused.{GetRefused}
 use Rattle.store_steps.specs.declared.getting.GetRefused.TheVariants.{KeyLength, ValueLength}
@@ -46,14 +47,14 @@ module _ (k a : K) (p : ℕ) (v : Value) (h : HoldsReady k a p v) (f : K) (b : B
   state_there : n.replica.state ≡ state_after store_meaning f.progress.catalogue f.progress.history point
   state_there = ap (λ (z : NodeReplica). z.replica.state) n_is ∙ ((agrees_now k a p v h f b).0.state ∙ ap (state_after store_meaning f.progress.catalogue f.progress.history) (sym at))
 
-  look_there : (q : ℕ) → q ≡ p → f.steps ≡ Put q (with_replica h.value h.node) ∷ a.steps → (by : LooksBy k f point) × (by.left ≡ n)
+  look_there : (q : ℕ) → q ≡ p → HasStepped a (Put q (with_replica h.value h.node)) f → (by : LooksBy k f point) × (by.left ≡ n)
   look_there q here put = let t = looks_ready k a p v h f b q here put point at in (t.0, t.1 ∙ sym n_is)
 
   module _ (c : CatalogueView) (same : k.progress.catalogue ≡ c) (P : CatalogueView → StoreState → Type 0) (is : P c n.replica.state) where
     pub sight_ready : HasSight P point k f
     sight_ready = (seen_there, (seen_there.far, low_there, subst (λ (z : CatalogueView × StoreState). P z.0 z.1) (λ i. ((sym same ∙ seen_there.extends.catalogue) i, state_there i)) is))
 
-    pub sights_ready : (q : ℕ) → q ≡ p → f.steps ≡ Put q (with_replica h.value h.node) ∷ a.steps → SightBy P point k f
+    pub sights_ready : (q : ℕ) → q ≡ p → HasStepped a (Put q (with_replica h.value h.node)) f → SightBy P point k f
     sights_ready q here put =
         let t = look_there q here put in
         (t.0, subst (λ (z : CatalogueView × NodeReplica). P z.0 z.1.replica.state) (λ i. (sym same i, sym t.1 i)) is)

@@ -1,4 +1,5 @@
 -- A replica that is held and has come up: what may be told of it, and what the session is once it is back as it was.
+use Rattle.ownlock.specs.Seats.{HasStepped, Continues, Run as RunOf}
 use Rattle.std.proofs.Common.{◌≡◌, ℕ, ◌+◌, List, [], ◌∷◌, sym, refl, ap, ◌∙◌, subst, arith, Option, Some, None, slice_get, true, false, Bool}
 use Rattle.std.specs.Prelude.{IsSome, IfSome, ◌<◌, nat_lt, if◌then◌else◌}
 use Rattle.std.proofs.lemmas.Bool.{ltb-true}
@@ -80,8 +81,8 @@ module _ (k a : K) (p : ℕ) (v : Value) (h : HoldsReady k a p v) where
     pub may_put_ready : Picked sessions y a q
     may_put_ready = subst (λ z. Picked sessions z a q) (sym y_is) (may_put_replica a h.value h.holds sessions is h.node h.agrees h.within q held)
 
-    pub ready_back : (l : L) (ns : List SessionNote) → Possible store_rules a l ns → Back a (put_back sessions y a q l)
-    ready_back l ns may = subst (λ z. Back a (put_back sessions z a q l)) (sym y_is) (back a h.value h.holds sessions is h.node h.agrees h.within q held l ns may)
+    pub ready_back : (l : L) (ns : List SessionNote) → Possible store_rules a l ns → (run : RunOf L SessionNote Value) → Continues a.run run → Back a (put_back sessions y a q l run)
+    ready_back l ns may run on = subst (λ z. Back a (put_back sessions z a q l run)) (sym y_is) (back a h.value h.holds sessions is h.node h.agrees h.within q held l ns may run on)
 
   -- ---- and then it is back
 
@@ -102,7 +103,7 @@ module _ (k a : K) (p : ℕ) (v : Value) (h : HoldsReady k a p v) where
         }
 
     -- it has looked at that replica
-    pub looks_ready : (q : ℕ) → q ≡ p → f.steps ≡ Put q (with_replica h.value h.node) ∷ a.steps → (point : ℕ) → point ≡ h.node.replica.tail → (by : LooksBy k f point) × (by.left ≡ h.node)
+    pub looks_ready : (q : ℕ) → q ≡ p → HasStepped a (Put q (with_replica h.value h.node)) f → (point : ℕ) → point ≡ h.node.replica.tail → (by : LooksBy k f point) × (by.left ≡ h.node)
     looks_ready q same put point at =
         let here : p ≡ 1 + h.holds.node = ap held_first (sym h.held ∙ h.holds.held) in
         looks_by k h.taking a f h.loaded h.begun h.own h.node point h.grown h.begun_is h.since h.own_is h.stands h.follows h.on h.agrees h.within h.reached b.extends b.stands h.value h.some h.holds h.session p here q (same ∙ here) h.did put

@@ -7,7 +7,7 @@ use Rattle.std.proofs.lemmas.List.{append-nil, append_assoc}
 use Rattle.loader.specs.CatalogueView.{CatalogueView}
 use Rattle.ownlock.specs.declared.known.ShelfStep.TheVariants.{Put, Raised, Read, Took}
 use Rattle.ownlock.specs.Rules.{leader}
-use Rattle.ownlock.specs.Seats.{tails_in}
+use Rattle.ownlock.specs.Seats.{tails_in, HasStepped}
 use Rattle.accounts.specs.Agreement.{desk_place}
 use Rattle.oplog.specs.History.{History}
 use Rattle.oplog.specs.Logs.{Log as LogView, HandView}
@@ -94,7 +94,7 @@ module _ (k : K) (g : LogView) (n u : NodeReplica) (is : IsLogOf k.progress g) (
     later = false;
     goes = λ b d. goes_on (rebase_step k.progress.catalogue k.progress g n u (Held b) d behind stays) (Ends (sees k.progress g u (Held b) d));
     is = refl;
-    did = did_none k k refl;
+    did = did_none k k refl refl;
   }
 
   abbrev c : CatalogueView
@@ -142,7 +142,7 @@ module _ (k : K) (g : LogView) (n u : NodeReplica) (is : IsLogOf k.progress g) (
 -- the session k took the log g, and is t then, m once there is room in h, and f once it has put it back
 module _ (k t m f : K) (g h h2 : LogView) (n v v2 : NodeReplica) (rs : History) (kept : RepliesView) (took : Extends k.progress t.progress) (log_is : IsLogOf t.progress g) (room : MakesRoom t m g h n v) (may : may_append rs h v ≡ true)
     (log : h2 ≡ grown rs h) (node : v2 ≡ copied h2 v) (replies : kept ≡ replies_for rs h) (back_is : IsLogOf f.progress h2) (rise : m.progress.completed ≤ f.progress.completed) (low : f.progress.completed ≤ length f.progress.history)
-    (x : Value) (x_is : log_of x ≡ Some g) (took_it : t.steps ≡ Took leader x ∷ k.steps) (q : ℕ) (there : q ≡ leader) (put_it : f.steps ≡ Put q (with_log x h2) ∷ m.steps) where
+    (x : Value) (x_is : log_of x ≡ Some g) (took_it : HasStepped k (Took leader x) t) (q : ℕ) (there : q ≡ leader) (put_it : HasStepped m (Put q (with_log x h2)) f) where
   room_did : (full : Bool) → Did t m (room_deeds full h) → Did t m (room_deeds full h2)
   room_did true d = subst (λ z. Did t m (Raised z ∷ [])) (ap (λ (z : LogView). z.base) (sym log)) d
   room_did false d = d
@@ -211,7 +211,7 @@ hands_over node k after g n b kept d is a grown low mine claimed there did =
 -- the answers are kept, and the replica is back
 module _ (node : ℕ) (k t a r f : K) (b : BatchView) (n v m : NodeReplica) (old new : RepliesView) (took : Extends k.progress t.progress) (found : Agrees t.progress n) (stands : Stands t) (first : AppendsBy t a b n v old)
     (then : ReplaysBy a r first.back v m old new) (since : Extends t.progress a.progress) (up : Extends a.progress r.progress) (agrees : Agrees r.progress m) (back : Extends r.progress f.progress) (stands_f : Stands f) (within : m.replica.tail ≤ length r.progress.history)
-    (w : Value) (w_is : replica_of w ≡ Some n) (took_it : t.steps ≡ Took (1 + node) w ∷ k.steps) (q : ℕ) (there : q ≡ 1 + node) (put_it : f.steps ≡ Put q (with_replica w m) ∷ r.steps) where
+    (w : Value) (w_is : replica_of w ≡ Some n) (took_it : HasStepped k (Took (1 + node) w) t) (q : ℕ) (there : q ≡ 1 + node) (put_it : HasStepped r (Put q (with_replica w m)) f) where
   answers_did : Did k f (answer_deeds (1 + node) first.full first.log first.back n m)
   answers_did = did_then k t f (Took (1 + node) (AReplica n) ∷ []) (append_deeds first.full first.log first.back ++ Raised m.replica.tail ∷ Put (1 + node) (AReplica m) ∷ [])
       (did_one k t (Took (1 + node) w) (Took (1 + node) (AReplica n)) took_it (ap (Took (1 + node)) (replica_part w n w_is)))
@@ -325,13 +325,13 @@ follows_none k n a stands = record {
   later = false;
   goes = λ d. Ends (sees k.progress (log_from k.progress n) n Absent d);
   lacks = false;
-  did = did_none k k refl;
+  did = did_none k k refl refl;
 }
 
 -- the session k took the log g and is t then, f once it has put it back, and after once it has raised the completed tail
 module _ (k t f after : K) (g : LogView) (n u m : NodeReplica) (took : Extends k.progress t.progress) (is : IsLogOf t.progress g) (follows : Follows t.progress n) (behind : may_rebase g n ≡ true → u ≡ rebased g n) (stays : may_rebase g n ≡ false → u ≡ n)
     (ran : m ≡ replayed t.progress.catalogue (copied g u)) (on : Extends t.progress f.progress) (up : HasRaised f after m.replica.tail)
-    (x : Value) (x_is : log_of x ≡ Some g) (took_it : t.steps ≡ Took leader x ∷ k.steps) (q : ℕ) (there : q ≡ leader) (put_it : f.steps ≡ Put q x ∷ t.steps) where
+    (x : Value) (x_is : log_of x ≡ Some g) (took_it : HasStepped k (Took leader x) t) (q : ℕ) (there : q ≡ leader) (put_it : HasStepped t (Put q x) f) where
   keeps_up : Follows t.progress u × (g.base ≤ u.replica.tail)
   keeps_up = kept_up t.progress g n is follows u behind stays
 
@@ -364,7 +364,7 @@ module _ (k t f after : K) (g : LogView) (n u m : NodeReplica) (took : Extends k
 module _ (k t r f : K) (p : L) (done : ℕ) (n m : NodeReplica) (point : ℕ) (grown : Extends k.progress p) (done_is : done ≡ p.completed) (took : Extends p t.progress) (found : Agrees t.progress n) (stands : Stands t) (first : FollowsBy t r n m)
     (up : Extends t.progress r.progress) (agrees : Agrees r.progress m) (within : m.replica.tail ≤ length r.progress.history) (reached : done ≤ m.replica.tail) (back : Extends r.progress f.progress) (stands_f : Stands f)
     (w : Value) (w_is : replica_of w ≡ Some n) (h : HoldsReplica r w) (same : r.session ≡ k.session) (place : ℕ) (here : place ≡ 1 + h.node) (q : ℕ) (there : q ≡ 1 + h.node)
-    (begins : Did k t (Read done ∷ Took place (AReplica n) ∷ [])) (put_it : f.steps ≡ Put q (with_replica w m) ∷ r.steps) where
+    (begins : Did k t (Read done ∷ Took place (AReplica n) ∷ [])) (put_it : HasStepped r (Put q (with_replica w m)) f) where
   looks_did : Did k f (Read done ∷ look_deeds (1 + h.node) first.lacks first.log n m)
   looks_did = did_then k t f (Read done ∷ Took (1 + h.node) (AReplica n) ∷ []) (follow_deeds first.lacks first.log m ++ Put (1 + h.node) (AReplica m) ∷ [])
       (subst (λ z. Did k t (Read done ∷ Took z (AReplica n) ∷ [])) here begins)

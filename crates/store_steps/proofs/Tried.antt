@@ -4,7 +4,7 @@ use Rattle.std.specs.Prelude.{nat_le}
 use Rattle.std.proofs.lemmas.Bool.{and_from, and_parts, le-leb, leb-true}
 use Rattle.ownlock.specs.declared.known.ShelfStep.{ShelfStep}
 use Rattle.ownlock.specs.declared.known.ShelfStep.TheVariants.{Put, Read, Took}
-use Rattle.ownlock.specs.Seats.{having_read, tails_in}
+use Rattle.ownlock.specs.Seats.{having_read, tails_in, Continues, HasStepped, Run as RunOf}
 use Rattle.oplog.specs.declared.configuration.Sizes.{Sizes}
 use Rattle.oplog.specs.Sessions.{IsSessionOf}
 use Rattle.ownlock.specs.Knowledge.{Possible}
@@ -56,11 +56,11 @@ still_self k none = record {
   below = tt;
   tries = [];
   nothing = Nothing;
-  did = did_none k k refl;
+  did = did_none k k refl refl;
 }
 
 -- its node's replica was put back as it was taken
-pub still_back : (p q : ℕ) (k t f : K) (w : Value) (n : NodeReplica) → TookReplica p k t w → Back t f → replica_of w ≡ Some n → q ≡ p → f.steps ≡ Put q (with_replica w n) ∷ t.steps → IsStill k f
+pub still_back : (p q : ℕ) (k t f : K) (w : Value) (n : NodeReplica) → TookReplica p k t w → Back t f → replica_of w ≡ Some n → q ≡ p → HasStepped t (Put q (with_replica w n)) f → IsStill k f
 still_back p q k t f w n b e is at put = record {
   session = e.session ∙ b.session;
   held = e.held;
@@ -68,7 +68,7 @@ still_back p q k t f w n b e is at put = record {
   extends = store_laws.extends_on k.progress t.progress f.progress b.extends e.extends;
   well_formed = λ _. well_formed f.progress e.stands.notes e.stands.accounts;
   more = [];
-  read = e.tails ∙ (ap tails_in b.steps ∙ sym (append-nil (tails_in k.steps)));
+  read = e.tails ∙ (ap tails_in b.steps.0 ∙ sym (append-nil (tails_in k.steps)));
   below = tt;
   tries = Took p (AReplica n) ∷ Put p (AReplica n) ∷ [];
   nothing = PutsBack p n [] Nothing;
@@ -76,8 +76,8 @@ still_back p q k t f w n b e is at put = record {
 }
 
 -- it has read the completed tail alone, which is that of the progress l
-pub still_told : (k : K) (l : L) (n : ℕ) (ns : List SessionNote) → k.held ≡ [] → Possible store_rules k l ns → n ≡ l.completed → IsStill k (having_read k l n)
-still_told k l n ns none can is = record {
+pub still_told : (k : K) (l : L) (n : ℕ) (ns : List SessionNote) (run : RunOf L SessionNote Value) → k.held ≡ [] → Possible store_rules k l ns → n ≡ l.completed → Continues k.run run → IsStill k (having_read k l n run)
+still_told k l n ns run none can is on = record {
   session = refl;
   held = none;
   note = refl;
@@ -88,7 +88,7 @@ still_told k l n ns none can is = record {
   below = omega (arith, is);
   tries = Read n ∷ [];
   nothing = Reads n [] Nothing;
-  did = did_one k (having_read k l n) (Read n) (Read n) refl refl;
+  did = did_one k (having_read k l n run) (Read n) (Read n) (refl, on) refl;
 }
 
 begins_on : (ms ns : List ℕ) (low high : ℕ) → low ≤ high → BeginsBelow ms low → BeginsBelow ns high → BeginsBelow (ms ++ ns) high

@@ -1,7 +1,7 @@
 -- A session as it is seen between its calls, and what a read replies.
 use Rattle.std.specs.Prelude.{◌≡◌, ℕ, ◌≤◌, List, [], ◌∷◌, length, Some, None, option_map}
 use Rattle.ownlock.specs.declared.known.ShelfStep.{ShelfStep}
-use Rattle.ownlock.specs.Seats.{IsSession, ShelfId}
+use Rattle.ownlock.specs.Seats.{IsSession, Run as RunOf, ShelfId}
 use Rattle.loader.specs.CatalogueView.{CatalogueView}
 use Rattle.loader.specs.StoreState.{StoreState}
 use Rattle.oplog.specs.Operations.{Operation}
@@ -17,13 +17,15 @@ use Rattle.store_steps.specs.declared.values.Value.{Value}
 use Rattle.node.specs.declared.following.NodeReplica.{NodeReplica}
 use Rattle.store_steps.specs.Standing.{SessionKnown, StoreSeat, IsFree}
 
--- a session: the shelf of its store, its number, the progress that it saw last, its note, and each step that it has taken on the shelf, the last first
+-- a session: the shelf of its store, its number, the progress that it saw last, its note, each step that it has taken on the shelf, the last
+-- first, and the run of all sessions' steps as it saw that last
 pub record SessionView : Type 0 where
   pub shelf : ShelfId
   pub session : ℕ
   pub progress : Progress CatalogueView
   pub note : SessionNote
   pub steps : List (ShelfStep Value)
+  pub run : RunOf (Progress CatalogueView) SessionNote Value
 
 -- a catalogue of nothing
 abbrev pub no_catalogue : CatalogueView
@@ -31,14 +33,14 @@ no_catalogue = record { shapes = []; programs = []; places = 0; opening = None }
 
 -- the first session of a seat that has any
 abbrev pub nobody : SessionKnown
-nobody = record { session = 0; progress = first_progress (record { nodes = 0; slots = 0; window = 0; limit = 0; spare = 0 }) no_catalogue; note = fresh_note; held = []; steps = [] }
+nobody = record { session = 0; progress = first_progress (record { nodes = 0; slots = 0; window = 0; limit = 0; spare = 0 }) no_catalogue; note = fresh_note; held = []; steps = []; run = [] }
 
 abbrev pub first_in : List SessionKnown → SessionKnown
 first_in [] = nobody
 first_in (k ∷ ks) = k
 
 abbrev pub session_view : StoreSeat → SessionView
-session_view s = let k = first_in s.sessions in record { shelf = s.shelf; session = k.session; progress = k.progress; note = k.note; steps = k.steps }
+session_view s = let k = first_in s.sessions in record { shelf = s.shelf; session = k.session; progress = k.progress; note = k.note; steps = k.steps; run = k.run }
 
 -- between its calls the session of that slot holds nothing, waits for nothing, and combines for nobody
 pub record IsIdle (s : StoreSeat) (caller : Caller) : Type 0 where
