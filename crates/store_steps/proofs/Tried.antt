@@ -1,6 +1,6 @@
 -- A session that found a place held: what it was free to do it still is, and what its last try tells holds from its first one on.
 use Rattle.std.proofs.Common.{◌≡◌, ℕ, ◌+◌, ◌≤◌, Some, List, [], ◌∷◌, ◌++◌, length, append-nil, append_assoc, sym, refl, ap, ◌∙◌, subst, arith}
-use Rattle.std.specs.Prelude.{nat_le}
+use Rattle.std.specs.Prelude.{nat_le, nat_lt}
 use Rattle.std.proofs.lemmas.Bool.{and_from, and_parts, le-leb, leb-true}
 use Rattle.ownlock.specs.declared.known.ShelfStep.{ShelfStep}
 use Rattle.ownlock.specs.declared.known.ShelfStep.TheVariants.{Put, Read, Took}
@@ -140,6 +140,7 @@ answers_since node k m f b kept s a = record {
   ends = ends_since k m f s a.ends;
   course = a.course;
   goes = λ d. under m.progress.catalogue k.progress.catalogue (sym s.extends.catalogue) (a.goes d);
+  due = a.due;
   base = a.base;
   put = a.put;
   put_is = a.put_is;
@@ -217,8 +218,8 @@ module _ (k m f : K) (s : IsStill k m) where
           mine = subst (λ (z : Sizes × ℕ). IsSessionOf z.0 r.node z.1) (λ i. (sym s.extends.config i, s.session i)) r.mine;
           tries = s.tries ++ r.tries;
           nothing = nothing_on s.nothing r.nothing;
-          lacks = r.lacks;
-          did = tried_then k m f s.tries r.tries (look_deeds (1 + r.node) r.lacks r.log r.own r.left) s.did r.did;
+          loaded = r.loaded;
+          did = tried_then k m f s.tries r.tries (Read r.loaded ∷ look_deeds (1 + r.node) (nat_lt r.own.replica.tail r.loaded) r.log r.own r.left) s.did r.did;
         },
         refl,
       )

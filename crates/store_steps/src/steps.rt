@@ -1,6 +1,6 @@
 // What a session does on the shelf.
 
-ghost use Rattle.std.specs.Prelude.{◌≡◌, ◌↔◌, ◌⊎◌, ◌+◌, ◌-◌, ◌<◌, ◌≤◌, true, false, min, length, drop, None, IsTrue, IfSome, IfNone, IfOk, IfErr};
+ghost use Rattle.std.specs.Prelude.{◌≡◌, ◌↔◌, ◌⊎◌, ◌+◌, ◌-◌, ◌<◌, ◌≤◌, true, false, min, length, drop, nat_lt, None, IsTrue, IfSome, IfNone, IfOk, IfErr};
 ghost use Rattle.loader.specs.CatalogueView.{sizes_for};
 ghost use Rattle.loader.specs.StoreState.{sizes_of};
 ghost use Rattle.oplog.specs.Limits.{IsWindow};
@@ -14,7 +14,7 @@ ghost use Rattle.store_steps.specs.Standing.{Stands, IsFree, HasOthers, HasRaise
 ghost use Rattle.store_steps.specs.Trying.{IsStill};
 ghost use Rattle.store_steps.specs.Ready.{HoldsReady};
 ghost use Rattle.ownlock.specs.Held.{held_place};
-ghost use Rattle.store_steps.specs.Rooms.{FreesRoom, Owes, caught_up, with_more};
+ghost use Rattle.store_steps.specs.Rooms.{FreesRoom, IsBaseDue, IsHalfBefore, Owes, caught_up, with_more};
 ghost use Rattle.store_steps.specs.Whole.{MakesRoom, AppendsAny, ReplaysAnywhere, FollowsBy};
 
 use crate::values::Value;
@@ -106,6 +106,7 @@ fn frees_room(log: &LogState, node: &NodeReplica, want: usize) -> bool
     requires above { is_above log.now node.now ≡ true }
     requires fits { Fits log.now node.now }
     ensures frees { result ≡ true → FreesRoom want log.now node.now }
+    ensures half { result ≡ true → IsHalfBefore log.now node.now }
 {
     let dropped = (node.replica.tail() - log.base()) as usize;
     let kept = (log.tail() - node.replica.tail()) as usize;
@@ -138,6 +139,7 @@ fn is_base_due(log: &LogState, node: &NodeReplica, shared: Shared<'_>, want: usi
     requires above { is_above log.now node.now ≡ true }
     requires fits { Fits log.now node.now }
     ensures due { result ≡ true → (room_in log.now < min want (left_of log.now)) ⊎ FreesRoom want log.now node.now }
+    ensures reason { result ≡ true → IsBaseDue want log.now node.now }
     ensures room { result ≡ false → min want (left_of log.now) ≤ room_in log.now }
     ensures window { IsWindow log.now.window }
 {
@@ -237,7 +239,7 @@ fn make_room(
     ensures same { seat.new.shelf ≡ seat.old.shelf }
     ensures owes { Owes shared.entry.catalogue.now log.new node.new result }
     ensures room { Learns seat.old seat.new (λ k after. HasPlace k after want log.old log.new (caught_up shared.entry.catalogue.now result node.new)) }
-    ensures goes { Relates seat.old seat.new (λ k after. MakesRoom k after log.old log.new node.old (caught_up shared.entry.catalogue.now result node.new)) }
+    ensures goes { Relates seat.old seat.new (λ k after. MakesRoom want k after log.old log.new node.old (caught_up shared.entry.catalogue.now result node.new)) }
 {
     let Shared {
         shelf,
@@ -336,7 +338,7 @@ fn try_follow_and_raise(
     ensures same { seat.new.shelf ≡ seat.old.shelf }
     ensures stays { IfNone result ((seat.new ≡ seat.old) × (node.new ≡ node.old)) }
     ensures reached { IfSome result (λ _. Learns seat.old seat.new (λ k after. HasReached k after k.progress.completed node.new)) }
-    ensures goes { IfSome result (λ _. Relates seat.old seat.new (λ k after. FollowsBy k after node.old node.new)) }
+    ensures goes { IfSome result (λ _. Relates seat.old seat.new (λ k after. FollowsBy true k after node.old node.new)) }
 {
     let Some(held) = shelf.try_take(seat, LEADER) else {
         return None;
@@ -365,7 +367,7 @@ fn try_reach(
     ensures same { seat.new.shelf ≡ seat.old.shelf }
     ensures stays { IfNone result ((seat.new ≡ seat.old) × (node.new ≡ node.old)) }
     ensures reached { IfSome result (λ _. Learns seat.old seat.new (λ k after. HasReached k after done node.new)) }
-    ensures goes { IfSome result (λ _. Relates seat.old seat.new (λ k after. FollowsBy k after node.old node.new)) }
+    ensures goes { IfSome result (λ _. Relates seat.old seat.new (λ k after. FollowsBy (nat_lt node.old.replica.tail done) k after node.old node.new)) }
 {
     if ready(&node.replica, done) {
         return Some(());

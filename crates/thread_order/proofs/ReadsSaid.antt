@@ -1,6 +1,6 @@
 -- A look stands in the run, and what its session may say of it.
-use Rattle.std.proofs.Common.{◌≡◌, ◌≢◌, ◌≤◌, eq-eqb, ne_eqb, if◌then◌else◌, length-append, Some, None, ℕ, true, List, [], ◌∷◌, ◌++◌, length, map, append_assoc, refl, sym, ap, ◌∙◌, subst, inl, inr, ⊎_elim, arith}
-use Rattle.std.specs.Prelude.{slice_set}
+use Rattle.std.proofs.Common.{◌≡◌, ◌≢◌, ◌≤◌, eq-eqb, ne_eqb, if◌then◌else◌, length-append, Some, None, ℕ, Bool, true, List, [], ◌∷◌, ◌++◌, length, map, append_assoc, refl, sym, ap, ◌∙◌, subst, inl, inr, ⊎_elim, arith}
+use Rattle.std.specs.Prelude.{nat_lt, slice_set}
 use Rattle.std.proofs.lemmas.Bool.{cases_eq}
 use Rattle.std.specs.List.{AllByRecursion}
 use Rattle.std.proofs.lemmas.List.{append_cancel_left, append_cancel_right}
@@ -27,7 +27,7 @@ use Rattle.store_steps.specs.Shelving.{places_of, sessions_of}
 use Rattle.store_steps.specs.Standing.{SessionKnown}
 use Rattle.thread_order.specs.RunEvents.{Asks, Hears, MaySay, Sayings, StoreRun, StoreStep, begun_by, begun_in, opening_of, said_at}
 use Rattle.thread_order.specs.ReadsSaid.{EachMaySay, IsSilent, KeepsNote, LooksStand, OwnMaySay, ReadsMaySay, SilentMaySay}
-use Rattle.thread_order.proofs.OwnSteps.{first_or, none_some_list, tails_on, HasRead, first_read, HasOwn, own_split, Deskless, DesklessPart, all_joined, nothing_deskless, look_deskless, from_parts, all_taken, taken_behind, of_run, EndsIn, last_done, IsReadPart, PutsNoDesks}
+use Rattle.thread_order.proofs.OwnSteps.{first_or, other_part, none_some_list, tails_on, HasRead, first_read, HasOwn, own_split, Deskless, DesklessPart, all_joined, nothing_deskless, look_deskless, from_parts, all_taken, taken_behind, of_run, EndsIn, last_done, IsReadPart, PutsNoDesks}
 use Rattle.thread_order.proofs.KeptNotes.{Fact, LastStep, Leads, begins, fact, keeps_note, untouched}
 
 abbrev L : Type 0
@@ -84,13 +84,20 @@ looks_stand opening begun later k after point a b is_k is_after same batch look 
     load : HasOwn c (Read look.seen) read.newer since
     load = own_split c (Read look.seen) read.newer read.older since read.is
 
+    lacks : Bool
+    lacks = nat_lt look.own.replica.tail look.loaded
+
+    -- the replica is taken, and comes up
+    comes : List (ShelfStep Part)
+    comes = Read look.loaded ∷ Took (replica_place k.progress.config look.node) (AReplica look.own) ∷ follow_deeds lacks look.log look.left
+
     deeds : List (ShelfStep Part)
-    deeds = look.tries ++ Took (replica_place k.progress.config look.node) (AReplica look.own) ∷ follow_deeds look.lacks look.log look.left
+    deeds = look.tries ++ comes
 
     last_put : EndsIn (Put (replica_place k.progress.config look.node) (AReplica look.left)) after.steps
     last_put = subst (EndsIn (Put (replica_place k.progress.config look.node) (AReplica look.left))) (sym look.did.all)
         (last_done k.steps look.did.since deeds (Put (replica_place k.progress.config look.node) (AReplica look.left))
-        (look.did.are ∙ sym (append_assoc look.tries (Took (replica_place k.progress.config look.node) (AReplica look.own) ∷ follow_deeds look.lacks look.log look.left) (Put (replica_place k.progress.config look.node) (AReplica look.left) ∷ []))))
+        (look.did.are ∙ sym (append_assoc look.tries comes (Put (replica_place k.progress.config look.node) (AReplica look.left) ∷ []))))
 
     not_first : read.newer ≡ [] → ⊥
     not_first none =
@@ -116,7 +123,8 @@ looks_stand opening begun later k after point a b is_k is_after same batch look 
     none_put : PutsNoDesks c since
     none_put =
         let parts : AllByRecursion DesklessPart (map of_part look.did.since) =
-        subst (AllByRecursion DesklessPart) (sym look.did.are) (all_joined DesklessPart look.tries _ (nothing_deskless look.nothing) (look_deskless (replica_place k.progress.config look.node) look.lacks look.log look.own look.left)) in
+        subst (AllByRecursion DesklessPart) (sym look.did.are) (all_joined DesklessPart look.tries _ (nothing_deskless look.nothing)
+        (other_part (Read look.loaded) (λ z. z), look_deskless (replica_place k.progress.config look.node) lacks look.log look.own look.left)) in
         let mine : own_steps c since ≡ and_then [] look.did.since = append_cancel_right (own_steps c since) (and_then [] look.did.since) k.steps (own ∙ (look.did.all ∙ taken_behind k.steps look.did.since)) in
         of_run c since (subst (AllByRecursion Deskless) (sym mine) (all_taken Deskless [] look.did.since tt (from_parts look.did.since parts)))
 
