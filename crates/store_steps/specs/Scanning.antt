@@ -31,8 +31,8 @@ scan_refusal c map from = place_fault from (slice_get c.shapes map)
 
 -- ---- what a scan tells
 
--- a scan of the map of this number, from a place on: m is that map in this state, with its keys at their places in the replica of the session's
--- node, and these entries are the page of m from that place on
+-- A scan of the map of this number, from a place on: m is that map in this state with its keys at some places, and these entries are the page of
+-- m from that place on. Nothing here says that two scans have their keys at the same places: that is only tested.
 pub record Scanned (c : CatalogueView) (state : StoreState) (map from room : ℕ) (m : Stored) (entries : List KeyValue) (s : Scan) : Type 0 where
   pub there : slice_get state.maps map ≡ Some (map_of m)
   pub shape : slice_get c.shapes map ≡ Some m.shape
