@@ -19,15 +19,22 @@ def read(file):
         return it.read()
 
 
+def name_of_impl(line):
+    """The name under which a check lists the methods of an impl: its type, with its trait and what that is of after the type, if it has a trait."""
+    params, head = re.match(r"impl(<.*?>(?= \w))?(.*)", line.split("{")[0]).groups()
+    trait, _, type_ = re.sub(r"\w+::", "", head.strip()).rpartition(" for ")
+    left_out = re.findall(r"(?:[<,] *)(\w+)", params or "")
+    return re.match(r"\w*", type_)[0] + "".join(it for it in re.findall(r"(?<!')\b\w+", trait) if it not in left_out)
+
+
 def function_at(file, number):
-    """The function that has this line of a source, under the type of its impl; that type alone where the line is in none."""
+    """The function that has this line of a source, under the name of its impl; that name alone where the line is in none."""
     lines = read(file).splitlines()
     form = re.compile(r'( *)(?:pub(?:\([\w ]+\))? )?(?:const )?(?:unsafe )?(?:extern "C" )?fn (\w+)')
-    found, inside, own = "", "", ""
+    found, inside = "", ""
     for at, line in enumerate(lines, 1):
         if re.match("[a-z]", line):
-            own = re.sub(r".* for ", "", re.sub(r"^impl(?:<.*?>)? ", "", line.split("{")[0])) if line.startswith("impl") else ""
-            found = inside = re.match(r"\w*", own)[0]
+            found = inside = name_of_impl(line) if line.startswith("impl") else ""
         is_function = form.match(line)
         if is_function:
             found = f"{inside}::{is_function[2]}" if is_function[1] and inside else is_function[2]

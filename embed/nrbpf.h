@@ -250,7 +250,8 @@ typedef struct nrbpf_scanned {
 
 // Gives entries of a map from the place `from` on, 0 at first: keys one behind another, and values, as many as both rooms hold. Looks at no more than
 // 1,024 places of the map, and 16 more for each entry there is room for, so it may give none and have a place to go on from. Pages may be of several
-// points of the history, and a deletion may move a key to another page; a snapshot is of one point. S9, S10, H2, H3, H7. [session]
+// points of the history, and a deletion may move a key to another page; a snapshot is of one point. That the pages of one session at one point give
+// each key once is tested, and not proved. S9, S10, H2, H3, H7. [session]
 NRBPF_MUST_LOOK nrbpf_status nrbpf_scan(nrbpf_session *session, uint32_t map, uint32_t from, void *keys, size_t keys_room, void *values,
                                         size_t values_room, nrbpf_scanned *out);
 NRBPF_MUST_LOOK nrbpf_status nrbpf_try_scan(nrbpf_session *session, uint32_t map, uint32_t from, void *keys, size_t keys_room, void *values,

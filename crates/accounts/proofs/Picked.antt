@@ -101,12 +101,12 @@ module _ {C M V : Type 0} {E : Meaning C M} {R : Rules (Progress C) SessionNote 
   )
 
   pub puts_account : PutsAccount E R noting view IsSized
-  puts_account f g k p w l ns m may =
+  puts_account f g k p w l ns run m may on =
       let laws = seen_laws view IsSized R ok.extends ok.laws in
       let move : Move (the_rules E R view IsSized) = record { place = p; session = k.session; value = m.0; progress = l; new_progress = f l; note = k.note; new_note = g k.note; allowed = (m.3 l ns may).0 } in record {
         session = refl;
         held = refl;
-        steps = refl;
+        steps = (refl, on);
         extends = ok.extends k.progress (f l) (laws.extends_on k.progress l (f l) may.0.0 (laws.moves_extend move));
         notes = set ns k.session (g k.note);
         accounts = ok.accounts (f l) (set ns k.session (g k.note)) (laws.moves_account move ns record { accounts = may.2; own = may.1; agrees = may.3 m.1 (p, m.0) m.2 });

@@ -4,7 +4,7 @@ use Rattle.std.specs.Prelude.{◌≡◌, ℕ, ◌-◌, ◌≤◌, List, [], ◌�
 use Rattle.ownlock.specs.declared.known.Known.{Known}
 use Rattle.ownlock.specs.declared.known.ShelfStep.TheVariants.{Put}
 use Rattle.ownlock.specs.Rules.{Rules}
-use Rattle.ownlock.specs.Seats.{At, without, left_with}
+use Rattle.ownlock.specs.Seats.{At, Continues, HasStepped, Run, without, left_with}
 use Rattle.ownlock.specs.Knowledge.{Possible, MayPut}
 use Rattle.oplog.specs.declared.configuration.Sizes.{Sizes}
 use Rattle.oplog.specs.History.{Meaning, History}
@@ -62,7 +62,7 @@ module _ {C M V : Type 0} (E : Meaning C M) (R : Rules (Progress C) SessionNote 
   pub record IsPut (p : ℕ) (w : V) (k now : Known (Progress C) SessionNote V) : Type 0 where
     pub session : now.session ≡ k.session
     pub held : now.held ≡ without p k.held
-    pub steps : now.steps ≡ Put p w ∷ k.steps
+    pub steps : HasStepped k (Put p w) now
     pub extends : Extends k.progress now.progress
     pub notes : List SessionNote
     pub accounts : Accounts E now.progress notes
@@ -71,8 +71,8 @@ module _ {C M V : Type 0} (E : Meaning C M) (R : Rules (Progress C) SessionNote 
   -- whatever was put back, the account of all notes stays
   abbrev pub PutsAccount : Type 0
   PutsAccount =
-      (f : Progress C → Progress C) (g : SessionNote → SessionNote) (k : Known (Progress C) SessionNote V) (p : ℕ) (w : V) (l : Progress C) (ns : List SessionNote)
-      → MayPut (the_rules E R view IsSized) f g k p w → Possible (the_rules E R view IsSized) k l ns → IsPut p w k (left_with k p w (f l) (g k.note))
+      (f : Progress C → Progress C) (g : SessionNote → SessionNote) (k : Known (Progress C) SessionNote V) (p : ℕ) (w : V) (l : Progress C) (ns : List SessionNote) (run : Run (Progress C) SessionNote V)
+      → MayPut (the_rules E R view IsSized) f g k p w → Possible (the_rules E R view IsSized) k l ns → Continues k.run run → IsPut p w k (left_with k p w (f l) (g k.note) run)
 
   -- what the picks come to
   abbrev pub SameIs : Type 0

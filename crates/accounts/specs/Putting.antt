@@ -4,7 +4,7 @@ use Rattle.std.specs.Prelude.{◌≡◌, ◌≢◌, ℕ, ◌<◌, ◌≤◌, Lis
 use Rattle.ownlock.specs.declared.known.Known.{Known}
 use Rattle.ownlock.specs.declared.known.ShelfStep.TheVariants.{Took}
 use Rattle.ownlock.specs.Rules.{Rules}
-use Rattle.ownlock.specs.Seats.{At}
+use Rattle.ownlock.specs.Seats.{At, HasStepped}
 use Rattle.ownlock.specs.Knowledge.{Acquired, MayTake, MayPut}
 use Rattle.oplog.specs.declared.configuration.Sizes.{Sizes}
 use Rattle.oplog.specs.History.{Meaning, History}
@@ -46,7 +46,7 @@ module _ {C M V : Type 0} (E : Meaning C M) (R : Rules (Progress C) SessionNote 
     pub session : now.session ≡ k.session
     pub note : now.note ≡ k.note
     pub held : now.held ≡ (p, v) ∷ k.held
-    pub steps : now.steps ≡ Took p v ∷ k.steps
+    pub steps : HasStepped k (Took p v) now
     pub extends : Extends k.progress now.progress
     pub sized : IsSized now.progress.config now.progress.catalogue v
     pub notes : List SessionNote

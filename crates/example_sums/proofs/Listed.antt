@@ -4,7 +4,7 @@ use Rattle.std.specs.Option.{unwrap_or}
 use mathlib.Core.Option.{some-injective}
 use lib.ListN.{get_elem?}
 use Rattle.ownlock.specs.declared.known.Known.{Known}
-use Rattle.ownlock.specs.Seats.{At, SeatView}
+use Rattle.ownlock.specs.Seats.{At, SeatView, Opened}
 use Rattle.ownlock.specs.Knowledge.{AllAgree, Closes}
 use Rattle.example_sums.specs.declared.kinds.Progress.{Progress}
 use Rattle.example_sums.specs.declared.kinds.Numbers as numbers
@@ -37,11 +37,11 @@ pair_total (x ∷ y ∷ z ∷ zs) a b long e f = absurd (omega (arith, long))
 from_some : (x y : Value) → Some x ≡ Some y → x ≡ y
 from_some x y e = ap (λ o. unwrap_or o x) e
 
-module _ (sessions : ℕ) (view : List (Known Progress ℕ Value)) (slots : List (Option Value)) (closes : Closes sum_rules sessions view slots) where
+module _ (opened : Opened Progress ℕ) (view : List (Known Progress ℕ Value)) (slots : List (Option Value)) (closes : Closes sum_rules opened view slots) where
   there : (p : ℕ) (x : Value) → p < length slots → At p (Some x) slots → AgreesWith p closes.0 closes.1 x
   there p x below at = let t = closes.5 p below in subst (λ z. AgreesWith p closes.0 closes.1 z) (from_some t.0 x (some-injective _ _ (sym t.1 ∙ at))) t.2
 
-  pub listed : (one other : SeatView Progress ℕ Value) (count : ℕ) (list : numbers.Numbers) → sessions ≡ 2 → view ≡ one.sessions ++ other.sessions → Counted one (fresh 0) count → Counted other (fresh 1) count → length slots ≡ 2 → At 0 (Some (TheList list)) slots
+  pub listed : (one other : SeatView Progress ℕ Value) (count : ℕ) (list : numbers.Numbers) → length opened.notes ≡ 2 → view ≡ one.sessions ++ other.sessions → Counted one (fresh 0) count → Counted other (fresh 1) count → length slots ≡ 2 → At 0 (Some (TheList list)) slots
       → length list.items.items ≡ 2 * count
   listed one other count list few is c d long at =
       let two : view ≡ c.0 ∷ d.0 ∷ [] = is ∙ (λ i. c.1 i ++ d.1 i) in

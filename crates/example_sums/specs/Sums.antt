@@ -118,4 +118,4 @@ Counted s k count = (after : Known Progress ℕ Value) × IsSession s after × (
 
 -- a session at the start
 abbrev pub fresh : ℕ → Known Progress ℕ Value
-fresh i = record { session = i; progress = empty_progress; note = 0; held = []; steps = [] }
+fresh i = record { session = i; progress = empty_progress; note = 0; held = []; steps = []; run = [] }

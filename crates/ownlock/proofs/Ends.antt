@@ -12,7 +12,7 @@ use Rattle.ownlock.specs.Rules.{Rules}
 use Rattle.ownlock.specs.Words.{word_of, slot_of}
 use Rattle.ownlock.specs.Spreading.{HasGaps, StandsIn}
 use Rattle.ownlock.specs.Seats.{At, Opened, HoldsNone}
-use Rattle.ownlock.specs.Knowledge.{AllAgree, Closes}
+use Rattle.ownlock.specs.Knowledge.{AllAgree, Closes, IsOneRun}
 use Rattle.ownlock.specs.Invariant.{LockInvariant, HeldBySome}
 use Rattle.ownlock.proofs.Keeps.{at_below, at_one}
 
@@ -71,7 +71,7 @@ long_map : {A B : Type 0} (f : A → B) (xs : List A) → length (map f xs) ≡ 
 long_map f [] = refl
 long_map f (x ∷ xs) = let h = long_map f xs in omega arith
 
-module _ {P N V : Type 0} (R : Rules P N V) (opened : Opened P) where
+module _ {P N V : Type 0} (R : Rules P N V) (opened : Opened P N) where
   abbrev K : Type 0
   K = Known P N V
 
@@ -82,13 +82,13 @@ module _ {P N V : Type 0} (R : Rules P N V) (opened : Opened P) where
   numbers v = map (λ (k : K). k.session) v
 
   -- the seat id has every session
-  present : (s : St) (r : LockInvariant R opened s) (id : ℕ) (v : List K) → At id v s.views → length v ≡ opened.sessions → (q : ℕ) → q < opened.sessions → (i : ℕ) × (m : K) × At i m v × (m.session ≡ q)
+  present : (s : St) (r : LockInvariant R opened s) (id : ℕ) (v : List K) → At id v s.views → length v ≡ length opened.notes → (q : ℕ) → q < length opened.notes → (i : ℕ) × (m : K) × At i m v × (m.session ≡ q)
   unfolding numbers
   present s r id v at long q small =
-      let t = everyone (numbers v) opened.sessions (long_map _ v ∙ long)
+      let t = everyone (numbers v) (length opened.notes) (long_map _ v ∙ long)
       (λ a b x e f. let one = map_at _ v a x e in let two = map_at _ v b x f in r.distinct id a b v one.0 two.0 at one.1 two.1 (one.2 ∙ sym two.2))
       (λ i x e. let one = map_at _ v i x e in let fit = (r.each id i v one.0 at one.1).0 in
-      subst (λ z. z < opened.sessions) one.2 (subst (λ z. one.0.session < z) r.counted (at_below r.notes one.0.session one.0.note fit.possible.1)))
+      subst (λ z. z < length opened.notes) one.2 (subst (λ z. one.0.session < z) r.counted (at_below r.notes one.0.session one.0.note fit.possible.1)))
       q small in
       let k = map_at _ v t.0 q t.1 in (t.0, k.0, k.1, k.2)
 
@@ -98,9 +98,12 @@ module _ {P N V : Type 0} (R : Rules P N V) (opened : Opened P) where
       let placed = r.placed in homes (slot_of p + a) None (r.gaps p a (omega (arith, wide, same_count, placed, below)) low high)
 
   pub closes : (words : List ℕ) (slots values : List (Option V)) (id : ℕ) (v : List K) → length slots ≡ slot_of (length values) → StandsIn values slots
-      → length v ≡ opened.sessions → HoldsNone v → Final (Seen (LockInvariant R opened) id v) words slots → Closes R opened.sessions v values
-  closes words slots values id v wide stands long idle (s, (r, at), same_words, same_count, homes) = (r.progress, r.notes, r.accounts, r.counted, (λ i k e. let fit = (r.each id i v k at e).0 in (fit.possible.0.0, fit.possible.1)), agree, (λ q small. present s r id v at long q small))
+      → length v ≡ length opened.notes → HoldsNone v → Final (Seen (LockInvariant R opened) id v) words slots → Closes R opened v values
+  closes words slots values id v wide stands long idle (s, (r, at), same_words, same_count, homes) = (r.progress, r.notes, r.accounts, r.counted, (λ i k e. let fit = (r.each id i v k at e).0 in (fit.possible.0.0, fit.possible.1)), agree, (λ q small. present s r id v at long q small), one_run)
     where
+      one_run : IsOneRun R opened r.progress r.notes (λ k. (i : ℕ) × At i k v)
+      one_run = record { run = r.run; leads = r.leads; goes_on = λ k t. (r.each id t.0 v k at t.1).0.goes_on; own = λ k t. (r.each id t.0 v k at t.1).0.own; ends = λ k t. (r.each id t.0 v k at t.1).0.ends }
+
       no_one : (p : ℕ) → HeldBySome R p s.views → ⊥
       no_one p (j, w, i, m, a, u, at_j, at_i, at_a, is) =
           let known = r.each j i w m at_j at_i in

@@ -1,5 +1,5 @@
 -- A put keeps the invariant: first the look at its own word, then the freeing of that.
-use Rattle.std.proofs.Common.{◌≡◌, ◌≢◌, ℕ, ◌<◌, List, [], ◌∷◌, map, get_or, set, sym, refl, ap, ◌∙◌, subst, arith, length-set, get_or-set_same, Option, Some, None}
+use Rattle.std.proofs.Common.{◌≡◌, ◌≢◌, ℕ, ◌<◌, List, [], ◌∷◌, map, get_or, set, sym, refl, ap, ◌∙◌, inr, subst, arith, length-set, get_or-set_same, Option, Some, None}
 use mathlib.Core.Option as kernel
 use mathlib.Core.Option.{some-injective, some-ne-none}
 use lib.Seq.{set-get_or}
@@ -7,17 +7,21 @@ use Rattle.std.proofs.lemmas.Option.{same_Some}
 use Rattle.atomic_table.specs.Table.{Me, gives, step, stepped, Allows, Valid, carried_after, homes_after, rest}
 use Rattle.atomic_table.proofs.Lists.{set_here, set_else, set_again}
 use Rattle.ownlock.specs.declared.known.Known.{Known}
+use Rattle.ownlock.specs.declared.known.SharedStep.{SharedStep}
+use Rattle.ownlock.specs.declared.known.ShelfStep.TheVariants.{Put}
 use Rattle.ownlock.specs.Rules.{Rules, Laws, Move, IsAmong}
 use Rattle.ownlock.specs.Words.{word_of, slot_of}
-use Rattle.ownlock.specs.Seats.{At, Opened, place_of, without, left_with}
+use Rattle.ownlock.specs.Runs.{Puts}
+use Rattle.ownlock.specs.Seats.{At, Opened, Run, Adds, place_of, without, left_with, taken_by}
 use Rattle.ownlock.specs.Knowledge.{Possible, MayPut}
 use Rattle.ownlock.specs.Invariant.{emptied, SessionInvariant, LockInvariant, StepsAs, fronted, freed}
 use Rattle.ownlock.proofs.Spread.{one_slot}
+use Rattle.ownlock.proofs.Run.{continues_self, own_here}
 use Rattle.ownlock.proofs.Keeps.{LockState, LockSeat, SlotHomes, at_below, one_session, one_place, Goes, goes, mine_of, not_of_others, word_there, word_else, tail_else, place_there, slot_there}
 use Rattle.ownlock.proofs.Without.{was_held, still_held, not_held, apart_without, part_of}
 use Rattle.ownlock.proofs.Fronts.{bring, brings}
 
-module _ {P N V : Type 0} (R : Rules P N V) (laws : Laws R) (opened : Opened P) where
+module _ {P N V : Type 0} (R : Rules P N V) (laws : Laws R) (opened : Opened P N) where
   abbrev K : Type 0
   K = Known P N V
 
@@ -36,10 +40,13 @@ module _ {P N V : Type 0} (R : Rules P N V) (laws : Laws R) (opened : Opened P) 
     abbrev notes_after : List N
     notes_after = set r.notes k.session note_after
 
-    abbrev giver : K
-    giver = left_with k p y progress_after note_after
+    abbrev entry : SharedStep P N V
+    entry = taken_by k (Put p y) progress_after note_after
 
-    was : SessionInvariant R r.progress r.notes s.homes r.holder k
+    abbrev giver : K
+    giver = left_with k p y progress_after note_after (entry ∷ r.run)
+
+    was : SessionInvariant R r.progress r.notes r.run s.homes r.holder k
     was = mine_of R laws opened s r id k at
 
     abbrev move : Move R
@@ -67,7 +74,7 @@ module _ {P N V : Type 0} (R : Rules P N V) (laws : Laws R) (opened : Opened P) 
     abbrev homes_given : SlotHomes V
     homes_given = set s.homes (slot_of p) (kernel.some (Some y))
 
-    give_fits : SessionInvariant R progress_after notes_after homes_given r.holder giver
+    give_fits : SessionInvariant R progress_after notes_after (entry ∷ r.run) homes_given r.holder giver
     give_fits = record {
       possible = (
         (laws.extends_self progress_after, λ a u _ _. laws.same_self progress_after),
@@ -78,12 +85,17 @@ module _ {P N V : Type 0} (R : Rules P N V) (laws : Laws R) (opened : Opened P) 
       allowed = give_allowed;
       apart = apart_without p k.held was.apart;
       out = λ b u e. let back = was_held p k.held b u e in let h = was.out back.0 u back.1 in (h.0, set_else s.homes (slot_of p) (slot_of u.0) (kernel.some (Some y)) (λ f. other b u e (one_slot u.0 p f)) ∙ h.1);
+      goes_on = continues_self (entry ∷ r.run);
+      own = own_here k.session entry r.run refl ∙ ap (λ es. Put p y ∷ es) was.own;
+      ends = record { seen = own_here k.session entry r.run refl ∙ ap (λ es. Put p y ∷ es) was.own; last = inr (r.run, entry, refl, refl, refl, refl) };
     }
 
-    gives_it : Goes R laws opened s r id p k giver progress_after notes_after (set s.words (word_of p) 0) homes_given r.holder
+    gives_it : Goes R laws opened s r id p k giver progress_after notes_after (set s.words (word_of p) 0) homes_given r.holder entry
     gives_it = record {
       here = at;
       session = refl;
+      by = refl;
+      leads = Puts r.run r.notes move y r.leads among (may r.progress r.notes was.possible).1;
       accounts = give_accounts;
       extends = laws.moves_extend move;
       same = laws.moves_same move;
@@ -104,7 +116,7 @@ module _ {P N V : Type 0} (R : Rules P N V) (laws : Laws R) (opened : Opened P) 
     }
 
     gives_stand : (c : List (ℕ × Option V)) → LockInvariant R opened (stepped s (word_of p) 0 id ((slot_of p, Some y) ∷ c) (giver ∷ []) gives)
-    gives_stand c = goes R laws opened s r id p k giver progress_after notes_after (set s.words (word_of p) 0) homes_given r.holder gives_it
+    gives_stand c = goes R laws opened s r id p k giver progress_after notes_after (set s.words (word_of p) 0) homes_given r.holder entry gives_it
 
   only_one : (k k2 : K) → (k ∷ []) ≡ (k2 ∷ []) → k ≡ k2
   only_one k k2 e = ap (λ l. get_or l 0 k) e
@@ -122,9 +134,10 @@ module _ {P N V : Type 0} (R : Rules P N V) (laws : Laws R) (opened : Opened P) 
     gives_stand s r id p k at inside x y a top grown noting may c,
     λ k2 p2 y2 c2 sits same. subst
         (λ (z : ℕ × K × V × List (ℕ × Option V)). (progress : P) × ((notes : List N) × Possible R z.1 progress notes)
-        × (me (left_with k p y (grown r.progress) (noting k.note)) c ≡ me (left_with z.1 z.0 z.2 (grown progress) (noting z.1.note)) z.3))
+        × ((run : Run P N V) × Adds z.1 (Put z.0 z.2) (grown progress) (noting z.1.note) run
+        × (me (giver s r id p k at inside x y a top grown noting may) c ≡ me (left_with z.1 z.0 z.2 (grown progress) (noting z.1.note) run) z.3)))
         (λ i. (one_place p p2 same i, only_one k k2 (ap (λ m. m.0) sits) i, one_out y y2 p p2 c c2 (ap (λ m. m.1) sits) i, ap (λ m. rest m.1) sits i))
-        (r.progress, (r.notes, (mine_of R laws opened s r id k at).possible), refl),
+        (r.progress, (r.notes, (mine_of R laws opened s r id k at).possible), (entry s r id p k at inside x y a top grown noting may ∷ r.run, (r.run, (mine_of R laws opened s r id k at).goes_on, refl), refl)),
   )
     where
       inside : p < opened.places
@@ -149,7 +162,7 @@ module _ {P N V : Type 0} (R : Rules P N V) (laws : Laws R) (opened : Opened P) 
         (λ i. (one_place p p2 same i, one_session (k ∷ [], map emptied k.held) k k2 refl sits i)) (λ i. (k ∷ [], moved.2 i)),
   )
     where
-      fit : SessionInvariant R r.progress r.notes s.homes r.holder k
+      fit : SessionInvariant R r.progress r.notes r.run s.homes r.holder k
       fit = mine_of R laws opened s r id k at
 
       moved : Valid s.homes (map emptied k.held) (bring p k.held) × (homes_after s.homes (map emptied k.held) (bring p k.held) ≡ s.homes) × (carried_after (map emptied k.held) (bring p k.held) ≡ (slot_of p, None) ∷ map emptied (without p k.held))

@@ -9,11 +9,14 @@ use lib.Seq.{set-get_or}
 use Rattle.atomic_table.specs.Table.{State, Me, keeps, stepped}
 use Rattle.atomic_table.proofs.Lists.{at_set, set_here, set_else, set_again}
 use Rattle.ownlock.specs.declared.known.Known.{Known}
+use Rattle.ownlock.specs.declared.known.SharedStep.{SharedStep}
 use Rattle.ownlock.specs.Rules.{Rules, Laws, leader}
 use Rattle.ownlock.specs.Words.{word_of, slot_of}
+use Rattle.ownlock.specs.Runs.{Runs}
 use Rattle.ownlock.specs.Seats.{At, Opened}
 use Rattle.ownlock.specs.Invariant.{SessionInvariant, HeldBySome, LockInvariant, StepsAs}
 use Rattle.ownlock.proofs.Spread.{one_slot}
+use Rattle.ownlock.proofs.Run.{continues_more, own_else}
 
 module _ {A : Type 0} where
   pub at_below : (l : List A) (i : ℕ) (a : A) → At i a l → i < length l
@@ -47,20 +50,22 @@ LockSeat P N V = Me (Option V) (List (Known P N V))
 abbrev pub SlotHomes : Type 0 → Type 0
 SlotHomes V = List (kernel.Option (Option V))
 
-module _ {P N V : Type 0} (R : Rules P N V) (laws : Laws R) (opened : Opened P) where
+module _ {P N V : Type 0} (R : Rules P N V) (laws : Laws R) (opened : Opened P N) where
   abbrev K : Type 0
   K = Known P N V
 
   -- what a step of the session k at the place p owes
-  pub record Goes (s : LockState P N V) (r : LockInvariant R opened s) (id p : ℕ) (k k' : K) (progress : P) (notes : List N) (words : List ℕ) (homes : SlotHomes V) (holder : ℕ → ℕ) : Type 0 where
+  pub record Goes (s : LockState P N V) (r : LockInvariant R opened s) (id p : ℕ) (k k' : K) (progress : P) (notes : List N) (words : List ℕ) (homes : SlotHomes V) (holder : ℕ → ℕ) (e : SharedStep P N V) : Type 0 where
     pub here : At id (k ∷ []) s.views
     pub session : k'.session ≡ k.session
+    pub by : e.session ≡ k.session
+    pub leads : Runs R opened (e ∷ r.run) progress notes
     pub accounts : R.Accounts progress notes
     pub extends : R.Extends r.progress progress
     pub same : p ≢ leader → R.SameHistory r.progress progress
     pub others : (q : ℕ) (y : V) → q ≢ p → R.AgreesWith q r.progress r.notes y → R.AgreesWith q progress notes y
     pub noted : (i : ℕ) (n : N) → i ≢ k.session → At i n r.notes → At i n notes
-    pub counted : length notes ≡ opened.sessions
+    pub counted : length notes ≡ length opened.notes
     pub homes_else : (i : ℕ) → i ≢ slot_of p → get_elem? homes i ≡ get_elem? s.homes i
     pub homes_long : length homes ≡ length s.homes
     pub words_else : (q : ℕ) → q ≢ p → get_or words (word_of q) 0 ≡ get_or s.words (word_of q) 0
@@ -68,12 +73,12 @@ module _ {P N V : Type 0} (R : Rules P N V) (laws : Laws R) (opened : Opened P) 
     pub words_long : length words ≡ length s.words
     pub holder_else : (q : ℕ) → q ≢ p → holder q ≡ r.holder q
     pub not_theirs : (j i : ℕ) (v : List K) (m : K) (a : ℕ) (u : ℕ × V) → j ≢ id → At j v s.views → At i m v → At a u m.held → u.0 ≢ p
-    pub mine : SessionInvariant R progress notes homes holder k'
+    pub mine : SessionInvariant R progress notes (e ∷ r.run) homes holder k'
     pub free_here : p < opened.places → get_or words (word_of p) 0 ≡ 0 → (x : V) × At (slot_of p) (kernel.some (Some x)) homes × R.AgreesWith p progress notes x
     pub busy_here : p < opened.places → get_or words (word_of p) 0 ≢ 0 → (a : ℕ) × (u : ℕ × V) × At a u k'.held × (u.0 ≡ p)
     pub held_else : (a : ℕ) (u : ℕ × V) → At a u k.held → u.0 ≢ p → (b : ℕ) × At b u k'.held
 
-  module _ (s : LockState P N V) (r : LockInvariant R opened s) (id p : ℕ) (k k' : K) (progress : P) (notes : List N) (words : List ℕ) (homes : SlotHomes V) (holder : ℕ → ℕ) (g : Goes s r id p k k' progress notes words homes holder) where
+  module _ (s : LockState P N V) (r : LockInvariant R opened s) (id p : ℕ) (k k' : K) (progress : P) (notes : List N) (words : List ℕ) (homes : SlotHomes V) (holder : ℕ → ℕ) (e : SharedStep P N V) (g : Goes s r id p k k' progress notes words homes holder e) where
     abbrev after : List (List K)
     after = set s.views id (k' ∷ [])
 
@@ -83,28 +88,31 @@ module _ {P N V : Type 0} (R : Rules P N V) (laws : Laws R) (opened : Opened P) 
     owned : r.owner k.session ≡ id
     owned = (r.each id 0 (k ∷ []) k g.here refl).1
 
-    theirs : (j i : ℕ) (v : List K) (m : K) → j ≢ id → At j v s.views → At i m v → SessionInvariant R progress notes homes holder m
+    theirs : (j i : ℕ) (v : List K) (m : K) → j ≢ id → At j v s.views → At i m v → SessionInvariant R progress notes (e ∷ r.run) homes holder m
     theirs j i v m other at_j at_i =
         let known = r.each j i v m at_j at_i in
         let fit = known.0 in
-        let apart : m.session ≢ k.session = λ e. other (sym known.1 ∙ (ap r.owner e ∙ owned)) in
+        let apart : m.session ≢ k.session = λ same. other (sym known.1 ∙ (ap r.owner same ∙ owned)) in
         record {
           possible = (
-            (laws.extends_on _ _ _ fit.possible.0.0 g.extends, λ a u at_a lead. laws.same_on _ _ _ (fit.possible.0.1 a u at_a lead) (g.same (λ e. g.not_theirs j i v m a u other at_j at_i at_a (lead ∙ sym e)))),
+            (laws.extends_on _ _ _ fit.possible.0.0 g.extends, λ a u at_a lead. laws.same_on _ _ _ (fit.possible.0.1 a u at_a lead) (g.same (λ same. g.not_theirs j i v m a u other at_j at_i at_a (lead ∙ sym same)))),
             g.noted m.session m.note apart fit.possible.1,
             g.accounts,
             λ a u at_a. g.others u.0 u.1 (g.not_theirs j i v m a u other at_j at_i at_a) (fit.possible.3 a u at_a),
           );
           allowed = fit.allowed;
           apart = fit.apart;
-          out = λ a u at_a. let ne = g.not_theirs j i v m a u other at_j at_i at_a in let was = fit.out a u at_a in (g.holder_else u.0 ne ∙ was.0, g.homes_else (slot_of u.0) (λ e. ne (one_slot u.0 p e)) ∙ was.1);
+          out = λ a u at_a. let ne = g.not_theirs j i v m a u other at_j at_i at_a in let was = fit.out a u at_a in (g.holder_else u.0 ne ∙ was.0, g.homes_else (slot_of u.0) (λ same. ne (one_slot u.0 p same)) ∙ was.1);
+          goes_on = continues_more m.run r.run e fit.goes_on;
+          own = own_else m.session e r.run (λ same. apart (sym same ∙ g.by)) ∙ fit.own;
+          ends = fit.ends;
         }
 
-    each_after : (j i : ℕ) (v : List K) (m : K) → At j v after → At i m v → SessionInvariant R progress notes homes holder m × (r.owner m.session ≡ j)
+    each_after : (j i : ℕ) (v : List K) (m : K) → At j v after → At i m v → SessionInvariant R progress notes (e ∷ r.run) homes holder m × (r.owner m.session ≡ j)
     each_after j i v m at_j at_i = ⊎_elim
         (λ (t : (j ≡ id) × ((k' ∷ []) ≡ v)).
         let only = at_only k' m i (subst (λ (z : List K). At i m z) (sym t.1) at_i) in
-        (subst (λ (z : K). SessionInvariant R progress notes homes holder z) only.1 g.mine, ap (λ (z : K). r.owner z.session) (sym only.1) ∙ (ap r.owner g.session ∙ (owned ∙ sym t.0))))
+        (subst (λ (z : K). SessionInvariant R progress notes (e ∷ r.run) homes holder z) only.1 g.mine, ap (λ (z : K). r.owner z.session) (sym only.1) ∙ (ap r.owner g.session ∙ (owned ∙ sym t.0))))
         (λ (t : (j ≢ id) × At j v s.views). (theirs j i v m t.0 t.1 at_i, (r.each j i v m t.1 at_i).1))
         (at_set s.views id j (k' ∷ []) v at_j)
 
@@ -141,6 +149,8 @@ module _ {P N V : Type 0} (R : Rules P N V) (laws : Laws R) (opened : Opened P) 
     goes = record {
       progress = progress;
       notes = notes;
+      run = e ∷ r.run;
+      leads = g.leads;
       owner = r.owner;
       holder = holder;
       grown = laws.extends_on _ _ _ r.grown g.extends;
@@ -157,7 +167,7 @@ module _ {P N V : Type 0} (R : Rules P N V) (laws : Laws R) (opened : Opened P) 
     }
 
   -- the seat that is the session k
-  pub mine_of : (s : LockState P N V) (r : LockInvariant R opened s) (id : ℕ) (k : K) → At id (k ∷ []) s.views → SessionInvariant R r.progress r.notes s.homes r.holder k
+  pub mine_of : (s : LockState P N V) (r : LockInvariant R opened s) (id : ℕ) (k : K) → At id (k ∷ []) s.views → SessionInvariant R r.progress r.notes r.run s.homes r.holder k
   mine_of s r id k at = (r.each id 0 (k ∷ []) k at refl).0
 
   -- no other session holds what is held by the session k

@@ -1,6 +1,7 @@
 pub mod Spread
 pub mod Without
 pub mod Fronts
+pub mod Run
 pub mod Keeps
 pub mod Tries
 pub mod Frees

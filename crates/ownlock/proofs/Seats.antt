@@ -12,8 +12,9 @@ use Rattle.ownlock.specs.declared.known.Known.{Known}
 use Rattle.ownlock.specs.Rules.{Rules, Laws}
 use Rattle.ownlock.specs.Words.{word_of, slot_of}
 use Rattle.ownlock.specs.Spreading.{spread}
-use Rattle.ownlock.specs.Seats.{At, Opened, opened_with, SeatView, IsSession, all_sessions, HoldsNone}
+use Rattle.ownlock.specs.Seats.{At, Opened, opened_with, SeatView, IsSession, own_steps, all_sessions, HoldsNone}
 use Rattle.ownlock.specs.Knowledge.{AllAgree}
+use Rattle.ownlock.specs.Runs.{Begins}
 use Rattle.ownlock.specs.Invariant.{SessionInvariant, HeldBySome, LockInvariant, first_of, others_of, out_of, emptied, StepsAs}
 use Rattle.ownlock.proofs.Spread.{long_spread, at_spread, none_between}
 use Rattle.ownlock.proofs.Keeps.{LockState, at_below, at_only, at_one}
@@ -101,13 +102,13 @@ module _ {P N V : Type 0} (R : Rules P N V) (laws : Laws R) where
   abbrev K : Type 0
   K = Known P N V
 
-  all_sessions_at : (progress : P) (n : ℕ) (ns : List N) (i : ℕ) (k : K) → At i k (all_sessions progress n ns) → (k.session ≡ n + i) × (k.progress ≡ progress) × (k.held ≡ []) × At i k.note ns
+  all_sessions_at : (progress : P) (n : ℕ) (ns : List N) (i : ℕ) (k : K) → At i k (all_sessions progress n ns) → (k.session ≡ n + i) × (k.progress ≡ progress) × (k.held ≡ []) × At i k.note ns × (k.steps ≡ []) × (k.run ≡ [])
   all_sessions_at progress n [] i k e = absurd (some-ne-none k (sym e))
   all_sessions_at progress n (x ∷ xs) zero k e =
-      let is : record { session = n; progress = progress; note = x; held = []; steps = [] } ≡ k = some-injective _ k e in
+      let is : record { session = n; progress = progress; note = x; held = []; steps = []; run = [] } ≡ k = some-injective _ k e in
       let number : n ≡ k.session = ap (λ (z : K). z.session) is in
-      (omega arith, sym (ap (λ (z : K). z.progress) is), sym (ap (λ (z : K). z.held) is), ap (λ (z : K). kernel.some z.note) is)
-  all_sessions_at progress n (x ∷ xs) (suc i) k e = let t = all_sessions_at progress (suc n) xs i k e in let number = t.0 in (omega arith, t.1, t.2, t.3)
+      (omega arith, sym (ap (λ (z : K). z.progress) is), sym (ap (λ (z : K). z.held) is), ap (λ (z : K). kernel.some z.note) is, sym (ap (λ (z : K). z.steps) is), sym (ap (λ (z : K). z.run) is))
+  all_sessions_at progress n (x ∷ xs) (suc i) k e = let t = all_sessions_at progress (suc n) xs i k e in let number = t.0 in (omega arith, t.1, t.2, t.3, t.4, t.5)
 
   -- the shelf at the start
   pub opens : (progress : P) (notes : List N) (values : List (Option V)) (words : List ℕ) → words ≡ blanks (word_of (length values + 1)) → R.completed progress ≡ 0 → R.Accounts progress notes → AllAgree R progress notes values → (places : ℕ) → length values ≡ places
@@ -115,6 +116,8 @@ module _ {P N V : Type 0} (R : Rules P N V) (laws : Laws R) where
   opens progress notes values words blank none whole agree places count = record {
     progress = progress;
     notes = notes;
+    run = [];
+    leads = Begins;
     grown = laws.extends_self progress;
     placed = length_map (spread values) ∙ (long_spread values ∙ ap slot_of count);
     owner = λ _. 0;
@@ -144,7 +147,7 @@ module _ {P N V : Type 0} (R : Rules P N V) (laws : Laws R) where
       none_held : (k : K) → k.held ≡ [] → (a : ℕ) (u : ℕ × V) → At a u k.held → ⊥
       none_held k e a u h = some-ne-none u (sym h ∙ ap (λ l. get_elem? l a) e)
 
-      holds_of : (j i : ℕ) (v : List K) (k : K) → At j v (all_sessions progress 0 notes ∷ []) → At i k v → SessionInvariant R progress notes (map kernel.some (spread values)) (λ _. 0) k × (0 ≡ j)
+      holds_of : (j i : ℕ) (v : List K) (k : K) → At j v (all_sessions progress 0 notes ∷ []) → At i k v → SessionInvariant R progress notes [] (map kernel.some (spread values)) (λ _. 0) k × (0 ≡ j)
       holds_of j i v k at_j at_i =
           let only = at_only (all_sessions progress 0 notes) v j at_j in
           let t = all_sessions_at progress 0 notes i k (subst (λ z. At i k z) (sym only.1) at_i) in
@@ -159,6 +162,9 @@ module _ {P N V : Type 0} (R : Rules P N V) (laws : Laws R) where
               allowed = subst (λ l. R.Allows k.progress k.session (map (λ u. u.0) l)) (sym t.2) (laws.allows_none k.progress k.session);
               apart = λ a b u w h _ _. absurd (none_held k t.2 a u h);
               out = λ a u h. absurd (none_held k t.2 a u h);
+              goes_on = ([], sym t.5);
+              own = sym t.4;
+              ends = record { seen = ap (own_steps k.session) t.5 ∙ sym t.4; last = inl (t.5, t.4) };
             },
             sym only.0,
           )
@@ -170,15 +176,17 @@ module _ {P N V : Type 0} (R : Rules P N V) (laws : Laws R) where
           let two = (all_sessions_at progress 0 notes b m (subst (λ z. At b m z) (sym only.1) at_b)).0 in
           omega (arith, one, two, e)
 
-  module _ (opened : Opened P) where
+  module _ (opened : Opened P N) where
     -- the rule is kept where only the seats change: whose session each is, what is held, and that no two are the same
     seated : (s : LockState P N V) (r : LockInvariant R opened s) (views : List (List K)) (owner : ℕ → ℕ) → ((p : ℕ) → HeldBySome R p s.views → HeldBySome R p views)
-        → ((j i : ℕ) (v : List K) (k : K) → At j v views → At i k v → SessionInvariant R r.progress r.notes s.homes r.holder k × (owner k.session ≡ j))
+        → ((j i : ℕ) (v : List K) (k : K) → At j v views → At i k v → SessionInvariant R r.progress r.notes r.run s.homes r.holder k × (owner k.session ≡ j))
         → ((j a b : ℕ) (v : List K) (k m : K) → At j v views → At a k v → At b m v → k.session ≡ m.session → a ≡ b)
         → LockInvariant R opened record { words = s.words; homes = s.homes; views = views }
     seated s r views owner held each distinct = record {
       progress = r.progress;
       notes = r.notes;
+      run = r.run;
+      leads = r.leads;
       owner = owner;
       holder = r.holder;
       grown = r.grown;
@@ -216,7 +224,7 @@ module _ {P N V : Type 0} (R : Rules P N V) (laws : Laws R) where
         new_at : At (length left) (k ∷ []) (left ++ (k ∷ []) ∷ [])
         new_at = at_last left (k ∷ []) (length left) refl
 
-        each_left : (j i : ℕ) (v : List K) (m : K) → At j v left → At i m v → SessionInvariant R r.progress r.notes s.homes r.holder m × (owner m.session ≡ j)
+        each_left : (j i : ℕ) (v : List K) (m : K) → At j v left → At i m v → SessionInvariant R r.progress r.notes r.run s.homes r.holder m × (owner m.session ≡ j)
         each_left j i v m at_j at_i = ⊎_elim
             (λ (t : (j ≡ id) × (ks ≡ v)).
             let mine : At (suc i) m (k ∷ ks) = subst (λ z. At i m z) (sym t.1) at_i in
@@ -227,12 +235,12 @@ module _ {P N V : Type 0} (R : Rules P N V) (laws : Laws R) where
             (known.0, owner_else m.session (λ e. t.0 (sym known.1 ∙ (ap r.owner e ∙ first_owned))) ∙ known.1))
             (at_set s.views id j ks v at_j)
 
-        each : (j i : ℕ) (v : List K) (m : K) → At j v (left ++ (k ∷ []) ∷ []) → At i m v → SessionInvariant R r.progress r.notes s.homes r.holder m × (owner m.session ≡ j)
+        each : (j i : ℕ) (v : List K) (m : K) → At j v (left ++ (k ∷ []) ∷ []) → At i m v → SessionInvariant R r.progress r.notes r.run s.homes r.holder m × (owner m.session ≡ j)
         each j i v m at_j at_i = ⊎_elim
             (λ h. each_left j i v m h at_i)
             (λ (t : (j ≡ length left) × ((k ∷ []) ≡ v)).
             let only = at_only k m i (subst (λ z. At i m z) (sym t.1) at_i) in (
-              subst (λ z. SessionInvariant R r.progress r.notes s.homes r.holder z) only.1 (r.each id 0 (k ∷ ks) k at refl).0,
+              subst (λ z. SessionInvariant R r.progress r.notes r.run s.homes r.holder z) only.1 (r.each id 0 (k ∷ ks) k at refl).0,
               ap (λ (z : K). owner z.session) (sym only.1) ∙ (ap (λ b. either b (length left) (r.owner k.session)) (eq-eqb k.session k.session refl) ∙ sym t.0),
             ))
             (at_snoc_last left (k ∷ []) v j at_j)
@@ -288,19 +296,19 @@ module _ {P N V : Type 0} (R : Rules P N V) (laws : Laws R) where
         both_at : At id (v ++ w) last
         both_at = set_else mid other id [] (λ e. apart (sym e)) ∙ set_here s.views id (v ++ w) (at_below s.views id v at)
 
-        each_both : (i : ℕ) (m : K) → At i m (v ++ w) → SessionInvariant R r.progress r.notes s.homes r.holder m × (owner m.session ≡ id)
+        each_both : (i : ℕ) (m : K) → At i m (v ++ w) → SessionInvariant R r.progress r.notes r.run s.homes r.holder m × (owner m.session ≡ id)
         each_both i m at_i = ⊎_elim
             (λ (t : (i < length v) × At i m v). let known = r.each id i v m at t.1 in (known.0, owner_else m.session (λ e. apart (sym e ∙ known.1)) ∙ known.1))
             (λ (t : (b : ℕ) × (i ≡ length v + b) × At b m w). let known = r.each other t.0 w m w_at t.2 in (known.0, owner_here m.session known.1))
             (at_append v w i m at_i)
 
-        each_mid : (j i : ℕ) (x : List K) (m : K) → j ≢ other → At j x mid → At i m x → SessionInvariant R r.progress r.notes s.homes r.holder m × (owner m.session ≡ j)
+        each_mid : (j i : ℕ) (x : List K) (m : K) → j ≢ other → At j x mid → At i m x → SessionInvariant R r.progress r.notes r.run s.homes r.holder m × (owner m.session ≡ j)
         each_mid j i x m ne at_j at_i = ⊎_elim
             (λ (t : (j ≡ id) × ((v ++ w) ≡ x)). let known = each_both i m (subst (λ z. At i m z) (sym t.1) at_i) in (known.0, known.1 ∙ sym t.0))
             (λ (t : (j ≢ id) × At j x s.views). let known = r.each j i x m t.1 at_i in (known.0, owner_else m.session (λ e. ne (sym known.1 ∙ e)) ∙ known.1))
             (at_set s.views id j (v ++ w) x at_j)
 
-        each : (j i : ℕ) (x : List K) (m : K) → At j x last → At i m x → SessionInvariant R r.progress r.notes s.homes r.holder m × (owner m.session ≡ j)
+        each : (j i : ℕ) (x : List K) (m : K) → At j x last → At i m x → SessionInvariant R r.progress r.notes r.run s.homes r.holder m × (owner m.session ≡ j)
         each j i x m at_j at_i = ⊎_elim
             (λ (t : (j ≡ other) × ([] ≡ x)). let none : At i m [] = subst (λ z. At i m z) (sym t.1) at_i in absurd (some-ne-none m (sym none)))
             (λ (t : (j ≢ other) × At j x mid). each_mid j i x m t.0 t.1 at_i)

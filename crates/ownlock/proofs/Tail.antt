@@ -1,18 +1,21 @@
 -- A step on the word of the completed tail keeps the invariant, and what it tells.
-use Rattle.std.proofs.Common.{◌≡◌, ◌≢◌, ℕ, max, List, [], ◌∷◌, length, get_or, set, sym, refl, ap, ◌∙◌, subst, arith, length-set, get_or-set_same, Option}
+use Rattle.std.proofs.Common.{◌≡◌, ◌≢◌, ℕ, max, List, [], ◌∷◌, length, get_or, set, sym, refl, ap, ◌∙◌, inr, subst, arith, length-set, get_or-set_same, Option}
 use mathlib.Core.Option as kernel
 use Rattle.atomic_table.specs.Table.{keeps, step, stepped, Allows}
 use Rattle.ownlock.specs.declared.known.Known.{Known}
+use Rattle.ownlock.specs.declared.known.SharedStep.{SharedStep}
 use Rattle.ownlock.specs.declared.known.ShelfStep.{ShelfStep}
 use Rattle.ownlock.specs.declared.known.ShelfStep.TheVariants.{Read, Raised}
 use Rattle.ownlock.specs.Rules.{Rules, Laws}
 use Rattle.ownlock.specs.Words.{word_of, slot_of}
-use Rattle.ownlock.specs.Seats.{At, Opened, having_raised, having_read}
+use Rattle.ownlock.specs.Runs.{Runs, Loads, Raises}
+use Rattle.ownlock.specs.Seats.{At, Opened, Run, Adds, having_raised, having_read, taken_by}
 use Rattle.ownlock.specs.Knowledge.{Later, Possible}
 use Rattle.ownlock.specs.Invariant.{SessionInvariant, LockInvariant, done_read, done_raised}
+use Rattle.ownlock.proofs.Run.{continues_self, own_here}
 use Rattle.ownlock.proofs.Keeps.{LockState, LockSeat, at_below, Goes, goes, mine_of, word_there, word_else}
 
-module _ {P N V : Type 0} (R : Rules P N V) (laws : Laws R) (opened : Opened P) where
+module _ {P N V : Type 0} (R : Rules P N V) (laws : Laws R) (opened : Opened P N) where
   abbrev K : Type 0
   K = Known P N V
 
@@ -21,12 +24,15 @@ module _ {P N V : Type 0} (R : Rules P N V) (laws : Laws R) (opened : Opened P) 
 
   -- the session goes on to a progress with the same history and the completed tail n
   module _ (s : LockState P N V) (r : LockInvariant R opened s) (id : ℕ) (k : K) (at : At id (k ∷ []) s.views) (progress : P) (n : ℕ) (extends : R.Extends r.progress progress) (same : R.SameHistory r.progress progress)
-      (accounts : R.Accounts progress r.notes) (agrees : (q : ℕ) (y : V) → R.AgreesWith q r.progress r.notes y → R.AgreesWith q progress r.notes y) (completed : R.completed progress ≡ n) (steps : List (ShelfStep V)) where
-    -- it has taken these steps then
-    abbrev later : K
-    later = record { session = k.session; progress = progress; note = k.note; held = k.held; steps = steps }
+      (accounts : R.Accounts progress r.notes) (agrees : (q : ℕ) (y : V) → R.AgreesWith q r.progress r.notes y → R.AgreesWith q progress r.notes y) (completed : R.completed progress ≡ n) (step_taken : ShelfStep V) (leads : Runs R opened (taken_by k step_taken progress k.note ∷ r.run) progress r.notes) where
+    abbrev entry : SharedStep P N V
+    entry = taken_by k step_taken progress k.note
 
-    seen : SessionInvariant R r.progress r.notes s.homes r.holder k
+    -- it has taken this step then
+    abbrev later : K
+    later = record { session = k.session; progress = progress; note = k.note; held = k.held; steps = step_taken ∷ k.steps; run = entry ∷ r.run }
+
+    seen : SessionInvariant R r.progress r.notes r.run s.homes r.holder k
     seen = mine_of R laws opened s r id k at
 
     abbrev last : ℕ
@@ -35,10 +41,12 @@ module _ {P N V : Type 0} (R : Rules P N V) (laws : Laws R) (opened : Opened P) 
     not_last : (q : ℕ) → At (slot_of q) kernel.none s.homes → q ≢ last
     not_last q e is = let below = at_below s.homes (slot_of q) kernel.none e in let placed = r.placed in omega (arith, below, is, placed)
 
-    moves_tail : Goes R laws opened s r id last k later progress r.notes (set s.words (word_of last) n) s.homes r.holder
+    moves_tail : Goes R laws opened s r id last k later progress r.notes (set s.words (word_of last) n) s.homes r.holder entry
     moves_tail = record {
       here = at;
       session = refl;
+      by = refl;
+      leads = leads;
       accounts = accounts;
       extends = extends;
       same = λ _. same;
@@ -57,6 +65,9 @@ module _ {P N V : Type 0} (R : Rules P N V) (laws : Laws R) (opened : Opened P) 
         allowed = laws.allows_on k.progress progress k.session _ (laws.extends_on _ _ _ seen.possible.0.0 extends) seen.allowed;
         apart = seen.apart;
         out = seen.out;
+        goes_on = continues_self (entry ∷ r.run);
+        own = own_here k.session entry r.run refl ∙ ap (λ es. step_taken ∷ es) seen.own;
+        ends = record { seen = own_here k.session entry r.run refl ∙ ap (λ es. step_taken ∷ es) seen.own; last = inr (r.run, entry, refl, refl, refl, refl) };
       };
       free_here = λ below _. absurd (omega (arith, below));
       busy_here = λ below _. absurd (omega (arith, below));
@@ -64,7 +75,7 @@ module _ {P N V : Type 0} (R : Rules P N V) (laws : Laws R) (opened : Opened P) 
     }
 
     tail_stands : (c : List (ℕ × Option V)) → LockInvariant R opened (stepped s (word_of last) n id c (later ∷ []) keeps)
-    tail_stands c = goes R laws opened s r id last k later progress r.notes (set s.words (word_of last) n) s.homes r.holder moves_tail
+    tail_stands c = goes R laws opened s r id last k later progress r.notes (set s.words (word_of last) n) s.homes r.holder entry moves_tail
 
   -- what the session may find
   now : (s : LockState P N V) (r : LockInvariant R opened s) (id : ℕ) (k : K) → At id (k ∷ []) s.views → Possible R k r.progress r.notes
@@ -90,14 +101,20 @@ module _ {P N V : Type 0} (R : Rules P N V) (laws : Laws R) (opened : Opened P) 
       → Allows (LockInvariant R opened) slots id (me k c) (word_of places) (λ n. n) (done_read R (step slots (word_of places) 0 0 kernel.none) (me k c))
   reads_at slots places id k c wide s r long at _ =
       let same = all_places s r slots places wide long in
-      let tail : get_or s.words (word_of places) 0 ≡ R.completed r.progress = ap (λ z. get_or s.words (word_of z) 0) same ∙ r.tail in (
-        having_read k r.progress (get_or s.words (word_of places) 0) ∷ [],
+      let found : ℕ = get_or s.words (word_of places) 0 in
+      let tail : found ≡ R.completed r.progress = ap (λ z. get_or s.words (word_of z) 0) same ∙ r.tail in
+      let fit = mine_of R laws opened s r id k at in
+      let run : Run P N V = taken_by k (Read found) r.progress k.note ∷ r.run in
+      let leads : Runs R opened run r.progress r.notes = Loads r.run r.progress r.notes k.session found k.note r.leads fit.possible.1 tail in (
+        having_read k r.progress found run ∷ [],
         keeps,
         tt,
-        subst (λ z. LockInvariant R opened (stepped s (word_of z) (get_or s.words (word_of places) 0) id c (having_read k r.progress (get_or s.words (word_of places) 0) ∷ []) keeps)) (sym same)
-            (tail_stands s r id k at r.progress (get_or s.words (word_of places) 0) (laws.extends_self r.progress) (laws.same_self r.progress) r.accounts (λ q y h. h) (sym tail) (Read (get_or s.words (word_of places) 0) ∷ k.steps) c),
-        λ k2 sits. subst (λ (z : K). (progress : P) × ((notes : List N) × Possible R z progress notes) × (get_or s.words (word_of places) 0 ≡ R.completed progress) × (me (having_read k r.progress (get_or s.words (word_of places) 0)) c ≡ me (having_read z progress (get_or s.words (word_of places) 0)) c)) (only_one k k2 sits)
-            (r.progress, (r.notes, now s r id k at), tail, refl),
+        subst (λ z. LockInvariant R opened (stepped s (word_of z) found id c (having_read k r.progress found run ∷ []) keeps)) (sym same)
+            (tail_stands s r id k at r.progress found (laws.extends_self r.progress) (laws.same_self r.progress) r.accounts (λ q y h. h) (sym tail) (Read found) leads c),
+        λ k2 sits. subst
+            (λ (z : K). (progress : P) × ((notes : List N) × Possible R z progress notes) × (found ≡ R.completed progress)
+            × ((more : Run P N V) × Adds z (Read found) progress z.note more × (me (having_read k r.progress found run) c ≡ me (having_read z progress found more) c)))
+            (only_one k k2 sits) (r.progress, (r.notes, now s r id k at), tail, (run, (r.run, fit.goes_on, refl), refl)),
       )
 
   raises_at : (slots places id n : ℕ) (k : K) (c : List (ℕ × Option V)) → slots ≡ slot_of places → R.Reaches k.progress n
@@ -108,15 +125,20 @@ module _ {P N V : Type 0} (R : Rules P N V) (laws : Laws R) (opened : Opened P) 
       let progress : P = R.raised r.progress n in
       let up : R.completed progress ≡ max (get_or s.words (word_of places) 0) n = laws.raised_completed r.progress n ∙ ap (λ z. max z n) (sym tail) in
       let known = now s r id k at in
-      let may : R.Reaches r.progress n = laws.reaches_on k.progress r.progress n known.0.0 reaches in (
-        having_raised k progress n ∷ [],
+      let may : R.Reaches r.progress n = laws.reaches_on k.progress r.progress n known.0.0 reaches in
+      let fit = mine_of R laws opened s r id k at in
+      let run : Run P N V = taken_by k (Raised n) progress k.note ∷ r.run in
+      let leads : Runs R opened run progress r.notes = Raises r.run r.progress r.notes k.session n k.note r.leads fit.possible.1 may in (
+        having_raised k progress n run ∷ [],
         keeps,
         tt,
-        subst (λ z. LockInvariant R opened (stepped s (word_of z) (max (get_or s.words (word_of places) 0) n) id c (having_raised k progress n ∷ []) keeps)) (sym same)
+        subst (λ z. LockInvariant R opened (stepped s (word_of z) (max (get_or s.words (word_of places) 0) n) id c (having_raised k progress n run ∷ []) keeps)) (sym same)
             (tail_stands s r id k at progress (max (get_or s.words (word_of places) 0) n) (laws.raised_extends r.progress n) (laws.raised_same r.progress n) (laws.raised_account r.progress n r.notes may r.accounts)
-            (λ q y h. laws.raised_agrees q y r.progress n r.notes may r.accounts h) up (Raised n ∷ k.steps) c),
-        λ k2 sits. subst (λ (z : K). (before : P) × Later R z before × ((notes : List N) × Possible R z (R.raised before n) notes) × (me (having_raised k progress n) c ≡ me (having_raised z (R.raised before n) n) c)) (only_one k k2 sits)
-            (r.progress, known.0, (r.notes, now_raised k r.progress r.notes n may known), refl),
+            (λ q y h. laws.raised_agrees q y r.progress n r.notes may r.accounts h) up (Raised n) leads c),
+        λ k2 sits. subst
+            (λ (z : K). (before : P) × Later R z before × ((notes : List N) × Possible R z (R.raised before n) notes)
+            × ((more : Run P N V) × Adds z (Raised n) (R.raised before n) z.note more × (me (having_raised k progress n run) c ≡ me (having_raised z (R.raised before n) n more) c)))
+            (only_one k k2 sits) (r.progress, known.0, (r.notes, now_raised k r.progress r.notes n may known), (run, (r.run, fit.goes_on, refl), refl)),
       )
 
   -- the completed tail is read

@@ -1,5 +1,5 @@
 -- A try keeps the invariant, and what it tells.
-use Rattle.std.proofs.Common.{◌≡◌, ◌≢◌, ℕ, zero, suc, ◌<◌, eqb, List, [], ◌∷◌, map, get_or, set, sym, refl, ap, ◌∙◌, subst, arith, length-set, get_or-set_same, eq-eqb, ne_eqb, Option, Some, None}
+use Rattle.std.proofs.Common.{◌≡◌, ◌≢◌, ℕ, zero, suc, ◌<◌, eqb, List, [], ◌∷◌, map, get_or, set, sym, refl, ap, ◌∙◌, inr, subst, arith, length-set, get_or-set_same, eq-eqb, ne_eqb, Option, Some, None}
 use mathlib.Core.Option as kernel
 use mathlib.Core.Option.{some-injective, some-ne-none}
 use lib.ListN.{get_elem?}
@@ -8,22 +8,29 @@ use prog.Atomic.{either}
 use Rattle.atomic_table.specs.Table.{Me, Act, keeps, takes, step, stepped, Allows, Valid, carried_after, rest}
 use Rattle.atomic_table.proofs.Lists.{set_here, set_else, exchanged}
 use Rattle.ownlock.specs.declared.known.Known.{Known}
+use Rattle.ownlock.specs.declared.known.SharedStep.{SharedStep}
+use Rattle.ownlock.specs.declared.known.ShelfStep.TheVariants.{Took}
 use Rattle.ownlock.specs.Rules.{Rules, Laws}
 use Rattle.ownlock.specs.Words.{word_of, slot_of}
-use Rattle.ownlock.specs.Seats.{At, Opened, place_of, holding}
+use Rattle.ownlock.specs.Runs.{Takes}
+use Rattle.ownlock.specs.Seats.{At, Opened, own_steps, place_of, holding, taken_by}
 use Rattle.ownlock.specs.Knowledge.{HeldAgree, Possible, Acquired, MayTake}
 use Rattle.ownlock.specs.Invariant.{emptied, SessionInvariant, LockInvariant, StepsAs, tried}
 use Rattle.ownlock.proofs.Spread.{one_slot}
+use Rattle.ownlock.proofs.Run.{continues_self, own_here}
 use Rattle.ownlock.proofs.Keeps.{LockState, LockSeat, one_session, one_place, Goes, goes, mine_of, word_there, word_else, tail_else, place_there, slot_there, unmoved}
 
-module _ {P N V : Type 0} (R : Rules P N V) (laws : Laws R) (opened : Opened P) where
+module _ {P N V : Type 0} (R : Rules P N V) (laws : Laws R) (opened : Opened P N) where
   abbrev K : Type 0
   K = Known P N V
 
   module _ (s : LockState P N V) (r : LockInvariant R opened s) (id p : ℕ) (k : K) (at : At id (k ∷ []) s.views) (below : p < opened.places) (may : MayTake R p k)
       (x : V) (home : At (slot_of p) (kernel.some (Some x)) s.homes) (agrees : R.AgreesWith p r.progress r.notes x) where
+    abbrev entry : SharedStep P N V
+    entry = taken_by k (Took p x) r.progress k.note
+
     abbrev taker : K
-    taker = holding k r.progress p x
+    taker = holding k r.progress p x (entry ∷ r.run)
 
     abbrev now_holds : ℕ → ℕ
     now_holds q = either (eqb q p) k.session (r.holder q)
@@ -52,16 +59,21 @@ module _ {P N V : Type 0} (R : Rules P N V) (laws : Laws R) (opened : Opened P) 
     after_take : Possible R taker r.progress r.notes
     after_take = ((laws.extends_self r.progress, λ a u _ _. laws.same_self r.progress), (mine_of R laws opened s r id k at).possible.1, r.accounts, take_agrees)
 
-    take_fits : SessionInvariant R r.progress r.notes (set s.homes (slot_of p) kernel.none) now_holds taker
-    take_fits = record { possible = after_take; allowed = laws.allows_on k.progress r.progress k.session (map place_of taker.held) (mine_of R laws opened s r id k at).possible.0.0 may.1; apart = take_apart; out = take_out }
+    now_took : own_steps k.session (entry ∷ r.run) ≡ Took p x ∷ k.steps
+    now_took = own_here k.session entry r.run refl ∙ ap (λ es. Took p x ∷ es) (mine_of R laws opened s r id k at).own
+
+    take_fits : SessionInvariant R r.progress r.notes (entry ∷ r.run) (set s.homes (slot_of p) kernel.none) now_holds taker
+    take_fits = record { possible = after_take; allowed = laws.allows_on k.progress r.progress k.session (map place_of taker.held) (mine_of R laws opened s r id k at).possible.0.0 may.1; apart = take_apart; out = take_out; goes_on = continues_self (entry ∷ r.run); own = now_took; ends = record { seen = now_took; last = inr (r.run, entry, refl, refl, refl, refl) } }
 
     word_set : (n : ℕ) → get_or (set s.words (word_of p) n) (word_of p) 0 ≡ n
     word_set n = get_or-set_same s.words (word_of p) n 0 (word_there R laws opened s r p (omega (arith, below)))
 
-    takes_it : Goes R laws opened s r id p k taker r.progress r.notes (set s.words (word_of p) 1) (set s.homes (slot_of p) kernel.none) now_holds
+    takes_it : Goes R laws opened s r id p k taker r.progress r.notes (set s.words (word_of p) 1) (set s.homes (slot_of p) kernel.none) now_holds entry
     takes_it = record {
       here = at;
       session = refl;
+      by = refl;
+      leads = Takes r.run r.progress r.notes k.session p x k.note r.leads (mine_of R laws opened s r id k at).possible.1 agrees;
       accounts = r.accounts;
       extends = laws.extends_self r.progress;
       same = λ _. laws.same_self r.progress;
@@ -82,7 +94,7 @@ module _ {P N V : Type 0} (R : Rules P N V) (laws : Laws R) (opened : Opened P) 
     }
 
     takes_stand : LockInvariant R opened (stepped s (word_of p) 1 id (map emptied k.held) (taker ∷ []) (takes (slot_of p) (Some x)))
-    takes_stand = goes R laws opened s r id p k taker r.progress r.notes (set s.words (word_of p) 1) (set s.homes (slot_of p) kernel.none) now_holds takes_it
+    takes_stand = goes R laws opened s r id p k taker r.progress r.notes (set s.words (word_of p) 1) (set s.homes (slot_of p) kernel.none) now_holds entry takes_it
 
   abbrev me : K → List (ℕ × Option V) → LockSeat P N V
   me k c = (k ∷ [], c)
@@ -109,7 +121,7 @@ module _ {P N V : Type 0} (R : Rules P N V) (laws : Laws R) (opened : Opened P) 
             (λ (z : ℕ × K). Told z.0 (me k (map emptied k.held)) (get_or s.words (word_of p) 0) (me after ((slot_of p, Some t.0) ∷ map emptied k.held)) z.1)
             (λ i. (one_place p p2 same i, one_session (k ∷ [], map emptied k.held) k k2 refl sits i)) (
               (λ ne. absurd (ne hit)),
-              (λ _. (after, t.0, (r.progress, refl, (mine_of R laws opened s r id k at).possible.0, (r.notes, after_take s r id p k at inside may t.0 t.1 t.2)), refl)),
+              (λ _. (after, t.0, (r.progress, refl, (mine_of R laws opened s r id k at).possible.0, (r.notes, after_take s r id p k at inside may t.0 t.1 t.2), (r.run, (mine_of R laws opened s r id k at).goes_on, refl)), refl)),
             ),
       ))
       (λ miss. (k ∷ [], keeps, tt, unmoved R laws opened s r id (word_of p) k (map emptied k.held) at, λ k2 p2 sits same. ((λ _. refl), (λ hit. absurd (miss hit)))))

@@ -5,9 +5,14 @@ use Rattle.atomic_table.specs.Table.{State}
 use Rattle.ownlock.specs.declared.known.Known.{Known}
 use Rattle.ownlock.specs.Rules.{Rules, leader}
 use Rattle.ownlock.specs.Words.{word_of, completed_word, slot_of}
+use Rattle.ownlock.specs.Knowledge.{IsOneRun}
 use Rattle.ownlock.specs.Seats.{At, View, Opened, place_of}
 
-module _ {P N V : Type 0} (s : State (Option V) (View P N V)) where
+-- a shelf between two atomic steps: its words and slots, and what each seat knows
+abbrev pub ShelfState : Type 0 → Type 0 → Type 0 → Type 0
+ShelfState P N V = State (Option V) (View P N V)
+
+module _ {P N V : Type 0} (s : ShelfState P N V) where
   -- the session k, the i-th of the seat j, holds the place p as the a-th of its places, and took x from there
   abbrev pub Holds : ℕ → ℕ → ℕ → Known P N V → ℕ → V → Type 0
   Holds j i a k p x = (v : View P N V) × At j v s.views × At i k v × At a (p, x) k.held
@@ -20,7 +25,7 @@ module _ {P N V : Type 0} (s : State (Option V) (View P N V)) where
   abbrev pub HeldOnce : ℕ → ℕ → ℕ → ℕ → Type 0
   HeldOnce j i a p = (j' i' a' : ℕ) (k' : Known P N V) (x' : V) → Holds j' i' a' k' p x' → (j' ≡ j) × (i' ≡ i) × (a' ≡ a)
 
-module _ {P N V : Type 0} (R : Rules P N V) (s : State (Option V) (View P N V)) (progress : P) (notes : List N) where
+module _ {P N V : Type 0} (R : Rules P N V) (s : ShelfState P N V) (progress : P) (notes : List N) where
   -- the word is 0, the value is on the shelf and agrees, and nobody holds the place
   abbrev pub IsHome : ℕ → Type 0
   IsHome p = (slice_index s.words (word_of p) ≡ 0) × ((x : V) × At (slot_of p) (kernel.some (Some x)) s.homes × R.AgreesWith p progress notes x) × HeldByNobody s p
@@ -45,12 +50,14 @@ module _ {P N V : Type 0} (R : Rules P N V) (s : State (Option V) (View P N V)) 
   HistoryStandsStill = (j i a : ℕ) (k : Known P N V) (x : V) → Holds s j i a k leader x → R.SameHistory k.progress progress
 
 -- One progress and the notes of all sessions stand for everything that the seats know and that lies on the shelf. The progress has grown
--- from the one that the shelf was opened with, and there are the places and the sessions that it was opened for.
-abbrev pub Between : {P N V : Type 0} → Rules P N V → State (Option V) (View P N V) → Opened P → Type 0
+-- from the one that the shelf was opened with, and there are the places and the sessions that it was opened for. One run of the steps of all
+-- sessions leads there.
+abbrev pub Between : {P N V : Type 0} → Rules P N V → ShelfState P N V → Opened P N → Type 0
 Between {P} {N} {V} R s opened =
     (progress : P) × (notes : List N) × R.Accounts progress notes
-    × R.Extends opened.progress progress × (length s.homes ≡ slot_of opened.places) × (length notes ≡ opened.sessions)
+    × R.Extends opened.progress progress × (length s.homes ≡ slot_of opened.places) × (length notes ≡ length opened.notes)
     × ((p : ℕ) → p < opened.places → IsHomeOrHeld R s progress notes p)
     × ((j i : ℕ) (v : View P N V) (k : Known P N V) → At j v s.views → At i k v → IsKnown R s progress notes k)
     × IsCompletedTail R s progress notes opened.places
     × HistoryStandsStill R s progress notes
+    × IsOneRun R opened progress notes (λ k. (j i : ℕ) × (v : View P N V) × At j v s.views × At i k v)

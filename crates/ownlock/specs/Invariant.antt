@@ -4,10 +4,12 @@ use Rattle.std.specs.Prelude.{◌≡◌, ◌≢◌, ℕ, suc, ◌<◌, List, [],
 use mathlib.Core.Option as kernel
 use Rattle.atomic_table.specs.Table.{State, Me, Step}
 use Rattle.ownlock.specs.declared.known.Known.{Known}
+use Rattle.ownlock.specs.declared.known.ShelfStep.TheVariants.{Put, Read, Raised}
 use Rattle.ownlock.specs.Rules.{Rules}
 use Rattle.ownlock.specs.Words.{word_of, completed_word, slot_of}
 use Rattle.ownlock.specs.Spreading.{HasGaps}
-use Rattle.ownlock.specs.Seats.{At, View, Opened, place_of, without, left_with, having_raised, having_read}
+use Rattle.ownlock.specs.Runs.{Runs}
+use Rattle.ownlock.specs.Seats.{At, View, Opened, Run, Continues, Adds, EndsWithOwn, own_steps, place_of, without, left_with, having_raised, having_read}
 use Rattle.ownlock.specs.Knowledge.{Later, Possible, Acquired, MayFind}
 
 -- the slot of a place that is held has no value
@@ -34,21 +36,28 @@ module _ {P N V : Type 0} where
   others_of (k ∷ ks) = ks
 
 module _ {P N V : Type 0} (R : Rules P N V) where
-  -- what one session knows is so: its knowledge is possible, it may hold what it holds, each place once, and their slots are out
-  pub record SessionInvariant (progress : P) (notes : List N) (homes : List (kernel.Option (Option V))) (holder : ℕ → ℕ) (k : Known P N V) : Type 0 where
+  -- what one session knows is so: its knowledge is possible, it may hold what it holds, each place once, and their slots are out; the run
+  -- goes on from the run that the session knows, and has exactly the session's own steps
+  pub record SessionInvariant (progress : P) (notes : List N) (run : Run P N V) (homes : List (kernel.Option (Option V))) (holder : ℕ → ℕ) (k : Known P N V) : Type 0 where
     pub possible : Possible R k progress notes
     pub allowed : R.Allows k.progress k.session (map place_of k.held)
     pub apart : (a b : ℕ) (u w : ℕ × V) → At a u k.held → At b w k.held → u.0 ≡ w.0 → a ≡ b
     pub out : (a : ℕ) (u : ℕ × V) → At a u k.held → (holder u.0 ≡ k.session) × At (slot_of u.0) kernel.none homes
+    pub goes_on : Continues k.run run
+    pub own : own_steps k.session run ≡ k.steps
+    pub ends : EndsWithOwn k
 
   -- some session of some seat holds the place
   abbrev pub HeldBySome : ℕ → List (View P N V) → Type 0
   HeldBySome p views = (j : ℕ) × (v : View P N V) × (i : ℕ) × (k : Known P N V) × (a : ℕ) × (u : ℕ × V) × At j v views × At i k v × At a u k.held × (u.0 ≡ p)
 
-  pub record LockInvariant (opened : Opened P) (s : State (Option V) (View P N V)) : Type 0 where
+  pub record LockInvariant (opened : Opened P N) (s : State (Option V) (View P N V)) : Type 0 where
     -- the progress of all sessions, and the note of each
     pub progress : P
     pub notes : List N
+    -- the run: the steps of all sessions so far, which lead there
+    pub run : Run P N V
+    pub leads : Runs R opened run progress notes
     -- it has grown from the one that the shelf was opened with, and the shelf has the slots of the places that it was opened with
     pub grown : R.Extends opened.progress progress
     pub placed : length s.homes ≡ slot_of opened.places
@@ -56,14 +65,14 @@ module _ {P N V : Type 0} (R : Rules P N V) where
     pub owner : ℕ → ℕ
     pub holder : ℕ → ℕ
     pub accounts : R.Accounts progress notes
-    pub counted : length notes ≡ opened.sessions
+    pub counted : length notes ≡ length opened.notes
     pub wide : length s.words ≡ word_of (suc opened.places)
     pub tail : slice_index s.words (completed_word opened.places) ≡ R.completed progress
     -- the slots between those of the places hold nothing
     pub gaps : HasGaps (kernel.some None) opened.places s.homes
     pub free : (p : ℕ) → p < opened.places → slice_index s.words (word_of p) ≡ 0 → (x : V) × At (slot_of p) (kernel.some (Some x)) s.homes × R.AgreesWith p progress notes x
     pub busy : (p : ℕ) → p < opened.places → slice_index s.words (word_of p) ≢ 0 → HeldBySome p s.views
-    pub each : (j i : ℕ) (v : View P N V) (k : Known P N V) → At j v s.views → At i k v → SessionInvariant progress notes s.homes holder k × (owner k.session ≡ j)
+    pub each : (j i : ℕ) (v : View P N V) (k : Known P N V) → At j v s.views → At i k v → SessionInvariant progress notes run s.homes holder k × (owner k.session ≡ j)
     pub distinct : (j a b : ℕ) (v : View P N V) (k m : Known P N V) → At j v s.views → At a k v → At b m v → k.session ≡ m.session → a ≡ b
 
   -- the seat of the table, which is a session, is that session still once it has taken the value x of the place p
@@ -72,7 +81,8 @@ module _ {P N V : Type 0} (R : Rules P N V) where
 
   -- and once it has put the value y back to the place p
   abbrev pub StepsPutting : (P → P) → (N → N) → Me (Option V) (View P N V) → ℕ → V → Me (Option V) (View P N V) → Type 0
-  StepsPutting grown noted m p y m' = (k : Known P N V) → StepsAs m k → (progress : P) × MayFind R k progress × StepsAs m' (left_with k p y (grown progress) (noted k.note))
+  StepsPutting grown noted m p y m' = (k : Known P N V) → StepsAs m k → (progress : P) × MayFind R k progress
+      × ((run : Run P N V) × Adds k (Put p y) (grown progress) (noted k.note) run × StepsAs m' (left_with k p y (grown progress) (noted k.note) run))
 
   -- a try at a place: where the word was 0, the seat has the value, and knows a progress that it agrees with
   abbrev pub tried : Step (Option V) → Me (Option V) (View P N V) → ℕ → Me (Option V) (View P N V) → Type 0
@@ -85,12 +95,14 @@ module _ {P N V : Type 0} (R : Rules P N V) where
   -- the word of a held place, in whose slot the value y is, goes to 0
   abbrev pub freed : (P → P) → (N → N) → Step (Option V) → Me (Option V) (View P N V) → ℕ → Me (Option V) (View P N V) → Type 0
   freed grown noted st m r m' = (k : Known P N V) (p : ℕ) (y : V) (out : List (ℕ × Option V)) → m ≡ (k ∷ [], (slot_of p, Some y) ∷ out) → st.word ≡ word_of p
-      → (progress : P) × ((notes : List N) × Possible R k progress notes) × (m' ≡ (left_with k p y (grown progress) (noted k.note) ∷ [], out))
+      → (progress : P) × ((notes : List N) × Possible R k progress notes) × ((run : Run P N V) × Adds k (Put p y) (grown progress) (noted k.note) run × (m' ≡ (left_with k p y (grown progress) (noted k.note) run ∷ [], out)))
 
   -- the word of the completed tail is read: the seat knows a progress with that completed tail, and that it has read this
   abbrev pub done_read : Step (Option V) → Me (Option V) (View P N V) → ℕ → Me (Option V) (View P N V) → Type 0
-  done_read st m r m' = (k : Known P N V) → m.0 ≡ k ∷ [] → (progress : P) × ((notes : List N) × Possible R k progress notes) × (r ≡ R.completed progress) × (m' ≡ (having_read k progress r ∷ [], m.1))
+  done_read st m r m' = (k : Known P N V) → m.0 ≡ k ∷ [] → (progress : P) × ((notes : List N) × Possible R k progress notes) × (r ≡ R.completed progress)
+      × ((run : Run P N V) × Adds k (Read r) progress k.note run × (m' ≡ (having_read k progress r run ∷ [], m.1)))
 
   -- the word of the completed tail is raised: the seat knows a progress with the completed tail so raised
   abbrev pub done_raised : Step (Option V) → Me (Option V) (View P N V) → ℕ → Me (Option V) (View P N V) → Type 0
-  done_raised st m r m' = (k : Known P N V) → m.0 ≡ k ∷ [] → (before : P) × Later R k before × ((notes : List N) × Possible R k (R.raised before st.first) notes) × (m' ≡ (having_raised k (R.raised before st.first) st.first ∷ [], m.1))
+  done_raised st m r m' = (k : Known P N V) → m.0 ≡ k ∷ [] → (before : P) × Later R k before × ((notes : List N) × Possible R k (R.raised before st.first) notes)
+      × ((run : Run P N V) × Adds k (Raised st.first) (R.raised before st.first) k.note run × (m' ≡ (having_raised k (R.raised before st.first) st.first run ∷ [], m.1)))

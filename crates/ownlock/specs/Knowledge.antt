@@ -1,8 +1,10 @@
 -- What a session may rely on, what take tells it, and what it owes to put.
 use Rattle.std.specs.Prelude.{◌≡◌, ℕ, ◌<◌, max, List, ◌∷◌, map, length, slice_set, Option, Some}
 use Rattle.ownlock.specs.declared.known.Known.{Known}
+use Rattle.ownlock.specs.declared.known.ShelfStep.TheVariants.{Took, Put, Read, Raised}
 use Rattle.ownlock.specs.Rules.{Rules, leader}
-use Rattle.ownlock.specs.Seats.{At, View, SeatView, IsSession, IsNotHeld, place_of, holding, left_with, having_raised, having_read}
+use Rattle.ownlock.specs.Runs.{Runs}
+use Rattle.ownlock.specs.Seats.{At, View, SeatView, Opened, Run, Continues, Adds, EndsWithOwn, run_of, own_steps, IsSession, IsNotHeld, place_of, holding, left_with, having_raised, having_read}
 
 module _ {P N V : Type 0} (R : Rules P N V) where
   -- the values that these places had when they were taken agree
@@ -23,7 +25,9 @@ module _ {P N V : Type 0} (R : Rules P N V) where
 
   -- the session k has become after, which holds the place with the value x, and knows a progress that x agrees with
   abbrev pub Acquired : ℕ → Known P N V → Known P N V → V → Type 0
-  Acquired p k after x = (progress : P) × (after ≡ holding k progress p x) × Later k progress × ((notes : List N) × Possible after progress notes)
+  Acquired p k after x =
+      (progress : P) × (after ≡ holding k progress p x after.run) × Later k progress × ((notes : List N) × Possible after progress notes)
+      × Adds k (Took p x) progress k.note after.run
 
   -- the session k may put y back to the place p, which it holds: wherever the others are by then, its move is allowed and y agrees
   abbrev pub MayPut : (P → P) → (N → N) → Known P N V → ℕ → V → Type 0
@@ -43,17 +47,20 @@ module _ {P N V : Type 0} (R : Rules P N V) where
   -- what a put of the value y at the place p tells the session: it has left the place, with the progress and the note that the put made
   abbrev pub Puts : (P → P) → (N → N) → SeatView P N V → ℕ → V → SeatView P N V → Type 0
   Puts grown noted before p y now = (k : Known P N V) → IsSession before k
-      → (progress : P) × MayFind k progress × IsSession now (left_with k p y (grown progress) (noted k.note))
+      → (progress : P) × MayFind k progress × IsSession now (left_with k p y (grown progress) (noted k.note) (run_of now.sessions))
+      × Adds k (Put p y) (grown progress) (noted k.note) (run_of now.sessions)
 
   -- what a read of the completed tail n tells the session
   abbrev pub Reads : SeatView P N V → ℕ → SeatView P N V → Type 0
-  Reads before n now = (k : Known P N V) → IsSession before k → (progress : P) × MayFind k progress × (n ≡ R.completed progress) × IsSession now (having_read k progress n)
+  Reads before n now = (k : Known P N V) → IsSession before k
+      → (progress : P) × MayFind k progress × (n ≡ R.completed progress) × IsSession now (having_read k progress n (run_of now.sessions))
+      × Adds k (Read n) progress k.note (run_of now.sessions)
 
   -- what a raise of the completed tail to at least n tells the session
   abbrev pub Raises : SeatView P N V → ℕ → SeatView P N V → Type 0
   Raises before n now = (k : Known P N V) → IsSession before k
       → (progress : P) × Later k progress × MayFind k (R.raised progress n) × (R.completed (R.raised progress n) ≡ max (R.completed progress) n)
-      × IsSession now (having_raised k (R.raised progress n) n)
+      × IsSession now (having_raised k (R.raised progress n) n (run_of now.sessions)) × Adds k (Raised n) (R.raised progress n) k.note (run_of now.sessions)
 
   -- the value of each place agrees with this progress and these notes
   abbrev pub AllAgree : P → List N → List (Option V) → Type 0
@@ -63,10 +70,20 @@ module _ {P N V : Type 0} (R : Rules P N V) where
   abbrev pub HasAllSessions : ℕ → View P N V → Type 0
   HasAllSessions count v = (q : ℕ) → q < count → (i : ℕ) × (k : Known P N V) × At i k v × (k.session ≡ q)
 
+  -- one run leads from what the shelf was opened with to this progress and these notes; of each of these sessions it goes on from the run that
+  -- the session knows, and has exactly the session's own steps
+  pub record IsOneRun (opened : Opened P N) (progress : P) (notes : List N) (IsOne : Known P N V → Type 0) : Type 0 where
+    pub run : Run P N V
+    pub leads : Runs R opened run progress notes
+    pub goes_on : (k : Known P N V) → IsOne k → Continues k.run run
+    pub own : (k : Known P N V) → IsOne k → own_steps k.session run ≡ k.steps
+    pub ends : (k : Known P N V) → IsOne k → EndsWithOwn k
+
   -- at the end: each value agrees with one progress, which has grown from the one of each of these sessions, and with the notes that they bring, which are all notes
-  abbrev pub Closes : ℕ → View P N V → List (Option V) → Type 0
-  Closes sessions v slots =
-      (progress : P) × (notes : List N) × R.Accounts progress notes × (length notes ≡ sessions)
+  abbrev pub Closes : Opened P N → View P N V → List (Option V) → Type 0
+  Closes opened v slots =
+      (progress : P) × (notes : List N) × R.Accounts progress notes × (length notes ≡ length opened.notes)
       × ((i : ℕ) (k : Known P N V) → At i k v → R.Extends k.progress progress × At k.session k.note notes)
       × AllAgree progress notes slots
-      × HasAllSessions sessions v
+      × HasAllSessions (length opened.notes) v
+      × IsOneRun opened progress notes (λ k. (i : ℕ) × At i k v)

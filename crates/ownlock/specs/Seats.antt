@@ -1,9 +1,10 @@
 -- What a seat and a shelf are to their users: plain data.
-use Rattle.std.specs.Prelude.{◌≡◌, ◌≢◌, ℕ, suc, List, [], ◌∷◌, ◌++◌, length, ◌==◌, if◌then◌else◌}
+use Rattle.std.specs.Prelude.{◌≡◌, ◌≢◌, ◌⊎◌, ℕ, suc, List, [], ◌∷◌, ◌++◌, ◌==◌, if◌then◌else◌}
 use mathlib.Core.Option as kernel
 use lib.ListN.{get_elem?}
 use Rattle.atomic_table.specs.Seated.{TableId}
 use Rattle.ownlock.specs.declared.known.Known.{Known}
+use Rattle.ownlock.specs.declared.known.SharedStep.{SharedStep}
 use Rattle.ownlock.specs.declared.known.ShelfStep.{ShelfStep}
 use Rattle.ownlock.specs.declared.known.ShelfStep.TheVariants.{Took, Put, Read, Raised}
 
@@ -30,15 +31,15 @@ pub record ShelfView (A : Type 0) : Type 0 where
   pub places : ℕ
   pub setup : A
 
--- what a shelf was opened with: the progress at first, how many places it has, and how many sessions share it
-pub record Opened (P : Type 0) : Type 0 where
+-- what a shelf was opened with: the first progress, how many places it has, and the first note of each session
+pub record Opened (P N : Type 0) : Type 0 where
   pub progress : P
   pub places : ℕ
-  pub sessions : ℕ
+  pub notes : List N
 
 -- this progress, so many places, and a session for each of these notes
-abbrev pub opened_with : {P N : Type 0} → P → ℕ → List N → Opened P
-opened_with progress places notes = record { progress = progress; places = places; sessions = length notes }
+abbrev pub opened_with : {P N : Type 0} → P → ℕ → List N → Opened P N
+opened_with progress places notes = record { progress = progress; places = places; notes = notes }
 
 abbrev pub place_of : {V : Type 0} → ℕ × V → ℕ
 place_of u = u.0
@@ -61,31 +62,67 @@ tails_in (Put p y ∷ steps) = tails_in steps
 tails_in (Read n ∷ steps) = tails_in steps ++ n ∷ []
 tails_in (Raised n ∷ steps) = tails_in steps
 
+-- a run: the steps of all sessions in one order, the last step first
+abbrev pub Run : Type 0 → Type 0 → Type 0 → Type 0
+Run P N V = List (SharedStep P N V)
+
+-- the steps of this session in a run
+abbrev pub own_steps : {P N V : Type 0} → ℕ → Run P N V → List (ShelfStep V)
+own_steps c [] = []
+own_steps c (e ∷ es) = if e.session == c then e.step ∷ own_steps c es else own_steps c es
+
+-- the second run goes on from the first
+abbrev pub Continues : {P N V : Type 0} → Run P N V → Run P N V → Type 0
+Continues {P} {N} {V} run later = (since : Run P N V) × (later ≡ since ++ run)
+
 module _ {P N V : Type 0} where
+  -- the step that the session k takes, with the progress after it, and the session's note before and after it
+  abbrev pub taken_by : Known P N V → ShelfStep V → P → N → SharedStep P N V
+  taken_by k step progress note = record { session = k.session; step = step; progress = progress; before = k.note; note = note }
+
+  -- the run has gone on from what k knew of it, and then k has taken this step, with this progress and this note after it
+  abbrev pub Adds : Known P N V → ShelfStep V → P → N → Run P N V → Type 0
+  Adds k step progress note run = (before : Run P N V) × Continues k.run before × (run ≡ taken_by k step progress note ∷ before)
+
+  -- k has taken this step, and is `after` then: the step is the last of its own, and the run has gone on
+  abbrev pub HasStepped : Known P N V → ShelfStep V → Known P N V → Type 0
+  HasStepped k step after = (after.steps ≡ step ∷ k.steps) × Continues k.run after.run
+
+  -- what k knows of the run has exactly the steps of k, and ends with the last of them, after which k has its progress and its note
+  pub record EndsWithOwn (k : Known P N V) : Type 0 where
+    pub seen : own_steps k.session k.run ≡ k.steps
+    pub last : ((k.run ≡ []) × (k.steps ≡ []))
+        ⊎ ((before : Run P N V) × (e : SharedStep P N V) × (k.run ≡ e ∷ before) × (e.session ≡ k.session) × (e.progress ≡ k.progress) × (e.note ≡ k.note))
+
+  -- what the first session of a seat knows of the run
+  abbrev pub run_of : View P N V → Run P N V
+  run_of [] = []
+  run_of (k ∷ ks) = k.run
+
   -- the seat is the one session k
   abbrev pub IsSession : SeatView P N V → Known P N V → Type 0
   IsSession s k = s.sessions ≡ k ∷ []
 
   -- the session, once it has taken the place p with the value x
-  abbrev pub holding : Known P N V → P → ℕ → V → Known P N V
-  holding k progress p x = record { session = k.session; progress = progress; note = k.note; held = (p, x) ∷ k.held; steps = Took p x ∷ k.steps }
+  abbrev pub holding : Known P N V → P → ℕ → V → Run P N V → Known P N V
+  holding k progress p x run = record { session = k.session; progress = progress; note = k.note; held = (p, x) ∷ k.held; steps = Took p x ∷ k.steps; run = run }
 
   -- the session, once it has put the value y back to the place p
-  abbrev pub left_with : Known P N V → ℕ → V → P → N → Known P N V
-  left_with k p y progress note = record { session = k.session; progress = progress; note = note; held = without p k.held; steps = Put p y ∷ k.steps }
+  abbrev pub left_with : Known P N V → ℕ → V → P → N → Run P N V → Known P N V
+  left_with k p y progress note run = record { session = k.session; progress = progress; note = note; held = without p k.held; steps = Put p y ∷ k.steps; run = run }
 
   -- the session, once it has raised the completed tail to n, and knows this progress
-  abbrev pub having_raised : Known P N V → P → ℕ → Known P N V
-  having_raised k progress n = record { session = k.session; progress = progress; note = k.note; held = k.held; steps = Raised n ∷ k.steps }
+  abbrev pub having_raised : Known P N V → P → ℕ → Run P N V → Known P N V
+  having_raised k progress n run = record { session = k.session; progress = progress; note = k.note; held = k.held; steps = Raised n ∷ k.steps; run = run }
 
   -- the session, once it has read the completed tail n, and knows this progress
-  abbrev pub having_read : Known P N V → P → ℕ → Known P N V
-  having_read k progress n = record { session = k.session; progress = progress; note = k.note; held = k.held; steps = Read n ∷ k.steps }
+  abbrev pub having_read : Known P N V → P → ℕ → Run P N V → Known P N V
+  having_read k progress n run = record { session = k.session; progress = progress; note = k.note; held = k.held; steps = Read n ∷ k.steps; run = run }
 
   -- all sessions, from the i-th on, each with its note
   abbrev pub all_sessions : P → ℕ → List N → View P N V
   all_sessions progress i [] = []
-  all_sessions progress i (n ∷ ns) = record { session = i; progress = progress; note = n; held = []; steps = [] } ∷ all_sessions progress (suc i) ns
+  all_sessions progress i (n ∷ ns) = record { session = i; progress = progress; note = n; held = []; steps = []; run = [] } ∷ all_sessions progress (suc i) ns
 
   -- a view whose first session is k goes into k alone, and the others
   abbrev pub IsSplit : View P N V → View P N V → View P N V → Type 0

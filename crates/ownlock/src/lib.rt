@@ -18,7 +18,7 @@ mod words;
 
 pub use change::Change;
 pub use error::{NotOpened, OpenError};
-pub use known::{Known, ShelfStep};
+pub use known::{Known, SharedStep, ShelfStep};
 pub use law::between_steps;
 pub use seat::Seat;
 pub use shelf::{Held, LEADER, Shelf};

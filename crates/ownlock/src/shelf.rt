@@ -1,7 +1,7 @@
 // The shelf, and its calls.
 ghost use Rattle.std.specs.Prelude.{◌≡◌, ◌<◌, ◌++◌, length, replicate, IfOk, IfErr, IfSome, MatchOption};
 ghost use Rattle.ownlock.specs.declared.known.Known.{Known};
-ghost use Rattle.ownlock.specs.Seats.{IsSession, IsSplit, HasSession, all_sessions, HoldsNone};
+ghost use Rattle.ownlock.specs.Seats.{IsSession, IsSplit, HasSession, all_sessions, HoldsNone, opened_with};
 ghost use Rattle.ownlock.specs.Knowledge.{MayTake, MayPut, Takes, Puts, Reads, Raises, AllAgree, Closes};
 ghost use Rattle.ownlock.specs.Held.{held_place};
 
@@ -229,13 +229,14 @@ impl<V: Shelved> Shelf<V> {
     }
 
     /// Takes the shelf and one seat that has every session, none of which holds a place, and gives the value of each place back.
-    /// All agree with one progress, which has grown from the one of each session, and with the notes of all.
+    /// All agree with one progress, which has grown from the one of each session, and with the notes of all. One run of the steps of all
+    /// sessions leads there from what the shelf was opened with, and the rules allow each of its steps.
     pub fn close(self, seat: Seat<V>) -> Vec<Option<V>>
         requires own { seat.shelf ≡ self.id }
         requires all { length seat.sessions ≡ length (V.first_notes self.setup) }
         requires idle { HoldsNone seat.sessions }
         ensures places { length result.items ≡ self.places }
-        ensures values { Closes V.rules (length (V.first_notes self.setup)) seat.sessions result.items }
+        ensures values { Closes V.rules (opened_with (V.first_progress self.setup) (V.places self.setup) (V.first_notes self.setup)) seat.sessions result.items }
     {
         let Shelf {
             table,

@@ -1,5 +1,5 @@
 -- A session between two calls that wait for nobody.
-use Rattle.std.proofs.Common.{◌≡◌, ℕ, ◌+◌, ◌≤◌, [], length, sym, refl, ap, ◌∙◌, subst, arith, Some, None, Ok}
+use Rattle.std.proofs.Common.{◌≡◌, ℕ, ◌+◌, ◌≤◌, [], length, sym, refl, ap, ◌∙◌, subst, arith, Some, None}
 use Rattle.std.proofs.lemmas.Option.{none-some}
 use Rattle.ownlock.specs.Seats.{IsSession}
 use Rattle.loader.specs.CatalogueView.{CatalogueView}
@@ -10,7 +10,6 @@ use Rattle.oplog.specs.declared.configuration.TheConstants.{MAX_NODES}
 use Rattle.loader.specs.Installed.{InstalledView}
 use Rattle.combiner.specs.Desks.{BatchView}
 use Rattle.combiner.specs.declared.slots.Reply.{Reply}
-use Rattle.readpath.specs.declared.reading.ReadAnswer.{ReadAnswer}
 use Rattle.replica.specs.StoreMeaning.{store_meaning}
 use Rattle.replica.specs.Views.{RepliesView}
 use Rattle.accounts.specs.declared.sessions.Pending.{Pending}
@@ -27,8 +26,8 @@ use Rattle.store_steps.specs.Knowing.{IsOn, Knows}
 use Rattle.store_steps.specs.Requests.{HasPosted}
 use Rattle.store_steps.specs.Stages.{IsAsked, IsAsking, IsOnItsWay, IsOut, IsPolled, TellsDone}
 use Rattle.store.specs.Polled.{HasPostedFor}
-use Rattle.store_steps.specs.Views.{IsIdle, IsReadBy, SessionView, session_view}
-use Rattle.store.specs.Sessions.{BeginsWithin, HasRoom, IsOf, StoreView, TellsRead}
+use Rattle.store_steps.specs.Views.{IsIdle, SessionView, session_view}
+use Rattle.store.specs.Sessions.{HasRoom, IsOf, StoreView}
 use Rattle.store_steps.specs.Standing.{SessionKnown, StoreSeat}
 use Rattle.store_steps.specs.Trying.{IsStill}
 use Rattle.store_steps.proofs.Gone.{asks}
@@ -166,16 +165,6 @@ module _ (old new : S) (caller : Caller) (i : IsIdle old caller) (m : K) (is : I
 
   pub idle_still : IsStill i.known m → StaysIdle old new caller
   idle_still s = stays_idle s.session s.held s.note s.extends (s.well_formed i.well_formed)
-
-  module _ (op : Operation) (answer : ReadAnswer) (r : IsReadBy i.known m op answer) where
-    pub idle_read : StaysIdle old new caller
-    idle_read = stays_idle r.session r.held r.note r.extends r.well_formed
-
-    pub read_begun : BeginsWithin (session_view old) (session_view new) (Ok answer)
-    read_begun = both old new i.known m i.is is (λ x y. BeginsWithin x y (Ok answer)) (r.begun, r.more, r.read, r.reached)
-
-    pub read_told : TellsRead (session_view old) (session_view new) op (Ok answer)
-    read_told = both old new i.known m i.is is (λ x y. TellsRead x y op (Ok answer)) r.tells
 
 -- ---- several deeds
 

@@ -1,10 +1,11 @@
 -- What a closed store leaves.
+use Rattle.ownlock.specs.Runs.{Runs}
 use Rattle.std.proofs.Common.{◌≡◌, ℕ, zero, suc, ◌+◌, ◌*◌, ◌<◌, List, [], ◌∷◌, length, take, sym, refl, ap, ◌∙◌, subst, arith, suc-mul, Option, Some}
 use Rattle.std.proofs.lemmas.List.{length-replicate}
 use Rattle.std.specs.Global.{Box}
 use mathlib.Core.Option.{some-injective}
 use Rattle.loader.specs.StoreState.{sizes_of}
-use Rattle.ownlock.specs.Seats.{At}
+use Rattle.ownlock.specs.Seats.{At, Opened}
 use Rattle.ownlock.specs.Knowledge.{AllAgree, Closes}
 use Rattle.loader.specs.CatalogueView.{CatalogueView, sizes_for}
 use Rattle.oplog.specs.declared.configuration.Sizes.{Sizes}
@@ -27,7 +28,7 @@ use Rattle.node.specs.declared.following.NodeReplica.{NodeReplica}
 use Rattle.store_steps.specs.declared.values.Setup.{Setup}
 use Rattle.store_steps.specs.declared.values.Value.{Value}
 use Rattle.store_steps.specs.declared.values.Value.TheVariants.{Log, Replica, Desk}
-use Rattle.store_steps.specs.Shelving.{HasLogSizes, log_value, opening_notes, replica_value, sessions_of, store_rules, view_of}
+use Rattle.store_steps.specs.Shelving.{HasLogSizes, log_value, opening_notes, replica_value, sessions_of, store_rules, view_of, store_opening}
 use Rattle.store_steps.specs.Views.{SessionView}
 use Rattle.store.specs.Sessions.{StoreView, known_of}
 use Rattle.store_steps.specs.Standing.{SessionKnown}
@@ -154,8 +155,8 @@ all_notes shelf setup same = ap (λ (z : Setup). length (opening_notes z)) same 
 
 -- ---- all sessions have brought what they know
 
-module _ (store : StoreView) (sessions : List SessionView) (view : List SessionKnown) (count : ℕ) (slots : List (Option Value)) (own : AreOf store sessions) (some : 0 < length sessions) (known : view ≡ known_back sessions) (idle : AreIdle sessions)
-    (a : Closes store_rules count view slots) where
+module _ (store : StoreView) (sessions : List SessionView) (view : List SessionKnown) (opened : Opened L SessionNote) (slots : List (Option Value)) (own : AreOf store sessions) (some : 0 < length sessions) (known : view ≡ known_back sessions) (idle : AreIdle sessions)
+    (a : Closes store_rules opened view slots) where
   abbrev l : L
   l = a.0
 
@@ -187,8 +188,11 @@ module _ (store : StoreView) (sessions : List SessionView) (view : List SessionK
       subst (λ z. IsLogFor z (log_in values)) catalogue_is
       (subst (λ z. IsLogFor l.catalogue (log_in z)) (sym p.values_are) (is_log_for l p.log.value p.log_is well p.log_sizes.2))
 
-  pub is_closed : (values : List (Option Value)) → IsLeft l store.config.nodes values → IsClosed store sessions (closed_view store.catalogue values)
-  is_closed values p = subst (λ z. IsClosed store sessions (closed_view store.catalogue z)) (sym p.values_are) (record {
+  known_by : (j : ℕ) (s : SessionView) → At j s sessions → (i : ℕ) × At i (known_of s) view
+  known_by j s at = let h = back_has sessions j s at in (h.0, subst (λ z. At h.0 (known_of s) z) (sym known) h.1)
+
+  pub is_closed : opened ≡ store_opening (record { config = store.config; catalogue = store.catalogue }) → (values : List (Option Value)) → IsLeft l store.config.nodes values → IsClosed store sessions (closed_view store.catalogue values)
+  is_closed opens values p = subst (λ z. IsClosed store sessions (closed_view store.catalogue z)) (sym p.values_are) (record {
     progress = l;
     of = (config_is, catalogue_is);
     well_formed = well;
@@ -201,6 +205,13 @@ module _ (store : StoreView) (sessions : List SessionView) (view : List SessionK
     nodes = many_seen p.nodes ∙ p.many;
     replica_is = λ i r at. let m = seen_is p.nodes i r at in subst (λ z. ReplicaAgrees store_meaning l (replica_value z)) m.2 (p.fit i m.0 m.1).0;
     replica_sizes = λ i r at. let m = seen_is p.nodes i r at in ap (λ (z : ReplicaView). sizes_of z.state) (sym m.2) ∙ ((p.fit i m.0 m.1).1 ∙ ap sizes_for catalogue_is);
+    notes = a.1;
+    run = a.7.run;
+    leads = subst (λ z. Runs store_rules z a.7.run l a.1) opens a.7.leads;
+    noted = λ j s at. (mine j s at).1;
+    goes_on = λ j s at. a.7.goes_on (known_of s) (known_by j s at);
+    own = λ j s at. a.7.own (known_of s) (known_by j s at);
+    ends = λ j s at. a.7.ends (known_of s) (known_by j s at);
     records = λ j s at. (ends store_meaning l a.1 a.2).0 s.session s.note (mine j s at).1 (idle j s at);
     answered = λ j q s u at there. stand store_meaning l a.1 a.2 s.session s.note q u (mine j s at).1 there;
     authors = author_of;

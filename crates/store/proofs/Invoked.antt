@@ -105,7 +105,7 @@ module _ (k f : K) (op : Operation) (reply : Reply) (v : Invoked k f op reply) w
 
 -- what a session knows that holds nothing is what its user sees
 known_seen : (s : S) (k : K) → IsSession s k → k.held ≡ [] → k ≡ known_of (session_view s)
-known_seen s k is none = (λ i. record { session = k.session; progress = k.progress; note = k.note; held = none i; steps = k.steps })
+known_seen s k is none = (λ i. record { session = k.session; progress = k.progress; note = k.note; held = none i; steps = k.steps; run = k.run })
     ∙ ap (λ z. known_of (session_view (record { shelf = s.shelf; sessions = z }))) (sym is)
 
 pub goes_seen : (P : K → K → Type 0) (old new : S) (was : SessionView) (k f : K) → IsSession old k → k.held ≡ [] → session_view old ≡ was → IsSession new f → f.held ≡ [] → P k f → P (known_of was) (known_of (session_view new))

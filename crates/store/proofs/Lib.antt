@@ -9,3 +9,4 @@ pub mod Looked
 pub mod Last
 pub mod Closing
 pub mod EachSession
+pub mod Explained

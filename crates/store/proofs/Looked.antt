@@ -1,20 +1,15 @@
 -- What a session was told that looked at its node's replica, as its user sees it; it is idle still.
-use Rattle.std.proofs.Common.{◌≡◌, ℕ, ◌+◌, ◌≤◌, List, None, ap, subst, sym, ◌∙◌}
+use Rattle.std.proofs.Common.{◌≡◌, ℕ, ◌+◌, ◌≤◌, None, Ok, Err, Result, MatchResult, ap, subst, sym, ◌∙◌}
+use Rattle.loader.specs.CatalogueView.{CatalogueView}
 use Rattle.loader.specs.StoreState.{StoreState}
 use Rattle.oplog.specs.declared.configuration.TheConstants.{MAX_NODES}
 use Rattle.combiner.specs.Desks.{BatchView}
 use Rattle.ownlock.specs.Seats.{IsSession}
 use Rattle.replica.specs.Views.{RepliesView}
 use Rattle.store_steps.specs.declared.deeds.Stage.{Stage}
-use Rattle.store_steps.specs.declared.getting.Lookup.{Lookup}
-use Rattle.store_steps.specs.declared.scanning.Scan.{Scan}
 use Rattle.store_steps.specs.declared.steps.Caller.{Caller}
-use Rattle.store_steps.specs.declared.steps.Question.{Question}
 use Rattle.store_steps.specs.declared.steps.Shared.{Shared}
-use Rattle.store_steps.specs.Getting.{GetTells, IsGotBy}
-use Rattle.store_steps.specs.Questions.{AreReadBy, EachTells}
-use Rattle.store_steps.specs.Scanning.{HasSeen, IsScannedBy, ScanGives}
-use Rattle.store_steps.specs.Snapshots.{IsTakenBy, SnapshotTells}
+use Rattle.store_steps.specs.Sights.{HasSeen, HasSight, SightTells}
 use Rattle.store_steps.specs.Knowing.{IsOn, Knows}
 use Rattle.store_steps.specs.Stages.{IsPolled}
 use Rattle.store_steps.specs.Standing.{IsFree, SessionKnown, StoreSeat}
@@ -31,17 +26,20 @@ module _ (old new : StoreSeat) (k m : SessionKnown) (was : IsSession old k) (now
   pub seen_fresh : (point : ℕ) → HasSeen k m point → IsFresh (session_view old) (session_view new) point
   seen_fresh point r = both old new k m was now (λ x y. IsFresh x y point) (r.begun, r.more, r.read, r.reached)
 
-  pub seen_scan : (map from key_room value_room : ℕ) (keys values : List ℕ) (s : Scan) → IsScannedBy k m map from key_room value_room keys values s → ScanGives (session_view new).progress (session_view old).progress.completed map from key_room value_room keys values s
-  seen_scan map from key_room value_room keys values s r = both old new k m was now (λ x y. ScanGives y.progress x.progress.completed map from key_room value_room keys values s) r.1
+  pub seen_sight : (P : CatalogueView → StoreState → Type 0) (point : ℕ) → HasSight P point k m → SightTells P (session_view new).progress (session_view old).progress.completed point
+  seen_sight P point r = both old new k m was now (λ x y. SightTells P y.progress x.progress.completed point) r.1
 
-  pub seen_each : (questions : List Question) (point : ℕ) (replies : List ℕ) → AreReadBy k m questions point replies → EachTells (session_view new).progress (session_view old).progress.completed questions point replies
-  seen_each questions point replies r = both old new k m was now (λ x y. EachTells y.progress x.progress.completed questions point replies) r.1
+-- what is known of the room that a look was lent holds of it at its end
+pub lent_to : {A : Type 0} (P : A → Type 0) (x y : A) → x ≡ y → P x → P y
+lent_to P x y e h = subst P e h
 
-  pub seen_key : (map : ℕ) (key before value : List ℕ) (found : Lookup) → IsGotBy k m map key before value found → GetTells (session_view new).progress (session_view old).progress.completed map key before value found
-  seen_key map key before value found r = both old new k m was now (λ x y. GetTells y.progress x.progress.completed map key before value found) r.1
+pub lent_both : {A : Type 0} (P : A → A → Type 0) (x y z w : A) → x ≡ y → z ≡ w → P x z → P y w
+lent_both P x y z w e f h = subst (P y) f (subst (λ a. P a z) e h)
 
-  pub seen_state : (point : ℕ) (state : StoreState) → IsTakenBy k m point state → SnapshotTells (session_view new).progress (session_view old).progress.completed point state
-  seen_state point state r = both old new k m was now (λ x y. SnapshotTells y.progress x.progress.completed point state) r.1
+-- the second of two things that are told
+pub tells_of : {A E : Type 0} (P Q : A → Type 0) (result : Result A E) → MatchResult result (λ a. P a × Q a) (λ _. ⊥) → MatchResult result Q (λ _. ⊥)
+tells_of P Q (Ok a) t = t.1
+tells_of P Q (Err e) t = t
 
 pub idle_seen : (old new : StoreSeat) (caller : Caller) (i : IsIdle old caller) (m : SessionKnown) → IsSession new m → (point : ℕ) → HasSeen i.known m point → StaysIdle old new caller
 idle_seen old new caller i m is point r = stays_idle old new caller i m is r.session r.held r.note r.extends r.well_formed

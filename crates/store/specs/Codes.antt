@@ -12,6 +12,7 @@ use Rattle.oplog.specs.Codes.{history_code}
 use Rattle.accounts.specs.declared.sessions.Progress.{Progress}
 use Rattle.accounts.specs.declared.sessions.SessionNote.{SessionNote}
 use Rattle.accounts.specs.contracts.sessions.SessionNote as note_row
+use Rattle.ownlock.specs.declared.known.SharedStep.{SharedStep}
 use Rattle.ownlock.specs.declared.known.ShelfStep.{ShelfStep}
 use Rattle.ownlock.specs.contracts.known.ShelfStep as step_row
 use Rattle.store_steps.specs.declared.values.Value.{Value}
@@ -32,9 +33,16 @@ progress_code =
 abbrev pub step_code : Coded (ShelfStep Value)
 step_code = (step_row.the_row value_row.the_row).coded
 
+abbrev pub shared_code : Coded (SharedStep (Progress CatalogueView) SessionNote Value)
+shared_code =
+    code_by (ℕ × (ShelfStep Value × (Progress CatalogueView × (SessionNote × SessionNote))))
+    (coded× coded_ℕ (coded× step_code (coded× progress_code (coded× note_row.the_row.coded note_row.the_row.coded))))
+    (λ e. (e.session, (e.step, (e.progress, (e.before, e.note)))))
+    (λ p. record { session = p.0; step = p.1.0; progress = p.1.1.0; before = p.1.1.1.0; note = p.1.1.1.1 }) (λ _. refl)
+
 abbrev pub session_code : Coded SessionView
 session_code =
-    code_by (ShelfId × (ℕ × (Progress CatalogueView × (SessionNote × List (ShelfStep Value)))))
-    (coded× table_id_coded (coded× coded_ℕ (coded× progress_code (coded× note_row.the_row.coded (coded_list step_code)))))
-    (λ s. (s.shelf, (s.session, (s.progress, (s.note, s.steps)))))
-    (λ p. record { shelf = p.0; session = p.1.0; progress = p.1.1.0; note = p.1.1.1.0; steps = p.1.1.1.1 }) (λ _. refl)
+    code_by (ShelfId × (ℕ × (Progress CatalogueView × (SessionNote × (List (ShelfStep Value) × List (SharedStep (Progress CatalogueView) SessionNote Value))))))
+    (coded× table_id_coded (coded× coded_ℕ (coded× progress_code (coded× note_row.the_row.coded (coded× (coded_list step_code) (coded_list shared_code))))))
+    (λ s. (s.shelf, (s.session, (s.progress, (s.note, (s.steps, s.run))))))
+    (λ p. record { shelf = p.0; session = p.1.0; progress = p.1.1.0; note = p.1.1.1.0; steps = p.1.1.1.1.0; run = p.1.1.1.1.1 }) (λ _. refl)

@@ -9,3 +9,5 @@ pub mod Going
 pub mod Asked
 -- Keys, states, and what is looked for without waiting.
 pub mod Looks
+-- The history that explains what the sessions of a closed store did.
+pub mod Explained

@@ -13,6 +13,8 @@ use Rattle.store_steps.specs.Getting.{GetTells, GetsBy, get_refusal}
 use Rattle.store_steps.specs.Looking.{EachReadsBy, ScansBy}
 use Rattle.store_steps.specs.Questions.{EachTells}
 use Rattle.store_steps.specs.Scanning.{ScanGives, scan_refusal}
+use Rattle.store_steps.specs.Seen.{Sight, holds}
+use Rattle.store_steps.specs.Sights.{SightBy, SightTells}
 use Rattle.store_steps.specs.Snapshots.{TakesBy}
 use Rattle.store_steps.specs.Views.{SessionView}
 use Rattle.store.specs.Sessions.{IsFresh, StoreView, known_of}
@@ -20,6 +22,18 @@ use Rattle.store.specs.Sessions.{IsFresh, StoreView, known_of}
 -- where it is refused, the call answers why, and P holds
 abbrev pub IsRefused : {A E : Type 0} → Option E → Result A E → Type 0 → Type 0
 IsRefused {A} {E} refusal result P = (r : E) → refusal ≡ Some r → (result ≡ Err r) × P
+
+-- the state at the answer's point is as the answer says, and the point is not below the tail that was completed when the session looked
+abbrev pub IsSight : {A : Type 0} → (A → Sight) → (A → ℕ) → (old new : SessionView) → A → Type 0
+IsSight sees point old new answer = IsFresh old new (point answer) × SightTells (holds (sees answer)) new.progress old.progress.completed (point answer)
+
+-- a look that is not refused has such an answer
+abbrev pub TellsSight : {A E : Type 0} → (A → Sight) → (A → ℕ) → (old new : SessionView) → Result A E → Type 0
+TellsSight sees point old new result = MatchResult result (IsSight sees point old new) (λ _. ⊥)
+
+-- the steps of a look with this answer
+abbrev pub GoesToSee : {A : Type 0} → (A → Sight) → (A → ℕ) → (old new : SessionView) → A → Type 0
+GoesToSee sees point old new answer = SightBy (holds (sees answer)) (point answer) (known_of old) (known_of new)
 
 -- the refusal of a scan, and that there is none
 abbrev pub scan_refused : StoreView → Beginning → Option ScanRefused

@@ -3,7 +3,8 @@ use Rattle.std.specs.Prelude.{◌≡◌, ℕ, List, [], ◌∷◌, ◌++◌, len
 use Rattle.std.specs.Coded.{Coded, code_by, coded×, coded_list}
 use Rattle.std.specs.Global.{Box}
 use Rattle.loader.specs.StoreState.{StoreState, sizes_of}
-use Rattle.ownlock.specs.Seats.{At}
+use Rattle.ownlock.specs.Runs.{Runs}
+use Rattle.ownlock.specs.Seats.{At, Continues, EndsWithOwn, Run, own_steps}
 use Rattle.loader.specs.CatalogueView.{CatalogueView, opening_state, sizes_for}
 use Rattle.loader.specs.Codes.{catalogue_code}
 use Rattle.oplog.specs.declared.records.Record.{Record}
@@ -14,16 +15,18 @@ use Rattle.oplog.specs.Codes.{log_code}
 use Rattle.replica.specs.Views.{ReplicaView, replica_code}
 use Rattle.accounts.specs.declared.sessions.AnsweredUpdate.{AnsweredUpdate}
 use Rattle.accounts.specs.declared.sessions.Progress.{Progress}
+use Rattle.accounts.specs.declared.sessions.SessionNote.{SessionNote}
 use Rattle.accounts.specs.Accounts.{Extends, IsWellFormed}
 use Rattle.accounts.specs.Agreement.{LogAgrees, ReplicaAgrees}
 use Rattle.accounts.specs.Told.{StandsOnce, records_of, numbered}
 use Rattle.node.specs.declared.following.NodeReplica.{NodeReplica}
+use Rattle.store_steps.specs.declared.values.Setup.{Setup}
 use Rattle.store_steps.specs.declared.values.Value.{Value}
 use Rattle.store_steps.specs.declared.values.Value.TheVariants.{Log as LogPlace, Replica}
 use Rattle.store_steps.specs.Views.{SessionView, no_catalogue}
 use Rattle.store.specs.Sessions.{StoreView, IsOf, known_of}
 use Rattle.store_steps.specs.Standing.{SessionKnown}
-use Rattle.store_steps.specs.Shelving.{log_value, replica_value, HasLogSizes}
+use Rattle.store_steps.specs.Shelving.{log_value, replica_value, HasLogSizes, store_opening, store_rules}
 
 -- each of these sessions is one of the store
 abbrev pub AreOf : StoreView → List SessionView → Type 0
@@ -79,6 +82,10 @@ closed_code =
     code_by (CatalogueView × (Log × List ReplicaView)) (coded× catalogue_code (coded× log_code (coded_list replica_code)))
     (λ c. (c.catalogue, (c.log, c.replicas))) (λ p. record { catalogue = p.0; log = p.1.0; replicas = p.1.1 }) (λ _. refl)
 
+-- what a store was opened with: its sizes and its catalogue
+abbrev pub setup_of : StoreView → Setup
+setup_of store = record { config = store.config; catalogue = store.catalogue }
+
 -- what a closed store has, by what its sessions bring
 pub record IsClosed (store : StoreView) (sessions : List SessionView) (closed : ClosedView) : Type 0 where
   -- one history of the store's catalogue within its limit, grown from what each session knew
@@ -97,6 +104,15 @@ pub record IsClosed (store : StoreView) (sessions : List SessionView) (closed : 
   pub nodes : length closed.replicas ≡ store.config.nodes
   pub replica_is : (node : ℕ) (r : ReplicaView) → At node r closed.replicas → ReplicaAgrees store_meaning progress (replica_value r)
   pub replica_sizes : (node : ℕ) (r : ReplicaView) → At node r closed.replicas → sizes_of r.state ≡ sizes_for store.catalogue
+  -- one run of the steps of all sessions leads there from what the store was opened with, and the rules allow each step; it goes on from the
+  -- run that a session knows, and has exactly the session's own steps, the last of which left the session's progress and note
+  pub notes : List SessionNote
+  pub run : Run (Progress CatalogueView) SessionNote Value
+  pub leads : Runs store_rules (store_opening (setup_of store)) run progress notes
+  pub noted : (a : ℕ) (s : SessionView) → At a s sessions → At s.session s.note notes
+  pub goes_on : (a : ℕ) (s : SessionView) → At a s sessions → Continues s.run run
+  pub own : (a : ℕ) (s : SessionView) → At a s sessions → own_steps s.session run ≡ s.steps
+  pub ends : (a : ℕ) (s : SessionView) → At a s sessions → EndsWithOwn (known_of s)
   -- the records of each session are its answered updates in order, and there are no others; each stands once, at its
   -- index, with the reply that it gets there
   pub records : (a : ℕ) (s : SessionView) → At a s sessions → records_of s.session progress.history ≡ numbered s.session 0 s.note.answered

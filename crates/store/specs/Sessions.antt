@@ -41,10 +41,10 @@ pub record IsOf (store : StoreView) (s : SessionView) : Type 0 where
 
 -- what the session a knows at first, and the session
 abbrev pub fresh_known : Sizes → CatalogueView → ℕ → SessionKnown
-fresh_known config c a = record { session = a; progress = first_progress config c; note = fresh_note; held = []; steps = [] }
+fresh_known config c a = record { session = a; progress = first_progress config c; note = fresh_note; held = []; steps = []; run = [] }
 
 abbrev pub fresh_session : ShelfId → Sizes → CatalogueView → ℕ → SessionView
-fresh_session shelf config c a = record { shelf = shelf; session = a; progress = first_progress config c; note = fresh_note; steps = [] }
+fresh_session shelf config c a = record { shelf = shelf; session = a; progress = first_progress config c; note = fresh_note; steps = []; run = [] }
 
 -- so many of them, from the session a on
 abbrev pub fresh_sessions : ShelfId → Sizes → CatalogueView → ℕ → ℕ → List SessionView
@@ -53,7 +53,7 @@ fresh_sessions shelf config c a (suc n) = fresh_session shelf config c a ∷ fre
 
 -- what a session knows that holds nothing
 abbrev pub known_of : SessionView → SessionKnown
-known_of s = record { session = s.session; progress = s.progress; note = s.note; held = []; steps = s.steps }
+known_of s = record { session = s.session; progress = s.progress; note = s.note; held = []; steps = s.steps; run = s.run }
 
 -- room for a program that the session's store may install
 abbrev pub HasRoom : InstalledView → StoreSeat → Type 0

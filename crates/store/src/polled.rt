@@ -19,7 +19,7 @@ ghost use Rattle.store_steps.specs.declared.questions.QuestionRefused.{QuestionR
 ghost use Rattle.store_steps.specs.declared.scanning.ScanRefused.{ScanRefused};
 ghost use Rattle.store_steps.specs.Questions.{first_refused};
 ghost use Rattle.store_steps.specs.Scanning.{scan_refusal};
-ghost use Rattle.store.specs.Looks.{AnswerBy, AreAnswers, FindsBy, IsFound, IsScan, MayScan, PagesBy, SnapshotGoes, key_refused};
+ghost use Rattle.store.specs.Looks.{AnswerBy, AreAnswers, FindsBy, GoesToSee, IsFound, IsRefused, IsScan, IsSight, MayScan, PagesBy, SnapshotGoes, key_refused};
 ghost use Rattle.store_steps.specs.Snapshots.{SnapshotTells};
 ghost use Rattle.store.specs.Looks.{TellsTried, TriedGoes, UnlessAnswered};
 ghost use Rattle.store.specs.Polled.{HasPostedFor, TellsCompleted, TellsPost, TellsTriedRead};
@@ -35,9 +35,8 @@ use readpath::ReadAnswer;
 use replica::{Replies, StoreRefused, check_call, check_install};
 use std::marker::Model;
 use store_steps::{
-    Beginning, Caller, Deed, GetRefused, Here, Lookup, MapKey, Question, QuestionRefused, Scan,
-    ScanRefused, Stage, Value, check_each, check_get, check_scan, go_on, try_get, try_post,
-    try_query, try_read_each, try_scan, try_snapshot,
+    Beginning, Caller, Deed, Get, GetRefused, Here, Look, Lookup, MapKey, Page, Question,
+    QuestionRefused, Reads, Scan, ScanRefused, Snapshot, Stage, Value, go_on, try_look, try_post,
 };
 use verifier::Mode;
 
@@ -272,6 +271,38 @@ impl Polled {
         None
     }
 
+    // Looks at the replica of the session's node, if nobody holds the replica, nor the log that a replica takes which lacks records.
+    fn try_see<L: Look>(
+        &mut self,
+        store: &Store,
+        look: &mut L,
+    ) -> Result<Option<L::Told>, L::Refused>
+        requires own { IsOf store.now self.old }
+        requires may { L.may look.old store.now.catalogue }
+        requires idle { self.old.note.pending ≡ None }
+        ensures own { IsOf store.now self.new }
+        ensures same { (self.new.shelf ≡ self.old.shelf) × (self.new.session ≡ self.old.session) × (self.new.note ≡ self.old.note) }
+        ensures grown { Extends self.old.progress self.new.progress }
+        ensures well_formed { IsWellFormed store_meaning self.new.progress }
+        ensures early { IsRefused (L.refusal look.old store.now.catalogue) result (self.new ≡ self.old) }
+        ensures kept { UnlessAnswered result (look.new ≡ look.old) }
+        ensures lent { TriedGoes result (λ _. L.lent look.old look.new) }
+        ensures told { L.refusal look.old store.now.catalogue ≡ None
+            → TellsTried result (IsSight (L.sees look.old look.new) L.point self.old self.new) }
+        ensures goes { TriedGoes result (GoesToSee (L.sees look.old look.new) L.point self.old self.new) }
+    {
+        let Polled { seat, caller, .. } = self;
+        look.check(store.catalogue())?;
+        let here = Here {
+            shared: store.shared(),
+            caller: *caller,
+        };
+        let Ok(told) = try_look(here, seat, look) else {
+            return Ok(None);
+        };
+        Ok(Some(told))
+    }
+
     /// Runs a read program of the store, as [`Session::read`] has it, if nobody holds the replica of its node, nor the log where that replica
     /// lacks something. `None` where somebody does. No update is out.
     ///
@@ -297,17 +328,7 @@ impl Polled {
         ensures goes { early_refusal store.now.catalogue Read program argument.now ≡ None
             → TriedReadGoes self.old self.new (op_of program argument.now) result }
     {
-        let Polled { seat, caller, .. } = self;
-        check_call(store.catalogue(), Mode::Read, program, argument)?;
-        let question = Question { program, argument };
-        let here = Here {
-            shared: store.shared(),
-            caller: *caller,
-        };
-        let Ok(answer) = try_query(here, seat, question) else {
-            return Ok(None);
-        };
-        Ok(Some(answer))
+        self.try_see(store, &mut Question { program, argument })
     }
 
     /// Answers up to 16 questions at one point, as [`Session::read_each`] has it, if nobody holds the replica of its node, nor the log where that
@@ -338,16 +359,7 @@ impl Polled {
         ensures goes { first_refused store.now.catalogue 0 questions.now ≡ None
             → TriedGoes result (AnswerBy self.old self.new questions.now replies.new) }
     {
-        let Polled { seat, caller, .. } = self;
-        check_each(store.catalogue(), questions)?;
-        let here = Here {
-            shared: store.shared(),
-            caller: *caller,
-        };
-        let Ok(point) = try_read_each(here, seat, questions, replies) else {
-            return Ok(None);
-        };
-        Ok(Some(point))
+        self.try_see(store, &mut Reads { questions, replies })
     }
 
     /// Gives entries of a map, as [`Session::scan`] has it, if nobody holds the replica of its node, nor the log where that replica lacks
@@ -377,16 +389,14 @@ impl Polled {
         ensures goes { MayScan store.now begin
             → TriedGoes result (PagesBy self.old self.new begin (length keys.old) (length values.old) keys.new values.new) }
     {
-        let Polled { seat, caller, .. } = self;
-        check_scan(store.catalogue(), begin)?;
-        let here = Here {
-            shared: store.shared(),
-            caller: *caller,
-        };
-        let Ok(scan) = try_scan(here, seat, begin, keys, values) else {
-            return Ok(None);
-        };
-        Ok(Some(scan))
+        self.try_see(
+            store,
+            &mut Page {
+                begin,
+                keys,
+                values,
+            },
+        )
     }
 
     /// Looks for a key of a map, as [`Session::get`] has it, if nobody holds the replica of its node, nor the log where that replica lacks
@@ -414,16 +424,7 @@ impl Polled {
         ensures goes { key_refused store.now of.entry (length value.old) ≡ None
             → TriedGoes result (FindsBy self.old self.new of.entry value.old value.new) }
     {
-        let Polled { seat, caller, .. } = self;
-        check_get(store.catalogue(), of, value.len())?;
-        let here = Here {
-            shared: store.shared(),
-            caller: *caller,
-        };
-        let Ok(found) = try_get(here, seat, of, value) else {
-            return Ok(None);
-        };
-        Ok(Some(found))
+        self.try_see(store, &mut Get { of, value })
     }
 
     /// Makes a state the store's at one point of the history, as [`Session::snapshot`] has it, if nobody holds the replica of its node, nor the log
@@ -442,14 +443,9 @@ impl Polled {
         ensures begun { IfSome result (λ point. IsFresh self.old self.new point) }
         ensures goes { IfSome result (λ point. SnapshotGoes self.old self.new point into.new) }
     {
-        let Polled { seat, caller, .. } = self;
-        let here = Here {
-            shared: store.shared(),
-            caller: *caller,
-        };
-        let Ok(point) = try_snapshot(here, seat, into) else {
-            return None;
-        };
-        Some(point)
+        match self.try_see(store, &mut Snapshot { into }) {
+            Ok(point) => point,
+            Err(never) => match never {},
+        }
     }
 }

@@ -1,6 +1,6 @@
 // A session's calls.
 
-ghost use Rattle.std.specs.Prelude.{◌≡◌, [], ◌∷◌, true, length, None, Some, Err, ◌≤◌, IfErr};
+ghost use Rattle.std.specs.Prelude.{◌≡◌, [], ◌∷◌, true, length, None, Some, Err, ◌≤◌, IfErr, IfOk};
 ghost use Rattle.verifier.specs.declared.refusal.Mode.TheVariants.{Update, Read};
 ghost use Rattle.accounts.specs.Accounts.{Extends, IsWellFormed};
 ghost use Rattle.replica.specs.StoreMeaning.{store_meaning, is_operation};
@@ -15,7 +15,7 @@ ghost use Rattle.store.specs.Sessions.{ScanBegins, TellsScan};
 ghost use Rattle.store_steps.specs.declared.getting.GetRefused.{GetRefused};
 ghost use Rattle.loader.specs.CatalogueView.{sizes_for};
 ghost use Rattle.loader.specs.StoreState.{sizes_of};
-ghost use Rattle.store.specs.Looks.{GetGoes, IsRefused, MayScan, SnapshotGoes, TellsGet, key_refused, scan_refused};
+ghost use Rattle.store.specs.Looks.{GetGoes, GoesToSee, IsRefused, MayScan, SnapshotGoes, TellsGet, TellsSight, key_refused, scan_refused};
 ghost use Rattle.store_steps.specs.Snapshots.{SnapshotTells};
 ghost use Rattle.store_steps.specs.Views.{IsIdle, op_of, session_view};
 ghost use Rattle.store.specs.Sessions.{IsFresh, IsOf, TellsUpdate, TellsRead, BeginsWithin, HasRoom, known_of, install_of, install_refused};
@@ -32,9 +32,8 @@ use replica::{StoreRefused, check_call, check_install};
 use std::marker::Model;
 use std::sync::Wait;
 use store_steps::{
-    Batches, Beginning, Caller, GetRefused, Here, Lookup, MapKey, Question, QuestionRefused, Room,
-    Scan, ScanRefused, Value, check_each, check_get, check_scan, complete, get_waiting, post,
-    query, read_each_waiting, snapshot_waiting,
+    Batches, Beginning, Caller, Get, GetRefused, Here, Look, Lookup, MapKey, Page, Question,
+    QuestionRefused, Reads, Room, Scan, ScanRefused, Snapshot, Value, complete, look_waiting, post,
 };
 use verifier::Mode;
 
@@ -218,6 +217,35 @@ impl Session {
         self.update(rt, store, Asked::New(&program))
     }
 
+    // Looks at the replica of the session's node, once the replica has everything that was completed when the call began.
+    fn see<R: Wait, L: Look>(
+        &mut self,
+        rt: &R,
+        store: &Store,
+        look: &mut L,
+    ) -> Result<L::Told, L::Refused>
+        requires own { IsOf store.now self.old }
+        requires may { L.may look.old store.now.catalogue }
+        ensures own { IsOf store.now self.new }
+        ensures same { (self.new.shelf ≡ self.old.shelf) × (self.new.session ≡ self.old.session) × (self.new.note ≡ self.old.note) }
+        ensures grown { Extends self.old.progress self.new.progress }
+        ensures well_formed { IsWellFormed store_meaning self.new.progress }
+        ensures early { IsRefused (L.refusal look.old store.now.catalogue) result (self.new ≡ self.old) }
+        ensures kept { IfErr result (λ _. look.new ≡ look.old) }
+        ensures lent { IfOk result (λ _. L.lent look.old look.new) }
+        ensures told { L.refusal look.old store.now.catalogue ≡ None
+            → TellsSight (L.sees look.old look.new) L.point self.old self.new result }
+        ensures goes { IfOk result (GoesToSee (L.sees look.old look.new) L.point self.old self.new) }
+    {
+        let Session { seat, caller, .. } = self;
+        look.check(store.catalogue())?;
+        let here = Here {
+            shared: store.shared(),
+            caller: *caller,
+        };
+        Ok(look_waiting(rt, here, seat, look))
+    }
+
     /// Runs a read program of the store on the maps of the session's node, once these have seen everything that was completed
     /// when the call began. Of a place it is as with [`invoke`](Session::invoke).
     ///
@@ -244,15 +272,7 @@ impl Session {
         ensures goes { early_refusal store.now.catalogue Read program argument.now ≡ None
             → ReadGoes self.old self.new (op_of program argument.now) result }
     {
-        let Session { seat, caller, .. } = self;
-        check_call(store.catalogue(), Mode::Read, program, argument)?;
-        let question = Question { program, argument };
-        let shared = store.shared();
-        let here = Here {
-            shared,
-            caller: *caller,
-        };
-        Ok(query(rt, here, seat, question))
+        self.see(rt, store, &mut Question { program, argument })
     }
 
     /// Answers up to 16 questions at one point of the history: each is a read program, which runs on the maps of the session's node, once
@@ -281,14 +301,7 @@ impl Session {
         ensures begun { first_refused store.now.catalogue 0 questions.now ≡ None → EachBegins self.old self.new result }
         ensures goes { first_refused store.now.catalogue 0 questions.now ≡ None → EachGoes self.old self.new questions.now replies.new result }
     {
-        let Session { seat, caller, .. } = self;
-        check_each(store.catalogue(), questions)?;
-        let shared = store.shared();
-        let here = Here {
-            shared,
-            caller: *caller,
-        };
-        Ok(read_each_waiting(rt, here, seat, questions, replies))
+        self.see(rt, store, &mut Reads { questions, replies })
     }
 
     /// Gives entries of a map from a place on, their keys one after another in `keys` and their values in `values`, as many as both have room
@@ -319,14 +332,15 @@ impl Session {
         ensures goes { MayScan store.now begin
             → ScanGoes self.old self.new begin.map begin.from (length keys.old) (length values.old) keys.new values.new result }
     {
-        let Session { seat, caller, .. } = self;
-        check_scan(store.catalogue(), begin)?;
-        let shared = store.shared();
-        let here = Here {
-            shared,
-            caller: *caller,
-        };
-        Ok(here.scan_waiting(rt, seat, begin, keys, values))
+        self.see(
+            rt,
+            store,
+            &mut Page {
+                begin,
+                keys,
+                values,
+            },
+        )
     }
 
     /// Looks for a key of a map, and puts the value there into `value`, which has as many bytes as the map's values, if the key stands in the maps of
@@ -353,13 +367,7 @@ impl Session {
         ensures told { key_refused store.now of.entry (length value.old) ≡ None → TellsGet self.old self.new of.entry value.old value.new result }
         ensures goes { key_refused store.now of.entry (length value.old) ≡ None → GetGoes self.old self.new of.entry value.old value.new result }
     {
-        let Session { seat, caller, .. } = self;
-        check_get(store.catalogue(), of, value.len())?;
-        let here = Here {
-            shared: store.shared(),
-            caller: *caller,
-        };
-        Ok(get_waiting(rt, here, seat, of, value))
+        self.see(rt, store, &mut Get { of, value })
     }
 
     /// Makes a state the store's at one point of the history, and answers the point: that which the maps of the session's node have come to, once
@@ -378,11 +386,9 @@ impl Session {
         ensures begun { IsFresh self.old self.new result }
         ensures goes { SnapshotGoes self.old self.new result into.new }
     {
-        let Session { seat, caller, .. } = self;
-        let here = Here {
-            shared: store.shared(),
-            caller: *caller,
-        };
-        snapshot_waiting(rt, here, seat, into)
+        match self.see(rt, store, &mut Snapshot { into }) {
+            Ok(point) => point,
+            Err(never) => match never {},
+        }
     }
 }

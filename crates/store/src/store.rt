@@ -7,6 +7,7 @@ ghost use Rattle.loader.specs.CatalogueView.{MayOpenOn, OpensOn, opened_on, with
 ghost use Rattle.oplog.specs.Limits.{sizes_in, AreSizes, IsConfig};
 ghost use Rattle.store_steps.specs.Shelving.{sessions_of};
 ghost use Rattle.store.specs.Sessions.{fresh_sessions};
+ghost use Rattle.store.specs.Explained.{ClosesExplained};
 ghost use Rattle.store.specs.Opening.{AreOf, AreIdle, IsClosed, known_back};
 
 use crate::closed::Closed;
@@ -195,7 +196,8 @@ impl Store {
         ))
     }
 
-    /// Ends the store, and gives its log, its catalogue and each node's replica, once all its sessions are back.
+    /// Ends the store, and gives its log, its catalogue and each node's replica, once all its sessions are back. One history explains all calls and
+    /// answers of its sessions, in the order in which they began and returned.
     ///
     /// # Errors
     ///
@@ -205,6 +207,7 @@ impl Store {
         ensures whole { MatchResult result (λ _. length sessions.items ≡ sessions_of self.config) (λ _. length sessions.items ≢ sessions_of self.config) }
         ensures back { IfErr result (λ t. (t.0 ≡ self) × (t.1.items ≡ sessions.items)) }
         ensures closed { IfOk result (λ c. IsClosed self sessions.items c) }
+        ensures explained { IfOk result (λ c. ClosesExplained self sessions.items c) }
     {
         if sessions.len() != session_count(&self.setup.config) {
             return Err((self, sessions));

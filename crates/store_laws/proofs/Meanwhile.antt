@@ -30,4 +30,9 @@ meanwhile opening s r = told (between store_rules (store_opening opening) s r)
       held = λ p lt other. ⊎_elim (λ home. absurd (other home.0)) (λ held. (held.1, held.2)) (b.6 p lt);
       completed = b.8;
       still = b.9;
+      run = b.10.run;
+      leads = b.10.leads;
+      goes_on = λ j i v k at_j at_i. b.10.goes_on k (j, i, v, at_j, at_i);
+      own = λ j i v k at_j at_i. b.10.own k (j, i, v, at_j, at_i);
+      ends = λ j i v k at_j at_i. b.10.ends k (j, i, v, at_j, at_i);
     }

@@ -5,7 +5,8 @@ use Rattle.atomic_table.specs.Table.{State}
 use Rattle.loader.specs.CatalogueView.{CatalogueView}
 use Rattle.ownlock.specs.declared.known.Known.{Known}
 use Rattle.ownlock.specs.Words.{word_of, completed_word, slot_of}
-use Rattle.ownlock.specs.Seats.{At, View, place_of}
+use Rattle.ownlock.specs.Runs.{Runs}
+use Rattle.ownlock.specs.Seats.{At, Continues, EndsWithOwn, Run, View, own_steps, place_of}
 use Rattle.ownlock.specs.Between.{Holds, HeldByNobody, HeldOnce}
 use Rattle.replica.specs.StoreMeaning.{store_meaning}
 use Rattle.accounts.specs.declared.sessions.AnsweredUpdate.{AnsweredUpdate}
@@ -17,7 +18,7 @@ use Rattle.accounts.specs.Moves.{MayHold}
 use Rattle.accounts.specs.Told.{StandsOnce}
 use Rattle.store_steps.specs.declared.values.Setup.{Setup}
 use Rattle.store_steps.specs.declared.values.Value.{Value}
-use Rattle.store_steps.specs.Shelving.{view_of, IsSized, places_of}
+use Rattle.store_steps.specs.Shelving.{view_of, IsSized, places_of, store_opening, store_rules}
 
 -- what one session knows: the progress that it saw last, its note, and the places that it holds, each with its value as it was taken
 abbrev pub StoreKnown : Type 0
@@ -59,5 +60,12 @@ pub record Meanwhile (opening : Setup) (s : StoreState) : Type 0 where
       → At (slot_of p) kernel.none s.homes × ((j i a : ℕ) × (k : StoreKnown) × (x : Value) × Holds s j i a k p x × HeldOnce s j i a p × IsValueAt p progress notes x)
   -- the word behind those of the places is the completed tail
   pub completed : slice_index s.words (completed_word (places_of opening.config)) ≡ progress.completed
+  -- one run of the steps of all sessions leads there from what the store was opened with, and the rules allow each step; it goes on from the
+  -- run that a session knows, and has exactly the session's own steps, the last of which left the session's progress and note
+  pub run : Run (Progress CatalogueView) SessionNote Value
+  pub leads : Runs store_rules (store_opening opening) run progress notes
+  pub goes_on : (j i : ℕ) (v : List StoreKnown) (k : StoreKnown) → At j v s.views → At i k v → Continues k.run run
+  pub own : (j i : ℕ) (v : List StoreKnown) (k : StoreKnown) → At j v s.views → At i k v → own_steps k.session run ≡ k.steps
+  pub ends : (j i : ℕ) (v : List StoreKnown) (k : StoreKnown) → At j v s.views → At i k v → EndsWithOwn k
   -- while a session holds the log, the history is the one that it knows
   pub still : (j i a : ℕ) (k : StoreKnown) (x : Value) → Holds s j i a k log_place x → k.progress.history ≡ progress.history

@@ -8,7 +8,7 @@ ghost use Rattle.schedule.specs.declared.parts.BegunRead.{BegunRead};
 ghost use Rattle.schedule.specs.declared.parts.Opening.{Opening};
 ghost use Rattle.schedule.specs.Worlds.{NodeView};
 ghost use Rattle.store_laws.specs.AtDesks.{ClaimsThere, CollectsThere, IsItsOwn, PostsThere};
-ghost use Rattle.store_laws.specs.Behind.{ReadsStandBehind, UpdatesStandBehind};
+ghost use Rattle.store_laws.specs.Behind.{ReadsStandBehind, StepsStandBehind, UpdatesStandBehind};
 ghost use Rattle.store_laws.specs.InOrder.{CombinesInOrder, ReadsInOrder, WholeCombine, WholeLook};
 ghost use Rattle.store_laws.specs.OnShelf.{TakesLogOnce};
 ghost use Rattle.store_steps.specs.declared.values.Setup.{Setup};
@@ -27,10 +27,11 @@ pub fn between_steps()
 /// A call that begins when another has returned stands behind it. An update whose session waits for nothing gets a
 /// place behind all that any other session knows when it begins, so behind the place or the point of each call that had
 /// returned to that; and a read loads a completed tail that is not below what any session then knows to be completed,
-/// and answers at no point below it.
+/// and answers at no point below it. In the run of all steps its own steps since then come after the whole run that the other knew then.
 pub fn stands_behind()
     ensures update { UpdatesStandBehind }
     ensures read { ReadsStandBehind }
+    ensures steps { StepsStandBehind }
 {}
 
 /// What a session does at its node's desk is what the schedule's steps make of it: a post, the answer that is

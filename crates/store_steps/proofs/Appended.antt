@@ -9,7 +9,7 @@ use Rattle.std.proofs.Math.Nat.{min-le_left, min-le_right, min-eq_left, min-eq_r
 use lib.ListN.{get_elem?}
 use Rattle.loader.specs.StoreState.{sizes_of}
 use Rattle.ownlock.specs.Rules.{leader}
-use Rattle.ownlock.specs.Seats.{At, without, tails_in}
+use Rattle.ownlock.specs.Seats.{At, without, tails_in, Continues, Run as RunOf}
 use Rattle.ownlock.specs.Knowledge.{Possible}
 use Rattle.loader.specs.CatalogueView.{CatalogueView}
 use Rattle.oplog.specs.declared.configuration.Sizes.{Sizes}
@@ -128,12 +128,12 @@ module _ (k t m : K) (n0 : NodeReplica) (g : Box LogView) (h : LogView) (h2 : Bo
 
   -- ---- what is put back
 
-  module _ (l : L) (ns : List SessionNote) (may : Possible store_rules m l ns) where
+  module _ (l : L) (ns : List SessionNote) (may : Possible store_rules m l ns) (run : RunOf L SessionNote Value) (on : Continues m.run run) where
     abbrev f : K
-    f = put_back sessions (Log h2) m 0 l
+    f = put_back sessions (Log h2) m 0 l run
 
     put : IsPut store_meaning session_rules session_noting view_of IsSized 0 (Log h2) m f
-    put = puts_account session_laws view_of session_notes IsSized (put_progress sessions (view_of (Log h2))) (put_note session_noting sessions (view_of (Log h2))) m 0 (Log h2) l ns picked may
+    put = puts_account session_laws view_of session_notes IsSized (put_progress sessions (view_of (Log h2))) (put_note session_noting sessions (view_of (Log h2))) m 0 (Log h2) l ns run picked may on
 
     log_f : IsLogOf f.progress h2.value
     log_f =
@@ -153,7 +153,7 @@ module _ (k t m : K) (n0 : NodeReplica) (g : Box LogView) (h : LogView) (h2 : Bo
     goes = record {
       session = put.session ∙ (p.goes.session ∙ b.session);
       held = put.held ∙ ap (λ z. without 0 z) (p.goes.held ∙ b.held);
-      tails = ap tails_in put.steps ∙ (p.goes.tails ∙ ap tails_in b.steps);
+      tails = ap tails_in put.steps.0 ∙ (p.goes.tails ∙ ap tails_in b.steps.0);
       extends = store_laws.extends_on k.progress m.progress f.progress from_k put.extends;
     }
 
@@ -198,16 +198,16 @@ module _ (k t m : K) (n0 : NodeReplica) (g h : LogView) (n n2 : NodeReplica) (rs
   put_appended (Desk x) e b p h2 a q at = absurd (none-some g e)
 
   pub back_appended : (x : Value) → log_of x ≡ Some g → TookLog k t n0 x → HasPlace t m (length rs) g h n → (h2 : LogView) → (h2 ≡ grown rs h) × (n2 ≡ copied h2 n) × (kept ≡ replies_for rs h) × (tail_of h2 ≤ ENDLESS) → (q : ℕ) → q ≡ leader
-      → (l : L) (ns : List SessionNote) → Possible store_rules m l ns → HasAppended k (put_back sessions (with_log x h2) m q l) rs kept n2
-  back_appended (Log g1) e b p h2 a q at l ns may =
-      subst (λ z. HasAppended k (put_back sessions (with_log (Log g1) h2) m z l) rs kept n2) (sym at) (has_appended k t m n0 g1 h (record g1 { value = h2 }) n n2 rs kept b (subst (λ z. HasPlace t m (length rs) z h n) (sym (same_Some g1.value g e)) p) a noted sessions is l ns may)
-  back_appended (Replica x) e b p h2 a q at l ns may = absurd (none-some g e)
-  back_appended (Desk x) e b p h2 a q at l ns may = absurd (none-some g e)
+      → (l : L) (ns : List SessionNote) → Possible store_rules m l ns → (run : RunOf L SessionNote Value) → Continues m.run run → HasAppended k (put_back sessions (with_log x h2) m q l run) rs kept n2
+  back_appended (Log g1) e b p h2 a q at l ns may run on =
+      subst (λ z. HasAppended k (put_back sessions (with_log (Log g1) h2) m z l run) rs kept n2) (sym at) (has_appended k t m n0 g1 h (record g1 { value = h2 }) n n2 rs kept b (subst (λ z. HasPlace t m (length rs) z h n) (sym (same_Some g1.value g e)) p) a noted sessions is l ns may run on)
+  back_appended (Replica x) e b p h2 a q at l ns may run on = absurd (none-some g e)
+  back_appended (Desk x) e b p h2 a q at l ns may run on = absurd (none-some g e)
 
   -- the log that was put back is that of what the session knows then
   pub back_log : (x : Value) → log_of x ≡ Some g → TookLog k t n0 x → HasPlace t m (length rs) g h n → (h2 : LogView) → (h2 ≡ grown rs h) × (n2 ≡ copied h2 n) × (kept ≡ replies_for rs h) × (tail_of h2 ≤ ENDLESS) → (q : ℕ) → q ≡ leader
-      → (l : L) (ns : List SessionNote) → Possible store_rules m l ns → (let f = put_back sessions (with_log x h2) m q l in IsLogOf f.progress h2 × Extends m.progress f.progress)
-  back_log (Log g1) e b p h2 a q at l ns may =
-      put_log k t m n0 g1 h (record g1 { value = h2 }) n n2 rs kept b (subst (λ z. HasPlace t m (length rs) z h n) (sym (same_Some g1.value g e)) p) a noted sessions is l ns may
-  back_log (Replica x) e b p h2 a q at l ns may = absurd (none-some g e)
-  back_log (Desk x) e b p h2 a q at l ns may = absurd (none-some g e)
+      → (l : L) (ns : List SessionNote) → Possible store_rules m l ns → (run : RunOf L SessionNote Value) → Continues m.run run → (let f = put_back sessions (with_log x h2) m q l run in IsLogOf f.progress h2 × Extends m.progress f.progress)
+  back_log (Log g1) e b p h2 a q at l ns may run on =
+      put_log k t m n0 g1 h (record g1 { value = h2 }) n n2 rs kept b (subst (λ z. HasPlace t m (length rs) z h n) (sym (same_Some g1.value g e)) p) a noted sessions is l ns may run on
+  back_log (Replica x) e b p h2 a q at l ns may run on = absurd (none-some g e)
+  back_log (Desk x) e b p h2 a q at l ns may run on = absurd (none-some g e)

@@ -1,4 +1,6 @@
 -- What a session has done on the shelf, step by step.
+use Rattle.ownlock.proofs.Run.{continues_on}
+use Rattle.ownlock.specs.Seats.{HasStepped}
 use Rattle.std.proofs.Common.{◌≡◌, ℕ, List, [], ◌∷◌, ◌++◌, map, refl, ap, ◌∙◌, Some}
 use Rattle.std.proofs.lemmas.Option.{none-some, same_Some}
 use Rattle.ownlock.specs.declared.known.Known.{Known}
@@ -61,12 +63,12 @@ nothing_on (PutsBack p x steps a) b = PutsBack p x _ (nothing_on a b)
 
 module _ {P N : Type 0} where
   -- no step
-  pub did_none : (k t : Known P N Value) → t.steps ≡ k.steps → Did k t []
-  did_none k t e = record { since = []; all = e; are = refl }
+  pub did_none : (k t : Known P N Value) → t.steps ≡ k.steps → t.run ≡ k.run → Did k t []
+  did_none k t e f = record { since = []; all = e; are = refl; goes_on = ([], f) }
 
   -- one step
-  pub did_one : (k t : Known P N Value) (step : ShelfStep Value) (seen : ShelfStep Part) → t.steps ≡ step ∷ k.steps → of_part step ≡ seen → Did k t (seen ∷ [])
-  did_one k t step seen e is = record { since = step ∷ []; all = e; are = ap (λ z. z ∷ []) is }
+  pub did_one : (k t : Known P N Value) (step : ShelfStep Value) (seen : ShelfStep Part) → HasStepped k step t → of_part step ≡ seen → Did k t (seen ∷ [])
+  did_one k t step seen e is = record { since = step ∷ []; all = e.0; are = ap (λ z. z ∷ []) is; goes_on = e.1 }
 
   -- some steps, and then others
   pub did_then : (k t f : Known P N Value) (xs ys : List (ShelfStep Part)) → Did k t xs → Did t f ys → Did k f (xs ++ ys)
@@ -74,12 +76,14 @@ module _ {P N : Type 0} where
     since = a.since ++ b.since;
     all = b.all ∙ (ap (λ z. and_then z b.since) a.all ∙ and_then_on k.steps a.since b.since);
     are = parts_on a.since b.since ∙ (λ i. a.are i ++ b.are i);
+    goes_on = continues_on k.run t.run f.run a.goes_on b.goes_on;
   }
 
   -- a value is taken from its place and put back there, or another
-  pub did_both : (k t f : Known P N Value) (p q place : ℕ) (v w : Value) (x y : Part) → t.steps ≡ Took p v ∷ k.steps → f.steps ≡ Put q w ∷ t.steps → p ≡ place → q ≡ place → part_of v ≡ x → part_of w ≡ y → Did k f (Took place x ∷ Put place y ∷ [])
+  pub did_both : (k t f : Known P N Value) (p q place : ℕ) (v w : Value) (x y : Part) → HasStepped k (Took p v) t → HasStepped t (Put q w) f → p ≡ place → q ≡ place → part_of v ≡ x → part_of w ≡ y → Did k f (Took place x ∷ Put place y ∷ [])
   did_both k t f p q place v w x y took put at there is becomes = record {
     since = Took p v ∷ Put q w ∷ [];
-    all = put ∙ ap (λ z. Put q w ∷ z) took;
+    all = put.0 ∙ ap (λ z. Put q w ∷ z) took.0;
     are = λ i. Took (at i) (is i) ∷ Put (there i) (becomes i) ∷ [];
+    goes_on = continues_on k.run t.run f.run took.1 put.1;
   }

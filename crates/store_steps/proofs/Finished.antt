@@ -2,7 +2,7 @@
 use Rattle.std.proofs.Common.{eq-eqb, if◌then◌else◌, ◌≡◌, ℕ, ◌+◌, ◌<◌, ◌≤◌, List, [], ◌∷◌, length, sym, refl, ap, ◌∙◌, subst, arith, Some, slice_get, option_map}
 use lib.ListN.{get_elem?}
 use Rattle.ownlock.specs.Rules.{leader}
-use Rattle.ownlock.specs.Seats.{At, tails_in, without, left_with}
+use Rattle.ownlock.specs.Seats.{At, tails_in, without, left_with, Continues, Run as RunOf}
 use Rattle.ownlock.specs.Knowledge.{Possible, MayPut}
 use Rattle.machine.specs.declared.running.Outcome.{Outcome}
 use Rattle.loader.specs.CatalogueView.{CatalogueView}
@@ -39,8 +39,8 @@ abbrev pub Picked : List K → Value → K → ℕ → Type 0
 Picked sessions y t q = MayPut store_rules (put_progress sessions (view_of y)) (put_note session_noting sessions (view_of y)) t q y
 
 -- what the session has become, once it has put y back
-abbrev pub put_back : List K → Value → K → ℕ → Progress CatalogueView → K
-put_back sessions y t q l = left_with t q y (put_progress sessions (view_of y) l) (put_note session_noting sessions (view_of y) t.note)
+abbrev pub put_back : List K → Value → K → ℕ → Progress CatalogueView → RunOf L SessionNote Value → K
+put_back sessions y t q l run = left_with t q y (put_progress sessions (view_of y) l) (put_note session_noting sessions (view_of y) t.note) run
 
 -- the session still is what it was, but for the progress that it knows
 pub record Same (k t f : K) : Type 0 where
@@ -93,14 +93,14 @@ module _ (k : K) (w : Value) (h : HoldsReplica k w) (sessions : List K) (is : se
     same_note : put_note session_noting sessions (view_of v) k.note ≡ k.note
     same_note = ap (λ f. f k.note) (replica_picks session_laws view_of session_notes IsSized sessions k v (replica_value n.replica) is (replica_put w n h.replica)).1
 
-    back_zero : (l : L) (ns : List SessionNote) → Possible store_rules k l ns → Back k (put_back sessions v k (replica_place k.progress.config h.node) l)
-    back_zero l ns may =
-        let p = puts_account session_laws view_of session_notes IsSized (put_progress sessions (view_of v)) (put_note session_noting sessions (view_of v)) k (replica_place k.progress.config h.node) v l ns picked may in
+    back_zero : (l : L) (ns : List SessionNote) → Possible store_rules k l ns → (run : RunOf L SessionNote Value) → Continues k.run run → Back k (put_back sessions v k (replica_place k.progress.config h.node) l run)
+    back_zero l ns may run on =
+        let p = puts_account session_laws view_of session_notes IsSized (put_progress sessions (view_of v)) (put_note session_noting sessions (view_of v)) k (replica_place k.progress.config h.node) v l ns run picked may on in
         record {
           session = p.session;
           note = same_note;
           held = p.held ∙ (ap (λ z. without (replica_place k.progress.config h.node) z) h.held ∙ none h.node w);
-          tails = ap tails_in p.steps;
+          tails = ap tails_in p.steps.0;
           extends = p.extends;
           stands = record { notes = p.notes; accounts = p.accounts; here = p.here };
         }
@@ -108,8 +108,8 @@ module _ (k : K) (w : Value) (h : HoldsReplica k w) (sessions : List K) (is : se
         none : (n : ℕ) (w : Value) → without (1 + n) ((1 + n, w) ∷ []) ≡ []
         none n w = ap (λ b. if b then [] else ((1 + n, w) ∷ [])) (eq-eqb (1 + n) (1 + n) refl)
 
-    pub back : (q : ℕ) → k.held ≡ (q, w) ∷ [] → (l : L) (ns : List SessionNote) → Possible store_rules k l ns → Back k (put_back sessions v k q l)
-    back q e l ns may = subst (λ z. Back k (put_back sessions v k z l)) (same_place q e) (back_zero l ns may)
+    pub back : (q : ℕ) → k.held ≡ (q, w) ∷ [] → (l : L) (ns : List SessionNote) → Possible store_rules k l ns → (run : RunOf L SessionNote Value) → Continues k.run run → Back k (put_back sessions v k q l run)
+    back q e l ns may run on = subst (λ z. Back k (put_back sessions v k z l run)) (same_place q e) (back_zero l ns may run on)
 
 -- the reply of a record that was replayed is kept
 pub reply_kept : (a : K) (r : Record) (j i t : ℕ) (old new : RepliesView) → At i r a.progress.history → t ≤ i → old.first + j ≡ i → j < length old.outcomes → KeepsOutcomesOf a.progress t old new
@@ -136,18 +136,18 @@ module _ (k t : K) (m : NodeReplica) (x : Value) (b : TookLog k t m x) where
     pub same_put : (q : ℕ) → q ≡ leader → Picked sessions x t q
     same_put q e = subst (λ z. Picked sessions x t z) (sym e) put_zero
 
-    back_at_zero : (l : L) (ns : List SessionNote) → Possible store_rules t l ns → Same k t (put_back sessions x t 0 l)
-    back_at_zero l ns may =
-        let p = puts_account session_laws view_of session_notes IsSized (put_progress sessions (view_of x)) (put_note session_noting sessions (view_of x)) t 0 x l ns put_zero may in
+    back_at_zero : (l : L) (ns : List SessionNote) → Possible store_rules t l ns → (run : RunOf L SessionNote Value) → Continues t.run run → Same k t (put_back sessions x t 0 l run)
+    back_at_zero l ns may run on =
+        let p = puts_account session_laws view_of session_notes IsSized (put_progress sessions (view_of x)) (put_note session_noting sessions (view_of x)) t 0 x l ns run put_zero may on in
         let s = same_picks session_laws view_of session_notes IsSized sessions t 0 0 x x l ns is at_log refl may in
         record {
-          goes = record { session = p.session ∙ b.session; held = p.held ∙ ap (λ z. without 0 z) b.held; tails = ap tails_in p.steps ∙ ap tails_in b.steps; extends = store_laws.extends_on k.progress t.progress _ b.extends p.extends };
+          goes = record { session = p.session ∙ b.session; held = p.held ∙ ap (λ z. without 0 z) b.held; tails = ap tails_in p.steps.0 ∙ ap tails_in b.steps.0; extends = store_laws.extends_on k.progress t.progress _ b.extends p.extends };
           note = s.1 ∙ b.note;
           on = p.extends;
         }
 
-    pub same_back : (q : ℕ) → q ≡ leader → (l : L) (ns : List SessionNote) → Possible store_rules t l ns → Same k t (put_back sessions x t q l)
-    same_back q e l ns may = subst (λ z. Same k t (put_back sessions x t z l)) (sym e) (back_at_zero l ns may)
+    pub same_back : (q : ℕ) → q ≡ leader → (l : L) (ns : List SessionNote) → Possible store_rules t l ns → (run : RunOf L SessionNote Value) → Continues t.run run → Same k t (put_back sessions x t q l run)
+    same_back q e l ns may run on = subst (λ z. Same k t (put_back sessions x t z l run)) (sym e) (back_at_zero l ns may run on)
 
   module _ (n : NodeReplica) (f after : K) (s : Same k t f) (all : HasAll t.progress n) where
     pub long_enough : n.replica.tail ≤ length f.progress.history

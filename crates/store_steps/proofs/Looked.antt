@@ -1,25 +1,27 @@
--- A look at a replica that has come up: a state that was taken there, and a key that was looked for.
-use Rattle.std.proofs.Common.{◌≡◌, ℕ, ◌≤◌, List, ◌∷◌, Option, Some, None, Bool, true, false, slice_get, refl, sym, ap, ◌∙◌, subst, arith}
+-- A look at a replica that has come up, and at a key that may be looked for.
+use Rattle.std.proofs.Common.{◌≡◌, ℕ, ◌≤◌, List, Option, Some, None, Bool, true, false, slice_get, option_map, refl, sym, ap, ◌∙◌, subst, arith}
 use Rattle.std.specs.Prelude.{nat_eq, if◌then◌else◌}
 use Rattle.std.proofs.lemmas.Bool.{eqb-true}
+use Rattle.std.proofs.lemmas.Option.{slice_get-map}
 use Rattle.maps.specs.declared.shapes.Shape.{Shape}
-use Rattle.maps.specs.Maps.{shapes_of}
+use Rattle.maps.specs.Maps.{MapState, shapes_of}
 use Rattle.maps.specs.Shapes.{key_size, value_size}
 use Rattle.loader.specs.CatalogueView.{CatalogueView, sizes_for}
 use Rattle.loader.specs.StoreState.{StateSizes, StoreState, sizes_of}
 use Rattle.oplog.specs.History.{state_after}
 use Rattle.replica.specs.StoreMeaning.{store_meaning}
 use Rattle.ownlock.specs.declared.known.ShelfStep.TheVariants.{Put}
+use Rattle.ownlock.specs.Seats.{HasStepped}
 use Rattle.node.specs.declared.following.NodeReplica.{NodeReplica}
 use Rattle.store_steps.specs.declared.getting.GetRefused.{GetRefused}
 use Rattle.store_steps.specs.declared.getting.GetRefused.TheVariants.{KeyLength, ValueLength}
-use Rattle.store_steps.specs.declared.getting.Lookup.{Lookup}
+use Rattle.store_steps.specs.declared.scanning.Scan.{Scan}
 use Rattle.store_steps.specs.declared.values.Value.{Value}
-use Rattle.store_steps.specs.Getting.{FitsIn, GetsBy, IsGotBy, IsUnder, get_refusal, length_fault}
+use Rattle.store_steps.specs.Getting.{FitsIn, get_refusal, length_fault}
 use Rattle.store_steps.specs.Lending.{with_replica}
 use Rattle.store_steps.specs.Ready.{HoldsReady}
-use Rattle.store_steps.specs.Scanning.{HasSeen}
-use Rattle.store_steps.specs.Snapshots.{IsTakenBy, TakesBy}
+use Rattle.store_steps.specs.Scanning.{GivesIn, GivesThere}
+use Rattle.store_steps.specs.Sights.{HasSeen, HasSight, SightBy}
 use Rattle.store_steps.specs.Standing.{SessionKnown}
 use Rattle.store_steps.specs.Trying.{IsStill}
 use Rattle.store_steps.specs.Whole.{LooksBy}
@@ -45,49 +47,28 @@ module _ (k a : K) (p : ℕ) (v : Value) (h : HoldsReady k a p v) (f : K) (b : B
   state_there : n.replica.state ≡ state_after store_meaning f.progress.catalogue f.progress.history point
   state_there = ap (λ (z : NodeReplica). z.replica.state) n_is ∙ ((agrees_now k a p v h f b).0.state ∙ ap (state_after store_meaning f.progress.catalogue f.progress.history) (sym at))
 
-  look_there : (q : ℕ) → q ≡ p → f.steps ≡ Put q (with_replica h.value h.node) ∷ a.steps → (by : LooksBy k f point) × (by.left ≡ n)
+  look_there : (q : ℕ) → q ≡ p → HasStepped a (Put q (with_replica h.value h.node)) f → (by : LooksBy k f point) × (by.left ≡ n)
   look_there q here put = let t = looks_ready k a p v h f b q here put point at in (t.0, t.1 ∙ sym n_is)
 
-  module _ (state : StoreState) (is : state ≡ n.replica.state) where
-    pub taken_ready : IsTakenBy k f point state
-    taken_ready = (seen_there, (seen_there.far, low_there, is ∙ state_there))
+  module _ (c : CatalogueView) (same : k.progress.catalogue ≡ c) (P : CatalogueView → StoreState → Type 0) (is : P c n.replica.state) where
+    pub sight_ready : HasSight P point k f
+    sight_ready = (seen_there, (seen_there.far, low_there, subst (λ (z : CatalogueView × StoreState). P z.0 z.1) (λ i. ((sym same ∙ seen_there.extends.catalogue) i, state_there i)) is))
 
-    pub takes_ready : (q : ℕ) → q ≡ p → f.steps ≡ Put q (with_replica h.value h.node) ∷ a.steps → TakesBy k f point state
-    takes_ready q here put = let t = look_there q here put in (t.0, is ∙ ap (λ (z : NodeReplica). z.replica.state) (sym t.1))
-
-module _ (k a : K) (p : ℕ) (v : Value) (h : HoldsReady k a p v) (f : K) (b : Back a f) (n : NodeReplica) (n_is : n ≡ h.node) (map : ℕ) (key old new : List ℕ) (found : Lookup) (point_is : found.point ≡ n.replica.tail) (is : IsUnder n.replica.state.maps map key old new found) where
-  pub got_ready : IsGotBy k f map key old new found
-  got_ready =
-      let seen = seen_there k a p v h f b n n_is found.point point_is in (
-        seen,
-        (seen.far, low_there k a p v h f b n n_is found.point point_is, subst (λ (s : StoreState). IsUnder s.maps map key old new found) (state_there k a p v h f b n n_is found.point point_is) is),
-      )
-
-  pub gets_ready : (q : ℕ) → q ≡ p → f.steps ≡ Put q (with_replica h.value h.node) ∷ a.steps → GetsBy k f map key old new found
-  gets_ready q here put =
-      let t = look_there k a p v h f b n n_is found.point point_is q here put in
-      (t.0, subst (λ (z : NodeReplica). IsUnder z.replica.state.maps map key old new found) (sym t.1) is)
+    pub sights_ready : (q : ℕ) → q ≡ p → HasStepped a (Put q (with_replica h.value h.node)) f → SightBy P point k f
+    sights_ready q here put =
+        let t = look_there q here put in
+        (t.0, subst (λ (z : CatalogueView × NodeReplica). P z.0 z.1.replica.state) (λ i. (sym same i, sym t.1 i)) is)
 
 -- ---- a place was held before
 
-module _ (k m f : K) (s : IsStill k m) where
-  module _ (point : ℕ) (state : StoreState) where
-    pub taken_since : IsTakenBy m f point state → IsTakenBy k f point state
-    taken_since t = let up = s.extends.completed in let low = t.1.0 in (seen_since k m f s point t.0, (omega (arith, up, low), t.1.1, t.1.2))
+module _ (k m f : K) (s : IsStill k m) (P : CatalogueView → StoreState → Type 0) (point : ℕ) where
+  pub sight_since : HasSight P point m f → HasSight P point k f
+  sight_since t = let up = s.extends.completed in let low = t.1.0 in (seen_since k m f s point t.0, (omega (arith, up, low), t.1.1, t.1.2))
 
-    pub takes_since : m.progress.completed ≤ point → TakesBy m f point state → TakesBy k f point state
-    takes_since far r =
-        let t = looks_since k m f s point far r.0 in
-        (t.0, r.1 ∙ ap (λ (z : NodeReplica). z.replica.state) (sym t.1))
-
-  module _ (map : ℕ) (key old new : List ℕ) (found : Lookup) where
-    pub got_since : IsGotBy m f map key old new found → IsGotBy k f map key old new found
-    got_since t = let up = s.extends.completed in let low = t.1.0 in (seen_since k m f s found.point t.0, (omega (arith, up, low), t.1.1, t.1.2))
-
-    pub gets_since : m.progress.completed ≤ found.point → GetsBy m f map key old new found → GetsBy k f map key old new found
-    gets_since far r =
-        let t = looks_since k m f s found.point far r.0 in
-        (t.0, subst (λ (z : NodeReplica). IsUnder z.replica.state.maps map key old new found) (sym t.1) r.1)
+  pub sights_since : m.progress.completed ≤ point → SightBy P point m f → SightBy P point k f
+  sights_since far r =
+      let t = looks_since k m f s point far r.0 in
+      (t.0, subst (λ (z : CatalogueView × NodeReplica). P z.0 z.1.replica.state) (λ i. (sym s.extends.catalogue i, sym t.1 i)) r.1)
 
 -- ---- a key that may be looked for
 
@@ -109,3 +90,16 @@ fits_in c map key room e = by (slice_get c.shapes map) refl e
 -- in the maps of a state of these sizes
 pub fits_there : (c : CatalogueView) (map key room : ℕ) (state : StoreState) → sizes_of state ≡ sizes_for c → get_refusal c map key room ≡ None → FitsIn (shapes_of state.maps) map key room
 fits_there c map key room state same e = subst (λ z. FitsIn z map key room) (sym (ap (λ (z : StateSizes). z.shapes) same)) (fits_in c map key room e)
+
+-- ---- a scan of the maps of a state of these sizes
+
+pub page_in : (c : CatalogueView) (state : StoreState) (map from key_room value_room : ℕ) (keys values : List ℕ) (s : Scan) → sizes_of state ≡ sizes_for c → GivesThere state.maps map from key_room value_room keys values s → GivesIn c state map from key_room value_room keys values s
+page_in c state map from key_room value_room keys values s same gives = (
+  gives.0,
+  record {
+    there = gives.1;
+    shape = ap (λ (z : StateSizes). slice_get z.shapes map) (sym same) ∙ (slice_get-map (λ (x : MapState). x.shape) state.maps map ∙ ap (option_map (λ (x : MapState). x.shape)) gives.1);
+    scans = gives.2;
+    page = gives.3;
+  },
+)

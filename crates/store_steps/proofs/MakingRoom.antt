@@ -1,5 +1,5 @@
 -- What is known behind each call of `make_room`.
-use Rattle.std.proofs.Common.{◌≡◌, Bool, true, false, ℕ, ◌-◌, ◌<◌, ◌≤◌, min, length, sym, ap, ◌∙◌, subst, arith}
+use Rattle.std.proofs.Common.{◌≡◌, Bool, true, false, ℕ, ◌-◌, ◌<◌, ◌≤◌, min, length, inl, inr, refl, sym, ap, ◌∙◌, subst, arith}
 use Rattle.std.specs.Prelude.{◌⊎◌}
 use Rattle.loader.specs.StoreState.{sizes_of}
 use Rattle.loader.specs.CatalogueView.{CatalogueView, sizes_for}
@@ -9,7 +9,7 @@ use Rattle.replica.specs.StoreMeaning.{AreUpdates}
 use Rattle.node.specs.declared.following.NodeReplica.{NodeReplica}
 use Rattle.node.specs.Following.{Fits, copied, exchanged, is_above, may_rebase, rebased, reclaimed, replayed, told}
 use Rattle.store_steps.specs.Knowing.{HasLog}
-use Rattle.store_steps.specs.Rooms.{FreesRoom, Owes, caught_up}
+use Rattle.store_steps.specs.Rooms.{FreesRoom, IsBaseDue, IsHalfBefore, Owes, caught_up}
 use Rattle.store_steps.specs.Standing.{SessionKnown, Follows, HasPlace, HasRaised}
 use Rattle.store_steps.specs.Whole.{MakesRoom}
 use Rattle.store_steps.proofs.Exchanged.{none_owed, nothing}
@@ -22,6 +22,15 @@ use Rattle.store_steps.proofs.Stretches.{makes_none, makes_room}
 module _ (k : SessionKnown) (g : LogView) (m : NodeReplica) (c : CatalogueView) (i : HasLog k g m c) (n : NodeReplica) (behind : may_rebase g m ≡ true → n ≡ rebased g m) (stays : may_rebase g m ≡ false → n ≡ m) where
   kept : Follows k.progress n × (g.base ≤ n.replica.tail)
   kept = kept_up k.progress g m i.log i.follows n behind stays
+
+  -- what is due for the replica that keeps up was due for the one that was taken
+  due_before : (want : ℕ) → IsBaseDue want g n → IsBaseDue want g m
+  due_before want (inl full) = inl full
+  due_before want (inr half) = by (may_rebase g m) refl
+    where
+      by : (low : Bool) → may_rebase g m ≡ low → IsBaseDue want g m
+      by true e = absurd (let lower = subst (IsHalfBefore g) (behind e) half in omega (arith, lower))
+      by false e = inr (subst (IsHalfBefore g) (stays e) half)
 
   pub kept_above : is_above g n ≡ true
   kept_above = above k.progress g n i.log kept.0 kept.1
@@ -51,8 +60,8 @@ module _ (k : SessionKnown) (g : LogView) (m : NodeReplica) (c : CatalogueView) 
     pub none_room : (want : ℕ) → min want (left_of g) ≤ room_in g → HasPlace k k want g g (caught_up c 0 p)
     none_room want room = subst (HasPlace k k want g g) (sym same_node) (roomy k want g n i.well i.log kept.0 kept.1 room)
 
-    pub none_goes : MakesRoom k k g g m (caught_up c 0 p)
-    none_goes = subst (MakesRoom k k g g m) (sym same_node) (makes_none k g m n i.log i.follows behind stays)
+    pub none_goes : (want : ℕ) → MakesRoom want k k g g m (caught_up c 0 p)
+    none_goes want = subst (MakesRoom want k k g g m) (sym same_node) (makes_none k g m n i.log i.follows behind stays want)
 
   -- ---- the base is due: the replica comes up, where it must, and is v
 
@@ -92,5 +101,5 @@ module _ (k : SessionKnown) (g : LogView) (m : NodeReplica) (c : CatalogueView) 
       pub base_room : HasPlace k after want g h (caught_up c owed p)
       base_room = subst (HasPlace k after want g h) (sym same_risen) (subst (λ z. HasPlace k after want g z v) (sym log) (freed k after g v i.log risen.0 done i.holds want risen.1))
 
-      pub base_goes : MakesRoom k after g h m (caught_up c owed p)
-      base_goes = subst (MakesRoom k after g h m) (sym same_risen) (makes_room k g m n i.log i.follows behind stays after v up (λ f. (rests f).0) runs done i.holds risen.1.0 h log)
+      pub base_goes : IsBaseDue want g n → MakesRoom want k after g h m (caught_up c owed p)
+      base_goes reason = subst (MakesRoom want k after g h m) (sym same_risen) (makes_room k g m n i.log i.follows behind stays after v up (λ f. (rests f).0) runs done i.holds risen.1.0 h log want (due_before want reason))

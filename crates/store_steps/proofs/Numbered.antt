@@ -3,12 +3,12 @@ use Rattle.std.proofs.Common.{◌≡◌, ℕ, zero, suc, ◌+◌, ◌<◌, ◌�
 use Rattle.std.proofs.lemmas.Bool.{ltb-true, ltb-false}
 use Rattle.std.proofs.lemmas.Option.{same_Some}
 use Rattle.loader.specs.CatalogueView.{CatalogueView}
-use Rattle.node.specs.declared.following.NodeReplica.{NodeReplica}
+use Rattle.loader.specs.StoreState.{StoreState}
 use Rattle.replica.proofs.Kept.{get-set_other, get-set_same}
 use Rattle.store_steps.specs.declared.steps.Question.{Question}
 use Rattle.store_steps.specs.Asking.{asked_op}
-use Rattle.store_steps.specs.Questions.{FirstReply, first_refused, question_refusal, refused_or}
-use Rattle.store_steps.specs.Views.{RepliesThere}
+use Rattle.store_steps.specs.Questions.{first_refused, question_refusal, refused_or}
+use Rattle.store_steps.specs.Views.{RepliesIn}
 
 -- the first of those that are left, and the others
 pub one_more : (c : CatalogueView) (number n : ℕ) (qs : List Question) (d : Question) → n < length qs
@@ -29,12 +29,17 @@ at_or [] n d q e = absurd cc
 at_or (x ∷ qs) zero d q e = same_Some x q e
 at_or (x ∷ qs) (suc n) d q e = at_or qs n d q e
 
+-- each of the first n questions has its reply on that state
+abbrev pub FirstReplies : CatalogueView → StoreState → List Question → (n : ℕ) → (replies : List ℕ) → Type 0
+FirstReplies c state questions n replies =
+    (i : ℕ) (asked : Question) → i < n → slice_get questions i ≡ Some asked → (reply : ℕ) × (slice_get replies i ≡ Some reply) × RepliesIn c (asked_op asked) state reply
+
 -- one more has its reply
-pub one_more_reply : (c : CatalogueView) (node : NodeReplica) (qs : List Question) (n : ℕ) (replies : List ℕ) (d : Question) (reply : ℕ) → n < length replies → FirstReply c node qs n replies → (m : NodeReplica) → m ≡ node → RepliesThere c (asked_op (slice_index_or qs n d)) m reply
-    → FirstReply c node qs (n + 1) (slice_set replies n reply)
-one_more_reply c node qs n replies d reply lt first m same_node is i asked low at = by (nat_lt i n) refl
+pub one_more_reply : (c : CatalogueView) (state : StoreState) (qs : List Question) (n : ℕ) (replies : List ℕ) (d : Question) (reply : ℕ) → n < length replies → FirstReplies c state qs n replies → (m : StoreState) → m ≡ state → RepliesIn c (asked_op (slice_index_or qs n d)) m reply
+    → FirstReplies c state qs (n + 1) (slice_set replies n reply)
+one_more_reply c state qs n replies d reply lt first m same_state is i asked low at = by (nat_lt i n) refl
   where
-    by : (b : Bool) → nat_lt i n ≡ b → (r : ℕ) × (slice_get (slice_set replies n reply) i ≡ Some r) × RepliesThere c (asked_op asked) node r
+    by : (b : Bool) → nat_lt i n ≡ b → (r : ℕ) × (slice_get (slice_set replies n reply) i ≡ Some r) × RepliesIn c (asked_op asked) state r
     by true e =
         let below = ltb-true i n e in
         let r = first i asked below at in
@@ -42,4 +47,4 @@ one_more_reply c node qs n replies d reply lt first m same_node is i asked low a
     by false e =
         let above = ltb-false i n e in
         let same : i ≡ n = omega (arith, above, low) in
-        (reply, subst (λ j. slice_get (slice_set replies n reply) j ≡ Some reply) (sym same) (get-set_same replies n reply lt), subst (λ q. RepliesThere c (asked_op q) node reply) (at_or qs n d asked (subst (λ j. slice_get qs j ≡ Some asked) same at)) (subst (λ z. RepliesThere c (asked_op (slice_index_or qs n d)) z reply) same_node is))
+        (reply, subst (λ j. slice_get (slice_set replies n reply) j ≡ Some reply) (sym same) (get-set_same replies n reply lt), subst (λ q. RepliesIn c (asked_op q) state reply) (at_or qs n d asked (subst (λ j. slice_get qs j ≡ Some asked) same at)) (subst (λ z. RepliesIn c (asked_op (slice_index_or qs n d)) z reply) same_state is))

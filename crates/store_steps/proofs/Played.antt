@@ -4,7 +4,7 @@ use Rattle.std.proofs.Math.Nat.{le-max_right}
 use Rattle.loader.specs.StoreState.{sizes_of}
 use Rattle.ownlock.specs.declared.known.ShelfStep.TheVariants.{Raised}
 use Rattle.ownlock.specs.Rules.{leader}
-use Rattle.ownlock.specs.Seats.{At, having_raised}
+use Rattle.ownlock.specs.Seats.{At, having_raised, Continues, Run as RunOf}
 use Rattle.ownlock.specs.Knowledge.{Later, Possible}
 use Rattle.loader.specs.CatalogueView.{CatalogueView, sizes_for}
 use Rattle.oplog.specs.Logs.{Log as LogView, HandView}
@@ -19,6 +19,7 @@ use Rattle.accounts.specs.Moves.{raised}
 use Rattle.accounts.proofs.Tellings.{replays, replayed_agrees}
 use Rattle.accounts.proofs.Finish.{grown_long}
 use Rattle.node.specs.declared.following.NodeReplica.{NodeReplica}
+use Rattle.store_steps.specs.declared.values.Value.{Value}
 use Rattle.store_steps.specs.Shelving.{replica_value, store_rules}
 use Rattle.node.specs.Following.{IsNext, copied, replayed}
 use Rattle.store_steps.specs.Standing.{SessionKnown, Agrees, IsLogOf, Follows, HasOthers, HasRaised, KeepsOutcomesOf, HasReplayed}
@@ -109,8 +110,8 @@ followed_all l g n m is f low e same =
 -- ---- what is told of the replay and the raise
 
 -- once the completed tail is raised to m
-pub has_raised : (k : K) (before : L) (n m : ℕ) → m ≡ n → Later store_rules k before → ((notes : List SessionNote) × Possible store_rules k (raised before m) notes) → HasRaised k (having_raised k (raised before m) m) n
-has_raised k before n m is first (notes, may) = record {
+pub has_raised : (k : K) (before : L) (n m : ℕ) (run : RunOf L SessionNote Value) → Continues k.run run → m ≡ n → Later store_rules k before → ((notes : List SessionNote) × Possible store_rules k (raised before m) notes) → HasRaised k (having_raised k (raised before m) m run) n
+has_raised k before n m run on is first (notes, may) = record {
   goes = record { session = refl; held = refl; tails = refl; extends = may.0.0 };
   note = refl;
   stands = record { notes = notes; accounts = may.2; here = may.1 };
@@ -119,7 +120,7 @@ has_raised k before n m is first (notes, may) = record {
   before = before;
   was = first.0;
   is = ap (raised before) is;
-  did = did_one k _ (Raised m) (Raised n) refl (ap Raised is);
+  did = did_one k _ (Raised m) (Raised n) (refl, on) (ap Raised is);
 }
 
 pub raised_as : (k after : K) (n m : ℕ) → HasRaised k after n → n ≡ m → HasRaised k after m

@@ -1,41 +1,31 @@
 -- A replica that is held and has come up: what may be told of it, and what the session is once it is back as it was.
-use Rattle.std.proofs.Common.{◌≡◌, ℕ, ◌+◌, ◌≤◌, List, [], ◌∷◌, length, sym, refl, ap, ◌∙◌, subst, arith, Option, Some, None, slice_get, option_map, true, false, Bool}
+use Rattle.ownlock.specs.Seats.{HasStepped, Continues, Run as RunOf}
+use Rattle.std.proofs.Common.{◌≡◌, ℕ, ◌+◌, List, [], ◌∷◌, sym, refl, ap, ◌∙◌, subst, arith, Option, Some, None, slice_get, true, false, Bool}
 use Rattle.std.specs.Prelude.{IsSome, IfSome, ◌<◌, nat_lt, if◌then◌else◌}
 use Rattle.std.proofs.lemmas.Bool.{ltb-true}
-use Rattle.std.proofs.lemmas.Option.{same_Some, slice_get-map, slice_get_within}
+use Rattle.std.proofs.lemmas.Option.{same_Some, slice_get_within}
 use Rattle.maps.specs.declared.shapes.Shape.{Shape}
-use Rattle.maps.specs.Maps.{MapState, shapes_of}
+use Rattle.maps.specs.Maps.{shapes_of}
 use Rattle.maps.specs.Shapes.{entry_count}
 use Rattle.loader.specs.CatalogueView.{CatalogueView, sizes_for}
 use Rattle.loader.specs.StoreState.{StateSizes, StoreState, sizes_of}
-use Rattle.oplog.specs.History.{state_after}
-use Rattle.oplog.specs.Operations.{Operation}
 use Rattle.ownlock.specs.declared.known.ShelfStep.TheVariants.{Put}
 use Rattle.ownlock.specs.Knowledge.{Possible}
-use Rattle.readpath.specs.declared.reading.ReadAnswer.{ReadAnswer}
-use Rattle.replica.specs.StoreMeaning.{store_meaning}
 use Rattle.accounts.specs.declared.sessions.Progress.{Progress}
 use Rattle.accounts.specs.declared.sessions.SessionNote.{SessionNote}
 use Rattle.accounts.specs.Accounts.{Extends}
-use Rattle.accounts.specs.Told.{ReadTells}
-use Rattle.accounts.proofs.Tellings.{reads_tell}
 use Rattle.node.specs.declared.following.NodeReplica.{NodeReplica}
-use Rattle.store_steps.specs.declared.scanning.Scan.{Scan}
 use Rattle.store_steps.specs.declared.scanning.ScanRefused.{ScanRefused}
 use Rattle.store_steps.specs.declared.scanning.ScanRefused.TheVariants.{UnknownPlace}
 use Rattle.store_steps.specs.declared.values.Value.{Value}
 use Rattle.store_steps.specs.declared.values.Value.TheVariants.{Log, Replica, Desk}
 use Rattle.store_steps.specs.Lending.{replica_of, with_replica}
-use Rattle.store_steps.specs.declared.steps.Question.{Question}
-use Rattle.store_steps.specs.Asking.{asked_op}
-use Rattle.store_steps.specs.Questions.{AreReadBy, FirstReply}
 use Rattle.store_steps.specs.Ready.{HoldsReady}
-use Rattle.store_steps.specs.Scanning.{GivesThere, HasSeen, IsPlaceIn, IsScannedBy, place_fault, scan_refusal}
-use Rattle.store_steps.specs.Views.{IsReadBy, RepliesThere}
-use Rattle.store_steps.specs.Shelving.{replica_value, store_rules}
+use Rattle.store_steps.specs.Scanning.{IsPlaceIn, place_fault, scan_refusal}
+use Rattle.store_steps.specs.Sights.{HasSeen}
+use Rattle.store_steps.specs.Shelving.{store_rules}
 use Rattle.store_steps.specs.Standing.{Agrees, SessionKnown}
-use Rattle.store_steps.specs.Looking.{EachReadsBy, ScansBy}
-use Rattle.store_steps.specs.Whole.{LooksBy, ReadsBy}
+use Rattle.store_steps.specs.Whole.{LooksBy}
 use Rattle.store_steps.proofs.Finished.{Back, Picked, back, held_first, may_put_replica, put_back}
 use Rattle.store_steps.proofs.StoreLaws.{store_laws}
 use Rattle.store_steps.proofs.Stretches.{looks_by}
@@ -47,11 +37,6 @@ K = SessionKnown
 
 abbrev L : Type 0
 L = Progress CatalogueView
-
-told_read : (l m : L) (n : NodeReplica) (op : Operation) (c : CatalogueView) (begun reply : ℕ) → Extends l m → Agrees l n → n.replica.tail ≤ length l.history → begun ≤ n.replica.tail → RepliesThere c op n reply → l.catalogue ≡ c → ReadTells store_meaning m begun op n.replica.tail reply
-told_read l m n op c begun reply grown a low first is same =
-    let t = a.0.tail in let up = grown.completed in
-    reads_tell store_meaning l m begun reply op (replica_value n.replica) grown low a.0.state (ap (λ z. option_map (λ e. e.reply) (store_meaning.read z op n.replica.state)) same ∙ is) first (omega (arith, t, up))
 
 -- ---- a value with its replica
 
@@ -96,8 +81,8 @@ module _ (k a : K) (p : ℕ) (v : Value) (h : HoldsReady k a p v) where
     pub may_put_ready : Picked sessions y a q
     may_put_ready = subst (λ z. Picked sessions z a q) (sym y_is) (may_put_replica a h.value h.holds sessions is h.node h.agrees h.within q held)
 
-    pub ready_back : (l : L) (ns : List SessionNote) → Possible store_rules a l ns → Back a (put_back sessions y a q l)
-    ready_back l ns may = subst (λ z. Back a (put_back sessions z a q l)) (sym y_is) (back a h.value h.holds sessions is h.node h.agrees h.within q held l ns may)
+    pub ready_back : (l : L) (ns : List SessionNote) → Possible store_rules a l ns → (run : RunOf L SessionNote Value) → Continues a.run run → Back a (put_back sessions y a q l run)
+    ready_back l ns may run on = subst (λ z. Back a (put_back sessions z a q l run)) (sym y_is) (back a h.value h.holds sessions is h.node h.agrees h.within q held l ns may run on)
 
   -- ---- and then it is back
 
@@ -118,7 +103,7 @@ module _ (k a : K) (p : ℕ) (v : Value) (h : HoldsReady k a p v) where
         }
 
     -- it has looked at that replica
-    pub looks_ready : (q : ℕ) → q ≡ p → f.steps ≡ Put q (with_replica h.value h.node) ∷ a.steps → (point : ℕ) → point ≡ h.node.replica.tail → (by : LooksBy k f point) × (by.left ≡ h.node)
+    pub looks_ready : (q : ℕ) → q ≡ p → HasStepped a (Put q (with_replica h.value h.node)) f → (point : ℕ) → point ≡ h.node.replica.tail → (by : LooksBy k f point) × (by.left ≡ h.node)
     looks_ready q same put point at =
         let here : p ≡ 1 + h.holds.node = ap held_first (sym h.held ∙ h.holds.held) in
         looks_by k h.taking a f h.loaded h.begun h.own h.node point h.grown h.begun_is h.since h.own_is h.stands h.follows h.on h.agrees h.within h.reached b.extends b.stands h.value h.some h.holds h.session p here q (same ∙ here) h.did put
@@ -126,83 +111,6 @@ module _ (k a : K) (p : ℕ) (v : Value) (h : HoldsReady k a p v) where
 
     pub agrees_now : Agrees f.progress h.node
     agrees_now = agrees_on a.progress f.progress h.node b.extends h.within h.agrees
-
-    module _ (op : Operation) (answer : ReadAnswer) (c : CatalogueView) (same : k.progress.catalogue ≡ c) (n : NodeReplica) (n_is : n ≡ h.node) (point : answer.point ≡ n.replica.tail) (reply : RepliesThere c op n answer.reply) where
-      point_is : answer.point ≡ h.node.replica.tail
-      point_is = point ∙ ap (λ (z : NodeReplica). z.replica.tail) n_is
-
-      reply_is : RepliesThere c op h.node answer.reply
-      reply_is = subst (λ z. RepliesThere c op z answer.reply) n_is reply
-
-      pub read_ready : IsReadBy k f op answer
-      read_ready =
-          let s = has_seen in record {
-            begun = s.begun;
-            more = s.more;
-            read = s.read;
-            reached = subst (λ z. s.begun ≤ z) (sym point_is) s.reached;
-            session = s.session;
-            held = s.held;
-            note = s.note;
-            extends = s.extends;
-            well_formed = s.well_formed;
-            tells = subst (λ z. ReadTells store_meaning f.progress k.progress.completed op z answer.reply) (sym point_is)
-                (told_read a.progress f.progress h.node op c k.progress.completed answer.reply b.extends h.agrees h.within s.far reply_is (sym all_along.catalogue ∙ same));
-          }
-
-      pub reads_ready : (q : ℕ) → q ≡ p → f.steps ≡ Put q (with_replica h.value h.node) ∷ a.steps → ReadsBy k f op answer
-      reads_ready q at put =
-          let t = looks_ready q at put answer.point point_is in
-          (t.0, subst (λ (z : CatalogueView × NodeReplica). RepliesThere z.0 op z.1 answer.reply) (λ i. (sym same i, sym t.1 i)) reply_is)
-
-    module _ (map from key_room value_room : ℕ) (keys values : List ℕ) (s : Scan) (n : NodeReplica) (n_is : n ≡ h.node) (point : s.point ≡ n.replica.tail) (gives : GivesThere n map from key_room value_room keys values s) where
-      here_is : s.point ≡ h.node.replica.tail
-      here_is = point ∙ ap (λ (z : NodeReplica). z.replica.tail) n_is
-
-      state_is : n.replica.state ≡ state_after store_meaning f.progress.catalogue f.progress.history s.point
-      state_is = ap (λ (z : NodeReplica). z.replica.state) n_is ∙ (agrees_now.0.state ∙ ap (state_after store_meaning f.progress.catalogue f.progress.history) (sym here_is))
-
-      shapes_are : shapes_of n.replica.state.maps ≡ f.progress.catalogue.shapes
-      shapes_are = ap (λ (z : NodeReplica). shapes_of z.replica.state.maps) n_is ∙ ap (λ (z : StateSizes). z.shapes) agrees_now.1.0
-
-      pub scans_ready : (q : ℕ) → q ≡ p → f.steps ≡ Put q (with_replica h.value h.node) ∷ a.steps → ScansBy k f map from key_room value_room keys values s
-      scans_ready q at put = let t = looks_ready q at put s.point here_is in (t.0, subst (λ z. GivesThere z map from key_room value_room keys values s) (n_is ∙ sym t.1) gives)
-
-      pub scanned_ready : IsScannedBy k f map from key_room value_room keys values s
-      scanned_ready =
-          let seen = has_seen in let far = seen.far in let low = agrees_now.0.tail in let at = here_is in (
-            subst (HasSeen k f) (sym here_is) seen,
-            (
-              gives.0,
-              record {
-                point = (omega (arith, far, at), omega (arith, low, at));
-                there = ap (λ (z : StoreState). slice_get z.maps map) (sym state_is) ∙ gives.1;
-                shape = ap (λ z. slice_get z map) (sym shapes_are) ∙ (slice_get-map (λ (x : MapState). x.shape) n.replica.state.maps map ∙ ap (option_map (λ (x : MapState). x.shape)) gives.1);
-                scans = gives.2;
-                page = gives.3;
-              },
-            ),
-          )
-
-    module _ (questions : List Question) (point : ℕ) (replies : List ℕ) (c : CatalogueView) (same : k.progress.catalogue ≡ c) (n : NodeReplica) (n_is : n ≡ h.node) (point_is : point ≡ n.replica.tail) (each : FirstReply c n questions (length questions) replies) where
-      at_point : point ≡ h.node.replica.tail
-      at_point = point_is ∙ ap (λ (z : NodeReplica). z.replica.tail) n_is
-
-      one_ready : (asked : Question) (reply : ℕ) → RepliesThere c (asked_op asked) n reply → ReadTells store_meaning f.progress k.progress.completed (asked_op asked) point reply
-      one_ready asked reply is = subst (λ z. ReadTells store_meaning f.progress k.progress.completed (asked_op asked) z reply) (sym at_point)
-          (told_read a.progress f.progress h.node (asked_op asked) c k.progress.completed reply b.extends h.agrees h.within has_seen.far (subst (λ z. RepliesThere c (asked_op asked) z reply) n_is is) (sym all_along.catalogue ∙ same))
-
-      pub each_goes_ready : (q : ℕ) → q ≡ p → f.steps ≡ Put q (with_replica h.value h.node) ∷ a.steps → EachReadsBy k f questions point replies
-      each_goes_ready q at put =
-          let t = looks_ready q at put point at_point in
-          (t.0, subst (λ (z : CatalogueView × NodeReplica). FirstReply z.0 z.1 questions (length questions) replies) (λ i. (sym same i, (n_is ∙ sym t.1) i)) each)
-
-      pub each_ready : AreReadBy k f questions point replies
-      each_ready =
-          let seen = has_seen in let far = seen.far in let low = agrees_now.0.tail in let at = at_point in (
-            subst (HasSeen k f) (sym at_point) seen,
-            (omega (arith, far, at), omega (arith, low, at), λ i asked is. let r = each i asked (slice_get_within questions i asked is) is in (r.0, r.1, one_ready asked r.0 r.2)),
-          )
 
 -- ---- a scan that is not refused
 

@@ -7,7 +7,7 @@ use Rattle.std.proofs.lemmas.List.{append-nil, append_assoc}
 use Rattle.loader.specs.CatalogueView.{CatalogueView}
 use Rattle.ownlock.specs.declared.known.ShelfStep.TheVariants.{Put, Raised, Read, Took}
 use Rattle.ownlock.specs.Rules.{leader}
-use Rattle.ownlock.specs.Seats.{tails_in}
+use Rattle.ownlock.specs.Seats.{tails_in, HasStepped}
 use Rattle.accounts.specs.Agreement.{desk_place}
 use Rattle.oplog.specs.History.{History}
 use Rattle.oplog.specs.Logs.{Log as LogView, HandView}
@@ -27,8 +27,9 @@ use Rattle.node.specs.declared.following.NodeReplica.{NodeReplica}
 use Rattle.node.specs.declared.parts.NodeBatch.{NodeBatch}
 use Rattle.node.specs.declared.parts.NodeBatch.TheVariants.{Absent, Held, InLog}
 use Rattle.store_steps.specs.Standing.{SessionKnown, Agrees, Follows, HasRaised, HoldsLog, HoldsReplica, IsLogOf, Stands}
+use Rattle.store_steps.specs.Rooms.{IsBaseDue}
 use Rattle.store_steps.specs.Whole.{AnswersBy, AppendsBy, CombinesBy, FollowsBy, HandsOver, LooksBy, MakesRoom, ReplaysBy, answer_deeds, append_deeds, append_steps, follow_deeds, if_any, look_deeds, read_steps, replay_steps, room_deeds, sees}
-use Rattle.store_steps.specs.Doing.{ADesk, ALog, AReplica, Did, Nothing, Reads, takes_and_puts}
+use Rattle.store_steps.specs.Doing.{ADesk, ALog, AReplica, Did, Nothing, takes_and_puts}
 use Rattle.store_steps.specs.Lending.{log_of, replica_of, with_log, with_replica}
 use Rattle.store_steps.specs.declared.values.Value.{Value}
 use Rattle.store_steps.proofs.Doing.{did_both, did_none, did_one, did_then, log_part, replica_part, with_log_part, with_replica_part}
@@ -86,15 +87,16 @@ module _ (l : L) (k after : K) (g : LogView) (n : NodeReplica) (is : IsLogOf l g
 
 module _ (k : K) (g : LogView) (n u : NodeReplica) (is : IsLogOf k.progress g) (f : Follows k.progress n) (behind : may_rebase g n ≡ true → u ≡ rebased g n) (stays : may_rebase g n ≡ false → u ≡ n) where
   -- there was room
-  pub makes_none : MakesRoom k k g g n u
-  makes_none = record {
+  pub makes_none : (want : ℕ) → MakesRoom want k k g g n u
+  makes_none want = record {
     low = may_rebase g n;
     full = false;
     next = false;
     later = false;
     goes = λ b d. goes_on (rebase_step k.progress.catalogue k.progress g n u (Held b) d behind stays) (Ends (sees k.progress g u (Held b) d));
+    due = λ e. absurd cc;
     is = refl;
-    did = did_none k k refl;
+    did = did_none k k refl refl;
   }
 
   abbrev c : CatalogueView
@@ -113,7 +115,7 @@ module _ (k : K) (g : LogView) (n u : NodeReplica) (is : IsLogOf k.progress g) (
   comes m true same ran = (has_next g u, λ b d. follow_step c k.progress g u m (above k.progress g u is keeps.0 keeps.1) keeps.0 (ran refl) (Held b) d (λ x. refl))
 
   -- there was none
-  module _ (after : K) (m : NodeReplica) (came : Bool) (same : came ≡ false → m ≡ u) (ran : came ≡ true → m ≡ replayed c (copied g u)) (up : HasRaised k after m.replica.tail) (holds : HoldsLog k) (past : g.base < m.replica.tail) (h : LogView) (log : h ≡ reclaimed m (told m g)) where
+  module _ (after : K) (m : NodeReplica) (came : Bool) (same : came ≡ false → m ≡ u) (ran : came ≡ true → m ≡ replayed c (copied g u)) (up : HasRaised k after m.replica.tail) (holds : HoldsLog k) (past : g.base < m.replica.tail) (h : LogView) (log : h ≡ reclaimed m (told m g)) (want : ℕ) (due : IsBaseDue want g n) where
     abbrev ahead : Bool
     ahead = nat_lt up.before.completed m.replica.tail
 
@@ -123,7 +125,7 @@ module _ (k : K) (g : LogView) (n u : NodeReplica) (is : IsLogOf k.progress g) (
     raises : (b : BatchView) (d : DeskView) → Goes c (sees k.progress g m (Held b) d) (if_any ahead (Finishes ∷ [])) (sees after.progress g m (Held b) d)
     raises b d = subst (λ z. Goes c (sees k.progress g m (Held b) d) (if_any ahead (Finishes ∷ [])) (sees after.progress z m (Held b) d)) same_log (raise_part k.progress k after g m is (store_laws.extends_self k.progress) up c (Held b) d)
 
-    pub makes_room : MakesRoom k after g h n m
+    pub makes_room : MakesRoom want k after g h n m
     unfolding Comes
     makes_room = record {
       low = may_rebase g n;
@@ -133,6 +135,7 @@ module _ (k : K) (g : LogView) (n u : NodeReplica) (is : IsLogOf k.progress g) (
       goes = λ b d. ends_as c (sees after.progress h m (Held b) d) (ap (λ z. sees after.progress z m (Held b) d) (sym log))
           (goes_on (rebase_step c k.progress g n u (Held b) d behind stays)
           (goes_on (goes_on ((comes m came same ran).1 b d) (raises b d)) (reclaim_step c after.progress g m (Held b) d past up.completed)));
+      due = λ _. due;
       is = log;
       did = subst (λ z. Did k after (Raised z ∷ [])) (ap (λ (z : LogView). z.base) (sym log)) up.did;
     }
@@ -140,9 +143,9 @@ module _ (k : K) (g : LogView) (n u : NodeReplica) (is : IsLogOf k.progress g) (
 -- ---- the batch is appended
 
 -- the session k took the log g, and is t then, m once there is room in h, and f once it has put it back
-module _ (k t m f : K) (g h h2 : LogView) (n v v2 : NodeReplica) (rs : History) (kept : RepliesView) (took : Extends k.progress t.progress) (log_is : IsLogOf t.progress g) (room : MakesRoom t m g h n v) (may : may_append rs h v ≡ true)
+module _ (k t m f : K) (g h h2 : LogView) (n v v2 : NodeReplica) (rs : History) (kept : RepliesView) (took : Extends k.progress t.progress) (log_is : IsLogOf t.progress g) (room : MakesRoom (length rs) t m g h n v) (may : may_append rs h v ≡ true)
     (log : h2 ≡ grown rs h) (node : v2 ≡ copied h2 v) (replies : kept ≡ replies_for rs h) (back_is : IsLogOf f.progress h2) (rise : m.progress.completed ≤ f.progress.completed) (low : f.progress.completed ≤ length f.progress.history)
-    (x : Value) (x_is : log_of x ≡ Some g) (took_it : t.steps ≡ Took leader x ∷ k.steps) (q : ℕ) (there : q ≡ leader) (put_it : f.steps ≡ Put q (with_log x h2) ∷ m.steps) where
+    (x : Value) (x_is : log_of x ≡ Some g) (took_it : HasStepped k (Took leader x) t) (q : ℕ) (there : q ≡ leader) (put_it : HasStepped m (Put q (with_log x h2)) f) where
   room_did : (full : Bool) → Did t m (room_deeds full h) → Did t m (room_deeds full h2)
   room_did true d = subst (λ z. Did t m (Raised z ∷ [])) (ap (λ (z : LogView). z.base) (sym log)) d
   room_did false d = d
@@ -171,6 +174,7 @@ module _ (k t m f : K) (g h h2 : LogView) (n v v2 : NodeReplica) (rs : History) 
         (goes_on (room.goes b d)
         (goes_on (append_step t.progress.catalogue m.progress h h2 v v2 b kept rs d same may log node replies)
         (Meets _ _ _ [] (others_complete t.progress.catalogue m.progress f.progress h2 v2 (InLog (record { batch = b; replies = kept })) d rise back_is low) (Ends _))));
+    due = λ e. subst (λ (z : History). IsBaseDue (length z) g n) (sym same) (room.due e);
     base = v;
     is = log ∙ (λ i. grown (sym same i) (room.is i));
     did = appends_did;
@@ -211,7 +215,7 @@ hands_over node k after g n b kept d is a grown low mine claimed there did =
 -- the answers are kept, and the replica is back
 module _ (node : ℕ) (k t a r f : K) (b : BatchView) (n v m : NodeReplica) (old new : RepliesView) (took : Extends k.progress t.progress) (found : Agrees t.progress n) (stands : Stands t) (first : AppendsBy t a b n v old)
     (then : ReplaysBy a r first.back v m old new) (since : Extends t.progress a.progress) (up : Extends a.progress r.progress) (agrees : Agrees r.progress m) (back : Extends r.progress f.progress) (stands_f : Stands f) (within : m.replica.tail ≤ length r.progress.history)
-    (w : Value) (w_is : replica_of w ≡ Some n) (took_it : t.steps ≡ Took (1 + node) w ∷ k.steps) (q : ℕ) (there : q ≡ 1 + node) (put_it : f.steps ≡ Put q (with_replica w m) ∷ r.steps) where
+    (w : Value) (w_is : replica_of w ≡ Some n) (took_it : HasStepped k (Took (1 + node) w) t) (q : ℕ) (there : q ≡ 1 + node) (put_it : HasStepped r (Put q (with_replica w m)) f) where
   answers_did : Did k f (answer_deeds (1 + node) first.full first.log first.back n m)
   answers_did = did_then k t f (Took (1 + node) (AReplica n) ∷ []) (append_deeds first.full first.log first.back ++ Raised m.replica.tail ∷ Put (1 + node) (AReplica m) ∷ [])
       (did_one k t (Took (1 + node) w) (Took (1 + node) (AReplica n)) took_it (ap (Took (1 + node)) (replica_part w n w_is)))
@@ -248,6 +252,7 @@ module _ (node : ℕ) (k t a r f : K) (b : BatchView) (n v m : NodeReplica) (old
     goes = λ d. goes_on (under t.progress.catalogue c0 (sym took.catalogue) (first.goes d))
         (then_others c0 _ _ _ (replay_steps then.more then.ahead) (under a.progress.catalogue c0 (sym to_a) (then.goes b d))
         (others r.progress f.progress then.log then.log_is back low_f c0 m (InLog (record { batch = b; replies = new })) d));
+    due = first.due;
     base = first.base;
     put = first.back;
     put_is = first.is;
@@ -299,6 +304,7 @@ module _ (node : ℕ) (k f z : K) (b : BatchView) (kept : RepliesView) (first : 
     course = first.course;
     goes = subst (λ xs. Goes k.progress.catalogue began xs ended) (append_assoc (append_steps first.low first.full first.next first.later) (replay_steps first.more first.ahead) (Replies ∷ []))
         (goes_on (first.goes last.desk) (under f.progress.catalogue k.progress.catalogue (sym on.catalogue) last.goes));
+    due = first.due;
     base = first.base;
     put = first.put;
     put_is = first.put_is;
@@ -310,7 +316,7 @@ module _ (node : ℕ) (k f z : K) (b : BatchView) (kept : RepliesView) (first : 
 -- ---- a read
 
 -- a replica that is ready follows nothing
-pub follows_none : (k : K) (n : NodeReplica) → Agrees k.progress n → Stands k → FollowsBy k k n n
+pub follows_none : (k : K) (n : NodeReplica) → Agrees k.progress n → Stands k → FollowsBy false k k n n
 follows_none k n a stands = record {
   logs = record {
     from = k.progress;
@@ -324,21 +330,20 @@ follows_none k n a stands = record {
   next = false;
   later = false;
   goes = λ d. Ends (sees k.progress (log_from k.progress n) n Absent d);
-  lacks = false;
-  did = did_none k k refl;
+  did = did_none k k refl refl;
 }
 
 -- the session k took the log g and is t then, f once it has put it back, and after once it has raised the completed tail
 module _ (k t f after : K) (g : LogView) (n u m : NodeReplica) (took : Extends k.progress t.progress) (is : IsLogOf t.progress g) (follows : Follows t.progress n) (behind : may_rebase g n ≡ true → u ≡ rebased g n) (stays : may_rebase g n ≡ false → u ≡ n)
     (ran : m ≡ replayed t.progress.catalogue (copied g u)) (on : Extends t.progress f.progress) (up : HasRaised f after m.replica.tail)
-    (x : Value) (x_is : log_of x ≡ Some g) (took_it : t.steps ≡ Took leader x ∷ k.steps) (q : ℕ) (there : q ≡ leader) (put_it : f.steps ≡ Put q x ∷ t.steps) where
+    (x : Value) (x_is : log_of x ≡ Some g) (took_it : HasStepped k (Took leader x) t) (q : ℕ) (there : q ≡ leader) (put_it : HasStepped t (Put q x) f) where
   keeps_up : Follows t.progress u × (g.base ≤ u.replica.tail)
   keeps_up = kept_up t.progress g n is follows u behind stays
 
   abbrev c1 : CatalogueView
   c1 = t.progress.catalogue
 
-  pub follows_by : FollowsBy k after n m
+  pub follows_by : FollowsBy true k after n m
   follows_by = record {
     logs = record {
       from = t.progress;
@@ -354,21 +359,23 @@ module _ (k t f after : K) (g : LogView) (n u m : NodeReplica) (took : Extends k
     goes = λ d. under c1 k.progress.catalogue (sym took.catalogue)
         (goes_on (rebase_step c1 t.progress g n u Absent d behind stays)
         (goes_on (follow_step c1 t.progress g u m (above t.progress g u is keeps_up.0 keeps_up.1) keeps_up.0 ran Absent d (λ x. refl)) (raise_part t.progress f after g m is on up c1 Absent d)));
-    lacks = true;
     did = did_then k f after (Took leader (ALog g) ∷ Put leader (ALog g) ∷ []) (Raised m.replica.tail ∷ [])
         (did_both k t f leader q leader x x (ALog g) (ALog g) took_it put_it refl there (log_part x g x_is) (log_part x g x_is)) up.did;
   }
 
 -- the whole look: the session k loaded the completed tail, which was done with the progress p, took its replica and is
 -- t then, r once that has come up, and f once it has put it back
-module _ (k t r f : K) (p : L) (done : ℕ) (n m : NodeReplica) (point : ℕ) (grown : Extends k.progress p) (done_is : done ≡ p.completed) (took : Extends p t.progress) (found : Agrees t.progress n) (stands : Stands t) (first : FollowsBy t r n m)
+module _ (k t r f : K) (p : L) (done : ℕ) (n m : NodeReplica) (point : ℕ) (grown : Extends k.progress p) (done_is : done ≡ p.completed) (took : Extends p t.progress) (found : Agrees t.progress n) (stands : Stands t) (first : FollowsBy (nat_lt n.replica.tail done) t r n m)
     (up : Extends t.progress r.progress) (agrees : Agrees r.progress m) (within : m.replica.tail ≤ length r.progress.history) (reached : done ≤ m.replica.tail) (back : Extends r.progress f.progress) (stands_f : Stands f)
     (w : Value) (w_is : replica_of w ≡ Some n) (h : HoldsReplica r w) (same : r.session ≡ k.session) (place : ℕ) (here : place ≡ 1 + h.node) (q : ℕ) (there : q ≡ 1 + h.node)
-    (begins : Did k t (Read done ∷ Took place (AReplica n) ∷ [])) (put_it : f.steps ≡ Put q (with_replica w m) ∷ r.steps) where
-  looks_did : Did k f (Read done ∷ look_deeds (1 + h.node) first.lacks first.log n m)
-  looks_did = did_then k t f (Read done ∷ Took (1 + h.node) (AReplica n) ∷ []) (follow_deeds first.lacks first.log m ++ Put (1 + h.node) (AReplica m) ∷ [])
+    (begins : Did k t (Read done ∷ Took place (AReplica n) ∷ [])) (put_it : HasStepped r (Put q (with_replica w m)) f) where
+  abbrev lacks : Bool
+  lacks = nat_lt n.replica.tail done
+
+  looks_did : Did k f (Read done ∷ look_deeds (1 + h.node) lacks first.log n m)
+  looks_did = did_then k t f (Read done ∷ Took (1 + h.node) (AReplica n) ∷ []) (follow_deeds lacks first.log m ++ Put (1 + h.node) (AReplica m) ∷ [])
       (subst (λ z. Did k t (Read done ∷ Took z (AReplica n) ∷ [])) here begins)
-      (did_then t r f (follow_deeds first.lacks first.log m) (Put (1 + h.node) (AReplica m) ∷ []) first.did
+      (did_then t r f (follow_deeds lacks first.log m) (Put (1 + h.node) (AReplica m) ∷ []) first.did
       (did_one r f (Put q (with_replica w m)) (Put (1 + h.node) (AReplica m)) put_it (λ i. Put (there i) (with_replica_part w n m w_is i))))
 
   abbrev c2 : CatalogueView
@@ -412,9 +419,9 @@ module _ (k t r f : K) (p : L) (done : ℕ) (n m : NodeReplica) (point : ℕ) (g
           at = at;
           node = h.node;
           mine = subst (λ (z : Sizes × ℕ). IsSessionOf z.0 h.node z.1) (λ i. (sym all_config i, same i)) h.own;
-          tries = Read done ∷ [];
-          nothing = Reads done [] Nothing;
-          lacks = first.lacks;
+          tries = [];
+          nothing = Nothing;
+          loaded = done;
           did = looks_did;
         },
         refl,

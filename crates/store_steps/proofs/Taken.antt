@@ -5,7 +5,7 @@ use Rattle.std.proofs.lemmas.Option.{none-some, same_Some}
 use Rattle.loader.specs.StoreState.{StoreState}
 use Rattle.ownlock.specs.declared.known.ShelfStep.TheVariants.{Took}
 use Rattle.ownlock.specs.Rules.{leader}
-use Rattle.ownlock.specs.Seats.{At, IsSession, place_of}
+use Rattle.ownlock.specs.Seats.{At, IsSession, place_of, HasStepped}
 use Rattle.ownlock.specs.Knowledge.{Acquired, MayTake}
 use Rattle.loader.specs.CatalogueView.{CatalogueView}
 use Rattle.oplog.specs.declared.configuration.Sizes.{Sizes}
@@ -88,7 +88,7 @@ may_take_replica k caller free = (may_take_first session_laws view_of IsSized k 
 -- what it is, once it has taken it
 pub record TookReplica (p : ℕ) (k t : K) (w : Value) : Type 0 where
   pub held : t.held ≡ (p, w) ∷ []
-  pub steps : t.steps ≡ Took p w ∷ k.steps
+  pub steps : HasStepped k (Took p w) t
   pub session : t.session ≡ k.session
   pub note : t.note ≡ k.note
   pub extends : Extends k.progress t.progress
@@ -136,7 +136,7 @@ pub record TookLog (k t : K) (n : NodeReplica) (x : Value) : Type 0 where
   pub note : t.note ≡ k.note
   pub extends : Extends k.progress t.progress
   pub held : t.held ≡ (0, x) ∷ k.held
-  pub steps : t.steps ≡ Took 0 x ∷ k.steps
+  pub steps : HasStepped k (Took 0 x) t
   pub some : IsSome (log_of x)
   pub log : (g : LogView) → log_of x ≡ Some g → IsLogOf t.progress g
   pub follows : Follows t.progress n

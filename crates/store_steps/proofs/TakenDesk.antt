@@ -2,7 +2,7 @@
 use Rattle.std.proofs.Common.{◌≡◌, ℕ, ◌<◌, List, [], ◌∷◌, length, sym, refl, ap, ◌∙◌, subst, Some, eq-eqb, if◌then◌else◌}
 use lib.ListN.{get_elem?}
 use Rattle.ownlock.specs.declared.known.ShelfStep.TheVariants.{Put, Took}
-use Rattle.ownlock.specs.Seats.{At, without}
+use Rattle.ownlock.specs.Seats.{At, without, Continues, HasStepped, Run as RunOf}
 use Rattle.ownlock.specs.Knowledge.{Acquired, MayPut, MayTake, Possible}
 use Rattle.loader.specs.CatalogueView.{CatalogueView}
 use Rattle.oplog.specs.declared.configuration.Sizes.{Sizes}
@@ -50,7 +50,7 @@ pub record TookDesk (caller : Caller) (k t : K) (p : ℕ) (v : Value) : Type 0 w
   pub note : t.note ≡ k.note
   pub extends : Extends k.progress t.progress
   pub held : t.held ≡ (p, v) ∷ []
-  pub steps : t.steps ≡ Took p v ∷ k.steps
+  pub steps : HasStepped k (Took p v) t
   pub desk : DeskView
   pub node : desk.node ≡ caller.node
   pub seen : view_of v ≡ TheDesk desk
@@ -116,19 +116,20 @@ abbrev pub DeskMayBePut : DeskDeed → List K → K → ℕ → Value → Type 0
 DeskMayBePut deed sessions t p w = MayPut store_rules (put_progress sessions (view_of w)) (put_note (desk_noting view_of deed) sessions (view_of w)) t p w
 
 -- what the session has become then
-abbrev pub desk_back : DeskDeed → List K → K → ℕ → Value → L → K
-desk_back deed sessions t p w l = record {
+abbrev pub desk_back : DeskDeed → List K → K → ℕ → Value → L → RunOf L SessionNote Value → K
+desk_back deed sessions t p w l run = record {
   session = t.session;
   progress = put_progress sessions (view_of w) l;
   note = put_note (desk_noting view_of deed) sessions (view_of w) t.note;
   held = without p t.held;
   steps = Put p w ∷ t.steps;
+  run = run;
 }
 
 -- the desk may be put back at the place q, and what the session is then
 pub record PutsDesk (k t : K) (sessions : List K) (deed : DeskDeed) (w : Value) (n : SessionNote) (q : ℕ) : Type 0 where
   pub may : DeskMayBePut deed sessions t q w
-  pub back : (l : L) (ns : List SessionNote) → Possible store_rules t l ns → BackDesk k (desk_back deed sessions t q w l) n
+  pub back : (l : L) (ns : List SessionNote) → Possible store_rules t l ns → (run : RunOf L SessionNote Value) → Continues t.run run → BackDesk k (desk_back deed sessions t q w l run) n
 
 module _ (caller : Caller) (k t : K) (p : ℕ) (v : Value) (b : TookDesk caller k t p v) (sessions : List K) (is : sessions ≡ t ∷ []) where
   at_desk : At 0 (p, v) t.held
@@ -148,9 +149,9 @@ module _ (caller : Caller) (k t : K) (p : ℕ) (v : Value) (b : TookDesk caller 
     pub may_put_desk : DeskMayBePut deed sessions t p w
     may_put_desk = desk_picked store_meaning view_of IsSized deed sessions t p v w b.desk y n holds noted is
 
-    pub back_desk : (l : L) (ns : List SessionNote) → Possible store_rules t l ns → BackDesk k (desk_back deed sessions t p w l) n
-    back_desk l ns may =
-        let a = puts_account session_laws view_of session_notes IsSized (put_progress sessions (view_of w)) (put_note (desk_noting view_of deed) sessions (view_of w)) t p w l ns may_put_desk may in
+    pub back_desk : (l : L) (ns : List SessionNote) → Possible store_rules t l ns → (run : RunOf L SessionNote Value) → Continues t.run run → BackDesk k (desk_back deed sessions t p w l run) n
+    back_desk l ns may run on =
+        let a = puts_account session_laws view_of session_notes IsSized (put_progress sessions (view_of w)) (put_note (desk_noting view_of deed) sessions (view_of w)) t p w l ns run may_put_desk may on in
         record {
           session = a.session ∙ b.session;
           held = a.held ∙ (ap (without p) b.held ∙ none_left p v);
@@ -170,10 +171,10 @@ module _ (caller : Caller) (k t : K) (p : ℕ) (v : Value) (b : TookDesk caller 
     pub may_put_same_desk : MayPut store_rules (put_progress sessions (view_of w)) (put_note session_noting sessions (view_of w)) t p w
     may_put_same_desk = same_picked session_laws view_of session_notes IsSized sessions t p 0 v w at_desk same kept is
 
-    pub back_same_desk : (l : L) (ns : List SessionNote) → Possible store_rules t l ns
-        → BackDesk k (record { session = t.session; progress = put_progress sessions (view_of w) l; note = put_note session_noting sessions (view_of w) t.note; held = without p t.held; steps = Put p w ∷ t.steps }) k.note
-    back_same_desk l ns may =
-        let a = puts_account session_laws view_of session_notes IsSized (put_progress sessions (view_of w)) (put_note session_noting sessions (view_of w)) t p w l ns may_put_same_desk may in
+    pub back_same_desk : (l : L) (ns : List SessionNote) → Possible store_rules t l ns → (run : RunOf L SessionNote Value) → Continues t.run run
+        → BackDesk k (record { session = t.session; progress = put_progress sessions (view_of w) l; note = put_note session_noting sessions (view_of w) t.note; held = without p t.held; steps = Put p w ∷ t.steps; run = run }) k.note
+    back_same_desk l ns may run on =
+        let a = puts_account session_laws view_of session_notes IsSized (put_progress sessions (view_of w)) (put_note session_noting sessions (view_of w)) t p w l ns run may_put_same_desk may on in
         record {
           session = a.session ∙ b.session;
           held = a.held ∙ (ap (without p) b.held ∙ none_left p v);

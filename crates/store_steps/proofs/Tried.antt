@@ -1,33 +1,26 @@
 -- A session that found a place held: what it was free to do it still is, and what its last try tells holds from its first one on.
 use Rattle.std.proofs.Common.{◌≡◌, ℕ, ◌+◌, ◌≤◌, Some, List, [], ◌∷◌, ◌++◌, length, append-nil, append_assoc, sym, refl, ap, ◌∙◌, subst, arith}
-use Rattle.std.specs.Prelude.{nat_le}
+use Rattle.std.specs.Prelude.{nat_le, nat_lt}
 use Rattle.std.proofs.lemmas.Bool.{and_from, and_parts, le-leb, leb-true}
 use Rattle.ownlock.specs.declared.known.ShelfStep.{ShelfStep}
 use Rattle.ownlock.specs.declared.known.ShelfStep.TheVariants.{Put, Read, Took}
-use Rattle.ownlock.specs.Seats.{having_read, tails_in}
+use Rattle.ownlock.specs.Seats.{having_read, tails_in, Continues, HasStepped, Run as RunOf}
 use Rattle.oplog.specs.declared.configuration.Sizes.{Sizes}
 use Rattle.oplog.specs.Sessions.{IsSessionOf}
 use Rattle.ownlock.specs.Knowledge.{Possible}
 use Rattle.loader.specs.CatalogueView.{CatalogueView}
-use Rattle.oplog.specs.Operations.{Operation}
 use Rattle.combiner.specs.Desks.{BatchView}
-use Rattle.readpath.specs.declared.reading.ReadAnswer.{ReadAnswer}
 use Rattle.replica.specs.Views.{RepliesView}
 use Rattle.accounts.specs.declared.sessions.Progress.{Progress}
 use Rattle.accounts.specs.declared.sessions.SessionNote.{SessionNote}
 use Rattle.node.specs.declared.following.NodeReplica.{NodeReplica}
 use Rattle.store_steps.specs.declared.values.Value.{Value}
 use Rattle.store_steps.specs.Combining.{HasAnswered, HasClaimed, HasCombined}
-use Rattle.store_steps.specs.declared.scanning.Scan.{Scan}
-use Rattle.store_steps.specs.declared.steps.Question.{Question}
-use Rattle.store_steps.specs.Questions.{AreReadBy, FirstReply}
-use Rattle.store_steps.specs.Scanning.{GivesThere, HasSeen, IsScannedBy}
-use Rattle.store_steps.specs.Views.{IsReadBy, RepliesThere}
+use Rattle.store_steps.specs.Sights.{HasSeen}
 use Rattle.store_steps.specs.Shelving.{store_rules}
 use Rattle.store_steps.specs.Standing.{Agrees, SessionKnown, Stands}
 use Rattle.store_steps.specs.Trying.{BeginsBelow, IsStill}
-use Rattle.store_steps.specs.Looking.{EachReadsBy, ScansBy}
-use Rattle.store_steps.specs.Whole.{AnswersBy, BetweenReplicas, LooksBy, ReadsBy, answer_deeds, look_deeds}
+use Rattle.store_steps.specs.Whole.{AnswersBy, BetweenReplicas, LooksBy, answer_deeds, look_deeds}
 use Rattle.store_steps.specs.Doing.{AReplica, Did, Nothing, Part, PutsBack, Reads}
 use Rattle.store_steps.specs.Lending.{replica_of, with_replica}
 use Rattle.store_steps.proofs.Doing.{did_both, did_none, did_one, did_then, nothing_on, replica_part, with_replica_part}
@@ -63,11 +56,11 @@ still_self k none = record {
   below = tt;
   tries = [];
   nothing = Nothing;
-  did = did_none k k refl;
+  did = did_none k k refl refl;
 }
 
 -- its node's replica was put back as it was taken
-pub still_back : (p q : ℕ) (k t f : K) (w : Value) (n : NodeReplica) → TookReplica p k t w → Back t f → replica_of w ≡ Some n → q ≡ p → f.steps ≡ Put q (with_replica w n) ∷ t.steps → IsStill k f
+pub still_back : (p q : ℕ) (k t f : K) (w : Value) (n : NodeReplica) → TookReplica p k t w → Back t f → replica_of w ≡ Some n → q ≡ p → HasStepped t (Put q (with_replica w n)) f → IsStill k f
 still_back p q k t f w n b e is at put = record {
   session = e.session ∙ b.session;
   held = e.held;
@@ -75,7 +68,7 @@ still_back p q k t f w n b e is at put = record {
   extends = store_laws.extends_on k.progress t.progress f.progress b.extends e.extends;
   well_formed = λ _. well_formed f.progress e.stands.notes e.stands.accounts;
   more = [];
-  read = e.tails ∙ (ap tails_in b.steps ∙ sym (append-nil (tails_in k.steps)));
+  read = e.tails ∙ (ap tails_in b.steps.0 ∙ sym (append-nil (tails_in k.steps)));
   below = tt;
   tries = Took p (AReplica n) ∷ Put p (AReplica n) ∷ [];
   nothing = PutsBack p n [] Nothing;
@@ -83,8 +76,8 @@ still_back p q k t f w n b e is at put = record {
 }
 
 -- it has read the completed tail alone, which is that of the progress l
-pub still_told : (k : K) (l : L) (n : ℕ) (ns : List SessionNote) → k.held ≡ [] → Possible store_rules k l ns → n ≡ l.completed → IsStill k (having_read k l n)
-still_told k l n ns none can is = record {
+pub still_told : (k : K) (l : L) (n : ℕ) (ns : List SessionNote) (run : RunOf L SessionNote Value) → k.held ≡ [] → Possible store_rules k l ns → n ≡ l.completed → Continues k.run run → IsStill k (having_read k l n run)
+still_told k l n ns run none can is on = record {
   session = refl;
   held = none;
   note = refl;
@@ -95,7 +88,7 @@ still_told k l n ns none can is = record {
   below = omega (arith, is);
   tries = Read n ∷ [];
   nothing = Reads n [] Nothing;
-  did = did_one k (having_read k l n) (Read n) (Read n) refl refl;
+  did = did_one k (having_read k l n run) (Read n) (Read n) (refl, on) refl;
 }
 
 begins_on : (ms ns : List ℕ) (low high : ℕ) → low ≤ high → BeginsBelow ms low → BeginsBelow ns high → BeginsBelow (ms ++ ns) high
@@ -147,6 +140,7 @@ answers_since node k m f b kept s a = record {
   ends = ends_since k m f s a.ends;
   course = a.course;
   goes = λ d. under m.progress.catalogue k.progress.catalogue (sym s.extends.catalogue) (a.goes d);
+  due = a.due;
   base = a.base;
   put = a.put;
   put_is = a.put_is;
@@ -201,36 +195,6 @@ module _ (k m f : K) (s : IsStill k m) where
         well_formed = r.well_formed;
       }
 
-  pub scanned_since : (map from key_room value_room : ℕ) (keys values : List ℕ) (scan : Scan) → IsScannedBy m f map from key_room value_room keys values scan → IsScannedBy k f map from key_room value_room keys values scan
-  scanned_since map from key_room value_room keys values scan t =
-      let up = s.extends.completed in let told = t.1.1 in let far = told.point.0 in (
-        seen_since scan.point t.0,
-        (t.1.0, record { point = (omega (arith, up, far), told.point.1); there = told.there; shape = told.shape; scans = told.scans; page = told.page }),
-      )
-
-  pub each_since : (questions : List Question) (point : ℕ) (replies : List ℕ) → AreReadBy m f questions point replies → AreReadBy k f questions point replies
-  each_since questions point replies t =
-      let up = s.extends.completed in let far = t.1.0 in (
-        seen_since point t.0,
-        (omega (arith, up, far), t.1.1, λ i asked is. let r = t.1.2 i asked is in (r.0, r.1, (omega (arith, up, far), r.2.1, r.2.2))),
-      )
-
-module _ (k m f : K) (op : Operation) (answer : ReadAnswer) (s : IsStill k m) where
-  pub read_since : IsReadBy m f op answer → IsReadBy k f op answer
-  read_since r =
-      let up = s.extends.completed in let far = r.tells.0 in record {
-        begun = first_read s.more r.begun;
-        more = later_reads s.more r.begun r.more;
-        read = reads k m f s r.begun r.more r.read;
-        reached = first_below s.more r.begun m.progress.completed answer.point s.below far r.reached;
-        session = r.session ∙ s.session;
-        held = r.held;
-        note = r.note ∙ s.note;
-        extends = store_laws.extends_on k.progress m.progress f.progress s.extends r.extends;
-        well_formed = r.well_formed;
-        tells = (omega (arith, up, far), r.tells.1, r.tells.2);
-      }
-
 module _ (k m f : K) (s : IsStill k m) where
   -- it looked at the same replica
   pub looks_since : (point : ℕ) → m.progress.completed ≤ point → (r : LooksBy m f point) → (by : LooksBy k f point) × (by.left ≡ r.left)
@@ -254,23 +218,8 @@ module _ (k m f : K) (s : IsStill k m) where
           mine = subst (λ (z : Sizes × ℕ). IsSessionOf z.0 r.node z.1) (λ i. (sym s.extends.config i, s.session i)) r.mine;
           tries = s.tries ++ r.tries;
           nothing = nothing_on s.nothing r.nothing;
-          lacks = r.lacks;
-          did = tried_then k m f s.tries r.tries (look_deeds (1 + r.node) r.lacks r.log r.own r.left) s.did r.did;
+          loaded = r.loaded;
+          did = tried_then k m f s.tries r.tries (Read r.loaded ∷ look_deeds (1 + r.node) (nat_lt r.own.replica.tail r.loaded) r.log r.own r.left) s.did r.did;
         },
         refl,
       )
-
-  pub reads_since : (op : Operation) (answer : ReadAnswer) → m.progress.completed ≤ answer.point → ReadsBy m f op answer → ReadsBy k f op answer
-  reads_since op answer far r =
-      let t = looks_since answer.point far r.0 in
-      (t.0, subst (λ (z : CatalogueView × NodeReplica). RepliesThere z.0 op z.1 answer.reply) (λ i. (sym s.extends.catalogue i, sym t.1 i)) r.1)
-
-  pub each_goes_since : (questions : List Question) (point : ℕ) (replies : List ℕ) → m.progress.completed ≤ point → EachReadsBy m f questions point replies → EachReadsBy k f questions point replies
-  each_goes_since questions point replies far r =
-      let t = looks_since point far r.0 in
-      (t.0, subst (λ (z : CatalogueView × NodeReplica). FirstReply z.0 z.1 questions (length questions) replies) (λ i. (sym s.extends.catalogue i, sym t.1 i)) r.1)
-
-  pub scan_goes_since : (map from key_room value_room : ℕ) (keys values : List ℕ) (scan : Scan) → m.progress.completed ≤ scan.point → ScansBy m f map from key_room value_room keys values scan → ScansBy k f map from key_room value_room keys values scan
-  scan_goes_since map from key_room value_room keys values scan far r =
-      let t = looks_since scan.point far r.0 in
-      (t.0, subst (λ z. GivesThere z map from key_room value_room keys values scan) (sym t.1) r.1)

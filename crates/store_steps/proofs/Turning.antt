@@ -2,7 +2,7 @@
 use Rattle.std.proofs.Common.{◌≡◌, ℕ, ◌+◌, ◌*◌, ◌-◌, ◌<◌, List, [], ◌∷◌, length, sym, refl, ap, ◌∙◌, subst, arith, Option, Some, None, slice_get}
 use mathlib.Core.Bool.{false}
 use Rattle.std.specs.Option.{option_and_then, option_map}
-use Rattle.ownlock.specs.Seats.{At}
+use Rattle.ownlock.specs.Seats.{At, Continues, Run as RunOf}
 use Rattle.ownlock.specs.Knowledge.{Possible}
 use Rattle.loader.specs.CatalogueView.{CatalogueView}
 use Rattle.oplog.specs.Operations.{Operation}
@@ -147,17 +147,17 @@ module _ (caller : Caller) (k t : K) (p : ℕ) (v w : Value) (o : Pending) (b : 
   -- what the turn comes to
   pub record Put (batch : BatchView) (turn : Turn) : Type 0 where
     pub may : DeskMayBePut (deed_in sessions w) sessions t p w
-    pub back : (l : L) (ns : List SessionNote) → Possible store_rules t l ns → HasTurned k (desk_back (deed_in sessions w) sessions t p w l) o batch turn
+    pub back : (l : L) (ns : List SessionNote) → Possible store_rules t l ns → (run : RunOf L SessionNote Value) → Continues t.run run → HasTurned k (desk_back (deed_in sessions w) sessions t p w l run) o batch turn
 
   -- one that is noted
   noted_put : (batch : BatchView) (turn : Turn) (deed : DeskDeed) (y : DeskView) (n : SessionNote) → view_of w ≡ TheDesk y → Steps t b.desk n y → desk_note view_of deed t y t.note ≡ n → deed_in sessions w ≡ deed
       → ((f : K) → f.note ≡ n → Extends t.progress f.progress → IsBack k f → Turns k f o batch turn) → Put batch turn
   noted_put batch turn deed y n isw step noted deed_eq tells = record {
     may = subst (λ d. DeskMayBePut d sessions t p w) (sym deed_eq) (may_put_desk caller k t p v b sessions is deed w y n isw step noted);
-    back = λ l ns can.
-        let f = back_desk caller k t p v b sessions is deed w y n isw step noted l ns can in
+    back = λ l ns can run on.
+        let f = back_desk caller k t p v b sessions is deed w y n isw step noted l ns can run on in
         let same = ap (λ g. g l) (desk_picks store_meaning view_of IsSized deed sessions t w y is isw).0 in
-        subst (λ d. HasTurned k (desk_back d sessions t p w l) o batch turn) (sym deed_eq)
+        subst (λ d. HasTurned k (desk_back d sessions t p w l run) o batch turn) (sym deed_eq)
         (record { back = is_back k _ n f; turns = tells _ f.note (subst (λ z. Extends t.progress z) (sym same) can.0.0) (is_back k _ n f) });
   }
 
@@ -186,7 +186,7 @@ module _ (caller : Caller) (k t : K) (p : ℕ) (v w : Value) (o : Pending) (b : 
           let same : view_of w ≡ view_of v = isw ∙ (ap TheDesk i.2 ∙ sym b.seen) in
           let deed = look_deed y isw i.0 i.2 in record {
             may = subst (λ d. DeskMayBePut d sessions t p w) (sym deed) (may_put_same_desk caller k t p v b sessions is w same);
-            back = λ l ns can.
-                let f = back_same_desk caller k t p v b sessions is w same l ns can in
-                subst (λ d. HasTurned k (desk_back d sessions t p w l) o batch Waits) (sym deed) (record { back = is_back k _ k.note f; turns = f.note });
+            back = λ l ns can run on.
+                let f = back_same_desk caller k t p v b sessions is w same l ns can run on in
+                subst (λ d. HasTurned k (desk_back d sessions t p w l run) o batch Waits) (sym deed) (record { back = is_back k _ k.note f; turns = f.note });
           }

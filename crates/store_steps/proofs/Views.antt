@@ -11,7 +11,7 @@ abbrev S : Type 0
 S = StoreSeat
 
 abbrev pub view_known : ShelfId → K → SessionView
-view_known shelf k = record { shelf = shelf; session = k.session; progress = k.progress; note = k.note; steps = k.steps }
+view_known shelf k = record { shelf = shelf; session = k.session; progress = k.progress; note = k.note; steps = k.steps; run = k.run }
 
 pub seen_as : (s : S) (k : K) → IsSession s k → session_view s ≡ view_known s.shelf k
 seen_as s k is = ap (λ z. session_view (record { shelf = s.shelf; sessions = z })) is

@@ -1,5 +1,6 @@
 -- What a session has done on the shelf that took its desk and put it back.
-use Rattle.std.proofs.Common.{◌≡◌, ℕ, ◌∷◌, sym, ap, ◌∙◌, subst, Some}
+use Rattle.ownlock.specs.Seats.{HasStepped}
+use Rattle.std.proofs.Common.{◌≡◌, ℕ, sym, ap, ◌∙◌, subst, Some}
 use Rattle.ownlock.specs.declared.known.ShelfStep.TheVariants.{Put}
 use Rattle.oplog.specs.Operations.{Operation}
 use Rattle.oplog.specs.Sessions.{session}
@@ -23,7 +24,7 @@ pub desk_node : (caller : Caller) (k t : K) (p : ℕ) (v : Value) (b : TookDesk 
 desk_node caller k t p v b x is = ap (λ (z : DeskView). z.node) (sym (same_desk caller k t p v b x is)) ∙ b.node
 
 -- the session k took its desk, which is x, from the place p, and is t then, and f once it has put it back as y
-module _ (caller : Caller) (k t : K) (p : ℕ) (v : Value) (b : TookDesk caller k t p v) (free : IsFree caller k) (place : p ≡ desk_place k.progress.config caller.node) (x y : DeskView) (is : desk_of v ≡ Some x) (f : K) (q : ℕ) (at : q ≡ p) (put : f.steps ≡ Put q (with_desk v y) ∷ t.steps) where
+module _ (caller : Caller) (k t : K) (p : ℕ) (v : Value) (b : TookDesk caller k t p v) (free : IsFree caller k) (place : p ≡ desk_place k.progress.config caller.node) (x y : DeskView) (is : desk_of v ≡ Some x) (f : K) (q : ℕ) (at : q ≡ p) (put : HasStepped t (Put q (with_desk v y)) f) where
   pub did_at_desk : Did k f (takes_and_puts (desk_place k.progress.config caller.node) (ADesk x) (ADesk y))
   did_at_desk = did_both k t f p q (desk_place k.progress.config caller.node) v (with_desk v y) (ADesk x) (ADesk y) b.steps put place (at ∙ place) (desk_part v x is) (with_desk_part v x y is)
 

@@ -3,6 +3,7 @@ use Rattle.std.specs.Prelude.{◌≡◌, ℕ, List, [], ◌∷◌, map}
 use Rattle.ownlock.specs.declared.known.Known.{Known}
 use Rattle.ownlock.specs.declared.known.ShelfStep.{ShelfStep}
 use Rattle.ownlock.specs.declared.known.ShelfStep.TheVariants.{Took, Put, Read, Raised}
+use Rattle.ownlock.specs.Seats.{Continues}
 use Rattle.oplog.specs.Logs.{Log as LogView}
 use Rattle.combiner.specs.Desks.{DeskView}
 use Rattle.node.specs.declared.following.NodeReplica.{NodeReplica}
@@ -32,11 +33,12 @@ abbrev pub and_then : List (ShelfStep Value) → List (ShelfStep Value) → List
 and_then taken [] = taken
 and_then taken (s ∷ ss) = and_then (s ∷ taken) ss
 
--- since it knew k the session has taken just these steps on the shelf, in this order
+-- since it knew k the session has taken exactly these steps on the shelf, in this order, and the run that it knows has gone on
 pub record Did {P N : Type 0} (k after : Known P N Value) (steps : List (ShelfStep Part)) : Type 0 where
   pub since : List (ShelfStep Value)
   pub all : after.steps ≡ and_then k.steps since
   pub are : map of_part since ≡ steps
+  pub goes_on : Continues k.run after.run
 
 -- a part is taken from its place, and put back there as another
 abbrev pub takes_and_puts : ℕ → Part → Part → List (ShelfStep Part)

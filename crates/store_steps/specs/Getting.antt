@@ -1,18 +1,15 @@
 -- The value under one key: why it is refused to look for one, and what is told of it.
-use Rattle.std.specs.Prelude.{◌≡◌, ℕ, ◌≤◌, Bool, true, false, List, Option, Some, None, Result, slice_get, nat_eq, if◌then◌else◌, MatchResult}
+use Rattle.std.specs.Prelude.{◌≡◌, ℕ, Bool, true, false, List, Option, Some, None, Result, slice_get, nat_eq, if◌then◌else◌, MatchResult}
 use Rattle.maps.specs.declared.shapes.Shape.{Shape}
 use Rattle.maps.specs.Maps.{Maps, value_at}
 use Rattle.maps.specs.Shapes.{key_size, value_size}
 use Rattle.loader.specs.CatalogueView.{CatalogueView}
-use Rattle.oplog.specs.History.{state_after}
-use Rattle.replica.specs.StoreMeaning.{store_meaning}
 use Rattle.accounts.specs.declared.sessions.Progress.{Progress}
 use Rattle.store_steps.specs.declared.getting.GetRefused.{GetRefused}
 use Rattle.store_steps.specs.declared.getting.GetRefused.TheVariants.{UnknownMap, KeyLength, ValueLength}
 use Rattle.store_steps.specs.declared.getting.Lookup.{Lookup}
-use Rattle.store_steps.specs.Scanning.{HasSeen}
+use Rattle.store_steps.specs.Sights.{SightBy, SightTells}
 use Rattle.store_steps.specs.Standing.{SessionKnown}
-use Rattle.store_steps.specs.Whole.{LooksBy}
 
 -- ---- which are refused
 
@@ -50,8 +47,7 @@ IsUnder maps map key old new found = (value_at maps map key ≡ value_if found.f
 -- a key was looked for by a call that began when so many operations were completed: its point lies from there to the completed tail at its end,
 -- and what was found is what stands under the key after the operations before that point
 abbrev pub GetTells : Progress CatalogueView → (begun map : ℕ) → (key old new : List ℕ) → Lookup → Type 0
-GetTells l begun map key old new found =
-    (begun ≤ found.point) × (found.point ≤ l.completed) × IsUnder (state_after store_meaning l.catalogue l.history found.point).maps map key old new found
+GetTells l begun map key old new found = SightTells (λ c state. IsUnder state.maps map key old new found) l begun found.point
 
 -- ---- by what maps have, and by what a session knows
 
@@ -59,10 +55,6 @@ GetTells l begun map key old new found =
 abbrev pub FitsIn : List Shape → (map key room : ℕ) → Type 0
 FitsIn shapes map key room = (shape : Shape) × (slice_get shapes map ≡ Some shape) × (key ≡ key_size shape) × (room ≡ value_size shape)
 
--- a session's look for a key
-abbrev pub IsGotBy : (k after : SessionKnown) → (map : ℕ) → (key old new : List ℕ) → Lookup → Type 0
-IsGotBy k after map key old new found = HasSeen k after found.point × GetTells after.progress k.progress.completed map key old new found
-
--- its steps: one look, and what was found stands in the replica's maps
+-- the steps of a look for a key: one look, and what was found stands in the replica's maps
 abbrev pub GetsBy : (k after : SessionKnown) → (map : ℕ) → (key old new : List ℕ) → Lookup → Type 0
-GetsBy k after map key old new found = (by : LooksBy k after found.point) × IsUnder by.left.replica.state.maps map key old new found
+GetsBy k after map key old new found = SightBy (λ c state. IsUnder state.maps map key old new found) found.point k after

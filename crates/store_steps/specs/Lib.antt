@@ -7,6 +7,9 @@ pub mod Views
 -- What scans and several reads are refused, and what they tell.
 pub mod Scanning
 pub mod Questions
+-- What each look says of a node's state, and the steps of a look.
+pub mod Sights
+pub mod Seen
 -- States that are taken, and what stands under one key.
 pub mod Snapshots
 pub mod Getting

@@ -1,5 +1,5 @@
 -- A session that holds its node's replica, once that has come up.
-use Rattle.std.specs.Prelude.{◌≡◌, ℕ, ◌≤◌, [], ◌∷◌, ◌++◌, length, Some}
+use Rattle.std.specs.Prelude.{◌≡◌, ℕ, ◌≤◌, [], ◌∷◌, ◌++◌, length, nat_lt, Some}
 use Rattle.ownlock.specs.declared.known.ShelfStep.TheVariants.{Read, Took}
 use Rattle.ownlock.specs.Seats.{tails_in}
 use Rattle.loader.specs.CatalogueView.{CatalogueView}
@@ -29,7 +29,8 @@ pub record HoldsReady (k after : SessionKnown) (place : ℕ) (v : Value) : Type 
   -- what the replica has become
   pub node : NodeReplica
   pub on : Extends taking.progress after.progress
-  pub follows : FollowsBy taking after own node
+  -- it has come up with the log if and only if it was below the tail
+  pub follows : FollowsBy (nat_lt own.replica.tail begun) taking after own node
   pub agrees : Agrees after.progress node
   pub within : node.replica.tail ≤ length after.progress.history
   pub reached : begun ≤ node.replica.tail

@@ -1,20 +1,17 @@
 -- Scans of a map: why one is refused, and what one tells.
-use Rattle.std.specs.Prelude.{◌≡◌, ℕ, ◌≤◌, ◌<◌, ◌++◌, ◌∷◌, List, [], length, Option, Some, None, slice_get, nat_lt, if◌then◌else◌, IfSome}
+use Rattle.std.specs.Prelude.{◌≡◌, ℕ, ◌<◌, List, length, Option, Some, None, slice_get, nat_lt, if◌then◌else◌, IfSome}
 use Rattle.maps.specs.declared.shapes.Shape.{Shape}
+use Rattle.maps.specs.Maps.{MapState}
 use Rattle.maps.specs.MapSets.{Stored, map_of}
 use Rattle.maps.specs.Shapes.{entry_count}
 use Rattle.maps.specs.Scans.{IsPage, KeyValue, Scans, given, room_in}
 use Rattle.loader.specs.CatalogueView.{CatalogueView}
-use Rattle.oplog.specs.History.{state_after}
-use Rattle.replica.specs.StoreMeaning.{store_meaning}
+use Rattle.loader.specs.StoreState.{StoreState}
 use Rattle.accounts.specs.declared.sessions.Progress.{Progress}
-use Rattle.accounts.specs.Accounts.{Extends, IsWellFormed}
-use Rattle.node.specs.declared.following.NodeReplica.{NodeReplica}
 use Rattle.store_steps.specs.declared.scanning.Scan.{Scan}
 use Rattle.store_steps.specs.declared.scanning.ScanRefused.{ScanRefused}
 use Rattle.store_steps.specs.declared.scanning.ScanRefused.TheVariants.{UnknownMap, UnknownPlace}
-use Rattle.ownlock.specs.Seats.{tails_in}
-use Rattle.store_steps.specs.Standing.{SessionKnown}
+use Rattle.store_steps.specs.Sights.{SightTells}
 
 -- ---- which scans are refused
 
@@ -34,48 +31,31 @@ scan_refusal c map from = place_fault from (slice_get c.shapes map)
 
 -- ---- what a scan tells
 
--- a scan of the map of this number, from a place on, began when so many operations were completed: its point lies from there to the completed
--- tail at its end, m is that map after the operations before that point, with its keys at their places in the replica of the session's node,
--- and these entries are the page of m from that place on
-pub record ScanTells (l : Progress CatalogueView) (begun map from room : ℕ) (m : Stored) (entries : List KeyValue) (s : Scan) : Type 0 where
-  pub point : (begun ≤ s.point) × (s.point ≤ l.completed)
-  pub there : slice_get (state_after store_meaning l.catalogue l.history s.point).maps map ≡ Some (map_of m)
-  pub shape : slice_get l.catalogue.shapes map ≡ Some m.shape
+-- A scan of the map of this number, from a place on: m is that map in this state with its keys at some places, and these entries are the page of
+-- m from that place on. Nothing here says that two scans have their keys at the same places: that is only tested.
+pub record Scanned (c : CatalogueView) (state : StoreState) (map from room : ℕ) (m : Stored) (entries : List KeyValue) (s : Scan) : Type 0 where
+  pub there : slice_get state.maps map ≡ Some (map_of m)
+  pub shape : slice_get c.shapes map ≡ Some m.shape
   pub scans : Scans (map_of m) from room entries s.next
   pub page : IsPage m from entries s.next
 
 -- the same, where there was room for so many bytes of keys and of values, and these bytes stand there at the end
-abbrev pub ScanGives : Progress CatalogueView → (begun map from key_room value_room : ℕ) → (keys values : List ℕ) → Scan → Type 0
-ScanGives l begun map from key_room value_room keys values s =
-    (m : Stored) × ScanTells l begun map from (room_in m.shape key_room value_room) m (given m.shape s.count keys values) s
+abbrev pub GivesIn : CatalogueView → StoreState → (map from key_room value_room : ℕ) → (keys values : List ℕ) → Scan → Type 0
+GivesIn c state map from key_room value_room keys values s =
+    (m : Stored) × Scanned c state map from (room_in m.shape key_room value_room) m (given m.shape s.count keys values) s
 
--- ---- by what a node has, and by what a session knows
+-- it began when so many operations were completed: its point lies from there to the completed tail at its end
+abbrev pub ScanGives : Progress CatalogueView → (begun map from key_room value_room : ℕ) → (keys values : List ℕ) → Scan → Type 0
+ScanGives l begun map from key_room value_room keys values s = SightTells (λ c state. GivesIn c state map from key_room value_room keys values s) l begun s.point
+
+-- ---- by what a node has
 
 -- maps of these shapes have one of this number, with such a place
 abbrev pub IsPlaceIn : List Shape → (map from : ℕ) → Type 0
 IsPlaceIn shapes map from = (map < length shapes) × IfSome (slice_get shapes map) (λ shape. from < entry_count shape)
 
--- the scan is one of that map of the node's, as far as it has come
-abbrev pub GivesThere : NodeReplica → (map from key_room value_room : ℕ) → (keys values : List ℕ) → Scan → Type 0
-GivesThere n map from key_room value_room keys values s =
-    (m : Stored) × (slice_get n.replica.state.maps map ≡ Some (map_of m)) × Scans (map_of m) from (room_in m.shape key_room value_room) (given m.shape s.count keys values) s.next
+-- the scan is one of that map of these
+abbrev pub GivesThere : List MapState → (map from key_room value_room : ℕ) → (keys values : List ℕ) → Scan → Type 0
+GivesThere maps map from key_room value_room keys values s =
+    (m : Stored) × (slice_get maps map ≡ Some (map_of m)) × Scans (map_of m) from (room_in m.shape key_room value_room) (given m.shape s.count keys values) s.next
     × IsPage m from (given m.shape s.count keys values) s.next
-
--- what a session has done that looked at its node's replica at this point: it has read the completed tail, and the point is not below what that
--- was, nor below what was completed that it knew
-pub record HasSeen (k after : SessionKnown) (point : ℕ) : Type 0 where
-  pub begun : ℕ
-  pub more : List ℕ
-  pub read : tails_in after.steps ≡ tails_in k.steps ++ begun ∷ more
-  pub reached : begun ≤ point
-  pub far : k.progress.completed ≤ point
-  pub session : after.session ≡ k.session
-  pub held : after.held ≡ []
-  pub note : after.note ≡ k.note
-  pub extends : Extends k.progress after.progress
-  pub well_formed : IsWellFormed store_meaning after.progress
-
--- a session's scan
-abbrev pub IsScannedBy : (k after : SessionKnown) → (map from key_room value_room : ℕ) → (keys values : List ℕ) → Scan → Type 0
-IsScannedBy k after map from key_room value_room keys values s =
-    HasSeen k after s.point × ScanGives after.progress k.progress.completed map from key_room value_room keys values s

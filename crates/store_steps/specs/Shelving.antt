@@ -77,7 +77,7 @@ abbrev pub opening_notes : Setup → List SessionNote
 opening_notes s = replicate (sessions_of s.config) fresh_note
 
 -- what its shelf is opened with
-abbrev pub store_opening : Setup → Opened (Progress CatalogueView)
+abbrev pub store_opening : Setup → Opened (Progress CatalogueView) SessionNote
 store_opening s = opened_with (opening_progress s) (places_of s.config) (opening_notes s)
 
 -- a new log on a state, and a new replica of it with its empty hand

@@ -1,30 +1,31 @@
--- A session as it is seen between its calls, and what a read tells it.
-use Rattle.std.specs.Prelude.{◌≡◌, ℕ, ◌≤◌, List, [], ◌∷◌, ◌++◌, length, Some, None, option_map}
+-- A session as it is seen between its calls, and what a read replies.
+use Rattle.std.specs.Prelude.{◌≡◌, ℕ, ◌≤◌, List, [], ◌∷◌, length, Some, None, option_map}
 use Rattle.ownlock.specs.declared.known.ShelfStep.{ShelfStep}
-use Rattle.ownlock.specs.Seats.{IsSession, ShelfId, tails_in}
+use Rattle.ownlock.specs.Seats.{IsSession, Run as RunOf, ShelfId}
 use Rattle.loader.specs.CatalogueView.{CatalogueView}
+use Rattle.loader.specs.StoreState.{StoreState}
 use Rattle.oplog.specs.Operations.{Operation}
 use Rattle.oplog.specs.declared.records.Op.TheVariants.{Run}
-use Rattle.readpath.specs.declared.reading.ReadAnswer.{ReadAnswer}
 use Rattle.replica.specs.StoreMeaning.{store_meaning}
 use Rattle.accounts.specs.declared.sessions.Progress.{Progress}
 use Rattle.accounts.specs.declared.sessions.Pending.{Pending}
 use Rattle.accounts.specs.declared.sessions.SessionNote.{SessionNote}
-use Rattle.accounts.specs.Accounts.{Extends, IsWellFormed}
+use Rattle.accounts.specs.Accounts.{IsWellFormed}
 use Rattle.accounts.specs.LogSteps.{first_progress, fresh_note}
-use Rattle.accounts.specs.Told.{ReadTells}
 use Rattle.store_steps.specs.declared.steps.Caller.{Caller}
 use Rattle.store_steps.specs.declared.values.Value.{Value}
 use Rattle.node.specs.declared.following.NodeReplica.{NodeReplica}
 use Rattle.store_steps.specs.Standing.{SessionKnown, StoreSeat, IsFree}
 
--- a session: the shelf of its store, its number, the progress that it saw last, its note, and each step that it has taken on the shelf, the last first
+-- a session: the shelf of its store, its number, the progress that it saw last, its note, each step that it has taken on the shelf, the last
+-- first, and the run of all sessions' steps as it saw that last
 pub record SessionView : Type 0 where
   pub shelf : ShelfId
   pub session : ℕ
   pub progress : Progress CatalogueView
   pub note : SessionNote
   pub steps : List (ShelfStep Value)
+  pub run : RunOf (Progress CatalogueView) SessionNote Value
 
 -- a catalogue of nothing
 abbrev pub no_catalogue : CatalogueView
@@ -32,14 +33,14 @@ no_catalogue = record { shapes = []; programs = []; places = 0; opening = None }
 
 -- the first session of a seat that has any
 abbrev pub nobody : SessionKnown
-nobody = record { session = 0; progress = first_progress (record { nodes = 0; slots = 0; window = 0; limit = 0; spare = 0 }) no_catalogue; note = fresh_note; held = []; steps = [] }
+nobody = record { session = 0; progress = first_progress (record { nodes = 0; slots = 0; window = 0; limit = 0; spare = 0 }) no_catalogue; note = fresh_note; held = []; steps = []; run = [] }
 
 abbrev pub first_in : List SessionKnown → SessionKnown
 first_in [] = nobody
 first_in (k ∷ ks) = k
 
 abbrev pub session_view : StoreSeat → SessionView
-session_view s = let k = first_in s.sessions in record { shelf = s.shelf; session = k.session; progress = k.progress; note = k.note; steps = k.steps }
+session_view s = let k = first_in s.sessions in record { shelf = s.shelf; session = k.session; progress = k.progress; note = k.note; steps = k.steps; run = k.run }
 
 -- between its calls the session of that slot holds nothing, waits for nothing, and combines for nobody
 pub record IsIdle (s : StoreSeat) (caller : Caller) : Type 0 where
@@ -61,19 +62,9 @@ op_of program argument = Run (record { program = program; argument = argument })
 abbrev pub request_of : Progress CatalogueView → Operation → Pending
 request_of known op = record { op = op; seen = length known.history }
 
--- the operation replies this on the node's state
-abbrev pub RepliesThere : CatalogueView → Operation → NodeReplica → ℕ → Type 0
-RepliesThere c op n reply = option_map (λ e. e.reply) (store_meaning.read c op n.replica.state) ≡ Some reply
+-- the operation replies this on that state, and on the node's
+abbrev pub RepliesIn : CatalogueView → Operation → StoreState → ℕ → Type 0
+RepliesIn c op state reply = option_map (λ e. e.reply) (store_meaning.read c op state) ≡ Some reply
 
--- a session's read: within it the completed tail was read, and the answer's point is not below what it was
-pub record IsReadBy (k after : SessionKnown) (op : Operation) (answer : ReadAnswer) : Type 0 where
-  pub begun : ℕ
-  pub more : List ℕ
-  pub read : tails_in after.steps ≡ tails_in k.steps ++ begun ∷ more
-  pub reached : begun ≤ answer.point
-  pub session : after.session ≡ k.session
-  pub held : after.held ≡ []
-  pub note : after.note ≡ k.note
-  pub extends : Extends k.progress after.progress
-  pub well_formed : IsWellFormed store_meaning after.progress
-  pub tells : ReadTells store_meaning after.progress k.progress.completed op answer.point answer.reply
+abbrev pub RepliesThere : CatalogueView → Operation → NodeReplica → ℕ → Type 0
+RepliesThere c op n reply = RepliesIn c op n.replica.state reply

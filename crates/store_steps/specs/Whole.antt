@@ -1,8 +1,8 @@
 -- Whole calls as lists of the node's steps: what a session sees when it takes each, and what others do between them.
-use Rattle.std.specs.Prelude.{◌≡◌, ◌≤◌, Bool, true, false, ℕ, List, [], ◌∷◌, ◌++◌}
+use Rattle.std.specs.Prelude.{◌≡◌, ◌≤◌, Bool, true, false, ℕ, List, [], ◌∷◌, ◌++◌, length, nat_lt}
 use Rattle.loader.specs.CatalogueView.{CatalogueView}
 use Rattle.ownlock.specs.declared.known.ShelfStep.{ShelfStep}
-use Rattle.ownlock.specs.declared.known.ShelfStep.TheVariants.{Took, Put, Raised}
+use Rattle.ownlock.specs.declared.known.ShelfStep.TheVariants.{Took, Put, Read, Raised}
 use Rattle.ownlock.specs.Seats.{tails_in}
 use Rattle.oplog.specs.Logs.{Log as LogView}
 use Rattle.oplog.specs.History.{History}
@@ -23,6 +23,7 @@ use Rattle.node.specs.declared.parts.NodeBatch.TheVariants.{Absent, Held, InLog}
 use Rattle.node.specs.Seen.{Goes, with_word}
 use Rattle.node.specs.Steps.{NodeStep, Appends, Replays, Finishes, Reclaims, Rebases, Replies, Seen}
 use Rattle.store_steps.specs.Doing.{ADesk, ALog, AReplica, ChangesNothing, Did, Part, takes_and_puts}
+use Rattle.store_steps.specs.Rooms.{IsBaseDue}
 use Rattle.store_steps.specs.Views.{RepliesThere}
 use Rattle.store_steps.specs.Standing.{SessionKnown, Agrees, IsLogOf}
 
@@ -40,7 +41,7 @@ if_any false steps = []
 abbrev pub replay_steps : (next later : Bool) → List NodeStep
 replay_steps next later = if_any next (Replays ∷ []) ++ if_any later (Finishes ∷ [])
 
--- a replica below the log's base becomes the base; where the log is full, the replica applies all, completes it, and becomes the base
+-- a replica below the log's base becomes the base; where another base is due, the replica applies all, completes it, and becomes the base
 abbrev pub room_steps : (low full next later : Bool) → List NodeStep
 room_steps low full next later = if_any low (Rebases ∷ []) ++ if_any full (replay_steps next later ++ Reclaims ∷ [])
 
@@ -58,12 +59,12 @@ read_steps low next later = if_any low (Rebases ∷ []) ++ replay_steps next lat
 
 -- ---- what is done on the shelf
 
--- the log g once there is room: where there was none, the replica n has become its base
+-- the log g once there is room: where another base was due, it is the replica n
 abbrev pub with_room : (full : Bool) → NodeReplica → LogView → LogView
 with_room true n g = reclaimed n (told n g)
 with_room false n g = g
 
--- where there was none, what that replica has applied is completed first; the log is h then
+-- where one was due, what that replica has applied is completed first; the log is h then
 abbrev pub room_deeds : (full : Bool) → LogView → List (ShelfStep Part)
 room_deeds true h = Raised h.base ∷ []
 room_deeds false h = []
@@ -107,13 +108,14 @@ pub record BetweenReplicas (k after : SessionKnown) : Type 0 where
 
 -- ---- what the inner calls do, of which the session k is after then
 
--- while it holds the log, the session has made room: g and n are h and m now
-pub record MakesRoom (k after : SessionKnown) (g h : LogView) (n m : NodeReplica) : Type 0 where
+-- while it holds the log, the session has made room for so many records: g and n are h and m now
+pub record MakesRoom (want : ℕ) (k after : SessionKnown) (g h : LogView) (n m : NodeReplica) : Type 0 where
   pub low : Bool
   pub full : Bool
   pub next : Bool
   pub later : Bool
   pub goes : (b : BatchView) (d : DeskView) → Goes k.progress.catalogue (sees k.progress g n (Held b) d) (room_steps low full next later) (sees after.progress h m (Held b) d)
+  pub due : full ≡ true → IsBaseDue want g n
   pub is : h ≡ with_room full m g
   pub did : Did k after (room_deeds full h)
 
@@ -127,6 +129,7 @@ pub record AppendsBy (k after : SessionKnown) (b : BatchView) (n m : NodeReplica
   pub later : Bool
   pub goes : (d : DeskView) → Goes k.progress.catalogue (sees from log n (Held b) d) (append_steps low full next later)
       (sees after.progress back m (InLog (record { batch = b; replies = kept })) d)
+  pub due : full ≡ true → IsBaseDue (length b.records) log n
   pub base : NodeReplica
   pub is : back ≡ grown b.records (with_room full base log)
   pub did : Did k after (append_deeds full log back)
@@ -165,21 +168,20 @@ pub record HandsOver (node : ℕ) (k after : SessionKnown) (g : LogView) (n : No
 abbrev pub HandsOverAnywhere : (node : ℕ) → (k after : SessionKnown) → BatchView → RepliesView → Type 0
 HandsOverAnywhere node k after b kept = (g : LogView) (n : NodeReplica) → IsLogOf k.progress g → Agrees k.progress n → HandsOver node k after g n b kept
 
--- it has brought the replica up to the log, if that lacked something
-pub record FollowsBy (k after : SessionKnown) (n m : NodeReplica) : Type 0 where
+-- a replica that lacks something has been brought up to the log, and another has stayed
+pub record FollowsBy (lacks : Bool) (k after : SessionKnown) (n m : NodeReplica) : Type 0 where
   pub logs : BetweenLogs k after
   pub open logs use *
   pub low : Bool
   pub next : Bool
   pub later : Bool
   pub goes : (d : DeskView) → Goes k.progress.catalogue (sees from log n Absent d) (read_steps low next later) (sees after.progress back m Absent d)
-  pub lacks : Bool
   pub did : Did k after (follow_deeds lacks log m)
 
 -- ---- what the whole calls do
 
--- which of its steps a combine has taken, in their order: the replica was below the log's base; the log was full, and what the replica lacked then was
--- applied, and completed; and so was what it lacked of the batch
+-- which of its steps a combine has taken, in their order: the replica was below the log's base; another base was due, and what the replica lacked
+-- then was applied, and completed; and so was what it lacked of the batch
 pub record Course : Type 0 where
   pub low : Bool
   pub full : Bool
@@ -197,6 +199,7 @@ pub record AnswersBy (node : ℕ) (k after : SessionKnown) (b : BatchView) (kept
   pub open course use *
   pub goes : (d : DeskView) → Goes k.progress.catalogue (sees from log own (Held b) d) (append_steps low full next later ++ replay_steps more ahead)
       (sees after.progress back left (InLog (record { batch = b; replies = kept })) d)
+  pub due : full ≡ true → IsBaseDue (length b.records) log own
   pub base : NodeReplica
   pub put : LogView
   pub put_is : put ≡ grown b.records (with_room full base log)
@@ -217,9 +220,10 @@ pub record CombinesBy (k after : SessionKnown) (b answered : BatchView) : Type 0
   pub claimed : IsBatchOf desk b
   pub course : Course
   pub open course use *
+  pub due : full ≡ true → IsBaseDue (length b.records) log own
   pub goes : Goes k.progress.catalogue (sees from log own (Held b) desk) (combine_steps low full next later more ahead)
       (sees after.progress back left Absent (replied (answered_batch kept b) desk))
-  -- the log as it was put back: with the batch, and with another base only where it was full
+  -- the log as it was put back: with the batch, and with another base only where that was due
   pub base : NodeReplica
   pub put : LogView
   pub put_is : put ≡ grown b.records (with_room full base log)
@@ -229,8 +233,8 @@ pub record CombinesBy (k after : SessionKnown) (b answered : BatchView) : Type 0
   pub did : Did k after (tries ++ (answer_deeds (replica_place k.progress.config desk.node) full log put own left
       ++ takes_and_puts (desk_place k.progress.config desk.node) (ADesk desk) (ADesk (replied (answered_batch kept b) desk))))
 
--- a look at its node's replica, at this point of the history: the completed tail is loaded, and the replica comes up
--- with it, if it has not; then a read may be answered there, at the replica's own tail
+-- a look at its node's replica, at this point of the history: the completed tail is loaded, and a replica below it comes up with the log; then
+-- a read may be answered there, at the replica's own tail
 pub record LooksBy (k after : SessionKnown) (point : ℕ) : Type 0 where
   pub seen : ℕ
   pub more : List ℕ
@@ -244,13 +248,13 @@ pub record LooksBy (k after : SessionKnown) (point : ℕ) : Type 0 where
   pub goes : (d : DeskView) → Goes k.progress.catalogue (sees from log own Absent d) (read_steps low next later) (sees after.progress back left Absent d)
   pub may : may_answer seen after.progress.completed left ≡ true
   pub at : point ≡ left.replica.tail
-  -- but for its reads of the completed tail, and for tries in vain, the session took and put back nothing else
+  -- after tries in vain the session loaded the tail `loaded`, and took its replica; it took the log if and only if the replica was below that tail
   pub node : ℕ
   pub mine : IsSessionOf k.progress.config node k.session
   pub tries : List (ShelfStep Part)
   pub nothing : ChangesNothing tries
-  pub lacks : Bool
-  pub did : Did k after (tries ++ look_deeds (replica_place k.progress.config node) lacks log own left)
+  pub loaded : ℕ
+  pub did : Did k after (tries ++ Read loaded ∷ look_deeds (replica_place k.progress.config node) (nat_lt own.replica.tail loaded) log own left)
 
 -- a read: it looks, and answers with the reply of there
 abbrev pub ReadsBy : (k after : SessionKnown) → Operation → ReadAnswer → Type 0

@@ -1,20 +1,14 @@
 // The value under one key.
 
-ghost use Rattle.std.specs.Prelude.{◌≡◌, ◌<◌, length, None, IfOk, IfErr};
+ghost use Rattle.std.specs.Prelude.{◌≡◌, length};
 ghost use Rattle.maps.specs.Maps.{shapes_of};
-ghost use Rattle.store_steps.specs.Getting.{FitsIn, GetsBy, IsGotBy, IsUnder, IsVerdict, get_fault_number, get_refusal};
-ghost use Rattle.store_steps.specs.Knowing.{IsOn, Knows, Learns, Relates};
-ghost use Rattle.store_steps.specs.Standing.{IsFree};
-ghost use Rattle.store_steps.specs.Trying.{IsStill};
+ghost use Rattle.store_steps.specs.Getting.{FitsIn, IsUnder, IsVerdict, get_fault_number, get_refusal};
+ghost use Rattle.store_steps.specs.Seen.{AKey};
 
-use crate::steps::{Here, try_hold_ready};
-use crate::values::Value;
+use crate::looks::Look;
 use loader::Catalogue;
 use node::NodeReplica;
-use ownlock::Seat;
 use std::fmt;
-use std::marker::Brand;
-use std::sync::Wait;
 use thiserror::Error;
 
 /// A key of a map.
@@ -62,12 +56,8 @@ impl GetRefused {
     }
 }
 
-/// Whether the catalogue has such a map, with keys of this length, and values as long as the room for one.
-///
-/// # Errors
-///
-/// S9 unknown map, S11 key length, S12 value length.
-pub fn check_get(catalogue: &Catalogue, of: MapKey<'_>, room: usize) -> Result<(), GetRefused>
+// Whether the catalogue has such a map, with keys of this length, and values as long as the room for one.
+fn check_get(catalogue: &Catalogue, of: MapKey<'_>, room: usize) -> Result<(), GetRefused>
     ensures refusal { IsVerdict (get_refusal catalogue.now of.entry.map (length of.entry.key.now) room) result }
 {
     let Some(shape) = catalogue.shapes().get(of.map) else {
@@ -100,50 +90,36 @@ fn get_there(node: &NodeReplica, of: MapKey<'_>, value: &mut [u8]) -> Lookup
     Lookup { point, found: true }
 }
 
-/// Looks for a key in the maps of the caller's node, once its replica has reached the tail that is completed now. Where another session holds the
-/// replica, or the log, which a replica that lacks something takes, it answers that place: the session holds nothing then, and nothing is given.
-pub fn try_get(
-    here: Here<'_>,
-    seat: &mut Seat<Value>,
-    of: MapKey<'_>,
-    value: &mut [u8],
-) -> Result<Lookup, usize>
-    requires own { seat.old.shelf ≡ here.shared.shelf.now.id }
-    requires idle { Knows seat.old (λ k. IsFree here.caller k × IsOn here.shared k) }
-    requires fits { get_refusal here.shared.catalogue.now of.map (length of.key.now) (length value.old) ≡ None }
-    ensures same { seat.new.shelf ≡ seat.old.shelf }
-    ensures held { IfErr result (λ place. place < here.entry.shared.shelf.now.places) }
-    ensures stays { IfErr result (λ _. Learns seat.old seat.new IsStill) }
-    ensures kept { IfErr result (λ _. value.new ≡ value.old) }
-    ensures got { IfOk result (λ found. Learns seat.old seat.new (λ k after. IsGotBy k after of.entry.map of.entry.key.now value.old value.new found)) }
-    ensures goes { IfOk result (λ found. Relates seat.old seat.new (λ k after. GetsBy k after of.entry.map of.entry.key.now value.old value.new found)) }
-{
-    let held = try_hold_ready(here, seat)?;
-    let found = get_there(held.value.replica(), of, value);
-    here.shared.shelf.put::<Brand>(seat, held);
-    Ok(found)
+/// A look for the value of a key.
+#[derive(Drop)]
+pub struct Get<'k, 'v> {
+    /// The key.
+    pub of: MapKey<'k>,
+    /// Room for its value.
+    pub value: &'v mut [u8],
 }
 
-/// The same, but waits for the place that another session holds.
-pub fn get_waiting<R: Wait>(
-    rt: &R,
-    here: Here<'_>,
-    seat: &mut Seat<Value>,
-    of: MapKey<'_>,
-    value: &mut [u8],
-) -> Lookup
-    requires own { seat.old.shelf ≡ here.shared.shelf.now.id }
-    requires idle { Knows seat.old (λ k. IsFree here.caller k × IsOn here.shared k) }
-    requires fits { get_refusal here.shared.catalogue.now of.map (length of.key.now) (length value.old) ≡ None }
-    ensures same { seat.new.shelf ≡ seat.old.shelf }
-    ensures got { Learns seat.old seat.new (λ k after. IsGotBy k after of.entry.map of.entry.key.now value.old value.new result) }
-    ensures goes { Relates seat.old seat.new (λ k after. GetsBy k after of.entry.map of.entry.key.now value.old value.new result) }
-{
-    for _ in rt.forever() {
-        match try_get(here, seat, of, value) {
-            Ok(found) => return found,
-            Err(place) => here.shared.shelf.wait(rt, seat, place),
-        }
+impl Look for Get<'_, '_> {
+    type Told = Lookup;
+
+    type Refused = GetRefused;
+
+    ghost may = { λ g c. Unit {0} };
+
+    ghost refusal = { λ g c. get_refusal c g.of.map (length g.of.key.now) (length g.value.now) };
+
+    ghost point = { λ found. found.point };
+
+    ghost sees = { λ old new found. AKey old.of.map old.of.key.now old.value.now new.value.now found };
+
+    ghost lent = { λ old new. new.value.ghost_name ≡ old.value.ghost_name };
+
+    fn check(&self, catalogue: &Catalogue) -> Result<(), GetRefused> {
+        check_get(catalogue, self.of, self.value.len())
     }
-    unreachable!()
+
+    fn at(&mut self, _catalogue: &Catalogue, node: &mut NodeReplica) -> Lookup {
+        let of = self.of;
+        get_there(node, of, self.value)
+    }
 }

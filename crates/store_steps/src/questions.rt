@@ -1,22 +1,19 @@
 // Several reads at one point.
 
-ghost use Rattle.std.specs.Prelude.{◌≡◌, ◌<◌, ◌≤◌, length, None, Some, IfOk, IfErr, MatchResult};
+ghost use Rattle.std.specs.Prelude.{◌≡◌, length, None, Some, MatchResult};
 ghost use Rattle.loader.specs.CatalogueView.{sizes_for};
 ghost use Rattle.loader.specs.StoreState.{sizes_of};
-ghost use Rattle.store_steps.specs.Looking.{EachReadsBy};
-ghost use Rattle.store_steps.specs.Knowing.{IsOn, Knows, Learns, Relates};
-ghost use Rattle.store_steps.specs.Questions.{AreReadBy, FirstReply, first_refused};
-ghost use Rattle.store_steps.specs.Standing.{IsFree};
-ghost use Rattle.store_steps.specs.Trying.{IsStill};
+ghost use Rattle.store_steps.specs.Asking.{asked_op};
+ghost use Rattle.store_steps.specs.Questions.{EachReplies, first_refused, question_refusal};
+ghost use Rattle.store_steps.specs.Seen.{AReply, Replies};
+ghost use Rattle.store_steps.specs.Views.{RepliesIn};
 
-use crate::steps::{Here, Question, answer_there, try_hold_ready};
-use crate::values::Value;
+use crate::looks::Look;
+use crate::steps::Question;
 use loader::Catalogue;
 use node::NodeReplica;
-use ownlock::Seat;
+use readpath::{ReadAnswer, answer};
 use replica::{StoreRefused, check_call};
-use std::marker::Brand;
-use std::sync::Wait;
 use verifier::Mode;
 
 /// Which of several questions is refused, and why: the first that is.
@@ -28,12 +25,8 @@ pub struct QuestionRefused {
     pub refused: StoreRefused,
 }
 
-/// Whether each question may be asked.
-///
-/// # Errors
-///
-/// The first that may not: S1 unknown program, S2 argument length, S3 not a read.
-pub fn check_each(catalogue: &Catalogue, questions: &[Question<'_>]) -> Result<(), QuestionRefused>
+// Whether each question may be asked: the first that may not.
+fn check_each(catalogue: &Catalogue, questions: &[Question<'_>]) -> Result<(), QuestionRefused>
     ensures refusal { MatchResult result (λ _. first_refused catalogue.now 0 questions.now ≡ None)
         (λ e. first_refused catalogue.now 0 questions.now ≡ Some e) }
 {
@@ -46,6 +39,21 @@ pub fn check_each(catalogue: &Catalogue, questions: &[Question<'_>]) -> Result<(
     Ok(())
 }
 
+// What a read answers on the node's state, which it leaves as it was.
+fn answer_there(node: &mut NodeReplica, catalogue: &Catalogue, question: Question<'_>) -> ReadAnswer
+    requires sizes { sizes_of node.old.replica.state ≡ sizes_for catalogue.now }
+    ensures point { result.point ≡ node.old.replica.tail }
+    ensures reply { RepliesIn catalogue.now (asked_op question.entry) node.old.replica.state result.reply }
+    ensures same { node.new ≡ node.old }
+{
+    answer(
+        catalogue,
+        &mut node.replica,
+        question.program,
+        question.argument,
+    )
+}
+
 // Answers each question on the node's state, which it leaves as it was.
 fn answer_each(
     node: &mut NodeReplica,
@@ -55,7 +63,7 @@ fn answer_each(
 )
     requires sizes { sizes_of node.old.replica.state ≡ sizes_for catalogue.now }
     requires room { length replies.old ≡ length questions.now }
-    ensures replies { FirstReply catalogue.now node.old questions.now (length questions.now) replies.new }
+    ensures replies { EachReplies catalogue.now node.old.replica.state questions.now replies.new }
     ensures same { node.new ≡ node.old }
 {
     for number in 0..questions.len() {
@@ -64,53 +72,61 @@ fn answer_each(
     }
 }
 
-/// Answers the questions on the replica of the caller's node, once that has reached the tail that is completed now. Where another session
-/// holds the replica, or the log, which a replica that lacks something takes, it answers that place: the session holds nothing then.
-pub fn try_read_each(
-    here: Here<'_>,
-    seat: &mut Seat<Value>,
-    questions: &[Question<'_>],
-    replies: &mut [u64],
-) -> Result<u64, usize>
-    requires own { seat.old.shelf ≡ here.shared.shelf.now.id }
-    requires idle { Knows seat.old (λ k. IsFree here.caller k × IsOn here.shared k) }
-    requires room { length replies.old ≡ length questions.now }
-    ensures same { seat.new.shelf ≡ seat.old.shelf }
-    ensures held { IfErr result (λ place. place < here.entry.shared.shelf.now.places) }
-    ensures stays { IfErr result (λ _. Learns seat.old seat.new IsStill) }
-    ensures kept { IfErr result (λ _. replies.new ≡ replies.old) }
-    ensures read { IfOk result (λ point. Learns seat.old seat.new (λ k after. AreReadBy k after questions.now point replies.new)) }
-    ensures goes { IfOk result (λ point. Relates seat.old seat.new (λ k after. EachReadsBy k after questions.now point replies.new)) }
-{
-    let mut held = try_hold_ready(here, seat)?;
-    let node = held.value.replica_mut();
-    let point = node.replica.tail();
-    answer_each(node, here.shared.catalogue, questions, replies);
-    here.shared.shelf.put::<Brand>(seat, held);
-    Ok(point)
+impl Look for Question<'_> {
+    type Told = ReadAnswer;
+
+    type Refused = StoreRefused;
+
+    ghost may = { λ q c. Unit {0} };
+
+    ghost refusal = { λ q c. question_refusal c q };
+
+    ghost point = { λ answer. answer.point };
+
+    ghost sees = { λ old new answer. AReply (asked_op old) answer.reply };
+
+    ghost lent = { λ old new. Unit {0} };
+
+    fn check(&self, catalogue: &Catalogue) -> Result<(), StoreRefused> {
+        check_call(catalogue, Mode::Read, self.program, self.argument)
+    }
+
+    fn at(&mut self, catalogue: &Catalogue, node: &mut NodeReplica) -> ReadAnswer {
+        answer_there(node, catalogue, *self)
+    }
 }
 
-/// Answers the questions on the replica of the caller's node, once that has reached the tail that is completed now, and gives their point. It
-/// waits for the place that another session holds.
-pub fn read_each_waiting<R: Wait>(
-    rt: &R,
-    here: Here<'_>,
-    seat: &mut Seat<Value>,
-    questions: &[Question<'_>],
-    replies: &mut [u64],
-) -> u64
-    requires own { seat.old.shelf ≡ here.shared.shelf.now.id }
-    requires idle { Knows seat.old (λ k. IsFree here.caller k × IsOn here.shared k) }
-    requires room { length replies.old ≡ length questions.now }
-    ensures same { seat.new.shelf ≡ seat.old.shelf }
-    ensures read { Learns seat.old seat.new (λ k after. AreReadBy k after questions.now result replies.new) }
-    ensures goes { Relates seat.old seat.new (λ k after. EachReadsBy k after questions.now result replies.new) }
-{
-    for _ in rt.forever() {
-        match try_read_each(here, seat, questions, replies) {
-            Ok(point) => return point,
-            Err(place) => here.shared.shelf.wait(rt, seat, place),
-        }
+/// A look for the replies to several reads, at one point.
+#[derive(Drop)]
+pub struct Reads<'q, 'r> {
+    /// What they ask for.
+    pub questions: &'q [Question<'q>],
+    /// Room for a reply to each.
+    pub replies: &'r mut [u64],
+}
+
+impl Look for Reads<'_, '_> {
+    type Told = u64;
+
+    type Refused = QuestionRefused;
+
+    ghost may = { λ r c. length r.replies.now ≡ length r.questions.now };
+
+    ghost refusal = { λ r c. first_refused c 0 r.questions.now };
+
+    ghost point = { λ point. point };
+
+    ghost sees = { λ old new point. Replies old.questions.now new.replies.now };
+
+    ghost lent = { λ old new. new.replies.ghost_name ≡ old.replies.ghost_name };
+
+    fn check(&self, catalogue: &Catalogue) -> Result<(), QuestionRefused> {
+        check_each(catalogue, self.questions)
     }
-    unreachable!()
+
+    fn at(&mut self, catalogue: &Catalogue, node: &mut NodeReplica) -> u64 {
+        let questions = self.questions;
+        answer_each(node, catalogue, questions, self.replies);
+        node.replica.tail()
+    }
 }

@@ -1,22 +1,15 @@
 // Scans of a map: which are refused, and how one is made.
 
-ghost use Rattle.std.specs.Prelude.{◌≡◌, ◌<◌, length, None, IfOk, IfErr};
+ghost use Rattle.std.specs.Prelude.{◌≡◌, length};
 ghost use Rattle.maps.specs.Maps.{shapes_of};
 ghost use Rattle.store_steps.specs.Getting.{IsVerdict};
-ghost use Rattle.store_steps.specs.Looking.{HasScanned, ScansFrom};
-ghost use Rattle.store_steps.specs.Knowing.{IsOn, Knows, Learns, Relates};
 ghost use Rattle.store_steps.specs.Scanning.{GivesThere, IsPlaceIn, scan_fault_number, scan_refusal};
-ghost use Rattle.store_steps.specs.Standing.{IsFree};
-ghost use Rattle.store_steps.specs.Trying.{IsStill};
+ghost use Rattle.store_steps.specs.Seen.{APage};
 
-use crate::steps::{Here, try_hold_ready};
-use crate::values::Value;
+use crate::looks::Look;
 use loader::Catalogue;
 use node::NodeReplica;
-use ownlock::Seat;
 use std::fmt;
-use std::marker::Brand;
-use std::sync::Wait;
 use thiserror::Error;
 
 /// How far a scan has come.
@@ -62,12 +55,8 @@ pub struct Beginning {
     pub from: u32,
 }
 
-/// Whether the catalogue has such a map, and that has such a place.
-///
-/// # Errors
-///
-/// S9 unknown map, S10 unknown place.
-pub fn check_scan(catalogue: &Catalogue, begin: Beginning) -> Result<(), ScanRefused>
+// Whether the catalogue has such a map, and that has such a place.
+fn check_scan(catalogue: &Catalogue, begin: Beginning) -> Result<(), ScanRefused>
     ensures refusal { IsVerdict (scan_refusal catalogue.now begin.map begin.from) result }
 {
     let Some(shape) = catalogue.shapes().get(begin.map) else {
@@ -83,7 +72,7 @@ pub fn check_scan(catalogue: &Catalogue, begin: Beginning) -> Result<(), ScanRef
 fn scan_there(node: &NodeReplica, begin: Beginning, keys: &mut [u8], values: &mut [u8]) -> Scan
     requires place { IsPlaceIn (shapes_of node.now.replica.state.maps) begin.map begin.from }
     ensures point { result.point ≡ node.now.replica.tail }
-    ensures gives { GivesThere node.now begin.map begin.from (length keys.old) (length values.old) keys.new values.new result }
+    ensures gives { GivesThere node.now.replica.state.maps begin.map begin.from (length keys.old) (length values.old) keys.new values.new result }
 {
     let maps = node.replica.maps();
     let scanned = maps.scan(begin.map, begin.from, keys, values);
@@ -94,54 +83,37 @@ fn scan_there(node: &NodeReplica, begin: Beginning, keys: &mut [u8], values: &mu
     }
 }
 
-/// Scans the maps of the caller's node, once its replica has reached the tail that is completed now. Where another session holds the
-/// replica, or the log, which a replica that lacks something takes, it answers that place: the session holds nothing then, and nothing is given.
-pub fn try_scan(
-    here: Here<'_>,
-    seat: &mut Seat<Value>,
-    begin: Beginning,
-    keys: &mut [u8],
-    values: &mut [u8],
-) -> Result<Scan, usize>
-    requires own { seat.old.shelf ≡ here.shared.shelf.now.id }
-    requires idle { Knows seat.old (λ k. IsFree here.caller k × IsOn here.shared k) }
-    requires place { scan_refusal here.shared.catalogue.now begin.map begin.from ≡ None }
-    ensures same { seat.new.shelf ≡ seat.old.shelf }
-    ensures held { IfErr result (λ place. place < here.entry.shared.shelf.now.places) }
-    ensures stays { IfErr result (λ _. Learns seat.old seat.new IsStill) }
-    ensures kept { IfErr result (λ _. (keys.new ≡ keys.old) × (values.new ≡ values.old)) }
-    ensures scanned { IfOk result (λ s. Learns seat.old seat.new (HasScanned begin (length keys.old) (length values.old) keys.new values.new s)) }
-    ensures goes { IfOk result (λ s. Relates seat.old seat.new (ScansFrom begin (length keys.old) (length values.old) keys.new values.new s)) }
-{
-    let held = try_hold_ready(here, seat)?;
-    let scan = scan_there(held.value.replica(), begin, keys, values);
-    here.shared.shelf.put::<Brand>(seat, held);
-    Ok(scan)
+/// A look for the entries of a map, from a place on.
+#[derive(Drop)]
+pub struct Page<'a> {
+    /// Where it begins.
+    pub begin: Beginning,
+    /// Room for their keys.
+    pub keys: &'a mut [u8],
+    /// Room for their values.
+    pub values: &'a mut [u8],
 }
 
-impl Here<'_> {
-    /// Scans the maps of the caller's node, as [`try_scan`] does, but waits for the place that another session holds.
-    pub fn scan_waiting<R: Wait>(
-        self,
-        rt: &R,
-        seat: &mut Seat<Value>,
-        begin: Beginning,
-        keys: &mut [u8],
-        values: &mut [u8],
-    ) -> Scan
-        requires own { seat.old.shelf ≡ self.shared.shelf.now.id }
-        requires idle { Knows seat.old (λ k. IsFree self.caller k × IsOn self.shared k) }
-        requires place { scan_refusal self.shared.catalogue.now begin.map begin.from ≡ None }
-        ensures same { seat.new.shelf ≡ seat.old.shelf }
-        ensures scanned { Learns seat.old seat.new (HasScanned begin (length keys.old) (length values.old) keys.new values.new result) }
-        ensures goes { Relates seat.old seat.new (ScansFrom begin (length keys.old) (length values.old) keys.new values.new result) }
-    {
-        for _ in rt.forever() {
-            match try_scan(self, seat, begin, keys, values) {
-                Ok(scan) => return scan,
-                Err(place) => self.shared.shelf.wait(rt, seat, place),
-            }
-        }
-        unreachable!()
+impl Look for Page<'_> {
+    type Told = Scan;
+
+    type Refused = ScanRefused;
+
+    ghost may = { λ p c. Unit {0} };
+
+    ghost refusal = { λ p c. scan_refusal c p.begin.map p.begin.from };
+
+    ghost point = { λ scan. scan.point };
+
+    ghost sees = { λ old new scan. APage old.begin.map old.begin.from (length old.keys.now) (length old.values.now) new.keys.now new.values.now scan };
+
+    ghost lent = { λ old new. (new.keys.ghost_name ≡ old.keys.ghost_name) × (new.values.ghost_name ≡ old.values.ghost_name) };
+
+    fn check(&self, catalogue: &Catalogue) -> Result<(), ScanRefused> {
+        check_scan(catalogue, self.begin)
+    }
+
+    fn at(&mut self, _catalogue: &Catalogue, node: &mut NodeReplica) -> Scan {
+        scan_there(node, self.begin, self.keys, self.values)
     }
 }

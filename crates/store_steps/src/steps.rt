@@ -1,6 +1,6 @@
 // What a session does on the shelf.
 
-ghost use Rattle.std.specs.Prelude.{◌≡◌, ◌↔◌, ◌⊎◌, ◌+◌, ◌-◌, ◌<◌, ◌≤◌, true, false, min, length, drop, None, IsTrue, IfSome, IfNone, IfOk, IfErr};
+ghost use Rattle.std.specs.Prelude.{◌≡◌, ◌↔◌, ◌⊎◌, ◌+◌, ◌-◌, ◌<◌, ◌≤◌, true, false, min, length, drop, nat_lt, None, IsTrue, IfSome, IfNone, IfOk, IfErr};
 ghost use Rattle.loader.specs.CatalogueView.{sizes_for};
 ghost use Rattle.loader.specs.StoreState.{sizes_of};
 ghost use Rattle.oplog.specs.Limits.{IsWindow};
@@ -9,15 +9,13 @@ ghost use Rattle.oplog.specs.declared.configuration.TheConstants.{ENDLESS};
 ghost use Rattle.replica.specs.StoreMeaning.{AreUpdates};
 ghost use Rattle.node.specs.Following.{Fits, IsNext, copied, exchanged, is_above, may_rebase, rebased, reclaimed, replayed, replayed_first, told};
 ghost use Rattle.accounts.specs.Moves.{unplaced};
-ghost use Rattle.store_steps.specs.Views.{IsReadBy, RepliesThere, op_of};
 ghost use Rattle.store_steps.specs.Knowing.{HasLog, HasReplica, IsOn, Knows, Learns, Relates};
 ghost use Rattle.store_steps.specs.Standing.{Stands, IsFree, HasOthers, HasRaised, HasPlace, HasAppended, HasReplayed, HasReached};
-ghost use Rattle.store_steps.specs.Asking.{asked_op};
 ghost use Rattle.store_steps.specs.Trying.{IsStill};
 ghost use Rattle.store_steps.specs.Ready.{HoldsReady};
 ghost use Rattle.ownlock.specs.Held.{held_place};
-ghost use Rattle.store_steps.specs.Rooms.{FreesRoom, Owes, caught_up, with_more};
-ghost use Rattle.store_steps.specs.Whole.{MakesRoom, AppendsAny, ReplaysAnywhere, FollowsBy, ReadsBy};
+ghost use Rattle.store_steps.specs.Rooms.{FreesRoom, IsBaseDue, IsHalfBefore, Owes, caught_up, with_more};
+ghost use Rattle.store_steps.specs.Whole.{MakesRoom, AppendsAny, ReplaysAnywhere, FollowsBy};
 
 use crate::values::Value;
 use loader::Catalogue;
@@ -28,10 +26,9 @@ use node::{
 };
 use oplog::{LogState, MAX_NODES, MAX_SESSIONS, Record};
 use ownlock::{Held, LEADER, Seat, Shelf};
-use readpath::{ReadAnswer, answer, ready};
+use readpath::ready;
 use replica::Replies;
 use std::marker::Brand;
-use std::sync::Wait;
 
 /// What all sessions of a store share.
 #[derive(Clone, Copy)]
@@ -109,6 +106,7 @@ fn frees_room(log: &LogState, node: &NodeReplica, want: usize) -> bool
     requires above { is_above log.now node.now ≡ true }
     requires fits { Fits log.now node.now }
     ensures frees { result ≡ true → FreesRoom want log.now node.now }
+    ensures half { result ≡ true → IsHalfBefore log.now node.now }
 {
     let dropped = (node.replica.tail() - log.base()) as usize;
     let kept = (log.tail() - node.replica.tail()) as usize;
@@ -141,6 +139,7 @@ fn is_base_due(log: &LogState, node: &NodeReplica, shared: Shared<'_>, want: usi
     requires above { is_above log.now node.now ≡ true }
     requires fits { Fits log.now node.now }
     ensures due { result ≡ true → (room_in log.now < min want (left_of log.now)) ⊎ FreesRoom want log.now node.now }
+    ensures reason { result ≡ true → IsBaseDue want log.now node.now }
     ensures room { result ≡ false → min want (left_of log.now) ≤ room_in log.now }
     ensures window { IsWindow log.now.window }
 {
@@ -216,7 +215,6 @@ fn bring_base(log: &mut LogState, node: &mut NodeReplica, worth: usize) -> usize
     if is_exchange_cheaper(log, worth) {
         let dropped = (node.replica.tail() - log.base()) as usize;
         exchange(log, node);
-        let _tail = log.tail();
         return dropped;
     }
     reclaim(log, node);
@@ -241,7 +239,7 @@ fn make_room(
     ensures same { seat.new.shelf ≡ seat.old.shelf }
     ensures owes { Owes shared.entry.catalogue.now log.new node.new result }
     ensures room { Learns seat.old seat.new (λ k after. HasPlace k after want log.old log.new (caught_up shared.entry.catalogue.now result node.new)) }
-    ensures goes { Relates seat.old seat.new (λ k after. MakesRoom k after log.old log.new node.old (caught_up shared.entry.catalogue.now result node.new)) }
+    ensures goes { Relates seat.old seat.new (λ k after. MakesRoom want k after log.old log.new node.old (caught_up shared.entry.catalogue.now result node.new)) }
 {
     let Shared {
         shelf,
@@ -340,7 +338,7 @@ fn try_follow_and_raise(
     ensures same { seat.new.shelf ≡ seat.old.shelf }
     ensures stays { IfNone result ((seat.new ≡ seat.old) × (node.new ≡ node.old)) }
     ensures reached { IfSome result (λ _. Learns seat.old seat.new (λ k after. HasReached k after k.progress.completed node.new)) }
-    ensures goes { IfSome result (λ _. Relates seat.old seat.new (λ k after. FollowsBy k after node.old node.new)) }
+    ensures goes { IfSome result (λ _. Relates seat.old seat.new (λ k after. FollowsBy true k after node.old node.new)) }
 {
     let Some(held) = shelf.try_take(seat, LEADER) else {
         return None;
@@ -369,7 +367,7 @@ fn try_reach(
     ensures same { seat.new.shelf ≡ seat.old.shelf }
     ensures stays { IfNone result ((seat.new ≡ seat.old) × (node.new ≡ node.old)) }
     ensures reached { IfSome result (λ _. Learns seat.old seat.new (λ k after. HasReached k after done node.new)) }
-    ensures goes { IfSome result (λ _. Relates seat.old seat.new (λ k after. FollowsBy k after node.old node.new)) }
+    ensures goes { IfSome result (λ _. Relates seat.old seat.new (λ k after. FollowsBy (nat_lt node.old.replica.tail done) k after node.old node.new)) }
 {
     if ready(&node.replica, done) {
         return Some(());
@@ -378,25 +376,6 @@ fn try_reach(
         return None;
     };
     Some(())
-}
-
-// What a read answers on the node's state, which it leaves as it was.
-pub(crate) fn answer_there(
-    node: &mut NodeReplica,
-    catalogue: &Catalogue,
-    question: Question<'_>,
-) -> ReadAnswer
-    requires sizes { sizes_of node.old.replica.state ≡ sizes_for catalogue.now }
-    ensures point { result.point ≡ node.old.replica.tail }
-    ensures reply { RepliesThere catalogue.now (op_of question.entry.program question.entry.argument.now) node.old result.reply }
-    ensures same { node.new ≡ node.old }
-{
-    answer(
-        catalogue,
-        &mut node.replica,
-        question.program,
-        question.argument,
-    )
 }
 
 // Takes the replica of the caller's node, and brings it up to the tail that is completed now. Where another session holds the replica, or
@@ -423,48 +402,4 @@ pub(crate) fn try_hold_ready(here: Here<'_>, seat: &mut Seat<Value>) -> Result<H
         return Err(LEADER);
     };
     Ok(held)
-}
-
-/// Runs a read program on the replica of the caller's node, once that has reached the tail that is completed now. Where another session
-/// holds the replica, or the log, which a replica that lacks something takes, it answers that place: the session holds nothing then.
-pub fn try_query(
-    here: Here<'_>,
-    seat: &mut Seat<Value>,
-    question: Question<'_>,
-) -> Result<ReadAnswer, usize>
-    requires own { seat.old.shelf ≡ here.shared.shelf.now.id }
-    requires idle { Knows seat.old (λ k. IsFree here.caller k × IsOn here.shared k) }
-    ensures same { seat.new.shelf ≡ seat.old.shelf }
-    ensures held { IfErr result (λ place. place < here.entry.shared.shelf.now.places) }
-    ensures stays { IfErr result (λ _. Learns seat.old seat.new IsStill) }
-    ensures read { IfOk result (λ answer. Learns seat.old seat.new (λ k after. IsReadBy k after (asked_op question.entry) answer)) }
-    ensures goes { IfOk result (λ answer. Relates seat.old seat.new (λ k after. ReadsBy k after (asked_op question.entry) answer)) }
-{
-    let mut held = try_hold_ready(here, seat)?;
-    let node = held.value.replica_mut();
-    let answer = answer_there(node, here.shared.catalogue, question);
-    here.shared.shelf.put::<Brand>(seat, held);
-    Ok(answer)
-}
-
-/// The same, but waits for the place that another session holds.
-pub fn query<R: Wait>(
-    rt: &R,
-    here: Here<'_>,
-    seat: &mut Seat<Value>,
-    question: Question<'_>,
-) -> ReadAnswer
-    requires own { seat.old.shelf ≡ here.shared.shelf.now.id }
-    requires idle { Knows seat.old (λ k. IsFree here.caller k × IsOn here.shared k) }
-    ensures same { seat.new.shelf ≡ seat.old.shelf }
-    ensures read { Learns seat.old seat.new (λ k after. IsReadBy k after (op_of question.entry.program question.entry.argument.now) result) }
-    ensures goes { Relates seat.old seat.new (λ k after. ReadsBy k after (op_of question.entry.program question.entry.argument.now) result) }
-{
-    for _ in rt.forever() {
-        match try_query(here, seat, question) {
-            Ok(answer) => return answer,
-            Err(place) => here.shared.shelf.wait(rt, seat, place),
-        }
-    }
-    unreachable!()
 }

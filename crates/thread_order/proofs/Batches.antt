@@ -80,6 +80,8 @@ module _ (m : Opening) (s : Moment) (positions : Positions) (t : Trace) (stands 
 
   pub record Grown (k : ℕ) : Type 0 where
     pub places : Positions
+    pub more : Positions
+    pub places_are : places ≡ positions ++ more
     pub explains : Explains m (grown k) places t
     pub calls : (x : ℕ) (n : SessionNote) (read : Option BegunRead) → slice_get s.notes x ≡ Some n → slice_get s.reads x ≡ Some read
         → CallStands m s.progress.completed (grown k) places t x (length n.answered) n.pending read
@@ -95,6 +97,8 @@ module _ (m : Opening) (s : Moment) (positions : Positions) (t : Trace) (stands 
   grown_none : Grown 0
   grown_none = record {
     places = positions;
+    more = [];
+    places_are = sym (append-nil positions);
     explains = subst (λ z. Explains m z positions t) (sym none_grown) stands.explains;
     calls = λ x n read at begun. subst (λ z. CallStands m s.progress.completed z positions t x (length n.answered) n.pending read) (sym none_grown) (stands.calls x n read at begun);
   }
@@ -148,6 +152,8 @@ module _ (m : Opening) (s : Moment) (positions : Positions) (t : Trace) (stands 
       (call.0, Some (length (grown k)), opened, subst (λ z. At (length (grown k)) z (grown k ++ r ∷ [])) is there) in
       record {
         places = y.places ++ call.0 ∷ [];
+        more = y.more ++ call.0 ∷ [];
+        places_are = ap (λ z. z ++ call.0 ∷ []) y.places_are ∙ append_assoc positions y.more (call.0 ∷ []);
         explains = subst (λ z. Explains m z (y.places ++ call.0 ∷ []) t) (sym (one_grown k q g)) grew;
         calls = λ x n read at now. subst (λ z. CallStands m s.progress.completed z (y.places ++ call.0 ∷ []) t x (length n.answered) n.pending read) (sym (one_grown k q g))
             (⊎_elim
@@ -171,11 +177,11 @@ module _ (m : Opening) (s : Moment) (positions : Positions) (t : Trace) (stands 
 
   -- the events stand for the moment with these records
   pub batch_stands : (k : ℕ) → k ≤ length n.batch → length h + k ≤ m.config.limit
-      → (later : Positions) × EventsStand m (record { progress = with_records s.progress (map record_of (take k n.batch)); notes = s.notes; reads = s.reads }) later t
+      → (more : Positions) × EventsStand m (record { progress = with_records s.progress (map record_of (take k n.batch)); notes = s.notes; reads = s.reads }) (positions ++ more) t
   batch_stands k l room =
       let y = grown_to k l room in (
-        y.places,
-        record {
+        y.more,
+        subst (λ z. EventsStand m (record { progress = with_records s.progress (map record_of (take k n.batch)); notes = s.notes; reads = s.reads }) z t) y.places_are (record {
           config = stands.config;
           catalogue = stands.catalogue;
           completed = (let len = grown_long k l in let done = stands.completed in omega (arith, len, done));
@@ -184,5 +190,5 @@ module _ (m : Opening) (s : Moment) (positions : Positions) (t : Trace) (stands 
           stamps = stands.stamps;
           told = stands.told;
           calls = y.calls;
-        },
+        }),
       )

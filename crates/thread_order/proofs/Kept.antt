@@ -40,7 +40,7 @@ use Rattle.thread_order.proofs.Batches.{Waiting, batch_stands, map_length, waits
 use Rattle.schedule.proofs.Appends.{take_length}
 use Rattle.thread_order.proofs.Calls.{call_done}
 use Rattle.thread_order.proofs.Events.{AreOthers, calls_read, calls_update, right_once, stands_event, told_more, with_seats}
-use Rattle.thread_order.proofs.Noted.{Kept, batch_noted, between, drop_front, event_noted, no_events, on_progress, own, progress_is, told_before}
+use Rattle.thread_order.proofs.Noted.{Kept, batch_noted, between, drop_front, event_noted, further, no_events, no_more, on_progress, own, progress_is, told_before}
 
 abbrev L : Type 0
 L = Progress CatalogueView
@@ -101,10 +101,10 @@ module _ (m : Opening) (s : Moment) (positions : Positions) (t : Trace) (stands 
   still_told : (n' : SessionNote) (e : Event) → n'.answered ≡ n.answered → (q : ℕ) (u : AnsweredUpdate) → slice_get n'.answered q ≡ Some u → IsTold (t ++ e ∷ []) c u
   still_told n' e same q u has = told_more e (told_before m s positions t stands c n here unread q u (subst (λ zs. slice_get zs q ≡ Some u) same has))
 
-  same_note : (n' : SessionNote) → n' ≡ n → Kept m (noting n') (t ++ events_of c n n')
+  same_note : (n' : SessionNote) → n' ≡ n → Kept m positions (noting n') (t ++ events_of c n n')
   same_note n' is = batch_noted m s positions t stands c n here unread n' (ap (λ (z : SessionNote). z.answered) is) (ap (λ (z : SessionNote). z.pending) is)
 
-  posts : (n' : SessionNote) (o : Pending) → n.pending ≡ None → store_meaning.is_update s.progress.catalogue o.op ≡ true → n' ≡ record n { pending = Some o } → Kept m (noting n') (t ++ events_of c n n')
+  posts : (n' : SessionNote) (o : Pending) → n.pending ≡ None → store_meaning.is_update s.progress.catalogue o.op ≡ true → n' ≡ record n { pending = Some o } → Kept m positions (noting n') (t ++ events_of c n n')
   posts n' o idle may is =
       let old = subst (λ z. CallStands m s.progress.completed s.progress.history positions t c (length n.answered) z None) idle before in
       let none = no_next store_meaning s.progress s.notes c n w here idle in
@@ -113,7 +113,7 @@ module _ (m : Opening) (s : Moment) (positions : Positions) (t : Trace) (stands 
       (between c n.pending None n'.pending (Some o) (drop (length n.answered) n'.answered) _ idle (ap (λ (z : SessionNote). z.pending) is) refl)
       refl old.0 (omega arith) (still_told n' (Call c Update o.op) (ap (λ (z : SessionNote). z.answered) is)) (subst (λ (z : SessionNote). CallStands m s.progress.completed s.progress.history positions (t ++ Call c Update o.op ∷ []) c (length z.answered) z.pending None) (sym is) p)
 
-  collects : (n' : SessionNote) (o : Pending) (reply : Reply) → n.pending ≡ Some o → Tells store_meaning s.progress c (length n.answered) o reply → n' ≡ answered_with n o.op reply → Kept m (noting n') (t ++ events_of c n n')
+  collects : (n' : SessionNote) (o : Pending) (reply : Reply) → n.pending ≡ Some o → Tells store_meaning s.progress c (length n.answered) o reply → n' ≡ answered_with n o.op reply → Kept m positions (noting n') (t ++ events_of c n n')
   collects n' o reply asked tells is = by reply tells is
     where
       waits : Waiting m s.progress.completed s.progress.history positions t c (length n.answered) o
@@ -127,7 +127,7 @@ module _ (m : Opening) (s : Moment) (positions : Positions) (t : Trace) (stands 
       no_place None none p = refl
       no_place (Some i) none p = absurd (none i _ p refl refl)
 
-      by : (reply : Reply) → Tells store_meaning s.progress c (length n.answered) o reply → n' ≡ answered_with n o.op reply → Kept m (noting n') (t ++ events_of c n n')
+      by : (reply : Reply) → Tells store_meaning s.progress c (length n.answered) o reply → n' ≡ answered_with n o.op reply → Kept m positions (noting n') (t ++ events_of c n n')
       by (Placed i r) told is =
           let u : AnsweredUpdate = record { index = i; op = o.op; reply = r } in
           let e : Event = Back c (Updated (Placed i r)) in
@@ -165,7 +165,7 @@ module _ (m : Opening) (s : Moment) (positions : Positions) (t : Trace) (stands 
           refl (Update, o.op, waits.0, waiting.is_open, tt, right_once m s.progress.history positions t c Update o.op waits.0 (Updated Ended) waiting.is_open right) (omega (arith, full, config)) (still_told n' e (ap (λ (z : SessionNote). z.answered) is))
           (subst (λ (z : SessionNote). CallStands m s.progress.completed s.progress.history positions (t ++ e ∷ []) c (length z.answered) z.pending None) (sym is) (idle_back t c (Updated Ended), omega (arith, counts)))
 
-  desk_moves : (p : ℕ) (x : DeskView) (n' : SessionNote) → AgreesWith store_meaning p s.progress s.notes (TheDesk x) → DeskMove store_meaning x c s.progress n n' → Kept m (noting n') (t ++ events_of c n n')
+  desk_moves : (p : ℕ) (x : DeskView) (n' : SessionNote) → AgreesWith store_meaning p s.progress s.notes (TheDesk x) → DeskMove store_meaning x c s.progress n n' → Kept m positions (noting n') (t ++ events_of c n n')
   desk_moves p x n' agrees (Posts o idle may seen is) = posts n' o idle may is
   desk_moves p x n' agrees (Claims none is) = batch_noted m s positions t stands c n here unread n' (ap (λ (z : SessionNote). z.answered) is) (ap (λ (z : SessionNote). z.pending) is)
   desk_moves p x n' agrees (Replies is) = batch_noted m s positions t stands c n here unread n' (ap (λ (z : SessionNote). z.answered) is) (ap (λ (z : SessionNote). z.pending) is)
@@ -174,7 +174,7 @@ module _ (m : Opening) (s : Moment) (positions : Positions) (t : Trace) (stands 
 
   -- the log is put back with the first of its batch
   appends : (l' : L) (n' : SessionNote) → BatchAppended store_meaning s.progress n l' n' → l'.config ≡ s.progress.config → l'.catalogue ≡ s.progress.catalogue → l'.completed ≡ s.progress.completed
-      → Kept m (record { progress = l'; notes = slice_set s.notes c n'; reads = s.reads }) (t ++ events_of c n n')
+      → Kept m positions (record { progress = l'; notes = slice_set s.notes c n'; reads = s.reads }) (t ++ events_of c n n')
   appends l' n' b config catalogue completed =
       let more = map record_of (take b.count n.batch) in
       let longer = length-append s.progress.history more in
@@ -183,19 +183,20 @@ module _ (m : Opening) (s : Moment) (positions : Positions) (t : Trace) (stands 
       let whole : length l'.history ≡ length s.progress.history + b.count = ap length b.history ∙ omega (arith, longer, taken) in
       let room : length s.progress.history + b.count ≤ m.config.limit = (let e = ap (λ z. z.limit) (config ∙ sym stands.config) in let f = ap (λ z. z.limit) stands.config in omega (arith, whole, limit, e, f)) in
       let y = batch_stands m s positions t stands w c n here b.unplaced b.count b.within room in
-      on_progress m l' (with_records s.progress more) (slice_set s.notes c n') s.reads (t ++ events_of c n n')
+      on_progress m positions l' (with_records s.progress more) (slice_set s.notes c n') s.reads (t ++ events_of c n n')
       (progress_is l' (with_records s.progress more) config catalogue b.history completed)
-      (batch_noted m (record { progress = with_records s.progress more; notes = s.notes; reads = s.reads }) y.0 t y.1 c n here unread n'
-      (ap (λ (z : SessionNote). z.answered) b.note) (ap (λ (z : SessionNote). z.pending) b.note))
+      (further m positions y.0 (record { progress = with_records s.progress more; notes = slice_set s.notes c n'; reads = s.reads }) (t ++ events_of c n n')
+      (batch_noted m (record { progress = with_records s.progress more; notes = s.notes; reads = s.reads }) (positions ++ y.0) t y.1 c n here unread n'
+      (ap (λ (z : SessionNote). z.answered) b.note) (ap (λ (z : SessionNote). z.pending) b.note)))
 
   pub moves : (p : ℕ) (v : StoreValue StoreState) (l' : L) (n' : SessionNote) → Moves store_meaning p c v s.progress n l' n' → AgreesWith store_meaning p s.progress s.notes v
-      → Kept m (record { progress = l'; notes = slice_set s.notes c n'; reads = s.reads }) (t ++ events_of c n n')
+      → Kept m positions (record { progress = l'; notes = slice_set s.notes c n'; reads = s.reads }) (t ++ events_of c n n')
   moves p (TheReplica x) l' n' (same, note) agrees =
-      on_progress m l' s.progress (slice_set s.notes c n') s.reads (t ++ events_of c n n') same (same_note n' note)
+      on_progress m positions l' s.progress (slice_set s.notes c n') s.reads (t ++ events_of c n n') same (same_note n' note)
   moves p (TheDesk x) l' n' (same, note) agrees =
-      on_progress m l' s.progress (slice_set s.notes c n') s.reads (t ++ events_of c n n') same (⊎_elim (λ is. same_note n' is) (λ own_desk. desk_moves p x n' agrees own_desk.1) note)
+      on_progress m positions l' s.progress (slice_set s.notes c n') s.reads (t ++ events_of c n n') same (⊎_elim (λ is. same_note n' is) (λ own_desk. desk_moves p x n' agrees own_desk.1) note)
   moves p (TheLog x) l' n' (at_log, log) agrees = ⊎_elim
-      (λ only. on_progress m l' s.progress (slice_set s.notes c n') s.reads (t ++ events_of c n n') (progress_is l' s.progress log.config log.catalogue only.0 log.completed) (same_note n' only.1))
+      (λ only. on_progress m positions l' s.progress (slice_set s.notes c n') s.reads (t ++ events_of c n n') (progress_is l' s.progress log.config log.catalogue only.0 log.completed) (same_note n' only.1))
       (λ b. appends l' n' b log.config log.catalogue log.completed)
       log.appends
 
@@ -274,19 +275,19 @@ module _ (m : Opening) (s : Moment) (positions : Positions) (t : Trace) (stands 
 
 -- ---- together
 
-step_keeps : (m : Opening) (positions : Positions) (t : Trace) {s next : Moment} {events : List Event} → EventsStand m s positions t → ThreadStep s events next → Kept m next (t ++ events)
+pub step_keeps : (m : Opening) (positions : Positions) (t : Trace) {s next : Moment} {events : List Event} → EventsStand m s positions t → ThreadStep s events next → Kept m positions next (t ++ events)
 step_keeps m positions t stands (PutsBack move notes reads among unread) =
     moves m (record { progress = move.progress; notes = notes; reads = reads }) positions t stands move.session move.note among.own unread among.accounts move.place move.value move.new_progress move.new_note move.allowed among.agrees
-step_keeps m positions t stands (Raises s n within) = no_events m (record s { progress = raised s.progress n }) t [] refl (positions, raise_kept m s positions t n within stands)
-step_keeps m positions t stands (BeginsRead s x note call here idle unread may) = (positions, begins_read m s positions t stands x note call here idle unread may)
-step_keeps m positions t stands (AnswersRead s x read answer begun tells) = (positions, answers_read m s positions t stands x read answer begun tells)
+step_keeps m positions t stands (Raises s n within) = no_events m positions (record s { progress = raised s.progress n }) t [] refl (no_more m positions (record s { progress = raised s.progress n }) t (raise_kept m s positions t n within stands))
+step_keeps m positions t stands (BeginsRead s x note call here idle unread may) = no_more m positions _ _ (begins_read m s positions t stands x note call here idle unread may)
+step_keeps m positions t stands (AnswersRead s x read answer begun tells) = no_more m positions _ _ (answers_read m s positions t stands x read answer begun tells)
 
 pub steps_keep : StepsKeepIt
 steps_keep m s next positions t events stands step = step_keeps m positions t stands step
 
-runs_stand : (m : Opening) (sessions : ℕ) {s : Moment} {t : Trace} → Runs m sessions s t → Kept m s t
+pub runs_stand : (m : Opening) (sessions : ℕ) {s : Moment} {t : Trace} → Runs m sessions s t → Kept m [] s t
 runs_stand m sessions Begins = ([], opening_stands m sessions)
-runs_stand m sessions (Then s next t events runs step) = let k = runs_stand m sessions runs in step_keeps m k.0 t k.1 step
+runs_stand m sessions (Then s next t events runs step) = let k = runs_stand m sessions runs in further m [] k.0 next (t ++ events) (step_keeps m k.0 t k.1 step)
 
 pub all_explained : ThreadsAreExplained
 all_explained m sessions s t runs = let k = runs_stand m sessions runs in (k.0, k.1.explains)

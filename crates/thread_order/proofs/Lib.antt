@@ -10,7 +10,10 @@ pub mod Noted
 pub mod Kept
 -- What the lock's contracts tell.
 pub mod AtLock
--- The rules with the events.
-pub mod Traced
--- And with reads.
-pub mod Reading
+-- A run of the lock is a list of the steps of threads.
+pub mod RunEvents
+-- Own steps of a session in a run.
+pub mod OwnSteps
+pub mod KeptNotes
+-- A look in the run, and what its session may say of it.
+pub mod ReadsSaid

@@ -1,5 +1,5 @@
 -- A session notes something, and makes an event by that or none.
-use Rattle.std.proofs.Common.{◌≡◌, ℕ, ◌≤◌, List, [], ◌∷◌, ◌++◌, length, drop, Option, Some, None, refl, sym, ◌∙◌, subst, ⊎_elim, append-nil}
+use Rattle.std.proofs.Common.{◌≡◌, ℕ, ◌≤◌, List, [], ◌∷◌, ◌++◌, length, drop, Option, Some, None, refl, sym, ◌∙◌, subst, ⊎_elim, append-nil, append_assoc}
 use Rattle.std.specs.Prelude.{slice_get, slice_set}
 use Rattle.std.proofs.lemmas.Option.{same_Some}
 use Rattle.ownlock.specs.Seats.{At}
@@ -22,23 +22,29 @@ use Rattle.thread_order.proofs.Events.{AreOthers, stands_event, stands_silent, t
 abbrev L : Type 0
 L = Progress CatalogueView
 
--- the events stand for the next moment, whatever positions the calls have then
-abbrev pub Kept : Opening → Moment → Trace → Type 0
-Kept m next t = (later : Positions) × EventsStand m next later t
+-- the events stand for the next moment, with these positions of calls and perhaps more
+abbrev pub Kept : Opening → Positions → Moment → Trace → Type 0
+Kept m positions next t = (more : Positions) × EventsStand m next (positions ++ more) t
+
+pub no_more : (m : Opening) (positions : Positions) (next : Moment) (t : Trace) → EventsStand m next positions t → Kept m positions next t
+no_more m positions next t stands = ([], subst (λ z. EventsStand m next z t) (sym (append-nil positions)) stands)
+
+pub further : (m : Opening) (positions more : Positions) (next : Moment) (t : Trace) → Kept m (positions ++ more) next t → Kept m positions next t
+further m positions more next t k = (more ++ k.0, subst (λ z. EventsStand m next z t) (append_assoc positions more k.0) k.1)
 
 -- ---- what a put leaves
 
 pub progress_is : (a b : L) → a.config ≡ b.config → a.catalogue ≡ b.catalogue → a.history ≡ b.history → a.completed ≡ b.completed → a ≡ b
 progress_is a b config catalogue history completed = λ k. record { config = config k; catalogue = catalogue k; history = history k; completed = completed k }
 
-pub on_progress : (m : Opening) (a b : L) (notes : List SessionNote) (reads : List (Option BegunRead)) (t : Trace) → a ≡ b → Kept m (record { progress = b; notes = notes; reads = reads }) t → Kept m (record { progress = a; notes = notes; reads = reads }) t
-on_progress m a b notes reads t e k = subst (λ z. Kept m (record { progress = z; notes = notes; reads = reads }) t) (sym e) k
+pub on_progress : (m : Opening) (positions : Positions) (a b : L) (notes : List SessionNote) (reads : List (Option BegunRead)) (t : Trace) → a ≡ b → Kept m positions (record { progress = b; notes = notes; reads = reads }) t → Kept m positions (record { progress = a; notes = notes; reads = reads }) t
+on_progress m positions a b notes reads t e k = subst (λ z. Kept m positions (record { progress = z; notes = notes; reads = reads }) t) (sym e) k
 
-with_events : (m : Opening) (next : Moment) (t : Trace) (events made : List Event) → events ≡ made → Kept m next (t ++ made) → Kept m next (t ++ events)
-with_events m next t events made e k = subst (λ z. Kept m next (t ++ z)) (sym e) k
+with_events : (m : Opening) (positions : Positions) (next : Moment) (t : Trace) (events made : List Event) → events ≡ made → Kept m positions next (t ++ made) → Kept m positions next (t ++ events)
+with_events m positions next t events made e k = subst (λ z. Kept m positions next (t ++ z)) (sym e) k
 
-pub no_events : (m : Opening) (next : Moment) (t : Trace) (events : List Event) → events ≡ [] → Kept m next t → Kept m next (t ++ events)
-no_events m next t events e k = with_events m next t events [] e (subst (Kept m next) (sym (append-nil t)) k)
+pub no_events : (m : Opening) (positions : Positions) (next : Moment) (t : Trace) (events : List Event) → events ≡ [] → Kept m positions next t → Kept m positions next (t ++ events)
+no_events m positions next t events e k = with_events m positions next t events [] e (subst (Kept m positions next) (sym (append-nil t)) k)
 
 -- a session whose request stays makes no event
 stays : (x : ℕ) (p q : Option Pending) (us : List AnsweredUpdate) → q ≡ p → events_between x p q us ≡ []
@@ -98,19 +104,17 @@ module _ (m : Opening) (s : Moment) (positions : Positions) (t : Trace) (stands 
   told_before q u has = stands.told c q n u (get_of s.notes c n here) has
 
   -- its note changes in its batch alone
-  pub batch_noted : (n' : SessionNote) → n'.answered ≡ n.answered → n'.pending ≡ n.pending → Kept m (noting n') (t ++ events_of c n n')
-  batch_noted n' same asks = no_events m (noting n') t (events_of c n n') (stays c n.pending n'.pending (drop (length n.answered) n'.answered) asks) (
-    positions,
-    stands_silent m s positions t c (slice_set s.notes c n') s.reads (others n') (long n') stands
-        (told_then n' t (λ y u is. is) (λ q u has. told_before q u (subst (λ zs. slice_get zs q ≡ Some u) same has)))
-        (this n' t (subst (λ z. CallStands m done s.progress.history positions t c (length z) n'.pending None) (sym same)
-        (subst (λ z. CallStands m done s.progress.history positions t c (length n.answered) z None) (sym asks) own))),
-  )
+  pub batch_noted : (n' : SessionNote) → n'.answered ≡ n.answered → n'.pending ≡ n.pending → Kept m positions (noting n') (t ++ events_of c n n')
+  batch_noted n' same asks = no_events m positions (noting n') t (events_of c n n') (stays c n.pending n'.pending (drop (length n.answered) n'.answered) asks) (no_more m positions (noting n') t (
+      stands_silent m s positions t c (slice_set s.notes c n') s.reads (others n') (long n') stands
+      (told_then n' t (λ y u is. is) (λ q u has. told_before q u (subst (λ zs. slice_get zs q ≡ Some u) same has)))
+      (this n' t (subst (λ z. CallStands m done s.progress.history positions t c (length z) n'.pending None) (sym same)
+      (subst (λ z. CallStands m done s.progress.history positions t c (length n.answered) z None) (sym asks) own)))
+      ))
 
   -- it makes this event
   pub event_noted : (n' : SessionNote) (e : Event) → events_of c n n' ≡ e ∷ [] → caller e ≡ c → Fine m s.progress.history positions t e → stamp_of m e ≤ done → ((q : ℕ) (u : AnsweredUpdate) → slice_get n'.answered q ≡ Some u → IsTold (t ++ e ∷ []) c u)
-      → CallStands m done s.progress.history positions (t ++ e ∷ []) c (length n'.answered) n'.pending None → Kept m (noting n') (t ++ events_of c n n')
-  event_noted n' e made by fine early new p = with_events m (noting n') t (events_of c n n') (e ∷ []) made (
-    positions,
-    stands_event m s positions t c (slice_set s.notes c n') s.reads (others n') (long n') stands e by fine early (told_then n' (t ++ e ∷ []) (λ y u is. told_more e is) new) (this n' (t ++ e ∷ []) p),
-  )
+      → CallStands m done s.progress.history positions (t ++ e ∷ []) c (length n'.answered) n'.pending None → Kept m positions (noting n') (t ++ events_of c n n')
+  event_noted n' e made by fine early new p = with_events m positions (noting n') t (events_of c n n') (e ∷ []) made (no_more m positions (noting n') (t ++ e ∷ []) (
+      stands_event m s positions t c (slice_set s.notes c n') s.reads (others n') (long n') stands e by fine early (told_then n' (t ++ e ∷ []) (λ y u is. told_more e is) new) (this n' (t ++ e ∷ []) p)
+      ))

@@ -1,10 +1,10 @@
 -- The steps of threads on what all sessions see, the events of their calls, and what is to be shown of them.
 pub mod Threads
+-- The run of a store's lock, the events that its sessions make there, and the history that explains them.
+pub mod RunEvents
+-- A look in that run, and what its session may say of a read.
+pub mod ReadsSaid
 -- What holds of the notes and the events after each step.
 pub mod Stands
 -- What the lock's contracts tell are steps.
 pub mod AtLock
--- The rules of the lock with the events beside the progress.
-pub mod Traced
--- And with reads, for which a load has to be a move.
-pub mod Reading

@@ -47,8 +47,8 @@ pub record EventsStand (m : Opening) (s : Moment) (positions : Positions) (t : T
 abbrev pub OpeningStands : Type 0
 OpeningStands = (m : Opening) (sessions : ℕ) → EventsStand m (first_moment m sessions) [] []
 
--- each step keeps it, with the events that it makes
+-- each step keeps it, with its events added; the calls keep their positions
 abbrev pub StepsKeepIt : Type 0
 StepsKeepIt =
     (m : Opening) (s next : Moment) (positions : Positions) (t : Trace) (events : List Event) → EventsStand m s positions t → ThreadStep s events next
-    → (later : Positions) × EventsStand m next later (t ++ events)
+    → (more : Positions) × EventsStand m next (positions ++ more) (t ++ events)

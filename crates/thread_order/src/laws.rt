@@ -1,8 +1,8 @@
 // The laws.
 ghost use Rattle.thread_order.specs.Threads.{AnswersAreTold, ThreadsAreExplained};
+ghost use Rattle.thread_order.specs.RunEvents.{AnswersAreInRun, BetweenIsExplained, CalledLater, EachStepStands, EventsGoOn, KnownEventsBegin, RunsAreExplained, UpdatesAreExplained};
+ghost use Rattle.thread_order.specs.ReadsSaid.{EachMaySay, LooksStand, ReadsMaySay, SilentMaySay};
 ghost use Rattle.thread_order.specs.Stands.{OpeningStands, StepsKeepIt};
-ghost use Rattle.thread_order.specs.Reading.{OpensWithReads, ReadsAreInOrder, ReadsAreTraced};
-ghost use Rattle.thread_order.specs.Traced.{IsInOrderBetween, OpensTraced, RulesAreTraced};
 ghost use Rattle.thread_order.specs.AtLock.{AnswersAreSteps, LoadsAreSteps, PutsAreSteps, RaisesAreSteps};
 
 /// What the threads of a store do to the history, its completed tail and the notes of their sessions is a list of steps: a session puts a
@@ -17,6 +17,26 @@ pub fn threads_are_explained()
     ensures told { AnswersAreTold }
 {}
 
+/// A run of a store's lock, each step of which the rules allow, leads to a history that explains the calls and answers of all its sessions in the
+/// order of the steps: their updates, and the reads that the sessions may say they made. Each update that a session noted as answered is among them. This is so between any two atomic steps, and the events
+/// that a session knows begin the events of all. At each step the history so far explains the events so far, and an update that is called later
+/// has a later index. By the contract of a look its session loads the completed tail at one step of the run and puts the replica back at a later
+/// one. By the contract of a read its session may say that it asked at the first of these and had its answer at the second.
+pub fn runs_are_explained()
+    ensures runs { RunsAreExplained }
+    ensures told { AnswersAreInRun }
+    ensures updates { UpdatesAreExplained }
+    ensures goes_on { EventsGoOn }
+    ensures stands { EachStepStands }
+    ensures later { CalledLater }
+    ensures between { BetweenIsExplained }
+    ensures known { KnownEventsBegin }
+    ensures looks { LooksStand }
+    ensures each { EachMaySay }
+    ensures reads { ReadsMaySay }
+    ensures silent { SilentMaySay }
+{}
+
 /// What the lock's contracts tell a session of a store is one of these steps, from whatever it may find there: a put that it may make, with
 /// the events that its note tells; a raise of the completed tail to no more than it knows the history to have; a load of that tail for a read;
 /// and what a read is told by what its session knows then.
@@ -25,17 +45,4 @@ pub fn contracts_are_steps()
     ensures raise { RaisesAreSteps }
     ensures load { LoadsAreSteps }
     ensures read { AnswersAreSteps }
-{}
-
-/// The rules of a store's lock may carry the events of updates beside the progress: with these they are still what the lock asks of rules,
-/// and an opened store meets them. Between any two atomic steps on a shelf with these rules the history explains all events so far, and what
-/// a session knows of the events is their beginning. With the begun reads in the notes they carry the events of reads too, and a load that
-/// notes the begun read and adds its call keeps all that a put has to keep. No store is opened with either yet.
-pub fn rules_carry_events()
-    ensures rules { RulesAreTraced }
-    ensures opening { OpensTraced }
-    ensures between { IsInOrderBetween }
-    ensures reads { ReadsAreTraced }
-    ensures opening_reads { OpensWithReads }
-    ensures between_reads { ReadsAreInOrder }
 {}

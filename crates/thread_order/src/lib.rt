@@ -5,4 +5,4 @@
 
 mod laws;
 
-pub use laws::{contracts_are_steps, rules_carry_events, threads_are_explained};
+pub use laws::{contracts_are_steps, runs_are_explained, threads_are_explained};

@@ -1,3 +1,5 @@
+use Rattle.ownlock.specs.Seats.{run_of}
+use Rattle.ownlock.proofs.Run.{adds_on}
 use Rattle.std.proofs.Common.{◌+◌, [], ◌∷◌, Some, sym, refl, ap, ◌∙◌, subst}
 use Rattle.ownlock.proofs.Seats.{one_known}
 use Rattle.accounts.specs.declared.sessions.SessionNote.{SessionNote}
@@ -68,7 +70,7 @@ returns-clause-combined c k is =
     let r = c.replay_and_raise.ensures.replayed a.0 a.1 in
     let held = r.2.goes.held ∙ (a.2.goes.held ∙ (b.held ∙ ap (λ z. (z, w) ∷ []) (sym c.in-Some.ensures.place))) in
     let p = c.put-2.ensures.put r.0 r.1 in
-    let f = back r.0 w (holds_on a.0 r.0 w r.2.goes h) c.replay_and_raise.new.seat.sessions r.1 c.replay_and_raise.new.node r.2.agrees r.2.within c.in-Some.held.place held p.0 p.1.0 p.1.1 in
+    let f = back r.0 w (holds_on a.0 r.0 w r.2.goes h) c.replay_and_raise.new.seat.sessions r.1 c.replay_and_raise.new.node r.2.agrees r.2.within c.in-Some.held.place held p.0 p.1.0 p.1.1 _ (adds_on r.0 _ _ _ _ p.3) in
     let new = c.replay_and_raise.new.replies in
     let y = c.args.batch.now in (
       _,
@@ -101,13 +103,13 @@ returns-clause-goes c k after is now =
     let r = c.replay_and_raise.ensures.replayed a.0 a.1 in
     let held = r.2.goes.held ∙ (a.2.goes.held ∙ (b.held ∙ ap (λ z. (z, w) ∷ []) (sym c.in-Some.ensures.place))) in
     let p = c.put-2.ensures.put r.0 r.1 in
-    let f = back r.0 w (holds_on a.0 r.0 w r.2.goes h) c.replay_and_raise.new.seat.sessions r.1 m r.2.agrees r.2.within c.in-Some.held.place held p.0 p.1.0 p.1.1 in
-    let q = put_back c.replay_and_raise.new.seat.sessions (with_replica w m) r.0 c.in-Some.held.place p.0 in
+    let f = back r.0 w (holds_on a.0 r.0 w r.2.goes h) c.replay_and_raise.new.seat.sessions r.1 m r.2.agrees r.2.within c.in-Some.held.place held p.0 p.1.0 p.1.1 _ (adds_on r.0 _ _ _ _ p.3) in
+    let q = put_back c.replay_and_raise.new.seat.sessions (with_replica w m) r.0 c.in-Some.held.place p.0 (run_of c.put-2.new.seat.sessions) in
     let first = c.in-Some-try_append_and_copy.ensures.goes t.0 a.0 t.2 a.1 c.args.batch.now (sym c.records.ensures.records) in
     let then = c.replay_and_raise.ensures.goes a.0 r.0 a.1 r.1 first.back first.back_is in
     subst (λ s. AnswersBy c.args.here.caller.node k s c.args.batch.now new) (one_known c.put-2.new.seat q after p.2 now)
     (answers_by c.args.here.caller.node k t.0 a.0 r.0 q c.args.batch.now n v m old new b.extends (b.agrees n c.replica_mut-node.ensures.replica) b.stands first then a.2.goes.extends r.2.goes.extends r.2.agrees f.extends f.stands r.2.within
-    w c.replica_mut-node.ensures.replica b.steps c.in-Some.held.place c.in-Some.ensures.place refl)
+    w c.replica_mut-node.ensures.replica b.steps c.in-Some.held.place c.in-Some.ensures.place (refl, adds_on r.0 _ _ _ _ p.3))
 
 -- ---- the replica is held
 
@@ -145,5 +147,5 @@ returns-in_default-try_append_and_copy-clause-stays c k is0 =
     let held = b.held ∙ ap (λ z. (z, w) ∷ []) (sym c.in-Some.ensures.place) in
     let agrees = subst (Agrees t.0.progress) (sym e.1) (b.agrees c.replica_mut-node.result.now c.replica_mut-node.ensures.replica) in
     let p = c.put.ensures.put t.0 is in
-    let f = back t.0 w b.holds c.try_append_and_copy.new.seat.sessions is n agrees (low_enough t.0 n agrees b.stands) c.in-Some.held.place held p.0 p.1.0 p.1.1 in
-    (_, p.2, still_back (1 + c.args.here.caller.node) c.in-Some.held.place k t.0 _ w n b f (c.replica_mut-node.ensures.replica ∙ ap Some (sym e.1)) c.in-Some.ensures.place refl)
+    let f = back t.0 w b.holds c.try_append_and_copy.new.seat.sessions is n agrees (low_enough t.0 n agrees b.stands) c.in-Some.held.place held p.0 p.1.0 p.1.1 _ (adds_on t.0 _ _ _ _ p.3) in
+    (_, p.2, still_back (1 + c.args.here.caller.node) c.in-Some.held.place k t.0 _ w n b f (c.replica_mut-node.ensures.replica ∙ ap Some (sym e.1)) c.in-Some.ensures.place (refl, adds_on t.0 _ _ _ _ p.3))

@@ -1,3 +1,4 @@
+use Rattle.ownlock.proofs.Run.{adds_on}
 use Rattle.std.proofs.Common.{◌≡◌, ℕ, ◌+◌, ◌∷◌, ◌∙◌, sym, ap, subst}
 use Rattle.ownlock.specs.declared.known.ShelfStep.TheVariants.{Put}
 use Rattle.combiner.specs.Desks.{replied}
@@ -66,7 +67,7 @@ returns-clause-combined c k is =
     let same = same_desk c.args.here.caller k t.0 place v b x c.desk_mut.ensures.desk in
     let puts = puts_replied c.args.here.caller k t.0 place v c.args.batch.now c.args.replies.now b ready c.reply.new.batch x y same c.reply.ensures.answered c.reply.ensures.replied (with_desk v y) (desk_put v x y c.desk_mut.ensures.desk) c.try_take.new.seat.sessions t.2 c.in-Some.held.place c.in-Some.ensures.place in
     let p = c.put.ensures.put t.0 t.2 in
-    (_, p.2, handed k t.0 _ b.note (puts.back p.0 p.1.0 p.1.1))
+    (_, p.2, handed k t.0 _ b.note (puts.back p.0 p.1.0 p.1.1 _ (adds_on t.0 _ _ _ _ p.3)))
 
 pub returns-clause-handed : goal.returns-clause-handed
 unfolding returns-clause-combined
@@ -81,10 +82,10 @@ returns-clause-handed c k after is now log node log_is agrees =
     let f = done.2 in
     let y' = replied (answered_batch c.args.replies.now c.args.batch.now) x in
     let becomes : y ≡ y' = c.reply.ensures.replied ∙ ap (λ z. replied z x) c.reply.ensures.answered in
-    let put_it = ap (λ z. Put c.in-Some.held.place (with_desk v z) ∷ t.0.steps) becomes in
+    let p = c.put.ensures.put t.0 t.2 in
     subst (λ z. HandsOver c.args.here.caller.node k z log node c.args.batch.now c.args.replies.now) (one_known c.put.new.seat _ after done.1 now)
     (hands_over c.args.here.caller.node k _ log node c.args.batch.now c.args.replies.now x log_is agrees f.extends f.stands.accounts.completed
     (subst (λ (z : Sizes × ℕ). IsSessionOf z.0 x.node z.1) (λ j. (sym b.extends.config j, b.session j)) (c.args.here.caller.slot, at.within, at.own, at.near))
     (is_batch t.0 c.args.batch.now c.args.replies.now ready c.args.here.caller.slot x at)
     (desk_node c.args.here.caller k t.0 place v b x c.desk_mut.ensures.desk)
-    (did_at_desk c.args.here.caller k t.0 place v b has.0 there x y' c.desk_mut.ensures.desk _ c.in-Some.held.place c.in-Some.ensures.place put_it))
+    (did_at_desk c.args.here.caller k t.0 place v b has.0 there x y' c.desk_mut.ensures.desk _ c.in-Some.held.place c.in-Some.ensures.place (ap (λ z. Put c.in-Some.held.place (with_desk v z) ∷ t.0.steps) becomes, adds_on t.0 _ _ _ _ p.3)))

@@ -31,7 +31,7 @@ returns-clause-gone c =
 
 pub returns-in_default-clause-goes : goal.returns-in_default-clause-goes
 returns-in_default-clause-goes c k after is now =
-    Tries [] Nothing (did_none k after (ap (λ (z : SessionKnown). z.steps) (one_known c.try_hand_over.new.seat after k now (ap (λ s. s.sessions) c.in_default.ensures.stays.0 ∙ is))))
+    Tries [] Nothing (did_none k after (ap (λ (z : SessionKnown). z.steps) (one_known c.try_hand_over.new.seat after k now (ap (λ s. s.sessions) c.in_default.ensures.stays.0 ∙ is))) (ap (λ (z : SessionKnown). z.run) (one_known c.try_hand_over.new.seat after k now (ap (λ s. s.sessions) c.in_default.ensures.stays.0 ∙ is))))
 
 pub returns-clause-goes : goal.returns-clause-goes
 returns-clause-goes c k after is now = Gives c.args.here.caller.node c.args.batch.now c.args.replies.now (c.in-Some.ensures.handed k after is now)

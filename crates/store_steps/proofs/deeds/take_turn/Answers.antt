@@ -46,7 +46,7 @@ returns-in-Some-Collects-clause-gone c kept =
 
 pub returns-in-None-clause-goes : goal.returns-in-None-clause-goes
 returns-in-None-clause-goes c k after is now =
-    Tries [] Nothing (did_none k after (ap (λ (z : SessionKnown). z.steps) (one_known c.try_turn.new.seat after k now (ap (λ s. s.sessions) c.in-None.ensures.stays.0 ∙ is))))
+    Tries [] Nothing (did_none k after (ap (λ (z : SessionKnown). z.steps) (one_known c.try_turn.new.seat after k now (ap (λ s. s.sessions) c.in-None.ensures.stays.0 ∙ is))) (ap (λ (z : SessionKnown). z.run) (one_known c.try_turn.new.seat after k now (ap (λ s. s.sessions) c.in-None.ensures.stays.0 ∙ is))))
 
 pub returns-in-Some-Waits-clause-goes : goal.returns-in-Some-Waits-clause-goes
 returns-in-Some-Waits-clause-goes c k after is now = Looks c.try_turn.new.batch (subst (λ z. TurnsBy k after c.try_turn.new.batch z) c.in-Some-Waits.field-0-is (c.in-Some-Waits.ensures.goes k after is now))

@@ -1,9 +1,9 @@
 use Rattle.std.proofs.Common.{◌≡◌}
-use Rattle.store_steps.specs.Questions.{FirstReply}
+use Rattle.store_steps.proofs.Numbered.{FirstReplies}
 use Rattle.store_steps.proofs.questions.answer_each.Given as goal
 
 abbrev pub invariant-loop-number : goal.invariant-loop-number
 invariant-loop-number l = record {
   node : l.node ≡ l.fn.node;
-  replies : FirstReply l.catalogue l.fn.node l.questions l.number l.replies;
+  replies : FirstReplies l.catalogue l.fn.node.replica.state l.questions l.number l.replies;
 }

@@ -1,3 +1,4 @@
+use Rattle.ownlock.proofs.Run.{adds_on}
 use Rattle.std.proofs.Common.{◌+◌, ◌∙◌, refl, sym, ap, subst}
 use Rattle.ownlock.proofs.Seats.{one_known}
 use Rattle.combiner.specs.Desks.{posted}
@@ -68,7 +69,7 @@ returns-clause-posted c k is =
     let isw = desk_put v x y c.desk_mut.ensures.desk in
     let puts = puts_posted c.args.here.caller k t.0 place v c.args.op.now b w y isw there c.try_take.new.seat.sessions t.2 may c.in-Some.held.place c.in-Some.ensures.place in
     let p = c.put.ensures.put t.0 t.2 in
-    (_, p.2, has_posted c.args.here.caller k t.0 place v c.args.op.now b w y isw there c.try_take.new.seat.sessions t.2 may _ (puts.back p.0 p.1.0 p.1.1))
+    (_, p.2, has_posted c.args.here.caller k t.0 place v c.args.op.now b w y isw there c.try_take.new.seat.sessions t.2 may _ (puts.back p.0 p.1.0 p.1.1 _ (adds_on t.0 _ _ _ _ p.3)))
 
 pub returns-clause-goes : goal.returns-clause-goes
 returns-clause-goes c k after is now =
@@ -82,4 +83,4 @@ returns-clause-goes c k after is now =
     let b = took_desk k t.0 c.args.here.caller place v free there t.1 in
     let p = c.put.ensures.put t.0 t.2 in
     subst (λ z. PostsBy k z c.args.op.now) (one_known c.put.new.seat _ after p.2 now)
-    (posts_by c.args.here.caller k t.0 place v b free there c.desk_mut.result.now c.post.new.desk c.desk_mut.ensures.desk _ c.in-Some.held.place c.in-Some.ensures.place refl c.args.op.now c.post.ensures.posted)
+    (posts_by c.args.here.caller k t.0 place v b free there c.desk_mut.result.now c.post.new.desk c.desk_mut.ensures.desk _ c.in-Some.held.place c.in-Some.ensures.place (refl, adds_on t.0 _ _ _ _ p.3) c.args.op.now c.post.ensures.posted)

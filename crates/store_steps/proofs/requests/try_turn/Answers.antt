@@ -1,3 +1,5 @@
+use Rattle.ownlock.specs.Seats.{run_of}
+use Rattle.ownlock.proofs.Run.{adds_on}
 use Rattle.std.proofs.Common.{◌+◌, refl, sym, ap, subst}
 use Rattle.ownlock.proofs.Seats.{one_known}
 use Rattle.store_steps.specs.AtDesk.{IsTurn}
@@ -68,8 +70,8 @@ returns-clause-turned c k o is asked =
     let all = c.try_take.new.seat.sessions in
     let turn = subst (λ z. IsTurn c.args.here.caller.slot z y c.look-turn.new.batch c.look-turn.result) (sym (same_desk c.args.here.caller k t.0 place v b x c.desk_mut.ensures.desk)) c.look-turn.ensures.turn in
     let p = c.put.ensures.put t.0 t.2 in
-    let back = (put_turn c.args.here.caller k t.0 place v w o b all t.2 asked y (desk_put v x y c.desk_mut.ensures.desk) c.look-turn.new.batch c.look-turn.result turn).back p.0 p.1.0 p.1.1 in
-    (_, p.2, subst (λ z. HasTurned k (desk_back (deed_in all w) all t.0 z w p.0) o c.look-turn.new.batch c.look-turn.result) (sym c.in-Some.ensures.place) back)
+    let back = (put_turn c.args.here.caller k t.0 place v w o b all t.2 asked y (desk_put v x y c.desk_mut.ensures.desk) c.look-turn.new.batch c.look-turn.result turn).back p.0 p.1.0 p.1.1 _ (adds_on t.0 _ _ _ _ p.3) in
+    (_, p.2, subst (λ z. HasTurned k (desk_back (deed_in all w) all t.0 z w p.0 (run_of c.put.new.seat.sessions)) o c.look-turn.new.batch c.look-turn.result) (sym c.in-Some.ensures.place) back)
 
 pub returns-clause-goes : goal.returns-clause-goes
 returns-clause-goes c k after is now =
@@ -83,4 +85,4 @@ returns-clause-goes c k after is now =
     let b = took_desk k t.0 c.args.here.caller place v free there t.1 in
     let p = c.put.ensures.put t.0 t.2 in
     subst (λ z. TurnsBy k z c.look-turn.new.batch c.look-turn.result) (one_known c.put.new.seat _ after p.2 now)
-    (turns_by c.args.here.caller k t.0 place v b free there c.desk_mut.result.now c.look-turn.new.desk c.desk_mut.ensures.desk _ c.in-Some.held.place c.in-Some.ensures.place refl c.look-turn.new.batch c.look-turn.result c.look-turn.ensures.turn)
+    (turns_by c.args.here.caller k t.0 place v b free there c.desk_mut.result.now c.look-turn.new.desk c.desk_mut.ensures.desk _ c.in-Some.held.place c.in-Some.ensures.place (refl, adds_on t.0 _ _ _ _ p.3) c.look-turn.new.batch c.look-turn.result c.look-turn.ensures.turn)

@@ -1,3 +1,4 @@
+use Rattle.ownlock.proofs.Run.{adds_on}
 use Rattle.std.proofs.Common.{◌≡◌, ap, length, refl, take, sym, subst, ◌∙◌}
 use Rattle.std.proofs.lemmas.List.{length-replicate}
 use Rattle.ownlock.proofs.Seats.{one_known}
@@ -75,7 +76,7 @@ returns-clause-appended c k is =
       _,
       p.2,
       back_appended k t.0 m.0 n c.log_mut-log.result.now h v c.come_back.new.node c.args.records.now c.append_only.new.replies has.1 o.new.seat.sessions m.1 x c.log_mut-log.ensures.log b m.2 c.append_only.new.log
-          (a.log, back, a.replies, a.within) _ c.in-Some.ensures.place p.0 p.1.0 p.1.1,
+          (a.log, back, a.replies, a.within) _ c.in-Some.ensures.place p.0 p.1.0 p.1.1 _ (adds_on m.0 _ _ _ _ p.3),
     )
 
 pub returns-clause-goes : goal.returns-clause-goes
@@ -88,11 +89,11 @@ returns-clause-goes c k after is now batch same =
     let m = o.ensures.room t.0 t.2 in let p = c.put.ensures.put m.0 m.1 in
     let there = as_copied c.args.shared.catalogue.now h c.append_only.new.log o.new.node c.come_back.new.node o.result c.args.records.now _ o.ensures.owes a.log (ap (λ z. take z c.args.records.now) (c.len.ensures.count ∙ count)) c.come_back.ensures.node in
     let done = back_appended k t.0 m.0 n f h v c.come_back.new.node c.args.records.now c.append_only.new.replies has.1 o.new.seat.sessions m.1 x c.log_mut-log.ensures.log b m.2 c.append_only.new.log
-    (a.log, there, a.replies, a.within) _ c.in-Some.ensures.place p.0 p.1.0 p.1.1 in
+    (a.log, there, a.replies, a.within) _ c.in-Some.ensures.place p.0 p.1.0 p.1.1 _ (adds_on m.0 _ _ _ _ p.3) in
     let back = back_log k t.0 m.0 n f h v c.come_back.new.node c.args.records.now c.append_only.new.replies has.1 o.new.seat.sessions m.1 x c.log_mut-log.ensures.log b m.2 c.append_only.new.log
-    (a.log, there, a.replies, a.within) _ c.in-Some.ensures.place p.0 p.1.0 p.1.1 in
+    (a.log, there, a.replies, a.within) _ c.in-Some.ensures.place p.0 p.1.0 p.1.1 _ (adds_on m.0 _ _ _ _ p.3) in
     let room = o.ensures.goes t.0 m.0 t.2 m.1 in
     subst (λ z. AppendsBy k z batch n c.come_back.new.node c.append_only.new.replies) (one_known c.put.new.seat _ after p.2 now)
     (appends_by k t.0 m.0 _ f h c.append_only.new.log n v c.come_back.new.node c.args.records.now c.append_only.new.replies b.extends (b.log f c.log_mut-log.ensures.log) room
     (may t.0 m.0 f h v c.args.records.now m.2) a.log there a.replies back.0 back.1.completed done.stands.accounts.completed
-    x c.log_mut-log.ensures.log b.steps _ c.in-Some.ensures.place refl batch same)
+    x c.log_mut-log.ensures.log b.steps _ c.in-Some.ensures.place (refl, adds_on m.0 _ _ _ _ p.3) batch same)

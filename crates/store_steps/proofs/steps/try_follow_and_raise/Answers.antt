@@ -1,4 +1,5 @@
-use Rattle.std.proofs.Common.{refl, ap, sym, subst, ◌∙◌, arith}
+use Rattle.ownlock.proofs.Run.{adds_on}
+use Rattle.std.proofs.Common.{refl, ap, sym, subst, ◌∙◌, arith, true}
 use Rattle.loader.specs.CatalogueView.{sizes_for}
 use Rattle.ownlock.proofs.Seats.{one_known}
 use Rattle.node.specs.Following.{replayed, copied}
@@ -67,7 +68,7 @@ raise_to-requires-clause-known c =
     let same = sym (log_catalogue i.0 t.0 n x b c.args.catalogue.now i.2.catalogue) in
     let all = followed_all t.0.progress h y v is u.0 u.1 (c.follow.ensures.node ∙ ap (λ d. replayed d (copied h y)) same) c.follow.ensures.sizes in
     let p = c.put.ensures.put t.0 t.2 in
-    let s = same_back i.0 t.0 n x b c.try_take.new.seat.sessions t.2 _ c.in-Some.ensures.place p.0 p.1.0 p.1.1 in
+    let s = same_back i.0 t.0 n x b c.try_take.new.seat.sessions t.2 _ c.in-Some.ensures.place p.0 p.1.0 p.1.1 _ (adds_on t.0 _ _ _ _ p.3) in
     let low = long_enough i.0 t.0 n x b v _ i.0 s all in
     let here = c.tail-followed.ensures.tail in
     (_, p.2, omega (arith, low, here))
@@ -83,7 +84,7 @@ returns-clause-reached c k is =
     let same = sym (log_catalogue k t.0 n x b c.args.catalogue.now has.catalogue) in
     let all = followed_all t.0.progress h y v log_is u.0 u.1 (c.follow.ensures.node ∙ ap (λ d. replayed d (copied h y)) same) c.follow.ensures.sizes in
     let p = c.put.ensures.put t.0 t.2 in
-    let s = same_back k t.0 n x b c.try_take.new.seat.sessions t.2 _ c.in-Some.ensures.place p.0 p.1.0 p.1.1 in
+    let s = same_back k t.0 n x b c.try_take.new.seat.sessions t.2 _ c.in-Some.ensures.place p.0 p.1.0 p.1.1 _ (adds_on t.0 _ _ _ _ p.3) in
     let r = c.raise_to.ensures.raised _ p.2 in
     let here = c.tail-followed.ensures.tail in
     (r.0, r.1, followed k t.0 n x b v _ r.0 s all (raised_as _ r.0 _ v.replica.tail r.2 (omega (arith, here))))
@@ -97,9 +98,9 @@ returns-clause-goes c k after is now =
     let log_is = b.log h c.log-log.ensures.log in
     let same = sym (log_catalogue k t.0 n x b c.args.catalogue.now has.catalogue) in
     let p = c.put.ensures.put t.0 t.2 in
-    let s = same_back k t.0 n x b c.try_take.new.seat.sessions t.2 _ c.in-Some.ensures.place p.0 p.1.0 p.1.1 in
+    let s = same_back k t.0 n x b c.try_take.new.seat.sessions t.2 _ c.in-Some.ensures.place p.0 p.1.0 p.1.1 _ (adds_on t.0 _ _ _ _ p.3) in
     let r = c.raise_to.ensures.raised _ p.2 in
     let here = c.tail-followed.ensures.tail in
-    subst (λ z. FollowsBy k z n v) (one_known c.raise_to.new.seat r.0 after r.1 now)
+    subst (λ z. FollowsBy true k z n v) (one_known c.raise_to.new.seat r.0 after r.1 now)
     (follows_by k t.0 _ r.0 h n y v b.extends log_is b.follows c.rebase_if_behind.ensures.behind c.rebase_if_behind.ensures.above (c.follow.ensures.node ∙ ap (λ d. replayed d (copied h y)) same) s.on
-    (raised_as _ r.0 _ v.replica.tail r.2 (omega (arith, here))) x c.log-log.ensures.log b.steps _ c.in-Some.ensures.place refl)
+    (raised_as _ r.0 _ v.replica.tail r.2 (omega (arith, here))) x c.log-log.ensures.log b.steps _ c.in-Some.ensures.place (refl, adds_on t.0 _ _ _ _ p.3))

@@ -1,6 +1,7 @@
+use Rattle.ownlock.proofs.Run.{adds_on}
 use Rattle.std.proofs.Common.{sym, ap, refl, subst, Some, ◌+◌, ◌∙◌, [], ◌∷◌, arith}
 use Rattle.ownlock.specs.declared.known.ShelfStep.TheVariants.{Read, Took}
-use Rattle.ownlock.specs.Seats.{having_read, tails_in}
+use Rattle.ownlock.specs.Seats.{having_read, tails_in, run_of}
 use Rattle.ownlock.proofs.Seats.{one_known}
 use Rattle.store_steps.specs.Standing.{Agrees, IsFree}
 use Rattle.store_steps.proofs.Taken.{free_on, may_take_replica, took_replica}
@@ -14,7 +15,7 @@ pub try_take-requires-clause-may : goal.try_take-requires-clause-may
 try_take-requires-clause-may c =
     let i = c.requires.idle in
     let d = c.done-done.ensures.read i.0 i.1 in
-    (_, d.3, may_take_replica _ c.args.here.caller (free_on c.args.here.caller i.0 (having_read i.0 d.0 c.done-done.result) refl i.2.0.held d.1.1.0.0 i.2.0))
+    (_, d.3, may_take_replica _ c.args.here.caller (free_on c.args.here.caller i.0 (having_read i.0 d.0 c.done-done.result (run_of c.done-done.new.seat.sessions)) refl i.2.0.held d.1.1.0.0 i.2.0))
 
 pub replica_mut-node-requires : goal.replica_mut-node-requires
 replica_mut-node-requires c =
@@ -22,7 +23,7 @@ replica_mut-node-requires c =
     let w = c.in-Some.held.value in
     let d = c.done-done.ensures.read i.0 i.1 in
     let t = c.in-Some.ensures.taken _ d.3 in
-    let b = took_replica _ t.0 c.args.here.caller w (free_on c.args.here.caller i.0 (having_read i.0 d.0 c.done-done.result) refl i.2.0.held d.1.1.0.0 i.2.0) t.1 in
+    let b = took_replica _ t.0 c.args.here.caller w (free_on c.args.here.caller i.0 (having_read i.0 d.0 c.done-done.result (run_of c.done-done.new.seat.sessions)) refl i.2.0.held d.1.1.0.0 i.2.0) t.1 in
     record { replica = b.holds.replica }
 
 pub try_reach-requires-clause-holds : goal.try_reach-requires-clause-holds
@@ -31,7 +32,7 @@ try_reach-requires-clause-holds c =
     let w = c.in-Some.held.value in
     let d = c.done-done.ensures.read i.0 i.1 in
     let t = c.in-Some.ensures.taken _ d.3 in
-    let b = took_replica _ t.0 c.args.here.caller w (free_on c.args.here.caller i.0 (having_read i.0 d.0 c.done-done.result) refl i.2.0.held d.1.1.0.0 i.2.0) t.1 in
+    let b = took_replica _ t.0 c.args.here.caller w (free_on c.args.here.caller i.0 (having_read i.0 d.0 c.done-done.result (run_of c.done-done.new.seat.sessions)) refl i.2.0.held d.1.1.0.0 i.2.0) t.1 in
     let same = d.2 in
     let up = b.extends.completed in
     (t.0, t.2, (record { value = w; holds = b.holds; agrees = b.agrees c.replica_mut-node.result.now c.replica_mut-node.ensures.replica; stands = b.stands; catalogue = sym b.extends.catalogue ∙ (sym d.1.1.0.0.catalogue ∙ i.2.1.catalogue_is) }, omega (arith, same, up)))
@@ -42,7 +43,7 @@ returns-clause-ready c k is =
     let w = c.in-Some.held.value in
     let free = subst (λ z. IsFree c.args.here.caller z) (one_known c.args.seat.now i.0 k i.1 is) i.2.0 in
     let d = c.done-done.ensures.read k is in
-    let told = having_read k d.0 c.done-done.result in
+    let told = having_read k d.0 c.done-done.result (run_of c.done-done.new.seat.sessions) in
     let t = c.in-Some.ensures.taken told d.3 in
     let b = took_replica told t.0 c.args.here.caller w (free_on c.args.here.caller k told refl free.held d.1.1.0.0 free) t.1 in
     let r = c.in-Some-try_reach.ensures.reached t.0 t.2 in (
@@ -70,8 +71,8 @@ returns-clause-ready c k is =
         held = r.2.goes.held ∙ b.held;
         session = r.2.goes.session ∙ b.session;
         note = r.2.note ∙ b.note;
-        read = r.2.goes.tails ∙ ap tails_in b.steps;
-        did = did_then k told t.0 (Read c.done-done.result ∷ []) (Took (1 + c.args.here.caller.node) (AReplica c.replica_mut-node.result.now) ∷ []) (did_one k told (Read c.done-done.result) (Read c.done-done.result) refl refl)
+        read = r.2.goes.tails ∙ ap tails_in b.steps.0;
+        did = did_then k told t.0 (Read c.done-done.result ∷ []) (Took (1 + c.args.here.caller.node) (AReplica c.replica_mut-node.result.now) ∷ []) (did_one k told (Read c.done-done.result) (Read c.done-done.result) (refl, adds_on k _ _ _ _ d.4) refl)
             (did_one told t.0 (Took (1 + c.args.here.caller.node) w) (Took (1 + c.args.here.caller.node) (AReplica c.replica_mut-node.result.now)) b.steps
             (ap (Took (1 + c.args.here.caller.node)) (replica_part w c.replica_mut-node.result.now c.replica_mut-node.ensures.replica)));
         some = c.replica_mut-node.ensures.replica;
@@ -85,7 +86,7 @@ returns-in_default-clause-stays c k is =
     let i = c.requires.idle in
     let free = subst (λ z. IsFree c.args.here.caller z) (one_known c.args.seat.now i.0 k i.1 is) i.2.0 in
     let d = c.done-done.ensures.read k is in
-    (having_read k d.0 c.done-done.result, ap (λ z. z.sessions) c.in_default.ensures.taken ∙ d.3, still_told k d.0 c.done-done.result d.1.0 free.held d.1.1 d.2)
+    (having_read k d.0 c.done-done.result (run_of c.done-done.new.seat.sessions), ap (λ z. z.sessions) c.in_default.ensures.taken ∙ d.3, still_told k d.0 c.done-done.result d.1.0 _ free.held d.1.1 d.2 (adds_on k _ _ _ _ d.4))
 
 -- ---- the log is held
 
@@ -96,7 +97,7 @@ put-requires-clause-may c =
     let n = c.try_reach.new.node in
     let d = c.done-done.ensures.read i.0 i.1 in
     let t = c.in-Some.ensures.taken _ d.3 in
-    let b = took_replica _ t.0 c.args.here.caller w (free_on c.args.here.caller i.0 (having_read i.0 d.0 c.done-done.result) refl i.2.0.held d.1.1.0.0 i.2.0) t.1 in
+    let b = took_replica _ t.0 c.args.here.caller w (free_on c.args.here.caller i.0 (having_read i.0 d.0 c.done-done.result (run_of c.done-done.new.seat.sessions)) refl i.2.0.held d.1.1.0.0 i.2.0) t.1 in
     let e = c.in_default-try_reach.ensures.stays in
     let is = ap (λ z. z.sessions) e.0 ∙ t.2 in
     let held = b.held ∙ ap (λ z. (z, w) ∷ []) (sym c.in-Some.ensures.place) in
@@ -110,7 +111,7 @@ returns-in_default-try_reach-clause-stays c k is0 =
     let n = c.try_reach.new.node in
     let free = subst (λ z. IsFree c.args.here.caller z) (one_known c.args.seat.now i.0 k i.1 is0) i.2.0 in
     let d = c.done-done.ensures.read k is0 in
-    let told = having_read k d.0 c.done-done.result in
+    let told = having_read k d.0 c.done-done.result (run_of c.done-done.new.seat.sessions) in
     let t = c.in-Some.ensures.taken told d.3 in
     let b = took_replica told t.0 c.args.here.caller w (free_on c.args.here.caller k told refl free.held d.1.1.0.0 free) t.1 in
     let e = c.in_default-try_reach.ensures.stays in
@@ -118,5 +119,5 @@ returns-in_default-try_reach-clause-stays c k is0 =
     let held = b.held ∙ ap (λ z. (z, w) ∷ []) (sym c.in-Some.ensures.place) in
     let agrees = subst (Agrees t.0.progress) (sym e.1) (b.agrees c.replica_mut-node.result.now c.replica_mut-node.ensures.replica) in
     let p = c.put.ensures.put t.0 is in
-    let f = back t.0 w b.holds c.try_reach.new.seat.sessions is n agrees (low_enough t.0 n agrees b.stands) c.in-Some.held.place held p.0 p.1.0 p.1.1 in
-    (_, p.2, still_then k told _ (still_told k d.0 c.done-done.result d.1.0 free.held d.1.1 d.2) (still_back (1 + c.args.here.caller.node) c.in-Some.held.place told t.0 _ w n b f (c.replica_mut-node.ensures.replica ∙ ap Some (sym e.1)) c.in-Some.ensures.place refl))
+    let f = back t.0 w b.holds c.try_reach.new.seat.sessions is n agrees (low_enough t.0 n agrees b.stands) c.in-Some.held.place held p.0 p.1.0 p.1.1 _ (adds_on t.0 _ _ _ _ p.3) in
+    (_, p.2, still_then k told _ (still_told k d.0 c.done-done.result d.1.0 _ free.held d.1.1 d.2 (adds_on k _ _ _ _ d.4)) (still_back (1 + c.args.here.caller.node) c.in-Some.held.place told t.0 _ w n b f (c.replica_mut-node.ensures.replica ∙ ap Some (sym e.1)) c.in-Some.ensures.place (refl, adds_on t.0 _ _ _ _ p.3)))

@@ -1,4 +1,6 @@
-use Rattle.std.proofs.Common.{◌≤◌, subst, arith}
+use Rattle.std.proofs.Common.{◌<◌, ◌≤◌, subst, sym, arith}
+use Rattle.std.specs.Prelude.{nat_lt}
+use Rattle.std.proofs.lemmas.Bool.{le-ltb, lt-ltb}
 use Rattle.ownlock.proofs.Seats.{one_known}
 use Rattle.store_steps.specs.Standing.{Agrees, Stands}
 use Rattle.store_steps.specs.Whole.{FollowsBy}
@@ -27,4 +29,13 @@ pub returns-then-ready-clause-goes : goal.returns-then-ready-clause-goes
 returns-then-ready-clause-goes c k after is now =
     let i = c.requires.holds in
     let e = one_known c.args.seat.now i.0 k i.1 is in
-    subst (λ z. FollowsBy k z c.args.node.now c.args.node.now) (one_known c.args.seat.now k after is now) (follows_none k c.args.node.now (subst (λ z. Agrees z.progress c.args.node.now) e i.2.0.agrees) (subst (λ z. Stands z) e i.2.0.stands))
+    let far = c.ready.ensures.reached.0 c.if-ready.true in
+    subst (λ z. FollowsBy (nat_lt c.args.node.now.replica.tail c.args.done) k z c.args.node.now c.args.node.now) (one_known c.args.seat.now k after is now)
+    (subst (λ lacks. FollowsBy lacks k k c.args.node.now c.args.node.now) (sym (le-ltb c.args.node.now.replica.tail c.args.done (omega (arith, far))))
+    (follows_none k c.args.node.now (subst (λ z. Agrees z.progress c.args.node.now) e i.2.0.agrees) (subst (λ z. Stands z) e i.2.0.stands)))
+
+pub returns-clause-goes : goal.returns-clause-goes
+returns-clause-goes c k after is now =
+    let far = c.ready.ensures.reached in let not_ready = c.if-ready.false in
+    let low : c.args.node.now.replica.tail < c.args.done = grind (arith, far.1, not_ready) in
+    subst (λ lacks. FollowsBy lacks k after c.args.node.now c.try_follow_and_raise.new.node) (sym (lt-ltb c.args.node.now.replica.tail c.args.done low)) (c.in-Some.ensures.goes k after is now)

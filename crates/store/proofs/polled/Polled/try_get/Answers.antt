@@ -1,34 +1,7 @@
-use Rattle.store_steps.specs.Getting.{GetsBy}
-use Rattle.store.proofs.Invoked.{goes_seen}
-use Rattle.store.proofs.Looked.{HasLooked, has_looked, idle_now, idle_seen, may_look}
+use Rattle.std.proofs.Common.{rules}
+use Rattle.store.specs.Looks.{FindsBy, TriedGoes}
+use Rattle.store.proofs.Looked.{lent_to}
 use Rattle.store.proofs.polled.Polled.try_get.Goals as goal
 
-pub try_get-requires-clause-idle : goal.try_get-requires-clause-idle
-try_get-requires-clause-idle c =
-    let s = c.self.inside in
-    let e = c.shared.ensures in
-    may_look s.seat s.caller s.batch s.replies s.stage c.self.invariant.0 c.args.self.now c.self.view_is c.requires.idle c.shared.result c.args.store.now c.requires.own e.places e.nodes e.catalogue
-
 pub returns-clause-goes : goal.returns-clause-goes
-returns-clause-goes c allowed =
-    let s = c.self.inside in
-    let i = idle_now s.seat s.caller s.batch s.replies s.stage c.self.invariant.0 c.args.self.now c.self.view_is c.requires.idle in
-    let t = c.in-Ok.ensures.got i.known i.is in
-    goes_seen (λ k f. GetsBy k f c.args.of.map c.args.of.key.now c.args.value.now c.try_get.new.value c.in-Ok.found) s.seat c.try_get.new.seat c.args.self.now i.known t.0 i.is i.free.held c.self.view_is t.1 t.2.0.held (c.in-Ok.ensures.goes i.known t.0 i.is t.1)
-
-looked : (c : goal.In-Ok) → HasLooked c.args.self.now c.try_get.new.seat c.self.inside.caller c.self.inside.batch c.self.inside.replies c.self.inside.stage c.self.inside.room
-looked c =
-    let s = c.self.inside in
-    let new = c.try_get.new.seat in
-    let i = idle_now s.seat s.caller s.batch s.replies s.stage c.self.invariant.0 c.args.self.now c.self.view_is c.requires.idle in
-    let t = c.in-Ok.ensures.got i.known i.is in
-    has_looked s.seat s.caller s.batch s.replies s.stage c.self.invariant.0 c.args.self.now c.self.view_is c.requires.idle new s.room c.self.invariant.1 (idle_seen s.seat new s.caller i t.0 t.1 _ t.2.0)
-
-pub returns-clause-grown : goal.returns-clause-grown
-returns-clause-grown c = (looked c).grown
-
-pub returns-clause-well_formed : goal.returns-clause-well_formed
-returns-clause-well_formed c = (looked c).well_formed
-
-pub invariant_of-self-2 : goal.invariant_of-self-2
-invariant_of-self-2 c = (looked c).polled
+returns-clause-goes c none = lent_to (λ value. TriedGoes c.try_see.result (FindsBy c.args.self.now c.try_see.new.self c.args.of c.args.value.now value)) c.try_see.new.look.value.now _ (search rules) c.try_see.ensures.goes

@@ -2,8 +2,9 @@ use Rattle.std.proofs.Common.{rules, ◌≡◌, ◌+◌, ◌<◌, length, take, 
 use Rattle.ownlock.specs.Seats.{HoldsNone}
 use Rattle.store.specs.Opening.{AreLeft, AreOf, IsClosed, IsLogFor, closed_view, log_in}
 use Rattle.store.specs.Sessions.{StoreView}
-use Rattle.store_steps.specs.Shelving.{sessions_of}
+use Rattle.store_steps.specs.Shelving.{sessions_of, store_opening}
 use Rattle.store.proofs.Closing.{all_notes, are_left, is_closed, left_of, log_for, some_sessions}
+use Rattle.store.proofs.Explained.{closes_explained}
 use Rattle.store.proofs.Joined.{back_holds_none, back_long}
 use Rattle.store.proofs.store.Store.close.Goals as goal
 
@@ -45,5 +46,9 @@ returns-clause-closed c =
     let known = c.join_seats-seat.ensures.joined in
     let idle = c.join_seats-seat.ensures.idle in
     let p = left_of store ss view _ slots own some known idle a (c.close-values.ensures.places ∙ c.self.invariant.1) in
-    let closed = is_closed store ss view _ slots own some known idle a (take (1 + store.config.nodes) slots) p in
+    let closed = is_closed store ss view _ slots own some known idle a (ap store_opening c.self.invariant.0) (take (1 + store.config.nodes) slots) p in
     subst (λ z. IsClosed z ss c.new.result) c.self.view_is (subst (λ z. IsClosed store ss z) (ap (closed_view store.catalogue) (sym c.truncate.ensures.items) ∙ sym c.new.ensures.closed) closed)
+
+pub returns-clause-explained : goal.returns-clause-explained
+unfolding returns-clause-closed
+returns-clause-explained c = closes_explained _ _ c.new.result (returns-clause-closed c)

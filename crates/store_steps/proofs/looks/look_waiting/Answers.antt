@@ -1,0 +1,61 @@
+use Rattle.std.proofs.Common.{refl, subst, ◌∙◌}
+use Rattle.ownlock.proofs.Seats.{one_known}
+use Rattle.store_steps.specs.Seen.{holds}
+use Rattle.store_steps.specs.Sights.{HasSight, SightBy}
+use Rattle.store_steps.specs.Standing.{IsFree}
+use Rattle.store_steps.proofs.Looked.{sight_since, sights_since}
+use Rattle.store_steps.proofs.Taken.{free_on, shelf_on}
+use Rattle.store_steps.proofs.Tried.{still_self, still_then}
+use Rattle.store_steps.proofs.Waiting.{still_holds_none}
+use Rattle.store_steps.proofs.looks.look_waiting.Goals as goal
+
+pub loop-init : goal.loop-init
+loop-init g c = (
+  refl,
+  λ k is.
+      let i = c.requires.idle in
+      let free = subst (λ z. IsFree c.args.here.caller z) (one_known c.args.seat.now i.0 k i.1 is) i.2.0 in
+      (k, is, still_self k free.held),
+  refl,
+)
+
+pub try_look-requires-clause-idle : goal.try_look-requires-clause-idle
+try_look-requires-clause-idle g c =
+    let i = c.requires.idle in
+    let m = c.loop.invariant.1 i.0 i.1 in
+    (m.0, m.1, (free_on c.args.here.caller i.0 m.0 m.2.session m.2.held m.2.extends i.2.0, shelf_on _ _ _ i.0 m.0 m.2.extends i.2.1))
+
+pub returns-in-Ok-clause-told : goal.returns-in-Ok-clause-told
+returns-in-Ok-clause-told g c k is =
+    let m = c.loop.invariant.1 k is in
+    let t = c.in-Ok.ensures.told m.0 m.1 in
+    let told = c.in-Ok.told in (
+      t.0,
+      t.1,
+      sight_since k m.0 t.0 m.2 (holds (g.L.Look.sees c.args.look.now c.try_look.new.look told)) (g.L.Look.point told)
+          (subst (λ z. HasSight (holds (g.L.Look.sees z c.try_look.new.look told)) (g.L.Look.point told) m.0 t.0) c.loop.invariant.2 t.2),
+    )
+
+pub returns-in-Ok-clause-goes : goal.returns-in-Ok-clause-goes
+returns-in-Ok-clause-goes g c k after is now =
+    let m = c.loop.invariant.1 k is in
+    let t = c.in-Ok.ensures.told m.0 m.1 in
+    let told = c.in-Ok.told in
+    sights_since k m.0 after m.2 (holds (g.L.Look.sees c.args.look.now c.try_look.new.look told)) (g.L.Look.point told) t.2.1.0
+    (subst (λ z. SightBy (holds (g.L.Look.sees z c.try_look.new.look told)) (g.L.Look.point told) m.0 after) c.loop.invariant.2 (c.in-Ok.ensures.goes m.0 after m.1 now))
+
+pub loop-preserved : goal.loop-preserved
+loop-preserved g c = (
+  c.try_look.ensures.same ∙ c.loop.invariant.0,
+  λ k is.
+      let m = c.loop.invariant.1 k is in
+      let t = c.in-Err.ensures.stays m.0 m.1 in
+      (t.0, t.1, still_then k m.0 t.0 m.2 t.2),
+  c.in-Err.ensures.kept ∙ c.loop.invariant.2,
+)
+
+pub wait-requires-clause-own : goal.wait-requires-clause-own
+wait-requires-clause-own g c = c.try_look.ensures.same ∙ (c.loop.invariant.0 ∙ c.requires.own)
+
+pub wait-requires-clause-idle : goal.wait-requires-clause-idle
+wait-requires-clause-idle g c = let i = c.requires.idle in still_holds_none c.args.seat.now c.loop.seat c.try_look.new.seat i.0 i.1 c.loop.invariant.1 c.in-Err.ensures.stays
