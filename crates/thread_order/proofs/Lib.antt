@@ -17,3 +17,7 @@ pub mod OwnSteps
 pub mod KeptNotes
 -- A look in the run, and what its session may say of it.
 pub mod ReadsSaid
+-- The events of one session in a run.
+pub mod SessionEvents
+-- The calls of all sessions.
+pub mod CallsMade
