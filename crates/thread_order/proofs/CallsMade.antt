@@ -3,7 +3,7 @@ use Rattle.std.proofs.Common.{◌≡◌, ◌==◌, ◌≤◌, ◌<◌, suc, eq-e
 use Rattle.std.specs.Prelude.{nat_le}
 use Rattle.std.proofs.lemmas.Bool.{and_parts, le-ltb, leb-true, lt-ltb}
 use Rattle.std.proofs.lemmas.List.{append_cancel_right}
-use Rattle.ownlock.specs.Seats.{Continues, own_steps}
+use Rattle.ownlock.specs.Seats.{own_steps}
 use Rattle.ownlock.proofs.Run.{own_here}
 use Rattle.verifier.specs.declared.refusal.Mode.TheVariants.{Read}
 use Rattle.oplog.specs.Calls.{Call as ProgramCall}
@@ -17,19 +17,21 @@ use Rattle.store_steps.specs.Shelving.{places_of, sessions_of}
 use Rattle.store_steps.specs.Standing.{SessionKnown}
 use Rattle.thread_order.specs.RunEvents.{Asks, Hears, Nothing, Says, Sayings, StoreRun, begun_in, events_in, opening_of, said_at}
 use Rattle.thread_order.specs.ReadsSaid.{IsSilent, KeepsNote, LookStands, OwnMaySay, SaysRead}
-use Rattle.thread_order.specs.CallsMade.{Calls, CallsAreExplained, EachHasEvents, HasEvents, KnewOnce, LooksMakeNoEvents, NoCalls, Others, Reads, Told, ToldOf, Untold, WasRead, events_made, events_of_session, noted_events}
+use Rattle.thread_order.specs.CallsMade.{Calls, CallsAreExplained, EachHasEvents, HasEvents, HasTheirEvents, KnewOnce, LooksMakeNoEvents, NoCalls, Others, Reads, Told, ToldOf, Untold, Updates, WasRead, WentOn, events_made, events_of_session, noted_events}
 use Rattle.thread_order.proofs.ReadsSaid.{each_may_say, keeps_first, looks_stand, own_more, reads_may_say, silent_may_say}
 use Rattle.thread_order.proofs.RunEvents.{runs_are_explained}
+use Rattle.thread_order.proofs.UpdateEvents.{update_makes}
 use Rattle.thread_order.proofs.SessionEvents.{kept_events, no_own_events, quiet_events, silent_events, spoken_events}
 
 module _ (opening : Setup) where
   knew_once : {k : SessionKnown} → Calls opening k → KnewOnce opening k
-  knew_once (NoCalls k knew none) = knew
-  knew_once (Reads k after call answer calls knew same read) = knew
-  knew_once (Others k after calls knew same on) = knew
+  knew_once (NoCalls k once none) = once
+  knew_once (Reads k after call answer calls went read) = went.once
+  knew_once (Updates k after op reply calls went update) = went.once
+  knew_once (Others k after calls went) = went.once
 
-  read_stands : {k : SessionKnown} {after : SessionKnown} {call : ProgramCall} {answer : ReadAnswer} → KnewOnce opening k → KnewOnce opening after → after.session ≡ k.session → (read : WasRead k after call answer) → LookStands k after read.goes.0.seen
-  read_stands {k} {after} {call} {answer} a b same read = looks_stand opening a.state b.state k after answer.point a.between b.between a.knows b.knows same read.idle.1 read.goes.0
+  read_stands : {k : SessionKnown} {after : SessionKnown} {call : ProgramCall} {answer : ReadAnswer} → KnewOnce opening k → WentOn opening k after → (read : WasRead k after call answer) → LookStands k after read.goes.0.seen
+  read_stands {k} {after} {call} {answer} a went read = looks_stand opening a.state went.once.state k after answer.point a.between went.once.between a.knows went.once.knows went.same read.idle.1 read.goes.0
 
   -- ---- what the session says
 
@@ -46,11 +48,12 @@ module _ (opening : Setup) where
   heard_at {k} w = length (own_steps k.session (w.mid ++ w.load ∷ (w.first ++ k.run)))
 
   say : {k : SessionKnown} → Calls opening k → ℕ → Says
-  say (NoCalls k knew none) i = Nothing
-  say (Reads k after call answer calls knew same read) i =
-      let w = read_stands (knew_once calls) knew same read in
+  say (NoCalls k once none) i = Nothing
+  say (Reads k after call answer calls went read) i =
+      let w = read_stands (knew_once calls) went read in
       choose (ltb i (so_far k)) (i == asked_at w) (i == heard_at w) (say calls i) call answer
-  say (Others k after calls knew same on) i = if ltb i (so_far k) then say calls i else Nothing
+  say (Updates k after op reply calls went update) i = if ltb i (so_far k) then say calls i else Nothing
+  say (Others k after calls went) i = if ltb i (so_far k) then say calls i else Nothing
 
   -- ---- which it may say, and these are the events
 
@@ -66,44 +69,48 @@ module _ (opening : Setup) where
   abbrev Goes : Sayings → {k : SessionKnown} → Calls opening k → Type 0
   Goes says {k} calls = Agrees says calls k.session k.run → Said says calls k.session k.run
 
-  -- after a call that is no read
-  said_other : (says : Sayings) (k after : SessionKnown) (calls : Calls opening k) (knew : KnewOnce opening after) (same : after.session ≡ k.session) (on : Continues k.run after.run) → Goes says calls → Goes says (Others k after calls knew same on)
-  unfolding say
-  said_other says k after calls knew same on again agrees =
-      subst (λ (z : ℕ × StoreRun). Said says (Others k after calls knew same on) z.0 z.1) (λ j. (sym same j, sym on.1 j))
-      (record { may = goes.0; none = goes.1; each = (rest.each, subst (λ z. events_of_session c (events_in says z) ≡ events_made (Others k after calls knew same on)) (sym on.1) events); events = events })
+  -- after a call at whose steps the session says nothing
+  said_quiet : (says : Sayings) (k after : SessionKnown) (calls : Calls opening k) (went : WentOn opening k after) (all : Calls opening after) → ((i : ℕ) → say all i ≡ (if ltb i (so_far k) then say calls i else Nothing))
+      → events_made all ≡ events_made calls ++ noted_events k.session went.on.0 → (EachHasEvents says calls → HasTheirEvents says all → EachHasEvents says all)
+      → Goes says calls → Goes says all
+  said_quiet says k after calls went all unspoken made each again agrees =
+      subst (λ (z : ℕ × StoreRun). Said says all z.0 z.1) (λ j. (sym went.same j, sym went.on.1 j))
+      (record { may = goes.0; none = goes.1; each = each rest.each (subst (λ (z : ℕ × StoreRun). events_of_session z.0 (events_in says z.1) ≡ events_made all) (λ j. (sym went.same j, sym went.on.1 j)) events); events = events })
     where
       c : ℕ
       c = k.session
 
-      agree : Agrees says (Others k after calls knew same on) c (on.0 ++ k.run)
-      agree = subst (λ (z : ℕ × StoreRun). Agrees says (Others k after calls knew same on) z.0 z.1) (λ j. (same j, on.1 j)) agrees
+      since : StoreRun
+      since = went.on.0
+
+      agree : Agrees says all c (since ++ k.run)
+      agree = subst (λ (z : ℕ × StoreRun). Agrees says all z.0 z.1) (λ j. (went.same j, went.on.1 j)) agrees
 
       rest : Said says calls c k.run
-      rest = again (λ i low. agree i (let far = own_more c on.0 k.run in omega (arith, low, far)) ∙ ap (λ b. if b then say calls i else Nothing) (lt-ltb i (so_far k) low))
+      rest = again (λ i low. agree i (let far = own_more c since k.run in omega (arith, low, far)) ∙ (unspoken i ∙ ap (λ b. if b then say calls i else Nothing) (lt-ltb i (so_far k) low)))
 
-      silent : IsSilent says c k.run (on.0 ++ k.run)
-      silent i low top = agree i top ∙ ap (λ b. if b then say calls i else Nothing) (le-ltb i (so_far k) low)
+      silent : IsSilent says c k.run (since ++ k.run)
+      silent i low top = agree i top ∙ (unspoken i ∙ ap (λ b. if b then say calls i else Nothing) (le-ltb i (so_far k) low))
 
-      goes : OwnMaySay says c (on.0 ++ k.run) × (begun_in says c (on.0 ++ k.run) ≡ None)
-      goes = silent_may_say says c on.0 k.run silent rest.may rest.none
+      goes : OwnMaySay says c (since ++ k.run) × (begun_in says c (since ++ k.run) ≡ None)
+      goes = silent_may_say says c since k.run silent rest.may rest.none
 
-      events : events_of_session c (events_in says (on.0 ++ k.run)) ≡ events_made calls ++ noted_events c on.0
-      events = silent_events says c on.0 k.run silent ∙ ap (λ z. z ++ noted_events c on.0) rest.events
+      events : events_of_session c (events_in says (since ++ k.run)) ≡ events_made all
+      events = silent_events says c since k.run silent ∙ (ap (λ z. z ++ noted_events c since) rest.events ∙ sym made)
 
   -- after a read
-  said_read : (says : Sayings) (k after : SessionKnown) (call : ProgramCall) (answer : ReadAnswer) (calls : Calls opening k) (knew : KnewOnce opening after) (same : after.session ≡ k.session) (read : WasRead k after call answer) → Goes says calls
-      → Goes says (Reads k after call answer calls knew same read)
+  said_read : (says : Sayings) (k after : SessionKnown) (call : ProgramCall) (answer : ReadAnswer) (calls : Calls opening k) (went : WentOn opening k after) (read : WasRead k after call answer) → Goes says calls
+      → Goes says (Reads k after call answer calls went read)
   unfolding say
-  said_read says k after call answer calls knew same read again agrees =
-      subst (λ (z : ℕ × StoreRun). Said says (Reads k after call answer calls knew same read) z.0 z.1) (λ j. (sym same j, sym whole j))
-      (record { may = subst (OwnMaySay says c) whole goes.0; none = subst (λ z. begun_in says c z ≡ None) whole goes.1; each = (rest.each, subst (λ z. events_of_session c (events_in says z) ≡ events_made (Reads k after call answer calls knew same read)) (sym whole) events); events = events })
+  said_read says k after call answer calls went read again agrees =
+      subst (λ (z : ℕ × StoreRun). Said says (Reads k after call answer calls went read) z.0 z.1) (λ j. (sym went.same j, sym whole j))
+      (record { may = subst (OwnMaySay says c) whole goes.0; none = subst (λ z. begun_in says c z ≡ None) whole goes.1; each = (rest.each, subst (λ (z : ℕ × StoreRun). events_of_session z.0 (events_in says z.1) ≡ events_made (Reads k after call answer calls went read)) (λ j. (sym went.same j, sym whole j)) events); events = events })
     where
       c : ℕ
       c = k.session
 
       w : LookStands k after read.goes.0.seen
-      w = read_stands (knew_once calls) knew same read
+      w = read_stands (knew_once calls) went read
 
       early : StoreRun
       early = w.first ++ k.run
@@ -114,8 +121,8 @@ module _ (opening : Setup) where
       whole : after.run ≡ w.last ∷ before
       whole = w.whole ∙ (ap (λ z. z ++ k.run) w.since_is ∙ ap (λ z. w.last ∷ z) (append_assoc w.mid (w.load ∷ w.first) k.run))
 
-      agree : Agrees says (Reads k after call answer calls knew same read) c (w.last ∷ before)
-      agree = subst (λ (z : ℕ × StoreRun). Agrees says (Reads k after call answer calls knew same read) z.0 z.1) (λ j. (same j, whole j)) agrees
+      agree : Agrees says (Reads k after call answer calls went read) c (w.last ∷ before)
+      agree = subst (λ (z : ℕ × StoreRun). Agrees says (Reads k after call answer calls went read) z.0 z.1) (λ j. (went.same j, whole j)) agrees
 
       to_ask : so_far k ≤ asked_at w
       to_ask = own_more c w.first k.run
@@ -186,14 +193,17 @@ module _ (opening : Setup) where
           ∙ append_assoc (events_made calls) (Call c Read (Runs_program call) ∷ []) (Back c (ReadBack answer) ∷ []))
 
   said : (says : Sayings) {k : SessionKnown} (calls : Calls opening k) → Goes says calls
-  said says (NoCalls k knew none) agrees = record {
+  unfolding say
+  said says (NoCalls k once none) agrees = record {
     may = subst (OwnMaySay says k.session) (sym none) tt;
     none = ap (begun_in says k.session) none;
     each = tt;
     events = ap (λ z. events_of_session k.session (events_in says z)) none;
   }
-  said says (Others k after calls knew same on) agrees = said_other says k after calls knew same on (said says calls) agrees
-  said says (Reads k after call answer calls knew same read) agrees = said_read says k after call answer calls knew same read (said says calls) agrees
+  said says (Reads k after call answer calls went read) agrees = said_read says k after call answer calls went read (said says calls) agrees
+  said says (Updates k after op reply calls went update) agrees =
+      said_quiet says k after calls went (Updates k after op reply calls went update) (λ i. refl) (ap (λ z. events_made calls ++ z) (sym (update_makes opening k after op reply (knew_once calls) went update))) (λ a b. (a, b)) (said says calls) agrees
+  said says (Others k after calls went) agrees = said_quiet says k after calls went (Others k after calls went) (λ i. refl) refl (λ a b. (a, b)) (said says calls) agrees
 
   -- ---- all sessions
 

@@ -21,3 +21,7 @@ pub mod ReadsSaid
 pub mod SessionEvents
 -- The calls of all sessions.
 pub mod CallsMade
+-- What a session's steps at its desk change of its note.
+pub mod DeskNotes
+pub mod UpdateSteps
+pub mod UpdateEvents

@@ -38,8 +38,9 @@ pub fn runs_are_explained()
     ensures silent { SilentMaySay }
 {}
 
-/// For each session the calls that it made, one after another, each as its contract has it: its reads with their answers, and others. One
-/// history explains a trace that has exactly these calls, each session's in its order. Nothing else is asked of what the sessions say.
+/// Take for each session the calls that it made, one after another, each as its contract has it: reads and updates with their answers, and
+/// others. One history explains a trace that has exactly these calls, each session's in its order. Nothing is asked of what sessions say. A
+/// look that is no read of a program makes no event.
 pub fn calls_are_explained()
     ensures explained { CallsAreExplained }
     ensures looks { LooksMakeNoEvents }
