@@ -17,3 +17,11 @@ pub mod OwnSteps
 pub mod KeptNotes
 -- A look in the run, and what its session may say of it.
 pub mod ReadsSaid
+-- The events of one session in a run.
+pub mod SessionEvents
+-- The calls of all sessions.
+pub mod CallsMade
+-- What a session's steps at its desk change of its note.
+pub mod DeskNotes
+pub mod UpdateSteps
+pub mod UpdateEvents

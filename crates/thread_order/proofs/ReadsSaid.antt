@@ -174,7 +174,7 @@ pub each_may_say : EachMaySay
 each_may_say says [] each = tt
 each_may_say says (e ∷ es) each = (each_may_say says es (λ c. (each c).0), (each e.session).1 refl)
 
-own_more : (c : ℕ) (xs ys : StoreRun) → length (own_steps c ys) ≤ length (own_steps c (xs ++ ys))
+pub own_more : (c : ℕ) (xs ys : StoreRun) → length (own_steps c ys) ≤ length (own_steps c (xs ++ ys))
 own_more c xs ys = let long = ap length (own_both c xs ys) ∙ length-append (own_steps c xs) (own_steps c ys) in omega (arith, long)
 
 begun_here : (says : Sayings) (c : ℕ) (e : StoreStep) (es : StoreRun) → e.session ≡ c → begun_in says c (e ∷ es) ≡ begun_by e (said_at says e es) (begun_in says c es)
@@ -195,7 +195,7 @@ quiet_on says c n (e ∷ es) run keeps silent may =
       ⊎_elim (λ same. begun_here says c e (es ++ run) same ∙ (ap (λ w. begun_by e w (begun_in says c (es ++ run))) (nothing same) ∙ rest.1)) (λ ne. begun_else says c e (es ++ run) ne ∙ rest.1) (cases_eq e.session c),
     )
 
-keeps_first : (c : ℕ) (n : SessionNote) (xs ys : StoreRun) → KeepsNote c n (xs ++ ys) → KeepsNote c n xs × KeepsNote c n ys
+pub keeps_first : (c : ℕ) (n : SessionNote) (xs ys : StoreRun) → KeepsNote c n (xs ++ ys) → KeepsNote c n xs × KeepsNote c n ys
 keeps_first c n [] ys keeps = (tt, keeps)
 keeps_first c n (x ∷ xs) ys keeps = let h = keeps_first c n xs ys keeps.0 in ((h.0, keeps.1), h.1)
 

@@ -71,7 +71,7 @@ move_same p c (TheLog x) l l' n n' same move = log_same l l' n n' same move.1
 move_same p c (TheReplica x) l l' n n' same move = move.0
 move_same p c (TheDesk x) l l' n n' same move = move.0
 
-no_event : (x : ℕ) (n n' : SessionNote) → n' ≡ n → events_of x n n' ≡ []
+pub no_event : (x : ℕ) (n n' : SessionNote) → n' ≡ n → events_of x n n' ≡ []
 no_event x n n' same = subst (λ (z : SessionNote). events_of x n z ≡ []) (sym same) (by n.pending)
   where
     by : (p : Option Pending) → events_between x p p (drop (length n.answered) n.answered) ≡ []

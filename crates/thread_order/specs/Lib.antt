@@ -8,3 +8,5 @@ pub mod ReadsSaid
 pub mod Stands
 -- What the lock's contracts tell are steps.
 pub mod AtLock
+-- The calls of each session, and the history that explains those of all.
+pub mod CallsMade

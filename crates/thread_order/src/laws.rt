@@ -2,6 +2,7 @@
 ghost use Rattle.thread_order.specs.Threads.{AnswersAreTold, ThreadsAreExplained};
 ghost use Rattle.thread_order.specs.RunEvents.{AnswersAreInRun, BetweenIsExplained, CalledLater, EachStepStands, EventsGoOn, KnownEventsBegin, RunsAreExplained, UpdatesAreExplained};
 ghost use Rattle.thread_order.specs.ReadsSaid.{EachMaySay, LooksStand, ReadsMaySay, SilentMaySay};
+ghost use Rattle.thread_order.specs.CallsMade.{CallsAreExplained, LooksMakeNoEvents};
 ghost use Rattle.thread_order.specs.Stands.{OpeningStands, StepsKeepIt};
 ghost use Rattle.thread_order.specs.AtLock.{AnswersAreSteps, LoadsAreSteps, PutsAreSteps, RaisesAreSteps};
 
@@ -35,6 +36,14 @@ pub fn runs_are_explained()
     ensures each { EachMaySay }
     ensures reads { ReadsMaySay }
     ensures silent { SilentMaySay }
+{}
+
+/// Take for each session the calls that it made, one after another, each as its contract has it: reads and updates with their answers, and
+/// others. One history explains a trace that has exactly these calls, each session's in its order. Nothing is asked of what sessions say. A
+/// look that is no read of a program makes no event.
+pub fn calls_are_explained()
+    ensures explained { CallsAreExplained }
+    ensures looks { LooksMakeNoEvents }
 {}
 
 /// What the lock's contracts tell a session of a store is one of these steps, from whatever it may find there: a put that it may make, with

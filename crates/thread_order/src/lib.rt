@@ -5,4 +5,6 @@
 
 mod laws;
 
-pub use laws::{contracts_are_steps, runs_are_explained, threads_are_explained};
+pub use laws::{
+    calls_are_explained, contracts_are_steps, runs_are_explained, threads_are_explained,
+};

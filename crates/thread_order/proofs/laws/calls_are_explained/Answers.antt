@@ -1,0 +1,8 @@
+use Rattle.thread_order.proofs.CallsMade.{calls_are_explained, looks_make_no_events}
+use Rattle.thread_order.proofs.laws.calls_are_explained.Goals as goal
+
+pub returns-clause-explained : goal.returns-clause-explained
+returns-clause-explained c = calls_are_explained
+
+pub returns-clause-looks : goal.returns-clause-looks
+returns-clause-looks c = looks_make_no_events
