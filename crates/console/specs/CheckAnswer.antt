@@ -1,6 +1,7 @@
 -- What `check` and `explain` answer, as a function of the manifest and of the files that were read.
-use Rattle.std.specs.Prelude.{◌≡◌, ℕ, List, ◌++◌, Option, Some, None, Result, Ok, Err}
+use Rattle.std.specs.Prelude.{◌≡◌, ℕ, false, List, ◌++◌, Option, Some, None, IfSome, Result, Ok, Err}
 use Rattle.loader.specs.Loading.{loaded}
+use Rattle.explain.specs.Manifest.{has_program, no_program, TellsOfManifest}
 use Rattle.engine.specs.declared.replies.Verdict.TheVariants as verdicts
 use Rattle.engine.specs.Texts.{programs_text, refusal_text}
 use Rattle.engine.specs.Answer.{Answer, not_text}
@@ -16,9 +17,18 @@ abbrev pub check_answer : Option TextsRead → Answer
 check_answer None = not_text
 check_answer (Some t) = good_or_refused (λ c. programs_text c.programs) refusal_text (loaded t.manifest t.files)
 
--- `explain`: it begins with what `check` answers, and its verdict is that of `check`
-abbrev pub IsExplanation : Answer → Answer → Type 0
-IsExplanation checked a = (a.verdict ≡ checked.verdict) × ((more : List ℕ) × (a.text ≡ checked.text ++ more))
+-- what is told of a manifest that was read: of the program of this name, or of all where none is given, what `explain_manifest` tells; where no line is
+-- that of a program of this name, that there is none. What is told of what is no text isn't defined
+pub record IsTold (name : Option (List ℕ)) (read : Option TextsRead) (text : List ℕ) : Type 0 where
+  pub manifest : IfSome read (λ t. TellsOfManifest t.files name t.manifest text)
+  pub missing : IfSome read (λ t. IfSome name (λ n. has_program n t.manifest ≡ false → text ≡ no_program n))
+
+-- `explain`: what `check` answers, with its verdict, and after it what is told
+pub record IsExplanation (name : Option (List ℕ)) (read : Option TextsRead) (a : Answer) : Type 0 where
+  pub more : List ℕ
+  pub verdict : a.verdict ≡ (check_answer read).verdict
+  pub text : a.text ≡ (check_answer read).text ++ more
+  pub told : IsTold name read more
 
 -- `explain --graph`: what is no text is not drawn, and `check` answers that; else its verdict is that of `check`, and the words of the drawing aren't defined
 abbrev pub IsGraph : Option TextsRead → Answer → Type 0

@@ -1,7 +1,7 @@
 // The commands of a manifest: `check`, and `explain` in words or as a graph.
 
-ghost use Rattle.std.specs.Prelude.{◌≡◌, IfOk};
-ghost use Rattle.console.specs.CheckAnswer.{IsExplanation, IsGraph, check_answer};
+ghost use Rattle.std.specs.Prelude.{◌≡◌, option_map, IfOk};
+ghost use Rattle.console.specs.CheckAnswer.{IsExplanation, IsGraph, IsTold, check_answer};
 ghost use Rattle.engine.specs.Reading.{texts_in};
 ghost use Rattle.engine.specs.Report.{answer_of};
 
@@ -101,22 +101,29 @@ impl<F: Folder> Explain<'_, F> {
         }
         Ok(told)
     }
+
+    // What is told of what was read.
+    fn told(&self, alloc: Global, read: &Gathered) -> Result<Vec<u8>, AllocError>
+        ensures { IfOk result (λ v. IsTold (option_map (λ n. n.now) self.now.name) (texts_in read.now) v.items) }
+    {
+        let texts = match read {
+            Ok(texts) => texts,
+            Err(stranger) => return self.strangers_told(alloc, stranger),
+        };
+        let files = lent(alloc, &texts.files)?;
+        let told = explain_manifest(alloc, texts.manifest.as_str(), &files, self.name)?;
+        Ok(told.into_bytes())
+    }
 }
 
 impl<F: Folder> Command for Explain<'_, F> {
     type Made = Reply;
 
-    ghost may_make = { λ _ t r. IsExplanation (check_answer t) (answer_of r) };
+    ghost may_make = { λ c t r. IsExplanation (option_map (λ n. n.now) c.name) t (answer_of r) };
 
     fn make(&self, alloc: Global, read: Gathered, _notes: &mut Notes) -> Result<Reply, AllocError> {
         let Reply { mut text, verdict } = checked(alloc, &read)?;
-        let told = match &read {
-            Ok(texts) => {
-                let files = lent(alloc, &texts.files)?;
-                explain_manifest(alloc, texts.manifest.as_str(), &files, self.name)?.into_bytes()
-            }
-            Err(stranger) => self.strangers_told(alloc, stranger)?,
-        };
+        let told = self.told(alloc, &read)?;
         text.extend_from_slice(&told)?;
         Ok(Reply { text, verdict })
     }

@@ -27,6 +27,7 @@ use Rattle.explain.specs.Listing.{head_text, refusal_text, IsReason}
 use Rattle.explain.specs.Manifest.{Above, nothing_above, entry_named, has_map, is_misplaced, so_far, with_line, with_shapes, refused_by, line_fault, named_words, slot_fault, IsJudged, TellsOfRead, TellsOfFile, TellsWhereMap, TellsOfProgram, TellsOfLine, TellsOfLines, TellsOfAll}
 use Rattle.explain.specs.Told.{BeginsWith, BeginsIf}
 use Rattle.explain.specs.FirstFault.{TellsVerdict, TellsRefusal, HasRefusal}
+use Rattle.explain.proofs.Judged.{beyond}
 use Rattle.explain.proofs.MapLines.{taken}
 
 -- ---- texts
@@ -207,7 +208,7 @@ module _ (files : Files) (n : ℕ) (a : Above) (c : CatalogueView) (p : ProgramL
   by_number false x was is =
       let names : length c.programs ≡ length a.names = sym (length-map c.programs (λ e. e.name)) ∙ ap length k.names in
       let many : 256 ≤ length a.names = omega (arith, ltb-false _ _ was, names) in
-      let begins : BeginsWith (line_fault n TooMany) told.beyond = subst (λ b. BeginsIf b (line_fault n TooMany) told.beyond) (le-leb _ _ many) told.number in
+      let begins : BeginsWith (line_fault n TooMany) told.beyond = subst (λ b. BeginsIf b (line_fault n TooMany) told.beyond) (beyond a many) told.number in
       subst (λ w. HasRefusal n w text) (err_is _ _ is)
       (behind n TooMany told.misplaced (told.beyond ++ told.own) text told.whole
       (at_once n TooMany _ (begins_in (refused_by n 5) told.beyond told.own _ refl (begins_sooner (refused_by n 5) (codes "\n") told.beyond begins))))

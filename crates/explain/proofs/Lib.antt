@@ -6,3 +6,4 @@ pub mod Judged
 pub mod Manifests
 pub mod FirstFault
 pub mod Lines
+pub mod Slots

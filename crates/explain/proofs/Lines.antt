@@ -1,8 +1,10 @@
 -- The lines of a listing, one after another.
-use Rattle.std.proofs.Common.{◌≡◌, ℕ, ◌+◌, ◌<◌, ◌≤◌, List, [], ◌∷◌, ◌++◌, length, take, drop, get_or, Option, Some, None, inl, inr, refl, sym, ap, subst, ◌∙◌, append_assoc, arith}
-use Rattle.std.specs.Prelude.{◌⊎◌, ◌-◌, ◌^◌, ◌==◌, false, codes, decimal, MatchOption}
+use Rattle.std.proofs.Common.{◌≡◌, ℕ, ◌+◌, ◌<◌, ◌≤◌, List, [], ◌∷◌, ◌++◌, length, take, drop, get_or, Option, Some, None, inl, inr, ⊎_elim, refl, sym, ap, subst, ◌∙◌, append_assoc, arith}
+use Rattle.std.specs.Prelude.{◌⊎◌, ◌-◌, ◌^◌, ◌==◌, false, replicate, codes, decimal, MatchOption}
 use Rattle.std.specs.Prelude.{IfSome}
-use Rattle.std.specs.List.{concat, list_any}
+use Rattle.std.specs.List.{concat}
+use Rattle.std.proofs.lemmas.Bool.{false≢true}
+use Rattle.std.proofs.lemmas.Grind.{replicate_next}
 use Rattle.std.proofs.lemmas.List.{append-nil, drop_more, length-append, take-append-drop}
 use Rattle.insn.specs.declared.instruction.Form.{Form}
 use Rattle.insn.specs.Layout.{slot_contents, slot_count, layout, size}
@@ -10,8 +12,14 @@ use Rattle.asm.specs.Words.{word_of}
 use Rattle.asm.specs.Text.{mnemonic, operands, operand_text, line_text, text_of}
 use Rattle.insn.specs.declared.instruction.TheConstants.{MAX_SLOTS}
 use Rattle.verifier.specs.declared.refusal.Refused.{Refused}
+use Rattle.flow.proofs.Positions.{one_or_two}
+use Rattle.explain.specs.declared.programs.Study.{Study}
 use Rattle.explain.specs.declared.programs.Subject.{Subject}
-use Rattle.explain.specs.Listing.{line_of, verdict_on, head_text, Explains, IsReason, margin, left_text, AreEnough, IsAside, IsLine, IsListing, Lists}
+use Rattle.explain.specs.Listing.{line_of, kinds_refusal, signature_of, verdict_on, head_text, AddsListing, Explains, IsReason, aside, margin, left_text, AreEnough, IsLine, IsListing, Lists}
+use Rattle.explain.specs.Slots.{told_upto}
+use Rattle.explain.specs.Study.{IsStudy}
+use Rattle.explain.specs.Told.{Adds}
+use Rattle.explain.proofs.Pieces.{three}
 
 -- the text of one instruction is its line
 pub text_of_one : (i : Form) → text_of (i ∷ []) ≡ line_text i
@@ -19,24 +27,24 @@ unfolding text_of
 text_of_one i = append-nil (line_text i)
 
 -- what is written of the first k instructions: with the lines of the others behind it, it is the lines of all
-pub record SoFar (p : List Form) (k slot : ℕ) (old new : List ℕ) : Type 0 where
+pub record SoFar (told : ℕ → List ℕ) (p : List Form) (k slot : ℕ) (old new : List ℕ) : Type 0 where
   pub text : List ℕ
   pub written : new ≡ old ++ text
-  pub listed : (rest : List ℕ) → Lists slot (drop k p) rest → Lists 0 p (text ++ rest)
+  pub listed : (rest : List ℕ) → Lists told slot (drop k p) rest → Lists told 0 p (text ++ rest)
   pub slots : slot + size (drop k p) ≡ size p
 
-pub nothing : (p : List Form) (old : List ℕ) → SoFar p 0 0 old old
-nothing p old = record { text = []; written = sym (append-nil old); listed = λ rest l. l; slots = omega arith }
+pub nothing : (told : ℕ → List ℕ) (p : List Form) (old : List ℕ) → SoFar told p 0 0 old old
+nothing told p old = record { text = []; written = sym (append-nil old); listed = λ rest l. l; slots = omega arith }
 
 none_left : (p : List Form) → drop (length p) p ≡ []
 none_left [] = refl
 none_left (i ∷ p) = none_left p
 
 -- behind the last one all are written
-pub whole : (p : List Form) (k slot : ℕ) (old new : List ℕ) → k ≡ length p → SoFar p k slot old new → (lines : List ℕ) × (new ≡ old ++ lines) × Lists 0 p lines
-whole p k slot old new end s =
+pub whole : (told : ℕ → List ℕ) (p : List Form) (k slot : ℕ) (old new : List ℕ) → k ≡ length p → SoFar told p k slot old new → Adds (Lists told 0 p) old new
+whole told p k slot old new end s =
     let none : drop k p ≡ [] = ap (λ n. drop n p) end ∙ none_left p in
-    (s.text, s.written, subst (Lists 0 p) (append-nil s.text) (s.listed [] (subst (λ q. Lists slot q []) (sym none) refl)))
+    (s.text, s.written, subst (Lists told 0 p) (append-nil s.text) (s.listed [] (subst (λ q. Lists told slot q []) (sym none) refl)))
 
 module _ (p : List Form) (k : ℕ) (d f : Form) (lt : k < length p) (is : f ≡ get_or p k d) where
   here : drop k p ≡ f ∷ drop (k + 1) p
@@ -46,16 +54,16 @@ module _ (p : List Form) (k : ℕ) (d f : Form) (lt : k < length p) (is : f ≡ 
   counted = ap size here ∙ length-append (slot_contents f) (layout (drop (k + 1) p))
 
   -- one line more
-  pub line_more : (slot : ℕ) (old now after : List ℕ) → SoFar p k slot old now → (line : List ℕ) × (after ≡ now ++ line) × IsLine slot f line
-      → SoFar p (k + 1) (slot + slot_count f) old after
-  line_more slot old now after s one =
+  pub line_more : (told : ℕ → List ℕ) (slot : ℕ) (old now after : List ℕ) → SoFar told p k slot old now → (line : List ℕ) × (after ≡ now ++ line) × IsLine slot f (told slot) line
+      → SoFar told p (k + 1) (slot + slot_count f) old after
+  line_more told slot old now after s one =
       let line = one.0 in
       record {
         text = s.text ++ line;
         written = one.1 ∙ ap (λ t. t ++ line) s.written ∙ append_assoc old s.text line;
         listed = λ rest l.
-            subst (Lists 0 p) (sym (append_assoc s.text line rest))
-            (s.listed (line ++ rest) (subst (λ q. Lists slot q (line ++ rest)) (sym here) (line, rest, refl, one.2, l)));
+            subst (Lists told 0 p) (sym (append_assoc s.text line rest))
+            (s.listed (line ++ rest) (subst (λ q. Lists told slot q (line ++ rest)) (sym here) (line, rest, refl, one.2, l)));
         slots = omega (arith, s.slots, counted);
       }
 
@@ -72,12 +80,22 @@ ends i =
     let rest = operand_text (operands i) in
     (words ++ rest, sym (append_assoc words rest (codes "\n")))
 
-pub is_aside : (out known : List ℕ) → out ≡ concat (codes " " ∷ known ∷ []) → list_any (λ b. b == 10) known ≡ false → IsAside out
-is_aside out known put one = inr (known, put, one)
+pub is_line : (slot : ℕ) (i : Form) (words told old new : List ℕ) → line_text i ≡ words ++ codes "\n"
+    → new ≡ old ++ concat (margin slot ∷ decimal slot ∷ codes "  " ∷ words ∷ aside (length words) told ∷ codes "\n" ∷ []) → (line : List ℕ) × (new ≡ old ++ line) × IsLine slot i told line
+is_line slot i words told old new ends put = (_, put, record { words = words; disassembled = ends; whole = refl })
 
-pub is_line : (slot : ℕ) (i : Form) (words aside old new : List ℕ) → line_text i ≡ words ++ codes "\n" → IsAside aside
-    → new ≡ old ++ concat (margin slot ∷ decimal slot ∷ codes "  " ∷ words ∷ aside ∷ codes "\n" ∷ []) → (line : List ℕ) × (new ≡ old ++ line) × IsLine slot i line
-is_line slot i words aside old new ends known put = (_, put, record { words = words; aside = aside; disassembled = ends; known = known; whole = refl })
+-- one blank more
+pub blank_more : (n : ℕ) (old now after : List ℕ) → now ≡ old ++ replicate n 32 → after ≡ now ++ codes " " → after ≡ old ++ replicate (n + 1) 32
+blank_more n old now after so_far one =
+    one ∙ ap (λ t. t ++ codes " ") so_far ∙ append_assoc old (replicate n 32) (codes " ") ∙ ap (λ t. old ++ t) (sym (replicate_next n 32))
+
+pub aside_is : (columns left : ℕ) (told old n m out : List ℕ) → length told == 0 ≡ false → left ≡ 24 - columns → old ≡ [] → n ≡ old ++ codes " " → m ≡ n ++ replicate left 32 → out ≡ m ++ told
+    → out ≡ aside columns told
+aside_is columns left [] old n m out some is none x y z = absurd (false≢true (sym some))
+aside_is columns left (b ∷ told) old n m out some is none x y z =
+    three (codes " ") (replicate left 32) (b ∷ told) old n m out x y z
+    ∙ ap (λ t. t ++ concat (codes " " ∷ replicate left 32 ∷ (b ∷ told) ∷ [])) none
+    ∙ ap (λ k. concat (codes " " ∷ replicate k 32 ∷ (b ∷ told) ∷ [])) is
 
 -- ---- a listing
 
@@ -95,9 +113,9 @@ are_enough p verdict count limit small last (inl all) = inl all
 are_enough p None count limit small last (inr far) = absurd (omega (arith, size_take count p, small, last, far))
 are_enough p (Some e) count limit small last (inr far) = inr (e, refl, omega (arith, last, far))
 
-pub is_listing : (p : List Form) (verdict : Option Refused) (count left : ℕ) (old now after : List ℕ) → (lines : List ℕ) × (now ≡ old ++ lines) × Lists 0 (take count p) lines
-    → left + count ≡ length p → after ≡ now ++ left_text left → AreEnough p verdict count → (text : List ℕ) × (after ≡ old ++ text) × IsListing p verdict text
-is_listing p verdict count left old now after written rest put enough =
+pub is_listing : (p : List Form) (kinds verdict : Option Refused) (count left : ℕ) (old now after : List ℕ) → Adds (Lists (told_upto p kinds) 0 (take count p)) old now → left + count ≡ length p
+    → after ≡ now ++ left_text left → AreEnough p verdict count → (text : List ℕ) × (after ≡ old ++ text) × IsListing p kinds verdict text
+is_listing p kinds verdict count left old now after written rest put enough =
     let lines = written.0 in
     let same : left ≡ length p - count = omega (arith, rest) in (
       lines ++ left_text left,
@@ -105,17 +123,25 @@ is_listing p verdict count left old now after written rest put enough =
       record { count = count; lines = lines; listed = written.2; enough = enough; whole = ap (λ n. lines ++ left_text n) same },
     )
 
+-- an instruction takes a slot
+pub some_slot : (i : Form) → 0 < slot_count i
+some_slot i = ⊎_elim (λ one. omega (arith, one)) (λ two. omega (arith, two.0)) (one_or_two i)
+
 -- ---- a program
+
+pub kinds_are : (study : Study) (s : Subject) → study.subject ≡ s → IsStudy study → size s.program.now ≤ MAX_SLOTS → study.known.kinds ≡ kinds_refusal s.program.now (signature_of s)
+kinds_are study s same known few =
+    known.kinds (subst (λ z. size z.program.now ≤ MAX_SLOTS) (sym same) few) ∙ ap (λ z. kinds_refusal z.program.now (signature_of z)) same
 
 pub some_of : {A : Type 0} (P : A → Type 0) (o : Option A) (x : A) → o ≡ Some x → IfSome o P → P x
 some_of P o x is holds = subst (λ q. IfSome q P) is holds
 
-pub explained : (s t : Subject) (v : Option Refused) (head lines all : List ℕ) → t ≡ s → v ≡ verdict_on s → head ≡ head_text s.line (line_of s)
-    → (size t.program.now ≤ MAX_SLOTS → (text : List ℕ) × (lines ≡ head ++ text) × IsListing t.program.now v text) → (reason : List ℕ) × (all ≡ lines ++ reason) × IsReason v reason
-    → size s.program.now ≤ MAX_SLOTS → Explains s all
-explained s t v head lines all same is put listing reason small =
-    let own = subst (λ z. size z.program.now ≤ MAX_SLOTS → (text : List ℕ) × (lines ≡ head ++ text) × IsListing z.program.now v text) same listing small in
-    let l = subst (λ w. (text : List ℕ) × (lines ≡ head ++ text) × IsListing s.program.now w text) is own in
+pub explained : (s t : Subject) (k v : Option Refused) (head lines all : List ℕ) → t ≡ s → k ≡ kinds_refusal s.program.now (signature_of s) → v ≡ verdict_on s → head ≡ head_text s.line (line_of s)
+    → AddsListing t.program.now k v head lines → (reason : List ℕ) × (all ≡ lines ++ reason) × IsReason v reason → size s.program.now ≤ MAX_SLOTS → Explains s all
+explained s t k v head lines all same kinds is put listing reason small =
+    let own = subst (λ z. AddsListing z.program.now k v head lines) same listing small in
+    let known = subst (λ w. (text : List ℕ) × (lines ≡ head ++ text) × IsListing s.program.now w v text) kinds own in
+    let l = subst (λ w. (text : List ℕ) × (lines ≡ head ++ text) × IsListing s.program.now (kinds_refusal s.program.now (signature_of s)) w text) is known in
     let r = subst (λ w. (text : List ℕ) × (all ≡ lines ++ text) × IsReason w text) is reason in (
       l.0 ++ r.0,
       r.1 ∙ ap (λ t. t ++ r.0) l.1 ∙ append_assoc head l.0 r.0 ∙ ap (λ t. t ++ (l.0 ++ r.0)) put,

@@ -29,6 +29,16 @@ pub both : (xs ys : List (List ℕ)) (old now after : List ℕ) → now ≡ old 
 both xs ys old now after first second =
     second ∙ ap (λ t. t ++ concat ys) first ∙ append_assoc old (concat xs) (concat ys) ∙ ap (λ t. old ++ t) (sym (concat-append xs ys))
 
+-- single texts, one after another
+one : (old new x : List ℕ) → new ≡ old ++ x → new ≡ old ++ concat (x ∷ [])
+one old new x put = put ∙ ap (λ t. old ++ t) (sym (append-nil x))
+
+pub three : (a b d old n m new : List ℕ) → n ≡ old ++ a → m ≡ n ++ b → new ≡ m ++ d → new ≡ old ++ concat (a ∷ b ∷ d ∷ [])
+three a b d old n m new x y z = both (a ∷ b ∷ []) (d ∷ []) old m new (both (a ∷ []) (b ∷ []) old n m (one old n a x) (one n m b y)) (one m new d z)
+
+pub four : (a b d e old n m k new : List ℕ) → n ≡ old ++ a → m ≡ n ++ b → k ≡ m ++ d → new ≡ k ++ e → new ≡ old ++ concat (a ∷ b ∷ d ∷ e ∷ [])
+four a b d e old n m k new x y z u = both (a ∷ b ∷ d ∷ []) (e ∷ []) old k new (three a b d old n m k x y z) (one k new e u)
+
 -- what holds where a call succeeded
 pub on_ok : {A E : Type 0} {P Q : Type 0} (r : Result A E) → (P → Q) → OnOk r P → OnOk r Q
 on_ok (Ok x) f p = f p

@@ -1,6 +1,6 @@
 -- The listing of a program, and what is told of a program.
-use Rattle.std.specs.Prelude.{◌≡◌, ◌⊎◌, ℕ, ◌+◌, ◌-◌, ◌<◌, ◌≤◌, false, ◌==◌, nat_lt, List, [], ◌∷◌, ◌++◌, length, take, codes, decimal, Option, Some, None, if◌then◌else◌}
-use Rattle.std.specs.List.{concat, list_any}
+use Rattle.std.specs.Prelude.{◌≡◌, ◌⊎◌, ℕ, ◌+◌, ◌-◌, ◌<◌, ◌≤◌, ◌==◌, nat_lt, List, [], ◌∷◌, ◌++◌, length, take, replicate, codes, decimal, Option, Some, None, if◌then◌else◌}
+use Rattle.std.specs.List.{concat}
 use Rattle.insn.specs.declared.instruction.Form.{Form}
 use Rattle.insn.specs.declared.instruction.TheConstants.{MAX_SLOTS}
 use Rattle.insn.specs.Layout.{slot_count, size}
@@ -10,12 +10,13 @@ use Rattle.maps.specs.Shapes.{AreShapesOk}
 use Rattle.maps.specs.declared.shapes.TheConstants.{MAX_ARG_LEN}
 use Rattle.verifier.specs.declared.refusal.Refused.{Refused}
 use Rattle.verifier.specs.Numbers.{fault_number}
-use Rattle.verifier.specs.Signature.{signature}
-use Rattle.verifier.specs.Verdict.{verdict}
+use Rattle.verifier.specs.Signature.{Signature, signature}
+use Rattle.verifier.specs.Verdict.{lowest_refusal, verdict}
 use Rattle.loader.specs.Grammar.{ProgramLine}
 use Rattle.loader.specs.Spelling.{mode_word}
 use Rattle.explain.specs.declared.programs.Subject.{Subject}
-use Rattle.explain.specs.Told.{BeginsWith}
+use Rattle.explain.specs.Slots.{told_upto}
+use Rattle.explain.specs.Told.{Adds, BeginsWith}
 
 -- ---- the line of an instruction
 
@@ -23,22 +24,22 @@ use Rattle.explain.specs.Told.{BeginsWith}
 abbrev pub margin : ℕ → List ℕ
 margin n = if nat_lt n 10 then codes "   " else if nat_lt n 100 then codes "  " else if nat_lt n 1000 then codes " " else []
 
--- nothing; or what is known at a slot, behind a space and in the same line
-abbrev pub IsAside : List ℕ → Type 0
-IsAside text = (text ≡ []) ⊎ ((known : List ℕ) × (text ≡ concat (codes " " ∷ known ∷ [])) × (list_any (λ b. b == 10) known ≡ false))
+-- nothing where nothing is told; else that, from the 25th column after the instruction's first on
+abbrev pub aside : ℕ → List ℕ → List ℕ
+aside columns [] = []
+aside columns told = concat (codes " " ∷ replicate (24 - columns) 32 ∷ told ∷ [])
 
--- the slot of an instruction, and its line as `dis` writes it, at whose end stands what is known there
-pub record IsLine (slot : ℕ) (i : Form) (line : List ℕ) : Type 0 where
+-- the slot of an instruction, its line as `dis` writes it, and at its end what is told there
+pub record IsLine (slot : ℕ) (i : Form) (told line : List ℕ) : Type 0 where
   pub words : List ℕ
-  pub aside : List ℕ
   pub disassembled : line_text i ≡ words ++ codes "\n"
-  pub known : IsAside aside
-  pub whole : line ≡ concat (margin slot ∷ decimal slot ∷ codes "  " ∷ words ∷ aside ∷ codes "\n" ∷ [])
+  pub whole : line ≡ concat (margin slot ∷ decimal slot ∷ codes "  " ∷ words ∷ aside (length words) told ∷ codes "\n" ∷ [])
 
--- the lines of these instructions, of which the first begins at this slot
-abbrev pub Lists : ℕ → List Form → List ℕ → Type 0
-Lists slot [] text = text ≡ []
-Lists slot (i ∷ is) text = (line : List ℕ) × (rest : List ℕ) × (text ≡ line ++ rest) × IsLine slot i line × Lists (slot + slot_count i) is rest
+-- the lines of these instructions, of which the first begins at this slot, with what is told at each slot
+abbrev pub Lists : (ℕ → List ℕ) → ℕ → List Form → List ℕ → Type 0
+Lists told slot [] text = text ≡ []
+Lists told slot (i ∷ is) text =
+    (line : List ℕ) × (rest : List ℕ) × (text ≡ line ++ rest) × IsLine slot i (told slot) line × Lists told (slot + slot_count i) is rest
 
 -- ---- what is told of a program
 
@@ -71,39 +72,46 @@ refusal_text e = concat (codes "      V" ∷ decimal (fault_number e.why) ∷ co
 abbrev pub AreEnough : List Form → Option Refused → ℕ → Type 0
 AreEnough p verdict count = (length p ≤ count) ⊎ ((e : Refused) × (verdict ≡ Some e) × (e.slot < size (take count p)))
 
--- the listing of a program with this verdict: the lines of its first instructions, and how many are left
-pub record IsListing (p : List Form) (verdict : Option Refused) (text : List ℕ) : Type 0 where
+-- the listing of a program with this refusal by kinds and this verdict: the lines of its first instructions, and how many are left
+pub record IsListing (p : List Form) (kinds verdict : Option Refused) (text : List ℕ) : Type 0 where
   pub count : ℕ
   pub lines : List ℕ
-  pub listed : Lists 0 (take count p) lines
+  pub listed : Lists (told_upto p kinds) 0 (take count p) lines
   pub enough : AreEnough p verdict count
   pub whole : text ≡ lines ++ left_text (length p - count)
 
 -- such a listing stands behind what stood there
-abbrev pub AddsListing : List Form → Option Refused → List ℕ → List ℕ → Type 0
-AddsListing p verdict old new = size p ≤ MAX_SLOTS → (text : List ℕ) × (new ≡ old ++ text) × IsListing p verdict text
+abbrev pub AddsListing : List Form → Option Refused → Option Refused → List ℕ → List ℕ → Type 0
+AddsListing p kinds verdict old new = size p ≤ MAX_SLOTS → Adds (IsListing p kinds verdict) old new
 
 -- nothing of a program that is accepted; of another first its refusal
 abbrev pub IsReason : Option Refused → List ℕ → Type 0
 IsReason None text = text ≡ []
 IsReason (Some e) text = BeginsWith (refusal_text e) text
 
--- what is told of a program with this verdict: its listing, and why it is refused
-pub record Tells (p : List Form) (verdict : Option Refused) (text : List ℕ) : Type 0 where
+-- the refusal of a program by kinds alone, whatever its structure
+abbrev pub kinds_refusal : List Form → Signature → Option Refused
+kinds_refusal p l = lowest_refusal p l (size p)
+
+-- what is told of a program with this signature: its listing, and why it is refused
+pub record Tells (p : List Form) (l : Signature) (text : List ℕ) : Type 0 where
   pub listing : List ℕ
   pub reason : List ℕ
-  pub lists : IsListing p verdict listing
-  pub refuses : IsReason verdict reason
+  pub lists : IsListing p (kinds_refusal p l) (verdict p l) listing
+  pub refuses : IsReason (verdict p l) reason
   pub whole : text ≡ listing ++ reason
 
 -- what is told of the program of the line with this number, for these maps: which one it is, and this of it
 abbrev pub TellsOf : ℕ → ProgramLine → List Shape → List Form → List ℕ → Type 0
-TellsOf n p shapes program text =
-    (told : List ℕ) × (text ≡ head_text n p ++ told) × Tells program (verdict program (signature shapes p.arg_len p.mode)) told
+TellsOf n p shapes program text = (told : List ℕ) × (text ≡ head_text n p ++ told) × Tells program (signature shapes p.arg_len p.mode) told
+
+-- what a program is checked for
+abbrev pub signature_of : Subject → Signature
+signature_of s = signature s.shapes.now s.arg_len s.mode
 
 -- the verdict on a program
 abbrev pub verdict_on : Subject → Option Refused
-verdict_on s = verdict s.program.now (signature s.shapes.now s.arg_len s.mode)
+verdict_on s = verdict s.program.now (signature_of s)
 
 -- it has at most 4,096 slots, and a store may have such maps, and such an argument
 pub record CanBeJudged (s : Subject) : Type 0 where

@@ -1,5 +1,5 @@
 -- What is told of a manifest, line by line.
-use Rattle.std.specs.Prelude.{◌≡◌, ℕ, Bool, true, false, not, ◌&&◌, ◌||◌, nat_eq, nat_lt, nat_le, List, [], ◌∷◌, ◌++◌, length, map, codes, decimal, Option, Some, None, is_none, is_some, Result, Ok, Err, MatchResult, if◌then◌else◌, bytes_eq}
+use Rattle.std.specs.Prelude.{◌≡◌, ℕ, Bool, true, false, not, ◌&&◌, ◌||◌, nat_eq, nat_lt, List, [], ◌∷◌, ◌++◌, length, map, codes, decimal, Option, Some, None, is_none, is_some, is_err, Result, Ok, Err, MatchResult, if◌then◌else◌, bytes_eq}
 use Rattle.std.specs.Option.{option_or}
 use Rattle.std.specs.List.{concat, list_any, starts_with}
 use Rattle.text.specs.Lines.{lines_of, next_line}
@@ -11,11 +11,10 @@ use Rattle.verifier.specs.declared.refusal.Mode.TheVariants.{Read}
 use Rattle.verifier.specs.Accepted.{checked}
 use Rattle.loader.specs.declared.refusals.LoadFault.{LoadFault}
 use Rattle.loader.specs.declared.refusals.LoadFault.TheVariants.{BadLine, BadHex, Decode, TooMany}
-use Rattle.explain.specs.declared.files.manifest.TheConstants.{MAX_PROGRAMS}
 use Rattle.loader.specs.Grammar.{ProgramLine, Meaning, Comment, Map, Program, line_meaning}
 use Rattle.loader.specs.CatalogueView.{Entry, CatalogueView}
 use Rattle.loader.specs.ProgramFiles.{◌>>=◌, Files, file_named, or_bad_line, bytes_of_hex, instructions_of}
-use Rattle.loader.specs.Loading.{is_taken, with_map}
+use Rattle.loader.specs.Loading.{is_taken, with_entry, with_map}
 use Rattle.loader.specs.Refusal.{fault_number}
 use Rattle.explain.specs.Listing.{TellsOf}
 use Rattle.explain.specs.Told.{BeginsWith, BeginsIf}
@@ -143,9 +142,9 @@ TellsWhereMap false files n a p text = text ≡ []
 abbrev pub is_misplaced : Above → List ℕ → Bool
 is_misplaced a name = not (has_map a) || is_taken (so_far a).programs name
 
--- 256 programs stand above
+-- as many programs stand above as the loader takes: with 256 it takes no other
 abbrev pub is_beyond : Above → Bool
-is_beyond a = nat_le MAX_PROGRAMS (length a.names)
+is_beyond a = is_err (with_entry (so_far a) (entry_named []))
 
 -- C1 before any map or where the name is taken, C5 where it is the 257th program, and what is told of its file
 pub record TellsOfProgram (files : Files) (n : ℕ) (a : Above) (p : ProgramLine) (text : List ℕ) : Type 0 where

@@ -1,11 +1,17 @@
 // Programs by their slots: what is known there, and the ways that lead there.
 
-ghost use Rattle.std.specs.Prelude.{◌≡◌, ◌≤◌, IfOk, IfSome, IsSome};
+ghost use Rattle.std.specs.Prelude.{◌≡◌, ◌↔◌, ◌<◌, ◌≤◌, ◌++◌, ◌∷◌, [], ℕ, pos, Some, if◌then◌else◌, option_map, IfOk, IfSome, IsSome, OnOk};
+ghost use Rattle.insn.specs.declared.instruction.TheConstants.{MAX_SLOTS};
+ghost use Rattle.insn.specs.Layout.{size, LeadsTo};
 ghost use Rattle.maps.specs.Shapes.{AreShapesOk};
 ghost use Rattle.maps.specs.declared.shapes.TheConstants.{MAX_ARG_LEN};
+ghost use Rattle.verifier.specs.Joined.{frame_in, leads};
 ghost use Rattle.explain.specs.Listing.{verdict_on};
+ghost use Rattle.explain.specs.Slots.{byte_in, cell_in, kind_in, line_above, slots_into};
+ghost use Rattle.explain.specs.Study.{known_falls, HasSlot, IsStudy};
 
 mod listing;
+mod slots;
 
 use crate::sentences::Word::Count;
 use crate::sentences::{Written, put};
@@ -69,22 +75,37 @@ pub(crate) enum Byte {
 }
 
 // What a register has in a frame, if there is one.
-pub(crate) fn kind_in(frame: Option<&Frame>, register: u8) -> Kind {
+pub(crate) fn kind_in(frame: Option<&Frame>, register: u8) -> Kind
+    ensures { register < 11 → result ≡ kind_in (option_map (λ f. f.now) frame.entry) register }
+{
     match frame {
         Some(frame) if register < 11 => frame.kind(register),
         _ => Kind::Unreadable,
     }
 }
 
-// What a byte of the stack is, counted from its lower end, in a frame if there is one.
-pub(crate) fn byte_in(frame: Option<&Frame>, byte: usize) -> Byte {
+// What a cell of the stack has in a frame, if there is one.
+pub(crate) fn cell_in(frame: Option<&Frame>, cell: usize) -> Cell
+    requires { cell < 64 }
+    ensures { result ≡ cell_in (option_map (λ f. f.now) frame.entry) cell }
+{
     match frame {
-        Some(frame) if byte < STACK_BYTES => match frame.cell(byte / 8) {
-            Cell::Marks(marks) if marks >> (byte % 8) & 1 == 1 => Byte::Number,
-            Cell::Marks(_) => Byte::Unwritten,
-            Cell::Spilled(_) => Byte::Pointer,
-        },
-        _ => Byte::Unwritten,
+        Some(frame) => frame.cell(cell),
+        None => Cell::Marks(0),
+    }
+}
+
+// What a byte of the stack is, counted from its lower end, in a frame if there is one.
+pub(crate) fn byte_in(frame: Option<&Frame>, byte: usize) -> Byte
+    ensures { byte < 512 → result ≡ byte_in (option_map (λ f. f.now) frame.entry) byte }
+{
+    if byte >= STACK_BYTES {
+        return Byte::Unwritten;
+    }
+    match cell_in(frame, byte / 8) {
+        Cell::Marks(marks) if marks >> (byte % 8) & 1 == 1 => Byte::Number,
+        Cell::Marks(_) => Byte::Unwritten,
+        Cell::Spilled(_) => Byte::Pointer,
     }
 }
 
@@ -106,7 +127,9 @@ fn begins_of(alloc: Global, program: &[Insn]) -> Result<Vec<Option<&Insn>>, Allo
 }
 
 // The slot to which an instruction leads by an edge.
-pub(crate) fn successor(form: Form, slot: usize, edge: Edge) -> Option<usize> {
+pub(crate) fn successor(form: Form, slot: usize, edge: Edge) -> Option<usize>
+    ensures { slot < MAX_SLOTS → (t : ℕ) → (result ≡ Some t) ↔ LeadsTo form slot edge (pos t) }
+{
     if slot >= MAX_SLOTS {
         return None;
     }
@@ -119,17 +142,56 @@ pub(crate) fn jump_target(form: Form, slot: usize) -> Option<i64> {
     Some(next.saturating_add(i64::from(form.displacement()?)))
 }
 
-// Adds the edges of one kind, each to those into its end, where that is a later slot of the program.
-fn put_edges(edges: &mut [Vec<Step>], program: &[Insn], edge: Edge) -> Written {
-    let mut from = 0usize;
-    for insn in program {
-        let to = successor(insn.form(), from, edge).filter(|to| from < *to);
-        if let Some(into) = to.and_then(|to| edges.get_mut(to)) {
-            into.push(Step { from, edge })?;
-        }
-        from = from.saturating_add(insn.slot_count());
+// Whether an instruction at a slot leads to another by an edge.
+fn leads(form: Form, slot: usize, edge: Edge, to: usize) -> bool
+    ensures { slot < MAX_SLOTS → result ≡ leads form slot edge to }
+{
+    match successor(form, slot, edge) {
+        Some(next) => next == to,
+        None => false,
+    }
+}
+
+// Adds a slot, if it is one of those that are wanted.
+fn push_if(slots: &mut Vec<usize>, slot: usize, is_wanted: bool) -> Written
+    ensures { OnOk result (slots.new.items ≡ slots.old.items ++ (if is_wanted then slot ∷ [] else [])) }
+{
+    if is_wanted {
+        slots.push(slot)?;
     }
     Ok(())
+}
+
+// The lower slots from which this edge leads to a slot, in order.
+pub(crate) fn slots_into(
+    alloc: Global,
+    program: &[Insn],
+    edge: Edge,
+    to: usize,
+) -> Result<Vec<usize>, AllocError>
+    ensures { size program.now ≤ MAX_SLOTS → to < size program.now → IfOk result (λ v. v.items ≡ slots_into program.now edge to) }
+{
+    let mut found = Vec::new(alloc);
+    let mut from = 0usize;
+    for insn in program {
+        if from >= to {
+            return Ok(found);
+        }
+        push_if(&mut found, from, leads(insn.form(), from, edge, to))?;
+        from = from.saturating_add(insn.slot_count());
+    }
+    Ok(found)
+}
+
+// All edges that lead forward to a slot: the jumps, in order, and then that from the instruction above.
+fn steps_to(alloc: Global, program: &[Insn], to: usize) -> Result<Vec<Step>, AllocError> {
+    let mut steps = Vec::new(alloc);
+    for edge in [Edge::Jump, Edge::Fall] {
+        for from in &slots_into(alloc, program, edge, to)? {
+            steps.push(Step { from: *from, edge })?;
+        }
+    }
+    Ok(steps)
 }
 
 impl<'a> Study<'a> {
@@ -138,6 +200,7 @@ impl<'a> Study<'a> {
         ensures some { AreShapesOk subject.entry.shapes.now → subject.entry.arg_len ≤ MAX_ARG_LEN → IfOk result IsSome }
         ensures same { IfOk result (λ o. IfSome o (λ s. s.subject ≡ subject.entry)) }
         ensures refused { IfOk result (λ o. IfSome o (λ s. s.known.refused ≡ verdict_on subject.entry)) }
+        ensures known { IfOk result (λ o. IfSome o IsStudy) }
     {
         let (program, shapes, arg_len) = (subject.program, subject.shapes, subject.arg_len);
         if shapes_ok(shapes).is_err() || arg_len > MAX_ARG_LEN {
@@ -146,11 +209,9 @@ impl<'a> Study<'a> {
         let known = explain(alloc, program, shapes, arg_len, subject.mode)?;
         let begins = begins_of(alloc, program)?;
         let mut edges = Vec::new(alloc);
-        for _slot in 0..begins.len() {
-            edges.push(Vec::new(alloc))?;
+        for slot in 0..begins.len() {
+            edges.push(steps_to(alloc, program, slot)?)?;
         }
-        put_edges(&mut edges, program, Edge::Jump)?;
-        put_edges(&mut edges, program, Edge::Fall)?;
         Ok(Some(Study {
             alloc,
             subject,
@@ -172,7 +233,9 @@ impl<'a> Study<'a> {
     }
 
     // What is known before the instruction at a slot, if something is.
-    pub(crate) fn frame_at(&self, slot: usize) -> Option<&Frame> {
+    pub(crate) fn frame_at(&self, slot: usize) -> Option<&Frame>
+        ensures { option_map (λ f. f.now) result ≡ frame_in self.now.known.frames.items slot }
+    {
         self.known.frames.get(slot)?.as_ref()
     }
 
@@ -195,10 +258,26 @@ impl<'a> Study<'a> {
         }
     }
 
-    // The slot of the instruction above that falls through to a slot, if one does.
-    pub(crate) fn above(&self, slot: usize) -> Option<usize> {
-        let last = self.steps_into(slot).last()?;
-        (last.edge == Edge::Fall).then_some(last.from)
+    // The slot of the instruction above that falls through to a slot, if something is known there.
+    pub(crate) fn falls_into(&self, slot: usize) -> Result<Vec<usize>, AllocError>
+        ensures { HasSlot self.now slot → IfOk result (λ v. v.items ≡ known_falls self.now slot) }
+    {
+        let falls = slots_into(self.alloc, self.subject.program, Edge::Fall, slot)?;
+        let mut known = Vec::new(self.alloc);
+        for from in &falls {
+            push_if(&mut known, *from, self.frame_at(*from).is_some())?;
+        }
+        Ok(known)
+    }
+
+    // What is known on the line above, where a slot is reached from there alone.
+    pub(crate) fn line_above(&self, jumps: &[usize], falls: &[usize]) -> Option<&Frame>
+        ensures { option_map (λ f. f.now) result ≡ line_above (frame_in self.now.known.frames.items) jumps.now falls.now }
+    {
+        match (jumps, falls) {
+            ([], [from, ..]) => self.frame_at(*from),
+            _ => None,
+        }
     }
 
     // What is known where an edge ends; nothing where nothing leads to its instruction, or that breaks a rule.

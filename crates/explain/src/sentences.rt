@@ -4,6 +4,7 @@
 ghost use Rattle.std.specs.Prelude.{◌≡◌, ◌++◌, [], ◌∷◌, decimal, map, OnOk};
 ghost use Rattle.std.specs.List.{concat};
 ghost use Rattle.std.specs.String.{string_bytes};
+ghost use Rattle.explain.specs.Words.{kind_words, offset_words};
 
 use itoa::Buffer;
 use regkind::Kind;
@@ -66,21 +67,35 @@ pub(crate) fn offset_of(kind: Kind) -> i64 {
     }
 }
 
-// Adds what a register has: the offset of a pointer only where it is not 0.
-fn put_kind(out: &mut String, kind: Kind) -> Written {
+// Adds a text, and then an offset where it is not 0.
+fn put_offset(out: &mut String, text: &str, offset: i16) -> Written
+    ensures { OnOk result (string_bytes out.new ≡ string_bytes out.old ++ concat (text.now ∷ offset_words offset ∷ [])) }
+{
+    if offset == 0 {
+        return out.push_str(text);
+    }
+    let mut digits = Buffer::new();
+    let sign = if offset > 0 { " +" } else { " " };
+    put_all(out, &[text, sign, digits.format(offset)])
+}
+
+// Adds what a register has.
+pub(crate) fn put_kind(out: &mut String, kind: Kind) -> Written
+    ensures { OnOk result (string_bytes out.new ≡ string_bytes out.old ++ kind_words kind) }
+{
+    let mut digits = Buffer::new();
     match kind {
         Kind::Unreadable => out.push_str("unreadable"),
         Kind::Scalar => out.push_str("a number"),
         Kind::Stack(0) => out.push_str("stack end"),
-        Kind::Stack(_) => out.push_str("stack"),
-        Kind::Arg(_) => out.push_str("argument"),
-        Kind::Map(map) => write!(out, "map {map}"),
-        Kind::Value(map, _) => write!(out, "value of map {map}"),
-        Kind::ValueOrNull(map) => write!(out, "value of map {map}, or null"),
-    }?;
-    match offset_of(kind) {
-        0 => Ok(()),
-        by => write!(out, " {by:+}"),
+        Kind::Stack(offset) => put_offset(out, "stack", offset),
+        Kind::Arg(offset) => put_offset(out, "argument", offset),
+        Kind::Map(map) => put_all(out, &["map ", digits.format(map)]),
+        Kind::Value(map, offset) => {
+            out.push_str("value of map ")?;
+            put_offset(out, digits.format(map), offset)
+        }
+        Kind::ValueOrNull(map) => put_all(out, &["value of map ", digits.format(map), ", or null"]),
     }
 }
 

@@ -1,29 +1,27 @@
 // The listing of a program.
 
-ghost use Rattle.std.specs.Prelude.{◌≡◌, ◌⊎◌, ◌<◌, ◌≤◌, ◌^◌, ◌-◌, ◌++◌, ◌==◌, if◌then◌else◌, ℕ, List, length, take, codes, IfOk, OnOk, MatchOption};
+ghost use Rattle.std.specs.Prelude.{◌≡◌, ◌⊎◌, ◌<◌, ◌≤◌, ◌^◌, ◌-◌, ◌++◌, ◌==◌, if◌then◌else◌, ℕ, List, length, take, replicate, codes, IfOk, OnOk, MatchOption};
 ghost use Rattle.std.specs.String.{string_bytes};
 ghost use Rattle.insn.specs.declared.instruction.TheConstants.{MAX_SLOTS};
 ghost use Rattle.insn.specs.Layout.{size};
 ghost use Rattle.asm.specs.Text.{line_text};
 ghost use Rattle.loader.specs.Spelling.{mode_word};
-ghost use Rattle.explain.specs.Listing.{line_of, head_text, left_text, margin, AddsListing, CanBeJudged, Explains, IsAside, IsLine, Lists};
+ghost use Rattle.explain.specs.Listing.{line_of, head_text, left_text, margin, aside, AddsListing, CanBeJudged, Explains, IsLine};
+ghost use Rattle.explain.specs.Slots.{told_upto};
+ghost use Rattle.explain.specs.Study.{AddsLines, HasSlot, IsStudy};
 
-use crate::programs::{Byte, STACK_BYTES, Study, Subject, byte_in, from_end, kind_in};
+use crate::programs::slots::knowledge;
+use crate::programs::{Study, Subject};
 use crate::refusals::put_refusal;
-use crate::sentences::Word::{Count, Known, Number, Range, Register, Text};
-use crate::sentences::{Written, put, put_all};
+use crate::sentences::{Written, put_all};
 use asm::disassemble;
 use insn::Insn;
 use itoa::Buffer;
-use regkind::{Cell, Frame};
 use std::alloc::{AllocError, Global};
 use verifier::Mode;
 
-// How many of the slots are named from which jumps come.
-const NAMED: usize = 4;
-
-// The blanks from the first word of an instruction to what is known at its slot.
-const BLANKS: &str = "                        ";
+// How many columns at least lie between the first of an instruction's words and what is told at its slot.
+const TOLD_AT: usize = 24;
 
 // The word of a mode in a manifest.
 fn mode_word(mode: Mode) -> &'static str
@@ -62,112 +60,27 @@ fn put_head(out: &mut String, subject: &Subject<'_>) -> Written
     put_all(out, &[file, "\n"])
 }
 
-// Adds the bytes of the stack that became so, those in a row together.
-fn put_bytes(out: &mut String, before: Option<&Frame>, frame: &Frame, known: Byte) -> Written {
-    let word = match known {
-        Byte::Number => "written",
-        _ => "unwritten",
-    };
-    let mut first = None;
-    for byte in 0..=STACK_BYTES {
-        let is_known = byte_in(Some(frame), byte) == known;
-        let is_new = is_known && byte_in(before, byte) != known;
-        match first {
-            None if is_new => first = Some(byte),
-            Some(begin) if !is_new => {
-                let bytes = Range(from_end(begin), from_end(byte).saturating_sub(1));
-                put(out, "; stack {0} {1}", &[bytes, Text(word)])?;
-                first = None;
-            }
-            _ => {}
-        }
+// Adds so many blanks.
+fn put_blanks(out: &mut String, count: usize) -> Written
+    ensures { OnOk result (string_bytes out.new ≡ string_bytes out.old ++ replicate count 32) }
+{
+    for _blank in 0..count {
+        out.push_str(" ")?;
     }
     Ok(())
 }
 
-// Adds the pointers that came to stand in the stack.
-fn put_pointers(out: &mut String, before: Option<&Frame>, frame: &Frame) -> Written {
-    for cell in 0..64 {
-        let known = frame.cell(cell);
-        let old = before.map_or(Cell::Marks(0), |before| before.cell(cell));
-        match known {
-            Cell::Spilled(kind) if known != old => {
-                let at = Number(from_end(cell.min(64) * 8));
-                put(out, "; stack {0} holds {1}", &[at, Known(kind)])?;
-            }
-            _ => {}
-        }
-    }
-    Ok(())
-}
-
-// Adds all that is known in a frame otherwise than in that of the instruction above, if this is all that leads there, each thing behind a
-// semicolon.
-fn put_changes(out: &mut String, before: Option<&Frame>, frame: &Frame) -> Written {
-    for register in 0..11 {
-        let known = kind_in(Some(frame), register);
-        if known != kind_in(before, register) {
-            put(out, "; {0} = {1}", &[Register(register), Known(known)])?;
-        }
-    }
-    put_bytes(out, before, frame, Byte::Number)?;
-    put_bytes(out, before, frame, Byte::Unwritten)?;
-    put_pointers(out, before, frame)
-}
-
-// Adds from where the instruction at a slot is reached, where not from the line above alone.
-fn put_sources(out: &mut String, study: &Study<'_>, slot: usize) -> Written {
-    let jumps = study.jumps_into(slot);
-    let mut separator = Text(" ");
-    out.push_str("from")?;
-    for step in jumps.iter().take(NAMED) {
-        put(out, "{0}{1}", &[separator, Count(step.from)])?;
-        separator = Text(", ");
-    }
-    if jumps.len() > NAMED {
-        put(out, " and {0} more", &[Count(jumps.len() - NAMED)])?;
-    }
-    let above = study.above(slot);
-    if let Some(above) = above.filter(|above| study.frame_at(*above).is_some()) {
-        put(out, "{0}{1}", &[separator, Count(above)])?;
-    }
-    out.push_str(": ")
-}
-
-// What is known at a slot, in words.
-fn knowledge(study: &Study<'_>, slot: usize) -> Result<String, AllocError> {
-    let mut out = String::new(study.alloc);
-    let Some(frame) = study.frame_at(slot) else {
-        out.push_str("nothing leads here")?;
-        return Ok(out);
-    };
-    let above = study.above(slot);
-    let only = above.filter(|_| study.jumps_into(slot).is_empty());
-    let before = only.and_then(|above| study.frame_at(above));
-    if before.is_none() && slot > 0 {
-        put_sources(&mut out, study, slot)?;
-    }
-    let mut known = String::new(study.alloc);
-    put_changes(&mut known, before, frame)?;
-    let known = known.as_str();
-    out.push_str(known.strip_prefix("; ").unwrap_or(known))?;
-    Ok(out)
-}
-
-// What stands behind the words of an instruction, which take so many columns: what is known, where something is. What would begin another line is
-// left out.
-#[tactic(auto, using(crate::proofs::Lines::is_aside))]
-fn aside(alloc: Global, width: usize, known: &str) -> Result<String, AllocError>
-    ensures { IfOk result (λ s. IsAside (string_bytes s)) }
+// What comes after the words of an instruction, which take so many columns: what is told, where something is.
+fn aside(alloc: Global, columns: usize, told: &str) -> Result<String, AllocError>
+    ensures { IfOk result (λ s. string_bytes s ≡ aside columns told.now) }
 {
     let mut out = String::new(alloc);
-    let mut padded = String::new(alloc);
-    let blanks = BLANKS.get(width..).unwrap_or("");
-    put_all(&mut padded, &[blanks, known])?;
-    if known.is_empty() || padded.as_bytes().contains(&b'\n') {
+    if told.is_empty() {
         return Ok(out);
     }
-    put_all(&mut out, &[" ", padded.as_str()])?;
+    out.push_str(" ")?;
+    put_blanks(&mut out, TOLD_AT.saturating_sub(columns))?;
+    out.push_str(told)?;
     Ok(out)
 }
 
@@ -200,17 +113,17 @@ fn margin(slot: usize) -> &'static str
     }
 }
 
-// Adds the line of the instruction at a slot, and in it what is known there.
-fn put_line(out: &mut String, slot: usize, insn: &Insn, known: &str) -> Written
-    ensures { OnOk result ((line : List ℕ) × (string_bytes out.new ≡ string_bytes out.old ++ line) × IsLine slot insn.now line) }
+// Adds the line of the instruction at a slot, and in it what is told there.
+fn put_line(out: &mut String, slot: usize, insn: &Insn, told: &str) -> Written
+    ensures { OnOk result ((line : List ℕ) × (string_bytes out.new ≡ string_bytes out.old ++ line) × IsLine slot insn.now told.now line) }
 {
     let alloc = *out.allocator();
     let line = dis_line(alloc, insn)?;
     let words = without_end(line.as_str());
-    let aside = aside(alloc, words.len(), known)?;
-    let known = aside.as_str();
+    let aside = aside(alloc, words.len(), told)?;
+    let told = aside.as_str();
     let mut digits = Buffer::new();
-    let pieces = [margin(slot), digits.format(slot), "  ", words, known, "\n"];
+    let pieces = [margin(slot), digits.format(slot), "  ", words, told, "\n"];
     put_all(out, &pieces)
 }
 
@@ -241,19 +154,28 @@ fn count_upto(program: &[Insn], last: usize) -> usize
     count
 }
 
-// Adds the lines of instructions; of those behind a slot nothing is known.
-fn put_instructions(out: &mut String, study: &Study<'_>, listed: &[Insn], last: usize) -> Written
-    ensures { size listed.now ≤ MAX_SLOTS
-        → OnOk result ((lines : List ℕ) × (string_bytes out.new ≡ string_bytes out.old ++ lines) × Lists 0 listed.now lines) }
+// What is told at a slot of the program: nothing after that of a refusal by kinds.
+fn told(study: &Study<'_>, slot: usize) -> Result<String, AllocError>
+    requires { IsStudy study.now }
+    ensures { HasSlot study.now slot → IfOk result (λ s. string_bytes s ≡ told_upto study.now.subject.program.now study.now.known.kinds slot) }
+{
+    match study.known.kinds {
+        Some(kinds) if slot > kinds.slot as usize => Ok(String::new(study.alloc)),
+        _ => knowledge(study, slot),
+    }
+}
+
+// Adds the lines of instructions, the program's first ones.
+fn put_instructions(out: &mut String, study: &Study<'_>, listed: &[Insn]) -> Written
+    requires study { IsStudy study.now }
+    requires first { size listed.now ≤ size study.now.subject.program.now }
+    ensures { size study.now.subject.program.now ≤ MAX_SLOTS
+        → OnOk result (AddsLines study.now listed.now (string_bytes out.old) (string_bytes out.new)) }
 {
     let mut slot = 0usize;
     for insn in listed {
-        let known = if slot <= last {
-            knowledge(study, slot)?
-        } else {
-            String::new(study.alloc)
-        };
-        put_line(out, slot, insn, known.as_str())?;
+        let told = told(study, slot)?;
+        put_line(out, slot, insn, told.as_str())?;
         slot = slot.saturating_add(insn.slot_count());
     }
     Ok(())
@@ -273,13 +195,14 @@ fn put_left(out: &mut String, left: usize) -> Written
 
 // Adds the lines of the instructions.
 fn put_lines(out: &mut String, study: &Study<'_>) -> Written
-    ensures { OnOk result (AddsListing study.now.subject.program.now study.now.known.refused (string_bytes out.old) (string_bytes out.new)) }
+    requires { IsStudy study.now }
+    ensures { OnOk result (AddsListing study.now.subject.program.now study.now.known.kinds study.now.known.refused (string_bytes out.old) (string_bytes out.new)) }
 {
     let (program, kinds) = (study.subject.program, study.known.kinds);
     let known = kinds.map_or(usize::MAX, |kinds| kinds.slot as usize);
     let last = last_listed(study, known);
     let (listed, left) = program.split_at(count_upto(program, last));
-    put_instructions(out, study, listed, known)?;
+    put_instructions(out, study, listed)?;
     put_left(out, left.len())
 }
 

@@ -1,7 +1,11 @@
 use Rattle.std.proofs.Common.{◌≡◌, ◌++◌, ap, ◌∙◌}
 use Rattle.explain.specs.Listing.{line_of, head_text, verdict_on}
-use Rattle.explain.proofs.Lines.{explained, some_of}
+use Rattle.explain.specs.Study.{IsStudy}
+use Rattle.explain.proofs.Lines.{explained, kinds_are, some_of}
 use Rattle.explain.proofs.programs.listing.explain_program.Goals as goal
+
+pub put_lines-requires : goal.put_lines-requires
+put_lines-requires c = some_of IsStudy _ c.in-Some.study c.in-Some.is c.in_ok-study.ensures.known
 
 pub returns : goal.returns
 returns c =
@@ -9,5 +13,8 @@ returns c =
     let study = c.in-Some.study in
     let same = some_of (λ x. x.subject ≡ s) _ study c.in-Some.is c.in_ok-study.ensures.same in
     let refused = some_of (λ x. x.known.refused ≡ verdict_on s) _ study c.in-Some.is c.in_ok-study.ensures.refused in
+    let known = some_of IsStudy _ study c.in-Some.is c.in_ok-study.ensures.known in
     let head = c.in_ok-put_head.ensures ∙ ap (λ t. t ++ head_text s.line (line_of s)) c.new-out.ensures.bytes in
-    record { told = λ can. explained s study.subject study.known.refused _ _ _ same refused head c.in_ok-put_lines.ensures c.in_ok-put_refusal.ensures can.few }
+    record {
+      told = λ can. explained s study.subject study.known.kinds study.known.refused _ _ _ same (kinds_are study s same known can.few) refused head c.in_ok-put_lines.ensures c.in_ok-put_refusal.ensures can.few;
+    }

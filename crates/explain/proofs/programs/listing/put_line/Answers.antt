@@ -12,4 +12,4 @@ pub returns : goal.returns
 returns c =
     let words = sym c.in_ok-line.ensures ∙ sym c.as_str.ensures.value ∙ c.without_end-words.ensures in
     on_ok c.put_all.result
-    (λ put. is_line c.args.slot c.args.insn.now c.without_end-words.result.now _ _ _ words c.in_ok-aside.ensures (rw (c.margin.ensures, c.format.ensures.text, c.as_str-known.ensures.value) at put)) c.put_all.ensures
+    (λ put. is_line c.args.slot c.args.insn.now c.without_end-words.result.now c.args.told.now _ _ words (rw (c.margin.ensures, c.format.ensures.text, c.as_str-told.ensures.value, c.in_ok-aside.ensures) at put)) c.put_all.ensures

@@ -1,7 +1,11 @@
-use Rattle.std.proofs.Common.{arith}
 use Rattle.explain.proofs.Lines.{are_enough, is_listing, size_take}
 use Rattle.explain.proofs.Pieces.{on_ok}
 use Rattle.explain.proofs.programs.listing.put_lines.Goals as goal
+
+pub put_instructions-requires-clause-first : goal.put_instructions-requires-clause-first
+put_instructions-requires-clause-first c =
+    let p = c.args.study.now.subject.program.now in
+    rw c.split_at.ensures.front (size_take c.count_upto.result p)
 
 pub returns : goal.returns
 returns c =
@@ -10,5 +14,5 @@ returns c =
     let count = c.count_upto.result in
     on_ok c.put_left.result
     (λ put small.
-    is_listing p study.known.refused count _ _ _ _ ((rw c.split_at.ensures.front at c.in_ok-put_instructions.ensures) (omega (arith, size_take count p, small))) c.split_at.ensures.back_len put
+    is_listing p study.known.kinds study.known.refused count _ _ _ _ ((rw c.split_at.ensures.front at c.in_ok-put_instructions.ensures) small) c.split_at.ensures.back_len put
     (are_enough p study.known.refused count c.last_listed-last.result small c.last_listed-last.ensures c.count_upto.ensures.enough)) c.put_left.ensures
