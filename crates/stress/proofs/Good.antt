@@ -37,6 +37,7 @@ use Rattle.stress.proofs.Fit.{IsFit, script_fit}
 use Rattle.stress.proofs.GoodLines.{Fits, counted, all_go, is_text_of}
 use Rattle.stress.proofs.Programs.{has_name}
 use Rattle.stress.proofs.ReadBack.{HaveNames}
+use Rattle.stress.proofs.Transcripts.{each_call_has_one_line}
 use Rattle.stress.proofs.Sizes.{sizes_from}
 
 -- ---- what is read
@@ -70,7 +71,7 @@ of_map P f (x ∷ xs) h = All-cons (λ x. P (f x)) x xs (All-head P (f x) (map f
 module _ (c : CatalogueView) (whole : IsCatalogue c) (names : HaveNames c) (config : Config) (sizes : IsConfig config) (calls : List Called) (fit : All (IsFit c) calls) (a : Answer) (t : IsTranscript config c calls a) where
   all_fit : All (Fits c whole names) t.told
   all_fit k d below =
-      let fits = of_map (IsFit c) (λ (x : ToldCall). x.call) t.told (All-permutation (IsFit c) calls (calls_of t.told) t.each_once fit) in
+      let fits = of_map (IsFit c) (λ (x : ToldCall). x.call) t.told (All-permutation (IsFit c) calls (calls_of t.told) (each_call_has_one_line config c calls a sizes t) fit) in
       let suited = All-permutation (λ (x : ToldCall). suits (told_as x.call.asked) x.said ≡ true) t.asked t.told t.same t.suited in
       (fits k d below, suited k d below)
 
