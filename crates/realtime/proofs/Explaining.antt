@@ -12,7 +12,7 @@ use Rattle.combiner.specs.declared.slots.Reply.TheVariants as replies
 use Rattle.replica.specs.StoreMeaning.{AreUpdates}
 use Rattle.schedule.specs.Trace.{Answer, Updated, ReadBack, Event, Call, Back, Trace, Positions, caller, IsIdle, Answers, StampBefore, stamp, Suits}
 use Rattle.schedule.specs.declared.parts.Opening.{Opening}
-use Rattle.schedule.specs.Explains.{Explains}
+use Rattle.schedule.specs.Explains.{Explains, IsRight}
 use Rattle.schedule.proofs.Lists.{get_take, get_taken}
 use Rattle.schedule.proofs.Traces.{back_call, op_in, answers_in}
 use Rattle.realtime.specs.Ranks.{rank_of}
@@ -204,6 +204,23 @@ module _ (m : Opening) (h : History) (ps : Positions) (zs : List Made) (t : Trac
         subst (λ k. Suits z.0.told.mode k) answer (suits z.0.call.begun z.0.told.mode z.0.told.op z.0.told.answer (places.right z.0 z.1)),
       )
 
+  -- ---- answers
+
+  has_index : (i r : ℕ) → Updated (replies.Placed i r) ≡ Updated replies.Ended → ⊥
+  has_index i r e = cc
+
+  is_right : {x : ℕ} {mode : Mode} {op : Operation} {c b : ℕ} (a : Answer) → Answers t x mode op c b a → IsRight m h ps c op a
+  is_right (Updated (replies.Placed i reply)) ans = let r = right_of ans in (r.1, r.2)
+  is_right (ReadBack a) ans = let r = right_of ans in (r.1, r.2)
+  is_right {c = c} (Updated replies.Ended) ans =
+      let z = one_line ans in
+      let answer : z.0.told.answer ≡ Updated replies.Ended = sym (ap (answer_in (Updated replies.Ended)) z.5) in (
+        λ i p. (let o = places.owner i c p in
+            let is = timing.same o.of z.0 o.has z.1 (o.begun ∙ z.2) in
+            has_index i o.reply (sym o.answer ∙ ap (λ (w : Made). w.told.answer) is ∙ answer)),
+        sym (limit z.0 z.1 answer),
+      )
+
   -- ---- together
 
   pub explained : Explains m h ps t
@@ -223,16 +240,7 @@ module _ (m : Opening) (h : History) (ps : Positions) (zs : List Made) (t : Trac
         let is = timing.same a.of b.of a.has b.has (a.begun ∙ sym b.begun) in
         index_of i j a.reply b.reply (sym a.answer ∙ ap (λ (w : Made). w.told.answer) is ∙ b.answer);
     seqs = places.seqs;
-    placed = λ x mode op c b i reply ans. let r = right_of ans in (r.1, r.2);
-    read = λ x mode op c b point reply ans. let r = right_of ans in (r.1, r.2);
-    ended = λ x mode op c b ans.
-        let z = one_line ans in
-        let answer : z.0.told.answer ≡ Updated replies.Ended = sym (ap (answer_in (Updated replies.Ended)) z.5) in (
-          λ i p. (let o = places.owner i c p in
-              let is = timing.same o.of z.0 o.has z.1 (o.begun ∙ z.2) in
-              has_index i o.reply (sym o.answer ∙ ap (λ (w : Made). w.told.answer) is ∙ answer)),
-          sym (limit z.0 z.1 answer),
-        );
+    right = λ x mode op c b answer ans. is_right answer ans;
     placed_later = placed_later;
     read_later = read_later;
     calls_in_turn = calls_in_turn;
@@ -241,6 +249,3 @@ module _ (m : Opening) (h : History) (ps : Positions) (zs : List Made) (t : Trac
     where
       index_of : (i j r q : ℕ) → Updated (replies.Placed i r) ≡ Updated (replies.Placed j q) → i ≡ j
       index_of i j r q e = cc
-
-      has_index : (i r : ℕ) → Updated (replies.Placed i r) ≡ Updated replies.Ended → ⊥
-      has_index i r e = cc

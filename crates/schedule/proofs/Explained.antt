@@ -11,7 +11,7 @@ use Rattle.combiner.specs.declared.slots.Reply.TheVariants.{Placed, Ended}
 use Rattle.replica.specs.StoreMeaning.{store_meaning, is_operation}
 use Rattle.schedule.specs.Trace.{Answer, Updated, ReadBack, Event, Call, Back, Trace, Positions, IsOpen, IsIdle, StampBefore, stamp, Suits}
 use Rattle.schedule.specs.declared.parts.Opening.{Opening}
-use Rattle.schedule.specs.Explains.{Explains, count_of}
+use Rattle.schedule.specs.Explains.{Explains, IsRight, count_of}
 use Rattle.schedule.proofs.Lists.{get_more, get_snoc, get_in, get_some}
 use Rattle.schedule.proofs.Traces.{take_all_front, answers_in, answers_more, answers_less, stamp_less}
 
@@ -20,6 +20,11 @@ abbrev pub Right : Opening → History → Positions → Trace → Operation →
 Right m h positions t op c (Updated (Placed i r)) = (slice_get positions i ≡ Some c) × (reply_at store_meaning m.catalogue h i op ≡ Some r)
 Right m h positions t op c (Updated Ended) = ((i : ℕ) → slice_get positions i ≢ Some c) × (length h ≡ m.config.limit)
 Right m h positions t op c (ReadBack a) = (a.point ≤ length h) × (read_reply_at store_meaning m.catalogue h a.point op ≡ Some a.reply) × ((s : ℕ) → StampBefore m.config.limit t c s → s ≤ a.point)
+
+is_right : (m : Opening) (h : History) (positions : Positions) (t : Trace) (op : Operation) (c : ℕ) (a : Answer) → Right m h positions t op c a → IsRight m h positions c op a
+is_right m h positions t op c (Updated (Placed i r)) w = w
+is_right m h positions t op c (Updated Ended) w = w
+is_right m h positions t op c (ReadBack a) w = (w.0, w.1)
 
 -- what an event has to be
 abbrev pub Fine : Opening → History → Positions → Trace → Event → Type 0
@@ -44,9 +49,7 @@ explains_event {m} {h} {positions} {t} e x fine = record {
   calls = λ i c f g p. get_more t (e ∷ []) c (Call f.author Update f.op) (x.calls i c f g p);
   once = x.once;
   seqs = x.seqs;
-  placed = λ y mode op c b i r ans. ⊎_elim (λ old. x.placed y mode op c b i r old) (λ new. right_at m h positions t y mode op c (Updated (Placed i r)) e fine new.1 new.2) (answers_less e ans);
-  read = λ y mode op c b k r ans. ⊎_elim (λ old. x.read y mode op c b k r old) (λ new. let w = right_at m h positions t y mode op c (ReadBack (record { point = k; reply = r })) e fine new.1 new.2 in (w.0, w.1)) (answers_less e ans);
-  ended = λ y mode op c b ans. ⊎_elim (λ old. x.ended y mode op c b old) (λ new. right_at m h positions t y mode op c (Updated Ended) e fine new.1 new.2) (answers_less e ans);
+  right = λ y mode op c b a ans. ⊎_elim (λ old. x.right y mode op c b a old) (λ new. is_right m h positions t op c a (right_at m h positions t y mode op c a e fine new.1 new.2)) (answers_less e ans);
   placed_later = λ c i s p before. let l = (in_trace x i c p).1 in x.placed_later c i s p (stamp_less m.config.limit t e (omega arith) before);
   read_later = λ y mode op c b k r s ans before. ⊎_elim
       (λ old. let l = answers_in old in let l0 = l.0 in let l1 = l.1 in x.read_later y mode op c b k r s old (stamp_less m.config.limit t e (omega arith) before))
@@ -94,9 +97,7 @@ explains_entry {m} {h} {positions} {t} e c x may call free seq room stamps = rec
       (λ old. let l = get_in h i f old in x.seqs i f old ∙ ap (λ es. count_of f.author es) (sym (take-append-le i h (e ∷ []) (omega arith))))
       (λ new. subst (λ z. z.seq ≡ count_of z.author (take i (h ++ e ∷ []))) new.1 (seq ∙ ap (λ es. count_of e.author es) (sym (ap (λ k. take k (h ++ e ∷ [])) new.0 ∙ take_all_front h (e ∷ [])))))
       (get_snoc h e i f g);
-  placed = λ y mode op d b i r ans. let w = x.placed y mode op d b i r ans in let l = (in_trace x i d w.0).0 in (get_more positions (c ∷ []) i d w.0, reply_more m h (e ∷ []) i op (omega arith) ∙ w.1);
-  read = λ y mode op d b k r ans. let w = x.read y mode op d b k r ans in let l = w.0 in (simp (length-append) (omega arith), read_more m h (e ∷ []) k op w.0 ∙ w.1);
-  ended = λ y mode op d b ans. let w = x.ended y mode op d b ans in let f = w.1 in absurd (omega arith);
+  right = λ y mode op d b a ans. more op d a (x.right y mode op d b a ans);
   placed_later = λ d i s p before. ⊎_elim
       (λ old. x.placed_later d i s old before)
       (λ new. let q = x.each_placed in let n = new.0 in let l = stamps before.0 before.1 before.2 before.4 in let k = before.5 in omega arith)
@@ -105,3 +106,8 @@ explains_entry {m} {h} {positions} {t} e c x may call free seq room stamps = rec
   calls_in_turn = x.calls_in_turn;
   answers_in_turn = x.answers_in_turn;
 }
+  where
+    more : (op : Operation) (d : ℕ) (a : Answer) → IsRight m h positions d op a → IsRight m (h ++ e ∷ []) (positions ++ c ∷ []) d op a
+    more op d (Updated (Placed i r)) w = let l = (in_trace x i d w.0).0 in (get_more positions (c ∷ []) i d w.0, reply_more m h (e ∷ []) i op (omega arith) ∙ w.1)
+    more op d (ReadBack a) w = let l = w.0 in (simp (length-append) (omega arith), read_more m h (e ∷ []) a.point op w.0 ∙ w.1)
+    more op d (Updated Ended) w = let f = w.1 in absurd (omega arith)

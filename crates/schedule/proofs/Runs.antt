@@ -6,14 +6,13 @@ use Rattle.oplog.specs.declared.records.Op.TheVariants.{Run}
 use Rattle.oplog.specs.declared.records.Op.TheVariants as operations
 use Rattle.oplog.specs.History.{History}
 use Rattle.oplog.specs.Sessions.{session}
-use Rattle.combiner.specs.declared.slots.Reply.TheVariants.{Placed, Ended}
 use Rattle.combiner.specs.declared.slots.Stage.TheVariants.{Empty}
 use Rattle.combiner.specs.Slots.{slot}
 use Rattle.combiner.specs.Desks.{claimed_from}
 use Rattle.node.specs.declared.parts.NodeBatch.TheVariants.{Absent}
 use Rattle.schedule.specs.declared.steps.Step.{Step}
 use Rattle.schedule.specs.declared.steps.Step.TheVariants.{Post, Install, Claim, Append, Replay, Finish, Reply, Collect, ReadBegin, ReadAnswer, Reclaim, Rebase}
-use Rattle.schedule.specs.Trace.{Updated, ReadBack, Call, Back, Trace, Positions}
+use Rattle.schedule.specs.Trace.{ReadBack, Call, Back, Trace, Positions}
 use Rattle.schedule.specs.declared.parts.Opening.{Opening}
 use Rattle.schedule.specs.Worlds.{NodeView, WorldView, opened_node, opened_nodes, opened}
 use Rattle.schedule.specs.Steps.{Part, Took, put_part, part_of, node_of, took, world_after, trace_after, world_of, trace_of}
@@ -116,9 +115,7 @@ opening_stands m whole = record {
     calls = λ i c r g. absurd (none-some r g);
     once = λ i j c g. absurd (none-some c g);
     seqs = λ i r g. absurd (none-some r g);
-    placed = λ x mode op c b i reply a. absurd (none-some (Back x (Updated (Placed i reply))) a.back);
-    read = λ x mode op c b point reply a. absurd (none-some (Back x (ReadBack (record { point = point; reply = reply }))) a.back);
-    ended = λ x mode op c b a. absurd (none-some (Back x (Updated Ended)) a.back);
+    right = λ x mode op c b answer a. absurd (none-some (Back x answer) a.back);
     placed_later = λ c i s g. absurd (none-some c g);
     read_later = λ x mode op c b point reply s a. absurd (none-some (Back x (ReadBack (record { point = point; reply = reply }))) a.back);
     calls_in_turn = λ c x mode op g. absurd (none-some (Call x mode op) g);

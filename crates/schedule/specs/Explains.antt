@@ -16,6 +16,13 @@ abbrev pub count_of : ℕ → History → ℕ
 count_of x [] = 0
 count_of x (r ∷ rs) = (if r.author == x then 1 else 0) + count_of x rs
 
+-- call c was answered right: an update has its index, and what its program replies there; a read has a point within the history, and what
+-- its program replies there; a call that was told that the history has ended has no index, and the history is full
+abbrev pub IsRight : Opening → History → Positions → ℕ → Operation → Answer → Type 0
+IsRight m h positions c op (Updated (Placed i reply)) = (slice_get positions i ≡ Some c) × (reply_at store_meaning m.catalogue h i op ≡ Some reply)
+IsRight m h positions c op (ReadBack a) = (a.point ≤ length h) × (read_reply_at store_meaning m.catalogue h a.point op ≡ Some a.reply)
+IsRight m h positions c op (Updated Ended) = ((i : ℕ) → slice_get positions i ≢ Some c) × (length h ≡ m.config.limit)
+
 -- one list of operations explains the trace
 pub record Explains (m : Opening) (h : History) (positions : Positions) (t : Trace) : Type 0 where
   -- each operation is an update of the catalogue
@@ -26,15 +33,8 @@ pub record Explains (m : Opening) (h : History) (positions : Positions) (t : Tra
   pub once : (i j c : ℕ) → slice_get positions i ≡ Some c → slice_get positions j ≡ Some c → i ≡ j
   -- a record has the number of its session's earlier records
   pub seqs : (i : ℕ) (r : Record) → slice_get h i ≡ Some r → r.seq ≡ count_of r.author (take i h)
-  -- an answered update has its index, and what its program replies there
-  pub placed : (x : ℕ) (mode : Mode) (op : Operation) (c b i reply : ℕ) → Answers t x mode op c b (Updated (Placed i reply))
-      → (slice_get positions i ≡ Some c) × (reply_at store_meaning m.catalogue h i op ≡ Some reply)
-  -- an answered read has a point within the history, and what its program replies there
-  pub read : (x : ℕ) (mode : Mode) (op : Operation) (c b point reply : ℕ) → Answers t x mode op c b (ReadBack (record { point = point; reply = reply }))
-      → (point ≤ length h) × (read_reply_at store_meaning m.catalogue h point op ≡ Some reply)
-  -- a call that was told that the history has ended has no index, and the history is full
-  pub ended : (x : ℕ) (mode : Mode) (op : Operation) (c b : ℕ) → Answers t x mode op c b (Updated Ended)
-      → ((i : ℕ) → slice_get positions i ≢ Some c) × (length h ≡ m.config.limit)
+  -- each answered call was answered right
+  pub right : (x : ℕ) (mode : Mode) (op : Operation) (c b : ℕ) (answer : Answer) → Answers t x mode op c b answer → IsRight m h positions c op answer
   -- what was answered before a call happened before it
   pub placed_later : (c i s : ℕ) → slice_get positions i ≡ Some c → StampBefore m.config.limit t c s → s ≤ i
   pub read_later : (x : ℕ) (mode : Mode) (op : Operation) (c b point reply s : ℕ) → Answers t x mode op c b (ReadBack (record { point = point; reply = reply }))

@@ -97,22 +97,25 @@ pub record OpenAt (m : Opening) (h : History) (positions : Positions) (t : Trace
   pub has : HasIndex positions c index
   pub counts : count_of x h ≡ count + one_if_placed index
 
--- the answer that waits for the session is the right one to its open call, and is completed
-abbrev pub ReplyStands : Opening → ℕ → History → Positions → Trace → ℕ → ℕ → Reply → Type 0
-ReplyStands m done h positions t x count (Placed i reply) =
-    (op : Operation) × (c : ℕ) × OpenAt m h positions t x count Update op (Some i) c × (i < done) × (reply_at store_meaning m.catalogue h i op ≡ Some reply)
-ReplyStands m done h positions t x count Ended = (op : Operation) × (c : ℕ) × OpenAt m h positions t x count Update op None c × (m.config.limit ≤ done)
+-- what a slot says of the open call of session x, where so many operations are completed
+module _ (m : Opening) (done : ℕ) (h : History) (positions : Positions) (t : Trace) (x : ℕ) where
+  abbrev Open : ℕ → Mode → Operation → Option ℕ → ℕ → Type 0
+  Open = OpenAt m h positions t x
 
--- the session's open call is where its slot says
-abbrev pub StageStands : Opening → ℕ → History → Positions → Trace → ℕ → NodeBatch → ℕ → Stage → Option BegunRead → Type 0
-StageStands m done h positions t x batch count Empty None = IsIdle t x × (count_of x h ≡ count)
-StageStands m done h positions t x batch count Empty (Some read) =
-    (c : ℕ) × OpenAt m h positions t x count Read (Run read.call) None c × (read.seen ≤ done) × ((s : ℕ) → StampBefore m.config.limit t c s → s ≤ read.seen)
-StageStands m done h positions t x batch count (Posted op) None = (c : ℕ) × OpenAt m h positions t x count Update op None c
-StageStands m done h positions t x batch count Claimed None =
-    (c k : ℕ) × (r : Record) × (slice_get (batch_in batch).records k ≡ Some r) × (r.author ≡ x) × (r.seq ≡ count) × OpenAt m h positions t x count Update r.op (index_in batch k) c
-StageStands m done h positions t x batch count (Answered reply) None = ReplyStands m done h positions t x count reply
-StageStands m done h positions t x batch count stage (Some read) = ⊥
+  -- the answer that waits for the session is the right one to its open call, and is completed
+  abbrev pub ReplyStands : ℕ → Reply → Type 0
+  ReplyStands count (Placed i reply) = (op : Operation) × (c : ℕ) × Open count Update op (Some i) c × (i < done) × (reply_at store_meaning m.catalogue h i op ≡ Some reply)
+  ReplyStands count Ended = (op : Operation) × (c : ℕ) × Open count Update op None c × (m.config.limit ≤ done)
+
+  -- the session's open call is where its slot says
+  abbrev pub StageStands : NodeBatch → ℕ → Stage → Option BegunRead → Type 0
+  StageStands batch count Empty None = IsIdle t x × (count_of x h ≡ count)
+  StageStands batch count Empty (Some read) = (c : ℕ) × Open count Read (Run read.call) None c × (read.seen ≤ done) × ((s : ℕ) → StampBefore m.config.limit t c s → s ≤ read.seen)
+  StageStands batch count (Posted op) None = (c : ℕ) × Open count Update op None c
+  StageStands batch count Claimed None =
+      (c k : ℕ) × (r : Record) × (slice_get (batch_in batch).records k ≡ Some r) × (r.author ≡ x) × (r.seq ≡ count) × Open count Update r.op (index_in batch k) c
+  StageStands batch count (Answered reply) None = ReplyStands count reply
+  StageStands batch count stage (Some read) = ⊥
 
 -- the node stands for the history: its replica, its desk, its batch, and each of its slots
 pub record NodeStands (m : Opening) (done : ℕ) (h : History) (positions : Positions) (t : Trace) (n : ℕ) (node : NodeView) : Type 0 where

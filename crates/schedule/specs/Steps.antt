@@ -169,9 +169,13 @@ pub record Took : Type 0 where
 abbrev pub put_part : WorldView → ℕ → Part → Took
 put_part w n p = record { world = record { log = p.log; nodes = slice_set w.nodes n p.node }; event = p.event }
 
+-- what is done at node n of a store; none where it may not be done
+abbrev pub done_at : ℕ → (Log → NodeView → Option Part) → WorldView → Option Took
+done_at n part w = option_and_then (λ node. option_map (put_part w n) (part w.log node)) (slice_get w.nodes n)
+
 -- the step of a store; none where it may not be taken
 abbrev pub took : Opening → WorldView → Step → Option Took
-took m w step = option_and_then (λ node. option_map (put_part w (node_of step)) (part_of m step w.log node)) (slice_get w.nodes (node_of step))
+took m w step = done_at (node_of step) (part_of m step) w
 
 -- a step that may not be taken changes nothing
 abbrev pub world_after : WorldView → Option Took → WorldView

@@ -1,11 +1,11 @@
 -- What `schedule` answers, as a function of the sizes of the store and of the manifest, the files and the steps that were read.
 use Rattle.std.specs.Option.{option_map_or}
-use Rattle.std.specs.Prelude.{ℕ, suc, List, [], ◌∷◌, ◌++◌, codes, decimal, Option, Some, None, option_map, option_and_then, unwrap_or, slice_get, length, Ok, Err, if◌then◌else◌}
+use Rattle.std.specs.Prelude.{ℕ, suc, List, [], ◌∷◌, ◌++◌, codes, decimal, Option, Some, None, option_map, unwrap_or, length, Ok, Err, if◌then◌else◌}
 use Rattle.text.specs.Lines.{lines_of, next_line}
 use Rattle.loader.specs.CatalogueView.{CatalogueView, number_named}
 use Rattle.loader.specs.Loading.{Outcome, loaded}
 use Rattle.oplog.specs.declared.records.Op.TheVariants.{Run, Install as AnInstall}
-use Rattle.oplog.specs.Logs.{Log, tail_of}
+use Rattle.oplog.specs.Logs.{tail_of}
 use Rattle.oplog.specs.declared.configuration.Config.{Config}
 use Rattle.oplog.specs.Limits.{sizes_in}
 use Rattle.combiner.specs.declared.slots.Reply.TheVariants.{Placed, Ended}
@@ -15,7 +15,7 @@ use Rattle.schedule.specs.declared.steps.StepAnswer.{StepAnswer}
 use Rattle.schedule.specs.declared.steps.StepAnswer.TheVariants.{Done, NotNow, Back, ReadBack}
 use Rattle.schedule.specs.Worlds.{NodeView, WorldView, opened, opening_of}
 use Rattle.schedule.specs.Steps as steps
-use Rattle.schedule.specs.Steps.{Part, Took, put_part, world_after}
+use Rattle.schedule.specs.Steps.{Took, done_at, world_after}
 use Rattle.schedule.specs.Taking.{step_answer}
 use Rattle.engine.specs.declared.replies.Verdict.TheVariants as verdicts
 use Rattle.engine.specs.Answer.{Answer, not_text, refusal_answer}
@@ -53,40 +53,21 @@ abbrev pub number_keyed : CatalogueView → ProgramKey → ℕ
 number_keyed c (Named name) = unwrap_or (number_named c.programs name) 65535
 number_keyed c (Numbered k) = k
 
-abbrev pub node_of : StepMeaning → ℕ
-node_of Comment = 0
-node_of (Post at call) = at.node
-node_of (Install at new) = at.node
-node_of (ReadBegin at call) = at.node
-node_of (Collect at) = at.node
-node_of (ReadAnswer at) = at.node
-node_of (Claim n) = n
-node_of (Append n) = n
-node_of (Replay n) = n
-node_of (Finish n) = n
-node_of (Reply n) = n
-node_of (Reclaim n) = n
-node_of (Rebase n) = n
-
--- what the line's step makes of the log and of its node; none where it may not be taken
-abbrev pub part_of : Opening → StepMeaning → Log → NodeView → Option Part
-part_of m Comment g node = None
-part_of m (Post at call) g node = steps.post m at.slot (Run (record { program = number_keyed m.catalogue call.key; argument = call.argument })) g node
-part_of m (Install at new) g node = steps.post m at.slot (AnInstall new) g node
-part_of m (ReadBegin at call) g node = steps.read_begin m at.slot (record { program = number_keyed m.catalogue call.key; argument = call.argument }) g node
-part_of m (Collect at) g node = steps.collect at.slot g node
-part_of m (ReadAnswer at) g node = steps.read_answer m at.slot g node
-part_of m (Claim n) g node = steps.claim g node
-part_of m (Append n) g node = steps.inner m Appends g node
-part_of m (Replay n) g node = steps.inner m Replays g node
-part_of m (Finish n) g node = steps.inner m Finishes g node
-part_of m (Reply n) g node = steps.inner m Replies g node
-part_of m (Reclaim n) g node = steps.inner m Reclaims g node
-part_of m (Rebase n) g node = steps.inner m Rebases g node
-
--- the line's step of the store
+-- the line's step of the store; none where it may not be taken
 abbrev pub line_took : Opening → WorldView → StepMeaning → Option Took
-line_took m w line = option_and_then (λ node. option_map (put_part w (node_of line)) (part_of m line w.log node)) (slice_get w.nodes (node_of line))
+line_took m w Comment = None
+line_took m w (Post at call) = done_at at.node (steps.post m at.slot (Run (record { program = number_keyed m.catalogue call.key; argument = call.argument }))) w
+line_took m w (Install at new) = done_at at.node (steps.post m at.slot (AnInstall new)) w
+line_took m w (ReadBegin at call) = done_at at.node (steps.read_begin m at.slot (record { program = number_keyed m.catalogue call.key; argument = call.argument })) w
+line_took m w (Collect at) = done_at at.node (steps.collect at.slot) w
+line_took m w (ReadAnswer at) = done_at at.node (steps.read_answer m at.slot) w
+line_took m w (Claim n) = done_at n steps.claim w
+line_took m w (Append n) = done_at n (steps.inner m Appends) w
+line_took m w (Replay n) = done_at n (steps.inner m Replays) w
+line_took m w (Finish n) = done_at n (steps.inner m Finishes) w
+line_took m w (Reply n) = done_at n (steps.inner m Replies) w
+line_took m w (Reclaim n) = done_at n (steps.inner m Reclaims) w
+line_took m w (Rebase n) = done_at n (steps.inner m Rebases) w
 
 -- what a line writes, and the store after it
 pub record StepTurn : Type 0 where

@@ -1,6 +1,6 @@
 -- What `serve` did, from what was opened.
 use Rattle.std.proofs.Common.{◌≡◌, ◌⊎◌, inl, inr, ℕ, List, [], Option, None, Result, Ok, Err, refl, sym, ap, subst, ◌∙◌}
-use Rattle.std.specs.Prelude.{IfOk, MatchResult}
+use Rattle.std.specs.Prelude.{IfOk}
 use Rattle.std.specs.Io.KnownBytes.{Appends, Keeps}
 use Rattle.loader.specs.CatalogueView.{CatalogueView}
 use Rattle.serving.specs.declared.turns.ServeEnd.{ServeEnd}
@@ -11,29 +11,24 @@ use Rattle.engine.specs.declared.replies.Status.TheVariants as statuses
 use Rattle.engine.specs.declared.transfer.ReadFault.{ReadFault}
 use Rattle.engine.specs.declared.transfer.ReadFault.TheVariants as faults
 use Rattle.engine.specs.Answer.{Answer}
-use Rattle.engine.specs.Engine.{Reports, Writes}
+use Rattle.engine.specs.Engine.{Writes}
 use Rattle.engine.specs.Opening.{IsOpened, on_which}
 use Rattle.engine.specs.ReadFaults.{IfCannotRead}
 use Rattle.engine.specs.Reading.{TextsRead}
 use Rattle.engine.specs.Report.{Failed, Sends, answer_of}
 use Rattle.engine.specs.Texts.{no_memory_line}
 use Rattle.engine.proofs.Reports.{reports}
-use Rattle.serving.specs.ServeAnswer.{Serves, served_text, nothing_served, service}
+use Rattle.serving.specs.ServeAnswer.{Serves, ServesAll, served_text, nothing_served, service}
 use Rattle.serving.proofs.Served.{none_served}
-use Rattle.serving.proofs.Turned.{appends_none, appends_kept, consumes_none, never_good, no_memory_at, none_given, state_served}
-
--- what `serve` did with bytes that are known of its reader and its writer
-abbrev ServesBytes : Result CatalogueView Answer → (given left old new : Option (List ℕ)) → ServeEnd → Type 0
-ServesBytes opening given left old new ended =
-    MatchResult opening (λ c. Serves c given left old new ended) (λ a. Reports answer_of (λ r. answer_of r ≡ a) old new ended.status × (ended.state ≡ None) × (left ≡ given))
+use Rattle.serving.proofs.Turned.{between, appends_none, appends_kept, consumes_none, never_good, no_memory_at, none_given, state_served}
 
 -- ---- nothing was served
 
 module _ (given old new : Option (List ℕ)) (got : Status) (ended : ServeEnd) (told : ended ≡ record { status = got; state = None }) where
   -- no memory for a service
-  pub none_opened : (c : CatalogueView) → Sends old new got no_memory_line statuses.NoMemory → Serves c given given old new ended
+  pub none_opened : (c : CatalogueView) → Sends old new got no_memory_line statuses.NoMemory → Serves c (between given given old new) ended
   none_opened c sends =
-      subst (λ (x : ServeEnd). Serves c given given old new x) (sym told)
+      subst (λ (x : ServeEnd). Serves c (between given given old new) x) (sym told)
       record {
         bytes = [];
         read = consumes_none given;
@@ -43,9 +38,9 @@ module _ (given old new : Option (List ℕ)) (got : Status) (ended : ServeEnd) (
       }
 
   -- no read for it
-  none_loaded : (c : CatalogueView) → (got ≡ statuses.CannotRead) × Keeps old new → Serves c given given old new ended
+  none_loaded : (c : CatalogueView) → (got ≡ statuses.CannotRead) × Keeps old new → Serves c (between given given old new) ended
   none_loaded c (is, kept) =
-      subst (λ (x : ServeEnd). Serves c given given old new x) (sym (told ∙ ap (λ (s : Status). record { status = s; state = None }) is))
+      subst (λ (x : ServeEnd). Serves c (between given given old new) x) (sym (told ∙ ap (λ (s : Status). record { status = s; state = None }) is))
       record {
         bytes = [];
         read = consumes_none given;
@@ -55,17 +50,17 @@ module _ (given old new : Option (List ℕ)) (got : Status) (ended : ServeEnd) (
       }
 
   -- what is answered in its place
-  instead : (a : Answer) (made : Result Reply ReadFault) → Writes answer_of old new got made → IfOk made (λ r. answer_of r ≡ a) → ServesBytes (Err a) given given old new ended
+  instead : (a : Answer) (made : Result Reply ReadFault) → Writes answer_of old new got made → IfOk made (λ r. answer_of r ≡ a) → ServesAll (between given given old new) ended (Err a)
   instead a made wrote is =
-      subst (λ (x : ServeEnd). ServesBytes (Err a) given given old new x) (sym told) (reports answer_of (λ r. answer_of r ≡ a) old new got made wrote is, refl, refl)
+      subst (λ (x : ServeEnd). ServesAll (between given given old new) x (Err a)) (sym told) (reports answer_of (λ r. answer_of r ≡ a) old new got made wrote is, refl, refl)
 
-  pub unopened : (on : Result CatalogueView Answer) (e : ReadFault) → Writes answer_of old new got (Err e) → ServesBytes on given given old new ended
+  pub unopened : (on : Result CatalogueView Answer) (e : ReadFault) → Writes answer_of old new got (Err e) → ServesAll (between given given old new) ended on
   unopened (Ok c) faults.NoMemory wrote = none_opened c wrote
   unopened (Ok c) faults.CannotRead wrote = none_loaded c wrote
   unopened (Err a) e wrote = instead a (Err e) wrote tt
 
   -- what was opened in the place of a service
-  pub in_place : (r : Reply) (on : Result CatalogueView Answer) → Writes answer_of old new got (Ok r) → Err (answer_of r) ≡ on → ServesBytes on given given old new ended
+  pub in_place : (r : Reply) (on : Result CatalogueView Answer) → Writes answer_of old new got (Ok r) → Err (answer_of r) ≡ on → ServesAll (between given given old new) ended on
   in_place r (Ok c) wrote is = absurd (let never : ⊥ = cc in never)
   in_place r (Err a) wrote is = instead a (Ok r) wrote (let same : answer_of r ≡ a = cc in same)
 

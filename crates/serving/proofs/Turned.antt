@@ -17,13 +17,17 @@ use Rattle.engine.specs.Report.{Sends}
 use Rattle.oplog.specs.declared.configuration.TheConstants.{ENDLESS}
 use Rattle.running.specs.RunAnswer.{state_of}
 use Rattle.running.proofs.Turns as run_turns
-use Rattle.serving.specs.ServeAnswer.{Serving, Served, served, served_text, nothing_served, given_back, AnswersBytes, Serves}
+use Rattle.serving.specs.ServeAnswer.{Serving, Served, served, served_text, nothing_served, given_back, AnswersBytes, Ports, Serves}
 use Rattle.serving.specs.Serving.{Stands, TakesBytes, Turns, Going}
 use Rattle.serving.proofs.Served.{served_parts, none_served}
 
 -- the state that the lines of an input leave which are answered
 abbrev pub state_served : CatalogueView → List ℕ → StoreState
 state_served c bytes = state_of c (served c nothing_served bytes).serving.history
+
+-- a reader and a writer of which this is known
+abbrev pub between : (given left old new : Option (List ℕ)) → Ports
+between given left old new = record { given = given; left = left; old = old; new = new }
 
 -- ---- known bytes
 
@@ -93,11 +97,11 @@ module _ (c : CatalogueView) (s : Serving) (service : Service) (given left : Opt
   nothing_written old new a = subst (λ (t : Served). Appends old new t.text) (sym (none_served c s)) a
 
   pub at_end : (old : Option (List ℕ)) (room : List ℕ) (n : ℕ) → n ≡ 0 → 0 < length room → Consumes given left (take n room) × (n ≡ 0 → 0 < length room → IsAtEnd left)
-      → Turns c s service given left old old (Some statuses.Good)
+      → Turns c s service (between given left old old) (Some statuses.Good)
   at_end old room n none there some =
       record { bytes = []; read = subst (λ (k : ℕ). Consumes given left (take k room)) none some.0; whole = λ good. (some.1 none there, refl); answers = nothing_written old old (appends_none old) }
 
-  pub unread : (old : Option (List ℕ)) → Keeps given left → Turns c s service given left old old (Some statuses.CannotRead)
+  pub unread : (old : Option (List ℕ)) → Keeps given left → Turns c s service (between given left old old) (Some statuses.CannotRead)
   unread old kept =
       record { bytes = []; read = consumes_kept given left kept; whole = λ good. absurd cc; answers = nothing_written old old (appends_none old) }
 
@@ -114,11 +118,11 @@ module _ (c : CatalogueView) (s : Serving) (service : Service) (given left : Opt
               (subst (λ (x : List ℕ). AppendsBeginning old new x) (taken.1 ∙ ap (λ (x : List ℕ). x ++ (served c s (take taken.0 bytes)).text) empty) sent),
         )
 
-    pub unsent : {E : Type 0} (r : Result (Unit {0}) E) → TakesBytes c s bytes service before after r → AppendsBeginning old new after → Turns c s service given left old new (Some statuses.CannotWrite)
+    pub unsent : {E : Type 0} (r : Result (Unit {0}) E) → TakesBytes c s bytes service before after r → AppendsBeginning old new after → Turns c s service (between given left old new) (Some statuses.CannotWrite)
     unsent r taken sent = record { bytes = bytes; read = read; whole = λ good. absurd cc; answers = broke_off r taken sent }
 
     pub without_memory : (got : Status) → (k : ℕ) × (after ≡ before ++ (served c s (take k bytes)).text) → Appends old now after → Sends now new got no_memory_line statuses.NoMemory
-        → Turns c s service given left old new (Some got)
+        → Turns c s service (between given left old new) (Some got)
     without_memory got taken sent line =
         record {
           bytes = bytes;
@@ -154,7 +158,7 @@ module _ (c : CatalogueView) (before : List ℕ) where
     answers_both statuses.Differs a = a
 
 -- nothing was read yet
-pub going_first : (c : CatalogueView) (service : Service) (given old : Option (List ℕ)) → Stands nothing_served service → Going c service given given old old
+pub going_first : (c : CatalogueView) (service : Service) (given old : Option (List ℕ)) → Stands nothing_served service → Going c service (between given given old old)
 going_first c service given old stands =
     record {
       bytes = [];
@@ -163,11 +167,11 @@ going_first c service given old stands =
       stands = subst (λ (t : Served). Stands t.serving service) (sym (none_served c nothing_served)) stands;
     }
 
-module _ (c at_turn : CatalogueView) (same : at_turn ≡ c) (service after : Service) (given left rest old now new : Option (List ℕ)) (going : Going c service given left old now) where
-  pub goes_on : ((s : Serving) → Stands s service → Turns at_turn s after left rest now new None) → Going c after given rest old new
+module _ (c at_turn : CatalogueView) (same : at_turn ≡ c) (service after : Service) (given left rest old now new : Option (List ℕ)) (going : Going c service (between given left old now)) where
+  pub goes_on : ((s : Serving) → Stands s service → Turns at_turn s after (between left rest now new) None) → Going c after (between given rest old new)
   goes_on turns =
-      let turn : Turns c (served c nothing_served going.bytes).serving after left rest now new None =
-      subst (λ (x : CatalogueView). Turns x (served c nothing_served going.bytes).serving after left rest now new None) same (turns _ going.stands) in
+      let turn : Turns c (served c nothing_served going.bytes).serving after (between left rest now new) None =
+      subst (λ (x : CatalogueView). Turns x (served c nothing_served going.bytes).serving after (between left rest now new) None) same (turns _ going.stands) in
       record {
         bytes = going.bytes ++ turn.bytes;
         read = consumes_both given left rest going.bytes turn.bytes going.read turn.read;
@@ -195,11 +199,11 @@ module _ (c at_turn : CatalogueView) (same : at_turn ≡ c) (service after : Ser
   back statuses.Differs bytes state at kept none is = is
 
   pub ends_so : (status : Status) (ended : ServeEnd) → ended.status ≡ status → service.catalogue ≡ c → (Some status ≡ Some statuses.Good → after ≡ service)
-      → ended.state ≡ given_back status after.node.own.replica.state → ((s : Serving) → Stands s service → Turns at_turn s after left rest now new (Some status)) → Serves c given rest old new ended
+      → ended.state ≡ given_back status after.node.own.replica.state → ((s : Serving) → Stands s service → Turns at_turn s after (between left rest now new) (Some status)) → Serves c (between given rest old new) ended
   ends_so status ended told at kept given_state turns =
-      let turn : Turns c (served c nothing_served going.bytes).serving after left rest now new (Some status) =
-      subst (λ (x : CatalogueView). Turns x (served c nothing_served going.bytes).serving after left rest now new (Some status)) same (turns _ going.stands) in
-      subst (λ (x : Status). Serves c given rest old new (record { status = x; state = ended.state })) (sym told)
+      let turn : Turns c (served c nothing_served going.bytes).serving after (between left rest now new) (Some status) =
+      subst (λ (x : CatalogueView). Turns x (served c nothing_served going.bytes).serving after (between left rest now new) (Some status)) same (turns _ going.stands) in
+      subst (λ (x : Status). Serves c (between given rest old new) (record { status = x; state = ended.state })) (sym told)
       (record {
         bytes = going.bytes ++ turn.bytes;
         read = consumes_both given left rest going.bytes turn.bytes going.read turn.read;
@@ -210,9 +214,9 @@ module _ (c at_turn : CatalogueView) (same : at_turn ≡ c) (service after : Ser
 
 -- past the last turn
 pub ends_last : (c : CatalogueView) (service : Service) (given left old now new : Option (List ℕ)) (got : Status) (ended : ServeEnd) → ended ≡ record { status = got; state = None }
-    → Going c service given left old now → Sends now new got no_memory_line statuses.NoMemory → Serves c given left old new ended
+    → Going c service (between given left old now) → Sends now new got no_memory_line statuses.NoMemory → Serves c (between given left old new) ended
 ends_last c service given left old now new got ended told going sends =
-    subst (λ (x : ServeEnd). Serves c given left old new x) (sym told)
+    subst (λ (x : ServeEnd). Serves c (between given left old new) x) (sym told)
     record {
       bytes = going.bytes;
       read = going.read;

@@ -61,7 +61,18 @@ served c s (b ∷ bs) = if b == 10 then served_behind (turn_at c s).text (served
 abbrev pub served_text : CatalogueView → List ℕ → List ℕ
 served_text c bytes = (served c nothing_served bytes).text
 
--- ---- what was written
+-- ---- what was read and written
+
+-- the two ends of a service, where they are known: what there was to read and what is left of it, and what was written before and after
+pub record Ports : Type 0 where
+  pub given : Option (List ℕ)
+  pub left : Option (List ℕ)
+  pub old : Option (List ℕ)
+  pub new : Option (List ℕ)
+
+-- those of a reader, by what it has left, and of a writer, by what it holds
+abbrev pub ports : {R W : Type 0} → (R → Option (List ℕ)) → R → R → (W → Option (List ℕ)) → W → W → Ports
+ports remaining given left contents old new = record { given = remaining given; left = remaining left; old = contents old; new = contents new }
 
 -- these bytes were read and served, by how that ended: each line is answered; where memory ran out those of a beginning, and that none is
 -- left; and where a write failed, a beginning of either is written
@@ -84,11 +95,11 @@ given_back statuses.Differs s = None
 
 -- the programs of a catalogue were served an input, from what it had to what it has left, and to its end where all is well; the state that its
 -- lines leave is given back then
-pub record Serves (c : CatalogueView) (given left : Option (List ℕ)) (old new : Option (List ℕ)) (ended : ServeEnd) : Type 0 where
+pub record Serves (c : CatalogueView) (at : Ports) (ended : ServeEnd) : Type 0 where
   pub bytes : List ℕ
-  pub read : Consumes given left bytes
-  pub whole : ended.status ≡ statuses.Good → IsAtEnd left
-  pub answers : AnswersBytes old new ended.status (served_text c) bytes
+  pub read : Consumes at.given at.left bytes
+  pub whole : ended.status ≡ statuses.Good → IsAtEnd at.left
+  pub answers : AnswersBytes at.old at.new ended.status (served_text c) bytes
   pub state : ended.state ≡ given_back ended.status (state_of c (served c nothing_served bytes).serving.history)
 
 -- ---- the command
@@ -98,13 +109,11 @@ abbrev pub service : ℕ → Option TextsRead → Result CatalogueView Answer
 service spare None = Err not_text
 service spare (Some t) = opening (places_within spare) t
 
--- what `serve` did with a reader and a writer, by what is known of them; what is answered in its place leaves no state, and nothing of the
--- input is read then
-abbrev pub ServesAll : {R W : Type 0} → (R → Option (List ℕ)) → R → R → (W → Option (List ℕ)) → W → W → ServeEnd → Result CatalogueView Answer → Type 0
-ServesAll remaining given left contents old new ended opening =
-    MatchResult opening (λ c. Serves c (remaining given) (remaining left) (contents old) (contents new) ended)
-    (λ a. Reports answer_of (λ r. answer_of r ≡ a) (contents old) (contents new) ended.status × (ended.state ≡ None) × (remaining left ≡ remaining given))
+-- what `serve` did; what is answered in its place leaves no state, and nothing of the input is read then
+abbrev pub ServesAll : Ports → ServeEnd → Result CatalogueView Answer → Type 0
+ServesAll at ended opening =
+    MatchResult opening (λ c. Serves c at ended) (λ a. Reports answer_of (λ r. answer_of r ≡ a) at.old at.new ended.status × (ended.state ≡ None) × (at.left ≡ at.given))
 
 -- the same of what there was to read before
-abbrev pub ServesGiven : {R W : Type 0} → ℕ → (R → Option (List ℕ)) → R → R → (W → Option (List ℕ)) → W → W → ServeEnd → Given → Type 0
-ServesGiven spare remaining given left contents old new ended g = ServesAll remaining given left contents old new ended (service spare (read g))
+abbrev pub ServesGiven : ℕ → Ports → ServeEnd → Given → Type 0
+ServesGiven spare at ended g = ServesAll at ended (service spare (read g))

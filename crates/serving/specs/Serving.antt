@@ -12,7 +12,7 @@ use Rattle.serving.specs.declared.service.TheConstants.{KEPT_BYTES}
 use Rattle.serving.specs.declared.service.Service.{Service}
 use Rattle.running.specs.RunAnswer.{Turn}
 use Rattle.running.specs.Running.{Follows, LineTaken}
-use Rattle.serving.specs.ServeAnswer.{Serving, nothing_served, text_turn, served, served_text, AnswersBytes}
+use Rattle.serving.specs.ServeAnswer.{Serving, Ports, nothing_served, text_turn, served, served_text, AnswersBytes}
 
 -- one more byte of the line at hand
 abbrev pub with_byte : Serving → ℕ → Serving
@@ -63,20 +63,19 @@ TurnEnds c s bytes service old new None = Appends old new (served c s bytes).tex
 TurnEnds c s bytes service old new (Some status) = AnswersBytes old new status (λ b. (served c s b).text) bytes
 
 -- a turn of a service that stands so: where it ended well, its input is at its end and nothing was read
-pub record Turns (c : CatalogueView) (s : Serving) (service : Service) (given left old new : Option (List ℕ)) (ended : Option Status) : Type 0 where
+pub record Turns (c : CatalogueView) (s : Serving) (service : Service) (at : Ports) (ended : Option Status) : Type 0 where
   pub bytes : List ℕ
-  pub read : Consumes given left bytes
-  pub whole : ended ≡ Some statuses.Good → IsAtEnd left × (bytes ≡ [])
-  pub answers : TurnEnds c s bytes service old new ended
+  pub read : Consumes at.given at.left bytes
+  pub whole : ended ≡ Some statuses.Good → IsAtEnd at.left × (bytes ≡ [])
+  pub answers : TurnEnds c s bytes service at.old at.new ended
 
--- the same of any state that the service stands in, of a reader and a writer
-abbrev pub TakesTurns : {R W : Type 0} → (R → Option (List ℕ)) → R → R → (W → Option (List ℕ)) → W → W → Service → Service → Option Status → Type 0
-TakesTurns remaining given left contents held now old new ended =
-    (s : Serving) → Stands s old → Turns old.catalogue s new (remaining given) (remaining left) (contents held) (contents now) ended
+-- the same of any state that the service stands in
+abbrev pub TakesTurns : Ports → Service → Service → Option Status → Type 0
+TakesTurns at old new ended = (s : Serving) → Stands s old → Turns old.catalogue s new at ended
 
 -- turns were taken, and the service stands behind all that they read
-pub record Going (c : CatalogueView) (service : Service) (given left old new : Option (List ℕ)) : Type 0 where
+pub record Going (c : CatalogueView) (service : Service) (at : Ports) : Type 0 where
   pub bytes : List ℕ
-  pub read : Consumes given left bytes
-  pub answers : Appends old new (served_text c bytes)
+  pub read : Consumes at.given at.left bytes
+  pub answers : Appends at.old at.new (served_text c bytes)
   pub stands : Stands (served c nothing_served bytes).serving service

@@ -9,7 +9,7 @@ ghost use Rattle.engine.specs.Reading.{AnyFailed, IfGiven, TextsRead};
 ghost use Rattle.engine.specs.Report.{Failed, Sends, answer_of};
 ghost use Rattle.engine.specs.Texts.{no_memory_line};
 ghost use Rattle.running.specs.Running.{IsSteady};
-ghost use Rattle.serving.specs.ServeAnswer.{Serves, ServesAll, ServesGiven, given_back, nothing_served, service};
+ghost use Rattle.serving.specs.ServeAnswer.{Serves, ServesAll, ServesGiven, given_back, nothing_served, ports, service};
 ghost use Rattle.serving.specs.Serving.{IfOpened, Stands, TakesTurns};
 
 use crate::service::Service;
@@ -79,7 +79,7 @@ fn take_turn<R: Feed, W: Sink>(
     ensures steady { IsSteady service.new.catalogue service.new.node }
     ensures same { result ≡ None → service.new.catalogue ≡ service.old.catalogue }
     ensures kept { result ≡ Some statuses.Good → service.new ≡ service.old }
-    ensures served { TakesTurns R.remaining reader.old reader.new W.contents writer.old writer.new service.old service.new result }
+    ensures served { TakesTurns (ports R.remaining reader.old reader.new W.contents writer.old writer.new) service.old service.new result }
     ensures failed { IfSome result (λ status. Failed status (R.has_failed reader.new) (W.has_failed writer.new)) }
 {
     let n = match reader.read_some(room) {
@@ -107,7 +107,7 @@ fn serve_input<R: Feed, W: Sink>(
 ) -> ServeEnd
     requires steady { IsSteady service.catalogue service.node }
     requires nothing { Stands nothing_served service }
-    ensures served { Serves service.catalogue (R.remaining reader.old) (R.remaining reader.new) (W.contents writer.old) (W.contents writer.new) result }
+    ensures served { Serves service.catalogue (ports R.remaining reader.old reader.new W.contents writer.old writer.new) result }
     ensures failed { Failed result.status (R.has_failed reader.new) (W.has_failed writer.new) }
 {
     let mut room = [0u8; ROOM_BYTES];
@@ -130,7 +130,7 @@ fn serve_on<R: Feed, W: Sink>(
     writer: &mut W,
 ) -> ServeEnd
     requires opened { IsOpened (On catalogue state) }
-    ensures served { Serves catalogue (R.remaining reader.old) (R.remaining reader.new) (W.contents writer.old) (W.contents writer.new) result }
+    ensures served { Serves catalogue (ports R.remaining reader.old reader.new W.contents writer.old writer.new) result }
     ensures failed { Failed result.status (R.has_failed reader.new) (W.has_failed writer.new) }
 {
     match Service::open(alloc, catalogue, state) {
@@ -147,7 +147,7 @@ fn serve_opened<R: Feed, W: Sink>(
     writer: &mut W,
 ) -> ServeEnd
     requires opened { IfOk opened IsOpened }
-    ensures served { IfOpened opened (ServesAll R.remaining reader.old reader.new W.contents writer.old writer.new result) }
+    ensures served { IfOpened opened (ServesAll (ports R.remaining reader.old reader.new W.contents writer.old writer.new) result) }
     ensures failed { Failed result.status ((opened ≡ Err faults.CannotRead) ⊎ R.has_failed reader.new) (W.has_failed writer.new) }
 {
     let instead: Result<Reply, ReadFault> = match opened {
@@ -201,11 +201,11 @@ pub fn serve<F: Folder, S: Source + Drop, R: Feed, W: Sink>(
     writer: &mut W,
 ) -> ServeEnd
     // Where the readers and the folder tell their bytes, those are served.
-    ensures written { IfGiven F.holds S.remaining inputs.old (ServesGiven spare R.remaining reader.old reader.new W.contents writer.old writer.new result) }
+    ensures written { IfGiven F.holds S.remaining inputs.old (ServesGiven spare (ports R.remaining reader.old reader.new W.contents writer.old writer.new) result) }
     // It says that a read or a write failed only after one did.
     ensures failed { Failed result.status (AnyFailed S.has_failed F.File.has_failed inputs.new ⊎ R.has_failed reader.new) (W.has_failed writer.new) }
     // Whatever they give, or where they fail.
-    ensures ended { (t : Option TextsRead) × ServesAll R.remaining reader.old reader.new W.contents writer.old writer.new result (service spare t) }
+    ensures ended { (t : Option TextsRead) × ServesAll (ports R.remaining reader.old reader.new W.contents writer.old writer.new) result (service spare t) }
 {
     let opened = prepare(alloc, &Opening { spare }, inputs, &mut Notes::none(alloc));
     serve_opened(alloc, opened, reader, writer)

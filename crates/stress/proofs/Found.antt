@@ -10,7 +10,6 @@ use Rattle.engine.specs.Answer.{Answer}
 use Rattle.engine.specs.Reading.{Given, TextsRead, files_in, first_stranger}
 use Rattle.engine.proofs.Gatherings.{found, unless_strange}
 use Rattle.engine.proofs.Openings.{on_loaded}
-use Rattle.engine.specs.Report.{answer_of}
 use Rattle.engine.specs.Opening.{opening_of}
 use Rattle.engine.specs.Sizes.{are_sizes, places_in}
 use Rattle.engine.specs.StateAnswer.{on_text, opened_by}
@@ -50,7 +49,7 @@ is_opening c state whole = by (length state == 0)
 
 module _ (config : Config) (timed : Bool) (g : Given) (s : Stressed) (good : s.reply.verdict ≡ verdicts.Good) where
   abbrev Found : Type 0
-  Found = IsFoundGood config g (answer_of s.reply)
+  Found = IsFoundGood config timed g s
 
   -- a refusal is not good
   refused : (a : Answer) → a.verdict ≡ verdicts.Refused → IsOnly a s → Found
@@ -63,7 +62,7 @@ module _ (config : Config) (timed : Bool) (g : Given) (s : Stressed) (good : s.r
     offered = with_places base config.spare
 
     of_script : (on : CatalogueView) → IsOpening offered (Ok on) → opened_by offered g.state ≡ Ok on → (r : Result (List Called) ℕ) → script_calls on 1 (lines_of g.file) ≡ r → IsScriptRun config timed on r s → Found
-    of_script on whole opens (Ok calls) asked run = found_good config g (answer_of s.reply) texts sizes base is on whole.0 whole.1 opens calls asked run.transcript
+    of_script on whole opens (Ok calls) asked run = found_good config timed g s texts sizes base is on whole.0 whole.1 opens calls asked run
     of_script on whole opens (Err n) asked run = refused _ refl run
 
     of_opened : (r : Result CatalogueView Answer) → IsOpening offered r → opened_by offered g.state ≡ r → IsOpenedRun config timed (found g) r s → Found

@@ -6,7 +6,6 @@ use Rattle.std.specs.List.Sorted.{IsPermutation}
 use Rattle.std.proofs.lemmas.List.Sorted.{All-permutation, IsPermutation-trans, IsPermutation-map}
 use Rattle.loader.specs.CatalogueView.{CatalogueView}
 use Rattle.oplog.specs.declared.configuration.Config.{Config}
-use Rattle.oplog.specs.Limits.{IsConfig}
 use Rattle.engine.specs.declared.replies.Verdict.TheVariants as verdicts
 use Rattle.stress.specs.declared.calls.ScriptCall.{ScriptCall}
 use Rattle.stress.specs.declared.lines.Told.{Told}
@@ -19,7 +18,7 @@ use Rattle.stress.specs.Shown.{called, said_of, told_call, calls_told, to_be_tol
 use Rattle.stress.specs.Playing.{IsLeft, IsWritten, EndsIn, AreSteadyTo, history_if}
 use Rattle.running.specs.RunAnswer.{state_of}
 use Rattle.stress.specs.Playing.{calls_of}
-use Rattle.stress.specs.Transcripts.{session_count, IsTranscript}
+use Rattle.stress.specs.Transcripts.{session_count, IsTranscript, EachCallHasOneLine}
 use Rattle.stress.proofs.Dealt.{each_once, dealt_map}
 use Rattle.stress.proofs.OneHistory.{in_order}
 use Rattle.stress.proofs.Sizes.{some_session}
@@ -64,8 +63,8 @@ GivesRun config c timed calls left =
     (t : IsTranscript config c calls (record { text = left.written.transcript.items; verdict = verdicts.Good })) × IsHistoryIf timed (session_count config) calls t.told left.written.history.items
     × (left.state ≡ state_of c t.of_one.history) × AreCounted t.told left.written.counts
 
-pub run_of : (config : Config) (c : CatalogueView) (timed : Bool) → IsConfig config → (script : List ScriptCall) (left : Left) → IsLeft config c timed script left → GivesRun config c timed (map called script) left
-run_of config c timed sizes script left is =
+pub run_of : (config : Config) (c : CatalogueView) (timed : Bool) (script : List ScriptCall) (left : Left) → IsLeft config c timed script left → GivesRun config c timed (map called script) left
+run_of config c timed script left is =
     let calls = map called script in
     let n = session_count config in
     let asked = map told_of is.told in
@@ -73,7 +72,6 @@ run_of config c timed sizes script left is =
     let same = IsPermutation-map told_of is.told is.written.lines is.written.same in
     let each = so is.told (dealt_to n calls) (is.in_turn ∙ ap (dealt_to n) (sym (twice script)) ∙ dealt_map (λ c. Some c) n 0 n calls) in
     let in_turn = each.0 in
-    let all = subst (IsPermutation calls) (sym in_turn) (each_once n calls (some_session config sizes)) in
     let one = in_order c config.limit left.state asked lines same is.ends.0 is.ends.1 in (
       record {
         asked = asked;
@@ -86,13 +84,22 @@ run_of config c timed sizes script left is =
         by_session = is.written.stable;
         is = ap (λ t. record { text = t; verdict = verdicts.Good }) is.written.transcript;
         of_one = one.0;
-        each_once = IsPermutation-trans calls (calls_of asked) (calls_of lines) all (IsPermutation-map (λ t. t.call) asked lines same);
       },
       history_of timed n calls is.written.lines left.written.history.items
           (All-permutation (λ t. IsInTurn n calls (timed_of t)) is.told is.written.lines is.written.same is.turns) is.written.history,
       one.1,
       is.written.counts,
     )
+
+-- ---- what a transcript says
+
+-- the sessions were told the calls that are dealt to them, and these are all calls
+pub each_call_has_one_line : EachCallHasOneLine
+each_call_has_one_line config c calls a sizes t =
+    let all = subst (IsPermutation calls) (sym t.in_turn) (each_once (session_count config) calls (some_session config sizes)) in
+    IsPermutation-trans calls (calls_of t.asked) (calls_of t.told) all (IsPermutation-map (λ x. x.call) t.asked t.told t.same)
+
+-- ---- what is left
 
 -- what is left of a store, where memory was left
 module _ {V E : Type 0} (items : V → List Told) (config : Config) (c : CatalogueView) (timed : Bool) (script : List ScriptCall) where

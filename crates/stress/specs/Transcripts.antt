@@ -4,6 +4,7 @@ use Rattle.std.specs.List.{All}
 use Rattle.std.specs.List.Sorted.{IsPermutation}
 use Rattle.loader.specs.CatalogueView.{CatalogueView}
 use Rattle.oplog.specs.declared.configuration.Config.{Config}
+use Rattle.oplog.specs.Limits.{IsConfig}
 use Rattle.engine.specs.declared.replies.Verdict.TheVariants as verdicts
 use Rattle.engine.specs.Answer.{Answer}
 use Rattle.stress.specs.Calls.{Called, told_as}
@@ -30,7 +31,10 @@ pub record IsTranscript (config : Config) (c : CatalogueView) (calls : List Call
   -- those of one rank stand session by session, and those of one session in its order
   pub by_session : (r : ℕ) → at_rank r told ≡ at_rank r asked
   pub is : a ≡ record { text = transcript_text c told; verdict = verdicts.Good }
-  -- so each call of the script has one line
-  pub each_once : IsPermutation calls (map (λ t. t.call) told)
   -- and one history is behind all lines
   pub of_one : IsOfOneHistory c config.limit told
+
+-- so the lines are the calls of the script, each once
+abbrev pub EachCallHasOneLine : Type 0
+EachCallHasOneLine =
+    (config : Config) (c : CatalogueView) (calls : List Called) (a : Answer) → IsConfig config → (t : IsTranscript config c calls a) → IsPermutation calls (map (λ t. t.call) t.told)

@@ -2,6 +2,12 @@
 
 ghost use Rattle.stress.specs.Good.{TranscriptsAreGood};
 ghost use Rattle.stress.specs.Replayed.{TranscriptsAgree};
+ghost use Rattle.stress.specs.Transcripts.{EachCallHasOneLine};
+
+/// The lines of a transcript that `stress` may write are the calls of its script, each once.
+pub fn each_call_has_one_line()
+    ensures once { EachCallHasOneLine }
+{}
 
 /// The calls of a transcript that `stress` may write agree, one after the other in the order of its lines, as `replay` compares them: an
 /// update or an install has the number of those before it as its index, a read has it as its point, and each replies what its
