@@ -6,6 +6,7 @@ use Rattle.std.specs.Option.{option_map}
 use Rattle.std.proofs.lemmas.List.{map-append, append-nil}
 use Rattle.std.proofs.lemmas.List.Elements.{filter-append}
 use Rattle.std.proofs.lemmas.Grind.{fold-append, flat_map-append}
+use Rattle.std.proofs.lemmas.Option.{same_Some}
 use Rattle.std.proofs.lemmas.Bool.{false≢true, and_parts, and_from, cases_lt, cases_eq, eqb-true, eq-eqb}
 use Rattle.insn.specs.declared.instruction.Form.{Form}
 use Rattle.insn.specs.Layout.{LeadsTo, slot_count, instruction_at, falls_through}
@@ -17,10 +18,9 @@ use Rattle.flow.specs.Structure.{IsStructured, StandsAt, Reached}
 use Rattle.flow.specs.Structure as flow
 use Rattle.flow.specs.Faults.{is_slot}
 use Rattle.flow.specs.declared.rules.StructureRule.TheVariants.{Unreachable}
-use Rattle.flow.proofs.Forward.{leads_on}
 use Rattle.flow.proofs.Jumps.{jump_found, jump_tested, slot_is}
 use Rattle.verifier.specs.FrameAfter.{frame_after}
-use Rattle.verifier.specs.Typing.{Frames, IsJoin, Leads}
+use Rattle.verifier.specs.Typing.{Frames, Leads, ComesTo, IsKnownAt}
 use Rattle.verifier.specs.Joined.{common, in_common, Leaving, leaving, edges_of, leads, leads_to, frame_in, frame_along, entry_at, joined_frames, joined_frame}
 use Rattle.verifier.proofs.Monotone.{after_frame}
 use Rattle.verifier.proofs.Lists.{get_left, get_last}
@@ -303,12 +303,21 @@ module _ (p : List Form) (structured : IsStructured p) where
   pub has_joined : (i : Form) (t : ℕ) → StandsAt p i t → (joined_frame p t ≡ Some (joined_at p t)) × IsFrame (joined_at p t)
   has_joined i t stands = given_by t (joins (suc t) t (omega arith)) i stands
 
-  pub is_join : (i : Form) (t : ℕ) → StandsAt p i t → IsJoin p (joined_at p) t
-  is_join i t stands =
-      let says = subst (ComesIn p (joined_at p) (Below t) t) (has_joined i t stands).0 (joins (suc t) t (omega arith)) in
-      record {
-        frame = says.frame;
-        entry = says.entry;
-        edges = λ x s e h. let on = leads_on p x s t e structured h.0 h.1 in says.edges x s e h on;
-        greatest = λ a h0 h1. says.greatest a h0 (λ x s e h lt. h1 x s e h);
-      }
+  pub is_join : (i : Form) (t : ℕ) → StandsAt p i t → IsKnownAt p (λ s. Some (joined_at p s)) t
+  is_join i t stands = record {
+    frame = says.frame;
+    no_more = no_more;
+    no_less = λ a h. says.greatest a (λ z. h entry_frame (ComesTo.entry z)) (λ x s e leads lt. h _ (ComesTo.along x s e (joined_at p s) leads lt refl));
+  }
+    where
+      says : Says p (joined_at p) (Below t) t (joined_at p t)
+      says = subst (ComesIn p (joined_at p) (Below t) t) (has_joined i t stands).0 (joins (suc t) t (omega arith))
+
+      no_more : (g : Frame) → ComesTo p (λ s. Some (joined_at p s)) t g → Covers (joined_at p t) g
+      no_more g (ComesTo.entry z) = says.entry z
+      no_more g (ComesTo.along x s e f leads lt is) = subst (λ y. Covers (joined_at p t) (frame_after x y e)) (same_Some (joined_at p s) f is) (says.edges x s e leads lt)
+
+-- what comes in is the same where the instructions of the lower slots know the same
+pub comes_same : (p : List Form) (J K : ℕ → Option Frame) (t : ℕ) → ((i : Form) (s : ℕ) → StandsAt p i s → s < t → J s ≡ K s) → (g : Frame) → ComesTo p J t g → ComesTo p K t g
+comes_same p J K t same g (ComesTo.entry z) = ComesTo.entry z
+comes_same p J K t same g (ComesTo.along i s e f leads lt is) = ComesTo.along i s e f leads lt (sym (same i s leads.0 lt) ∙ is)

@@ -21,11 +21,11 @@ use Rattle.flow.proofs.Forward.{target_stands}
 use Rattle.verifier.specs.Signature.{Signature}
 use Rattle.verifier.specs.Rules.{first_broken}
 use Rattle.verifier.specs.FrameAfter.{frame_after}
-use Rattle.verifier.specs.Typing.{Frames, IsTyping, Leads}
+use Rattle.verifier.specs.Typing.{Frames, IsTyping, Leads, ComesTo, IsJoinOf, IsKnownAt}
 use Rattle.verifier.specs.Joined.{in_common, entry_at, joined_frame, leads}
-use Rattle.verifier.specs.Known.{ComesTo, IsJoinOf, IsKnownAt, known_before, IsBestTyping}
+use Rattle.verifier.specs.Known.{known_before, IsBestTyping}
 use Rattle.verifier.specs.Verdict.{verdict, lowest_refusal}
-use Rattle.verifier.proofs.Joins.{With, ComesIn, along, along_edge, out_of, out_of_both, out_of_neither, coming_in, coming_next, leads_is, resaid, joined_at, or_entry_frame, has_joined, is_join}
+use Rattle.verifier.proofs.Joins.{With, ComesIn, along, along_edge, out_of, out_of_both, out_of_neither, coming_in, coming_next, leads_is, resaid, joined_at, or_entry_frame, has_joined, is_join, comes_same}
 use Rattle.verifier.proofs.Sweep.{IsFine, joined_here, joined_fine}
 use Rattle.verifier.proofs.Untypable.{covered}
 use Rattle.verifier.proofs.VerdictLaws.{accepts, typed_by_joins, verdict_of_kinds}
@@ -136,15 +136,10 @@ same_join some other None (Some f) to from j k = absurd (not_everything f (λ a.
 same_join some other (Some f) None to from j k = absurd (not_everything f (λ a. j.no_less a (λ g h. absurd (k g (to g h)))))
 same_join some other (Some f) (Some g) to from j k = ap Some (covers_antisymmetric f g j.frame k.frame (k.no_less f (λ x h. j.no_more x (from x h))) (j.no_less g (λ x h. k.no_more x (to x h))))
 
--- what comes in is the same where the lower slots know the same
-comes_same : (p : List Form) (J K : ℕ → Option Frame) (t : ℕ) → ((s : ℕ) → s < t → J s ≡ K s) → (g : Frame) → ComesTo p J t g → ComesTo p K t g
-comes_same p J K t same g (ComesTo.entry z) = ComesTo.entry z
-comes_same p J K t same g (ComesTo.along i s e f leads lt is) = ComesTo.along i s e f leads lt (sym (same s lt) ∙ is)
-
 known_here : (p : List Form) (known : ℕ → Option Frame) (t : ℕ) → IsKnownAt p known t → ((s : ℕ) → s < t → known s ≡ joined_frame p s) → known t ≡ joined_frame p t
 known_here p known t here same =
-    same_join (ComesTo p known t) (ComesTo p (joined_frame p) t) (known t) (joined_frame p t) (comes_same p known (joined_frame p) t same)
-    (comes_same p (joined_frame p) known t (λ s below. sym (same s below)))
+    same_join (ComesTo p known t) (ComesTo p (joined_frame p) t) (known t) (joined_frame p t) (comes_same p known (joined_frame p) t (λ i s stands below. same s below))
+    (comes_same p (joined_frame p) known t (λ i s stands below. sym (same s below)))
     here
     (joined_is_known p t)
 
@@ -245,5 +240,5 @@ joined_is_best p l all accepted =
       typing = typed_as p l structured (known_before p) agrees (typed_by_joins p l structured unbroken);
       best = λ F types i t stands.
           subst (Covers (F t)) (sym (agrees.each i t stands))
-          (covered p l structured all F types (joined_at p) t (λ x s here le. is_join p structured x s here) (suc t) t i stands (omega arith) (omega arith));
+          (covered p l all F types (joined_at p) t (λ x s here le. is_join p structured x s here) (suc t) t i stands (omega arith) (omega arith));
     }

@@ -19,12 +19,11 @@ use Rattle.verifier.specs.declared.refusal.VerifyFault.{VerifyFault}
 use Rattle.verifier.specs.declared.refusal.Refused.{Refused}
 use Rattle.verifier.specs.Signature.{Signature}
 use Rattle.verifier.specs.Rules.{first_broken}
-use Rattle.verifier.specs.FrameAfter.{frame_after}
-use Rattle.verifier.specs.Typing.{Frames, IsTyping, IsTypable, IsJoin, FirstBrokenKind, Refuses, RefusedByStructure, RefusedByKinds, structure_reason}
+use Rattle.verifier.specs.Typing.{Frames, IsTyping, IsTypable, ComesTo, IsKnownAt, FirstBrokenKind, Refuses, RefusedByStructure, RefusedByKinds, structure_reason}
 use Rattle.verifier.specs.Joined.{joined_frame}
 use Rattle.verifier.specs.Verdict.{refused, refusal_of, or_else, lowest_refusal, after_structure, verdict}
 use Rattle.verifier.proofs.Slots.{stands_inside}
-use Rattle.verifier.proofs.Joins.{same_form, Below, joined_at, has_joined, is_join, joins, ComesIn, or_entry_frame}
+use Rattle.verifier.proofs.Joins.{same_form, Below, joined_at, has_joined, is_join, joins, comes_same, ComesIn, or_entry_frame}
 use Rattle.verifier.proofs.Untypable.{untypable}
 
 -- ---- the lowest refusal
@@ -88,7 +87,7 @@ module _ (p : List Form) (l : Signature) (structured : IsStructured p) where
   first_entry : Covers (joined_at p 0) entry_frame
   first_entry = ⊎_elim
       (λ z. let some = structured.size_good.some in absurd (omega arith))
-      (λ h. (is_join p structured h.0 0 h.1).entry refl)
+      (λ h. (is_join p structured h.0 0 h.1).no_more entry_frame (ComesTo.entry refl))
       (first_of p)
 
   pub typed_by_joins : lowest_refusal p l (size p) ≡ None → IsTyping p l (joined_at p)
@@ -96,7 +95,9 @@ module _ (p : List Form) (l : Signature) (structured : IsStructured p) where
     frames = λ s. all_frames s (joined_frame p s) refl;
     entry = first_entry;
     each = λ i s stands. fine (size p) e i s stands (stands_inside p i s stands);
-    edges = λ i s t d leads. let there = target_stands p i s t d structured leads.0 leads.1 in (is_join p structured there.0 t there.1).edges i s d leads;
+    edges = λ i s t d leads.
+        let there = target_stands p i s t d structured leads.0 leads.1 in
+        (is_join p structured there.0 t there.1).no_more _ (ComesTo.along i s d (joined_at p s) leads (leads_on p i s t d structured leads.0 leads.1) refl);
   }
 
   pub typing : lowest_refusal p l (size p) ≡ None → IsTypable p l
@@ -153,26 +154,30 @@ never_both p l e all (inl h) typable = broken_is_not_structured p e.slot h.0 h.1
 never_both p l e all (inr h) typable = untypable p l e.slot e.why all h.1 typable
 
 -- joined frames are the same, however they are had
-module _ (p : List Form) (structured : IsStructured p) (last : ℕ) (J K : Frames) (first : (i : Form) (t : ℕ) → StandsAt p i t → t ≤ last → IsJoin p J t) (second : (i : Form) (t : ℕ) → StandsAt p i t → t ≤ last → IsJoin p K t) where
+abbrev AreJoined : List Form → ℕ → Frames → Type 0
+AreJoined p last J = (i : Form) (t : ℕ) → StandsAt p i t → t ≤ last → IsKnownAt p (λ s. Some (J s)) t
+
+module _ (p : List Form) (last : ℕ) (J K : Frames) (first : AreJoined p last J) (second : AreJoined p last K) where
   pub same_joins : (n t : ℕ) (x : Form) → StandsAt p x t → t < n → t ≤ last → J t ≡ K t
   same_joins zero t x here lt le = absurd (omega arith)
   same_joins (suc n) t x here lt le =
       let j = first x t here le in
       let k = second x t here le in
+      let lower : (i : Form) (s : ℕ) → StandsAt p i s → s < t → Some (J s) ≡ Some (K s) = λ i s stands below. ap Some (same_joins n s i stands (omega arith) (omega arith)) in
       covers_antisymmetric (J t) (K t) j.frame k.frame
-      (k.greatest (J t) j.entry (λ i s e leads. let on = leads_on p i s t e structured leads.0 leads.1 in subst (λ g. Covers (J t) (frame_after i g e)) (same_joins n s i leads.0 (omega arith) (omega arith)) (j.edges i s e leads)))
-      (j.greatest (K t) k.entry (λ i s e leads. let on = leads_on p i s t e structured leads.0 leads.1 in subst (λ g. Covers (K t) (frame_after i g e)) (sym (same_joins n s i leads.0 (omega arith) (omega arith))) (k.edges i s e leads)))
+      (k.no_less (J t) (λ g h. j.no_more g (comes_same p (λ s. Some (K s)) (λ s. Some (J s)) t (λ i s stands below. sym (lower i s stands below)) g h)))
+      (j.no_less (K t) (λ g h. k.no_more g (comes_same p (λ s. Some (J s)) (λ s. Some (K s)) t lower g h)))
 
-lower : (p : List Form) (l : Signature) (s t : ℕ) (v w : VerifyFault) → IsStructured p → FirstBrokenKind p l s v → FirstBrokenKind p l t w → s < t → ⊥
-lower p l s t v w structured a b lt =
-    let same = same_joins p structured s a.frames b.frames (λ i u st le. a.joined i u st le) (λ i u st le. b.joined i u st (omega arith)) (suc s) s a.instruction a.stands (omega arith) (omega arith) in
+lower : (p : List Form) (l : Signature) (s t : ℕ) (v w : VerifyFault) → FirstBrokenKind p l s v → FirstBrokenKind p l t w → s < t → ⊥
+lower p l s t v w a b lt =
+    let same = same_joins p s a.frames b.frames (λ i u st le. a.joined i u st le) (λ i u st le. b.joined i u st (omega arith)) (suc s) s a.instruction a.stands (omega arith) (omega arith) in
     let none = b.before a.instruction s a.stands lt in
     let some = sym (ap (first_broken l a.instruction) same) ∙ a.broken in
     cc
 
-same_why : (p : List Form) (l : Signature) (s t : ℕ) (v w : VerifyFault) → IsStructured p → FirstBrokenKind p l s v → FirstBrokenKind p l t w → s ≡ t → v ≡ w
-same_why p l s t v w structured a b e =
-    let same = same_joins p structured s a.frames b.frames (λ i u st le. a.joined i u st le) (λ i u st le. b.joined i u st (omega arith)) (suc s) s a.instruction a.stands (omega arith) (omega arith) in
+same_why : (p : List Form) (l : Signature) (s t : ℕ) (v w : VerifyFault) → FirstBrokenKind p l s v → FirstBrokenKind p l t w → s ≡ t → v ≡ w
+same_why p l s t v w a b e =
+    let same = same_joins p s a.frames b.frames (λ i u st le. a.joined i u st le) (λ i u st le. b.joined i u st (omega arith)) (suc s) s a.instruction a.stands (omega arith) (omega arith) in
     let form = same_form p a.instruction b.instruction s t a.stands b.stands e in
     let one : first_broken l b.instruction (b.frames t) ≡ Some v =
     sym (ap (λ i. first_broken l i (b.frames t)) form) ∙ sym (ap (λ u. first_broken l a.instruction (b.frames u)) e) ∙ sym (ap (first_broken l a.instruction) same) ∙ a.broken in
@@ -184,10 +189,10 @@ same_refused a b e h = ap (λ x. refused x a.why) e ∙ ap (refused b.slot) h
 
 same_kinds : (p : List Form) (l : Signature) (a b : Refused) → RefusedByKinds p l a → RefusedByKinds p l b → a ≡ b
 same_kinds p l a b h k = ⊎_elim
-    (λ (lt : a.slot < b.slot). absurd (lower p l a.slot b.slot a.why b.why h.0 h.1 k.1 lt))
+    (λ (lt : a.slot < b.slot). absurd (lower p l a.slot b.slot a.why b.why h.1 k.1 lt))
     (λ (ge : b.slot ≤ a.slot). ⊎_elim
-    (λ (lt : b.slot < a.slot). absurd (lower p l b.slot a.slot b.why a.why h.0 k.1 h.1 lt))
-    (λ (le : a.slot ≤ b.slot). let e : a.slot ≡ b.slot = omega arith in same_refused a b e (same_why p l a.slot b.slot a.why b.why h.0 h.1 k.1 e))
+    (λ (lt : b.slot < a.slot). absurd (lower p l b.slot a.slot b.why a.why k.1 h.1 lt))
+    (λ (le : a.slot ≤ b.slot). let e : a.slot ≡ b.slot = omega arith in same_refused a b e (same_why p l a.slot b.slot a.why b.why h.1 k.1 e))
     (cases_lt b.slot a.slot))
     (cases_lt a.slot b.slot)
 

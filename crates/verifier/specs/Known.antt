@@ -2,15 +2,13 @@
 use Rattle.std.specs.Prelude.{◌≡◌, ℕ, ◌<◌, ◌≤◌, ◌↔◌, List, Option, Some, None, IsSome, slice_get, unwrap_or}
 use Rattle.std.specs.List.{AllByRecursion}
 use Rattle.insn.specs.declared.instruction.Form.{Form}
-use Rattle.insn.specs.declared.instruction.Edge.{Edge}
 use Rattle.insn.specs.Encoding.{HasEncoding}
 use Rattle.insn.specs.Layout.{size}
-use Rattle.regkind.specs.Frames.{Frame, Covers, IsFrame, entry_frame, blank_frame}
+use Rattle.regkind.specs.Frames.{Frame, Covers, blank_frame}
 use Rattle.flow.specs.Structure.{StandsAt, Reached}
 use Rattle.verifier.specs.declared.refusal.Refused.{Refused}
 use Rattle.verifier.specs.Signature.{Signature}
-use Rattle.verifier.specs.FrameAfter.{frame_after}
-use Rattle.verifier.specs.Typing.{Frames, IsTyping, Leads}
+use Rattle.verifier.specs.Typing.{Frames, IsTyping, IsKnownAt}
 use Rattle.verifier.specs.Joined.{joined_frame}
 use Rattle.verifier.specs.Verdict.{verdict}
 
@@ -24,26 +22,6 @@ abbrev pub AreKnown : List Form → Option Refused → List (Option Frame) → T
 AreKnown p e frames = (t : ℕ) → t < size p → IsUpTo e t → slice_get frames t ≡ Some (joined_frame p t)
 
 -- ---- what the joined frames are
-
--- this comes in at slot t: the entry's frame at the first slot, and what goes along an edge from a lower slot, of what is known there
-pub data ComesTo (p : List Form) (known : ℕ → Option Frame) (t : ℕ) : Frame → Type 0 where
-  entry : t ≡ 0 → ComesTo p known t entry_frame
-  along : (i : Form) (s : ℕ) (e : Edge) (f : Frame) → Leads p i s e t → s < t → known s ≡ Some f → ComesTo p known t (frame_after i f e)
-
--- the frame says just what all of these have in common
-pub record IsInCommon (some : Frame → Type 0) (f : Frame) : Type 0 where
-  pub frame : IsFrame f
-  pub no_more : (g : Frame) → some g → Covers f g
-  pub no_less : (a : Frame) → ((g : Frame) → some g → Covers a g) → Covers a f
-
--- what these have in common, if there is any of them
-abbrev pub IsJoinOf : (Frame → Type 0) → Option Frame → Type 0
-IsJoinOf some None = (g : Frame) → some g → ⊥
-IsJoinOf some (Some f) = IsInCommon some f
-
--- what is known at slot t is what all that comes in there has in common, and nothing where nothing comes in
-abbrev pub IsKnownAt : List Form → (ℕ → Option Frame) → ℕ → Type 0
-IsKnownAt p known t = IsJoinOf (ComesTo p known t) (known t)
 
 -- the joined frames are known so, of any program
 abbrev pub JoinedAreKnown : Type 0

@@ -1,5 +1,5 @@
 -- Which programs are typable, and how one that isn't is refused.
-use Rattle.std.specs.Prelude.{◌≡◌, ℕ, ◌<◌, ◌≤◌, ◌⊎◌, pos, List, Some, None}
+use Rattle.std.specs.Prelude.{◌≡◌, ℕ, ◌<◌, ◌≤◌, ◌⊎◌, pos, List, Option, Some, None}
 use Rattle.insn.specs.declared.instruction.Form.{Form}
 use Rattle.insn.specs.Layout.{LeadsTo}
 use Rattle.insn.specs.declared.instruction.Edge.{Edge}
@@ -35,19 +35,34 @@ pub record IsTyping (p : List Form) (l : Signature) (F : Frames) : Type 0 where
 abbrev pub IsTypable : List Form → Signature → Type 0
 IsTypable p l = IsStructured p × ((F : Frames) × IsTyping p l F)
 
--- ---- refusals
+-- ---- joined frames
 
--- the frame at slot t says just what all that comes in there has in common: the entry, where t is 0, and each edge
-pub record IsJoin (p : List Form) (J : Frames) (t : ℕ) : Type 0 where
-  pub frame : IsFrame (J t)
-  pub entry : t ≡ 0 → Covers (J t) entry_frame
-  pub edges : (i : Form) (s : ℕ) (e : Edge) → Leads p i s e t → Covers (J t) (frame_after i (J s) e)
-  pub greatest : (a : Frame) → (t ≡ 0 → Covers a entry_frame) → ((i : Form) (s : ℕ) (e : Edge) → Leads p i s e t → Covers a (frame_after i (J s) e)) → Covers a (J t)
+-- this comes in at slot t: the entry's frame at the first slot, and what goes along an edge from a lower slot, of what is known there
+pub data ComesTo (p : List Form) (known : ℕ → Option Frame) (t : ℕ) : Frame → Type 0 where
+  entry : t ≡ 0 → ComesTo p known t entry_frame
+  along : (i : Form) (s : ℕ) (e : Edge) (f : Frame) → Leads p i s e t → s < t → known s ≡ Some f → ComesTo p known t (frame_after i f e)
+
+-- the frame says just what all of these have in common
+pub record IsInCommon (some : Frame → Type 0) (f : Frame) : Type 0 where
+  pub frame : IsFrame f
+  pub no_more : (g : Frame) → some g → Covers f g
+  pub no_less : (a : Frame) → ((g : Frame) → some g → Covers a g) → Covers a f
+
+-- what these have in common, if there is any of them
+abbrev pub IsJoinOf : (Frame → Type 0) → Option Frame → Type 0
+IsJoinOf some None = (g : Frame) → some g → ⊥
+IsJoinOf some (Some f) = IsInCommon some f
+
+-- what is known at slot t is what all that comes in there has in common, and nothing where nothing comes in
+abbrev pub IsKnownAt : List Form → (ℕ → Option Frame) → ℕ → Type 0
+IsKnownAt p known t = IsJoinOf (ComesTo p known t) (known t)
+
+-- ---- refusals
 
 -- under the joined frames, this is the first rule of kinds that is broken: at the lowest slot, and there the lowest
 pub record FirstBrokenKind (p : List Form) (l : Signature) (s : ℕ) (why : VerifyFault) : Type 0 where
   pub frames : Frames
-  pub joined : (i : Form) (t : ℕ) → StandsAt p i t → t ≤ s → IsJoin p frames t
+  pub joined : (i : Form) (t : ℕ) → StandsAt p i t → t ≤ s → IsKnownAt p (λ u. Some (frames u)) t
   pub before : (i : Form) (t : ℕ) → StandsAt p i t → t < s → first_broken l i (frames t) ≡ None
   pub instruction : Form
   pub stands : StandsAt p instruction s
