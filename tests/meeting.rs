@@ -1,5 +1,7 @@
 //! The sessions of `stress` run side by side: two of them wait for each other before they make their first calls.
 
+ghost use Rattle.std.specs.Prelude.{⊤};
+
 use engine::{Folder, Inputs, Notes, perform};
 use oplog::Config;
 use replaying::Replay;
@@ -24,6 +26,8 @@ pub(crate) struct Programs;
 
 impl Folder for Programs {
     type File = &'static [u8];
+
+    ghost can_fail = { λ _ _. ⊤ };
 
     fn open(&self, _name: &str) -> Option<&'static [u8]> {
         Some(BUMP)

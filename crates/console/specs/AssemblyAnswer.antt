@@ -1,7 +1,7 @@
 -- What `asm`, `dis` and `encode` answer, as a function of what was read; and `dis --slots`, where two columns stand before each line: the slot
 -- and the bytes of its instruction.
 use Rattle.std.specs.Option.{option_map_or}
-use Rattle.std.specs.Prelude.{ℕ, Bool, ◌+◌, min, List, [], ◌∷◌, ◌++◌, length, drop, codes, decimal, Option, Some, None, if◌then◌else◌}
+use Rattle.std.specs.Prelude.{ℕ, Bool, ◌&&◌, ◌+◌, min, List, [], ◌∷◌, ◌++◌, length, drop, codes, decimal, Option, Some, None, if◌then◌else◌}
 use Rattle.hex.specs.Hex.{encode_lower}
 use Rattle.insn.specs.declared.instruction.Form.{Form}
 use Rattle.insn.specs.Encoding.{program_bytes}
@@ -18,7 +18,8 @@ use Rattle.encoding.specs.Encoded.{encoded_text}
 use Rattle.engine.specs.declared.replies.Verdict.TheVariants as verdicts
 use Rattle.engine.specs.Reading.{TextsRead}
 use Rattle.engine.specs.Answer.{Answer, not_text}
-use Rattle.console.specs.CheckAnswer.{good_or_refused}
+use Rattle.engine.specs.Parted.{PartedAnswer, apart, whole}
+use Rattle.console.specs.CheckAnswer.{good_or_refused, is_good}
 
 -- ---- `asm`
 
@@ -27,11 +28,18 @@ abbrev pub hex_text : List Form → List ℕ
 hex_text program = encode_lower (program_bytes program)
 
 -- the program's bytes in one line; or the first bad line of the assembler text, and what is wrong with it
+abbrev pub program_answer : List ℕ → Answer
+program_answer source =
+    good_or_refused (λ program. hex_text program ++ codes "\n")
+    (λ e. codes "line " ++ (decimal e.line ++ (codes ": A" ++ (decimal (assembling.fault_number e.why) ++ codes "\n")))) (assembled source)
+
 abbrev pub asm_answer : Option TextsRead → Answer
 asm_answer None = not_text
-asm_answer (Some t) =
-    good_or_refused (λ program. hex_text program ++ codes "\n")
-    (λ e. codes "line " ++ (decimal e.line ++ (codes ": A" ++ (decimal (assembling.fault_number e.why) ++ codes "\n")))) (assembled t.file)
+asm_answer (Some t) = program_answer t.file
+
+-- what is written, and the line that goes elsewhere, where that is asked for: a program's, and no refusal
+abbrev pub asm_parted : Bool → Option TextsRead → PartedAnswer
+asm_parted is_elsewhere t = if is_elsewhere && is_good (asm_answer t).verdict then apart (asm_answer t) else whole (asm_answer t)
 
 -- ---- `dis`
 
@@ -67,6 +75,10 @@ encode_refusal_text e =
     codes "line " ++ (decimal e.line ++ (codes " column " ++ (decimal e.fault.column ++ (codes ": wanted " ++ (wanted_text e.fault.wanted ++ codes "\n")))))
 
 -- the script
-abbrev pub encode_answer : Option TextsRead → Answer
-encode_answer None = not_text
-encode_answer (Some t) = good_or_refused (λ script. script) encode_refusal_text (encoded_text t.file)
+abbrev pub calls_answer : List ℕ → Answer
+calls_answer calls = good_or_refused (λ script. script) encode_refusal_text (encoded_text calls)
+
+-- what is written, and the line that goes elsewhere: that of a refused text of calls
+abbrev pub encode_parted : Option TextsRead → PartedAnswer
+encode_parted None = whole not_text
+encode_parted (Some t) = if is_good (calls_answer t.file).verdict then whole (calls_answer t.file) else apart (calls_answer t.file)

@@ -1,7 +1,8 @@
 -- What `check` and `explain` answer, as a function of the manifest and of the files that were read.
-use Rattle.std.specs.Prelude.{◌≡◌, ℕ, false, List, ◌++◌, Option, Some, None, IfSome, Result, Ok, Err}
+use Rattle.std.specs.Prelude.{◌≡◌, ℕ, Bool, true, false, List, ◌++◌, Option, Some, None, IfSome, Result, Ok, Err}
 use Rattle.loader.specs.Loading.{loaded}
 use Rattle.explain.specs.Manifest.{has_program, no_program, TellsOfManifest}
+use Rattle.engine.specs.declared.replies.Verdict.{Verdict}
 use Rattle.engine.specs.declared.replies.Verdict.TheVariants as verdicts
 use Rattle.engine.specs.Texts.{programs_text, refusal_text}
 use Rattle.engine.specs.Answer.{Answer, not_text}
@@ -11,6 +12,12 @@ use Rattle.engine.specs.Reading.{TextsRead}
 abbrev pub good_or_refused : {X E : Type 0} → (X → List ℕ) → (E → List ℕ) → Result X E → Answer
 good_or_refused good refused (Ok x) = record { text = good x; verdict = verdicts.Good }
 good_or_refused good refused (Err e) = record { text = refused e; verdict = verdicts.Refused }
+
+-- whether all is good
+abbrev pub is_good : Verdict → Bool
+is_good verdicts.Good = true
+is_good verdicts.Refused = false
+is_good verdicts.Differs = false
 
 -- `check`: a line for each program
 abbrev pub check_answer : Option TextsRead → Answer

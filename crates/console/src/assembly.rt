@@ -3,14 +3,15 @@
 ghost use Rattle.std.specs.Prelude.{◌≡◌, ◌≤◌, ◌++◌, IfOk, OnOk};
 ghost use Rattle.insn.specs.declared.instruction.TheConstants.{MAX_SLOTS};
 ghost use Rattle.insn.specs.Layout.{size};
-ghost use Rattle.console.specs.AssemblyAnswer.{asm_answer, dis_answer, encode_answer, encode_refusal_text, hex_text, slot_column, slot_line, slots_text};
+ghost use Rattle.console.specs.AssemblyAnswer.{asm_parted, calls_answer, dis_answer, encode_parted, encode_refusal_text, hex_text, program_answer, slot_column, slot_line, slots_text};
 ghost use Rattle.engine.specs.Notes.{IsQuiet};
+ghost use Rattle.engine.specs.Parted.{parted_of};
 ghost use Rattle.engine.specs.Report.{answer_of};
 
 use asm::AsmError;
 use encoding::{EncodeError, EncodeRefusal};
 use engine::texts::{put_numbered, put_pair};
-use engine::{Command, Gathered, Notes, Reply, Telling, not_text};
+use engine::{Command, Gathered, Notes, Parted, Reply, Telling, Verdict, not_text};
 use explain::explain_assembly;
 use insn::{DecodeError, Insn, decode};
 use itoa::Buffer;
@@ -22,7 +23,11 @@ use text::spaced_hex;
 /// Answers with the program's bytes in hexadecimal digits with lower-case letters, in one line, or with the one line of
 /// the first refusal, `line N: A4`. Where reasons are to be told, it tells of a text that is refused where it is wrong
 /// and what is wanted there.
-pub struct Assemble;
+#[derive(Clone, Copy)]
+pub struct Assemble {
+    /// Whether the line of a program goes elsewhere. A refusal is written even so.
+    pub is_elsewhere: bool,
+}
 
 /// Disassembles a program file, in which spaces, tabs, carriage returns and line feeds are skipped.
 ///
@@ -37,7 +42,9 @@ pub struct Disassemble {
 /// Encodes calls whose arguments are names of kinds and values.
 ///
 /// Answers with the script that says the same calls, line by line, or with one line that has the first place that is
-/// wrong, `line 3 column 9: wanted a number from 0 to 255`.
+/// wrong, `line 3 column 9: wanted a number from 0 to 255`. That line goes elsewhere, so that no script holds it; that a
+/// text is not UTF-8 is written.
+#[derive(Clone, Copy)]
 pub struct Encode;
 
 // A program's bytes in hexadecimal digits.
@@ -58,31 +65,42 @@ fn tell_wanted(alloc: Global, source: &str, notes: &mut Notes) -> Result<(), All
     Ok(())
 }
 
+// What is answered to an assembler text.
+fn assembled(alloc: Global, source: &str) -> Result<Reply, AllocError>
+    ensures { IfOk result (λ r. answer_of r ≡ program_answer source.now) }
+{
+    match asm::assemble(alloc, source) {
+        Ok(program) => {
+            let mut line = hex_text(alloc, &program)?;
+            line.extend_from_slice(b"\n")?;
+            Ok(Reply::good(line))
+        }
+        Err(AsmError::NoMemory) => Err(AllocError),
+        Err(AsmError::Refused(refusal)) => {
+            let mut line = Vec::new(alloc);
+            let why = refusal.why.number() as u64;
+            put_pair(&mut line, b"line ", refusal.line as u64, b": A", why)?;
+            Ok(Reply::refused(line))
+        }
+    }
+}
+
 impl Command for Assemble {
-    type Made = Reply;
+    type Made = Parted;
 
-    ghost may_make = { λ _ t r. answer_of r ≡ asm_answer t };
+    ghost may_make = { λ c t p. parted_of p ≡ asm_parted c.is_elsewhere t };
 
-    fn make(&self, alloc: Global, read: Gathered, notes: &mut Notes) -> Result<Reply, AllocError> {
+    fn make(&self, alloc: Global, read: Gathered, notes: &mut Notes) -> Result<Parted, AllocError> {
         let Ok(texts) = read else {
-            return not_text(alloc);
+            return Ok(Parted::whole(not_text(alloc)?));
         };
         let source = texts.file.as_str();
         tell_wanted(alloc, source, notes)?;
-        match asm::assemble(alloc, source) {
-            Ok(program) => {
-                let mut line = hex_text(alloc, &program)?;
-                line.extend_from_slice(b"\n")?;
-                Ok(Reply::good(line))
-            }
-            Err(AsmError::NoMemory) => Err(AllocError),
-            Err(AsmError::Refused(refusal)) => {
-                let mut line = Vec::new(alloc);
-                let why = refusal.why.number() as u64;
-                put_pair(&mut line, b"line ", refusal.line as u64, b": A", why)?;
-                Ok(Reply::refused(line))
-            }
-        }
+        let reply = assembled(alloc, source)?;
+        Ok(match reply.verdict {
+            Verdict::Good if self.is_elsewhere => Parted::apart(alloc, reply),
+            _ => Parted::whole(reply),
+        })
     }
 }
 
@@ -163,21 +181,37 @@ fn encode_refusal_text(alloc: Global, refusal: EncodeRefusal) -> Result<Vec<u8>,
     Ok(line)
 }
 
-impl Command for Encode {
-    type Made = Reply;
-
-    ghost may_make = { λ _ t r. answer_of r ≡ encode_answer t };
-
-    fn make(&self, alloc: Global, read: Gathered, _notes: &mut Notes) -> Result<Reply, AllocError> {
-        let Ok(texts) = read else {
-            return not_text(alloc);
-        };
-        match encoding::encode(alloc, texts.file.as_str()) {
-            Ok(script) => Ok(Reply::good(script)),
-            Err(EncodeError::NoMemory) => Err(AllocError),
-            Err(EncodeError::Refused(refusal)) => {
-                Ok(Reply::refused(encode_refusal_text(alloc, refusal)?))
-            }
+// What is answered to a text of calls.
+fn encoded(alloc: Global, calls: &str) -> Result<Reply, AllocError>
+    ensures { IfOk result (λ r. answer_of r ≡ calls_answer calls.now) }
+{
+    match encoding::encode(alloc, calls) {
+        Ok(script) => Ok(Reply::good(script)),
+        Err(EncodeError::NoMemory) => Err(AllocError),
+        Err(EncodeError::Refused(refusal)) => {
+            Ok(Reply::refused(encode_refusal_text(alloc, refusal)?))
         }
+    }
+}
+
+impl Command for Encode {
+    type Made = Parted;
+
+    ghost may_make = { λ _ t p. parted_of p ≡ encode_parted t };
+
+    fn make(
+        &self,
+        alloc: Global,
+        read: Gathered,
+        _notes: &mut Notes,
+    ) -> Result<Parted, AllocError> {
+        let Ok(texts) = read else {
+            return Ok(Parted::whole(not_text(alloc)?));
+        };
+        let reply = encoded(alloc, texts.file.as_str())?;
+        Ok(match reply.verdict {
+            Verdict::Good => Parted::whole(reply),
+            _ => Parted::apart(alloc, reply),
+        })
     }
 }

@@ -7,3 +7,4 @@ pub mod GatheredFiles
 pub mod Gatherings
 pub mod Reports
 pub mod Openings
+pub mod InTurn

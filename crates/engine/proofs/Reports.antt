@@ -1,6 +1,7 @@
 -- What a command did, from what it made.
-use Rattle.std.proofs.Common.{◌≡◌, inl, inr, ℕ, List, Option, Result, Ok, Err, refl, sym, ap, subst}
+use Rattle.std.proofs.Common.{◌≡◌, inl, inr, ℕ, List, Option, Some, None, Result, Ok, Err, refl, sym, ap, subst, ◌∙◌}
 use Rattle.std.specs.Prelude.{IfOk}
+use Rattle.std.specs.Io.KnownBytes.{Appends}
 use Rattle.engine.specs.declared.replies.Status.{Status}
 use Rattle.engine.specs.declared.replies.Status.TheVariants as statuses
 use Rattle.engine.specs.declared.replies.Verdict.{Verdict}
@@ -12,7 +13,7 @@ use Rattle.engine.specs.Texts.{no_memory_line}
 use Rattle.engine.specs.ReadFaults.{IfCannotRead}
 use Rattle.engine.specs.Answer.{Answer}
 use Rattle.engine.specs.Report.{Failed, Sends}
-use Rattle.engine.specs.Engine.{Reports, Writes}
+use Rattle.engine.specs.Engine.{Performs, Reports, Writes, handed_back}
 
 module _ {M : Type 0} (answer : M → Answer) (Is : M → Type 0) (old new : Option (List ℕ)) where
   -- an answer that was sent, or broke off
@@ -43,3 +44,38 @@ module _ (P Q : Type 0) where
   failed_only statuses.NoMemory made told read = tt
   failed_only statuses.CannotRead made told read = subst (λ r. IfCannotRead r P) told read
   failed_only statuses.CannotWrite made told read = told
+
+-- ---- what is handed back too
+
+module _ {M : Type 0} (answer : M → Answer) (Is : M → Type 0) (old new : Option (List ℕ)) where
+  -- how a command ended, and what it handed back
+  abbrev Did : Status → Option M → Type 0
+  Did got back = Performs answer Is old new (record { status = got; made = back })
+
+  did : (got wanted : Status) (back same : Option M) → got ≡ wanted → back ≡ same → Did wanted same → Did got back
+  did got wanted back same g b p = subst (λ s. Did s back) (sym g) (subst (λ o. Did wanted o) (sym b) p)
+
+  whole_back : (got : Status) (back : Option M) (m : M) → Is m → got ≡ status_of (answer m).verdict → Appends old new (answer m).text → back ≡ handed_back got (Ok m) → Did got back
+  whole_back got back m is ended wrote handed = by_verdict (answer m).verdict refl
+    where
+      by_verdict : (v : Verdict) → (answer m).verdict ≡ v → Did got back
+      by_verdict verdicts.Good v = let at : got ≡ statuses.Good = ended ∙ ap status_of v in did got statuses.Good back (Some m) at (rw at at handed) (is, sym (ap status_of v), wrote)
+      by_verdict verdicts.Refused v = let at : got ≡ statuses.Refused = ended ∙ ap status_of v in did got statuses.Refused back (Some m) at (rw at at handed) (is, sym (ap status_of v), wrote)
+      by_verdict verdicts.Differs v = let at : got ≡ statuses.Differs = ended ∙ ap status_of v in did got statuses.Differs back (Some m) at (rw at at handed) (is, sym (ap status_of v), wrote)
+
+  pub performs : (got : Status) (back : Option M) (made : Result M ReadFault) → Writes answer old new got made → back ≡ handed_back got made → IfOk made Is → Did got back
+  performs got back (Ok m) (inl whole) handed is = whole_back got back m is whole.0 whole.1 handed
+  performs got back (Ok m) (inr broke) handed is = did got statuses.CannotWrite back None broke.0 (rw broke.0 at handed) (inl (m, is, broke.1))
+  performs got back (Err faults.NoMemory) (inl whole) handed is = did got statuses.NoMemory back None whole.0 (rw whole.0 at handed) whole.1
+  performs got back (Err faults.NoMemory) (inr broke) handed is = did got statuses.CannotWrite back None broke.0 (rw broke.0 at handed) (inr broke.1)
+  performs got back (Err faults.CannotRead) wrote handed is = did got statuses.CannotRead back None wrote.0 (rw wrote.0 at handed) wrote.1
+
+  -- the same without what was handed back
+  pub performed : (got : Status) (back : Option M) → Did got back → Reports answer Is old new got
+  performed got (Some m) did = sent answer Is old new got m did.0 (inl (did.1, did.2))
+  performed statuses.NoMemory None did = did
+  performed statuses.CannotRead None did = did
+  performed statuses.CannotWrite None did = did
+  performed statuses.Good None did = absurd did
+  performed statuses.Refused None did = absurd did
+  performed statuses.Differs None did = absurd did

@@ -11,6 +11,7 @@ pub mod StateAnswer
 pub mod Opening
 pub mod Notes
 pub mod Report
+pub mod Parted
 pub mod Engine
 pub mod Transfer
 -- The steps between reading and writing.

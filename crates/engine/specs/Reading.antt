@@ -1,5 +1,5 @@
 -- What a command reads, and what it has read then.
-use Rattle.std.specs.Prelude.{◌⊎◌, ℕ, not, List, [], ◌∷◌, ◌++◌, map, codes, Option, Some, None, is_some, Result, Ok, Err, IfSome, IsSomeAnd, string_bytes, if◌then◌else◌}
+use Rattle.std.specs.Prelude.{◌≡◌, ◌⊎◌, ℕ, not, true, List, [], ◌∷◌, ◌++◌, map, codes, Option, Some, None, is_some, Result, Ok, Err, IfSome, IsSomeAnd, string_bytes, if◌then◌else◌}
 use Rattle.std.specs.Str.{is_utf8}
 use Rattle.std.specs.List.{find}
 use Rattle.loader.specs.NamedFiles.{named_in}
@@ -78,9 +78,25 @@ texts_in (Err s) = None
 abbrev pub strange_text : Stranger → List ℕ × List ℕ
 strange_text s = (string_bytes s.name, s.bytes.items)
 
--- ---- what failed
+-- ---- which read failed
 
--- a read of one of these has failed
-abbrev pub AnyFailed : {F R X : Type 0} → (R → Type 0) → (X → Type 0) → Inputs F R → Type 0
-AnyFailed {F} {R} {X} has_failed file_failed i =
-    IsSomeAnd i.manifest has_failed ⊎ ((x : X) × file_failed x) ⊎ IsSomeAnd i.file has_failed ⊎ IsSomeAnd i.state has_failed ⊎ IsSomeAnd i.history has_failed
+-- what is known of these bytes is UTF-8
+abbrev pub IsText : Option (List ℕ) → Type 0
+IsText bytes = IfSome bytes (λ b. is_utf8 b ≡ true)
+
+-- the read of this text failed; or it is UTF-8, and the same is so of a text after it
+abbrev pub FailedOr : {R : Type 0} → (R → Option (List ℕ)) → (R → Type 0) → Option R → Option R → Type 0 → Type 0
+FailedOr remaining has_failed old new After = IsSomeAnd new has_failed ⊎ (IsText (given_text remaining old) × After)
+
+-- the read of one of these files failed, and those before it are UTF-8; or all are, and the same is so of a text after them
+abbrev pub FileFailedOr : (List ℕ → Type 0) → Option Contents → List (List ℕ) → Type 0 → Type 0
+FileFailedOr can_fail folder [] After = After
+FileFailedOr can_fail folder (name ∷ names) After = can_fail name ⊎ (IfSome folder (λ h. IsText (h name)) × FileFailedOr can_fail folder names After)
+
+-- a read failed, and all texts before it in the order of reading are UTF-8
+abbrev pub FailedInTurn : {F R : Type 0} → (F → Option Contents) → (F → List ℕ → Type 0) → (R → Option (List ℕ)) → (R → Type 0) → Inputs F R → Inputs F R → Type 0
+FailedInTurn holds can_fail remaining has_failed old new =
+    FailedOr remaining has_failed old.manifest new.manifest
+    ((names : List (List ℕ)) × IfSome (given_text remaining old.manifest) (λ m. names ≡ named_in m)
+    × FileFailedOr (can_fail old.folder.now) (holds old.folder.now) names
+    (FailedOr remaining has_failed old.file new.file (FailedOr remaining has_failed old.state new.state (IsSomeAnd new.history has_failed))))

@@ -15,10 +15,6 @@ use Rattle.engine.specs.Reading.{Given, first_stranger, named_texts, read, stran
 abbrev pub first_strange : Files → Option (List ℕ × List ℕ)
 first_strange texts = find (λ text. not (is_utf8 text.1)) texts
 
--- some file is so
-abbrev pub SomeFile : {X : Type 0} → (X → Type 0) → Type 0
-SomeFile {X} P = (x : X) × P x
-
 -- what a fault says of what was read, if it comes of that
 abbrev pub FailsAs : Unread → (Stranger → Type 0) → Type 0
 FailsAs faults.NoMemory P = Unit {0}

@@ -19,6 +19,8 @@ impl<'a> Source for Held<'a> {
 
     ghost has_failed = { λ _. ⊥ };
 
+    ghost can_fail = { λ _. ⊥ };
+
     fn read_whole(&mut self, alloc: Global) -> Result<Vec<u8>, ReadFault> {
         let mut bytes = Vec::new(alloc);
         match bytes.extend_from_slice(self.0) {
@@ -36,6 +38,8 @@ impl<'a> Folder for HeldFiles<'a> {
     type File = Held<'a>;
 
     ghost holds = { λ f. Some (found_file f.0.now) };
+
+    ghost can_fail = { λ _ _. ⊥ };
 
     fn open(&self, name: &str) -> Option<Held<'a>> {
         let all: &'a [(&'a str, &'a [u8])] = self.0;

@@ -4,6 +4,7 @@
 
 pub mod in_memory;
 mod opening;
+mod parted;
 mod performing;
 mod reading;
 mod replies;
@@ -12,7 +13,10 @@ mod transfer;
 
 pub use in_memory::{Held, HeldFiles, Page};
 pub use opening::{Loaded, Opened, load_texts, open_texts, places_within};
-pub use performing::{Command, perform, prepare, report, write_text};
+pub use parted::{Destination, Parted};
+pub use performing::{
+    Command, Performed, hand_back, perform, perform_kept, prepare, report, write_text,
+};
 pub use reading::{Folder, Gathered, Inputs, NamedText, Stranger, Texts, gather, lent};
 pub use replies::{Answering, Notes, Reply, Status, Telling, Verdict, not_text, sizes_refused};
 pub use transfer::{CannotRead, CannotWrite, Feed, ReadFault, Sink, Source};

@@ -5,9 +5,9 @@ ghost use Rattle.engine.specs.declared.replies.Status.TheVariants as statuses;
 ghost use Rattle.engine.specs.declared.transfer.ReadFault.TheVariants as faults;
 ghost use Rattle.engine.specs.Notes.{IsQuiet};
 ghost use Rattle.engine.specs.ReadFaults.{IfCannotRead};
-ghost use Rattle.engine.specs.Reading.{TextsRead, AnyFailed, IfGiven, read, texts_in};
+ghost use Rattle.engine.specs.Reading.{FailedInTurn, TextsRead, IfGiven, read, texts_in};
 ghost use Rattle.engine.specs.Report.{Failed, Sends};
-ghost use Rattle.engine.specs.Engine.{Reports, ReportsRead, Writes};
+ghost use Rattle.engine.specs.Engine.{Performs, PerformsRead, Reports, ReportsRead, Writes, handed_back};
 
 use crate::reading::{Folder, Gathered, Inputs, gather};
 use crate::replies::{Answering, Notes, Status, status_of};
@@ -50,8 +50,8 @@ pub fn prepare<C: Command, F: Folder, R: Source + Drop>(
 ) -> Result<C::Made, ReadFault>
     // Where the readers and the folder tell their bytes, it is made of those.
     ensures known { IfGiven F.holds R.remaining inputs.old (λ g. IfOk result (C.may_make command.now (read g))) }
-    // It says that a read failed only after one did.
-    ensures failed { IfCannotRead result (AnyFailed R.has_failed F.File.has_failed inputs.new) }
+    // It says that a read failed only after one did, and all texts before that one are UTF-8.
+    ensures failed { IfCannotRead result (FailedInTurn F.holds F.can_fail R.remaining R.has_failed inputs.old inputs.new) }
     // Whatever they give.
     ensures some { IfOk result (λ m. (t : Option TextsRead) × C.may_make command.now t m) }
     // Where nothing is to be told beside the answer, nothing is.
@@ -87,9 +87,55 @@ pub fn report<M: Answering, W: Sink>(writer: &mut W, made: &Result<M, ReadFault>
     }
 }
 
-/// Does a command: reads its texts, and writes what it answers to them. Says how it ended.
+/// What a command did.
+#[derive(Drop)]
+pub struct Performed<M: Drop> {
+    /// How it ended.
+    pub status: Status,
+    /// What it made, where all of its answer was written.
+    pub made: Option<M>,
+}
+
+/// Writes the answer of what was made, and hands that back where all of it was written.
+pub fn hand_back<M: Answering, W: Sink>(writer: &mut W, made: Result<M, ReadFault>) -> Performed<M>
+    ensures written { Writes M.answer (W.contents writer.old) (W.contents writer.new) result.status made }
+    ensures handed { result.made ≡ handed_back result.status made }
+    ensures failed { Failed result.status (made ≡ Err faults.CannotRead) (W.has_failed writer.new) }
+{
+    let status = report(writer, &made);
+    let made = match status {
+        Status::CannotWrite => None,
+        _ => made.ok(),
+    };
+    Performed { status, made }
+}
+
+/// Does a command: reads its texts, and writes what it answers to them. Says how it ended, and hands back what it made.
 ///
 /// Each text is read whole before anything is written. Where a read fails, nothing is written.
+pub fn perform_kept<C: Command, F: Folder, R: Source + Drop, W: Sink>(
+    alloc: Global,
+    command: &C,
+    inputs: &mut Inputs<'_, F, R>,
+    notes: &mut Notes,
+    writer: &mut W,
+) -> Performed<C::Made>
+where
+    C::Made: Answering,
+    // Where the readers and the folder tell their bytes, it is made of those, and its answer is what was written.
+    ensures written { IfGiven F.holds R.remaining inputs.old (PerformsRead C.Made.answer (C.may_make command.now) W.contents writer.old writer.new result) }
+    // It says that a read or a write failed only after one did, and of a read that all texts before that one are UTF-8.
+    ensures failed { Failed result.status (FailedInTurn F.holds F.can_fail R.remaining R.has_failed inputs.old inputs.new) (W.has_failed writer.new) }
+    // Whatever they give, or where they fail.
+    ensures ended { Performs C.Made.answer (λ m. (t : Option TextsRead) × C.may_make command.now t m) (W.contents writer.old) (W.contents writer.new) result }
+    // Where nothing is to be told beside the answer, nothing is.
+    ensures quiet { IsQuiet notes.old notes.new }
+{
+    let made = prepare(alloc, command, inputs, notes);
+    hand_back(writer, made)
+}
+
+/// The same of a command of which nothing is kept.
 pub fn perform<C: Command, F: Folder, R: Source + Drop, W: Sink>(
     alloc: Global,
     command: &C,
@@ -101,13 +147,12 @@ where
     C::Made: Answering,
     // Where the readers and the folder tell their bytes, what is written is what the command answers to those.
     ensures written { IfGiven F.holds R.remaining inputs.old (ReportsRead C.Made.answer (C.may_make command.now) W.contents writer.old writer.new result) }
-    // It says that a read or a write failed only after one did.
-    ensures failed { Failed result (AnyFailed R.has_failed F.File.has_failed inputs.new) (W.has_failed writer.new) }
+    // It says that a read or a write failed only after one did, and of a read that all texts before that one are UTF-8.
+    ensures failed { Failed result (FailedInTurn F.holds F.can_fail R.remaining R.has_failed inputs.old inputs.new) (W.has_failed writer.new) }
     // Whatever they give, or where they fail.
     ensures ended { Reports C.Made.answer (λ m. (t : Option TextsRead) × C.may_make command.now t m) (W.contents writer.old) (W.contents writer.new) result }
     // Where nothing is to be told beside the answer, nothing is.
     ensures quiet { IsQuiet notes.old notes.new }
 {
-    let made = prepare(alloc, command, inputs, notes);
-    report(writer, &made)
+    perform_kept(alloc, command, inputs, notes, writer).status
 }

@@ -1,13 +1,13 @@
 // What a command reads: a manifest and the files that it names, the file that it is about, a state and a history.
 
-ghost use Rattle.std.specs.Prelude.{◌≡◌, Option, None, Some, IfOk, IfErr, IfSome, IsSomeAnd, MatchOption, MatchResult, string_bytes};
+ghost use Rattle.std.specs.Prelude.{◌≡◌, ℕ, List, Option, None, Some, IfOk, IfErr, IfSome, IsSomeAnd, MatchOption, MatchResult, string_bytes};
 ghost use Rattle.loader.specs.NamedFiles.{named_in};
 ghost use Rattle.loader.specs.ProgramFiles.{files_of};
 ghost use Rattle.engine.specs.declared.reading.Unread.TheVariants as faults;
 ghost use Rattle.engine.specs.Files.{Contents};
 ghost use Rattle.engine.specs.ReadFaults.{IfCannotRead};
-ghost use Rattle.engine.specs.Reading.{AnyFailed, IfGiven, first_stranger, given_text, named_texts, read, strange_text, texts_in};
-ghost use Rattle.engine.specs.Unread.{AreRead, FailsAs, FoundAs, Gathered, IfUnread, IsStrangeFile, SomeFile, TextIs};
+ghost use Rattle.engine.specs.Reading.{FailedInTurn, FileFailedOr, IfGiven, first_stranger, given_text, named_texts, read, strange_text, texts_in};
+ghost use Rattle.engine.specs.Unread.{AreRead, FailsAs, FoundAs, Gathered, IfUnread, IsStrangeFile, TextIs};
 
 use crate::transfer::{ReadFault, Source};
 use loader::named_files;
@@ -21,10 +21,14 @@ pub trait Folder {
     // The bytes of each file by its name, where they are known.
     ghost holds: { Self → Option Contents } = { λ _. None };
 
+    // What is so where a read of the file of this name can fail; what is never so, where none can.
+    ghost can_fail: { Self → List ℕ → Type 0 };
+
     /// The file of this name; `None` where it cannot be opened.
     fn open(&self, name: &str) -> Option<Self::File>
-        ensures { IfSome (holds self.now) (λ h. MatchOption result (h name.now ≡ None)
-            (λ f. IsSomeAnd (Self.File.remaining f) (λ bytes. h name.now ≡ Some bytes))) };
+        ensures known { IfSome (holds self.now) (λ h. MatchOption result (h name.now ≡ None)
+            (λ f. IsSomeAnd (Self.File.remaining f) (λ b. h name.now ≡ Some b))) }
+        ensures could { IfSome result (λ f. Self.File.can_fail f → can_fail self.now name.now) };
 }
 
 /// Where the texts of a command are, in the order in which they are read. One that is absent is empty.
@@ -146,6 +150,7 @@ fn read_text<R: Source>(
 ) -> Result<String, Unread>
     ensures text { IfSome (R.remaining reader.old) (TextIs name.now result) }
     ensures failed { IfUnread result (R.has_failed reader.new) }
+    ensures could { IfUnread result (R.can_fail reader.old) }
 {
     let read = match reader.read_whole(alloc) {
         Ok(read) => read,
@@ -185,7 +190,7 @@ fn file_text<F: Folder>(
     name: &str,
 ) -> Result<Option<String>, Unread>
     ensures found { IfSome (F.holds folder.now) (λ h. MatchResult result (λ t. FoundAs t (h name.now)) (λ e. FailsAs e (IsStrangeFile name.now (h name.now)))) }
-    ensures failed { IfUnread result (SomeFile F.File.has_failed) }
+    ensures failed { IfUnread result (F.can_fail folder.now name.now) }
 {
     match folder.open(name) {
         None => Ok(None),
@@ -203,7 +208,7 @@ fn gather_files<F: Folder>(
     manifest: &str,
 ) -> Result<Vec<NamedText>, Unread>
     ensures gathered { IfSome (F.holds folder.now) (λ h. Gathered h (named_in manifest.now) result) }
-    ensures failed { IfUnread result (SomeFile F.File.has_failed) }
+    ensures failed { IfUnread result (FileFailedOr (F.can_fail folder.now) (F.holds folder.now) (named_in manifest.now) ⊥) }
 {
     let names = named_files(alloc, manifest)?;
     let mut files = Vec::new(alloc);
@@ -222,7 +227,7 @@ fn gather_texts<F: Folder, R: Source + Drop>(
     inputs: &mut Inputs<'_, F, R>,
 ) -> Result<Texts, Unread>
     ensures read { IfGiven F.holds R.remaining inputs.old (AreRead result) }
-    ensures failed { IfUnread result (AnyFailed R.has_failed F.File.has_failed inputs.new) }
+    ensures failed { IfUnread result (FailedInTurn F.holds F.can_fail R.remaining R.has_failed inputs.old inputs.new) }
 {
     let manifest = read_given(alloc, "the manifest", &mut inputs.manifest)?;
     let files = gather_files(alloc, inputs.folder, manifest.as_str())?;
@@ -253,8 +258,8 @@ pub fn gather<F: Folder, R: Source + Drop>(
     ensures read { IfGiven F.holds R.remaining inputs.old (λ g. IfOk result (λ r. texts_in r ≡ read g)) }
     // What is not UTF-8 is the first in the order of reading.
     ensures first { IfGiven F.holds R.remaining inputs.old (λ g. IfOk result (λ r. IfErr r (λ s. first_stranger g ≡ Some (strange_text s)))) }
-    // It says that a read failed only after one did.
-    ensures failed { IfCannotRead result (AnyFailed R.has_failed F.File.has_failed inputs.new) }
+    // It says that a read failed only after one did, and all texts before that one are UTF-8.
+    ensures failed { IfCannotRead result (FailedInTurn F.holds F.can_fail R.remaining R.has_failed inputs.old inputs.new) }
 {
     match gather_texts(alloc, inputs) {
         Ok(texts) => Ok(Ok(texts)),

@@ -1,6 +1,6 @@
 // What a command makes that is written, how the command ends, and what is told beside.
 
-ghost use Rattle.std.specs.Prelude.{◌≡◌, IfOk, option_map};
+ghost use Rattle.std.specs.Prelude.{◌≡◌, [], IfOk, option_map};
 ghost use Rattle.engine.specs.declared.replies.Telling.TheVariants.{Nothing};
 ghost use Rattle.engine.specs.declared.replies.Verdict.TheVariants as verdicts;
 ghost use Rattle.engine.specs.Answer.{Answer, not_text};
@@ -176,6 +176,7 @@ impl Notes {
     /// Nothing is told, and nothing is to be told.
     pub fn none(alloc: Global) -> Notes
         ensures nothing { result.telling ≡ Nothing }
+        ensures empty { result.text.items ≡ [] }
     {
         Notes::new(alloc, Telling::Nothing)
     }
@@ -183,6 +184,7 @@ impl Notes {
     /// Nothing is told yet.
     pub fn new(alloc: Global, telling: Telling) -> Notes
         ensures telling { result.telling ≡ telling }
+        ensures empty { result.text.items ≡ [] }
     {
         let text = Vec::new(alloc);
         Notes { telling, text }

@@ -29,10 +29,14 @@ pub trait Source {
     // What is so once a read has failed; what is never so, where none can.
     ghost has_failed: { Self → Type 0 } = { λ _. ⊤ };
 
+    // What is so of one whose read can fail; what is never so, where none can.
+    ghost can_fail: { Self → Type 0 } = { λ _. ⊤ };
+
     /// All that it has left.
     fn read_whole(&mut self, alloc: Global) -> Result<Vec<u8>, ReadFault>
         ensures whole { IfOk result (λ v. IfSome (remaining self.old) (λ bytes. v.items ≡ bytes)) }
-        ensures failed { IfCannotRead result (has_failed self.new) };
+        ensures failed { IfCannotRead result (has_failed self.new) }
+        ensures could { IfCannotRead result (can_fail self.old) };
 }
 
 /// What takes a text whole. Any writer is one.

@@ -1,29 +1,24 @@
 -- What stands on the page, by how the command ended.
-use Rattle.std.proofs.Common.{◌≡◌, ◌∙◌, ◌⊎◌, inl, inr, [], Option, Some, None, true, ap}
-use Rattle.std.specs.Prelude.{IsSomeAnd}
+use Rattle.std.proofs.Common.{◌≡◌, ◌∙◌, [], Option, Some, true, ap}
 use Rattle.engine.specs.declared.replies.Status.{Status}
 use Rattle.engine.specs.declared.replies.Status.TheVariants as statuses
 use Rattle.engine.specs.declared.replies.Verdict.TheVariants as verdicts
+use Rattle.engine.specs.declared.in_memory.Held.{Held}
+use Rattle.engine.specs.declared.in_memory.HeldFiles.{HeldFiles}
 use Rattle.engine.specs.declared.in_memory.Page.{Page}
 use Rattle.engine.specs.declared.reading.Inputs.{Inputs}
 use Rattle.engine.specs.Answer.{Answer}
 use Rattle.engine.specs.Engine.{Reports}
-use Rattle.engine.specs.Reading.{AnyFailed}
+use Rattle.engine.specs.Memory.{found_file}
+use Rattle.engine.specs.Reading.{FailedInTurn}
 use Rattle.engine.specs.Report.{Failed}
 use Rattle.engine.specs.Status.{status_of}
+use Rattle.engine.proofs.InTurn.{never_failed}
 use Rattle.example_answers.specs.Pages.{IsOnPage}
 
-none_of : {R : Type 0} (o : Option R) → IsSomeAnd o (λ _. ⊥) → ⊥
-none_of None never = never
-none_of (Some r) never = never
-
 -- of texts and files in memory none has failed
-pub none_failed : {F R X : Type 0} (i : Inputs F R) → AnyFailed {X = X} (λ _. ⊥) (λ _. ⊥) i → ⊥
-none_failed i (inl never) = none_of i.manifest never
-none_failed i (inr (inl file)) = file.1
-none_failed i (inr (inr (inl never))) = none_of i.file never
-none_failed i (inr (inr (inr (inl never)))) = none_of i.state never
-none_failed i (inr (inr (inr (inr never)))) = none_of i.history never
+pub none_failed : (old new : Inputs HeldFiles Held) → FailedInTurn (λ (f : HeldFiles). Some (found_file f.0.now)) (λ _ _. ⊥) (λ (s : Held). Some s.0.now) (λ _. ⊥) old new → ⊥
+none_failed old new = never_failed (λ (f : HeldFiles). Some (found_file f.0.now)) (λ (s : Held). Some s.0.now) old new
 
 -- of an answer that says that all is well, where no read fails
 pub on_page : {M : Type 0} (answer : M → Answer) (Is : M → Type 0) (Read : Type 0) → (Read → ⊥) → (status : Status) (page : Page) (good : Answer) → ((m : M) → Is m → answer m ≡ good) → good.verdict ≡ verdicts.Good

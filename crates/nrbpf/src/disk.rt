@@ -1,6 +1,6 @@
 // Files by their paths. One that cannot be opened or read is named on standard error, as `PATH: REASON`.
 
-ghost use Rattle.std.specs.Prelude.{IfOk};
+ghost use Rattle.std.specs.Prelude.{⊤, IfOk};
 ghost use Rattle.std.specs.Counts.{IsPrefixLen};
 
 use engine::Folder;
@@ -33,6 +33,8 @@ pub struct NamedFile<'a, R: Files + AllocGlobal + Eprint> {
 
 impl<'a, R: Files + AllocGlobal + Eprint> Folder for Disk<'a, R> {
     type File = NamedFile<'a, R>;
+
+    ghost can_fail = { λ _ _. ⊤ };
 
     fn open(&self, name: &str) -> Option<NamedFile<'a, R>> {
         let rt = self.rt;

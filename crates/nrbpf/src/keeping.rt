@@ -1,24 +1,41 @@
-// The commands that write elsewhere than to standard output, or say there what others write.
+// The commands that write elsewhere than to standard output: what they write there is what the proved calls write. Here their texts are put
+// into files, or said on standard error.
 
 use crate::disk::{DASH, LateFile};
-use crate::output::{Later, no_memory, put_behind, say_text};
+use crate::output::{Target, no_memory, put_after, say_text};
 use crate::tasks::Call;
 use console::{Assemble, Encode};
 use dumps::dump;
-use engine::texts::not_text;
 use engine::{
-    Folder, Inputs, Notes, ReadFault, Reply, Sink, Source, Status, Verdict, prepare, report,
+    Destination, Folder, Inputs, Notes, Parted, Performed, Sink, Source, Status, perform_kept,
 };
 use loader::StoreState;
 use oplog::Config;
-use running::Run;
+use running::{DumpedRun, Run};
 use serving::ServeEnd;
 use std::alloc::{AllocError, Global};
 use std::io::{Eprint, Input, Read, Write};
 use std::rt::{Clock, Files};
 use std::sync::Wait;
 use std::thread::Threads;
-use stress::{Counts, OpenGate, Stress, Stressed};
+use stress::{Counts, Leaving, OpenGate, Stress};
+
+// Where the text of a path goes: the path `-` is standard output.
+fn destination_of(path: Option<&str>) -> Destination {
+    match path {
+        None => Destination::Nowhere,
+        Some(path) if path == DASH => Destination::Writer,
+        Some(_) => Destination::Elsewhere,
+    }
+}
+
+// What a command handed back.
+fn elsewhere(made: Option<Parted>) -> Option<Vec<u8>> {
+    match made {
+        Some(made) => made.elsewhere,
+        None => None,
+    }
+}
 
 /// Assembles a text, into the file that a call names, if there is one, and says on standard error what is to be told of
 /// it. A refusal goes to the writer, and the file stays as it was.
@@ -28,25 +45,17 @@ pub fn assemble<R: Files + AllocGlobal + Eprint, F: Folder, I: Source + Drop, W:
     inputs: &mut Inputs<'_, F, I>,
     writer: &mut W,
 ) -> Status {
-    let alloc = rt.alloc();
-    let mut notes = Notes::new(alloc, call.telling);
-    let made = prepare(alloc, &Assemble, inputs, &mut notes);
-    let status = match (call.output, made) {
-        (Some(path), Ok(reply)) if path != DASH && matches!(reply.verdict, Verdict::Good) => {
-            match Later::new(alloc, path, reply.text) {
-                Ok(later) => later.put(rt, writer),
-                Err(_) => no_memory(writer),
-            }
-        }
-        (_, made) => report(writer, &made),
+    let Ok(target) = Target::of(rt.alloc(), call.output) else {
+        return no_memory(writer);
     };
+    let command = Assemble {
+        is_elsewhere: matches!(destination_of(call.output), Destination::Elsewhere),
+    };
+    let mut notes = Notes::new(rt.alloc(), call.telling);
+    let Performed { status, made } = perform_kept(rt.alloc(), &command, inputs, &mut notes, writer);
+    let status = put_after(rt, status, &target, elsewhere(made), writer);
     say_text(rt, notes.text);
     status
-}
-
-// Whether a text of calls is refused, and not since it isn't UTF-8.
-fn is_told_aside(reply: &Reply) -> bool {
-    matches!(reply.verdict, Verdict::Refused) && reply.text.as_slice() != not_text()
 }
 
 /// Writes the script of a text of calls. A refusal is said on standard error, so that no script holds it; that a text is
@@ -56,45 +65,43 @@ pub fn encode<R: AllocGlobal + Eprint, F: Folder, I: Source + Drop, W: Sink>(
     inputs: &mut Inputs<'_, F, I>,
     writer: &mut W,
 ) -> Status {
-    let made = prepare(rt.alloc(), &Encode, inputs, &mut Notes::none(rt.alloc()));
-    match made {
-        Ok(reply) if is_told_aside(&reply) => {
-            say_text(rt, reply.text);
-            Status::Refused
-        }
-        made => report(writer, &made),
+    let mut notes = Notes::none(rt.alloc());
+    let Performed { status, made } = perform_kept(rt.alloc(), &Encode, inputs, &mut notes, writer);
+    if let Some(refusal) = elsewhere(made) {
+        say_text(rt, refusal);
     }
-}
-
-// The text of a state for the file of a path, where there are both.
-fn state_text<'a>(
-    alloc: Global,
-    path: Option<&'a str>,
-    state: Option<StoreState>,
-) -> Result<Option<Later<'a>>, AllocError> {
-    match (path, state) {
-        (Some(path), Some(state)) => Ok(Some(Later::new(alloc, path, dump(alloc, &state)?)?)),
-        _ => Ok(None),
-    }
+    status
 }
 
 /// Runs a script, and puts the state that it leaves into the file of a path, where no line was bad and all was written.
 pub fn run<R: Files + AllocGlobal + Eprint, F: Folder, I: Source + Drop, W: Sink>(
     rt: &R,
-    command: Run,
-    path: Option<&str>,
+    run: Run,
+    dump: Option<&str>,
     inputs: &mut Inputs<'_, F, I>,
     writer: &mut W,
 ) -> Status {
-    let alloc = rt.alloc();
-    let mut made = prepare(alloc, &command, inputs, &mut Notes::none(alloc));
-    let state = match &mut made {
-        Ok(kept) => kept.state.take(),
-        Err(_) => None,
+    let Ok(target) = Target::of(rt.alloc(), dump) else {
+        return no_memory(writer);
     };
-    match state_text(alloc, path, state) {
-        Ok(later) => put_behind(rt, report(writer, &made), &later, writer),
-        Err(_) => no_memory(writer),
+    let command = DumpedRun {
+        run,
+        dump: destination_of(dump),
+    };
+    let mut notes = Notes::none(rt.alloc());
+    let Performed { status, made } = perform_kept(rt.alloc(), &command, inputs, &mut notes, writer);
+    put_after(rt, status, &target, elsewhere(made), writer)
+}
+
+// The text of a state, where there is one and a file for it.
+fn state_text(
+    alloc: Global,
+    path: Option<&str>,
+    state: Option<StoreState>,
+) -> Result<Option<Vec<u8>>, AllocError> {
+    match (path, state) {
+        (Some(_), Some(state)) => Ok(Some(dump(alloc, &state)?)),
+        _ => Ok(None),
     }
 }
 
@@ -107,26 +114,25 @@ pub fn serve<R: Files + Input + AllocGlobal + Eprint, F: Folder, I: Source + Dro
     inputs: &mut Inputs<'_, F, I>,
     writer: &mut W,
 ) -> Status {
+    let Ok(target) = Target::of(rt.alloc(), path) else {
+        return no_memory(writer);
+    };
     let mut lines = LateFile::new(rt, DASH);
     let ServeEnd { status, state } = serving::serve(rt.alloc(), spare, inputs, &mut lines, writer);
     match state_text(rt.alloc(), path, state) {
-        Ok(later) => put_behind(rt, status, &later, writer),
+        Ok(text) => put_after(rt, status, &target, text, writer),
         Err(_) => no_memory(writer),
     }
 }
 
-// The times of calls and the state that they leave, for the files of a call.
-fn texts<'a>(
-    alloc: Global,
-    call: &Call<'a>,
-    history: Vec<u8>,
-    state: Option<StoreState>,
-) -> Result<(Option<Later<'a>>, Option<Later<'a>>), AllocError> {
-    let times = match call.times {
-        Some(path) => Some(Later::new(alloc, path, history)?),
-        None => None,
+// Where the times of calls and the state that they leave go. A state on standard output is written after a file of the times.
+fn leaving_of(call: &Call<'_>) -> Leaving {
+    let times = destination_of(call.times);
+    let state = match (times, destination_of(call.output)) {
+        (Destination::Elsewhere, Destination::Writer) => Destination::Elsewhere,
+        (_, state) => state,
     };
-    Ok((times, state_text(alloc, call.output, state)?))
+    Leaving { times, state }
 }
 
 // How many that are for each; none where there are none.
@@ -181,22 +187,24 @@ pub fn stress<
         has_history: call.times.is_some(),
         clock: if call.has_stats { Some(rt) } else { None },
     };
-    let Stressed {
-        reply,
-        history,
-        state,
-        counts,
-    } = match command.prepare(rt.alloc(), inputs) {
-        Ok(stressed) => stressed,
-        Err(fault) => return report(writer, &Err::<Reply, ReadFault>(fault)),
-    };
-    let Ok((times, state)) = texts(rt.alloc(), call, history, state) else {
+    let (Ok(times), Ok(state)) = (
+        Target::of(rt.alloc(), call.times),
+        Target::of(rt.alloc(), call.output),
+    ) else {
         return no_memory(writer);
     };
-    let status = report(writer, &Ok(reply));
+    let Performed { status, made } = command.perform_kept(
+        rt.alloc(),
+        leaving_of(call),
+        inputs,
+        writer,
+    );
+    let Some(left) = made else {
+        return status;
+    };
     if call.has_stats && status == Status::Good {
-        say_counts(rt, counts);
+        say_counts(rt, left.counts);
     }
-    let status = put_behind(rt, status, &times, writer);
-    put_behind(rt, status, &state, writer)
+    let status = put_after(rt, status, &times, left.times, writer);
+    put_after(rt, status, &state, left.state, writer)
 }

@@ -45,27 +45,34 @@ impl<R: Eprint, W: Write + Drop> Write for Output<'_, R, W> {
     }
 }
 
-/// A text that is put into the file of a path, where all was well before.
+/// A file that a text is put into, where all was well before.
 #[derive(Drop)]
-pub struct Later<'a> {
+pub struct Target<'a> {
     path: &'a str,
     // The path of the file that becomes the one of the path.
     part: String,
-    text: Vec<u8>,
 }
 
-impl<'a> Later<'a> {
-    /// This text for the file of this path.
-    pub fn new(alloc: Global, path: &'a str, text: Vec<u8>) -> Result<Later<'a>, AllocError> {
+impl<'a> Target<'a> {
+    /// The file of this path.
+    pub fn new(alloc: Global, path: &'a str) -> Result<Target<'a>, AllocError> {
         let part = format!(in alloc; "{path}.part")?;
-        Ok(Later { path, part, text })
+        Ok(Target { path, part })
     }
 
-    // Writes a file beside that of the path, and puts it in its place.
-    fn replace<R: Files>(&self, rt: &R) -> io::Result<()> {
+    /// The file of this path, if there is one.
+    pub fn of(alloc: Global, path: Option<&'a str>) -> Result<Option<Target<'a>>, AllocError> {
+        match path {
+            Some(path) => Ok(Some(Target::new(alloc, path)?)),
+            None => Ok(None),
+        }
+    }
+
+    // Writes a file next to that of the path, and puts it in its place.
+    fn replace<R: Files>(&self, rt: &R, text: &[u8]) -> io::Result<()> {
         let part = self.part.as_str();
         let mut file = fs::create(rt, part)?;
-        let written = match file.write_all(&self.text) {
+        let written = match file.write_all(text) {
             Ok(()) => fs::rename(rt, part, self.path),
             Err(error) => Err(error),
         };
@@ -76,19 +83,19 @@ impl<'a> Later<'a> {
     }
 
     // Puts it where the path is: a plain file is replaced whole, or stays as it was. What is no plain file is a link, a device or a pipe.
-    fn save<R: Files>(&self, rt: &R) -> io::Result<()> {
+    fn save<R: Files>(&self, rt: &R, text: &[u8]) -> io::Result<()> {
         match fs::symlink_metadata(rt, self.path) {
-            Ok(found) if !found.is_file() => fs::write(rt, self.path, &self.text),
-            _ => self.replace(rt),
+            Ok(found) if !found.is_file() => fs::write(rt, self.path, text),
+            _ => self.replace(rt, text),
         }
     }
 
-    /// Puts it where it belongs: the path `-` is standard output.
-    pub fn put<R: Files + Eprint, W: Sink>(&self, rt: &R, writer: &mut W) -> Status {
+    // Puts a text into it: the path `-` is standard output.
+    fn put<R: Files + Eprint, W: Sink>(&self, rt: &R, text: &[u8], writer: &mut W) -> Status {
         let is_put = if self.path == DASH {
-            writer.send(&self.text).is_ok()
+            writer.send(text).is_ok()
         } else {
-            let saved = self.save(rt);
+            let saved = self.save(rt, text);
             if let Err(error) = &saved {
                 say(rt, self.path, error);
             }
@@ -103,14 +110,15 @@ impl<'a> Later<'a> {
 }
 
 /// Puts a text where it belongs, if there is one and all is well so far.
-pub fn put_behind<R: Files + Eprint, W: Sink>(
+pub fn put_after<R: Files + Eprint, W: Sink>(
     rt: &R,
     status: Status,
-    later: &Option<Later<'_>>,
+    target: &Option<Target<'_>>,
+    text: Option<Vec<u8>>,
     writer: &mut W,
 ) -> Status {
-    match later {
-        Some(later) if status == Status::Good => later.put(rt, writer),
+    match (target, text) {
+        (Some(target), Some(text)) if status == Status::Good => target.put(rt, &text, writer),
         _ => status,
     }
 }

@@ -1,5 +1,6 @@
 -- What `run` answers, and the state that it leaves, as functions of the manifest, its files, the script and the state's text that were read.
 use Rattle.std.specs.Prelude.{ℕ, Bool, List, [], ◌∷◌, Option, Some, None, option_map, option_and_then, Result, Ok, Err, if◌then◌else◌}
+use Rattle.std.specs.Option.{option_map_or}
 use Rattle.std.specs.Io.KnownBytes.{Appends, Keeps}
 use Rattle.text.specs.Lines.{lines_of}
 use Rattle.loader.specs.StoreState.{StoreState}
@@ -10,12 +11,15 @@ use Rattle.running.specs.declared.single_node.TheConstants.{RUN_PLACES}
 use Rattle.running.specs.declared.runs.Kept.{Kept}
 use Rattle.engine.specs.declared.replies.Status.{Status}
 use Rattle.engine.specs.declared.replies.Status.TheVariants as statuses
+use Rattle.engine.specs.declared.parted.Destination.{Destination}
 use Rattle.engine.specs.Answer.{Answer, not_text}
 use Rattle.engine.specs.Reading.{TextsRead}
 use Rattle.engine.specs.Opening.{opening}
 use Rattle.running.specs.Signed.{signed_text}
 use Rattle.running.specs.RunAnswer.{line_turn, lines_answer, state_of}
 use Rattle.engine.specs.Report.{answer_of}
+use Rattle.engine.specs.Parted.{PartedAnswer, sent_to, whole}
+use Rattle.dumps.specs.Dumping.{dump}
 use Rattle.engine.specs.Transfer.{AppendsBeginning}
 
 -- ---- what lines leave
@@ -46,6 +50,16 @@ run_kept is_signed None = record { answer = not_text; state = None }
 run_kept is_signed (Some t) =
     let k = script_kept t.file (opening (Some RUN_PLACES) t) in
     if is_signed then record k { answer = record k.answer { text = signed_text k.answer.text } } else k
+
+-- ---- a run whose state is dumped
+
+-- with the text of its state, where it leaves one
+abbrev pub with_dump : Destination → KeptRun → PartedAnswer
+with_dump to k = option_map_or (λ state. sent_to to k.answer (dump state)) k.state (whole k.answer)
+
+-- what is written of what was read, and what goes elsewhere
+abbrev pub dumped_run : Bool → Destination → Option TextsRead → PartedAnswer
+dumped_run is_signed to t = with_dump to (run_kept is_signed t)
 
 -- ---- what was made
 

@@ -2,6 +2,7 @@
 #![tactic(auto)]
 
 mod calls;
+mod dumped_runs;
 mod laws;
 mod lines;
 mod run_texts;
@@ -10,6 +11,7 @@ mod signed_texts;
 mod single_node;
 
 pub use calls::{checked_call, take_line};
+pub use dumped_runs::DumpedRun;
 pub use laws::{limit_is_unfelt, limits, replies_are_told, run_lines_are_runs, runs_may_be_cut};
 pub use run_texts::{bad_line, put_bad_line};
 pub use runs::{Kept, Run, dump_to};

@@ -15,7 +15,7 @@ use Rattle.engine.specs.Engine.{Writes}
 use Rattle.engine.specs.Opening.{IsOpened, on_which}
 use Rattle.engine.specs.ReadFaults.{IfCannotRead}
 use Rattle.engine.specs.Reading.{TextsRead}
-use Rattle.engine.specs.Report.{Failed, Sends, answer_of}
+use Rattle.engine.specs.Report.{Sends, answer_of}
 use Rattle.engine.specs.Texts.{no_memory_line}
 use Rattle.engine.proofs.Reports.{reports}
 use Rattle.serving.specs.ServeAnswer.{Serves, ServesAll, served_text, nothing_served, service}
@@ -83,16 +83,6 @@ module _ {E : Type 0} (spare : ℕ) where
   of_some (Err e) some = (None, tt)
 
 -- ---- what failed
-
-module _ (P Q W : Type 0) where
-  -- from one reason of a failed read to another
-  pub failed_so : (got : Status) → (P → Q) → Failed got P W → Failed got Q W
-  failed_so statuses.Good f told = tt
-  failed_so statuses.Refused f told = tt
-  failed_so statuses.Differs f told = tt
-  failed_so statuses.NoMemory f told = tt
-  failed_so statuses.CannotRead f told = f told
-  failed_so statuses.CannotWrite f told = told
 
 -- a read before the service, or of its input
 pub before_or_in : {X : Type 0} (made : Result X ReadFault) (P Q : Type 0) → IfCannotRead made P → (made ≡ Err faults.CannotRead) ⊎ Q → P ⊎ Q

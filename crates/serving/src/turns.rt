@@ -5,7 +5,7 @@ ghost use Rattle.engine.specs.declared.replies.Status.TheVariants as statuses;
 ghost use Rattle.engine.specs.declared.transfer.ReadFault.TheVariants as faults;
 ghost use Rattle.engine.specs.declared.opening.Opened.TheVariants.{On};
 ghost use Rattle.engine.specs.Opening.{IsOpened, on_which};
-ghost use Rattle.engine.specs.Reading.{AnyFailed, IfGiven, TextsRead};
+ghost use Rattle.engine.specs.Reading.{FailedInTurn, IfGiven, TextsRead};
 ghost use Rattle.engine.specs.Report.{Failed, Sends, answer_of};
 ghost use Rattle.engine.specs.Texts.{no_memory_line};
 ghost use Rattle.running.specs.Running.{IsSteady};
@@ -202,8 +202,10 @@ pub fn serve<F: Folder, S: Source + Drop, R: Feed, W: Sink>(
 ) -> ServeEnd
     // Where the readers and the folder tell their bytes, those are served.
     ensures written { IfGiven F.holds S.remaining inputs.old (ServesGiven spare (ports R.remaining reader.old reader.new W.contents writer.old writer.new) result) }
-    // It says that a read or a write failed only after one did.
-    ensures failed { Failed result.status (AnyFailed S.has_failed F.File.has_failed inputs.new ⊎ R.has_failed reader.new) (W.has_failed writer.new) }
+    // It says that a read failed only after one of the input did, or of a text after texts that are all UTF-8.
+    ensures read { result.status ≡ statuses.CannotRead → FailedInTurn F.holds F.can_fail S.remaining S.has_failed inputs.old inputs.new ⊎ R.has_failed reader.new }
+    // It says that a write failed only after one did.
+    ensures wrote { result.status ≡ statuses.CannotWrite → W.has_failed writer.new }
     // Whatever they give, or where they fail.
     ensures ended { (t : Option TextsRead) × ServesAll (ports R.remaining reader.old reader.new W.contents writer.old writer.new) result (service spare t) }
 {

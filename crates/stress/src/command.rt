@@ -6,23 +6,25 @@ ghost use Rattle.loader.specs.CatalogueView.{MayOpenOn, OpensOn};
 ghost use Rattle.loader.specs.declared.installed.TheConstants.{MAX_PLACES};
 ghost use Rattle.oplog.specs.Limits.{IsConfig};
 ghost use Rattle.engine.specs.ReadFaults.{IfCannotRead};
-ghost use Rattle.engine.specs.Reading.{AnyFailed, IfGiven, TextsRead, read, texts_in, texts_read};
-ghost use Rattle.engine.specs.Engine.{Reports, ReportsRead};
+ghost use Rattle.engine.specs.Reading.{FailedInTurn, IfGiven, TextsRead, read, texts_in, texts_read};
+ghost use Rattle.engine.specs.Engine.{Performs, PerformsRead, Reports, ReportsRead};
 ghost use Rattle.engine.specs.Report.{Failed, answer_of};
 ghost use Rattle.engine.specs.Sizes.{places_in};
 ghost use Rattle.stress.specs.Calls.{script_calls};
 ghost use Rattle.stress.specs.Shown.{called};
+ghost use Rattle.stress.specs.Left.{MayLeave, answer_left};
 ghost use Rattle.stress.specs.Runs.{IsRun, MayMake};
 ghost use Rattle.stress.specs.Playing.{IsReady, IsScriptRun};
 
 use crate::calls::{ScriptCall, ScriptCalls, read_calls};
 use crate::gate::Gate;
+use crate::left_texts::{Leaving, LeftTexts, left_texts};
 use crate::lines::Written;
 use crate::sharing::Left;
 use crate::stressed::Stressed;
 use engine::{
-    Folder, Gathered, Inputs, Opened, ReadFault, Reply, Sink, Source, Status, Texts, Verdict,
-    gather, not_text, open_texts, report,
+    Folder, Gathered, Inputs, Opened, Performed, ReadFault, Reply, Sink, Source, Status, Texts,
+    Verdict, gather, hand_back, not_text, open_texts, report,
 };
 use loader::{Catalogue, StoreState};
 use oplog::Config;
@@ -157,8 +159,8 @@ impl<'a, R: Threads + Wait + Sync, G: Gate + Sync, C: Clock + Sync> Stress<'a, R
     ) -> Result<Stressed, ReadFault>
         // Where the readers and the folder tell their bytes, it is made of those.
         ensures known { IfGiven F.holds S.remaining inputs.old (λ g. IfOk result (MayMake self.now (read g))) }
-        // It says that a read failed only after one did.
-        ensures failed { IfCannotRead result (AnyFailed S.has_failed F.File.has_failed inputs.new) }
+        // It says that a read failed only after one did, and all texts before that one are UTF-8.
+        ensures failed { IfCannotRead result (FailedInTurn F.holds F.can_fail S.remaining S.has_failed inputs.old inputs.new) }
         // Whatever they give.
         ensures some { IfOk result (λ s. (t : Option TextsRead) × MayMake self.now t s) }
     {
@@ -180,12 +182,50 @@ impl<'a, R: Threads + Wait + Sync, G: Gate + Sync, C: Clock + Sync> Stress<'a, R
     ) -> Status
         // Where the readers and the folder tell their bytes, what is written is what it answers to those.
         ensures written { IfGiven F.holds S.remaining inputs.old (ReportsRead (λ s. answer_of s.reply) (MayMake self.now) W.contents writer.old writer.new result) }
-        // It says that a read or a write failed only after one did.
-        ensures failed { Failed result (AnyFailed S.has_failed F.File.has_failed inputs.new) (W.has_failed writer.new) }
+        // It says that a read or a write failed only after one did, and of a read that all texts before that one are UTF-8.
+        ensures failed { Failed result (FailedInTurn F.holds F.can_fail S.remaining S.has_failed inputs.old inputs.new) (W.has_failed writer.new) }
         // Whatever they give, or where they fail.
         ensures ended { Reports (λ s. answer_of s.reply) (λ s. (t : Option TextsRead) × MayMake self.now t s) (W.contents writer.old) (W.contents writer.new) result }
     {
         let made = self.prepare(alloc, inputs);
         report(writer, &made)
+    }
+
+    // What it makes of the texts, and where that goes.
+    fn prepare_left<F: Folder, S: Source + Drop>(
+        &self,
+        alloc: Global,
+        to: Leaving,
+        inputs: &mut Inputs<'_, F, S>,
+    ) -> Result<LeftTexts, ReadFault>
+        ensures known { IfGiven F.holds S.remaining inputs.old (λ g. IfOk result (MayLeave self.now to (read g))) }
+        ensures failed { IfCannotRead result (FailedInTurn F.holds F.can_fail S.remaining S.has_failed inputs.old inputs.new) }
+        ensures some { IfOk result (λ l. (t : Option TextsRead) × MayLeave self.now to t l) }
+    {
+        let stressed = self.prepare(alloc, inputs)?;
+        match left_texts(alloc, to, stressed) {
+            Ok(left) => Ok(left),
+            Err(_) => Err(ReadFault::NoMemory),
+        }
+    }
+
+    /// Does it, and hands back what it leaves besides its answer, where all of that was written. The times of the calls and the text of the
+    /// state go where that is said, of a transcript: after it, the times first, or elsewhere.
+    pub fn perform_kept<F: Folder, S: Source + Drop, W: Sink>(
+        &self,
+        alloc: Global,
+        to: Leaving,
+        inputs: &mut Inputs<'_, F, S>,
+        writer: &mut W,
+    ) -> Performed<LeftTexts>
+        // Where the readers and the folder tell their bytes, it is made of those, and its answer is what was written.
+        ensures written { IfGiven F.holds S.remaining inputs.old (PerformsRead answer_left (MayLeave self.now to) W.contents writer.old writer.new result) }
+        // It says that a read or a write failed only after one did, and of a read that all texts before that one are UTF-8.
+        ensures failed { Failed result.status (FailedInTurn F.holds F.can_fail S.remaining S.has_failed inputs.old inputs.new) (W.has_failed writer.new) }
+        // Whatever they give, or where they fail.
+        ensures ended { Performs answer_left (λ l. (t : Option TextsRead) × MayLeave self.now to t l) (W.contents writer.old) (W.contents writer.new) result }
+    {
+        let made = self.prepare_left(alloc, to, inputs);
+        hand_back(writer, made)
     }
 }

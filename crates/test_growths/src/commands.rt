@@ -137,7 +137,12 @@ pub fn ended<R: Threads + Wait + Sync>(
             let command = Run { is_signed: false };
             answered(alloc, &command, beside(SCRIPT), reads, out)
         }
-        Command::Assemble => answered(alloc, &Assemble, alone(BUMP_TEXT), reads, out),
+        Command::Assemble => {
+            let command = Assemble {
+                is_elsewhere: false,
+            };
+            answered(alloc, &command, alone(BUMP_TEXT), reads, out)
+        }
         Command::Disassemble => {
             let command = Disassemble { has_slots: false };
             answered(alloc, &command, alone(BUMP_LINE), reads, out)

@@ -1,5 +1,7 @@
 // Readers and writers that move one byte at a time, and of which one read or one write fails.
 
+ghost use Rattle.std.specs.Prelude.{⊤};
+
 use crate::served::{BUMP_LINE, PEEK_LINE};
 use engine::Folder;
 use std::cell::Cell;
@@ -76,6 +78,8 @@ pub struct Programs<'a> {
 
 impl<'a> Folder for Programs<'a> {
     type File = Slow<'a>;
+
+    ghost can_fail = { λ _ _. ⊤ };
 
     fn open(&self, name: &str) -> Option<Slow<'a>> {
         match name {

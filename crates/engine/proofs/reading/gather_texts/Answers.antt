@@ -1,6 +1,7 @@
 use Rattle.std.proofs.lemmas.Result.{err_from_is_err_and}
 use Rattle.engine.specs.Reading.{named_texts}
 use Rattle.engine.proofs.Gatherings.{files_failed, file_failed, state_failed, history_failed, all_read}
+use Rattle.engine.proofs.InTurn.{files_in_turn, file_in_turn, state_in_turn, history_in_turn}
 use Rattle.engine.proofs.reading.gather_texts.Goals as goal
 
 pub returns-in_err-files-clause-read : goal.returns-in_err-files-clause-read
@@ -33,3 +34,30 @@ returns-clause-read g c =
     all_read g.F.Folder.holds g.R.Source.remaining c.args.inputs.now
     (record { manifest = c.in_ok-manifest.manifest; files = c.in_ok-files.files; file = c.in_ok-file.file; state = c.in_ok-state.state; history = c.in_ok-history.history })
     c.in_ok-manifest.ensures.text (rw c.as_str.ensures.value at c.in_ok-files.ensures.gathered) c.in_ok-file.ensures.text c.in_ok-state.ensures.text c.in_ok-history.ensures.text
+
+pub returns-in_err-files-clause-failed : goal.returns-in_err-files-clause-failed
+returns-in_err-files-clause-failed g c =
+    let p = err_from_is_err_and c.from_residual-in_err-files.result c.from_residual-in_err-files.ensures.1 in
+    rw (p.1, p.2) (files_in_turn g.F.Folder.holds g.F.Folder.can_fail g.R.Source.remaining g.R.Source.has_failed c.args.inputs.now
+    (record c.args.inputs.now { manifest = c.read_given.new.reader }) c.in_ok-manifest.manifest c.in_ok-manifest.ensures.text c.in_err-files.field-0.0 (rw c.as_str.ensures.value at c.in_err-files.ensures.failed))
+
+pub returns-in_err-file-clause-failed : goal.returns-in_err-file-clause-failed
+returns-in_err-file-clause-failed g c =
+    let p = err_from_is_err_and c.from_residual-in_err-file.result c.from_residual-in_err-file.ensures.1 in
+    rw (p.1, p.2) (file_in_turn g.F.Folder.holds g.F.Folder.can_fail g.R.Source.remaining g.R.Source.has_failed c.args.inputs.now
+    (record c.args.inputs.now { manifest = c.read_given.new.reader; file = c.read_given-2.new.reader }) c.in_ok-manifest.manifest c.in_ok-manifest.ensures.text
+    (named_texts c.in_ok-files.files.items) (rw c.as_str.ensures.value at c.in_ok-files.ensures.gathered) c.in_err-file.field-0.0 c.in_err-file.ensures.failed)
+
+pub returns-in_err-state-clause-failed : goal.returns-in_err-state-clause-failed
+returns-in_err-state-clause-failed g c =
+    let p = err_from_is_err_and c.from_residual-in_err-state.result c.from_residual-in_err-state.ensures.1 in
+    rw (p.1, p.2) (state_in_turn g.F.Folder.holds g.F.Folder.can_fail g.R.Source.remaining g.R.Source.has_failed c.args.inputs.now
+    (record c.args.inputs.now { manifest = c.read_given.new.reader; file = c.read_given-2.new.reader; state = c.read_given-3.new.reader }) c.in_ok-manifest.manifest c.in_ok-manifest.ensures.text
+    (named_texts c.in_ok-files.files.items) (rw c.as_str.ensures.value at c.in_ok-files.ensures.gathered) c.in_ok-file.file c.in_ok-file.ensures.text c.in_err-state.field-0.0 c.in_err-state.ensures.failed)
+
+pub returns-in_err-history-clause-failed : goal.returns-in_err-history-clause-failed
+returns-in_err-history-clause-failed g c =
+    let p = err_from_is_err_and c.from_residual-in_err-history.result c.from_residual-in_err-history.ensures.1 in
+    rw (p.1, p.2) (history_in_turn g.F.Folder.holds g.F.Folder.can_fail g.R.Source.remaining g.R.Source.has_failed c.args.inputs.now
+    (record c.args.inputs.now { manifest = c.read_given.new.reader; file = c.read_given-2.new.reader; state = c.read_given-3.new.reader; history = c.read_given-4.new.reader }) c.in_ok-manifest.manifest c.in_ok-manifest.ensures.text
+    (named_texts c.in_ok-files.files.items) (rw c.as_str.ensures.value at c.in_ok-files.ensures.gathered) c.in_ok-file.file c.in_ok-file.ensures.text c.in_ok-state.state c.in_ok-state.ensures.text c.in_err-history.field-0.0 c.in_err-history.ensures.failed)

@@ -1,9 +1,9 @@
 use Rattle.std.specs.Prelude.{◌≡◌, IfOk}
 use Rattle.engine.specs.Opening.{IsOpened, on_which}
-use Rattle.engine.specs.Reading.{AnyFailed, read}
+use Rattle.engine.specs.Reading.{FailedInTurn, read}
 use Rattle.engine.proofs.Known.{given_so}
 use Rattle.serving.specs.ServeAnswer.{service}
-use Rattle.serving.proofs.ServedAll.{before_or_in, failed_so, is_opened, of_some, opened_as}
+use Rattle.serving.proofs.ServedAll.{before_or_in, is_opened, of_some, opened_as}
 use Rattle.serving.proofs.turns.serve.Goals as goal
 
 pub serve_opened-requires : goal.serve_opened-requires
@@ -14,11 +14,13 @@ returns-clause-written g c =
     given_so g.F.Folder.holds g.S.Source.remaining c.args.inputs.now (λ it. IfOk c.prepare-opened.result (λ o. IsOpened o × (on_which o ≡ service c.args.spare (read it)))) _
     (λ it is. c.serve_opened.ensures.served (service c.args.spare (read it)) (opened_as c.args.spare c.prepare-opened.result (read it) is)) c.prepare-opened.ensures.known
 
-pub returns-clause-failed : goal.returns-clause-failed
-returns-clause-failed g c =
-    failed_so _ _ _ c.serve_opened.result.status
-    (before_or_in c.prepare-opened.result (AnyFailed g.S.Source.has_failed g.F.File.Source.has_failed c.prepare-opened.new.inputs) (g.R.Feed.has_failed c.serve_opened.new.reader)
-    c.prepare-opened.ensures.failed) c.serve_opened.ensures.failed
+pub returns-clause-read : goal.returns-clause-read
+returns-clause-read g c = λ ended.
+    before_or_in c.prepare-opened.result (FailedInTurn g.F.Folder.holds g.F.Folder.can_fail g.S.Source.remaining g.S.Source.has_failed c.args.inputs.now c.prepare-opened.new.inputs)
+    (g.R.Feed.has_failed c.serve_opened.new.reader) c.prepare-opened.ensures.failed (rw ended at c.serve_opened.ensures.failed)
+
+pub returns-clause-wrote : goal.returns-clause-wrote
+returns-clause-wrote g c = λ ended. rw ended at c.serve_opened.ensures.failed
 
 pub returns-clause-ended : goal.returns-clause-ended
 returns-clause-ended g c =

@@ -1,0 +1,91 @@
+// What a command makes of which a part goes elsewhere than to its writer.
+
+ghost use Rattle.std.specs.Prelude.{◌≡◌, IfOk};
+ghost use Rattle.engine.specs.Parted.{apart, parted_of, sent_to, whole};
+ghost use Rattle.engine.specs.Report.{answer_of};
+
+use crate::replies::{Answering, Reply, Verdict};
+use std::alloc::{AllocError, Global};
+
+/// Where a text goes that a command makes besides its answer.
+#[derive(Clone, Copy)]
+pub enum Destination {
+    /// Nowhere: it is not asked for.
+    Nowhere,
+    /// To the writer, after the answer.
+    Writer,
+    /// Elsewhere: it is handed back.
+    Elsewhere,
+}
+
+/// An answer, and a text that goes elsewhere.
+#[derive(Drop)]
+pub struct Parted {
+    /// What is written.
+    pub reply: Reply,
+    /// What goes elsewhere, where something does.
+    pub elsewhere: Option<Vec<u8>>,
+}
+
+impl Answering for Parted {
+    ghost answer = { λ p. answer_of p.reply };
+
+    fn text(&self) -> &[u8] {
+        &self.reply.text
+    }
+
+    fn verdict(&self) -> Verdict {
+        self.reply.verdict
+    }
+}
+
+impl Parted {
+    /// All of it is written.
+    pub fn whole(reply: Reply) -> Parted
+        ensures { parted_of result ≡ whole (answer_of reply) }
+    {
+        Parted {
+            reply,
+            elsewhere: None,
+        }
+    }
+
+    /// All of it goes elsewhere.
+    pub fn apart(alloc: Global, reply: Reply) -> Parted
+        ensures { parted_of result ≡ apart (answer_of reply) }
+    {
+        let Reply { text, verdict } = reply;
+        Parted {
+            reply: Reply {
+                text: Vec::new(alloc),
+                verdict,
+            },
+            elsewhere: Some(text),
+        }
+    }
+
+    /// An answer, and a text that goes to this destination.
+    ///
+    /// # Errors
+    ///
+    /// The system has no memory left.
+    pub fn with(reply: Reply, text: Vec<u8>, to: Destination) -> Result<Parted, AllocError>
+        ensures { IfOk result (λ p. parted_of p ≡ sent_to to (answer_of reply) text.items) }
+    {
+        match to {
+            Destination::Nowhere => Ok(Parted::whole(reply)),
+            Destination::Writer => {
+                let Reply {
+                    text: mut all,
+                    verdict,
+                } = reply;
+                all.extend_from_slice(&text)?;
+                Ok(Parted::whole(Reply { text: all, verdict }))
+            }
+            Destination::Elsewhere => Ok(Parted {
+                reply,
+                elsewhere: Some(text),
+            }),
+        }
+    }
+}
