@@ -11,9 +11,9 @@ use engine::{
 };
 use loader::StoreState;
 use oplog::Config;
-use running::{DumpedRun, Run};
+use running::{DumpedRun, Run, dump_to};
 use serving::ServeEnd;
-use std::alloc::{AllocError, Global};
+use std::alloc::Global;
 use std::io::{Eprint, Input, Read, Write};
 use std::rt::{Clock, Files};
 use std::sync::Wait;
@@ -93,15 +93,11 @@ pub fn run<R: Files + AllocGlobal + Eprint, F: Folder, I: Source + Drop, W: Sink
     put_after(rt, status, &target, elsewhere(made), writer)
 }
 
-// The text of a state, where there is one and a file for it.
-fn state_text(
-    alloc: Global,
-    path: Option<&str>,
-    state: Option<StoreState>,
-) -> Result<Option<Vec<u8>>, AllocError> {
-    match (path, state) {
-        (Some(_), Some(state)) => Ok(Some(dump(alloc, &state)?)),
-        _ => Ok(None),
+// Writes the text of a state after the answers, or that no memory is left for it.
+fn dump_after<W: Sink>(alloc: Global, state: &StoreState, writer: &mut W) -> Status {
+    match dump_to(alloc, state, writer) {
+        Status::NoMemory => no_memory(writer),
+        status => status,
     }
 }
 
@@ -119,9 +115,13 @@ pub fn serve<R: Files + Input + AllocGlobal + Eprint, F: Folder, I: Source + Dro
     };
     let mut lines = LateFile::new(rt, DASH);
     let ServeEnd { status, state } = serving::serve(rt.alloc(), spare, inputs, &mut lines, writer);
-    match state_text(rt.alloc(), path, state) {
-        Ok(text) => put_after(rt, status, &target, text, writer),
-        Err(_) => no_memory(writer),
+    match (destination_of(path), state) {
+        (Destination::Writer, Some(state)) => dump_after(rt.alloc(), &state, writer),
+        (Destination::Elsewhere, Some(state)) => match dump(rt.alloc(), &state) {
+            Ok(text) => put_after(rt, status, &target, Some(text), writer),
+            Err(_) => no_memory(writer),
+        },
+        _ => status,
     }
 }
 
