@@ -209,6 +209,20 @@ lines_back (i ∷ p) h =
     append_assoc w (t ++ (10 ∷ [])) (flat_map line_text p) ∙ ap (λ xs. w ++ xs) (append_assoc t (10 ∷ []) (flat_map line_text p)) ∙ sym (append_assoc w t (10 ∷ flat_map line_text p)) in
     ap lines_of cut ∙ cut_line (w ++ t) (flat_map line_text p) (line_passes LineFeed no_feed refl refl i h.0) ∙ ap (λ ls. (w ++ t) ∷ ls) (lines_back p h.1)
 
+-- ---- for other crates
+
+-- A number and the line of an instruction have no line feed. A text is cut at the first one
+pub decimal_feedless : (n : ℕ) → n < 2 ^ 64 → list_all (λ c. not (eqb c 10)) (decimal n) ≡ true
+decimal_feedless n small = no_feed (decimal n) (decimal-token n small).plain
+
+pub line_feedless : (i : Form) → HasEncoding i → list_all (λ c. not (eqb c 10)) (bare_line i) ≡ true
+line_feedless i h = line_passes LineFeed no_feed refl refl i h
+
+pub cut_feedless : (xs ys : List ℕ) → list_all (λ c. not (eqb c 10)) xs ≡ true → lines_of (xs ++ 10 ∷ ys) ≡ xs ∷ lines_of ys
+cut_feedless xs ys h = cut_line xs ys h
+
+-- ---- all of it
+
 pub read_back : IsReadBack
 unfolding assembled
 read_back p h few = rw (lines_back p h) (program_back _ 1 0 p h (omega (arith, few)))

@@ -1,1 +1,2 @@
 pub mod SlotLines
+pub mod Uncolumned

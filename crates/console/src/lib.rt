@@ -2,7 +2,9 @@
 #![tactic(auto)]
 
 mod assembly;
+mod laws;
 mod manifests;
 
 pub use assembly::{Assemble, Disassemble, Encode};
+pub use laws::slots_are_columns;
 pub use manifests::{Check, Draw, Explain};

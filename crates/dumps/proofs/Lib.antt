@@ -20,3 +20,4 @@ pub mod LoadedState
 pub mod CutLines
 pub mod LowestFaults
 pub mod FirstBad
+pub mod Widened

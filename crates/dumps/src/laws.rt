@@ -3,6 +3,7 @@
 ghost use Rattle.std.specs.Prelude.{◌≡◌};
 ghost use Rattle.dumps.specs.declared.lines.TheConstants.{DUMP_LINE_BYTES};
 ghost use Rattle.dumps.specs.FirstBad.{RefusedIsFirstBad};
+ghost use Rattle.dumps.specs.WiderLaws.{DumpFitsMore};
 ghost use Rattle.dumps.specs.Laws.{DumpIsRead, DumpIsText, EmptyIsNew, LoadedIsState, TextIsDumped};
 
 /// The limit that the definitions cite, as a number.
@@ -35,4 +36,10 @@ pub fn loaded_is_state()
 /// wrong with it there.
 pub fn refused_is_first_bad()
     ensures { RefusedIsFirstBad }
+{}
+
+/// A text that is loaded is loaded where there is more: more entries in the maps, more maps after them, more places for programs. The state has
+/// all that the text says, its new entries of arrays are zeros, and its new maps are as they are opened.
+pub fn dump_fits_more()
+    ensures { DumpFitsMore }
 {}

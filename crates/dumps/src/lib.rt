@@ -9,7 +9,8 @@ mod refusals;
 
 pub use dumping::dump;
 pub use laws::{
-    dump_is_read, empty_is_new, limits, loaded_is_state, refused_is_first_bad, text_is_dumped,
+    dump_fits_more, dump_is_read, empty_is_new, limits, loaded_is_state, refused_is_first_bad,
+    text_is_dumped,
 };
 pub use lines::DUMP_LINE_BYTES;
 pub use loading::{load, load_for};

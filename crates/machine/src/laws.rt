@@ -3,6 +3,7 @@
 mod arithmetic_laws;
 mod effects;
 mod examples;
+mod isolation;
 mod run_laws;
 mod soundness_laws;
 
@@ -14,6 +15,7 @@ pub use arithmetic_laws::{
 };
 pub use effects::{effects_are_runs, typable_programs_take_effect};
 pub use examples::{map_programs_run, programs_run, tables_hold};
+pub use isolation::{other_maps_are_unseen, other_maps_stay};
 pub use run_laws::{
     bytes_end_spills, exits_are_final, runs_are_unique, runs_keep_shapes, spills_are_loaded,
     steps_are_unique, steps_keep_states, stores_are_loaded,

@@ -7,3 +7,4 @@ pub mod Turns
 pub mod RunsOfLines
 pub mod UnderLimits
 pub mod KeptRuns
+pub mod CutRuns

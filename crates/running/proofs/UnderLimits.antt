@@ -68,7 +68,7 @@ module _ (c : CatalogueView) (h : History) where
     unless_grows turn None grows = grows
     unless_grows turn (Some why) grows = stays
 
-    grows : (m : Meaning) → Grows (taken limit c h m)
+    pub grows : (m : Meaning) → Grows (taken limit c h m)
     unfolding called
     grows Comment = stays
     grows (Call call) = numbered_grows call.argument (number_named c.programs call.name)

@@ -6,6 +6,8 @@ pub mod KeptRun
 pub mod RunLines
 -- Laws: where it doesn't matter how many updates a history may have.
 pub mod LimitLaws
+-- Laws: a run that is cut in two, where the second part begins on the state that the first left.
+pub mod CutLaws
 -- Laws: the reply that a line tells, beside which a signed number may stand.
 pub mod SignedLaws
 -- The steps between reading and writing.

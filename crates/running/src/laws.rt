@@ -1,6 +1,7 @@
 // What the definitions of a run say, in other words.
 
 ghost use Rattle.std.specs.Prelude.{◌≡◌};
+ghost use Rattle.running.specs.CutLaws.{LinesMayBeCut, ScriptsMayBeCut};
 ghost use Rattle.running.specs.LimitLaws.{LimitIsUnfelt, FewLinesAreAlike};
 ghost use Rattle.running.specs.RunLines.{LineTurnsAreRuns, LoadedIsCatalogue, OpenedIsCatalogue, RunLinesAreRuns};
 ghost use Rattle.running.specs.SignedLaws.{RepliesAreTold};
@@ -39,4 +40,12 @@ pub fn replies_are_told()
 pub fn limit_is_unfelt()
     ensures unfelt { LimitIsUnfelt }
     ensures few { FewLinesAreAlike }
+{}
+
+/// A script that is cut in two between lines gives the same replies and leaves the same state as uncut, where the second part is run on the
+/// state that the first left, as by `--dump` and `--load`. Its indexes begin at 0 again, and so do the numbers of its lines. The script has no
+/// more lines than a history may have updates.
+pub fn runs_may_be_cut()
+    ensures lines { LinesMayBeCut }
+    ensures scripts { ScriptsMayBeCut }
 {}

@@ -10,7 +10,7 @@ mod signed_texts;
 mod single_node;
 
 pub use calls::{checked_call, take_line};
-pub use laws::{limit_is_unfelt, limits, replies_are_told, run_lines_are_runs};
+pub use laws::{limit_is_unfelt, limits, replies_are_told, run_lines_are_runs, runs_may_be_cut};
 pub use run_texts::{bad_line, put_bad_line};
 pub use runs::{Kept, Run, dump_to};
 pub use single_node::SingleNode;

@@ -1,1 +1,2 @@
 pub mod StepLines
+pub mod Told

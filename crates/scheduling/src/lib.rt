@@ -2,7 +2,9 @@
 #![tactic(auto)]
 
 mod lanes;
+mod laws;
 mod reasons;
 mod step_lists;
 
+pub use laws::schedules_are_explained;
 pub use step_lists::Schedule;

@@ -15,3 +15,5 @@ pub mod ZeroReply
 pub mod Sweep
 pub mod Typed
 pub mod Known
+pub mod MapsOfKinds
+pub mod MoreMaps

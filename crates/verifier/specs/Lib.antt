@@ -12,6 +12,8 @@ pub mod Accepted
 pub mod Joined
 pub mod Verdict
 pub mod Known
+-- Laws on what is typable for more maps, or in another mode.
+pub mod MoreAllowed
 -- What the verifier's inner functions speak of.
 pub mod Numbers
 pub mod Pass

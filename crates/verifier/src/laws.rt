@@ -12,6 +12,7 @@ ghost use Rattle.verifier.specs.Numbers.{fault_number};
 ghost use Rattle.verifier.specs.Known.{JoinedAreBest, JoinedAreKnown, KnownAreJoined, ReachedAreKnown};
 ghost use Rattle.verifier.specs.Typing.{IsTypable, Refuses, structure_reason};
 ghost use Rattle.verifier.specs.Verdict.{verdict};
+ghost use Rattle.verifier.specs.MoreAllowed.{FirstMapsAreEnough, MoreMapsAreTypable, ReadersAreTypable};
 
 /// The verdict is no refusal exactly where a program is typable.
 pub fn no_refusal_where_typable()
@@ -44,4 +45,16 @@ pub fn frames_are_joins()
 /// Of an accepted program these frames are a typing, and no other typing says more before any instruction.
 pub fn joins_are_best_typing()
     ensures { JoinedAreBest }
+{}
+
+/// A program that is typable in `Read` mode is typable in each mode, so `Update` accepts what `Read` accepts.
+pub fn readers_are_typable()
+    ensures { ReadersAreTypable }
+{}
+
+/// A program that is typable for some maps is typable wherever these come first, also with other numbers of entries, and so where more come
+/// after them.
+pub fn more_maps_are_typable()
+    ensures first { FirstMapsAreEnough }
+    ensures more { MoreMapsAreTypable }
 {}

@@ -21,8 +21,9 @@ mod visiting;
 pub use accepted::Accepted;
 pub use explaining::{Explained, explain, frame_on_edge};
 pub use laws::{
-    frames_are_joins, joins_are_best_typing, no_refusal_where_typable, refusal_is_first_broken,
-    refused_is_untypable, structure_keeps_its_numbers,
+    frames_are_joins, joins_are_best_typing, more_maps_are_typable, no_refusal_where_typable,
+    readers_are_typable, refusal_is_first_broken, refused_is_untypable,
+    structure_keeps_its_numbers,
 };
 pub use refusal::{Mode, Refused, VerifyError, VerifyFault};
 pub use rooms::Scratch;
