@@ -25,7 +25,7 @@ use Rattle.schedule.specs.declared.parts.Opening.{Opening}
 use Rattle.schedule.specs.declared.steps.StepAnswer.TheVariants as answers
 use Rattle.schedule.specs.Trace.{Answer as TheAnswer, Updated, ReadBack, Event, Call, Back, Trace, Positions}
 use Rattle.schedule.specs.Worlds.{NodeView, WorldView, own_of, opened, opening_of}
-use Rattle.schedule.specs.Steps.{Part, Took, post, with_call_or_back, put_part, session_at, is_idle, with_read, read_at, no_batch, inner, seen_of, with_event, world_after}
+use Rattle.schedule.specs.Steps.{Part, Took, claim, collect, post, read_answer, read_begin, with_call_or_back, put_part, session_at, is_idle, with_read, read_at, no_batch, inner, seen_of, with_event, world_after}
 use Rattle.schedule.specs.Stands.{DeskStands, Stands}
 use Rattle.schedule.specs.Taking.{answer_of, step_answer}
 use Rattle.schedule.proofs.Options.{cond_gives, map_gives, then_gives}
@@ -41,8 +41,49 @@ use Rattle.engine.specs.Reading.{TextsRead}
 use Rattle.scripts.specs.StepLine.{StepMeaning, Comment, Post, Install, ReadBegin, Collect, ReadAnswer, Claim, Append, Replay, Finish, Reply, Reclaim, Rebase, step_line_meaning}
 use Rattle.running.specs.RunAnswer.{behind, bad_line}
 use Rattle.running.proofs.RunsOfLines.{loaded_is_catalogue}
-use Rattle.scheduling.specs.ScheduleAnswer.{StepTurn, node_of, part_of, line_took, step_turn, step_line_turn, steps_answer, scheduled, schedule_answer}
+use Rattle.scheduling.specs.ScheduleAnswer.{StepTurn, line_took, step_turn, step_line_turn, steps_answer, scheduled, schedule_answer}
 use Rattle.scheduling.specs.Traced.{call_said, event_told, line_text, Tells, AreExplained}
+
+-- ---- one line
+
+-- its node, and what its step makes of the log and of that node
+abbrev node_of : StepMeaning → ℕ
+node_of Comment = 0
+node_of (Post at call) = at.node
+node_of (Install at new) = at.node
+node_of (ReadBegin at call) = at.node
+node_of (Collect at) = at.node
+node_of (ReadAnswer at) = at.node
+node_of (Claim n) = n
+node_of (Append n) = n
+node_of (Replay n) = n
+node_of (Finish n) = n
+node_of (Reply n) = n
+node_of (Reclaim n) = n
+node_of (Rebase n) = n
+
+abbrev part_of : Opening → StepMeaning → Log → NodeView → Option Part
+part_of m Comment g node = None
+part_of m (Post at call) g node = post m at.slot (Run (call_said m.catalogue call)) g node
+part_of m (Install at new) g node = post m at.slot (AnInstall new) g node
+part_of m (ReadBegin at call) g node = read_begin m at.slot (call_said m.catalogue call) g node
+part_of m (Collect at) g node = collect at.slot g node
+part_of m (ReadAnswer at) g node = read_answer m at.slot g node
+part_of m (Claim n) g node = claim g node
+part_of m (Append n) g node = inner m Appends g node
+part_of m (Replay n) g node = inner m Replays g node
+part_of m (Finish n) g node = inner m Finishes g node
+part_of m (Reply n) g node = inner m Replies g node
+part_of m (Reclaim n) g node = inner m Reclaims g node
+part_of m (Rebase n) g node = inner m Rebases g node
+
+nothing : (w : WorldView) (n : ℕ) (o : Option NodeView) → option_and_then (λ node. option_map (put_part w n) None) o ≡ None
+nothing w n None = refl
+nothing w n (Some node) = refl
+
+took_is : (m : Opening) (w : WorldView) (line : StepMeaning) → line_took m w line ≡ option_and_then (λ node. option_map (put_part w (node_of line)) (part_of m line w.log node)) (slice_get w.nodes (node_of line))
+took_is m w Comment = sym (nothing w 0 (slice_get w.nodes 0))
+took_is m w line = refl
 
 -- ---- one line keeps what stands
 
@@ -141,7 +182,7 @@ goes_on m w h positions t line x = by (line_took m w line) refl
 
     taken : (r : Took) → line_took m w line ≡ Some r → After (Some r)
     taken r e =
-        let at = then_gives (λ node. option_map (put_part w (node_of line)) (part_of m line w.log node)) (slice_get w.nodes (node_of line)) r e in
+        let at = then_gives (λ node. option_map (put_part w (node_of line)) (part_of m line w.log node)) (slice_get w.nodes (node_of line)) r (sym (took_is m w line) ∙ e) in
         let p = map_gives (put_part w (node_of line)) (part_of m line w.log at.0) r at.2 in
         let kept = keeps_part m w h positions t line at.0 p.0 at.1 p.1 x in
         let is = part_told m line w.log at.0 p.0 (x.nodes (node_of line) at.0 at.1).desk p.1 in
@@ -165,11 +206,7 @@ goes_on m w h positions t line x = by (line_took m w line) refl
 
 -- what a line writes and leaves is what its step does
 turn_is : (m : Opening) (w : WorldView) (line : StepMeaning) → step_turn m w line ≡ record { text = line_text line (step_answer (line_took m w line)); world = world_after w (line_took m w line) }
-turn_is m w Comment = ap (λ (x : WorldView). record { text = []; world = x }) (sym (ap (world_after w) (nothing (slice_get w.nodes 0))))
-  where
-    nothing : (o : Option NodeView) → option_and_then (λ node. option_map (put_part w 0) (part_of m Comment w.log node)) o ≡ None
-    nothing None = refl
-    nothing (Some node) = refl
+turn_is m w Comment = refl
 turn_is m w (Post to call) = refl
 turn_is m w (Install to new) = refl
 turn_is m w (ReadBegin to call) = refl
