@@ -1,5 +1,6 @@
 -- A look at the replica of a session's node ends as it puts that back.
 use Rattle.std.proofs.Common.{◌≡◌, ℕ, List, [], ◌∷◌, ◌++◌, map, refl, ap, ◌∙◌, sym, subst, MatchOption}
+use Rattle.std.specs.Prelude.{nat_lt}
 use Rattle.std.proofs.lemmas.List.{append_assoc}
 use Rattle.ownlock.specs.declared.known.ShelfStep.{ShelfStep}
 use Rattle.ownlock.specs.declared.known.ShelfStep.TheVariants.{Took, Put, Read, Raised}
@@ -76,10 +77,12 @@ module _ (old new : SessionView) (point : ℕ) (by : LooksBy (known_of old) (kno
   step = Put place (AReplica by.left)
 
   abbrev earlier : List Seen
-  earlier = by.tries ++ Took place (AReplica by.own) ∷ follow_deeds by.lacks by.log by.left
+  earlier = by.tries ++ Read by.loaded ∷ Took place (AReplica by.own) ∷ follow_deeds (nat_lt by.own.replica.tail by.loaded) by.log by.left
 
   parts : map of_part by.did.since ≡ earlier ++ step ∷ []
-  parts = by.did.are ∙ sym (append_assoc by.tries (Took place (AReplica by.own) ∷ follow_deeds by.lacks by.log by.left) (step ∷ []))
+  parts =
+      by.did.are
+      ∙ sym (append_assoc by.tries (Read by.loaded ∷ Took place (AReplica by.own) ∷ follow_deeds (nat_lt by.own.replica.tail by.loaded) by.log by.left) (step ∷ []))
 
   puts : PutsTail point step
   unfolding PutsTail HasTail
