@@ -10,3 +10,4 @@ pub mod Last
 pub mod Closing
 pub mod EachSession
 pub mod Explained
+pub mod CallsTold

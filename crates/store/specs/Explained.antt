@@ -7,6 +7,7 @@ use Rattle.schedule.specs.Trace.{Positions}
 use Rattle.store_steps.specs.Views.{SessionView}
 use Rattle.store.specs.Opening.{ClosedView, IsClosed, setup_of}
 use Rattle.store.specs.Sessions.{StoreView}
+use Rattle.thread_order.specs.CallsMade.{ExplainsCalls, ToldOf}
 use Rattle.thread_order.specs.RunEvents.{MaySayAll, Sayings, events_in, opening_of}
 use Rattle.thread_order.specs.Threads.{IsTold}
 
@@ -18,3 +19,5 @@ pub record ClosesExplained (store : StoreView) (sessions : List SessionView) (cl
       → (positions : Positions) × Explains (opening_of (setup_of store)) is.progress.history positions (events_in says is.run)
   pub told : (says : Sayings) → MaySayAll says is.run → (a q : ℕ) (s : SessionView) (u : AnsweredUpdate) → At a s sessions → At q u s.note.answered
       → IsTold (events_in says is.run) s.session u
+  -- so it explains the calls of all sessions, whatever calls are told of each: each session has exactly these, in their order
+  pub calls : (told : (a : ℕ) → ToldOf (setup_of store) is.run a) → ExplainsCalls (setup_of store) is.progress.history is.run told

@@ -11,3 +11,5 @@ pub mod Asked
 pub mod Looks
 -- The history that explains what the sessions of a closed store did.
 pub mod Explained
+-- What is told of the calls of a session.
+pub mod CallsTold

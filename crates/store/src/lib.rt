@@ -5,6 +5,7 @@
 mod answers;
 mod asked;
 mod closed;
+mod laws;
 mod opening;
 mod polled;
 mod session;
@@ -12,6 +13,7 @@ mod store;
 
 pub use answers::Answer;
 pub use closed::Closed;
+pub use laws::calls_are_told;
 pub use loader::{Catalogue, LoadError, StoreState, load_manifest};
 pub use node::NodeReplica;
 pub use oplog::{Config, ENDLESS, OpenError, Sizes};

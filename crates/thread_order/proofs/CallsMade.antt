@@ -17,7 +17,7 @@ use Rattle.store_steps.specs.Shelving.{places_of, sessions_of}
 use Rattle.store_steps.specs.Standing.{SessionKnown}
 use Rattle.thread_order.specs.RunEvents.{Asks, Hears, Nothing, Says, Sayings, StoreRun, begun_in, events_in, opening_of, said_at}
 use Rattle.thread_order.specs.ReadsSaid.{IsSilent, KeepsNote, LookStands, OwnMaySay, SaysRead}
-use Rattle.thread_order.specs.CallsMade.{Calls, CallsAreExplained, EachHasEvents, HasEvents, HasTheirEvents, KnewOnce, LooksMakeNoEvents, NoCalls, Others, Reads, Told, ToldOf, Untold, Updates, WasRead, WentOn, events_made, events_of_session, noted_events}
+use Rattle.thread_order.specs.CallsMade.{Calls, CallsAreExplained, CallsBetween, EachHasEvents, HasEvents, HasTheirEvents, KnewOnce, LooksMakeNoEvents, NoCalls, Others, Reads, Told, ToldOf, Untold, Updates, WasRead, WentOn, events_made, events_of_session, noted_events}
 use Rattle.thread_order.proofs.ReadsSaid.{each_may_say, keeps_first, looks_stand, own_more, reads_may_say, silent_may_say}
 use Rattle.thread_order.proofs.RunEvents.{runs_are_explained}
 use Rattle.thread_order.proofs.UpdateEvents.{update_makes}
@@ -256,6 +256,9 @@ calls_are_explained opening run l ns leads told =
     let may = each_may_say says run (λ c. (each c).may) in
     let explained = runs_are_explained (opening_of opening) (sessions_of opening.config) (places_of opening.config) run l ns says leads may in
     record { says = says; may = may; exactly = λ c. (each c).has; positions = explained.0; explains = explained.1 }
+
+pub calls_between : CallsBetween
+calls_between opening s w told = calls_are_explained opening w.run w.progress w.notes w.leads told
 
 pub looks_make_no_events : LooksMakeNoEvents
 looks_make_no_events opening k after point a b same batch look on =

@@ -138,3 +138,7 @@ CallsAreExplained =
     (opening : Setup) (run : StoreRun) (l : Progress CatalogueView) (ns : List SessionNote)
     → Runs store_rules (opened_for (opening_of opening) (sessions_of opening.config) (places_of opening.config)) run l ns
     → (told : (c : ℕ) → ToldOf opening run c) → ExplainsCalls opening l.history run told
+
+-- so it is between any two atomic steps
+abbrev pub CallsBetween : Type 0
+CallsBetween = (opening : Setup) (s : StoreState) (w : Meanwhile opening s) (told : (c : ℕ) → ToldOf opening w.run c) → ExplainsCalls opening w.progress.history w.run told

@@ -2,7 +2,7 @@
 ghost use Rattle.thread_order.specs.Threads.{AnswersAreTold, ThreadsAreExplained};
 ghost use Rattle.thread_order.specs.RunEvents.{AnswersAreInRun, BetweenIsExplained, CalledLater, EachStepStands, EventsGoOn, KnownEventsBegin, RunsAreExplained, UpdatesAreExplained};
 ghost use Rattle.thread_order.specs.ReadsSaid.{EachMaySay, LooksStand, ReadsMaySay, SilentMaySay};
-ghost use Rattle.thread_order.specs.CallsMade.{CallsAreExplained, LooksMakeNoEvents};
+ghost use Rattle.thread_order.specs.CallsMade.{CallsAreExplained, CallsBetween, LooksMakeNoEvents};
 ghost use Rattle.thread_order.specs.Stands.{OpeningStands, StepsKeepIt};
 ghost use Rattle.thread_order.specs.AtLock.{AnswersAreSteps, LoadsAreSteps, PutsAreSteps, RaisesAreSteps};
 
@@ -43,6 +43,7 @@ pub fn runs_are_explained()
 /// look that is no read of a program makes no event.
 pub fn calls_are_explained()
     ensures explained { CallsAreExplained }
+    ensures between { CallsBetween }
     ensures looks { LooksMakeNoEvents }
 {}
 

@@ -1,4 +1,4 @@
-use Rattle.thread_order.proofs.CallsMade.{calls_are_explained, looks_make_no_events}
+use Rattle.thread_order.proofs.CallsMade.{calls_are_explained, calls_between, looks_make_no_events}
 use Rattle.thread_order.proofs.laws.calls_are_explained.Goals as goal
 
 pub returns-clause-explained : goal.returns-clause-explained
@@ -6,3 +6,6 @@ returns-clause-explained c = calls_are_explained
 
 pub returns-clause-looks : goal.returns-clause-looks
 returns-clause-looks c = looks_make_no_events
+
+pub returns-clause-between : goal.returns-clause-between
+returns-clause-between c = calls_between

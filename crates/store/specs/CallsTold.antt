@@ -1,0 +1,50 @@
+-- What the clauses of a session's calls say of an answer is what the list of a session's calls has of a read or an update.
+use Rattle.std.specs.Prelude.{◌≡◌, ℕ, List, [], Some, None, Result, Ok}
+use Rattle.maps.specs.Maps.{AreBytes}
+use Rattle.ownlock.specs.Seats.{Continues}
+use Rattle.verifier.specs.declared.refusal.Mode.TheVariants.{Read}
+use Rattle.oplog.specs.Operations.{Operation}
+use Rattle.combiner.specs.declared.slots.Reply.{Reply}
+use Rattle.readpath.specs.declared.reading.ReadAnswer.{ReadAnswer}
+use Rattle.replica.specs.Refusals.{early_refusal}
+use Rattle.replica.specs.declared.refusals.StoreRefused.{StoreRefused}
+use Rattle.store_steps.specs.Standing.{StoreSeat}
+use Rattle.store_steps.specs.Views.{IsIdle, SessionView, op_of, session_view}
+use Rattle.store_steps.specs.declared.steps.Caller.{Caller}
+use Rattle.store.specs.Going.{ReadGoes, TriedReadGoes, UpdateGoes}
+use Rattle.store.specs.Polled.{TellsTriedRead}
+use Rattle.store.specs.Sessions.{IsOf, StoreView, TellsRead, TellsUpdate, known_of, said}
+use Rattle.store.specs.declared.answers.Answer.{Answer}
+use Rattle.thread_order.specs.CallsMade.{WasRead, WasUpdate}
+
+-- a session that waits for nothing, and combines for nobody
+abbrev pub Rests : SessionView → Type 0
+Rests s = (s.note.pending ≡ None) × (s.note.batch ≡ [])
+
+-- as it is between its calls
+abbrev pub SessionsRest : Type 0
+SessionsRest = (seat : StoreSeat) (caller : Caller) → IsIdle seat caller → Rests (session_view seat)
+
+-- a read of this program that had this answer may be told as one, and the run has gone on
+abbrev pub IsToldRead : (old new : SessionView) → (program : ℕ) → List ℕ → ReadAnswer → Type 0
+IsToldRead old new program argument a = WasRead (known_of old) (known_of new) (record { program = program; argument = argument }) a × Continues old.run new.run
+
+-- so may each read that is answered: `goes` and `answered` of `Session::read` say so
+abbrev pub ReadsAreTold : Type 0
+ReadsAreTold =
+    (store : StoreView) (old new : SessionView) (program : ℕ) (argument : List ℕ) (a : ReadAnswer) → IsOf store old → Rests old → AreBytes argument
+    → early_refusal store.catalogue Read program argument ≡ None → ReadGoes old new (op_of program argument) (Ok a)
+    → TellsRead old new (op_of program argument) (Ok a) → IsToldRead old new program argument a
+
+-- and those of `Polled::try_read`, where it had an answer
+abbrev pub TriedReadsAreTold : Type 0
+TriedReadsAreTold =
+    (store : StoreView) (old new : SessionView) (program : ℕ) (argument : List ℕ) (a : ReadAnswer) → IsOf store old → Rests old → AreBytes argument
+    → early_refusal store.catalogue Read program argument ≡ None → TriedReadGoes old new (op_of program argument) (Ok (Some a))
+    → TellsTriedRead old new (op_of program argument) (Ok (Some a)) → IsToldRead old new program argument a
+
+-- each update that is not refused early may be told as one: `goes` and `answered` of `Session::invoke` and of `Session::install` say so
+abbrev pub UpdatesAreTold : Type 0
+UpdatesAreTold =
+    (old new : SessionView) (op : Operation) (result : Result Answer StoreRefused) → Rests old → UpdateGoes old new op result → TellsUpdate old new op result
+    → (reply : Reply) × (result ≡ said reply) × WasUpdate (known_of old) (known_of new) op reply × Continues old.run new.run
