@@ -39,8 +39,8 @@ pub fn runs_are_explained()
 {}
 
 /// Take for each session the calls that it made, one after another, each as its contract has it: reads and updates with their answers, and
-/// others. One history explains a trace that has exactly these calls, each session's in its order. Nothing is asked of what sessions say. A
-/// look that is no read of a program makes no event.
+/// others. One history explains a trace that has exactly these calls, each session's in its order, and so it is between any two atomic steps.
+/// Nothing is asked of what sessions say. A look that is no read of a program makes no event.
 pub fn calls_are_explained()
     ensures explained { CallsAreExplained }
     ensures between { CallsBetween }
